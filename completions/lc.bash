@@ -16,18 +16,19 @@ _lc() {
   case ${COMP_WORDS[1]} in
     count | explain)
       case $option in
-        --threads) mapfile -t COMPREPLY < <(compgen -W '1 2 4 8 16' -- "$current") ;;
+        -j | --threads) mapfile -t COMPREPLY < <(compgen -W '1 2 4 8 16' -- "$current") ;;
         --max-dirs) mapfile -t COMPREPLY < <(compgen -W '65536 1048576' -- "$current") ;;
         --without) mapfile -t COMPREPLY < <(compgen -W 'linguist-vendored linguist-generated linguist-documentation' -- "$current") ;;
-        --format) mapfile -t COMPREPLY < <(compgen -W 'tsv table json' -- "$current") ;;
-        --by) mapfile -t COMPREPLY < <(compgen -W 'ext text eol ext,text ext,eol text,eol' -- "$current") ;;
+        --format) mapfile -t COMPREPLY < <(compgen -W 'tsv table json csv markdown' -- "$current") ;;
+        --by) mapfile -t COMPREPLY < <(compgen -W 'dir ext text eol dir,ext ext,text ext,eol text,eol' -- "$current") ;;
+        --depth) mapfile -t COMPREPLY < <(compgen -W '1 2 3' -- "$current") ;;
         --top) mapfile -t COMPREPLY < <(compgen -W '10 20 50' -- "$current") ;;
         --sort) mapfile -t COMPREPLY < <(compgen -W 'files lines blank bytes' -- "$current") ;;
-        --exclude-from | --only) mapfile -t COMPREPLY < <(compgen -f -- "$current") ;;
+        --exclude-from | --only | --only-from) mapfile -t COMPREPLY < <(compgen -f -- "$current") ;;
         *)
-          local options='--exclude-from --archive --without --help'
+          local options='--exclude --exclude-from --include --no-ignore --archive --without --null --help'
           if [ "${COMP_WORDS[1]}" = count ]; then
-            options+=' --only --files --left-out --format --by --sort --top --threads --max-dirs'
+            options+=' --only --only-from --files --left-out --format --by --depth --sort --top --share --threads --max-dirs'
           fi
           case ${COMP_WORDS[1]}$current in
             count-* | explain-*) mapfile -t COMPREPLY < <(compgen -W "$options" -- "$current") ;;
@@ -39,7 +40,7 @@ _lc() {
       ;;
     check)
       case $current in
-        -*) mapfile -t COMPREPLY < <(compgen -W '--explain --help' -- "$current") ;;
+        -*) mapfile -t COMPREPLY < <(compgen -W '--explain --null --help' -- "$current") ;;
         *) mapfile -t COMPREPLY < <(compgen -f -- "$current") ;;
       esac
       ;;

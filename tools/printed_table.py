@@ -1,4 +1,4 @@
-"""What docs/OUTPUT.md says of a table that `lc count --files` printed."""
+"""What docs/OUTPUT.md says of a table that `lc count --files` printed, and of what standard error then has."""
 
 WORDS = {b"read", b"name", b"twice", b"many", b"long", b"endless"}
 
@@ -9,6 +9,18 @@ def rows_of(text):
 
 def sums(rows, columns):
     return [sum(int(row[column]) for row in rows) for column in columns]
+
+
+def told_by(text, directory):
+    """What standard error has after this table of the directory of this name, which holds nothing that is escaped."""
+    faults = [row for row in rows_of(text) if row[0] == b"fault"]
+    if not faults:
+        return b""
+    if faults[0][2] == b".":
+        return b"lc: cannot read " + directory + b"\n"
+    if len(faults) == 1:
+        return b"lc: 1 path could not be read: see the line that begins with fault\n"
+    return b"lc: %d paths could not be read: see the lines that begin with fault\n" % len(faults)
 
 
 def table_fault(text):

@@ -22,7 +22,7 @@ where
 {
     type Tree = SysTree<'a, R>;
 
-    type RulesFile = StdSource<R::File>;
+    type File = StdSource<R::File>;
 
     ghost use Rattle.lc_tree.specs.SysTrees.{AnyContents, top_text};
 
@@ -36,7 +36,7 @@ where
         SysTree::new(self.rt, alloc, directory)
     }
 
-    fn open_rules(&self, _alloc: Global, name: &str) -> Result<StdSource<R::File>, ReadFault> {
+    fn open_file(&self, _alloc: Global, name: &str) -> Result<StdSource<R::File>, ReadFault> {
         match fs::open(self.rt, name) {
             Ok(file) => Ok(StdSource(file)),
             Err(error) if error.kind() == ErrorKind::OutOfMemory => Err(ReadFault::Memory),

@@ -7,7 +7,7 @@ mod host_system;
 
 use host_system::HostSystem;
 use lc_census::StdSource;
-use lc_program::{Cause, Streams, Terminals, give_up, introduce, misuse, program};
+use lc_program::{Cause, Streams, Terminals, give_up, misuse, program};
 use lc_text::StdSink;
 use std::alloc::AllocError;
 use std::env;
@@ -37,8 +37,8 @@ fn main(rt: HostRuntime) -> ExitCode {
         let ending = give_up(rt.alloc(), Cause::Memory, &mut streams.err);
         return ExitCode::from(ending.status());
     };
-    introduce(&words, rt.stdin().is_terminal(), &mut streams.err);
     let terminals = Terminals {
+        input: rt.stdin().is_terminal(),
         output: rt.stdout().is_terminal(),
         error: rt.stderr().is_terminal(),
     };

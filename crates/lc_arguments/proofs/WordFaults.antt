@@ -19,7 +19,7 @@ use Rattle.clap.specs.declared.parser.matches.Found.{Found}
 use Rattle.clap.proofs.OnLiterals.{clap_on_literals}
 use Rattle.lc_arguments.specs.CommandLine.{count_app, check_app, explain_app, lc_app}
 use Rattle.lc_arguments.specs.Explained.{AnswersCountWords, AnswersExplainWords, Explains}
-use Rattle.lc_arguments.specs.Words.{IsFlag, IsNumber, IsNumberIfGiven, IsText, IsNoRequestBy, texts_read}
+use Rattle.lc_arguments.specs.Words.{IsFlag, IsNumber, IsText, IsNoRequestBy, number_if_given, texts_read}
 use Rattle.lc_arguments.specs.declared.request.ParseExit.{ParseExit}
 use Rattle.lc_arguments.specs.declared.request.ParseExit.TheVariants.{Shown, Refused, Memory}
 
@@ -131,7 +131,7 @@ number_of rows f id default n are is =
 
 -- a number that was read, where one was, is that of the words
 pub number_if_of : (rows : List Row) (f : Found) (id : Text) (n : Option ℕ) → rows_of f ≡ rows
-    → n ≡ option_map (λ (t : Text). digits_value 10 (without_leading_plus t)) (one_text f id) → IsNumberIfGiven id rows n
+    → n ≡ option_map (λ (t : Text). digits_value 10 (without_leading_plus t)) (one_text f id) → n ≡ number_if_given id rows
 number_if_of rows f id n are is =
     is ∙ ap (option_map (λ (t : Text). digits_value 10 (without_leading_plus t))) (one_text-rows f id ∙ ap (one_of id) are)
 

@@ -35,6 +35,10 @@ text_rule name = record (new_rule name) { long = Some name; value_names = 1; act
 abbrev pub texts_rule : List ℕ → Rule
 texts_rule name = record (new_rule name) { long = Some name; value_names = 1; action = Some Append }
 
+-- an option with a short name beside its long one
+abbrev pub short_rule : ℕ → Rule → Rule
+short_rule name rule = record rule { short = Some name }
+
 -- a word that is wanted
 abbrev pub word_rule : List ℕ → Rule
 word_rule name = record (new_rule name) { required = true; action = Some Set }
@@ -49,17 +53,32 @@ bare_app name = on_top (λ (s : Shape). record s { no_binary_name = true }) (new
 
 -- what leaves entries out beside the rules of a directory
 abbrev pub exclusion_rules : List Rule
-exclusion_rules = text_rule (codes "exclude-from") ∷ flag_rule (codes "archive") ∷ texts_rule (codes "without") ∷ []
+exclusion_rules =
+    texts_rule (codes "exclude") ∷ text_rule (codes "exclude-from") ∷ texts_rule (codes "include") ∷ flag_rule (codes "no-ignore")
+    ∷ flag_rule (codes "archive") ∷ texts_rule (codes "without") ∷ []
+
+-- `-0`, by which paths end with NUL
+abbrev pub null_rule : Rule
+null_rule = short_rule 48 (flag_rule (codes "null"))
+
+-- which paths are counted
+abbrev pub path_rules : List Rule
+path_rules = texts_rule (codes "only") ∷ text_rule (codes "only-from") ∷ null_rule ∷ []
 
 -- the most rows and files that are asked for
 abbrev pub max_top : ℕ
 max_top = 4294967295
 
+-- the most segments of a row's directory
+abbrev pub max_depth : ℕ
+max_depth = 256
+
 -- what the table has and looks like
 abbrev pub table_rules : List Rule
 table_rules =
     flag_rule (codes "files") ∷ flag_rule (codes "left-out") ∷ text_rule (codes "format") ∷ text_rule (codes "by")
-    ∷ text_rule (codes "sort") ∷ free_number_rule (codes "top") max_top ∷ []
+    ∷ free_number_rule (codes "depth") max_depth ∷ text_rule (codes "sort") ∷ free_number_rule (codes "top") max_top
+    ∷ flag_rule (codes "share") ∷ []
 
 -- the most threads of a count, and the most directories
 abbrev pub max_threads : ℕ
@@ -68,19 +87,19 @@ max_threads = 16
 abbrev pub max_dirs : ℕ
 max_dirs = 1048576
 
--- the bounds of a count
+-- the bounds of a count; `-j` is that of its threads
 abbrev pub limit_rules : List Rule
 limit_rules =
-    number_rule (codes "threads") max_threads (codes "4") ∷ number_rule (codes "max-dirs") max_dirs (codes "65536") ∷ []
+    short_rule 106 (number_rule (codes "threads") max_threads (codes "4")) ∷ number_rule (codes "max-dirs") max_dirs (codes "65536") ∷ []
 
 abbrev pub count_rules : List Rule
-count_rules = exclusion_rules ++ texts_rule (codes "only") ∷ table_rules ++ limit_rules ++ word_rule (codes "DIR") ∷ []
+count_rules = exclusion_rules ++ path_rules ++ table_rules ++ limit_rules ++ word_rule (codes "DIR") ∷ []
 
 abbrev pub check_rules : List Rule
-check_rules = flag_rule (codes "explain") ∷ word_rule (codes "FILE") ∷ []
+check_rules = flag_rule (codes "explain") ∷ null_rule ∷ word_rule (codes "FILE") ∷ []
 
 abbrev pub explain_rules : List Rule
-explain_rules = exclusion_rules ++ word_rule (codes "DIR") ∷ words_rule (codes "PATH") ∷ []
+explain_rules = exclusion_rules ++ null_rule ∷ word_rule (codes "DIR") ∷ words_rule (codes "PATH") ∷ []
 
 -- each in turn
 abbrev pub with_rules : App → List Rule → App

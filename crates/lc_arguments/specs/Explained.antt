@@ -1,21 +1,27 @@
 -- What an error of clap becomes.
-use Rattle.std.specs.Prelude.{◌≡◌, ◌≢◌, ◌⊎◌, ℕ, true, false, List, [], map, codes, Result, Ok, Err, Option}
+use Rattle.std.specs.Prelude.{◌≡◌, ◌≢◌, ◌⊎◌, ℕ, true, false, List, [], map, codes, Result, Ok, Err, Option, option_map}
 use Rattle.std.specs.Global.{Vec}
-use Rattle.std.specs.List.{list_all, list_any}
+use Rattle.std.specs.List.{list_any}
 use Rattle.clap.specs.Faults.{fault_of}
 use Rattle.clap.specs.Simple.{matches_of}
 use Rattle.clap.specs.Values.{kind_of}
 use Rattle.clap.specs.declared.error.Error.{Error}
 use Rattle.clap.specs.declared.error.kind.ErrorKind.TheVariants.{OutOfMemory}
 use Rattle.std.specs.Borrow.{Bor}
-use Rattle.lc_rules.specs.AttrWords.{is_name}
 use Rattle.lc_arguments.specs.CommandLine.{count_app, check_app, explain_app, lc_app}
 use Rattle.lc_arguments.specs.Words.{IsText, IsNoRequestBy, IsCheckOf, IsCountOf, IsExplainOf, MayRefuse, MayShow}
-use Rattle.lc_arguments.specs.Words.{AskForNoCount, AskForNoExplanation, AreExclusionsOf, Misname, texts_read}
-use Rattle.clap.specs.Walk.{Row, first_of}
+use Rattle.lc_arguments.specs.Words.{AskForNoCount, AskForNoExplanation, AsksNoCount, AreExclusionsOf, AreNumbersIn, IsFitCountOf}
+use Rattle.lc_arguments.specs.Words.{IsTableAt, Misvalue, texts_read, values_read}
+use Rattle.lc_arguments.specs.Repeated.{are_allowed}
+use Rattle.clap.specs.Walk.{Row}
 use Rattle.lc_text.specs.PathLines.{is_bad_path, path_of}
-use Rattle.lc_view.specs.declared.table_options.TableOptions.{TableOptions}
-use Rattle.lc_arguments.specs.TableWords.{IsTableBy}
+use Rattle.lc_view.specs.declared.table_options.Columns.{Columns}
+use Rattle.lc_view.specs.declared.table_options.Format.{Format}
+use Rattle.lc_view.specs.declared.table_options.SortBy.{SortBy}
+use Rattle.lc_arguments.specs.TableWords.{AreColumnsBy, IsTableBy, format_word, sort_word}
+use Rattle.lc_arguments.specs.declared.numbers.Numbers.{Numbers}
+use Rattle.lc_arguments.specs.declared.repeated.Repeated.{Repeated}
+use Rattle.lc_arguments.specs.declared.table.TableRequest.{TableRequest}
 use Rattle.lc_arguments.specs.declared.request.ParseExit.{ParseExit}
 use Rattle.lc_arguments.specs.declared.request.ParseExit.TheVariants.{Shown, Refused, Memory}
 use Rattle.lc_arguments.specs.declared.request.Request.{Request}
@@ -39,7 +45,7 @@ IsRefusal Memory = Unit {0}
 
 -- the words after `count`
 abbrev pub AnswersCountWords : List (List ℕ) → Result CountRequest ParseExit → Type 0
-AnswersCountWords words (Ok c) = (fault_of count_app words ≡ []) × IsCountOf (matches_of count_app words) c
+AnswersCountWords words (Ok c) = (fault_of count_app words ≡ []) × IsFitCountOf (matches_of count_app words) c
 AnswersCountWords words (Err (Shown _)) = MayShow (fault_of count_app words)
 AnswersCountWords words (Err (Refused _)) = MayRefuse (fault_of count_app words) ⊎ AskForNoCount words
 AnswersCountWords words (Err Memory) = Unit {0}
@@ -51,19 +57,24 @@ AnswersExplainWords words (Err (Shown _)) = MayShow (fault_of explain_app words)
 AnswersExplainWords words (Err (Refused _)) = MayRefuse (fault_of explain_app words) ⊎ AskForNoExplanation words
 AnswersExplainWords words (Err Memory) = Unit {0}
 
--- what leaves entries out by what was read; or a name is no attribute's
+-- what leaves entries out by what was read; or an option has values that it may not have
 abbrev pub AnswersExclusions : List Row → Result Exclusions ParseExit → Type 0
 AnswersExclusions rows (Ok e) = AreExclusionsOf rows e
 AnswersExclusions rows (Err (Shown _)) = ⊥
-AnswersExclusions rows (Err (Refused _)) = Misname rows
+AnswersExclusions rows (Err (Refused _)) = Misvalue rows
 AnswersExclusions rows (Err Memory) = Unit {0}
 
--- the attributes that are named, in their order
-abbrev pub AnswersNames : List (List ℕ) → Result (Vec (Bor (List ℕ))) ParseExit → Type 0
-AnswersNames names (Ok attributes) = (map (λ name. name.now) attributes.items ≡ names) × (list_all is_name names ≡ true)
-AnswersNames names (Err (Shown _)) = ⊥
-AnswersNames names (Err (Refused _)) = list_all is_name names ≡ false
-AnswersNames names (Err Memory) = Unit {0}
+-- the values of an option, in their order, which it may have
+abbrev pub AnswersRepeated : Repeated → List (List ℕ) → Result (Vec (Bor (List ℕ))) ParseExit → Type 0
+AnswersRepeated option texts (Ok values) =
+    (map (λ value. value.now) values.items ≡ texts) × (are_allowed option texts ≡ true)
+AnswersRepeated option texts (Err (Shown _)) = ⊥
+AnswersRepeated option texts (Err (Refused _)) = are_allowed option texts ≡ false
+AnswersRepeated option texts (Err Memory) = Unit {0}
+
+-- those that were read
+abbrev pub AnswersRepeatedIn : List Row → Repeated → Result (Vec (Bor (List ℕ))) ParseExit → Type 0
+AnswersRepeatedIn rows option result = AnswersRepeated option (values_read rows option) result
 
 -- the paths of these words, in their order; or one is no path of an entry
 abbrev pub AnswersPaths : List (List ℕ) → Result (Vec (Bor (List ℕ))) ParseExit → Type 0
@@ -77,17 +88,39 @@ AnswersPaths words (Err Memory) = Unit {0}
 abbrev pub AnswersPathsIn : List Row → Result (Vec (Bor (List ℕ))) ParseExit → Type 0
 AnswersPathsIn rows result = AnswersPaths (texts_read (codes "only") rows) result
 
--- those table options; or one of the texts says nothing of a table, or there was no memory to say so
-abbrev pub AnswersTable : Option (List ℕ) → Option (List ℕ) → Option (List ℕ) → Result TableOptions ParseExit → Type 0
-AnswersTable format by sort (Ok table) = IsTableBy format by sort table
-AnswersTable format by sort (Err (Shown _)) = ⊥
-AnswersTable format by sort (Err (Refused _)) = (table : TableOptions) → ¬ IsTableBy format by sort table
-AnswersTable format by sort (Err Memory) = Unit {0}
+-- what is asked for; or nothing is, or there was no memory to say so
+abbrev pub AnswersBy : {A : Type 0} → (A → Type 0) → Result A ParseExit → Type 0
+AnswersBy {A} Is (Ok a) = Is a
+AnswersBy {A} Is (Err (Shown _)) = ⊥
+AnswersBy {A} Is (Err (Refused _)) = (a : A) → ¬ Is a
+AnswersBy {A} Is (Err Memory) = Unit {0}
 
--- the shape that was read
-abbrev pub AnswersTableIn : List Row → Result TableOptions ParseExit → Type 0
-AnswersTableIn rows result =
-    AnswersTable (first_of (codes "format") rows) (first_of (codes "by") rows) (first_of (codes "sort") rows) result
+-- the format of this name, if one is given
+abbrev pub AnswersFormat : Option (List ℕ) → Result (Option Format) ParseExit → Type 0
+AnswersFormat name = AnswersBy (λ (format : Option Format). option_map format_word format ≡ name)
+
+-- the number of this name, if one is given
+abbrev pub AnswersSort : Option (List ℕ) → Result (Option SortBy) ParseExit → Type 0
+AnswersSort name = AnswersBy (λ (sort : Option SortBy). option_map sort_word sort ≡ name)
+
+-- the columns of these names
+abbrev pub AnswersColumns : Option (List ℕ) → Option ℕ → Result Columns ParseExit → Type 0
+AnswersColumns by depth = AnswersBy (AreColumnsBy by depth)
+
+-- the table of these texts
+abbrev pub AnswersTable : Option (List ℕ) → Option (List ℕ) → Option ℕ → Option (List ℕ) → Result TableRequest ParseExit → Type 0
+AnswersTable format by depth sort = AnswersBy (IsTableBy format by depth sort)
+
+-- the table that was read
+abbrev pub AnswersTableIn : List Row → Option ℕ → Result TableRequest ParseExit → Type 0
+AnswersTableIn rows depth = AnswersBy (IsTableAt rows depth)
+
+-- the count that was read with these numbers, whose options may not go together
+abbrev pub AnswersCountIn : List Row → Numbers → Result CountRequest ParseExit → Type 0
+AnswersCountIn rows numbers (Ok c) = AreNumbersIn rows numbers → IsCountOf rows c
+AnswersCountIn rows numbers (Err (Shown _)) = ⊥
+AnswersCountIn rows numbers (Err (Refused _)) = AreNumbersIn rows numbers → AsksNoCount rows
+AnswersCountIn rows numbers (Err Memory) = Unit {0}
 
 -- the words after `check`
 abbrev pub AnswersCheckWords : List (List ℕ) → Result CheckRequest ParseExit → Type 0

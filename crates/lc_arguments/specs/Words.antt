@@ -1,8 +1,8 @@
 -- What the words of a command line ask for.
 use Rattle.std.specs.Prelude.{◌≡◌, ◌≢◌, ◌⊎◌, ◌≤◌, ℕ, Bool, true, false, cond, List, [], ◌∷◌, pos, Some, Option, Result, Ok, Err, unwrap_or}
-use Rattle.std.specs.Prelude.{option_map, map, codes}
+use Rattle.std.specs.Prelude.{option_map, map, codes, IfSome}
 use Rattle.std.specs.Borrow.{Bor}
-use Rattle.std.specs.List.{list_all, list_any}
+use Rattle.std.specs.List.{list_any}
 use Rattle.std.specs.Str.{bytes_eq}
 use Rattle.std.specs.Str.Parse.{digits_value, without_leading_plus}
 use Rattle.clap.specs.Built.{IsParsedFrom}
@@ -18,35 +18,53 @@ use Rattle.clap.specs.declared.builder.command.Command.{Command}
 use Rattle.clap.specs.declared.error.kind.ErrorKind.{ErrorKind}
 use Rattle.clap.specs.declared.error.kind.ErrorKind.TheVariants.{DisplayHelp, DisplayVersion}
 use Rattle.clap.specs.declared.parser.matches.ArgMatches.{ArgMatches}
-use Rattle.lc_rules.specs.AttrWords.{is_name}
-use Rattle.lc_arguments.specs.CommandLine.{count_app, check_app, explain_app, lc_app, max_threads, max_dirs, max_top}
+use Rattle.clap.specs.declared.parser.matches.Found.{Found}
+use Rattle.lc_arguments.specs.CommandLine.{count_app, check_app, explain_app, lc_app, max_depth, max_threads, max_dirs, max_top}
+use Rattle.lc_arguments.specs.Combinations.{fit_together}
+use Rattle.lc_arguments.specs.Repeated.{are_allowed, id_of}
+use Rattle.lc_arguments.specs.declared.repeated.Repeated.{Repeated}
+use Rattle.lc_arguments.specs.declared.repeated.Repeated.TheVariants.{Attributes, Excluded, Included}
+use Rattle.lc_arguments.specs.declared.numbers.Numbers.{Numbers}
 use Rattle.lc_arguments.specs.declared.request.ParseExit.{ParseExit}
 use Rattle.lc_arguments.specs.declared.request.ParseExit.TheVariants.{Shown, Refused, Memory}
 use Rattle.lc_arguments.specs.declared.request.Request.{Request}
 use Rattle.lc_arguments.specs.declared.request.Request.TheVariants.{CheckJoined, Check, Count, Explain}
 use Rattle.lc_text.specs.PathLines.{is_bad_path, path_of}
-use Rattle.lc_view.specs.declared.table_options.TableOptions.{TableOptions}
+use Rattle.lc_arguments.specs.declared.table.TableRequest.{TableRequest}
 use Rattle.lc_arguments.specs.TableWords.{IsTableBy}
 use Rattle.lc_arguments.specs.declared.check.CheckRequest.{CheckRequest}
 use Rattle.lc_arguments.specs.declared.count.CountRequest.{CountRequest}
 use Rattle.lc_arguments.specs.declared.exclusions.Exclusions.{Exclusions}
 use Rattle.lc_arguments.specs.declared.explain.ExplainRequest.{ExplainRequest}
 
--- what a parse by this command reads of this argument is a number from the one to the other
-abbrev pub ReadsWithin : Command → List ℕ → ℕ → ℕ → Type 0
-ReadsWithin command id low high =
-    (m : ArgMatches) → IsParsedFrom command m → (text : List ℕ) → matches.one_text (found_of m) id ≡ Some text
+-- what was read of this argument is a number from the one to the other
+abbrev pub IsReadWithin : Found → List ℕ → ℕ → ℕ → Type 0
+IsReadWithin found id low high =
+    (text : List ℕ) → matches.one_text found id ≡ Some text
     → (digits : List ℕ) × (text ≡ without_minus digits) × IsSignedIn (pos low) (pos high) digits
+
+-- what a parse by this command reads of this argument is such a number
+abbrev pub ReadsWithin : Command → List ℕ → ℕ → ℕ → Type 0
+ReadsWithin command id low high = (m : ArgMatches) → IsParsedFrom command m → IsReadWithin (found_of m) id low high
+
+-- what was read of the numbers of a count is within their limits
+pub record AreReadWithin (found : Found) : Type 0 where
+  pub threads : IsReadWithin found (codes "threads") 1 max_threads
+  pub max_dirs : IsReadWithin found (codes "max-dirs") 1 max_dirs
+  pub depth : IsReadWithin found (codes "depth") 1 max_depth
+  pub top : IsReadWithin found (codes "top") 1 max_top
 
 -- what a parse by the command of a count reads of its numbers
 abbrev pub ReadsCountWithinLimits : Command → Type 0
-ReadsCountWithinLimits command =
-    ReadsWithin command (codes "threads") 1 max_threads × ReadsWithin command (codes "max-dirs") 1 max_dirs
-    × ReadsWithin command (codes "top") 1 max_top
+ReadsCountWithinLimits command = (m : ArgMatches) → IsParsedFrom command m → AreReadWithin (found_of m)
 
--- a count by some threads, of some directories, neither over its limit
-abbrev pub IsCountWithinLimits : CountRequest → Type 0
-IsCountWithinLimits c = (1 ≤ c.threads) × (c.threads ≤ max_threads) × (1 ≤ c.max_dirs) × (c.max_dirs ≤ max_dirs)
+-- a count by some threads, of some directories, with directories of some segments in its rows, none over its limit
+pub record IsCountWithinLimits (c : CountRequest) : Type 0 where
+  pub some_threads : 1 ≤ c.threads
+  pub threads : c.threads ≤ max_threads
+  pub some_dirs : 1 ≤ c.max_dirs
+  pub max_dirs : c.max_dirs ≤ max_dirs
+  pub depth : IfSome c.table.by.dir (λ segments. (1 ≤ segments) × (segments ≤ max_depth))
 
 abbrev pub IsWithinLimits : Request → Type 0
 IsWithinLimits CheckJoined = Unit {0}
@@ -64,16 +82,38 @@ abbrev pub IsNumber : List ℕ → List ℕ → List Row → ℕ → Type 0
 IsNumber id default rows n = n ≡ digits_value 10 (without_leading_plus (unwrap_or (one_of id rows) default))
 
 -- the number that was read in digits, where one was
-abbrev pub IsNumberIfGiven : List ℕ → List Row → Option ℕ → Type 0
-IsNumberIfGiven id rows n = n ≡ option_map (λ text. digits_value 10 (without_leading_plus text)) (one_of id rows)
+abbrev pub number_if_given : List ℕ → List Row → Option ℕ
+number_if_given id rows = option_map (λ text. digits_value 10 (without_leading_plus text)) (one_of id rows)
+
+-- the numbers of a count, as they were read, within their limits
+pub record AreNumbersIn (rows : List Row) (n : Numbers) : Type 0 where
+  pub some_threads : 1 ≤ n.threads
+  pub within_threads : n.threads ≤ max_threads
+  pub threads : IsNumber (codes "threads") (codes "4") rows n.threads
+  pub some_dirs : 1 ≤ n.max_dirs
+  pub within_dirs : n.max_dirs ≤ max_dirs
+  pub max_dirs : IsNumber (codes "max-dirs") (codes "65536") rows n.max_dirs
+  pub some_depth : 1 ≤ unwrap_or n.depth 1
+  pub within_depth : unwrap_or n.depth 1 ≤ max_depth
+  pub depth : n.depth ≡ number_if_given (codes "depth") rows
+  pub top : n.top ≡ number_if_given (codes "top") rows
 
 -- all texts that were read of an argument, in their order
 abbrev pub texts_read : List ℕ → List Row → List (List ℕ)
 texts_read id rows = unwrap_or (all_of id rows) []
 
--- what is no attribute's name was read (gitattributes(5), DESCRIPTION)
-abbrev pub Misname : List Row → Type 0
-Misname rows = list_all is_name (texts_read (codes "without") rows) ≡ false
+-- what was read of an option that may stand several times, in its order
+abbrev pub values_read : List Row → Repeated → List (List ℕ)
+values_read rows option = texts_read (id_of option) rows
+
+-- the values of an option that were read, which it may have
+abbrev pub AreValuesOf : List Row → Repeated → List (Bor (List ℕ)) → Type 0
+AreValuesOf rows option values =
+    (map (λ value. value.now) values ≡ values_read rows option) × (are_allowed option (values_read rows option) ≡ true)
+
+-- values were read that an option may not have: what is no attribute's name, or no line of an ignore file
+abbrev pub Misvalue : List Row → Type 0
+Misvalue rows = (option : Repeated) × (are_allowed option (values_read rows option) ≡ false)
 
 -- the paths that were asked for, each without one slash at its end
 abbrev pub paths_read : List Row → List (List ℕ)
@@ -91,34 +131,58 @@ ArePathsOf rows paths = (map (λ path. path.now) paths ≡ paths_read rows) × (
 pub record AreExclusionsOf (rows : List Row) (e : Exclusions) : Type 0 where
   pub from : option_map (λ s. s.now) e.from ≡ first_of (codes "exclude-from") rows
   pub archive : IsFlag (codes "archive") rows e.archive
-  pub without : map (λ name. name.now) e.without.items ≡ texts_read (codes "without") rows
-  pub named : list_all is_name (texts_read (codes "without") rows) ≡ true
+  pub without : AreValuesOf rows Attributes e.without.items
+  pub exclude : AreValuesOf rows Excluded e.exclude.items
+  pub include : AreValuesOf rows Included e.include.items
+  pub no_ignore : IsFlag (codes "no-ignore") rows e.no_ignore
 
--- the table options that were asked for
-abbrev pub IsTableIn : List Row → TableOptions → Type 0
-IsTableIn rows s = IsTableBy (first_of (codes "format") rows) (first_of (codes "by") rows) (first_of (codes "sort") rows) s
+-- the table that was asked for, with directories of this depth in its rows
+abbrev pub IsTableAt : List Row → Option ℕ → TableRequest → Type 0
+IsTableAt rows depth s =
+    IsTableBy (first_of (codes "format") rows) (first_of (codes "by") rows) depth (first_of (codes "sort") rows) s
+
+-- the table that was asked for
+abbrev pub IsTableIn : List Row → TableRequest → Type 0
+IsTableIn rows s = IsTableAt rows (number_if_given (codes "depth") rows) s
 
 -- the count that was asked for, by what was read of each argument
 pub record IsCountOf (rows : List Row) (c : CountRequest) : Type 0 where
   pub within : IsCountWithinLimits c
   pub threads : IsNumber (codes "threads") (codes "4") rows c.threads
   pub max_dirs : IsNumber (codes "max-dirs") (codes "65536") rows c.max_dirs
-  pub files : IsFlag (codes "files") rows c.files
+  pub files : IsFlag (codes "files") rows c.table.files
   pub left_out : IsFlag (codes "left-out") rows c.left_out
   pub exclusions : AreExclusionsOf rows c.exclusions
   pub only : ArePathsOf rows c.only.items
+  pub only_from : option_map (λ s. s.now) c.only_from ≡ first_of (codes "only-from") rows
+  pub null : IsFlag (codes "null") rows c.null
   pub table : IsTableIn rows c.table
-  pub top : IsNumberIfGiven (codes "top") rows c.table.top
+  pub top : c.table.top ≡ number_if_given (codes "top") rows
+  pub share : IsFlag (codes "share") rows c.table.share
   pub directory : c.directory.now ≡ unwrap_or (first_of (codes "DIR") rows) []
+
+-- the count that was asked for, whose options go together
+abbrev pub IsFitCountOf : List Row → CountRequest → Type 0
+IsFitCountOf rows c = IsCountOf rows c × (fit_together c ≡ true)
+
+-- a count was asked for whose options do not go together
+abbrev pub Misfit : List Row → Type 0
+Misfit rows = (c : CountRequest) × IsCountOf rows c × (fit_together c ≡ false)
+
+-- no count was asked for: by what is no value of an option, no path of an entry or no table, or by options that do not go together
+abbrev pub AsksNoCount : List Row → Type 0
+AsksNoCount rows = Misvalue rows ⊎ (Misplace rows ⊎ (((s : TableRequest) → ¬ IsTableIn rows s) ⊎ Misfit rows))
 
 -- the check that was asked for
 pub record IsCheckOf (rows : List Row) (c : CheckRequest) : Type 0 where
   pub explain : IsFlag (codes "explain") rows c.explain
+  pub null : IsFlag (codes "null") rows c.null
   pub file : c.file.now ≡ unwrap_or (first_of (codes "FILE") rows) []
 
 -- the explanation that was asked for
 pub record IsExplainOf (rows : List Row) (c : ExplainRequest) : Type 0 where
   pub exclusions : AreExclusionsOf rows c.exclusions
+  pub null : IsFlag (codes "null") rows c.null
   pub directory : c.directory.now ≡ unwrap_or (first_of (codes "DIR") rows) []
   pub paths : map (λ path. path.now) c.paths.items ≡ texts_read (codes "PATH") rows
 
@@ -156,19 +220,16 @@ NameNoCommand words = (more : List (List ℕ)) →
 abbrev pub Asks : List (List ℕ) → Request → Type 0
 Asks words CheckJoined = NameNoCommand words
 Asks words (Check c) = (more : List (List ℕ)) × (words ≡ codes "check" ∷ more) × IsCheckOf (matches_of check_app more) c
-Asks words (Count c) = (more : List (List ℕ)) × (words ≡ codes "count" ∷ more) × IsCountOf (matches_of count_app more) c
+Asks words (Count c) = (more : List (List ℕ)) × (words ≡ codes "count" ∷ more) × IsFitCountOf (matches_of count_app more) c
 Asks words (Explain c) = (more : List (List ℕ)) × (words ≡ codes "explain" ∷ more) × IsExplainOf (matches_of explain_app more) c
 
--- the words after `count` fail in no way, but name what is no attribute, no path of an entry, or no options of a table
+-- the words after `count` fail in no way, but ask for no count
 abbrev pub AskForNoCount : List (List ℕ) → Type 0
-AskForNoCount words =
-    (fault_of count_app words ≡ [])
-    × (Misname (matches_of count_app words)
-    ⊎ (Misplace (matches_of count_app words) ⊎ ((s : TableOptions) → ¬ IsTableIn (matches_of count_app words) s)))
+AskForNoCount words = (fault_of count_app words ≡ []) × AsksNoCount (matches_of count_app words)
 
--- and those after `explain`, but name what is no attribute
+-- and those after `explain`, but an option has values that it may not have
 abbrev pub AskForNoExplanation : List (List ℕ) → Type 0
-AskForNoExplanation words = (fault_of explain_app words ≡ []) × Misname (matches_of explain_app words)
+AskForNoExplanation words = (fault_of explain_app words ≡ []) × Misvalue (matches_of explain_app words)
 
 -- words are refused
 abbrev pub AreRefused : List (List ℕ) → Type 0

@@ -1,7 +1,8 @@
 //! The forms of arguments, and a command without any.
 
 ghost use Rattle.std.specs.Prelude.{◌≡◌, true, IfOk};
-ghost use Rattle.lc_arguments.specs.CommandLine.{flag_rule, free_number_rule, number_rule, text_rule, texts_rule, word_rule};
+ghost use Rattle.clap.specs.Walk.{Rule};
+ghost use Rattle.lc_arguments.specs.CommandLine.{flag_rule, free_number_rule, number_rule, short_rule, text_rule, texts_rule, word_rule};
 ghost use Rattle.lc_arguments.specs.CountArgs.{is_own_name, IsArgOf, IsBare};
 
 use crate::help::OptionHelp;
@@ -100,6 +101,13 @@ pub(crate) fn free_number_option<'a>(
         .help(help.short)
         .long_help(help.long)
         .help_heading(help.heading)
+}
+
+/// Gives an option a short name, such as `-j`, beside its long one.
+pub(crate) fn with_short<'a>(option: Arg<'a>, name: char) -> Arg<'a>
+    ensures { (rule : Rule) → IsArgOf rule option.entry → IsArgOf (short_rule name rule) result }
+{
+    option.short(name)
 }
 
 /// Makes a required argument without a name of its own.

@@ -5,7 +5,7 @@ ghost use Rattle.lc_arguments.specs.CommandLine.{check_app, check_rules};
 ghost use Rattle.lc_arguments.specs.CountArgs.{AreArgsOf, IsCommandOf};
 ghost use Rattle.lc_arguments.specs.Explained.{AnswersCheckWords};
 
-use crate::arguments::{bare, flag, word};
+use crate::arguments::{bare, flag, with_short, word};
 use crate::request::{ParseExit, explained};
 use crate::{help, suggestions};
 use clap::{Arg, Command};
@@ -17,15 +17,18 @@ use std::convert::AsStr;
 pub struct CheckRequest<'w> {
     /// Name the rule that decides each path.
     pub explain: bool,
+    /// Each path on standard input ends with NUL.
+    pub null: bool,
     /// The path of the ignore file, as it was given.
     pub file: &'w str,
 }
 
-fn args<'a>(alloc: Global) -> [Arg<'a>; 2]
+fn args<'a>(alloc: Global) -> [Arg<'a>; 3]
     ensures { AreArgsOf check_rules result }
 {
     [
         flag(alloc, "explain", help::EXPLAIN),
+        with_short(flag(alloc, "null", help::NULL_INPUT), '0'),
         word(alloc, "FILE", "Ignore file, such as .gitignore"),
     ]
 }
@@ -60,6 +63,7 @@ impl<'w> CheckRequest<'w> {
         match command.try_get_matches_from(words) {
             Ok(matches) => Ok(CheckRequest {
                 explain: matches.get_flag("explain"),
+                null: matches.get_flag("null"),
                 file: matches.get_str("FILE").unwrap_or(""),
             }),
             Err(error) => Err(explained(alloc, &error, suggestions::CHECK)),

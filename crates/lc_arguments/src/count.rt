@@ -1,19 +1,24 @@
 //! The command line of `lc count`.
 
 ghost use Rattle.std.specs.Prelude.{[], ◌∷◌, map, IfOk};
-ghost use Rattle.lc_arguments.specs.CommandLine.{count_rules, limit_rules, table_rules};
+ghost use Rattle.clap.specs.Matches.{found_of};
+ghost use Rattle.clap.specs.Walk.{rows_of};
+ghost use Rattle.lc_arguments.specs.CommandLine.{count_rules, limit_rules, path_rules, table_rules};
 ghost use Rattle.lc_arguments.specs.CountArgs.{AreArgsOf, IsCountCommand};
-ghost use Rattle.lc_arguments.specs.Explained.{AnswersCountWords, Explains};
+ghost use Rattle.lc_arguments.specs.Explained.{AnswersCountIn, AnswersCountWords, Explains};
 
-use crate::arguments::{bare, flag, free_number_option, number_option, text_option, word};
+use crate::arguments::{
+    bare, flag, free_number_option, number_option, text_option, with_short, word,
+};
+use crate::combinations::misfit;
 use crate::exclusions::{Exclusions, exclusion_options};
-use crate::limits::{MAX_DIRS, MAX_THREADS, MAX_TOP};
+use crate::limits::{MAX_DEPTH, MAX_DIRS, MAX_THREADS, MAX_TOP};
+use crate::numbers::Numbers;
 use crate::paths::{only, paths_in};
-use crate::request::{ParseExit, explained};
-use crate::table::table_in;
+use crate::request::{ParseExit, explained, unfit};
+use crate::table::{TableRequest, table_in};
 use crate::{help, suggestions};
-use clap::{Arg, Command, Error};
-use lc_view::TableOptions;
+use clap::{Arg, ArgMatches, Command, Error};
 use std::alloc::{AllocError, Global};
 use std::convert::AsStr;
 
@@ -24,31 +29,59 @@ pub struct CountRequest<'w> {
     pub threads: u32,
     /// The most directories, DIR included: 1 to [`MAX_DIRS`], by default 65,536.
     pub max_dirs: u32,
-    /// List each counted file.
-    pub files: bool,
     /// List each entry that is skipped, and print the number of entries.
     pub left_out: bool,
     /// What is skipped beside what the directory's own rules ignore.
     pub exclusions: Exclusions<'w>,
-    /// The paths to count, relative to DIR and without a slash at the end. If there are none, all of DIR is counted.
+    /// The paths to count, relative to DIR and without a slash at the end. If there are none here and in `only_from`, all of DIR is
+    /// counted.
     pub only: Vec<&'w [u8]>,
-    /// How the table is printed: by default as `Tsv`, by all columns, in the order of the keys, and whole.
-    pub table: TableOptions,
+    /// The path of a file with further paths to count, as it was given. `-` is standard input.
+    pub only_from: Option<&'w str>,
+    /// Each path in the file of `only_from` ends with NUL.
+    pub null: bool,
+    /// How the table is printed.
+    pub table: TableRequest,
     /// The path of DIR, as it was given. `.` is the directory that the program runs in.
     pub directory: &'w str,
 }
 
+/// Makes the options that choose paths.
+fn path_options<'a>(alloc: Global) -> (Arg<'a>, Arg<'a>, Arg<'a>)
+    ensures { AreArgsOf path_rules (result.0 ∷ result.1 ∷ result.2 ∷ []) }
+{
+    (
+        only(alloc),
+        text_option(alloc, "only-from", "FILE", help::ONLY_FROM),
+        with_short(flag(alloc, "null", help::NULL), '0'),
+    )
+}
+
 /// Makes the options that choose what is printed.
-fn table_options<'a>(alloc: Global) -> (Arg<'a>, Arg<'a>, Arg<'a>, Arg<'a>, Arg<'a>, Arg<'a>)
-    ensures { AreArgsOf table_rules (result.0 ∷ result.1 ∷ result.2 ∷ result.3 ∷ result.4 ∷ result.5 ∷ []) }
+fn table_options<'a>(
+    alloc: Global,
+) -> (
+    Arg<'a>,
+    Arg<'a>,
+    Arg<'a>,
+    Arg<'a>,
+    Arg<'a>,
+    Arg<'a>,
+    Arg<'a>,
+    Arg<'a>,
+)
+    ensures { AreArgsOf table_rules
+        (result.0 ∷ result.1 ∷ result.2 ∷ result.3 ∷ result.4 ∷ result.5 ∷ result.6 ∷ result.7 ∷ []) }
 {
     (
         flag(alloc, "files", help::FILES),
         flag(alloc, "left-out", help::LEFT_OUT),
         text_option(alloc, "format", "FORMAT", help::FORMAT),
         text_option(alloc, "by", "COLUMNS", help::BY),
+        free_number_option(alloc, "depth", MAX_DEPTH, help::DEPTH),
         text_option(alloc, "sort", "COLUMN", help::SORT),
         free_number_option(alloc, "top", MAX_TOP, help::TOP),
+        flag(alloc, "share", help::SHARE),
     )
 }
 
@@ -57,28 +90,39 @@ fn limits<'a>(alloc: Global) -> (Arg<'a>, Arg<'a>)
     ensures { AreArgsOf limit_rules (result.0 ∷ result.1 ∷ []) }
 {
     (
-        number_option(alloc, "threads", MAX_THREADS, "4", help::THREADS),
+        with_short(
+            number_option(alloc, "threads", MAX_THREADS, "4", help::THREADS),
+            'j',
+        ),
         number_option(alloc, "max-dirs", MAX_DIRS, "65536", help::MAX_DIRS),
     )
 }
 
-fn args<'a>(alloc: Global) -> [Arg<'a>; 13]
+fn args<'a>(alloc: Global) -> [Arg<'a>; 20]
     ensures { AreArgsOf count_rules result }
 {
     let exclusions = exclusion_options(alloc);
-    let (files, left_out, format, by, sort, top) = table_options(alloc);
+    let (only, only_from, null) = path_options(alloc);
+    let (files, left_out, format, by, depth, sort, top, share) = table_options(alloc);
     let (threads, max_dirs) = limits(alloc);
     [
         exclusions.0,
         exclusions.1,
         exclusions.2,
-        only(alloc),
+        exclusions.3,
+        exclusions.4,
+        exclusions.5,
+        only,
+        only_from,
+        null,
         files,
         left_out,
         format,
         by,
+        depth,
         sort,
         top,
+        share,
         threads,
         max_dirs,
         word(
@@ -109,10 +153,51 @@ pub(crate) fn command<'a>(alloc: Global) -> Result<Command<'a>, AllocError>
 fn explained_count<W: AsStr>(alloc: Global, error: &Error, words: &[W]) -> ParseExit
     ensures { Explains error.now result }
 {
-    match suggestions::count(alloc, words) {
+    let Ok(why) = format!(in alloc; "{error}") else {
+        return ParseExit::Memory;
+    };
+    match suggestions::count(alloc, words, &why) {
         Ok(example) => explained(alloc, error, &example),
         Err(AllocError) => ParseExit::Memory,
     }
+}
+
+/// Takes the options that clap read, which may not go together.
+fn request_in<'w>(
+    alloc: Global,
+    matches: &ArgMatches<'w>,
+    numbers: Numbers,
+) -> Result<CountRequest<'w>, ParseExit>
+    ensures { AnswersCountIn (rows_of (found_of matches.now)) numbers result }
+{
+    let exclusions = match Exclusions::read(alloc, matches) {
+        Ok(exclusions) => exclusions,
+        Err(no) => return Err(no),
+    };
+    let only = match paths_in(alloc, matches) {
+        Ok(only) => only,
+        Err(no) => return Err(no),
+    };
+    let table = match table_in(alloc, matches, numbers.depth) {
+        Ok(table) => table,
+        Err(no) => return Err(no),
+    };
+    Ok(CountRequest {
+        threads: numbers.threads,
+        max_dirs: numbers.max_dirs,
+        left_out: matches.get_flag("left-out"),
+        exclusions,
+        only,
+        only_from: matches.get_str("only-from"),
+        null: matches.get_flag("null"),
+        table: TableRequest {
+            top: numbers.top,
+            files: matches.get_flag("files"),
+            share: matches.get_flag("share"),
+            ..table
+        },
+        directory: matches.get_str("DIR").unwrap_or(""),
+    })
 }
 
 impl<'w> CountRequest<'w> {
@@ -130,31 +215,13 @@ impl<'w> CountRequest<'w> {
             Ok(matches) => matches,
             Err(error) => return Err(explained_count(alloc, &error, words)),
         };
-        // Each has a default, so both are there.
-        let threads = matches.get_one::<u32>("threads").unwrap_or(4);
-        let max_dirs = matches.get_one::<u32>("max-dirs").unwrap_or(65_536);
-        let top = matches.get_one::<u32>("top");
-        let exclusions = match Exclusions::read(alloc, &matches) {
-            Ok(exclusions) => exclusions,
+        let request = match request_in(alloc, &matches, Numbers::read(&matches)) {
+            Ok(request) => request,
             Err(no) => return Err(no),
         };
-        let only = match paths_in(alloc, &matches) {
-            Ok(only) => only,
-            Err(no) => return Err(no),
-        };
-        let table = match table_in(alloc, &matches) {
-            Ok(table) => table,
-            Err(no) => return Err(no),
-        };
-        Ok(CountRequest {
-            threads,
-            max_dirs,
-            files: matches.get_flag("files"),
-            left_out: matches.get_flag("left-out"),
-            exclusions,
-            only,
-            table: TableOptions { top, ..table },
-            directory: matches.get_str("DIR").unwrap_or(""),
-        })
+        match misfit(&request) {
+            None => Ok(request),
+            Some(why) => Err(unfit(alloc, why)),
+        }
     }
 }

@@ -1,66 +1,50 @@
 //! The options that skip entries beside a directory's own rules.
 
-ghost use Rattle.std.specs.Prelude.{◌≡◌, [], ◌∷◌, map, codes};
+ghost use Rattle.std.specs.Prelude.{◌≡◌, [], ◌∷◌};
 ghost use Rattle.clap.specs.Matches.{found_of};
 ghost use Rattle.clap.specs.Walk.{rows_of};
 ghost use Rattle.lc_arguments.specs.CommandLine.{exclusion_rules};
 ghost use Rattle.lc_arguments.specs.CountArgs.{AreArgsOf};
-ghost use Rattle.lc_arguments.specs.Explained.{AnswersExclusions, AnswersNames, IsRefusal};
+ghost use Rattle.lc_arguments.specs.Explained.{AnswersExclusions};
 
 use crate::arguments::{flag, text_option, texts_option};
 use crate::help;
-use crate::request::{ParseExit, refused};
+use crate::repeated::{Repeated, values_in};
+use crate::request::ParseExit;
 use clap::{Arg, ArgMatches};
-use lc_rules::is_attribute_name;
-use std::alloc::{AllocError, Global};
+use std::alloc::Global;
 
-/// What is skipped beside what a directory's own rules ignore, as by `--exclude-from rules --without linguist-vendored`.
+/// What is skipped beside what a directory's own rules ignore, as by `--exclude '*.log' --without linguist-vendored`.
 #[derive(Drop)]
 pub struct Exclusions<'w> {
     /// The path of an ignore file for the whole tree, as it was given: relative to the directory that the program runs in.
     pub from: Option<&'w str>,
     /// Skip what has the attribute `export-ignore`.
     pub archive: bool,
-    /// Skip what has one of these attributes Set.
+    /// Skip what has one of these attributes: `ATTR` has it Set, `ATTR=VALUE` with this value.
     pub without: Vec<&'w str>,
+    /// The lines of an ignore file that is stronger than all others. None has a line feed.
+    pub exclude: Vec<&'w str>,
+    /// Skip files that none of these patterns match, nor a directory above them. None has a line feed or begins with `!`.
+    pub include: Vec<&'w str>,
+    /// Read neither a `.gitignore` nor `.git/info/exclude`.
+    pub no_ignore: bool,
 }
 
 /// Makes the options that skip entries.
-pub(crate) fn exclusion_options<'a>(alloc: Global) -> (Arg<'a>, Arg<'a>, Arg<'a>)
-    ensures { AreArgsOf exclusion_rules (result.0 ∷ result.1 ∷ result.2 ∷ []) }
+pub(crate) fn exclusion_options<'a>(
+    alloc: Global,
+) -> (Arg<'a>, Arg<'a>, Arg<'a>, Arg<'a>, Arg<'a>, Arg<'a>)
+    ensures { AreArgsOf exclusion_rules (result.0 ∷ result.1 ∷ result.2 ∷ result.3 ∷ result.4 ∷ result.5 ∷ []) }
 {
     (
+        texts_option(alloc, "exclude", "PATTERN", help::EXCLUDE),
         text_option(alloc, "exclude-from", "FILE", help::EXCLUDE_FROM),
+        texts_option(alloc, "include", "PATTERN", help::INCLUDE),
+        flag(alloc, "no-ignore", help::NO_IGNORE),
         flag(alloc, "archive", help::ARCHIVE),
-        texts_option(alloc, "without", "ATTR", help::WITHOUT),
+        texts_option(alloc, "without", "ATTR[=VALUE]", help::WITHOUT),
     )
-}
-
-/// Makes the refusal of a value that no attribute can be named.
-fn misnamed(alloc: Global, name: &str) -> ParseExit
-    ensures { IsRefusal result }
-{
-    refused(
-        alloc,
-        "--without <ATTR>",
-        name,
-        ": an attribute's name has letters, digits, '-', '.' and '_', and does not begin with '-'",
-    )
-}
-
-/// Reads the names of attributes.
-fn attributes<'w>(alloc: Global, names: &[&'w str]) -> Result<Vec<&'w str>, ParseExit>
-    ensures { AnswersNames (map (λ name. name.now) names.now) result }
-{
-    for name in names {
-        if !is_attribute_name(name.as_bytes()) {
-            return Err(misnamed(alloc, name));
-        }
-    }
-    match names.to_vec(alloc) {
-        Ok(attributes) => Ok(attributes),
-        Err(AllocError) => Err(ParseExit::Memory),
-    }
 }
 
 impl<'w> Exclusions<'w> {
@@ -68,15 +52,25 @@ impl<'w> Exclusions<'w> {
     pub(crate) fn read(alloc: Global, matches: &ArgMatches<'w>) -> Result<Exclusions<'w>, ParseExit>
         ensures { AnswersExclusions (rows_of (found_of matches.now)) result }
     {
-        let names = matches.get_strs("without").unwrap_or(&[]);
-        let without = match attributes(alloc, names) {
+        let without = match values_in(alloc, matches, Repeated::Attributes) {
             Ok(without) => without,
+            Err(no) => return Err(no),
+        };
+        let exclude = match values_in(alloc, matches, Repeated::Excluded) {
+            Ok(exclude) => exclude,
+            Err(no) => return Err(no),
+        };
+        let include = match values_in(alloc, matches, Repeated::Included) {
+            Ok(include) => include,
             Err(no) => return Err(no),
         };
         Ok(Exclusions {
             from: matches.get_str("exclude-from"),
             archive: matches.get_flag("archive"),
             without,
+            exclude,
+            include,
+            no_ignore: matches.get_flag("no-ignore"),
         })
     }
 }

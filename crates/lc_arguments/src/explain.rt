@@ -5,7 +5,7 @@ ghost use Rattle.lc_arguments.specs.CommandLine.{explain_app, explain_rules, wor
 ghost use Rattle.lc_arguments.specs.CountArgs.{AreArgsOf, IsArgOf, IsCommandOf};
 ghost use Rattle.lc_arguments.specs.Explained.{AnswersExplainWords};
 
-use crate::arguments::{bare, word};
+use crate::arguments::{bare, flag, with_short, word};
 use crate::exclusions::{Exclusions, exclusion_options};
 use crate::request::{ParseExit, explained};
 use crate::{help, suggestions};
@@ -18,6 +18,8 @@ use std::convert::AsStr;
 pub struct ExplainRequest<'w> {
     /// What is skipped beside what the directory's own rules ignore.
     pub exclusions: Exclusions<'w>,
+    /// Each path on standard input ends with NUL.
+    pub null: bool,
     /// The path of DIR, as it was given.
     pub directory: &'w str,
     /// The paths to explain, relative to DIR. If there are none, they come on standard input.
@@ -32,7 +34,7 @@ fn paths<'a>(alloc: Global) -> Arg<'a>
     )
 }
 
-fn args<'a>(alloc: Global) -> [Arg<'a>; 5]
+fn args<'a>(alloc: Global) -> [Arg<'a>; 9]
     ensures { AreArgsOf explain_rules result }
 {
     let exclusions = exclusion_options(alloc);
@@ -40,6 +42,10 @@ fn args<'a>(alloc: Global) -> [Arg<'a>; 5]
         exclusions.0,
         exclusions.1,
         exclusions.2,
+        exclusions.3,
+        exclusions.4,
+        exclusions.5,
+        with_short(flag(alloc, "null", help::NULL_INPUT), '0'),
         word(alloc, "DIR", "Directory whose rules decide"),
         paths(alloc),
     ]
@@ -85,6 +91,7 @@ impl<'w> ExplainRequest<'w> {
         };
         Ok(ExplainRequest {
             exclusions,
+            null: matches.get_flag("null"),
             directory: matches.get_str("DIR").unwrap_or(""),
             paths,
         })

@@ -37,12 +37,13 @@ pub(crate) const AFTER_COUNT: &str = "Example: lc count --format table --by ext 
 
 pub(crate) const AFTER_COUNT_LONG: &str =
     "Each file under DIR is counted once, unless a rule skips it: a rule in a
-.gitignore of DIR or below, in .git/info/exclude, or in the file of
---exclude-from. Entries named .git, symbolic links and special files are always
+.gitignore of DIR or below, in .git/info/exclude, in the file of --exclude-from,
+or of --exclude. Entries named .git, symbolic links and special files are always
 skipped. lc reads no rules above DIR, no configuration of Git and not its index:
 an ignored file is skipped even if Git tracks it.
 
 Each row is for the files of one kind:
+  dir    the directory, relative to DIR; only with --by dir
   ext    the extension of the name, with its dot; - for none
   text   the attribute text in .gitattributes: set, unset, auto, other, or -
   eol    how lines end: lf, crlf, cr, mixed or none; nul for a file with a NUL
@@ -65,8 +66,12 @@ Examples:
   lc count --format table --by ext --sort lines .
   lc count --left-out .
   lc count --files --sort lines --top 10 .
-  lc count --threads 8 src
+  lc count --format table --by dir --depth 2 --share .
+  lc count --format csv --files .
+  lc count -j 8 src
+  lc count --exclude '*.min.js' --include '*.js' .
   lc count --only src --only doc .
+  git ls-files -z | lc count --no-ignore --only-from - -0 .
   lc count --archive --exclude-from rules .
   lc count --without linguist-vendored --without linguist-generated .";
 
@@ -88,9 +93,9 @@ decides, its pattern, and the path.
   bad       no file or directory can have this path
   fault     a directory or rule file on the way could not be read
 
-A path is relative to DIR. A slash at its end means a directory. Without one, lc
-looks what is there; a path where nothing is counts as a file. The rule files
-are those that lc count DIR reads.
+A path is relative to DIR, wherever lc is started, and need not exist. A slash
+at its end means a directory. Without one, lc looks what is there; a path where
+nothing is counts as a file. The rule files are those that lc count DIR reads.
 
 Exit status:
   0  each path was answered
@@ -134,6 +139,9 @@ Examples:
 /// The heading of the options that choose files.
 const WHICH_FILES: &str = "Which files";
 
+/// The heading of the options that say what standard input has.
+const INPUT: &str = "Input";
+
 /// The heading of the options that choose what is printed.
 const WHAT_IS_PRINTED: &str = "What is printed";
 
@@ -147,6 +155,29 @@ pub(crate) struct OptionHelp {
     pub(crate) short: &'static str,
     pub(crate) long: &'static str,
 }
+
+pub(crate) const EXCLUDE: OptionHelp = OptionHelp {
+    heading: WHICH_FILES,
+    short: "Skip what PATTERN matches",
+    long: "Skip what PATTERN matches. PATTERN is a line of a .gitignore, relative
+to DIR, and overrides every rule file. !PATTERN includes again. May be
+repeated; the last one that matches decides",
+};
+
+pub(crate) const INCLUDE: OptionHelp = OptionHelp {
+    heading: WHICH_FILES,
+    short: "Skip files that no PATTERN of --include matches",
+    long: "Skip files unless PATTERN matches them or a directory above them.
+PATTERN is a line of a .gitignore, relative to DIR. May be repeated;
+one that matches is enough",
+};
+
+pub(crate) const NO_IGNORE: OptionHelp = OptionHelp {
+    heading: WHICH_FILES,
+    short: "Read no .gitignore and no .git/info/exclude",
+    long: "Read no .gitignore and no .git/info/exclude. --exclude, --exclude-from
+and .gitattributes still apply, and .git is still skipped",
+};
 
 pub(crate) const EXCLUDE_FROM: OptionHelp = OptionHelp {
     heading: WHICH_FILES,
@@ -165,10 +196,11 @@ pub(crate) const ARCHIVE: OptionHelp = OptionHelp {
 
 pub(crate) const WITHOUT: OptionHelp = OptionHelp {
     heading: WHICH_FILES,
-    short: "Skip what has the attribute ATTR",
+    short: "Skip what has the attribute ATTR, or has this value of it",
     long: "Skip files and directories that have the attribute ATTR in
-.gitattributes, such as linguist-vendored. The line `* ATTR` sets it;
-`* ATTR=true` gives it a value, and skips nothing. May be repeated",
+.gitattributes, such as linguist-vendored. The line `* ATTR` sets it.
+The line `* ATTR=true` gives it a value, which ATTR=true means. May be
+repeated",
 };
 
 pub(crate) const ONLY: OptionHelp = OptionHelp {
@@ -176,6 +208,26 @@ pub(crate) const ONLY: OptionHelp = OptionHelp {
     short: "Count only PATH, under the rules of all of DIR",
     long: "Count only what is at or under PATH, under the rules of all of DIR.
 PATH is relative to DIR, such as src/lib. May be repeated",
+};
+
+pub(crate) const ONLY_FROM: OptionHelp = OptionHelp {
+    heading: WHICH_FILES,
+    short: "Count only the paths in FILE, one a line",
+    long: "Count only what is at or under the paths in FILE, as --only counts
+them. They come one a line; FILE - is standard input",
+};
+
+pub(crate) const NULL: OptionHelp = OptionHelp {
+    heading: WHICH_FILES,
+    short: "Paths of --only-from end with NUL",
+    long: "The paths of --only-from end with NUL, as git ls-files -z prints them",
+};
+
+pub(crate) const NULL_INPUT: OptionHelp = OptionHelp {
+    heading: INPUT,
+    short: "Paths on standard input end with NUL",
+    long: "The paths on standard input end with NUL, as git ls-files -z prints
+them, so that a path may contain a line feed",
 };
 
 pub(crate) const FILES: OptionHelp = OptionHelp {
@@ -193,16 +245,26 @@ with the rule or the reason",
 
 pub(crate) const FORMAT: OptionHelp = OptionHelp {
     heading: WHAT_IS_PRINTED,
-    short: "tsv (the default), table or json",
-    long: "How to print: tsv (the default) separates fields by tabs, table aligns
-them for reading, json is for programs",
+    short: "tsv, table, json, csv or markdown",
+    long: "How to print: table aligns columns for reading and is the default on
+a terminal; tsv separates fields by tabs and is the default
+elsewhere; json is for programs; csv has one kind of record and no
+totals, for databases and spreadsheets; markdown is for a page on
+GitHub",
 };
 
 pub(crate) const BY: OptionHelp = OptionHelp {
     heading: WHAT_IS_PRINTED,
-    short: "Sum rows by some of ext,text,eol",
-    long: "Sum rows by some of ext, text and eol, separated by commas: --by ext
-prints one row for each extension",
+    short: "Sum rows by some of dir,ext,text,eol",
+    long: "Sum rows by some of dir, ext, text and eol, separated by commas: --by
+ext prints one row for each extension, --by dir one for each directory",
+};
+
+pub(crate) const DEPTH: OptionHelp = OptionHelp {
+    heading: WHAT_IS_PRINTED,
+    short: "Cut directories of --by dir to N segments [default: 1]",
+    long: "Cut the directories of --by dir to their first N segments, 1 to 256
+[default: 1]",
 };
 
 pub(crate) const SORT: OptionHelp = OptionHelp {
@@ -217,6 +279,13 @@ pub(crate) const TOP: OptionHelp = OptionHelp {
     short: "Print only the first N rows and files",
     long: "Print only the first N rows, with a row `others` for the sums of the
 rest, and the first N lines of --files",
+};
+
+pub(crate) const SHARE: OptionHelp = OptionHelp {
+    heading: WHAT_IS_PRINTED,
+    short: "Show each row's share, in table and markdown",
+    long: "Show each row's share of the total: of the column of --sort, or of
+lines. Needs --format table or --format markdown",
 };
 
 pub(crate) const THREADS: OptionHelp = OptionHelp {

@@ -2,20 +2,25 @@
 //!
 //! - `request`: what the program is asked to do, or why it does nothing; arguments without a command
 //! - `count`, `check`, `explain`: the options of each command; `table`: those of the table; `paths`: those of `--only`
-//! - `exclusions`: what counts and explanations skip; `arguments`: the forms of options
+//! - `numbers`: the numbers of a count; `combinations`: options that do not go together
+//! - `exclusions`: what counts and explanations skip; `repeated`: options that may be given several times
+//! - `arguments`: the forms of options
 //! - `refusals`: the text of a refusal, as a terminal shows it; `suggestions`: what refused arguments may have meant
 //! - `limits`: the largest values of options; `help`: the texts of help and of the version
 #![tactic(auto)]
 
 mod arguments;
 mod check;
+mod combinations;
 mod count;
 mod exclusions;
 mod explain;
 mod help;
 mod limits;
+mod numbers;
 mod paths;
 mod refusals;
+mod repeated;
 mod request;
 mod suggestions;
 mod table;
@@ -25,4 +30,6 @@ pub use count::CountRequest;
 pub use exclusions::Exclusions;
 pub use explain::ExplainRequest;
 pub use limits::{MAX_DIRS, MAX_THREADS};
+pub use repeated::lines_text;
 pub use request::{ParseExit, Request};
+pub use table::TableRequest;

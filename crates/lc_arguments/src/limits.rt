@@ -3,6 +3,9 @@
 /// The most rows and files that are asked for.
 pub(crate) const MAX_TOP: u32 = u32::MAX;
 
+/// The most segments of a row's directory.
+pub(crate) const MAX_DEPTH: u32 = 256;
+
 /// The most threads of a count.
 pub const MAX_THREADS: u32 = 16;
 

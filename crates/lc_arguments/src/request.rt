@@ -111,6 +111,16 @@ pub(crate) fn refused(alloc: Global, option: &str, value: &str, why: &str) -> Pa
     }
 }
 
+/// Makes the refusal of options that do not go together.
+pub(crate) fn unfit(alloc: Global, why: &str) -> ParseExit
+    ensures { IsRefusal result }
+{
+    match format!(in alloc; "error: {why}\n\nFor more information, try '--help'.\n") {
+        Ok(text) => ParseExit::Refused(text),
+        Err(AllocError) => ParseExit::Memory,
+    }
+}
+
 /// Adds to an error of clap the command that the arguments may have meant.
 fn explained_others<W: AsStr>(alloc: Global, error: &Error, words: &[W]) -> ParseExit
     ensures { Explains error.now result }

@@ -6,23 +6,57 @@ ghost use Rattle.clap.specs.Walk.{rows_of};
 ghost use Rattle.lc_view.specs.declared.table_options.Columns.{Columns as ColumnsModel};
 ghost use Rattle.lc_view.specs.declared.table_options.Format.{Format as FormatModel};
 ghost use Rattle.lc_view.specs.declared.table_options.SortBy.{SortBy as SortModel};
-ghost use Rattle.lc_arguments.specs.Explained.{AnswersTable, AnswersTableIn};
-ghost use Rattle.lc_arguments.specs.TableWords.{IsColumnsText, format_word, sort_word};
+ghost use Rattle.lc_arguments.specs.Explained.{AnswersColumns, AnswersFormat, AnswersSort, AnswersTable, AnswersTableIn};
+ghost use Rattle.lc_arguments.specs.TableWords.{IsColumnsText, format_word, options_in, sort_word};
 
-use crate::request::{ParseExit, refused};
+use crate::request::{ParseExit, refused, unfit};
 use clap::ArgMatches;
 use lc_glob::cut_at_first;
 use lc_view::{Columns, Format, SortBy, TableOptions};
 use std::alloc::Global;
 
-/// Reads the name of a format.
+/// The table that a count is asked for, as by `--format table --by ext --sort lines`.
+#[derive(Clone, Copy)]
+pub struct TableRequest {
+    /// The format, if one is named.
+    pub format: Option<Format>,
+    /// The columns of `--by`: by default `ext`, `text` and `eol`.
+    pub by: Columns,
+    /// The number by which rows and files are sorted, if one is named.
+    pub sort: Option<SortBy>,
+    /// The most rows, and the most files, if a limit is named.
+    pub top: Option<u32>,
+    /// List each counted file.
+    pub files: bool,
+    /// Show the share of each row.
+    pub share: bool,
+}
+
+impl TableRequest {
+    /// Returns the options of the table, which has the format `other` if none is named.
+    pub fn options(self, other: Format) -> TableOptions
+        ensures { result ≡ options_in other self }
+    {
+        TableOptions {
+            format: self.format.unwrap_or(other),
+            by: self.by,
+            sort: self.sort,
+            top: self.top,
+            files: self.files,
+            share: self.share,
+        }
+    }
+}
+
 fn format_named(name: &str) -> Option<Format>
     ensures { MatchOption result ((f : FormatModel) → format_word f ≢ name.entry.now) (λ f. format_word f ≡ name.entry.now) }
 {
     match name {
         "tsv" => Some(Format::Tsv),
-        "json" => Some(Format::Json),
         "table" => Some(Format::Table),
+        "json" => Some(Format::Json),
+        "csv" => Some(Format::Csv),
+        "markdown" => Some(Format::Markdown),
         _ => None,
     }
 }
@@ -40,11 +74,13 @@ fn sort_named(name: &str) -> Option<SortBy>
     }
 }
 
-/// Reads the names of columns, separated by commas, each at most once.
-fn columns_named(names: &str) -> Option<Columns>
-    ensures { MatchOption result ((c : ColumnsModel) → ¬ IsColumnsText names.entry.now c) (λ c. IsColumnsText names.entry.now c) }
+/// Reads the names of columns, separated by commas, each at most once. Directories are cut to `depth` segments.
+fn columns_named(names: &str, depth: u32) -> Option<Columns>
+    ensures { MatchOption result ((c : ColumnsModel) → ¬ IsColumnsText names.entry.now depth c)
+        (λ c. IsColumnsText names.entry.now depth c) }
 {
     let mut columns = Columns {
+        dir: None,
         ext: false,
         text: false,
         eol: false,
@@ -52,7 +88,9 @@ fn columns_named(names: &str) -> Option<Columns>
     let mut left = Some(names.as_bytes());
     'names: while let Some(rest) = left {
         let (name, others) = cut_at_first(b',', rest);
-        if name == b"ext".as_slice() && !columns.ext {
+        if name == b"dir".as_slice() && columns.dir.is_none() {
+            columns.dir = Some(depth);
+        } else if name == b"ext".as_slice() && !columns.ext {
             columns.ext = true;
         } else if name == b"text".as_slice() && !columns.text {
             columns.text = true;
@@ -66,62 +104,104 @@ fn columns_named(names: &str) -> Option<Columns>
     Some(columns)
 }
 
-/// Reads the values of the three options.
+/// Reads the value of `--format`.
+fn format_of(alloc: Global, name: Option<&str>) -> Result<Option<Format>, ParseExit>
+    ensures { AnswersFormat (option_map (λ s. s.now) name.entry) result }
+{
+    let Some(name) = name else {
+        return Ok(None);
+    };
+    match format_named(name) {
+        None => Err(refused(
+            alloc,
+            "--format <FORMAT>",
+            name,
+            "\n  [possible values: tsv, table, json, csv, markdown]",
+        )),
+        format => Ok(format),
+    }
+}
+
+/// Reads the values of `--by` and `--depth`.
+fn columns_of(alloc: Global, names: Option<&str>, depth: Option<u32>) -> Result<Columns, ParseExit>
+    ensures { AnswersColumns (option_map (λ s. s.now) names.entry) depth result }
+{
+    let names = names.unwrap_or("ext,text,eol");
+    let Some(columns) = columns_named(names, depth.unwrap_or(1)) else {
+        return Err(refused(
+            alloc,
+            "--by <COLUMNS>",
+            names,
+            ": some of dir, ext, text, eol are wanted, each once, with commas between",
+        ));
+    };
+    if depth.is_some() && columns.dir.is_none() {
+        return Err(unfit(alloc, "'--depth <N>' needs '--by dir'"));
+    }
+    Ok(columns)
+}
+
+/// Reads the value of `--sort`.
+fn sort_of(alloc: Global, name: Option<&str>) -> Result<Option<SortBy>, ParseExit>
+    ensures { AnswersSort (option_map (λ s. s.now) name.entry) result }
+{
+    let Some(name) = name else {
+        return Ok(None);
+    };
+    match sort_named(name) {
+        None => Err(refused(
+            alloc,
+            "--sort <COLUMN>",
+            name,
+            "\n  [possible values: files, lines, blank, bytes]",
+        )),
+        sort => Ok(sort),
+    }
+}
+
+/// Reads the values of the four options.
 fn table_of(
     alloc: Global,
     format: Option<&str>,
     by: Option<&str>,
+    depth: Option<u32>,
     sort: Option<&str>,
-) -> Result<TableOptions, ParseExit>
-    ensures { AnswersTable (option_map (λ s. s.now) format.entry) (option_map (λ s. s.now) by.entry)
+) -> Result<TableRequest, ParseExit>
+    ensures { AnswersTable (option_map (λ s. s.now) format.entry) (option_map (λ s. s.now) by.entry) depth
         (option_map (λ s. s.now) sort.entry) result }
 {
-    let word = format.unwrap_or("tsv");
-    let Some(format) = format_named(word) else {
-        return Err(refused(
-            alloc,
-            "--format <FORMAT>",
-            word,
-            "\n  [possible values: tsv, table, json]",
-        ));
+    let format = match format_of(alloc, format) {
+        Ok(format) => format,
+        Err(no) => return Err(no),
     };
-    let word = by.unwrap_or("ext,text,eol");
-    let Some(by) = columns_named(word) else {
-        return Err(refused(
-            alloc,
-            "--by <COLUMNS>",
-            word,
-            ": some of ext, text, eol are wanted, each once, with commas between",
-        ));
+    let by = match columns_of(alloc, by, depth) {
+        Ok(by) => by,
+        Err(no) => return Err(no),
     };
-    let sort = match sort {
-        None => None,
-        Some(word) => match sort_named(word) {
-            None => {
-                return Err(refused(
-                    alloc,
-                    "--sort <COLUMN>",
-                    word,
-                    "\n  [possible values: files, lines, blank, bytes]",
-                ));
-            }
-            by => by,
-        },
+    let sort = match sort_of(alloc, sort) {
+        Ok(sort) => sort,
+        Err(no) => return Err(no),
     };
-    Ok(TableOptions {
+    Ok(TableRequest {
         format,
         by,
         sort,
         top: None,
+        files: false,
+        share: false,
     })
 }
 
-/// Takes the options that clap read, without a limit of what is shown.
-pub(crate) fn table_in(alloc: Global, matches: &ArgMatches<'_>) -> Result<TableOptions, ParseExit>
-    ensures { AnswersTableIn (rows_of (found_of matches.now)) result }
+/// Takes the options that clap read of the format, the columns and the order. All rows are shown, and neither files nor shares.
+pub(crate) fn table_in(
+    alloc: Global,
+    matches: &ArgMatches<'_>,
+    depth: Option<u32>,
+) -> Result<TableRequest, ParseExit>
+    ensures { AnswersTableIn (rows_of (found_of matches.now)) depth result }
 {
     let format = matches.get_str("format");
     let by = matches.get_str("by");
     let sort = matches.get_str("sort");
-    table_of(alloc, format, by, sort)
+    table_of(alloc, format, by, depth, sort)
 }

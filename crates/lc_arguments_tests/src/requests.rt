@@ -1,6 +1,8 @@
 //! The words of a command line, and what they ask for.
 
-use lc_arguments::{CountRequest, Exclusions, ExplainRequest, ParseExit, Request};
+use lc_arguments::{
+    CheckRequest, CountRequest, Exclusions, ExplainRequest, ParseExit, Request, TableRequest,
+};
 use lc_view::Columns;
 use std::alloc::{AllocError, Global};
 use std::process::Abort;
@@ -12,15 +14,15 @@ type Case = (&'static str, &'static str);
 const COUNTS: &[Case] = &[
     (
         "count .",
-        "count .: 4 threads, 65536 directories, Tsv by ext text eol",
+        "count .: 4 threads, 65536 directories, no format by ext text eol",
     ),
     (
         "count --threads 16 --max-dirs=1 src",
-        "count src: 16 threads, 1 directories, Tsv by ext text eol",
+        "count src: 16 threads, 1 directories, no format by ext text eol",
     ),
     (
         "count . --files --left-out --archive",
-        "count .: 4 threads, 65536 directories, Tsv by ext text eol, files, left out, archive",
+        "count .: 4 threads, 65536 directories, no format by ext text eol, files, left out, archive",
     ),
     (
         "count --format table --by eol,ext --sort bytes .",
@@ -28,11 +30,27 @@ const COUNTS: &[Case] = &[
     ),
     (
         "count --files --sort lines --top 10 .",
-        "count .: 4 threads, 65536 directories, Tsv by ext text eol sorted by Lines, first 10, files",
+        "count .: 4 threads, 65536 directories, no format by ext text eol sorted by Lines, first 10, files",
     ),
     (
-        "count --exclude-from rules --without a --without=b --only src/ --only c .",
-        "count .: 4 threads, 65536 directories, Tsv by ext text eol, excludes rules, without a, without b, only src, only c",
+        "count --exclude-from rules --without a --without=b=1 --only src/ --only c .",
+        "count .: 4 threads, 65536 directories, no format by ext text eol, excludes rules, without a, without b=1, only src, only c",
+    ),
+    (
+        "count -j 8 --exclude a --exclude=!b --include *.c --no-ignore .",
+        "count .: 8 threads, 65536 directories, no format by ext text eol, excluding a, excluding !b, including *.c, no ignore files",
+    ),
+    (
+        "count --only-from - -0 .",
+        "count .: 4 threads, 65536 directories, no format by ext text eol, only from - ended by NUL",
+    ),
+    (
+        "count --by ext,dir --format markdown --share .",
+        "count .: 4 threads, 65536 directories, Markdown by dir to 1 ext, shares",
+    ),
+    (
+        "count --depth 256 --by dir --format csv .",
+        "count .: 4 threads, 65536 directories, Csv by dir to 256",
     ),
 ];
 
@@ -41,10 +59,16 @@ const OTHERS: &[Case] = &[
     ("--", "check joined"),
     ("check .gitignore", "check .gitignore"),
     ("check --explain a", "check a, explained"),
+    ("check -0 a", "check a, ended by NUL"),
+    ("explain --null .", "explain ., ended by NUL"),
     ("explain .", "explain ."),
     (
         "explain --archive . a.log src/m.c",
         "explain ., archive, a.log, src/m.c",
+    ),
+    (
+        "explain --exclude *.o --include src --no-ignore . a.o",
+        "explain ., excluding *.o, including src, no ignore files, a.o",
     ),
 ];
 
@@ -69,7 +93,47 @@ const EXITS: &[Case] = &[
     ),
     (
         "count --without=-x .",
-        "refused: error: invalid value '-x' for '--without <ATTR>'",
+        "refused: error: invalid value '-x' for '--without <ATTR[=VALUE]>'",
+    ),
+    (
+        "count --without==x .",
+        "refused: error: invalid value '=x' for '--without <ATTR[=VALUE]>'",
+    ),
+    (
+        "count --include !*.c .",
+        "refused: error: invalid value '!*.c' for '--include <PATTERN>'",
+    ),
+    (
+        "count --by dir,dir .",
+        "refused: error: invalid value 'dir,dir' for '--by <COLUMNS>'",
+    ),
+    (
+        "count --by dir --depth 257 .",
+        "refused: error: invalid value '257' for '--depth <N>'",
+    ),
+    (
+        "count --depth 2 .",
+        "refused: error: '--depth <N>' needs '--by dir'",
+    ),
+    (
+        "count --share --format json .",
+        "refused: error: '--share' needs '--format table' or '--format markdown'",
+    ),
+    (
+        "count --share .",
+        "refused: error: '--share' needs '--format table' or '--format markdown'",
+    ),
+    (
+        "count --files --left-out --format csv .",
+        "refused: error: '--format csv' prints records of one kind",
+    ),
+    (
+        "count --null .",
+        "refused: error: '--null' needs '--only-from <FILE>'",
+    ),
+    (
+        "count --format html .",
+        "refused: error: invalid value 'html' for '--format <FORMAT>'\n  [possible values: tsv, table, json, csv, markdown]",
     ),
     (
         "count --only /src .",
@@ -87,6 +151,25 @@ const EXITS: &[Case] = &[
     ),
 ];
 
+/// Refused words, and the command that they may have meant.
+const MEANT: &[Case] = &[
+    ("count", "lc count ."),
+    ("count a b", "lc count --only a --only b ."),
+    ("count --json .", "lc count --format json ."),
+    ("count . --csv", "lc count --format csv ."),
+    ("count -e py .", "lc count --include '*.py' ."),
+    ("count --ext rs src", "lc count --include '*.rs' ."),
+    ("count --thread 8 .", "lc count --threads 8 ."),
+    ("count --sorted lines .", "lc count --sort lines ."),
+    ("count --hidden .", "lc count --no-ignore ."),
+    ("cuont .", "lc count ."),
+    ("chekc .", "git ls-files | lc check .gitignore"),
+    ("explian .", "lc explain . README.md"),
+    ("version", "lc --version"),
+    ("--by ext .", "lc count --by ext ."),
+    ("explain --files .", "lc explain . README.md"),
+];
+
 fn push_exclusions(text: &mut String, exclusions: &Exclusions) -> Result<(), AllocError> {
     if exclusions.archive {
         text.push_str(", archive")?;
@@ -97,10 +180,22 @@ fn push_exclusions(text: &mut String, exclusions: &Exclusions) -> Result<(), All
     for name in &exclusions.without {
         write!(text, ", without {name}")?;
     }
+    for pattern in &exclusions.exclude {
+        write!(text, ", excluding {pattern}")?;
+    }
+    for pattern in &exclusions.include {
+        write!(text, ", including {pattern}")?;
+    }
+    if exclusions.no_ignore {
+        text.push_str(", no ignore files")?;
+    }
     Ok(())
 }
 
 fn push_columns(text: &mut String, by: Columns) -> Result<(), AllocError> {
+    if let Some(depth) = by.dir {
+        write!(text, " dir to {depth}")?;
+    }
     for (kept, name) in [(by.ext, " ext"), (by.text, " text"), (by.eol, " eol")] {
         if kept {
             text.push_str(name)?;
@@ -109,29 +204,63 @@ fn push_columns(text: &mut String, by: Columns) -> Result<(), AllocError> {
     Ok(())
 }
 
-fn count_text(alloc: Global, request: &CountRequest) -> Result<String, AllocError> {
-    let (directory, threads, max_dirs) = (request.directory, request.threads, request.max_dirs);
-    let format = request.table.format;
-    let mut text = format!(in alloc;
-        "count {directory}: {threads} threads, {max_dirs} directories, {format:?} by"
-    )?;
-    push_columns(&mut text, request.table.by)?;
-    if let Some(sort) = request.table.sort {
+fn push_table(text: &mut String, table: TableRequest) -> Result<(), AllocError> {
+    match table.format {
+        Some(format) => write!(text, "{format:?} by")?,
+        None => text.push_str("no format by")?,
+    }
+    push_columns(text, table.by)?;
+    if let Some(sort) = table.sort {
         write!(text, " sorted by {sort:?}")?;
     }
-    if let Some(top) = request.table.top {
+    if let Some(top) = table.top {
         write!(text, ", first {top}")?;
     }
-    if request.files {
+    if table.share {
+        text.push_str(", shares")?;
+    }
+    if table.files {
         text.push_str(", files")?;
     }
+    Ok(())
+}
+
+fn push_paths(text: &mut String, request: &CountRequest) -> Result<(), AllocError> {
+    for path in &request.only {
+        let path = str::from_utf8(path).unwrap_or("?");
+        write!(text, ", only {path}")?;
+    }
+    if let Some(file) = request.only_from {
+        write!(text, ", only from {file}")?;
+    }
+    if request.null {
+        text.push_str(" ended by NUL")?;
+    }
+    Ok(())
+}
+
+fn count_text(alloc: Global, request: &CountRequest) -> Result<String, AllocError> {
+    let (directory, threads, max_dirs) = (request.directory, request.threads, request.max_dirs);
+    let mut text = format!(in alloc;
+        "count {directory}: {threads} threads, {max_dirs} directories, "
+    )?;
+    push_table(&mut text, request.table)?;
     if request.left_out {
         text.push_str(", left out")?;
     }
     push_exclusions(&mut text, &request.exclusions)?;
-    for path in &request.only {
-        let path = str::from_utf8(path).unwrap_or("?");
-        write!(text, ", only {path}")?;
+    push_paths(&mut text, request)?;
+    Ok(text)
+}
+
+fn check_text(alloc: Global, request: &CheckRequest) -> Result<String, AllocError> {
+    let file = request.file;
+    let mut text = format!(in alloc; "check {file}")?;
+    if request.explain {
+        text.push_str(", explained")?;
+    }
+    if request.null {
+        text.push_str(", ended by NUL")?;
     }
     Ok(text)
 }
@@ -140,6 +269,9 @@ fn explain_text(alloc: Global, request: &ExplainRequest) -> Result<String, Alloc
     let directory = request.directory;
     let mut text = format!(in alloc; "explain {directory}")?;
     push_exclusions(&mut text, &request.exclusions)?;
+    if request.null {
+        text.push_str(", ended by NUL")?;
+    }
     for path in &request.paths {
         write!(text, ", {path}")?;
     }
@@ -153,13 +285,7 @@ fn answer_text(
 ) -> Result<String, AllocError> {
     match answer {
         Ok(Request::CheckJoined) => format!(in alloc; "check joined"),
-        Ok(Request::Check(request)) => {
-            let (file, end) = (
-                request.file,
-                if request.explain { ", explained" } else { "" },
-            );
-            format!(in alloc; "check {file}{end}")
-        }
+        Ok(Request::Check(request)) => check_text(alloc, &request),
         Ok(Request::Count(request)) => count_text(alloc, &request),
         Ok(Request::Explain(request)) => explain_text(alloc, &request),
         Err(ParseExit::Shown(text)) => format!(in alloc; "shown: {text}"),
@@ -168,12 +294,17 @@ fn answer_text(
     }
 }
 
-fn check(rt: &impl Abort, alloc: Global, (line, wanted): &Case) -> Result<(), AllocError> {
+/// Reads words that are parted by spaces, and returns what they ask for, or what is said of them.
+fn text_of(alloc: Global, line: &str) -> Result<String, AllocError> {
     let mut words = Vec::new(alloc);
     for word in line.split_ascii_whitespace() {
         words.push(word)?;
     }
-    let found = answer_text(alloc, Request::read(alloc, words.as_slice()))?;
+    answer_text(alloc, Request::read(alloc, words.as_slice()))
+}
+
+fn check(rt: &impl Abort, alloc: Global, (line, wanted): &Case) -> Result<(), AllocError> {
+    let found = text_of(alloc, line)?;
     let is_exit = wanted.starts_with("shown: ") || wanted.starts_with("refused: ");
     let holds = if is_exit {
         found.starts_with(wanted)
@@ -191,10 +322,33 @@ fn check_all(rt: &impl Abort, alloc: Global, cases: &[Case]) -> Result<(), Alloc
     Ok(())
 }
 
+/// Checks the command that a refusal names, and that this command is not refused itself.
+fn check_meant(rt: &impl Abort, alloc: Global, (line, wanted): &Case) -> Result<(), AllocError> {
+    let found = text_of(alloc, line)?;
+    let end = format!(in alloc; "\nExample: {wanted}\n")?;
+    assert!(rt;
+        found.starts_with("refused: ") && found.ends_with(end.as_str()),
+        "{line}: {found}"
+    );
+    if let Some((_, words)) = wanted.split_once("lc ") {
+        let meant = text_of(alloc, words)?;
+        assert!(rt; !meant.starts_with("refused: "), "{wanted}: {meant}");
+    }
+    Ok(())
+}
+
 #[test]
 fn words_and_requests(rt: HostRuntime) -> Result<(), Fail> {
     check_all(&rt, rt.alloc(), COUNTS)?;
     check_all(&rt, rt.alloc(), OTHERS)?;
     check_all(&rt, rt.alloc(), EXITS)?;
+    Ok(())
+}
+
+#[test]
+fn refused_words_and_commands_that_work(rt: HostRuntime) -> Result<(), Fail> {
+    for case in MEANT {
+        check_meant(&rt, rt.alloc(), case)?;
+    }
     Ok(())
 }

@@ -18,7 +18,8 @@ use Rattle.lc_rules.proofs.LastMatch.{decides_by_last}
 use Rattle.lc_rules.proofs.RuleLineNumbers.{on_their_lines}
 use Rattle.lc_check.specs.CheckText.{file_verdict, has_ignored_parent, path_word}
 use Rattle.lc_check.specs.ExplainedText.{file_rule, highest_ignored, path_rule, rule_fields, explained_line, explained_text_of}
-use Rattle.lc_text.specs.Lines.{input_lines_of}
+use Rattle.lc_text.specs.Lines.{input_paths_of}
+use Rattle.lc_text.specs.declared.lines.PathEnd.{PathEnd}
 use Rattle.lc_text.specs.PathLines.{is_bad_path, is_dir_line, path_of}
 
 -- what holds of all rules holds of the one that decides
@@ -92,16 +93,16 @@ text_at texts lines i found read low is =
     ∙ ap (λ l. get_or l i []) read ∙ get_or-map text_of_line lines i [] [] low
 
 -- one line more
-pub line_more : (escape : List ℕ → List ℕ) (name bytes : List ℕ) (old rest line others whole : List ℕ)
-    → old ++ explained_text_of escape name bytes rest ≡ whole
-    → input_lines_of rest ≡ line ∷ input_lines_of others
-    → (old ++ explained_line escape name bytes line) ++ explained_text_of escape name bytes others ≡ whole
-line_more escape name bytes old rest line others whole told split =
-    append_assoc old (explained_line escape name bytes line) (explained_text_of escape name bytes others)
+pub line_more : (escape : List ℕ → List ℕ) (name bytes : List ℕ) (end : PathEnd) (old rest line others whole : List ℕ)
+    → old ++ explained_text_of escape name bytes end rest ≡ whole
+    → input_paths_of end rest ≡ line ∷ input_paths_of end others
+    → (old ++ explained_line escape name bytes line) ++ explained_text_of escape name bytes end others ≡ whole
+line_more escape name bytes end old rest line others whole told split =
+    append_assoc old (explained_line escape name bytes line) (explained_text_of escape name bytes end others)
     ∙ ap (λ l. old ++ flat_map (explained_line escape name bytes) l) (sym split) ∙ told
 
 -- no line is left
-pub line_none : (escape : List ℕ → List ℕ) (name bytes : List ℕ) (made rest whole : List ℕ) → length rest ≡ 0
-    → made ++ explained_text_of escape name bytes rest ≡ whole → made ≡ whole
-line_none escape name bytes made rest whole none told =
-    sym (append-nil made) ∙ (ap (λ l. made ++ explained_text_of escape name bytes l) (sym (nil_from_length rest none)) ∙ told)
+pub line_none : (escape : List ℕ → List ℕ) (name bytes : List ℕ) (end : PathEnd) (made rest whole : List ℕ) → length rest ≡ 0
+    → made ++ explained_text_of escape name bytes end rest ≡ whole → made ≡ whole
+line_none escape name bytes end made rest whole none told =
+    sym (append-nil made) ∙ (ap (λ l. made ++ explained_text_of escape name bytes end l) (sym (nil_from_length rest none)) ∙ told)

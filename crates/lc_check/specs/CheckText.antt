@@ -1,4 +1,4 @@
--- The text of a check: a line for each line of paths, by what the rules say of a path.
+-- The text of a check: a line for each path, by what the rules say of a path.
 use Rattle.std.specs.Prelude.{◌≡◌, ◌<◌, ◌≤◌, ℕ, Bool, true, false, ◌&&◌, nat_eq, cond, List, ◌++◌, length, take, slice_index, codes}
 use Rattle.std.specs.List.{list_any, range_with_len, flat_map}
 use Rattle.lc_glob.specs.Bytes.{slash}
@@ -6,8 +6,9 @@ use Rattle.lc_rules.specs.IgnoreRules.{RuleModel}
 use Rattle.lc_rules.specs.Verdicts.{verdict_of, at_depth}
 use Rattle.lc_rules.specs.declared.verdicts.Verdict.{Verdict}
 use Rattle.lc_rules.specs.declared.verdicts.Verdict.TheVariants.{Ignored, Included, NoRule}
-use Rattle.lc_text.specs.Lines.{input_lines_of}
+use Rattle.lc_text.specs.Lines.{input_paths_of}
 use Rattle.lc_text.specs.PathLines.{is_bad_path, is_dir_line, path_of}
+use Rattle.lc_text.specs.declared.lines.PathEnd.{PathEnd}
 
 -- what the rules of one file say of a path, or of a directory
 abbrev pub file_verdict : List RuleModel → List ℕ → Bool → Verdict
@@ -44,15 +45,15 @@ path_word verdict path is_dir =
     (cond (has_ignored_parent verdict path) (codes "below")
     (verdict_word (verdict path is_dir)))
 
--- the word, a tab, the line as it came, written by `escape`, a line feed
+-- the word, a tab, the path as it came, perhaps with a slash, written by `escape`, a line feed
 abbrev pub checked_line : (List ℕ → List ℕ) → (List ℕ → Bool → Verdict) → List ℕ → List ℕ
 checked_line escape verdict line =
     path_word verdict (path_of line) (is_dir_line line) ++ codes "\t" ++ escape line ++ codes "\n"
 
--- the lines of the paths, each with its word
-abbrev pub check_text_of : (List ℕ → List ℕ) → (List ℕ → Bool → Verdict) → List ℕ → List ℕ
-check_text_of escape verdict paths = flat_map (checked_line escape verdict) (input_lines_of paths)
+-- the paths, which end so, each with its word
+abbrev pub check_text_of : (List ℕ → List ℕ) → (List ℕ → Bool → Verdict) → PathEnd → List ℕ → List ℕ
+check_text_of escape verdict end paths = flat_map (checked_line escape verdict) (input_paths_of end paths)
 
 -- the same with the rules of one file
-abbrev pub text_by : (List ℕ → List ℕ) → List RuleModel → List ℕ → List ℕ
-text_by escape rules paths = check_text_of escape (file_verdict rules) paths
+abbrev pub text_by : (List ℕ → List ℕ) → List RuleModel → PathEnd → List ℕ → List ℕ
+text_by escape rules end paths = check_text_of escape (file_verdict rules) end paths

@@ -1,13 +1,14 @@
--- The text of an explained check: a line for each line of paths, with the rule that gives the path its word.
+-- The text of an explained check: a line for each path, with the rule that gives the path its word.
 use Rattle.std.specs.Prelude.{ℕ, Bool, true, cond, List, ◌++◌, length, take, codes, decimal, Option, Some, None, option_map}
 use Rattle.std.specs.List.{flat_map, position_or_len, range_with_len}
 use Rattle.lc_rules.specs.IgnoreRules.{RuleModel, rules_of}
 use Rattle.lc_rules.specs.Verdicts.{at_depth, last_match}
 use Rattle.lc_rules.specs.declared.verdicts.Verdict.{Verdict}
 use Rattle.lc_check.specs.CheckText.{file_verdict, is_ignored_parent, has_ignored_parent, path_word}
-use Rattle.lc_text.specs.Lines.{input_lines_of}
+use Rattle.lc_text.specs.Lines.{input_paths_of}
 use Rattle.lc_text.specs.PathLines.{is_bad_path, is_dir_line, path_of}
 use Rattle.lc_text.specs.RulePlaces.{line_text}
+use Rattle.lc_text.specs.declared.lines.PathEnd.{PathEnd}
 
 -- the rule of one file that decides a path, or a directory
 abbrev pub file_rule : List RuleModel → List ℕ → Bool → Option RuleModel
@@ -32,13 +33,13 @@ rule_fields escape name bytes None = codes "-\t-"
 rule_fields escape name bytes (Some rule) =
     escape name ++ codes ":" ++ decimal rule.line ++ codes "\t" ++ escape (line_text bytes rule.line)
 
--- the word as in a check, the two fields of the rule, and the line as it came
+-- the word as in a check, the two fields of the rule, and the path as it came
 abbrev pub explained_line : (List ℕ → List ℕ) → List ℕ → List ℕ → List ℕ → List ℕ
 explained_line escape name bytes line =
     path_word (file_verdict (rules_of bytes)) (path_of line) (is_dir_line line) ++ codes "\t"
     ++ rule_fields escape name bytes (path_rule (rules_of bytes) (path_of line) (is_dir_line line)) ++ codes "\t"
     ++ escape line ++ codes "\n"
 
--- the lines of the paths, by the rules of a file with this name and these bytes
-abbrev pub explained_text_of : (List ℕ → List ℕ) → List ℕ → List ℕ → List ℕ → List ℕ
-explained_text_of escape name bytes paths = flat_map (explained_line escape name bytes) (input_lines_of paths)
+-- the lines of the paths, which end so, by the rules of a file with this name and these bytes
+abbrev pub explained_text_of : (List ℕ → List ℕ) → List ℕ → List ℕ → PathEnd → List ℕ → List ℕ
+explained_text_of escape name bytes end paths = flat_map (explained_line escape name bytes) (input_paths_of end paths)

@@ -5,6 +5,7 @@ use Rattle.lc_glob.specs.Pieces.{pieces_of}
 use Rattle.lc_rules.specs.Bytes.{line_feed}
 use Rattle.lc_rules.specs.IgnoreRules.{rules_of}
 use Rattle.lc_text.specs.Lines.{with_feed}
+use Rattle.lc_text.specs.declared.lines.PathEnd.{PathEnd}
 use Rattle.lc_check.specs.CheckText.{text_by}
 
 -- two dashes, perhaps with a carriage return after them
@@ -22,5 +23,5 @@ paths_part bytes =
     cond (list_any is_dashes (pieces_of line_feed bytes)) (join_with_byte line_feed (after_first is_dashes (pieces_of line_feed bytes))) []
 
 -- the text of a joined check: what the one part says of the other
-abbrev pub joined_text : (List ℕ → List ℕ) → List ℕ → List ℕ
-joined_text escape bytes = text_by escape (rules_of (rules_part bytes)) (paths_part bytes)
+abbrev pub joined_text : (List ℕ → List ℕ) → PathEnd → List ℕ → List ℕ
+joined_text escape end bytes = text_by escape (rules_of (rules_part bytes)) end (paths_part bytes)

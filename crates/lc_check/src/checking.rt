@@ -12,7 +12,7 @@ use crate::text::check_text;
 use lc_census::Source;
 use lc_level::RuleText;
 use lc_rules::IgnoreFile;
-use lc_text::{CheckFault, PathStyle, Sink, print, read_input};
+use lc_text::{CheckFault, PathFormat, Sink, print, read_input};
 use std::alloc::Global;
 
 /// Reads paths to the input's end, and writes the word of each ([`check_text`]).
@@ -21,14 +21,15 @@ use std::alloc::Global;
 pub fn check<S: Source, O: Sink>(
     alloc: Global,
     rules: &IgnoreFile,
-    style: PathStyle,
+    format: PathFormat,
     input: &mut S,
     out: &mut O,
 ) -> Result<(), CheckFault>
-    ensures { AnswersCheck S.may_give O.may_take no_rules (text_by (styled style) rules.now) input.old out.old result input.new out.new }
+    ensures { AnswersCheck S.may_give O.may_take no_rules (text_by (styled format.style) rules.now format.end) input.old out.old result
+        input.new out.new }
 {
     let paths = read_input(alloc, input)?;
-    let text = check_text(alloc, rules, style, &paths)?;
+    let text = check_text(alloc, rules, format, &paths)?;
     print(out, &text)?;
     Ok(())
 }
@@ -36,7 +37,7 @@ pub fn check<S: Source, O: Sink>(
 /// Reads paths to the input's end, and writes the word of each with the rule that gives it, in the file of this name.
 ///
 /// A line of the text is four fields with tabs between: the word, as [`check_text`] has it; where the rule is that gives it, as
-/// `NAME:LINE`, lines being counted from 1; the text of that line, with its `!`, without its trailing spaces; and the line of paths. Of
+/// `NAME:LINE`, lines being counted from 1; the text of that line, with its `!`, without its trailing spaces; and the path. Of
 /// `below` it is the rule that ignores the highest ignored directory above the path. Where no rule gives the word, the second field and
 /// the third are dashes. Name, text and path are printed in a style.
 ///
@@ -46,16 +47,16 @@ pub fn check_explained<S: Source, O: Sink>(
     alloc: Global,
     name: &[u8],
     rules: &RuleText,
-    style: PathStyle,
+    format: PathFormat,
     input: &mut S,
     out: &mut O,
 ) -> Result<(), CheckFault>
-    ensures { AnswersExplainedCheck S.may_give O.may_take (explained_text_of (styled style) name.now rules.now) input.old out.old result
-        input.new out.new }
+    ensures { AnswersExplainedCheck S.may_give O.may_take (explained_text_of (styled format.style) name.now rules.now format.end) input.old
+        out.old result input.new out.new }
 {
     let paths = read_input(alloc, input)?;
-    let lines = RuleLines::new(alloc, name, rules, style)?;
-    print_explained(alloc, &lines, &paths, out)?;
+    let lines = RuleLines::new(alloc, name, rules, format.style)?;
+    print_explained(alloc, &lines, format.end, &paths, out)?;
     Ok(())
 }
 
@@ -64,16 +65,17 @@ pub fn check_explained<S: Source, O: Sink>(
 /// Without such a line all of the input is rules, and there are no paths. After any fault but `Write` nothing was written.
 pub fn check_joined<S: Source, O: Sink>(
     alloc: Global,
-    style: PathStyle,
+    format: PathFormat,
     input: &mut S,
     out: &mut O,
 ) -> Result<(), CheckFault>
-    ensures { AnswersCheck S.may_give O.may_take rules_part (joined_text (styled style)) input.old out.old result input.new out.new }
+    ensures { AnswersCheck S.may_give O.may_take rules_part (joined_text (styled format.style) format.end) input.old out.old result
+        input.new out.new }
 {
     let bytes = read_input(alloc, input)?;
     let (rules, paths) = split_joined(&bytes);
     let rules = IgnoreFile::read(alloc, rules)?;
-    let text = check_text(alloc, &rules, style, paths)?;
+    let text = check_text(alloc, &rules, format, paths)?;
     print(out, &text)?;
     Ok(())
 }

@@ -12,7 +12,7 @@ ghost use Rattle.lc_text.specs.Styles.{styled};
 use crate::checker::Checker;
 use lc_level::RuleText;
 use lc_rules::{Lines, Rule, text_of_line};
-use lc_text::{Block, PathStyle, PrintFault, Sink, push_styled, split_line, split_slash};
+use lc_text::{Block, PathEnd, PathStyle, PrintFault, Sink, push_styled, split_path, split_slash};
 use std::alloc::{AllocError, Global};
 use std::io::Write;
 
@@ -73,7 +73,7 @@ impl<'a> RuleLines<'a> {
     }
 }
 
-/// Appends the line that is printed for a line of the paths.
+/// Appends the line that is printed for a path, perhaps with a slash at its end.
 fn push_explained<'a>(
     lines: &RuleLines,
     checker: &mut Checker<'a>,
@@ -95,21 +95,22 @@ fn push_explained<'a>(
     text.extend_from_slice(b"\n")
 }
 
-/// Writes the word of each line of paths, with the rule that gives it.
+/// Writes the word of each path, with the rule that gives it.
 pub(crate) fn print_explained<O: Sink>(
     alloc: Global,
     lines: &RuleLines,
+    end: PathEnd,
     paths: &[u8],
     out: &mut O,
 ) -> Result<(), PrintFault>
     ensures { AnswersInPieces O.may_take out.old
-        (explained_text_of (styled lines.now.style) lines.now.name.now lines.now.rules.now paths.now) result out.new }
+        (explained_text_of (styled lines.now.style) lines.now.name.now lines.now.rules.now end paths.now) result out.new }
 {
     let mut checker = Checker::new(lines.rules.rules());
     let mut block = Block::new(alloc);
     let mut rest = paths;
     'lines: while !rest.is_empty() {
-        let (line, others) = split_line(rest);
+        let (line, others) = split_path(end, rest);
         push_explained(lines, &mut checker, line, &mut block.text)?;
         block.print_if_full(out)?;
         rest = others;

@@ -6,10 +6,10 @@ ghost use Rattle.lc_text.specs.Styles.{styled};
 
 use crate::checker::Checker;
 use lc_rules::IgnoreFile;
-use lc_text::{PathStyle, push_styled, split_line, split_slash};
+use lc_text::{PathFormat, PathStyle, push_styled, split_path, split_slash};
 use std::alloc::{AllocError, Global};
 
-/// Appends the line that is printed for a line of the paths.
+/// Appends the line that is printed for a path, perhaps with a slash at its end.
 fn push_checked<'a>(
     checker: &mut Checker<'a>,
     style: PathStyle,
@@ -27,9 +27,9 @@ fn push_checked<'a>(
     text.extend_from_slice(b"\n")
 }
 
-/// Makes the text of a check: the word of each line of paths.
+/// Makes the text of a check: the word of each path.
 ///
-/// A line of the text is a word, a tab and the line of paths, in a style. One slash at a path's end means a directory. The word is the
+/// A line of the text is a word, a tab and the path, in a style. One slash at a path's end means a directory. The word is the
 /// first that holds of
 ///
 /// - `bad`: no entry of a tree can have this path, or it has over 4,096 bytes;
@@ -38,17 +38,17 @@ fn push_checked<'a>(
 pub fn check_text(
     alloc: Global,
     rules: &IgnoreFile,
-    style: PathStyle,
+    format: PathFormat,
     paths: &[u8],
 ) -> Result<Vec<u8>, AllocError>
-    ensures { IfOk result (λ text. text.items ≡ text_by (styled style) rules.now paths.now) }
+    ensures { IfOk result (λ text. text.items ≡ text_by (styled format.style) rules.now format.end paths.now) }
 {
     let mut checker = Checker::new(rules);
     let mut text = Vec::new(alloc);
     let mut rest = paths;
     'lines: while !rest.is_empty() {
-        let (line, others) = split_line(rest);
-        push_checked(&mut checker, style, line, &mut text)?;
+        let (line, others) = split_path(format.end, rest);
+        push_checked(&mut checker, format.style, line, &mut text)?;
         rest = others;
     }
     Ok(text)

@@ -3,7 +3,7 @@ use Rattle.std.proofs.Common.{◌≡◌, ℕ, Option, Some, None, Ok, Err, Match
 use Rattle.std.specs.Option.{option_map_or, option_or}
 use Rattle.lc_glob.specs.Path.{path_in}
 use Rattle.lc_level.specs.Answers.{file_item, directory_item, other_item}
-use Rattle.lc_level.specs.Level.{Reason, Fate, failed, walked, skipped, other_kind, reason_of, file_fate}
+use Rattle.lc_level.specs.Level.{Reason, Fate, failed, walked, skipped, other_kind, file_reason, reason_of, file_fate}
 use Rattle.lc_level.specs.Level.{child_job}
 use Rattle.lc_rules.specs.IgnoreChains.{rules_in}
 use Rattle.lc_rules.specs.IgnoreRules.{RuleModel}
@@ -31,17 +31,17 @@ other cite (Some reason) rule = refl
 
 -- for each entry of a level
 pub agree : EntryLaw
-agree s exclude stack j (file_item name (Ok count) rules) =
+agree s top_texts stack j (file_item name (Ok count) rules) =
     let rule = last_match (rules_in j.ignore) (path_in j.path name) false in
-    left_or (cited exclude stack) File (reason_of s j name false) (file_fate j name (Ok count)) rule (taken (cited exclude stack) rule)
-agree s exclude stack j (file_item name (Err word) rules) =
+    left_or (cited top_texts stack) File (file_reason s j name) (file_fate j name (Ok count)) rule (taken (cited top_texts stack) rule)
+agree s top_texts stack j (file_item name (Err word) rules) =
     let rule = last_match (rules_in j.ignore) (path_in j.path name) false in
-    left_or (cited exclude stack) File (reason_of s j name false) (failed word) rule (taken (cited exclude stack) rule)
-agree s exclude stack j (directory_item name) =
+    left_or (cited top_texts stack) File (file_reason s j name) (failed word) rule (taken (cited top_texts stack) rule)
+agree s top_texts stack j (directory_item name) =
     let rule = last_match (rules_in j.ignore) (path_in j.path name) true in
-    left_or (cited exclude stack) Dir (reason_of s j name true) (walked (child_job j name)) rule (taken (cited exclude stack) rule)
-agree s exclude stack j (other_item name) =
-    other (cited exclude stack) (reason_of s j name false) (last_match (rules_in j.ignore) (path_in j.path name) false)
+    left_or (cited top_texts stack) Dir (reason_of s j name true) (walked (child_job j name)) rule (taken (cited top_texts stack) rule)
+agree s top_texts stack j (other_item name) =
+    other (cited top_texts stack) (reason_of s j name false) (last_match (rules_in j.ignore) (path_in j.path name) false)
 
 -- a directory is explained further just where it is walked
 pub into : IntoLaw

@@ -1,5 +1,5 @@
 -- What entering a directory gives, by its level.
-use Rattle.std.proofs.Common.{◌≡◌, ℕ, Bool, List, [], Result, Ok, Err, sym, ◌∙◌, ap, ap₂, subst, refl, IfOk}
+use Rattle.std.proofs.Common.{◌≡◌, ℕ, Bool, List, [], None, Result, Ok, Err, sym, ◌∙◌, ap, ap₂, subst, refl, IfOk}
 use Rattle.lc_level.specs.Answers.{Item, Items, Answers}
 use Rattle.lc_level.specs.Enters.{EntersLevel}
 use Rattle.lc_level.specs.FaultLines.{FaultLineModel}
@@ -32,11 +32,11 @@ after_fault s j path word items (Err f) e = fault_is f.path path f.word word e
 
 fault_of : (s : SelectionModel) (j : JobModel) (path : List ℕ) (word : FaultWord) (a : Answers) (items : Items)
     → level_of s j a items ≡ faulted_level path word → open_dir_of j a items ≡ as_fault path word
-fault_of s j path word a (Ok items) e = after_fault s j path word items (rule_bytes j.path items a) e
+fault_of s j path word a (Ok items) e = after_fault s j path word items (rule_bytes j.ignore.no_ignore j.path items a) e
 fault_of s j path word a (Err w) e = fault_is j.path path w word e
 
 no_attributes : SelectionModel
-no_attributes = record { without = []; only = [] }
+no_attributes = record { without = []; only = []; include = None }
 
 -- a directory at fault can't be entered
 pub fault_entered : (lists : List ℕ → Listings) (gives : List ℕ → Contents) (j : JobModel) (texts : Bool) (site : FaultSite)
@@ -67,7 +67,7 @@ path_after j items (Ok files) = refl
 path_after j items (Err f) = tt
 
 path_of_items : (j : JobModel) (a : Answers) (items : Items) → IfOk (open_dir_of j a items) (λ here. here.job.path ≡ j.path)
-path_of_items j a (Ok items) = path_after j items (rule_bytes j.path items a)
+path_of_items j a (Ok items) = path_after j items (rule_bytes j.ignore.no_ignore j.path items a)
 path_of_items j a (Err w) = tt
 
 -- a directory is entered at the path of its job

@@ -5,7 +5,8 @@ use Rattle.std.specs.List.{AllByRecursion}
 use Rattle.std.proofs.lemmas.Grind.{flat_map-append}
 use Rattle.std.proofs.lemmas.List.{map-append, take_more}
 use Rattle.std.proofs.lemmas.List.Folds.{list_any-append}
-use Rattle.lc_text.specs.Lines.{input_lines_of}
+use Rattle.lc_text.specs.Lines.{input_paths_of}
+use Rattle.lc_text.specs.declared.lines.PathEnd.{PathEnd}
 use Rattle.lc_text.specs.PathLines.{path_of, is_dir_line}
 use Rattle.lc_text.specs.declared.style.PathStyle.{PathStyle}
 use Rattle.lc_text.specs.declared.outcome.Outcome.{Outcome}
@@ -60,15 +61,15 @@ pub eight_pieces : (old a b c d e f g h : List ℕ)
 eight_pieces old a b c d e f g h = simp append_assoc
 
 -- the lines of an input, one by one
-pub line_done : (done all : List (List ℕ)) (rest line others : List ℕ) → done ++ input_lines_of rest ≡ all
-    → input_lines_of rest ≡ line ∷ input_lines_of others
-    → (done ++ line ∷ []) ++ input_lines_of others ≡ all
-line_done done all rest line others is split =
-    append_assoc done (line ∷ []) (input_lines_of others) ∙ ap (λ (l : List (List ℕ)). done ++ l) (sym split) ∙ is
+pub line_done : (end : PathEnd) (done all : List (List ℕ)) (rest line others : List ℕ) → done ++ input_paths_of end rest ≡ all
+    → input_paths_of end rest ≡ line ∷ input_paths_of end others
+    → (done ++ line ∷ []) ++ input_paths_of end others ≡ all
+line_done end done all rest line others is split =
+    append_assoc done (line ∷ []) (input_paths_of end others) ∙ ap (λ (l : List (List ℕ)). done ++ l) (sym split) ∙ is
 
 -- where nothing is left of the input all its lines are done
-pub lines_done : (done all : List (List ℕ)) (rest : List ℕ) → done ++ input_lines_of rest ≡ all → rest ≡ [] → done ≡ all
-lines_done done all rest is none = sym (append-nil done) ∙ ap (λ (l : List ℕ). done ++ input_lines_of l) (sym none) ∙ is
+pub lines_done : (end : PathEnd) (done all : List (List ℕ)) (rest : List ℕ) → done ++ input_paths_of end rest ≡ all → rest ≡ [] → done ≡ all
+lines_done end done all rest is none = sym (append-nil done) ∙ ap (λ (l : List ℕ). done ++ input_paths_of end l) (sym none) ∙ is
 
 -- the words so far, and one more
 pub words_more : (words : List (Bor (List ℕ))) (i : ℕ) (d : Bor (List ℕ)) (line : List ℕ) → i < length words

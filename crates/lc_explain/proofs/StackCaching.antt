@@ -7,7 +7,7 @@ use Rattle.lc_level.specs.Job.{JobModel}
 use Rattle.lc_level.specs.Selection.{SelectionModel}
 use Rattle.lc_explain.specs.Explained.{cited, IsExplained}
 use Rattle.lc_explain.specs.Findings.{explanation_of}
-use Rattle.lc_explain.specs.OpenDirs.{OpenDirModel, DirStack, DirStacks, stack_at, stack_to}
+use Rattle.lc_explain.specs.OpenDirs.{OpenDirModel, DirStack, DirStacks, stack_at, stack_to, TopTextsModel}
 use Rattle.lc_explain.specs.declared.finding.Finding.{Finding}
 use Rattle.lc_explain.specs.declared.finding.Found.{Found}
 use Rattle.lc_explain.specs.DirStacks.{IsFirstOf, AreFirstOf, Keeps, IsStack, AreStacks}
@@ -79,27 +79,31 @@ keeps_alone old left mid new stack at same are more last =
 
 -- ---- what is known of ways
 
-module _ (Enters : JobModel → Result OpenDirModel FaultLineModel → Type 0) (s : SelectionModel) (exclude : List ℕ) (top : JobModel) where
+module _ (Enters : JobModel → Result OpenDirModel FaultLineModel → Type 0) (s : SelectionModel) (top_texts : TopTextsModel)
+    (top : JobModel) where
   -- no way is kept
-  pub no_stacks : (stacks : DirStacks) → stacks ≡ [] → AreStacks Enters s exclude top stacks
-  no_stacks stacks none = subst (λ (l : DirStacks). AreStacks Enters s exclude top l) (sym none) (λ at. tt)
+  pub no_stacks : (stacks : DirStacks) → stacks ≡ [] → AreStacks Enters s top_texts top stacks
+  no_stacks stacks none = subst (λ (l : DirStacks). AreStacks Enters s top_texts top l) (sym none) (λ at. tt)
 
   -- a way more, and with it no other but its beginnings
-  pub stacks_kept : (old new : DirStacks) (stack : DirStack) (at : ℕ) → AreStacks Enters s exclude top old
-      → IsStack Enters s exclude top stack
-      → Keeps old stack new at → AreStacks Enters s exclude top new
+  pub stacks_kept : (old new : DirStacks) (stack : DirStack) (at : ℕ) → AreStacks Enters s top_texts top old
+      → IsStack Enters s top_texts top stack
+      → Keeps old stack new at → AreStacks Enters s top_texts top new
   stacks_kept old new stack at are is keeps i = by (keeps.others i)
     where
-      by : ((j : ℕ) × (stack_at new i ≡ stack_at old j)) ⊎ IsFirstOf (stack_at new i) stack → IsStack Enters s exclude top (stack_at new i)
-      by (inl before) = subst (λ (w : DirStack). IsStack Enters s exclude top w) (sym before.1) (are before.0)
+      by : ((j : ℕ) × (stack_at new i ≡ stack_at old j)) ⊎ IsFirstOf (stack_at new i) stack
+          → IsStack Enters s top_texts top (stack_at new i)
+      by (inl before) = subst (λ (w : DirStack). IsStack Enters s top_texts top w) (sym before.1) (are before.0)
       by (inr first) =
-          stack_cut Enters s exclude top [] (stack_at new i) first.0 (subst (λ (w : DirStack). IsStack Enters s exclude top w) first.1 is)
+          stack_cut Enters s top_texts top [] (stack_at new i) first.0
+          (subst (λ (w : DirStack). IsStack Enters s top_texts top w) first.1 is)
 
   -- what was found on a kept way explains the path by that way
   pub found_on : (stacks : DirStacks) (at : ℕ) (path : List ℕ) (as_dir : Bool) (finding : Finding) (found : Found)
       → found ≡ record { finding = finding; to = Some at }
-      → IsExplained Enters s exclude top path as_dir (explanation_of (cited exclude (stack_at stacks at)) finding)
-      → IsExplained Enters s exclude top path as_dir (explanation_of (cited exclude (stack_to stacks found.to)) found.finding)
+      → IsExplained Enters s top_texts top path as_dir (explanation_of (cited top_texts (stack_at stacks at)) finding)
+      → IsExplained Enters s top_texts top path as_dir (explanation_of (cited top_texts (stack_to stacks found.to)) found.finding)
   found_on stacks at path as_dir finding found is explained =
-      subst (λ (f : Found). IsExplained Enters s exclude top path as_dir (explanation_of (cited exclude (stack_to stacks f.to)) f.finding))
+      subst (λ (f : Found). IsExplained Enters s top_texts top path as_dir
+      (explanation_of (cited top_texts (stack_to stacks f.to)) f.finding))
       (sym is) explained

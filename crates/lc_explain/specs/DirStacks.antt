@@ -8,7 +8,7 @@ use Rattle.lc_level.specs.Selection.{SelectionModel}
 use Rattle.lc_explain.specs.Explained.{Explanation, OnEntering, IsSaid}
 use Rattle.lc_explain.specs.Findings.{fault_line_of}
 use Rattle.lc_explain.specs.declared.finding.DirectoryFault.{DirectoryFault}
-use Rattle.lc_explain.specs.OpenDirs.{OpenDirModel, DirStack, DirStacks, stack_at}
+use Rattle.lc_explain.specs.OpenDirs.{OpenDirModel, DirStack, DirStacks, stack_at, TopTextsModel}
 
 -- what is left of a path below a directory
 abbrev pub IsRestBelow : OpenDirModel → List ℕ → List ℕ → Type 0
@@ -41,13 +41,13 @@ module _ (Enters : JobModel → Result OpenDirModel FaultLineModel → Type 0) w
   Goes j above old new (Ok (Err fault)) = Enters j (Err (fault_line_of fault)) × (new ≡ old)
   Goes j above old new (Err refused) = Unit {0}
 
-  module _ (s : SelectionModel) (exclude : List ℕ) (top : JobModel) where
+  module _ (s : SelectionModel) (top_texts : TopTextsModel) (top : JobModel) where
     -- what is said of what is left below the last directory of a way is said of the whole path
     abbrev pub Reaches : DirStack → OpenDirModel → Type 0
     Reaches stack here =
-        (rest : List ℕ) (as_dir : Bool) (x : Explanation) → IsSaid Enters s exclude stack here (segments_of rest) as_dir x
+        (rest : List ℕ) (as_dir : Bool) (x : Explanation) → IsSaid Enters s top_texts stack here (segments_of rest) as_dir x
         → OnEntering Enters top x
-        (λ first. IsSaid Enters s exclude (first ∷ []) first (segments_of (path_in here.job.path rest)) as_dir x)
+        (λ first. IsSaid Enters s top_texts (first ∷ []) first (segments_of (path_in here.job.path rest)) as_dir x)
 
     -- this holds of each directory of a way below those above it
     abbrev pub IsStackBelow : DirStack → DirStack → Type 0

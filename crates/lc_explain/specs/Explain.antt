@@ -4,29 +4,48 @@ use Rattle.std.specs.List.{AllByRecursion}
 use Rattle.lc_census.specs.Reads.{Answer}
 use Rattle.lc_census.specs.declared.source.Failed.{Failed}
 use Rattle.lc_census.specs.declared.whole.WholeFault.TheVariants as whole
-use Rattle.lc_level.specs.TopJob.{top_job}
+use Rattle.lc_level.specs.Selection.{SelectionModel}
+use Rattle.lc_level.specs.TopJob.{TopRulesModel, own_rules, top_job}
 use Rattle.lc_rules.specs.IgnoreRules.{rules_of}
 use Rattle.lc_text.specs.Input.{AnswersInput}
-use Rattle.lc_text.specs.Lines.{input_lines_of}
+use Rattle.lc_text.specs.Lines.{input_paths_of}
 use Rattle.lc_text.specs.PathLines.{path_of, is_dir_line}
 use Rattle.lc_text.specs.Pieces.{WritesInPieces, AnswersInPieces}
 use Rattle.lc_text.specs.declared.check_fault.CheckFault.{CheckFault}
 use Rattle.lc_text.specs.declared.check_fault.CheckFault.TheVariants.{Read, InputTooLong, RulesTooLong, Memory, Write}
 use Rattle.lc_text.specs.declared.printing.PrintFault.{PrintFault}
 use Rattle.lc_text.specs.declared.printing.PrintFault.TheVariants as print
+use Rattle.lc_text.specs.declared.lines.PathEnd.{PathEnd}
 use Rattle.lc_text.specs.declared.style.PathStyle.{PathStyle}
 use Rattle.lc_tree.specs.Trees.{Listings, Contents}
 use Rattle.lc_explain.specs.Explained.{Explanation, IsExplained}
 use Rattle.lc_explain.specs.ExplainText.{Told, explained_line, told_text, is_fault, has_fault}
-use Rattle.lc_explain.specs.OpenDirs.{text_or_none, MayEnter}
+use Rattle.lc_explain.specs.OpenDirs.{TopTextsModel, text_or_none, MayEnter}
 use Rattle.lc_explain.specs.declared.explain_options.ExplainOptions.{ExplainOptions}
 use Rattle.lc_text.specs.declared.outcome.Outcome.{Outcome}
 use Rattle.lc_text.specs.declared.outcome.Outcome.TheVariants.{Clean, SomeFaults}
 
+-- the rules for the whole tree, beside those of its own files, and their texts
+abbrev pub top_rules_of : ExplainOptions → TopRulesModel
+top_rules_of options = record {
+  exclude = option_map rules_of options.exclude;
+  command_line = option_map rules_of options.command_line;
+  no_ignore = options.no_ignore;
+}
+
+abbrev pub top_texts_of : ExplainOptions → TopTextsModel
+top_texts_of options = record { exclude = text_or_none options.exclude; command_line = text_or_none options.command_line }
+
+-- options of no rules but the tree's own
+pub record IsOfOwnRules (selection : SelectionModel) (style : PathStyle) (options : ExplainOptions) : Type 0 where
+  pub rules : top_rules_of options ≡ own_rules
+  pub selected : options.selection ≡ selection
+  pub styled : options.style ≡ style
+
 -- what may be said of a path, by what the listings and the files of a tree may answer and by what is asked
 abbrev pub MaySay : (List ℕ → Listings) → (List ℕ → Contents) → ExplainOptions → List ℕ → Bool → Explanation → Type 0
 MaySay lists gives options path as_dir x =
-    IsExplained (MayEnter lists gives) options.selection (text_or_none options.exclude) (top_job (option_map rules_of options.exclude))
+    IsExplained (MayEnter lists gives) options.selection (top_texts_of options) (top_job (top_rules_of options))
     path as_dir x
 
 abbrev pub outcome_of : List Told → Outcome
@@ -67,11 +86,11 @@ module _ {O : Type 0} (may_take : O → List ℕ → Result ℕ Failed → O →
       (text : List ℕ) × Explains style Says lines text outcome × WritesInPieces may_take out text wrote
   AnswersLines lines out (Err fault) wrote = ExplainsFirst style Says lines (λ text. AnswersInPieces may_take out text (Err fault) wrote)
 
-  module _ {I : Type 0} (may_give : I → ℕ → Answer → I → Type 0) where
+  module _ (end : PathEnd) {I : Type 0} (may_give : I → ℕ → Answer → I → Type 0) where
     abbrev pub AnswersExplain : I → O → Result Outcome CheckFault → I → O → Type 0
-    -- the input was read whole, and the text of its lines was written whole
+    -- the input was read whole, and the text of its paths was written whole
     AnswersExplain input out (Ok outcome) read wrote =
-        (bytes : List ℕ) × AnswersInput may_give input (Ok tt) bytes read × AnswersLines (input_lines_of bytes) out (Ok outcome) wrote
+        (bytes : List ℕ) × AnswersInput may_give input (Ok tt) bytes read × AnswersLines (input_paths_of end bytes) out (Ok outcome) wrote
     -- a read of the input failed
     AnswersExplain input out (Err Read) read wrote =
         ((bytes : List ℕ) × AnswersInput may_give input (Err whole.Read) bytes read) × (wrote ≡ out)
@@ -80,11 +99,12 @@ module _ {O : Type 0} (may_take : O → List ℕ → Result ℕ Failed → O →
         ((bytes : List ℕ) × AnswersInput may_give input (Err whole.TooLong) bytes read) × (wrote ≡ out)
     -- the input has no rules
     AnswersExplain input out (Err RulesTooLong) read wrote = ⊥
-    -- nothing was written, or the input was read whole and a prefix of the text of its first lines was written
+    -- nothing was written, or the input was read whole and a prefix of the text of its first paths was written
     AnswersExplain input out (Err Memory) read wrote =
         (wrote ≡ out)
         ⊎ ((bytes : List ℕ) × AnswersInput may_give input (Ok tt) bytes read
-        × AnswersLines (input_lines_of bytes) out (Err print.Memory) wrote)
-    -- a prefix of the text of its first lines was written
+        × AnswersLines (input_paths_of end bytes) out (Err print.Memory) wrote)
+    -- a prefix of the text of its first paths was written
     AnswersExplain input out (Err Write) read wrote =
-        (bytes : List ℕ) × AnswersInput may_give input (Ok tt) bytes read × AnswersLines (input_lines_of bytes) out (Err print.Write) wrote
+        (bytes : List ℕ) × AnswersInput may_give input (Ok tt) bytes read
+        × AnswersLines (input_paths_of end bytes) out (Err print.Write) wrote

@@ -2,7 +2,7 @@
 use Rattle.std.specs.Prelude.{ℕ, Bool, true, false, List, ◌++◌, flat_map, codes}
 use Rattle.std.specs.List.{list_any}
 use Rattle.lc_level.specs.FaultLines.{FaultLineModel}
-use Rattle.lc_level.specs.Level.{Reason, named_git, by_rule, by_attribute, other_kind}
+use Rattle.lc_level.specs.Level.{Reason, named_git, by_rule, by_attribute, not_included, other_kind}
 use Rattle.lc_text.specs.PathLines.{path_of}
 use Rattle.lc_text.specs.RulePlaces.{rule_place}
 use Rattle.lc_text.specs.Styles.{styled, styled_path}
@@ -20,7 +20,8 @@ module _ (style : PathStyle) where
   abbrev pub reason_text : Reason → List ℕ
   reason_text named_git = codes "git"
   reason_text (by_rule source line) = codes "-"
-  reason_text (by_attribute name) = codes "attribute:" ++ styled style name
+  reason_text (by_attribute word) = codes "attribute:" ++ styled style word
+  reason_text not_included = codes "include"
   reason_text other_kind = codes "other"
 
   -- of a directory that is at fault

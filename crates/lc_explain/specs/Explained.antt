@@ -4,7 +4,7 @@ use Rattle.std.specs.Prelude.{◌≡◌, ℕ, Bool, true, false, cond, List, [],
 use Rattle.lc_glob.specs.Path.{path_in, segments_of}
 use Rattle.lc_level.specs.FaultLines.{FaultLineModel}
 use Rattle.lc_level.specs.Job.{JobModel}
-use Rattle.lc_level.specs.Level.{Reason, named_git, by_rule, by_attribute, other_kind, reason_for, child_job}
+use Rattle.lc_level.specs.Level.{Reason, named_git, by_rule, by_attribute, not_included, other_kind, reason_for, child_job}
 use Rattle.lc_level.specs.Selection.{SelectionModel}
 use Rattle.lc_rules.specs.IgnoreChains.{rules_in}
 use Rattle.lc_rules.specs.IgnoreRules.{RuleModel}
@@ -15,7 +15,7 @@ use Rattle.lc_text.specs.PathLines.{is_bad_path}
 use Rattle.lc_tree.specs.Kinds.{is_dir}
 use Rattle.lc_tree.specs.declared.entry.Kind.{Kind}
 use Rattle.lc_tree.specs.declared.entry.Kind.TheVariants.{File, Dir, Other}
-use Rattle.lc_explain.specs.OpenDirs.{OpenDirModel, DirStack, kind_in, text_in}
+use Rattle.lc_explain.specs.OpenDirs.{OpenDirModel, DirStack, kind_in, text_in, TopTextsModel}
 
 -- a rule as it is told of: the source of its file, the number of its line, and the text of that line
 pub record CitedRule : Type 0 where
@@ -36,14 +36,15 @@ pub data Explanation : Type 0 where
   left_out : Reason → Explanation
 
 -- a rule of the files that were read on a way
-abbrev pub cited : List ℕ → DirStack → RuleSource → ℕ → CitedRule
-cited exclude stack source line = record { source = source; line = line; text = line_text (text_in exclude stack source) line }
+abbrev pub cited : TopTextsModel → DirStack → RuleSource → ℕ → CitedRule
+cited top_texts stack source line = record { source = source; line = line; text = line_text (text_in top_texts stack source) line }
 
 -- what is left out for a reason is ignored by the rule, or else left out
 abbrev pub said_for : (RuleSource → ℕ → CitedRule) → (CitedRule → Explanation) → Reason → Explanation
 said_for cite ignores (by_rule source line) = ignores (cite source line)
 said_for cite ignores named_git = left_out named_git
 said_for cite ignores (by_attribute name) = left_out (by_attribute name)
+said_for cite ignores not_included = left_out not_included
 said_for cite ignores other_kind = left_out other_kind
 
 -- of what the walk leaves out for a reason, or else by the rule that decides it
@@ -77,18 +78,18 @@ abbrev pub said_above : (RuleSource → ℕ → CitedRule) → Option Reason →
 said_above cite None after = after
 said_above cite (Some reason) after = said_for cite below reason
 
-module _ (s : SelectionModel) (exclude : List ℕ) where
+module _ (s : SelectionModel) (top_texts : TopTextsModel) where
   -- of the last name of a path, in a directory or below one
   abbrev pub said_of : DirStack → JobModel → List ℕ → Kind → Explanation
   said_of stack j name kind =
-      said_by (cited exclude stack) (reason_for s j name kind) (last_match (rules_in j.ignore) (path_in j.path name) (is_dir kind))
+      said_by (cited top_texts stack) (reason_for s j name kind) (last_match (rules_in j.ignore) (path_in j.path name) (is_dir kind))
 
   -- of names below what is not there, or is no directory: it has no entries and no rule files, and those of the directories above decide
   abbrev pub said_beside : DirStack → JobModel → List (List ℕ) → Bool → Explanation
   said_beside stack j [] as_dir = unruled
   said_beside stack j (name ∷ []) as_dir = said_of stack j name (kind_asked as_dir None)
   said_beside stack j (name ∷ next ∷ names) as_dir =
-      said_above (cited exclude stack) (reason_for s j name Dir) (said_beside stack (child_job j name) (next ∷ names) as_dir)
+      said_above (cited top_texts stack) (reason_for s j name Dir) (said_beside stack (child_job j name) (next ∷ names) as_dir)
 
 module _ (Enters : JobModel → Result OpenDirModel FaultLineModel → Type 0) where
   -- a directory is entered, and says this of what stands below it, or is at fault
@@ -96,16 +97,16 @@ module _ (Enters : JobModel → Result OpenDirModel FaultLineModel → Type 0) w
   OnEntering j x Says =
       (entered : Result OpenDirModel FaultLineModel) × Enters j entered × MatchResult entered Says (λ fault. x ≡ faulted fault)
 
-  module _ (s : SelectionModel) (exclude : List ℕ) where
+  module _ (s : SelectionModel) (top_texts : TopTextsModel) where
     -- of names that stand below the last directory of a way
     abbrev pub IsSaid : DirStack → OpenDirModel → List (List ℕ) → Bool → Explanation → Type 0
     IsSaid stack here [] as_dir x = ⊥
-    IsSaid stack here (name ∷ []) as_dir x = x ≡ said_of s exclude stack here.job name (kind_asked as_dir (kind_in here.entries name))
+    IsSaid stack here (name ∷ []) as_dir x = x ≡ said_of s top_texts stack here.job name (kind_asked as_dir (kind_in here.entries name))
     IsSaid stack here (name ∷ next ∷ names) as_dir x =
         OnTheWay (reason_for s here.job name (kind_asked true (kind_in here.entries name))) (is_directory (kind_in here.entries name))
-        (λ reason. x ≡ said_for (cited exclude stack) below reason)
+        (λ reason. x ≡ said_for (cited top_texts stack) below reason)
         (OnEntering (child_job here.job name) x (λ child. IsSaid (stack ++ child ∷ []) child (next ∷ names) as_dir x))
-        (x ≡ said_beside s exclude stack (child_job here.job name) (next ∷ names) as_dir)
+        (x ≡ said_beside s top_texts stack (child_job here.job name) (next ∷ names) as_dir)
 
     -- of a path, from the top of the tree down; `as_dir` says that it is that of a directory
     abbrev pub IsExplained : JobModel → List ℕ → Bool → Explanation → Type 0

@@ -1,12 +1,12 @@
 -- What the code finds of a path.
-use Rattle.std.specs.Prelude.{ℕ, List}
+use Rattle.std.specs.Prelude.{ℕ}
 use Rattle.lc_level.specs.FaultLines.{FaultLineModel}
 use Rattle.lc_level.specs.Reasons.{reason_model}
 use Rattle.lc_level.specs.SitePaths.{site_path}
 use Rattle.lc_rules.specs.declared.rule_source.RuleSource.{RuleSource}
 use Rattle.lc_explain.specs.Explained.{CitedRule, Explanation, bad, faulted, below, ignored, included, unruled, left_out, cited}
 use Rattle.lc_explain.specs.declared.finding.DirectoryFault.{DirectoryFault}
-use Rattle.lc_explain.specs.OpenDirs.{DirStacks, stack_to}
+use Rattle.lc_explain.specs.OpenDirs.{DirStacks, stack_to, TopTextsModel}
 use Rattle.lc_explain.specs.declared.finding.Finding.{Finding}
 use Rattle.lc_explain.specs.declared.finding.Found.{Found}
 use Rattle.lc_explain.specs.declared.finding.Finding.TheVariants as found
@@ -26,5 +26,5 @@ explanation_of cite found.NoRule = unruled
 explanation_of cite (found.Skipped reason) = left_out (reason_model reason)
 
 -- by the rules of the kept way on which it was found
-abbrev pub explanation_on : List ℕ → DirStacks → Found → Explanation
-explanation_on exclude stacks found = explanation_of (cited exclude (stack_to stacks found.to)) found.finding
+abbrev pub explanation_on : TopTextsModel → DirStacks → Found → Explanation
+explanation_on top_texts stacks found = explanation_of (cited top_texts (stack_to stacks found.to)) found.finding

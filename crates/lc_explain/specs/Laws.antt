@@ -7,7 +7,7 @@ use Rattle.lc_level.specs.Selection.{SelectionModel}
 use Rattle.lc_rules.specs.declared.rule_source.RuleSource.{RuleSource}
 use Rattle.lc_tree.specs.declared.entry.Kind.TheVariants.{Dir}
 use Rattle.lc_explain.specs.Explained.{CitedRule, Explanation, ignored, included, unruled, cited, said_for, said_of}
-use Rattle.lc_explain.specs.OpenDirs.{DirStack}
+use Rattle.lc_explain.specs.OpenDirs.{DirStack, TopTextsModel}
 
 -- no rule decides the path, or one that includes it again
 abbrev pub IsSaidKept : Explanation → Type 0
@@ -23,8 +23,8 @@ Agrees cite (skipped kind reason) x = x ≡ said_for cite ignored reason
 -- so it is for each entry of a directory
 abbrev pub EntryLaw : Type 0
 EntryLaw =
-    (s : SelectionModel) (exclude : List ℕ) (stack : DirStack) (j : JobModel) (item : Item)
-    → Agrees (cited exclude stack) (fate_of s j item) (said_of s exclude stack j (name_of item) (entry_of item).kind)
+    (s : SelectionModel) (top_texts : TopTextsModel) (stack : DirStack) (j : JobModel) (item : Item)
+    → Agrees (cited top_texts stack) (fate_of s j item) (said_of s top_texts stack j (name_of item) (entry_of item).kind)
 
 -- a directory on the way is left out for the reason that is told of, or else it is walked, by the job by which it is entered
 abbrev pub IntoLaw : Type 0

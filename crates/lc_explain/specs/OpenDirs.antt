@@ -7,7 +7,7 @@ use Rattle.lc_level.specs.RuleFiles.{RuleBytes, rule_bytes, extended}
 use Rattle.lc_level.specs.WellFormed.{IsWellFormed}
 use Rattle.lc_level.specs.TreeAnswers.{MayAnswer}
 use Rattle.lc_rules.specs.declared.rule_source.RuleSource.{RuleSource}
-use Rattle.lc_rules.specs.declared.rule_source.RuleSource.TheVariants.{ExcludeFrom, InfoExclude, Gitignore}
+use Rattle.lc_rules.specs.declared.rule_source.RuleSource.TheVariants.{ExcludeFrom, InfoExclude, Gitignore, CommandLine}
 use Rattle.lc_tree.specs.Listing.{EntryModel}
 use Rattle.lc_tree.specs.Trees.{Listings, Contents}
 use Rattle.lc_tree.specs.declared.entry.Kind.{Kind}
@@ -49,7 +49,7 @@ open_dir_after j items (Ok files) =
 open_dir_after j items (Err fault) = Err fault
 
 abbrev pub open_dir_of : JobModel → Answers → Items → Result OpenDirModel FaultLineModel
-open_dir_of j a (Ok items) = open_dir_after j items (rule_bytes j.path items a)
+open_dir_of j a (Ok items) = open_dir_after j items (rule_bytes j.ignore.no_ignore j.path items a)
 open_dir_of j a (Err word) = Err (record { path = j.path; word = word })
 
 -- the directory of a job whose answers these are, or its first fault
@@ -78,8 +78,14 @@ abbrev pub text_at : (OpenDirModel → Option (List ℕ)) → Option OpenDirMode
 text_at text None = []
 text_at text (Some directory) = text_or_none (text directory)
 
--- the text of the file of rules of this source, beside the text of the exclude file; empty where no such file was read
-abbrev pub text_in : List ℕ → DirStack → RuleSource → List ℕ
-text_in exclude stack ExcludeFrom = exclude
-text_in exclude stack InfoExclude = text_at (λ d. d.info) (slice_get stack 0)
-text_in exclude stack (Gitignore depth) = text_at (λ d. d.own) (slice_get stack depth)
+-- the texts of the rules for the whole tree, beside its own files: of the exclude file, and of the patterns of the command line
+pub record TopTextsModel : Type 0 where
+  pub exclude : List ℕ
+  pub command_line : List ℕ
+
+-- the text of the rules of this source; empty where there are none
+abbrev pub text_in : TopTextsModel → DirStack → RuleSource → List ℕ
+text_in top_texts stack ExcludeFrom = top_texts.exclude
+text_in top_texts stack InfoExclude = text_at (λ d. d.info) (slice_get stack 0)
+text_in top_texts stack (Gitignore depth) = text_at (λ d. d.own) (slice_get stack depth)
+text_in top_texts stack CommandLine = top_texts.command_line

@@ -8,6 +8,7 @@ ghost use Rattle.lc_explain.specs.OpenDirs.{text_or_none, text_in};
 ghost use Rattle.lc_explain.specs.DirStacks.{StandsBelow, IsFirstOf};
 
 use crate::open_dir::OpenDir;
+use crate::top_texts::TopTexts;
 use lc_rules::RuleSource;
 use std::alloc::{AllocError, Global};
 use std::marker::Model;
@@ -108,12 +109,12 @@ impl DirStack {
         last.rest_of(path)
     }
 
-    /// Returns the bytes of a rule file above the path, or none if it wasn't there.
-    pub(crate) fn text<'w>(&'w self, exclude: &'w [u8], source: RuleSource) -> &'w [u8]
-        ensures { result.now ≡ text_in exclude.now self.now source }
+    /// Returns the bytes of the rules of this source, or none if there are no such rules.
+    pub(crate) fn text<'w>(&'w self, top_texts: &TopTexts<'w>, source: RuleSource) -> &'w [u8]
+        ensures { result.now ≡ text_in top_texts.now self.now source }
     {
         match source {
-            RuleSource::ExcludeFrom => exclude,
+            RuleSource::ExcludeFrom => top_texts.exclude,
             RuleSource::InfoExclude => match self.directories.first() {
                 Some(top) => text_or_none(&top.info),
                 None => &[],
@@ -122,6 +123,7 @@ impl DirStack {
                 Some(directory) => text_or_none(&directory.own),
                 None => &[],
             },
+            RuleSource::CommandLine => top_texts.command_line,
         }
     }
 }

@@ -1,26 +1,27 @@
 //! Explaining one path, from the top of the tree down.
 
-ghost use Rattle.std.specs.Prelude.{◌≡◌, ℕ, List, [], Some, true, false, option_map, IfOk, OnOk};
+ghost use Rattle.std.specs.Prelude.{◌≡◌, ℕ, List, [], Some, true, false, IfOk, OnOk};
 ghost use Rattle.lc_glob.specs.Path.{path_in, segments_of};
 ghost use Rattle.lc_level.specs.Level.{reason_for};
 ghost use Rattle.lc_level.specs.TopJob.{top_job};
 ghost use Rattle.lc_rules.specs.IgnoreChains.{rules_in};
-ghost use Rattle.lc_rules.specs.IgnoreRules.{rules_of};
 ghost use Rattle.lc_rules.specs.Verdicts.{last_match};
 ghost use Rattle.lc_rules.specs.declared.rule_source.RuleSource.{RuleSource};
 ghost use Rattle.lc_text.specs.PathLines.{is_bad_path};
 ghost use Rattle.lc_tree.specs.Kinds.{is_dir};
+ghost use Rattle.lc_explain.specs.Explain.{top_rules_of, top_texts_of};
 ghost use Rattle.lc_explain.specs.Explained.{CitedRule, cited, kind_asked, is_directory, said_by, said_beside, IsExplained};
 ghost use Rattle.lc_explain.specs.Findings.{explanation_of, explanation_on};
-ghost use Rattle.lc_explain.specs.OpenDirs.{OpenDirModel, stack_at, stack_to, text_or_none, MayEnter};
+ghost use Rattle.lc_explain.specs.OpenDirs.{OpenDirModel, TopTextsModel, stack_at, stack_to, MayEnter};
 ghost use Rattle.lc_explain.specs.DirStacks.{StandsBelow, Goes, AreStacks};
 
 use crate::explain_options::ExplainOptions;
 use crate::finding::{DirectoryFault, Finding, Found, RulePlace};
 use crate::open_dir::OpenDir;
 use crate::stack_cache::{Near, StackCache};
+use crate::top_texts::TopTexts;
 use lc_glob::cut_at_first;
-use lc_level::{Job, LevelReader, OpenFault, ReaderOptions, exclude_rules};
+use lc_level::{Job, LevelReader, OpenFault, ReaderOptions};
 use lc_text::{PathStyle, is_bad_path};
 use lc_tree::{Kind, Tree};
 use std::alloc::{AllocError, Global};
@@ -51,8 +52,8 @@ pub(crate) struct Explainer<'t, T> {
     alloc: Global,
     pub(crate) reader: LevelReader<'t, T>,
     pub(crate) top: Job,
-    /// The text of the exclude file.
-    pub(crate) exclude: &'t [u8],
+    /// The texts of the rules for the whole tree.
+    pub(crate) top_texts: TopTexts<'t>,
     pub(crate) style: PathStyle,
     ghost keeps: { reader.options.texts ≡ true },
     ghost starts: { top.path ≡ [] },
@@ -66,8 +67,8 @@ impl<'t, T: Tree> Explainer<'t, T> {
     ) -> Result<Explainer<'t, T>, AllocError>
         ensures tree { IfOk result (λ e. e.reader.tree.now ≡ tree.entry.now) }
         ensures selection { IfOk result (λ e. e.reader.selection ≡ options.entry.now.selection) }
-        ensures top { IfOk result (λ e. e.top ≡ top_job (option_map rules_of options.entry.now.exclude)) }
-        ensures exclude { IfOk result (λ e. e.exclude.now ≡ text_or_none options.entry.now.exclude) }
+        ensures top { IfOk result (λ e. e.top ≡ top_job (top_rules_of options.entry.now)) }
+        ensures texts { IfOk result (λ e. e.top_texts ≡ top_texts_of options.entry.now) }
         ensures style { IfOk result (λ e. e.style ≡ options.entry.now.style) }
     {
         let reading = ReaderOptions {
@@ -77,8 +78,8 @@ impl<'t, T: Tree> Explainer<'t, T> {
         Ok(Explainer {
             alloc,
             reader: LevelReader::new(alloc, tree, options.selection.copy(), reading),
-            top: Job::top(alloc, exclude_rules(&options.exclude)?)?,
-            exclude: options.exclude_text(),
+            top: Job::top(alloc, options.top_rules()?)?,
+            top_texts: options.top_texts(),
             style: options.style,
         })
     }
@@ -150,8 +151,8 @@ impl<'t, T: Tree> Explainer<'t, T> {
     ) -> Result<Finding<'p>, AllocError>
         requires stands { path.now ≡ path_in job.path rest.now }
         requires good { is_bad_path path.now ≡ false }
-        ensures { IfOk result (λ f. (exclude : List ℕ) (stack : List OpenDirModel) → explanation_of (cited exclude stack) f
-            ≡ said_beside self.now.reader.selection exclude stack job (segments_of rest.now) as_dir) }
+        ensures { IfOk result (λ f. (top_texts : TopTextsModel) (stack : List OpenDirModel) → explanation_of (cited top_texts stack) f
+            ≡ said_beside self.now.reader.selection top_texts stack job (segments_of rest.now) as_dir) }
     {
         let mut job = job;
         let mut rest = rest;
@@ -179,14 +180,14 @@ impl<'t, T: Tree> Explainer<'t, T> {
     ) -> Result<Found<'p>, AllocError>
         requires stacks { AreStacks
             (MayEnter (T.lists self.now.reader.tree.now) (T.gives self.now.reader.tree.now)) self.now.reader.selection
-            self.now.exclude.now self.now.top kept.old }
+            self.now.top_texts self.now.top kept.old }
         requires stands { StandsBelow (stack_at kept.old near.at) path.now near.rest.now }
         requires good { is_bad_path path.now ≡ false }
         ensures stacks { OnOk result (AreStacks (MayEnter (T.lists self.now.reader.tree.now) (T.gives self.now.reader.tree.now))
-            self.now.reader.selection self.now.exclude.now self.now.top kept.new) }
+            self.now.reader.selection self.now.top_texts self.now.top kept.new) }
         ensures found { IfOk result (λ f. IsExplained (MayEnter (T.lists self.now.reader.tree.now) (T.gives self.now.reader.tree.now))
-            self.now.reader.selection self.now.exclude.now self.now.top path.now as_dir
-            (explanation_on self.now.exclude.now kept.new f)) }
+            self.now.reader.selection self.now.top_texts self.now.top path.now as_dir
+            (explanation_on self.now.top_texts kept.new f)) }
     {
         let Near { mut at, mut rest } = near;
         'names: loop {
@@ -227,12 +228,12 @@ impl<'t, T: Tree> Explainer<'t, T> {
         as_dir: bool,
     ) -> Result<Found<'p>, AllocError>
         requires { AreStacks (MayEnter (T.lists self.now.reader.tree.now) (T.gives self.now.reader.tree.now)) self.now.reader.selection
-            self.now.exclude.now self.now.top kept.old }
+            self.now.top_texts self.now.top kept.old }
         ensures stacks { OnOk result (AreStacks (MayEnter (T.lists self.now.reader.tree.now) (T.gives self.now.reader.tree.now))
-            self.now.reader.selection self.now.exclude.now self.now.top kept.new) }
+            self.now.reader.selection self.now.top_texts self.now.top kept.new) }
         ensures found { IfOk result (λ f. IsExplained (MayEnter (T.lists self.now.reader.tree.now) (T.gives self.now.reader.tree.now))
-            self.now.reader.selection self.now.exclude.now self.now.top path.now as_dir
-            (explanation_on self.now.exclude.now kept.new f)) }
+            self.now.reader.selection self.now.top_texts self.now.top path.now as_dir
+            (explanation_on self.now.top_texts kept.new f)) }
     {
         if is_bad_path(path) {
             return Ok(Found::on_none(Finding::Bad));

@@ -7,14 +7,14 @@ use crate::explain_options::ExplainOptions;
 use crate::explainer::Explainer;
 use crate::printing::{print_lines, print_words};
 use lc_census::Source;
-use lc_text::{CheckFault, Outcome, PrintFault, Sink, read_input};
+use lc_text::{CheckFault, Outcome, PathEnd, PrintFault, Sink, read_input};
 use lc_tree::Tree;
 use std::alloc::Global;
 
 /// Reads paths to the end of the input, at most [`MAX_INPUT`](lc_text::MAX_INPUT) bytes, and writes for each which rule of a tree decides
 /// it.
 ///
-/// A line of the output has four fields, separated by tabs: a word, its source, a pattern, and the line of the input. Paths and patterns
+/// A line of the output has four fields, separated by tabs: a word, its source, a pattern, and the path as it was read. Paths and patterns
 /// are printed in the style of the options. A path that ends with one slash is a directory; for any other the tree is asked, and a path
 /// that isn't there is taken for a file. The word is the first of these that holds, from the top directory down to the path:
 ///
@@ -24,9 +24,11 @@ use std::alloc::Global;
 /// - `below`: a rule ignores a directory above the path; the line names the rule of the highest such directory;
 /// - `ignored`, `included`, `none`: the last rule that matches the path, or that no rule matches;
 /// - `left`: a walk skips the path, or a directory above it, for a reason that is no rule: it is named `.git` (`git`), whatever the rules
-///   are, or else an attribute is Set for it (`attribute:NAME`), or it is neither a file nor a directory (`other`).
+///   are, or else an attribute has a state for it (`attribute:WORD`), it is a file that no pattern includes (`include`), or it is
+///   neither a file nor a directory (`other`).
 ///
-/// The source of a rule is its file and the number of its line, as `src/.gitignore:3`; the pattern is the text of that line.
+/// The source of a rule is its file and the number of its line, as `src/.gitignore:3`, or `--exclude:N` for the Nth pattern of the
+/// command line; the pattern is the text of that line.
 ///
 /// The text is written in blocks as it is made ([`Block`](lc_text::Block)). If the input can't be read, nothing was written; after any
 /// other fault a prefix of the text of the first lines was written, perhaps all of it.
@@ -36,22 +38,24 @@ use std::alloc::Global;
 ///
 /// ```
 /// let tree = SysTree::new(&rt, rt.alloc(), ".")?;
-/// let options = ExplainOptions { exclude: None, selection: Selection::new(false, &[]), style: PathStyle::Escaped };
-/// let outcome = explain(rt.alloc(), &tree, &options, &mut b"a.log\nsrc/\n".as_slice(), &mut out)?;
+/// let options = ExplainOptions::new(Selection::new(false, &[]), PathStyle::Escaped);
+/// let mut input = b"a.log\nsrc/\n".as_slice();
+/// let outcome = explain(rt.alloc(), &tree, &options, PathEnd::LineFeed, &mut input, &mut out)?;
 /// ```
 pub fn explain<T: Tree, S: Source, O: Sink>(
     alloc: Global,
     tree: &T,
     options: &ExplainOptions,
+    end: PathEnd,
     input: &mut S,
     out: &mut O,
 ) -> Result<Outcome, CheckFault>
-    ensures { AnswersExplain O.may_take options.now.style (MaySay (T.lists tree.now) (T.gives tree.now) options.now) S.may_give input.old
-        out.old result input.new out.new }
+    ensures { AnswersExplain O.may_take options.now.style (MaySay (T.lists tree.now) (T.gives tree.now) options.now) end S.may_give
+        input.old out.old result input.new out.new }
 {
     let paths = read_input(alloc, input)?;
     let explainer = Explainer::new(alloc, tree, options)?;
-    let outcome = print_lines(alloc, &explainer, &paths, out)?;
+    let outcome = print_lines(alloc, &explainer, end, &paths, out)?;
     Ok(outcome)
 }
 

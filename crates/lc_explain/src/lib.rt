@@ -1,6 +1,6 @@
 //! Explanations of paths: which rule of a tree decides a path, as `git check-ignore -v -n` tells it.
 //!
-//! - `explain_options`: what is asked, beside the paths
+//! - `explain_options`: what is asked, beside the paths; `top_texts`: the texts of its rules
 //! - `open_dir`, `dir_stack`: the directories that were opened on the way to a path; `stack_cache`: the stacks of earlier paths
 //! - `finding`: what is found of a path; `explainer`: finding it, from the top of the tree down
 //! - `output`: the text of what is found, a line for each path; `printing`: it is written as it is made
@@ -18,6 +18,7 @@ mod open_dir;
 mod output;
 mod printing;
 mod stack_cache;
+mod top_texts;
 
 pub use explain_options::ExplainOptions;
 pub use explaining::{explain, explain_words};

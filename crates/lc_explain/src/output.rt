@@ -14,6 +14,7 @@ ghost use Rattle.lc_explain.specs.DirStacks.{AreStacks};
 use crate::explainer::Explainer;
 use crate::finding::{DirectoryFault, Finding, Found, RulePlace};
 use crate::stack_cache::StackCache;
+use crate::top_texts::TopTexts;
 use lc_level::Reason;
 use lc_rules::{Lines, text_of_line};
 use lc_text::{
@@ -47,15 +48,15 @@ struct Cited<'a> {
 
 impl<'a> Cited<'a> {
     fn new(
-        exclude: &'a [u8],
+        top_texts: &TopTexts<'a>,
         kept: &'a StackCache,
         to: Option<usize>,
         place: RulePlace,
     ) -> Cited<'a>
         ensures place { result.place ≡ place }
-        ensures text { result.text.now ≡ (cited exclude.now (stack_to kept.now to) place.source place.line).text }
+        ensures text { result.text.now ≡ (cited top_texts.now (stack_to kept.now to) place.source place.line).text }
     {
-        let text = line_text(kept.text(exclude, to, place.source), place.line);
+        let text = line_text(kept.text(top_texts, to, place.source), place.line);
         Cited { place, text }
     }
 }
@@ -114,10 +115,11 @@ fn push_skipped(
     match reason {
         Reason::Git => push_plain(text, style, "left", "git", line),
         Reason::Rule { .. } => push_plain(text, style, "left", "-", line),
+        Reason::Include => push_plain(text, style, "left", "include", line),
         Reason::OtherKind => push_plain(text, style, "left", "other", line),
-        Reason::Attribute(name) => {
+        Reason::Attribute(word) => {
             text.extend_from_slice(b"left\tattribute:")?;
-            push_styled(text, style, name)?;
+            push_styled(text, style, word)?;
             text.extend_from_slice(b"\t-\t")?;
             push_styled(text, style, line)?;
             text.extend_from_slice(b"\n")
@@ -162,16 +164,16 @@ impl ExplainOutput {
     /// Appends the line of a finding.
     fn push(
         &mut self,
-        exclude: &[u8],
+        top_texts: &TopTexts<'_>,
         style: PathStyle,
         kept: &StackCache,
         line: &[u8],
         found: &Found,
     ) -> Result<(), AllocError>
         ensures text { OnOk result (self.new.block.text.items
-            ≡ self.old.block.text.items ++ explained_line style line.now (explanation_on exclude.now kept.now found.now)) }
+            ≡ self.old.block.text.items ++ explained_line style line.now (explanation_on top_texts.now kept.now found.now)) }
         ensures outcome { self.new.outcome
-            ≡ (if is_fault (explanation_on exclude.now kept.now found.now) then Outcome.SomeFaults else self.old.outcome) }
+            ≡ (if is_fault (explanation_on top_texts.now kept.now found.now) then Outcome.SomeFaults else self.old.outcome) }
     {
         let text = &mut self.block.text;
         match &found.finding {
@@ -181,15 +183,15 @@ impl ExplainOutput {
                 push_fault(text, style, fault)
             }
             Finding::Below(rule) => {
-                let rule = Cited::new(exclude, kept, found.to, *rule);
+                let rule = Cited::new(top_texts, kept, found.to, *rule);
                 push_ruled(text, style, "below", rule, line)
             }
             Finding::Ignored(rule) => {
-                let rule = Cited::new(exclude, kept, found.to, *rule);
+                let rule = Cited::new(top_texts, kept, found.to, *rule);
                 push_ruled(text, style, "ignored", rule, line)
             }
             Finding::Included(rule) => {
-                let rule = Cited::new(exclude, kept, found.to, *rule);
+                let rule = Cited::new(top_texts, kept, found.to, *rule);
                 push_ruled(text, style, "included", rule, line)
             }
             Finding::NoRule => push_plain(text, style, "none", "-", line),
@@ -205,17 +207,17 @@ impl ExplainOutput {
         line: &[u8],
     ) -> Result<(), AllocError>
         requires { AreStacks (MayEnter (T.lists explainer.now.reader.tree.now) (T.gives explainer.now.reader.tree.now))
-            explainer.now.reader.selection explainer.now.exclude.now explainer.now.top kept.old }
+            explainer.now.reader.selection explainer.now.top_texts explainer.now.top kept.old }
         ensures stacks { OnOk result (AreStacks (MayEnter (T.lists explainer.now.reader.tree.now) (T.gives explainer.now.reader.tree.now))
-            explainer.now.reader.selection explainer.now.exclude.now explainer.now.top kept.new) }
+            explainer.now.reader.selection explainer.now.top_texts explainer.now.top kept.new) }
         ensures told { OnOk result (ExplainsLine explainer.now.style
             (IsExplained (MayEnter (T.lists explainer.now.reader.tree.now) (T.gives explainer.now.reader.tree.now))
-            explainer.now.reader.selection explainer.now.exclude.now explainer.now.top) line.now self.old.block.text.items
+            explainer.now.reader.selection explainer.now.top_texts explainer.now.top) line.now self.old.block.text.items
             self.new.block.text.items self.old.outcome self.new.outcome) }
     {
         let (path, as_dir) = split_slash(line);
         let found = explainer.find(kept, path, as_dir)?;
-        self.push(explainer.exclude, explainer.style, kept, line, &found)?;
+        self.push(&explainer.top_texts, explainer.style, kept, line, &found)?;
         Ok(())
     }
 }

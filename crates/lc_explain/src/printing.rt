@@ -1,7 +1,7 @@
 //! Explanations of many paths, written in blocks as they are made.
 
 ghost use Rattle.std.specs.Prelude.{map};
-ghost use Rattle.lc_text.specs.Lines.{input_lines_of};
+ghost use Rattle.lc_text.specs.Lines.{input_paths_of};
 ghost use Rattle.lc_explain.specs.Explain.{AnswersLines};
 ghost use Rattle.lc_explain.specs.Explained.{IsExplained};
 ghost use Rattle.lc_explain.specs.OpenDirs.{MayEnter};
@@ -9,26 +9,27 @@ ghost use Rattle.lc_explain.specs.OpenDirs.{MayEnter};
 use crate::explainer::Explainer;
 use crate::output::ExplainOutput;
 use crate::stack_cache::StackCache;
-use lc_text::{Outcome, PrintFault, Sink, split_line};
+use lc_text::{Outcome, PathEnd, PrintFault, Sink, split_path};
 use lc_tree::Tree;
 use std::alloc::Global;
 
-/// Writes a line for each line of an input.
+/// Writes a line for each path of an input.
 pub(crate) fn print_lines<T: Tree, O: Sink>(
     alloc: Global,
     explainer: &Explainer<'_, T>,
+    end: PathEnd,
     paths: &[u8],
     out: &mut O,
 ) -> Result<Outcome, PrintFault>
     ensures { AnswersLines O.may_take explainer.now.style
         (IsExplained (MayEnter (T.lists explainer.now.reader.tree.now) (T.gives explainer.now.reader.tree.now))
-        explainer.now.reader.selection explainer.now.exclude.now explainer.now.top) (input_lines_of paths.now) out.old result out.new }
+        explainer.now.reader.selection explainer.now.top_texts explainer.now.top) (input_paths_of end paths.now) out.old result out.new }
 {
     let mut kept = StackCache::new(alloc)?;
     let mut output = ExplainOutput::new(alloc);
     let mut rest = paths;
     'lines: while !rest.is_empty() {
-        let (line, others) = split_line(rest);
+        let (line, others) = split_path(end, rest);
         output.tell(explainer, &mut kept, line)?;
         output.block.print_if_full(out)?;
         rest = others;
@@ -47,7 +48,7 @@ pub(crate) fn print_words<T: Tree, O: Sink>(
 ) -> Result<Outcome, PrintFault>
     ensures { AnswersLines O.may_take explainer.now.style
         (IsExplained (MayEnter (T.lists explainer.now.reader.tree.now) (T.gives explainer.now.reader.tree.now))
-        explainer.now.reader.selection explainer.now.exclude.now explainer.now.top) (map (λ word. word.now) words.now) out.old result
+        explainer.now.reader.selection explainer.now.top_texts explainer.now.top) (map (λ word. word.now) words.now) out.old result
         out.new }
 {
     let mut kept = StackCache::new(alloc)?;

@@ -7,6 +7,7 @@ ghost use Rattle.lc_explain.specs.DirStacks.{StandsBelow, AreFirstOf, Keeps};
 
 use crate::dir_stack::DirStack;
 use crate::open_dir::OpenDir;
+use crate::top_texts::TopTexts;
 use lc_level::Scratch;
 use lc_rules::RuleSource;
 use memchr::memrchr;
@@ -105,29 +106,21 @@ impl StackCache {
         }
     }
 
-    /// Returns the bytes of a rule file that was read for a stack, or none if it wasn't there.
+    /// Returns the bytes of the rules of this source for a stack, or none if there are no such rules.
     pub(crate) fn text<'w>(
         &'w self,
-        exclude: &'w [u8],
+        top_texts: &TopTexts<'w>,
         to: Option<usize>,
         source: RuleSource,
     ) -> &'w [u8]
-        ensures { result.now ≡ text_in exclude.now (stack_to self.now to) source }
+        ensures { result.now ≡ text_in top_texts.now (stack_to self.now to) source }
     {
         let Some(at) = to else {
-            return if matches!(source, RuleSource::ExcludeFrom) {
-                exclude
-            } else {
-                &[]
-            };
+            return top_texts.text(source);
         };
         match self.stacks.get(at) {
-            Some(stack) => stack.text(exclude, source),
-            None => if matches!(source, RuleSource::ExcludeFrom) {
-                exclude
-            } else {
-                &[]
-            },
+            Some(stack) => stack.text(top_texts, source),
+            None => top_texts.text(source),
         }
     }
 

@@ -1,18 +1,17 @@
 -- The report of a count agrees with what is said of each path.
 use Rattle.std.proofs.Common.{◌≡◌, ℕ, ◌+◌, ◌≤◌, true, false, cond, List, [], length, refl, sym, ◌∙◌, ap, subst, arith, inl, inr}
-use Rattle.std.proofs.Common.{Option}
 use Rattle.std.specs.List.{Contains}
+use Rattle.lc_explain.specs.Explain.{top_texts_of}
 use Rattle.lc_explain.specs.Explained.{Explanation, bad, ignored, cited, said_for, IsExplained}
 use Rattle.lc_explain.specs.Laws.{IsSaidKept, EntryLaw}
-use Rattle.lc_explain.specs.OpenDirs.{DirStack, MayEnter, text_or_none}
+use Rattle.lc_explain.specs.OpenDirs.{DirStack, MayEnter, TopTextsModel}
 use Rattle.lc_explain.specs.declared.explain_options.ExplainOptions.{ExplainOptions}
 use Rattle.lc_glob.specs.Path.{path_in, segments_of}
 use Rattle.lc_level.specs.Answers.{Tree}
 use Rattle.lc_level.specs.Job.{JobModel}
-use Rattle.lc_level.specs.Level.{Reason, named_git, by_rule, by_attribute, other_kind, counted, skipped}
+use Rattle.lc_level.specs.Level.{Reason, named_git, by_rule, by_attribute, not_included, other_kind, counted, skipped}
 use Rattle.lc_level.specs.Selection.{SelectionModel}
-use Rattle.lc_level.specs.TopJob.{top_job}
-use Rattle.lc_rules.specs.IgnoreRules.{RuleModel}
+use Rattle.lc_level.specs.TopJob.{TopRulesModel, top_job}
 use Rattle.lc_text.specs.PathLines.{is_bad_path}
 use Rattle.lc_tree.specs.Trees.{Listings, Contents}
 use Rattle.lc_walk.specs.ReportLines.{skipped_paths}
@@ -35,12 +34,14 @@ use Rattle.lc_laws.proofs.ReportLists.{counted_found, skipped_found, skipped_som
 use Rattle.lc_laws.proofs.SameWay.{said_by_other}
 
 -- what is said for a reason, by any citing of its rule
-said_skipped : (exclude : List ℕ) (stack : DirStack) (reason : Reason) (x : Explanation) → x ≡ said_for (cited exclude stack) ignored reason
+said_skipped : (top_texts : TopTextsModel) (stack : DirStack) (reason : Reason) (x : Explanation) → x
+    ≡ said_for (cited top_texts stack) ignored reason
     → IsSaidSkipped reason x
-said_skipped exclude stack named_git x e = e
-said_skipped exclude stack (by_rule source line) x e = ((cited exclude stack source line).text, e)
-said_skipped exclude stack (by_attribute name) x e = e
-said_skipped exclude stack other_kind x e = e
+said_skipped top_texts stack named_git x e = e
+said_skipped top_texts stack (by_rule source line) x e = ((cited top_texts stack source line).text, e)
+said_skipped top_texts stack (by_attribute name) x e = e
+said_skipped top_texts stack not_included x e = e
+said_skipped top_texts stack other_kind x e = e
 
 -- what is said to be left out is not said to be taken
 not_both : (reason : Reason) (x : Explanation) → IsSaidSkipped reason x → IsSaidKept x → ⊥
@@ -50,29 +51,31 @@ not_both (by_rule source line) x e (inl u) = absurd (cc (sym e.1 ∙ u))
 not_both (by_rule source line) x e (inr u) = absurd (cc (sym e.1 ∙ u.1))
 not_both (by_attribute name) x e (inl u) = absurd (cc (sym e ∙ u))
 not_both (by_attribute name) x e (inr u) = absurd (cc (sym e ∙ u.1))
+not_both not_included x e (inl u) = absurd (cc (sym e ∙ u))
+not_both not_included x e (inr u) = absurd (cc (sym e ∙ u.1))
 not_both other_kind x e (inl u) = absurd (cc (sym e ∙ u))
 not_both other_kind x e (inr u) = absurd (cc (sym e ∙ u.1))
 
-module _ (law : EntryLaw) (Enters : Entering) (s : SelectionModel) (whole : s.only ≡ []) (exclude : List ℕ) (x : Explanation)
+module _ (law : EntryLaw) (Enters : Entering) (s : SelectionModel) (whole : s.only ≡ []) (top_texts : TopTextsModel) (x : Explanation)
     (top : JobModel) (at_top : top.path ≡ []) (t : Tree) (known : IsKnown Enters s top t)
     (asked : ReportLists) (depth : ℕ) (r : Report) (report : IsReportOf asked (walk_of s depth top t) r) (files : asked.files ≡ true)
     (skipped_ones : asked.left_out ≡ true) (path : List ℕ) (good : is_bad_path path ≡ false)
-    (said : IsExplained Enters s exclude top path false x) where
+    (said : IsExplained Enters s top_texts top path false x) where
   counted_said : IsCounted r path → IsSaidKept x
   counted_said has =
       let c = counted_found asked (walk_of s depth top t) r report files path has in
       let p = place_by_walk s depth top t _ c.found in
       let d = p.gives.0 in
-      (entry_agrees Enters s exclude x law top t at_top known p.place p.job p.leads c.file.name (counted c.file) p.gives.1 path
+      (entry_agrees Enters s top_texts x law top t at_top known p.place p.job p.leads c.file.name (counted c.file) p.gives.1 path
       (c.path_is ∙ ap (λ d. path_in d c.file.name) d) good said).1
 
   skipped_said : (reason : Reason) → IsSkipped r path reason → IsSaidSkipped reason x
   skipped_said reason has =
       let l = skipped_found asked (walk_of s depth top t) r report skipped_ones path reason has in
       let p = place_by_walk s depth top t _ l.found in
-      let a = entry_agrees Enters s exclude x law top t at_top known p.place p.job p.leads l.entry.name
+      let a = entry_agrees Enters s top_texts x law top t at_top known p.place p.job p.leads l.entry.name
       (skipped l.entry.kind l.entry.reason) p.gives.1 path (l.path_is ∙ ap (λ d. path_in d l.entry.name) p.gives.0) good said in
-      subst (λ w. IsSaidSkipped w x) l.reason_is (said_skipped exclude a.0 l.entry.reason x a.1)
+      subst (λ w. IsSaidSkipped w x) l.reason_is (said_skipped top_texts a.0 l.entry.reason x a.1)
 
   taken_kept : IsSaidKept x → Contains (skipped_paths r.skipped.items) path → ⊥
   taken_kept taken has = let l = skipped_somehow r path has in not_both l.0 x (skipped_said l.0 l.1) taken
@@ -83,19 +86,19 @@ module _ (law : EntryLaw) (Enters : Entering) (s : SelectionModel) (whole : s.on
     counted = counted_said;
     skipped = skipped_said;
     told = λ kind entry.
-        told Enters s whole exclude x top t known asked depth r report files skipped_ones path kind entry taken_kept
+        told Enters s whole top_texts x top t known asked depth r report files skipped_ones path kind entry taken_kept
         (segments_of path) [] [] top refl (omega (arith, deep)) path refl (sym (ap (λ d. path_in d path) at_top)) refl
-        (subst (λ b. cond b (x ≡ bad) (IsSaidBelow Enters s exclude x [] top (segments_of path))) good said);
+        (subst (λ b. cond b (x ≡ bad) (IsSaidBelow Enters s top_texts x [] top (segments_of path))) good said);
   }
 
 -- where a count and an explanation are asked for alike, the one begins and leaves out as the other does
 same_question : (Enters : Entering) (o : Options) (q : ExplainOptions) → AskAlike o q → (path : List ℕ) (x : Explanation)
     → SaysEntering q Enters path false x
-    → IsExplained Enters (asked_by o).selection (text_or_none q.exclude) (top_of o) path false x
+    → IsExplained Enters (asked_by o).selection (top_texts_of q) (top_of o) path false x
 same_question Enters o q alike path x said =
-    subst (λ (w : SelectionModel). IsExplained Enters w (text_or_none q.exclude) (top_of o) path false x) (sym alike.selection)
-    (subst (λ (e : Option (List RuleModel)). IsExplained Enters q.selection (text_or_none q.exclude) (top_job e) path false x)
-    (sym alike.exclude) said)
+    subst (λ (w : SelectionModel). IsExplained Enters w (top_texts_of q) (top_of o) path false x) (sym alike.selection)
+    (subst (λ (rules : TopRulesModel). IsExplained Enters q.selection (top_texts_of q) (top_job rules) path false x)
+    (sym alike.rules) said)
 
 asks_whole : (o : Options) (q : ExplainOptions) → AskAlike o q → (asked_by o).selection.only ≡ []
 asks_whole o q alike = ap (λ (w : SelectionModel). w.only) alike.selection ∙ alike.whole
@@ -106,9 +109,9 @@ answers_explained_law law t u o q r alike listings report path x good agree said
     let s : SelectionModel = (asked_by o).selection in
     let depth : ℕ = o.max_dirs + length (segments_of path) in
     let whole : s.only ≡ [] = asks_whole o q alike in
-    agrees law (EntersBy t) s whole (text_or_none q.exclude) x (top_of o) refl t
+    agrees law (EntersBy t) s whole (top_texts_of q) x (top_of o) refl t
     (known_by_tree s (top_of o) t refl listings) o.lists depth r (report depth (omega arith)) alike.files alike.left_out path good
-    (said_by_other s whole (text_or_none q.exclude) false x (top_of o) refl t listings u path agree
+    (said_by_other s whole (top_texts_of q) false x (top_of o) refl t listings u path agree
     (same_question (EntersBy u) o q alike path x said)) (omega arith)
 
 -- and the report of a walk of a tree that answers in one way
@@ -117,7 +120,7 @@ explained_law law lists gives one o q r alike walks path x good said =
     let s : SelectionModel = (asked_by o).selection in
     let depth : ℕ = o.max_dirs + length (segments_of path) in
     let by = by_answers lists gives o r walks in
-    let a = agrees law (MayEnter lists gives) s (asks_whole o q alike) (text_or_none q.exclude) x (top_of o) refl by.answers
+    let a = agrees law (MayEnter lists gives) s (asks_whole o q alike) (top_texts_of q) x (top_of o) refl by.answers
     (known_by_one lists gives one s (top_of o) by.answers by.listings by.given) o.lists depth r (by.report depth (omega arith))
     alike.files alike.left_out path good (same_question (MayEnter lists gives) o q alike path x said) (omega arith) in
     record {

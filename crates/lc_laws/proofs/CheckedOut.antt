@@ -1,6 +1,6 @@
 -- The report of a count agrees with a check by the top's rules.
 use Rattle.std.proofs.Common.{◌≡◌, ℕ, ◌+◌, ◌<◌, ◌≤◌, Bool, true, false, cond, nat_eq, List, [], ◌∷◌, ◌++◌, length, take, get_or, refl}
-use Rattle.std.proofs.Common.{sym, ◌∙◌, ap, subst, arith, Option, Some, None, ◌⊎◌, inl, inr, length-append, append_assoc, codes}
+use Rattle.std.proofs.Common.{sym, ◌∙◌, ap, subst, arith, Some, ◌⊎◌, inl, inr, length-append, append_assoc, codes}
 use Rattle.std.proofs.Math.Seq.{get_or-append_seam, take-append_seam}
 use Rattle.std.specs.List.{Contains}
 use Rattle.lc_explain.specs.OpenDirs.{kind_in}
@@ -12,7 +12,7 @@ use Rattle.lc_level.specs.Answers.{Item, name_of, entry_of, entries_of, Tree}
 use Rattle.lc_level.specs.Job.{JobModel}
 use Rattle.lc_level.specs.Level.{by_rule}
 use Rattle.lc_level.specs.Selection.{SelectionModel}
-use Rattle.lc_level.specs.TopJob.{top_job}
+use Rattle.lc_level.specs.TopJob.{TopRulesModel, top_job, own_rules}
 use Rattle.lc_level.proofs.WellFormed.{Spread}
 use Rattle.lc_rules.specs.IgnoreChains.{rules_in}
 use Rattle.lc_rules.specs.IgnoreLaws.{LastMatchLaw}
@@ -137,17 +137,17 @@ entry_above s top t path directory next others kind is entry place name names k 
 
 -- ---- by the report
 
-module _ (law : RuleLaw) (last : LastMatchLaw) (t : Tree) (listings : HasListings plain (top_job None) t) (asked : ReportLists)
-    (depth : ℕ) (r : Report) (report : IsReportOf asked (walk_of plain depth (top_job None) t) r) (rules : List RuleModel)
-    (chain : (place : List (List ℕ)) (k : JobModel) → LeadsTo plain (top_job None) t place k → (items : List Item) (inside : JobModel)
+module _ (law : RuleLaw) (last : LastMatchLaw) (t : Tree) (listings : HasListings plain (top_job own_rules) t) (asked : ReportLists)
+    (depth : ℕ) (r : Report) (report : IsReportOf asked (walk_of plain depth (top_job own_rules) t) r) (rules : List RuleModel)
+    (chain : (place : List (List ℕ)) (k : JobModel) → LeadsTo plain (top_job own_rules) t place k → (items : List Item) (inside : JobModel)
     → IsListed k (t place) items inside → rules_in inside.ignore ≡ at_depth 0 rules) where
   -- what a rule leaves out is ignored by the check
-  ignored_there : (path : List ℕ) (kind : Kind) (source : RuleSource) (line : ℕ) → IsEntryBy plain (top_job None) t path kind
+  ignored_there : (path : List ℕ) (kind : Kind) (source : RuleSource) (line : ℕ) → IsEntryBy plain (top_job own_rules) t path kind
       → IsSkipped r path (by_rule source line) → is_ignored (file_verdict rules path (is_dir kind)) ≡ true
   ignored_there path kind source line entry has =
       let skipped : SkippedLineModel = record { path = path; kind = has.0; reason = by_rule source line } in
-      let by = law asked plain depth (top_job None) t r report skipped source line has.1 refl in
-      let own = kind_same plain (top_job None) t refl listings by.place by.job by.leads by.items by.inside by.listed by.item
+      let by = law asked plain depth (top_job own_rules) t r report skipped source line has.1 refl in
+      let own = kind_same plain (top_job own_rules) t refl listings by.place by.job by.leads by.items by.inside by.listed by.item
       (is_in by.item by.items by.has) path by.path_is kind entry in
       let decides = (last (rules_in by.inside.ignore) path (is_dir (entry_of by.item).kind)).1 (source, by.rule) by.decides in
       ap (λ rs. is_ignored (verdict_from (last_match rs path (is_dir kind))))
@@ -156,7 +156,7 @@ module _ (law : RuleLaw) (last : LastMatchLaw) (t : Tree) (listings : HasListing
       ∙ ap (λ found. is_ignored (verdict_from found)) decides ∙ ap (λ b. is_ignored (cond b Included Ignored)) by.ignores
 
   -- what a report says to be ruled out, itself or by a directory above it, a check calls ignored or below
-  checked_out : (path : List ℕ) (kind : Kind) → IsEntryBy plain (top_job None) t path kind → is_bad_path path ≡ false
+  checked_out : (path : List ℕ) (kind : Kind) → IsEntryBy plain (top_job own_rules) t path kind → is_bad_path path ≡ false
       → IsRuledOut r path → IsCheckedOut rules path kind
   checked_out path kind entry good (source, line, inl has) =
       out_itself (file_verdict rules) path (is_dir kind) good (ignored_there path kind source line entry has)
@@ -164,15 +164,15 @@ module _ (law : RuleLaw) (last : LastMatchLaw) (t : Tree) (listings : HasListing
       let next = has_first rest in
       let names : segments_of path ≡ segments_of directory ++ next.first ∷ next.others =
       ap segments_of is ∙ segments_apart directory rest ∙ ap (λ l. segments_of directory ++ l) next.are in
-      let above = entry_above plain (top_job None) t path directory next.first next.others kind names entry in
+      let above = entry_above plain (top_job own_rules) t path directory next.first next.others kind names entry in
       out_below (file_verdict rules) path (is_dir kind) good directory rest is (ignored_there directory Dir source line above has)
 
   -- and the other way round, where nothing is at fault
   agrees : asked.left_out ≡ true → (path : List ℕ) (kind : Kind) → length (segments_of path) ≤ depth
-      → IsEntryBy plain (top_job None) t path kind → CheckAgrees r rules path kind
+      → IsEntryBy plain (top_job own_rules) t path kind → CheckAgrees r rules path kind
   agrees left_out path kind deep entry faultless good no_git = (
     λ out. by out (decided t listings asked depth r report left_out faultless rules chain path kind entry
-        (segments_of path) [] [] (top_job None) refl (omega (arith, deep)) path refl refl (λ m. refl)
+        (segments_of path) [] [] (top_job own_rules) refl (omega (arith, deep)) path refl refl (λ m. refl)
         (record { within = omega arith; clear = λ k low. absurd (omega (arith, low)) })
         (λ i. no_git (contains (codes ".git") (segments_of path) i)) refl),
     checked_out path kind entry good,
@@ -186,10 +186,10 @@ module _ (law : RuleLaw) (last : LastMatchLaw) (t : Tree) (listings : HasListing
 
 -- a count by the rules of a tree alone is plain, and begins with no rules
 plainly : (o : Options) → AsksRulesAlone o → (Q : SelectionModel → JobModel → Type 0) → Q (asked_by o).selection (top_of o)
-    → Q plain (top_job None)
+    → Q plain (top_job own_rules)
 plainly o asks Q holds =
-    subst (λ (s : SelectionModel). Q s (top_job None)) asks.selection
-    (subst (λ (e : Option (List RuleModel)). Q (asked_by o).selection (top_job e)) asks.exclude holds)
+    subst (λ (s : SelectionModel). Q s (top_job own_rules)) asks.selection
+    (subst (λ (rules : TopRulesModel). Q (asked_by o).selection (top_job rules)) asks.rules holds)
 
 -- so does the report by some answers
 pub answers_checked_law : RuleLaw → LastMatchLaw → AnswersCheckedLaw
@@ -211,4 +211,4 @@ checked_law law last lists gives one bytes has o r asks walks path kind entry =
     agrees law last t listings o.lists depth r
     (plainly o asks (λ s top. IsReportOf o.lists (walk_of s depth top t) r) (by.report depth (omega arith))) (rules_of bytes)
     (rules_at t bytes (reads_by_lists lists gives one bytes has t listings given)) asks.left_out path kind (omega arith)
-    (entry_by_lists lists gives one plain (top_job None) t refl given path kind entry)
+    (entry_by_lists lists gives one plain (top_job own_rules) t refl given path kind entry)

@@ -14,11 +14,11 @@ use Rattle.lc_glob.specs.Path.{path_in, segments_of}
 use Rattle.lc_level.specs.Answers.{Item, file_item, directory_item, other_item, name_of, entry_of, Tree}
 use Rattle.lc_level.specs.FaultLines.{FaultLineModel}
 use Rattle.lc_level.specs.Job.{JobModel}
-use Rattle.lc_level.specs.Level.{Reason, named_git, by_rule, other_kind, walked}
+use Rattle.lc_level.specs.Level.{Reason, named_git, by_rule, other_kind, walked, include_reason}
 use Rattle.lc_level.specs.Level.{skipped, rule_reason, reason_at, reason_of, file_fate, fate_of}
 use Rattle.lc_level.specs.Level.{child_job}
-use Rattle.lc_level.specs.Selection.{SelectionModel, selection_of}
-use Rattle.lc_level.specs.TopJob.{top_job}
+use Rattle.lc_level.specs.Selection.{SelectionModel, patterns_for, selection_of}
+use Rattle.lc_level.specs.TopJob.{top_job, own_rules}
 use Rattle.lc_level.proofs.WellFormed.{Spread, other_bytes}
 use Rattle.lc_rules.specs.IgnoreChains.{rules_in}
 use Rattle.lc_rules.specs.IgnoreRules.{RuleModel}
@@ -129,18 +129,20 @@ reason_ruled inside rules chain name as_dir other = at (ruled (last_match (at_de
 fate_skipped : (s : SelectionModel) (inside : JobModel) (item : Item) (reason : Reason)
     → reason_of s inside (name_of item) (is_dir (entry_of item).kind) ≡ Some reason
     → fate_of s inside item ≡ skipped (entry_of item).kind reason
-fate_skipped s inside (file_item n c rules) reason e = ap (λ o. option_map_or (skipped File) o (file_fate inside n c)) e
+fate_skipped s inside (file_item n c rules) reason e =
+    ap (λ o. option_map_or (skipped File)
+    (option_or o (include_reason (patterns_for s.include inside.path) (path_in inside.path n))) (file_fate inside n c)) e
 fate_skipped s inside (directory_item n) reason e = ap (λ o. option_map_or (skipped Dir) o (walked (child_job inside n))) e
 fate_skipped s inside (other_item n) reason e = ap (λ o. option_map_or (skipped Other) o (skipped Other other_kind)) e
 
 -- ---- down to the entry
 
-module _ (t : Tree) (listings : HasListings plain (top_job None) t) (asked : ReportLists) (depth : ℕ) (r : Report)
-    (report : IsReportOf asked (walk_of plain depth (top_job None) t) r) (skipped_ones : asked.left_out ≡ true)
+module _ (t : Tree) (listings : HasListings plain (top_job own_rules) t) (asked : ReportLists) (depth : ℕ) (r : Report)
+    (report : IsReportOf asked (walk_of plain depth (top_job own_rules) t) r) (skipped_ones : asked.left_out ≡ true)
     (faultless : r.faults.items ≡ []) (rules : List RuleModel)
-    (chain : (place : List (List ℕ)) (k : JobModel) → LeadsTo plain (top_job None) t place k → (items : List Item) (inside : JobModel)
+    (chain : (place : List (List ℕ)) (k : JobModel) → LeadsTo plain (top_job own_rules) t place k → (items : List Item) (inside : JobModel)
     → IsListed k (t place) items inside → rules_in inside.ignore ≡ at_depth 0 rules)
-    (path : List ℕ) (kind : Kind) (entry : IsEntryBy plain (top_job None) t path kind) where
+    (path : List ℕ) (kind : Kind) (entry : IsEntryBy plain (top_job own_rules) t path kind) where
   -- the report leaves it out by a rule, or it is not ignored and stands below nothing that is
   abbrev pub IsDecided : Type 0
   IsDecided =
@@ -152,19 +154,19 @@ module _ (t : Tree) (listings : HasListings plain (top_job None) t) (asked : Rep
     inside : JobModel
     listed : IsListed k (t place) items inside
 
-  met : (place : List (List ℕ)) (k : JobModel) → LeadsTo plain (top_job None) t place k → length place < depth → IsMet k place
+  met : (place : List (List ℕ)) (k : JobModel) → LeadsTo plain (top_job own_rules) t place k → length place < depth → IsMet k place
   met place k leads shallow = by (open_dir k (t place)) refl
     where
       by : (w : Result OpenDirModel FaultLineModel) → open_dir k (t place) ≡ w → IsMet k place
       by (Ok here) is =
           let l = entered_listed k (t place) here is in record { items = l.items; inside = here.job; listed = l.listed }
       by (Err fault) is =
-          let there = fault_there plain refl (top_job None) t asked depth r report place k leads shallow fault is in
+          let there = fault_there plain refl (top_job own_rules) t asked depth r report place k leads shallow fault is in
           absurd (is_in fault [] (subst (λ l. Contains l fault) faultless there))
 
   abbrev Decides : List (List ℕ) → Type 0
   Decides names =
-      (front : List ℕ) (place : List (List ℕ)) (k : JobModel) → LeadsTo plain (top_job None) t place k
+      (front : List ℕ) (place : List (List ℕ)) (k : JobModel) → LeadsTo plain (top_job own_rules) t place k
       → length place + length names ≤ depth → (rest : List ℕ) → segments_of rest ≡ names → path ≡ front ++ rest
       → ((m : List ℕ) → front ++ m ≡ path_in k.path m) → IsClearTo (file_verdict rules) path (length front)
       → (In (codes ".git") names → ⊥) → segments_of path ≡ place ++ names → IsDecided
@@ -201,7 +203,7 @@ module _ (t : Tree) (listings : HasListings plain (top_job None) t) (asked : Rep
           let fate = fate_skipped plain m.inside i.item (by_rule source line)
           (ap (λ n. reason_of plain m.inside n (is_dir (entry_of i.item).kind)) i.named
           ∙ ap (λ (d : Kind). reason_of plain m.inside name (is_dir d)) i.kind_is ∙ e) in
-          let there = skipped_there plain refl (top_job None) t asked depth r report place k leads shallow m.items m.inside m.listed
+          let there = skipped_there plain refl (top_job own_rules) t asked depth r report place k leads shallow m.items m.inside m.listed
           skipped_ones i.item i.has (entry_of i.item).kind (by_rule source line) fate in
           inl (source, line, inl (subst (λ p. IsSkipped r p (by_rule source line)) (ap (path_in k.path) i.named ∙ sym path_is) there))
       by (inr (none, kept)) =
@@ -251,7 +253,7 @@ module _ (t : Tree) (listings : HasListings plain (top_job None) t) (asked : Rep
           ⊎ ((reason_of plain m.inside name true ≡ None)
           × (is_ignored (file_verdict rules (path_in m.inside.path name) true) ≡ false)) → IsDecided
       by (inl (source, line, e)) =
-          let there = skipped_there plain refl (top_job None) t asked depth r report place k leads shallow m.items m.inside m.listed
+          let there = skipped_there plain refl (top_job own_rules) t asked depth r report place k leads shallow m.items m.inside m.listed
           skipped_ones (directory_item name) has Dir (by_rule source line)
           (fate_skipped plain m.inside (directory_item name) (by_rule source line) e) in
           inl (
@@ -279,7 +281,7 @@ module _ (t : Tree) (listings : HasListings plain (top_job None) t) (asked : Rep
           let clear = clear_slash (file_verdict rules) path (front ++ name) parts.0 same
           (ap (λ d. is_ignored (file_verdict rules d true)) directory ∙ kept) named in
           below_decides longer (place ++ name ∷ []) (child_job m.inside name)
-          (leads_on plain place (top_job None) k m.inside name t leads leaves)
+          (leads_on plain place (top_job own_rules) k m.inside name t leads leaves)
           (omega (arith, deep, length-append place (name ∷ []))) parts.0 parts.2
           (same ∙ sym (append_assoc (front ++ name) (slash ∷ []) parts.0))
           (λ l. append_assoc (front ++ name) (slash ∷ []) l ∙ append_assoc front name (slash ∷ l) ∙ joined (name ++ slash ∷ l)

@@ -68,7 +68,8 @@ same_err x y e = cc
 pub entered_listed : (j : JobModel) (a : Answers) (here : OpenDirModel) → open_dir j a ≡ Ok here → Listed j a here
 entered_listed j a here = at a.here refl
   where
-    after : (items : List Item) → a.here ≡ Ok items → (read : Result RuleBytes FaultLineModel) → rule_bytes j.path items a ≡ read
+    after : (items : List Item) → a.here ≡ Ok items → (read : Result RuleBytes FaultLineModel)
+        → rule_bytes j.ignore.no_ignore j.path items a ≡ read
         → open_dir_after j items read ≡ Ok here → Listed j a here
     after items e (Ok files) read is =
         let made : OpenDirModel =
@@ -82,7 +83,7 @@ entered_listed j a here = at a.here refl
     after items e (Err fault) read is = absurd (cc is)
 
     at : (o : Items) → a.here ≡ o → open_dir_of j a o ≡ Ok here → Listed j a here
-    at (Ok items) e is = after items e (rule_bytes j.path items a) refl is
+    at (Ok items) e is = after items e (rule_bytes j.ignore.no_ignore j.path items a) refl is
     at (Err word) e is = absurd (cc is)
 
 -- what can't be entered has its fault as its level
@@ -96,7 +97,7 @@ fault_level s j a fault = at a.here
     after items (Err f) is = ap (λ (g : FaultLineModel). faulted_level g.path g.word) (same_err f fault is)
 
     at : (o : Items) → open_dir_of j a o ≡ Err fault → level_of s j a o ≡ faulted_level fault.path fault.word
-    at (Ok items) is = after items (rule_bytes j.path items a) is
+    at (Ok items) is = after items (rule_bytes j.ignore.no_ignore j.path items a) is
     at (Err word) is =
         ap (λ (g : FaultLineModel). faulted_level g.path g.word) (same_err (record { path = j.path; word = word }) fault is)
 

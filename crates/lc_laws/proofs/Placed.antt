@@ -1,5 +1,5 @@
 -- What the directories of a walk to which names lead give stands in its report.
-use Rattle.std.proofs.Common.{◌≡◌, ℕ, ◌<◌, true, false, List, [], length, refl, ap, None, Result, Ok, Err, inl, inr}
+use Rattle.std.proofs.Common.{◌≡◌, ℕ, ◌<◌, true, List, [], length, refl, ap, None, Result, Ok, Err, inl, inr}
 use Rattle.std.specs.List.{Contains}
 use Rattle.std.specs.Option.{option_map_or}
 use Rattle.lc_census.specs.declared.line_count.Count.{Count}
@@ -8,7 +8,7 @@ use Rattle.lc_glob.specs.Path.{path_in}
 use Rattle.lc_level.specs.Answers.{Item, file_item, name_of, Tree}
 use Rattle.lc_level.specs.FaultLines.{FaultLineModel}
 use Rattle.lc_level.specs.Job.{JobModel}
-use Rattle.lc_level.specs.Level.{Reason, Fate, skipped, file_fate, fate_of, reason_of}
+use Rattle.lc_level.specs.Level.{Reason, Fate, skipped, file_fate, fate_of, file_reason}
 use Rattle.lc_level.specs.Selection.{SelectionModel}
 use Rattle.lc_tree.specs.declared.entry.Kind.{Kind}
 use Rattle.lc_tree.specs.declared.entry.Kind.TheVariants.{File}
@@ -67,7 +67,7 @@ module _ (s : SelectionModel) (whole : s.only ≡ []) (top : JobModel) (t : Tree
       -- a file that is taken
       pub file_there : asked.files ≡ true → (n : List ℕ) (c : Result Count FaultWord) (rules : Result (List ℕ) FaultWord)
           → In (file_item n c rules) items
-          → reason_of s inside n false ≡ None → IsKept r (path_in k.path n) File
+          → file_reason s inside n ≡ None → IsKept r (path_in k.path n) File
       file_there files n (Ok count) rules has none =
           inl (found_counted asked xs r report files k.path _
           (found (found_file k.path _) (

@@ -4,7 +4,7 @@ use Rattle.std.proofs.Common.{Ok, Err, option_map, find, bytes_eq, append_assoc,
 use Rattle.std.specs.Option.{is_none}
 use Rattle.lc_explain.specs.Explained.{Explanation, bad, below, cited, said_for, said_beside, kind_asked, is_directory, OnTheWay}
 use Rattle.lc_explain.specs.Explained.{OnEntering, IsSaid, IsExplained}
-use Rattle.lc_explain.specs.OpenDirs.{OpenDirModel, DirStack, open_dir, open_dir_of, open_dir_after, kind_in}
+use Rattle.lc_explain.specs.OpenDirs.{OpenDirModel, DirStack, open_dir, open_dir_of, open_dir_after, kind_in, TopTextsModel}
 use Rattle.lc_glob.proofs.Naming.{has_first}
 use Rattle.lc_glob.specs.Path.{segments_of}
 use Rattle.lc_level.specs.Answers.{Item, directory_item, name_of, entry_of, entries_of, Items, Answers, Tree}
@@ -36,15 +36,15 @@ opened k (Ok read) =
     Ok (record { job = extended k read.1; entries = read.0; info = read.1.info.rules; own = read.1.own.rules })
 opened k (Err fault) = Err fault
 
-as_read : (k : JobModel) (a : Answers) → open_dir k a ≡ opened k (what_is_read k.path a)
+as_read : (k : JobModel) (a : Answers) → open_dir k a ≡ opened k (what_is_read k a)
 as_read k a = at a.here
   where
     after : (items : List Item) (r : Result RuleBytes FaultLineModel) → open_dir_after k items r ≡ opened k (read_after items r)
     after items (Ok files) = refl
     after items (Err fault) = refl
 
-    at : (o : Items) → open_dir_of k a o ≡ opened k (read_of k.path a o)
-    at (Ok items) = after items (rule_bytes k.path items a)
+    at : (o : Items) → open_dir_of k a o ≡ opened k (read_of k a o)
+    at (Ok items) = after items (rule_bytes k.ignore.no_ignore k.path items a)
     at (Err word) = refl
 
 -- what stands under a name as a directory is an item
@@ -92,7 +92,7 @@ map_way (Some r) is_there Skipped Into Onto Beside on a = a
 map_way None true Skipped Into Onto Beside on a = on refl refl a
 map_way None false Skipped Into Onto Beside on a = a
 
-module _ (s : SelectionModel) (exclude : List ℕ) (as_dir : Bool) (x : Explanation) (top : JobModel) (t : Tree) (path : List ℕ)
+module _ (s : SelectionModel) (top_texts : TopTextsModel) (as_dir : Bool) (x : Explanation) (top : JobModel) (t : Tree) (path : List ℕ)
     (Enters Onto : Entering)
     (known : (place : List (List ℕ)) (name : List ℕ) (names : List (List ℕ)) (k : JobModel) → segments_of path ≡ place ++ name ∷ names
     → LeadsTo (narrowed s []) top t place k → (entered : Result OpenDirModel FaultLineModel) → Enters k entered
@@ -101,11 +101,11 @@ module _ (s : SelectionModel) (exclude : List ℕ) (as_dir : Bool) (x : Explanat
   abbrev Carried : List (List ℕ) → Type 0
   Carried names =
       (place : List (List ℕ)) (stack : DirStack) (k : JobModel) (here : OpenDirModel) → LeadsTo (narrowed s []) top t place k
-      → open_dir k (t place) ≡ Ok here → segments_of path ≡ place ++ names → IsSaid Enters s exclude stack here names as_dir x
-      → IsSaid Onto s exclude stack here names as_dir x
+      → open_dir k (t place) ≡ Ok here → segments_of path ≡ place ++ names → IsSaid Enters s top_texts stack here names as_dir x
+      → IsSaid Onto s top_texts stack here names as_dir x
 
   abbrev SaidBelow : Entering → DirStack → JobModel → List (List ℕ) → Type 0
-  SaidBelow E stack k names = OnEntering E k x (λ child. IsSaid E s exclude (stack ++ child ∷ []) child names as_dir x)
+  SaidBelow E stack k names = OnEntering E k x (λ child. IsSaid E s top_texts (stack ++ child ∷ []) child names as_dir x)
 
   enter_on : (next : List ℕ) (names : List (List ℕ)) → Carried (next ∷ names) → (place : List (List ℕ)) (stack : DirStack)
       (k : JobModel) → LeadsTo (narrowed s []) top t place k → segments_of path ≡ place ++ next ∷ names
@@ -119,9 +119,9 @@ module _ (s : SelectionModel) (exclude : List ℕ) (as_dir : Bool) (x : Explanat
   carry_on : (name next : List ℕ) (names : List (List ℕ)) → Carried (next ∷ names) → Carried (name ∷ next ∷ names)
   carry_on name next names rest place stack k here leads is cut =
       map_way (reason_for s here.job name (kind_asked true (kind_in here.entries name))) (is_directory (kind_in here.entries name))
-      (λ reason. x ≡ said_for (cited exclude stack) below reason) (SaidBelow Enters stack (child_job here.job name) (next ∷ names))
+      (λ reason. x ≡ said_for (cited top_texts stack) below reason) (SaidBelow Enters stack (child_job here.job name) (next ∷ names))
       (SaidBelow Onto stack (child_job here.job name) (next ∷ names))
-      (x ≡ said_beside s exclude stack (child_job here.job name) (next ∷ names) as_dir)
+      (x ≡ said_beside s top_texts stack (child_job here.job name) (next ∷ names) as_dir)
       (λ none there.
       let leaves = walked_into s k (t place) here is name (dir_there (kind_in here.entries name) there) none in
       enter_on next names rest (place ++ name ∷ []) stack (child_job here.job name)
@@ -134,7 +134,7 @@ module _ (s : SelectionModel) (exclude : List ℕ) (as_dir : Bool) (x : Explanat
   carried (name ∷ next ∷ names) = carry_on name next names (carried (next ∷ names))
 
   -- so it is of the path
-  pub explained_on : IsExplained Enters s exclude top path as_dir x → IsExplained Onto s exclude top path as_dir x
+  pub explained_on : IsExplained Enters s top_texts top path as_dir x → IsExplained Onto s top_texts top path as_dir x
   explained_on = at (is_bad_path path)
     where
       at : (b : Bool) → cond b (x ≡ bad) (SaidBelow Enters [] top (segments_of path))
@@ -148,11 +148,12 @@ module _ (s : SelectionModel) (exclude : List ℕ) (as_dir : Bool) (x : Explanat
 -- ---- two trees of answers
 
 -- what is said by one is said by another, where the same is read on the way
-pub said_by_way : (s : SelectionModel) (exclude : List ℕ) (as_dir : Bool) (x : Explanation) (top : JobModel) → top.path ≡ [] → (t : Tree)
+pub said_by_way : (s : SelectionModel) (top_texts : TopTextsModel) (as_dir : Bool) (x : Explanation) (top : JobModel) → top.path ≡ []
+    → (t : Tree)
     → HasListings (narrowed s []) top t → (u : Tree) (path : List ℕ) → AgreeOnWay (narrowed s []) top t u path
-    → IsExplained (EntersBy u) s exclude top path as_dir x → IsExplained (EntersBy t) s exclude top path as_dir x
-said_by_way s exclude as_dir x top at_top t listings u path agree =
-    explained_on s exclude as_dir x top t path (EntersBy u) (EntersBy t)
+    → IsExplained (EntersBy u) s top_texts top path as_dir x → IsExplained (EntersBy t) s top_texts top path as_dir x
+said_by_way s top_texts as_dir x top at_top t listings u path agree =
+    explained_on s top_texts as_dir x top t path (EntersBy u) (EntersBy t)
     (λ place name names k cut leads entered enters.
     let there : names_of_path k.path ≡ place =
     place_names (narrowed s []) place top k t listings leads ∙ ap (λ p. names_of_path p ++ place) at_top in
@@ -162,10 +163,10 @@ said_by_way s exclude as_dir x top at_top t listings u path agree =
     (ap (λ p. open_dir k (t p)) there ∙ sym same, same))
 
 -- so it is where no path alone is asked for
-pub said_by_other : (s : SelectionModel) → s.only ≡ [] → (exclude : List ℕ) (as_dir : Bool) (x : Explanation) (top : JobModel)
+pub said_by_other : (s : SelectionModel) → s.only ≡ [] → (top_texts : TopTextsModel) (as_dir : Bool) (x : Explanation) (top : JobModel)
     → top.path ≡ [] → (t : Tree) → HasListings s top t → (u : Tree) (path : List ℕ) → AgreeOnWay s top t u path
-    → IsExplained (EntersBy u) s exclude top path as_dir x → IsExplained (EntersBy t) s exclude top path as_dir x
-said_by_other s whole exclude as_dir x top at_top t listings u path agree =
+    → IsExplained (EntersBy u) s top_texts top path as_dir x → IsExplained (EntersBy t) s top_texts top path as_dir x
+said_by_other s whole top_texts as_dir x top at_top t listings u path agree =
     let same : s ≡ narrowed s [] = ap (narrowed s) whole in
-    said_by_way s exclude as_dir x top at_top t (subst (λ (w : SelectionModel). HasListings w top t) same listings) u path
+    said_by_way s top_texts as_dir x top at_top t (subst (λ (w : SelectionModel). HasListings w top t) same listings) u path
     (subst (λ (w : SelectionModel). AgreeOnWay w top t u path) same agree)

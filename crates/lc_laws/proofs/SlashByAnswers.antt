@@ -2,9 +2,10 @@
 use Rattle.std.proofs.Common.{◌≡◌, ℕ, Bool, true, false, cond, List, [], ◌∷◌, ◌++◌, refl, sym, ◌∙◌, ap, subst, Option, Some, None}
 use Rattle.std.proofs.Common.{Ok, Err, append_assoc}
 use Rattle.std.specs.List.{Contains}
+use Rattle.lc_explain.specs.Explain.{top_texts_of}
 use Rattle.lc_explain.specs.Explained.{Explanation, bad, below, cited, said_for, said_of, said_beside, kind_asked, is_directory, OnTheWay}
 use Rattle.lc_explain.specs.Explained.{OnEntering, IsSaid}
-use Rattle.lc_explain.specs.OpenDirs.{OpenDirModel, DirStack, open_dir, kind_in, text_or_none}
+use Rattle.lc_explain.specs.OpenDirs.{OpenDirModel, DirStack, open_dir, kind_in, TopTextsModel}
 use Rattle.lc_glob.specs.Path.{segments_of}
 use Rattle.lc_level.specs.Answers.{Item, entry_of, entries_of, Answers, Tree}
 use Rattle.lc_level.specs.Job.{JobModel}
@@ -43,11 +44,11 @@ found_kind k a here well_formed is name kind has =
     ∙ subst (λ n. kind_in (entries_of l.items) n ≡ Some (entry_of i.item).kind) i.named (kind_found l.items spread i.item i.has)
     ∙ ap (λ (d : Kind). Some d) i.kind_is
 
-module _ (s : SelectionModel) (exclude : List ℕ) (x : Explanation) (top : JobModel) (t : Tree)
+module _ (s : SelectionModel) (top_texts : TopTextsModel) (x : Explanation) (top : JobModel) (t : Tree)
     (known : IsKnown (EntersBy t) (narrowed s []) top t) (path : List ℕ) (entry : IsEntryBy (narrowed s []) top t path Dir) where
   abbrev SaidBelow : Bool → DirStack → JobModel → List (List ℕ) → Type 0
   SaidBelow as_dir stack k names =
-      OnEntering (EntersBy t) k x (λ here. IsSaid (EntersBy t) s exclude (stack ++ here ∷ []) here names as_dir x)
+      OnEntering (EntersBy t) k x (λ here. IsSaid (EntersBy t) s top_texts (stack ++ here ∷ []) here names as_dir x)
 
   abbrev Alike : List (List ℕ) → Type 0
   Alike names =
@@ -72,8 +73,8 @@ module _ (s : SelectionModel) (exclude : List ℕ) (x : Explanation) (top : JobM
       kind_there place k here name [] leads cut enters Dir (λ items is. entry place name [] k items cut leads is) in (
         Ok here,
         enters,
-        said ∙ ap (λ (o : Option Kind). said_of s exclude (stack ++ here ∷ []) here.job name (kind_asked true o)) there
-            ∙ sym (ap (λ (o : Option Kind). said_of s exclude (stack ++ here ∷ []) here.job name (kind_asked false o)) there),
+        said ∙ ap (λ (o : Option Kind). said_of s top_texts (stack ++ here ∷ []) here.job name (kind_asked true o)) there
+            ∙ sym (ap (λ (o : Option Kind). said_of s top_texts (stack ++ here ∷ []) here.job name (kind_asked false o)) there),
       )
 
   on_alike : (name next : List ℕ) (names : List (List ℕ)) → Alike (next ∷ names) → Alike (name ∷ next ∷ names)
@@ -85,11 +86,11 @@ module _ (s : SelectionModel) (exclude : List ℕ) (x : Explanation) (top : JobM
         Ok here,
         enters,
         on_a_directory (reason_for s here.job name (kind_asked true (kind_in here.entries name))) (is_directory (kind_in here.entries name))
-            (λ r. x ≡ said_for (cited exclude (stack ++ here ∷ [])) below r)
+            (λ r. x ≡ said_for (cited top_texts (stack ++ here ∷ [])) below r)
             (SaidBelow true (stack ++ here ∷ []) (child_job here.job name) (next ∷ names))
             (SaidBelow false (stack ++ here ∷ []) (child_job here.job name) (next ∷ names))
-            (x ≡ said_beside s exclude (stack ++ here ∷ []) (child_job here.job name) (next ∷ names) true)
-            (x ≡ said_beside s exclude (stack ++ here ∷ []) (child_job here.job name) (next ∷ names) false)
+            (x ≡ said_beside s top_texts (stack ++ here ∷ []) (child_job here.job name) (next ∷ names) true)
+            (x ≡ said_beside s top_texts (stack ++ here ∷ []) (child_job here.job name) (next ∷ names) false)
             (ap is_directory there)
             (λ none.
             let leaves = walked_into s k (t place) here (is_entered place k here leads enters) name there none in
@@ -115,10 +116,10 @@ answers_slash_law t q path x listings entry = at (is_bad_path path)
 
     at : (b : Bool)
         → cond b (x ≡ bad) (OnEntering (EntersBy t) top x
-        (λ here. IsSaid (EntersBy t) s (text_or_none q.exclude) (here ∷ []) here (segments_of path) true x))
+        (λ here. IsSaid (EntersBy t) s (top_texts_of q) (here ∷ []) here (segments_of path) true x))
         → cond b (x ≡ bad) (OnEntering (EntersBy t) top x
-        (λ here. IsSaid (EntersBy t) s (text_or_none q.exclude) (here ∷ []) here (segments_of path) false x))
+        (λ here. IsSaid (EntersBy t) s (top_texts_of q) (here ∷ []) here (segments_of path) false x))
     at true e = e
     at false said =
-        alike s (text_or_none q.exclude) x top t (known_by_tree (narrowed s []) top t refl listings) path entry (segments_of path) [] []
+        alike s (top_texts_of q) x top t (known_by_tree (narrowed s []) top t refl listings) path entry (segments_of path) [] []
         top refl refl said

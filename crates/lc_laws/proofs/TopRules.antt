@@ -1,5 +1,5 @@
 -- The rules that hold in each directory, where the only ignore file is the top's `.gitignore`.
-use Rattle.std.proofs.Common.{◌≡◌, ◌≢◌, ℕ, Bool, true, false, cond, List, [], ◌∷◌, refl, sym, ◌∙◌, ap, subst, Option, Some}
+use Rattle.std.proofs.Common.{◌≡◌, ◌≢◌, ℕ, Bool, true, false, cond, List, [], ◌∷◌, ◌++◌, refl, sym, ◌∙◌, ap, subst, Option, Some}
 use Rattle.std.proofs.Common.{None, Result, Ok, Err, codes, bytes_eq, append-nil, inl, inr, ◌⊎◌}
 use Rattle.std.specs.List.{AllByRecursion}
 use Rattle.std.specs.Prelude.{option_map}
@@ -10,9 +10,10 @@ use Rattle.lc_level.specs.FaultLines.{FaultLineModel}
 use Rattle.lc_level.specs.Job.{JobModel}
 use Rattle.lc_level.specs.Level.{child_job}
 use Rattle.lc_level.specs.OneAnswer.{GivesOne}
-use Rattle.lc_level.specs.RuleFiles.{listing, Pair, RuleBytes, file_named, has_directory, has_git, and_then, reading, both_read, info_items}
+use Rattle.lc_level.specs.RuleFiles.{listing, Pair, RuleBytes, file_named, ignore_named, has_directory, has_git, and_then, reading}
+use Rattle.lc_level.specs.RuleFiles.{both_read, info_items}
 use Rattle.lc_level.specs.RuleFiles.{info_bytes, own_bytes, rule_bytes, with_file_at, first_of}
-use Rattle.lc_level.specs.TopJob.{top_job}
+use Rattle.lc_level.specs.TopJob.{top_job, own_rules}
 use Rattle.lc_level.specs.TreeAnswers.{MayHave, MayList, MayAnswer, items_of}
 use Rattle.lc_level.proofs.WellFormed.{same_bytes, bytes_same}
 use Rattle.lc_rules.specs.IgnoreChains.{ChainModel, rules_in}
@@ -103,50 +104,55 @@ pair_rules p q file other pair e = at (reading p file) refl e
     at (Err fault) is f = absurd (cc f)
 
 -- all that was read for a directory
-pub record ReadHere (path : List ℕ) (items : List Item) (a : Answers) (bytes : RuleBytes) : Type 0 where
-  pub info : and_then (info_items (has_git path items) a) info_bytes ≡ Ok bytes.info
-  pub own : option_map Ok bytes.own.rules ≡ file_named (codes ".gitignore") items
+pub record ReadHere (no_ignore : Bool) (path : List ℕ) (items : List Item) (a : Answers) (bytes : RuleBytes) : Type 0 where
+  pub info : and_then (info_items (has_git path items) a) (info_bytes no_ignore) ≡ Ok bytes.info
+  pub own : option_map Ok bytes.own.rules ≡ ignore_named no_ignore (codes ".gitignore") items
 
 -- what a directory's rules are read from, where all of them could be read
-pub read_here : (path : List ℕ) (items : List Item) (a : Answers) (bytes : RuleBytes) → rule_bytes path items a ≡ Ok bytes
-    → ReadHere path items a bytes
-read_here path items a bytes e = at (and_then (info_items (has_git path items) a) info_bytes) refl e
+pub read_here : (no_ignore : Bool) (path : List ℕ) (items : List Item) (a : Answers) (bytes : RuleBytes)
+    → rule_bytes no_ignore path items a ≡ Ok bytes → ReadHere no_ignore path items a bytes
+read_here no_ignore path items a bytes e = at (and_then (info_items (has_git path items) a) (info_bytes no_ignore)) refl e
   where
-    after : (i : Pair) → and_then (info_items (has_git path items) a) info_bytes ≡ Ok i → (own : Result Pair FaultLineModel)
-        → own_bytes path items ≡ own → and_then own (λ o. Ok (record { info = i; own = o })) ≡ Ok bytes → ReadHere path items a bytes
+    after : (i : Pair) → and_then (info_items (has_git path items) a) (info_bytes no_ignore) ≡ Ok i → (own : Result Pair FaultLineModel)
+        → own_bytes no_ignore path items ≡ own → and_then own (λ o. Ok (record { info = i; own = o })) ≡ Ok bytes
+        → ReadHere no_ignore path items a bytes
     after i is (Ok o) own f =
         let same : record { info = i; own = o } ≡ bytes = cc f in
         record {
           info = is ∙ ap Ok (ap (λ (b : RuleBytes). b.info) same);
           own = ap (option_map Ok) (sym (ap (λ (b : RuleBytes). b.own.rules) same))
               ∙ pair_rules (path_in path (codes ".gitignore")) (path_in path (codes ".gitattributes"))
-              (file_named (codes ".gitignore") items) (file_named (codes ".gitattributes") items) o own;
+              (ignore_named no_ignore (codes ".gitignore") items) (file_named (codes ".gitattributes") items) o own;
         }
     after i is (Err fault) own f = absurd (cc f)
 
-    at : (info : Result Pair FaultLineModel) → and_then (info_items (has_git path items) a) info_bytes ≡ info
-        → and_then info (λ i. and_then (own_bytes path items) (λ o. Ok (record { info = i; own = o }))) ≡ Ok bytes
-        → ReadHere path items a bytes
-    at (Ok i) is f = after i is (own_bytes path items) refl f
+    at : (info : Result Pair FaultLineModel) → and_then (info_items (has_git path items) a) (info_bytes no_ignore) ≡ info
+        → and_then info (λ i. and_then (own_bytes no_ignore path items) (λ o. Ok (record { info = i; own = o }))) ≡ Ok bytes
+        → ReadHere no_ignore path items a bytes
+    at (Ok i) is f = after i is (own_bytes no_ignore path items) refl f
     at (Err fault) is f = absurd (cc f)
 
 -- nothing is read of `.git/info` where it isn't there
-no_info : (a : Answers) (there : Bool) (i : Pair) → there ≡ false → and_then (info_items there a) info_bytes ≡ Ok i → i.rules ≡ None
-no_info a true i e is = absurd (cc e)
-no_info a false i e is = sym (ap (λ (p : Result Pair FaultLineModel). elim p [ Ok x ↦ x.rules | Err f ↦ None ]) is)
+no_info : (no_ignore : Bool) (a : Answers) (there : Bool) (i : Pair) → there ≡ false → and_then (info_items there a) (info_bytes no_ignore)
+    ≡ Ok i → i.rules ≡ None
+no_info no_ignore a true i e is = absurd (cc e)
+no_info true a false i e is = sym (ap (λ (p : Result Pair FaultLineModel). elim p [ Ok x ↦ x.rules | Err f ↦ None ]) is)
+no_info false a false i e is = sym (ap (λ (p : Result Pair FaultLineModel). elim p [ Ok x ↦ x.rules | Err f ↦ None ]) is)
 
 -- what is read of `.git/info` is in items of it, where there are some
-record InfoItems (a : Answers) (there : Bool) (rules : Option (List ℕ)) : Type 0 where
+record InfoItems (no_ignore : Bool) (a : Answers) (there : Bool) (rules : Option (List ℕ)) : Type 0 where
   items : List Item
-  is : option_map Ok rules ≡ file_named (codes "exclude") items
+  is : option_map Ok rules ≡ ignore_named no_ignore (codes "exclude") items
   listed : (items ≡ []) ⊎ ((there ≡ true) × (has_directory (codes "info") (items_of a.git) ≡ true) × (a.info ≡ Ok items))
 
-info_items_of : (a : Answers) (there : Bool) (i : Pair) → and_then (info_items there a) info_bytes ≡ Ok i → InfoItems a there i.rules
-info_items_of a there i e = at there refl (info_items there a) refl e
+info_items_of : (no_ignore : Bool) (a : Answers) (there : Bool) (i : Pair) → and_then (info_items there a) (info_bytes no_ignore) ≡ Ok i
+    → InfoItems no_ignore a there i.rules
+info_items_of no_ignore a there i e = at there refl (info_items there a) refl e
   where
-    rules_in_items : (items : List Item) → info_bytes items ≡ Ok i → option_map Ok i.rules ≡ file_named (codes "exclude") items
+    rules_in_items : (items : List Item) → info_bytes no_ignore items ≡ Ok i → option_map Ok i.rules
+        ≡ ignore_named no_ignore (codes "exclude") items
     rules_in_items items f =
-        pair_rules (codes ".git/info/exclude") (codes ".git/info/attributes") (file_named (codes "exclude") items)
+        pair_rules (codes ".git/info/exclude") (codes ".git/info/attributes") (ignore_named no_ignore (codes "exclude") items)
         (file_named (codes "attributes") items) i f
 
     by_info : (b : Bool) (items : List Item) → listing b (codes ".git/info") a.info ≡ Ok items
@@ -173,7 +179,7 @@ info_items_of a there i e = at there refl (info_items there a) refl e
     by_git true is (Err word) git items f = absurd (cc f)
 
     at : (b : Bool) → there ≡ b → (read : Result (List Item) FaultLineModel) → info_items there a ≡ read
-        → and_then read info_bytes ≡ Ok i → InfoItems a there i.rules
+        → and_then read (info_bytes no_ignore) ≡ Ok i → InfoItems no_ignore a there i.rules
     at b is (Ok items) read f = record {
       items = items;
       is = rules_in_items items f;
@@ -185,11 +191,11 @@ info_items_of a there i e = at there refl (info_items there a) refl e
 
 -- the chain of the top's rules alone
 abbrev pub top_chain : List RuleModel → ChainModel
-top_chain rules = record { exclude = None; info = None; tree = (0, rules) ∷ [] }
+top_chain rules = record { exclude = None; info = None; tree = (0, rules) ∷ []; command_line = None; no_ignore = false }
 
 -- its rules are those of the top, at depth 0
 pub top_chain_rules : (chain : ChainModel) (rules : List RuleModel) → chain ≡ top_chain rules → rules_in chain ≡ at_depth 0 rules
-top_chain_rules chain rules is = ap rules_in is ∙ append-nil (at_depth 0 rules)
+top_chain_rules chain rules is = ap rules_in is ∙ append-nil (at_depth 0 rules ++ []) ∙ append-nil (at_depth 0 rules)
 
 -- a chain with the rules of two files, as far as they are there
 abbrev with_both : JobModel → Option (List ℕ) → Option (List ℕ) → ChainModel
@@ -197,6 +203,8 @@ with_both j info own = record {
   exclude = j.ignore.exclude;
   info = first_of (option_map rules_of info) j.ignore.info;
   tree = with_file_at j.ignore.tree (depth_of j.path) (option_map rules_of own);
+  command_line = j.ignore.command_line;
+  no_ignore = j.ignore.no_ignore;
 }
 
 both_are : (j : JobModel) (a : Answers) (items : List Item) (inside : JobModel) (listed : IsListed j a items inside)
@@ -216,7 +224,7 @@ none_added j a items inside rules listed none chain = both_are j a items inside 
 abbrev ReadsNone : JobModel → Tree → Type 0
 ReadsNone j u =
     (place : List (List ℕ)) (k : JobModel) (items : List Item) (files : RuleBytes) → LeadsTo plain j u place k → (u place).here ≡ Ok items
-    → rule_bytes k.path items (u place) ≡ Ok files → (files.info.rules ≡ None) × (files.own.rules ≡ None)
+    → rule_bytes k.ignore.no_ignore k.path items (u place) ≡ Ok files → (files.info.rules ≡ None) × (files.own.rules ≡ None)
 
 lower : (rules : List RuleModel) (place : List (List ℕ)) (j : JobModel) (u : Tree) → ReadsNone j u → j.ignore ≡ top_chain rules
     → (k : JobModel) → LeadsTo plain j u place k → (items : List Item) (inside : JobModel) → IsListed k (u place) items inside
@@ -229,16 +237,16 @@ lower rules (n ∷ place) j u none chain k (within, leaves, leads) items inside 
     lower rules place (child_job within n) (λ p. u (n ∷ p)) (λ p i es files on. none (n ∷ p) i es files (within, leaves, on))
     (none_added j (u []) leaves.items within rules l (none [] j leaves.items l.bytes refl l.here l.read) chain) k leads items inside listed
 
-module _ (t : Tree) (bytes : List ℕ) (reads : ReadsTopRules plain (top_job None) t bytes) where
+module _ (t : Tree) (bytes : List ℕ) (reads : ReadsTopRules plain (top_job own_rules) t bytes) where
   -- at the top the rules are those of its file
-  at_top : (items : List Item) (inside : JobModel) → IsListed (top_job None) (t []) items inside
+  at_top : (items : List Item) (inside : JobModel) → IsListed (top_job own_rules) (t []) items inside
       → inside.ignore ≡ top_chain (rules_of bytes)
   at_top items inside listed =
-      let r = reads [] (top_job None) items listed.bytes refl listed.here listed.read in
-      both_are (top_job None) (t []) items inside listed None (Some bytes) r.0 r.1
+      let r = reads [] (top_job own_rules) items listed.bytes refl listed.here listed.read in
+      both_are (top_job own_rules) (t []) items inside listed None (Some bytes) r.0 r.1
 
   -- so these rules hold in each directory to which names lead
-  pub rules_at : (place : List (List ℕ)) (k : JobModel) → LeadsTo plain (top_job None) t place k → (items : List Item)
+  pub rules_at : (place : List (List ℕ)) (k : JobModel) → LeadsTo plain (top_job own_rules) t place k → (items : List Item)
       (inside : JobModel) → IsListed k (t place) items inside → rules_in inside.ignore ≡ at_depth 0 (rules_of bytes)
   rules_at [] k leads items inside listed =
       top_chain_rules inside.ignore (rules_of bytes)
@@ -273,29 +281,31 @@ module _ (lists : List ℕ → Listings) (gives : List ℕ → Contents) (one : 
   each_has path (x ∷ xs) item all (inr i) = each_has path xs item all.1 i
 
   -- below the top no rules are read
-  none_below : (path : List ℕ) (a : Answers) (items : List Item) (files : RuleBytes) → (path ≡ [] → ⊥) → MayAnswer lists gives path a
-      → a.here ≡ Ok items → rule_bytes path items a ≡ Ok files → (files.info.rules ≡ None) × (files.own.rules ≡ None)
-  none_below path a items files some may here read =
-      let r = read_here path items a files read in
-      (no_info a (has_git path items) files.info (not_top path items some) r.info, own files.own.rules r.own)
+  none_below : (no_ignore : Bool) (path : List ℕ) (a : Answers) (items : List Item) (files : RuleBytes) → (path ≡ [] → ⊥)
+      → MayAnswer lists gives path a
+      → a.here ≡ Ok items → rule_bytes no_ignore path items a ≡ Ok files → (files.info.rules ≡ None) × (files.own.rules ≡ None)
+  none_below no_ignore path a items files some may here read =
+      let r = read_here no_ignore path items a files read in
+      (no_info no_ignore a (has_git path items) files.info (not_top path items some) r.info, own no_ignore files.own.rules r.own)
     where
-      own : (rules : Option (List ℕ)) → option_map Ok rules ≡ file_named (codes ".gitignore") items → rules ≡ None
-      own None e = refl
-      own (Some text) e =
+      own : (unread : Bool) (rules : Option (List ℕ)) → option_map Ok rules ≡ ignore_named unread (codes ".gitignore") items → rules ≡ None
+      own unread None e = refl
+      own true (Some text) e = absurd (cc e)
+      own false (Some text) e =
           let f = file_of items (codes ".gitignore") (Ok text) (sym e) in
           absurd (has.no_other path some (entry_listed path items (file_item (codes ".gitignore") f.0 (Ok text))
           (all_listed path a items may here) f.1))
 
-  module _ (t : Tree) (listings : HasListings plain (top_job None) t) (given : IsGiven lists gives plain (top_job None) t) where
+  module _ (t : Tree) (listings : HasListings plain (top_job own_rules) t) (given : IsGiven lists gives plain (top_job own_rules) t) where
     -- at the top those of its file are
-    top_read : (items : List Item) (files : RuleBytes) → (t []).here ≡ Ok items → rule_bytes [] items (t []) ≡ Ok files
+    top_read : (items : List Item) (files : RuleBytes) → (t []).here ≡ Ok items → rule_bytes false [] items (t []) ≡ Ok files
         → (files.info.rules ≡ None) × (files.own.rules ≡ Some bytes)
     top_read items files here read =
-        let r = read_here [] items (t []) files read in
-        (info files.info.rules (info_items_of (t []) (has_git [] items) files.info r.info), own files.own.rules r.own)
+        let r = read_here false [] items (t []) files read in
+        (info files.info.rules (info_items_of false (t []) (has_git [] items) files.info r.info), own files.own.rules r.own)
       where
         answers : MayAnswer lists gives [] (t [])
-        answers = given [] (top_job None) refl
+        answers = given [] (top_job own_rules) refl
 
         may : MayList lists gives [] (Ok items)
         may = all_listed [] (t []) items answers here
@@ -303,7 +313,7 @@ module _ (lists : List ℕ → Listings) (gives : List ℕ → Contents) (one : 
         top_items : (b : Bool) → has_git [] items ≡ b → has_git [] (items_of (t []).here) ≡ b
         top_items b e = ap (λ (o : Items). has_git [] (items_of o)) here ∙ e
 
-        info : (rules : Option (List ℕ)) → InfoItems (t []) (has_git [] items) rules → rules ≡ None
+        info : (rules : Option (List ℕ)) → InfoItems false (t []) (has_git [] items) rules → rules ≡ None
         info None found = refl
         info (Some text) found = at found.listed
           where
@@ -319,7 +329,8 @@ module _ (lists : List ℕ → Listings) (gives : List ℕ → Contents) (one : 
 
         there : IsItem items (codes ".gitignore") File
         there = named_item items (codes ".gitignore") File
-            (has_listed lists gives one plain (top_job None) t given [] (top_job None) items refl here (codes ".gitignore") File has.there)
+            (has_listed lists gives one plain (top_job own_rules) t given [] (top_job own_rules) items refl here (codes ".gitignore") File
+            has.there)
 
         entry_is : (e : EntryModel) → e.name ≡ codes ".gitignore" → e.kind ≡ File → e ≡ record { name = codes ".gitignore"; kind = File }
         entry_is e n k =
@@ -336,15 +347,16 @@ module _ (lists : List ℕ → Listings) (gives : List ℕ → Contents) (one : 
             let is : text ≡ bytes = cc same in
             ap Some is
 
-    below_path : (name : List ℕ) (place : List (List ℕ)) (k : JobModel) → LeadsTo plain (top_job None) t (name ∷ place) k → k.path ≡ [] → ⊥
+    below_path : (name : List ℕ) (place : List (List ℕ)) (k : JobModel) → LeadsTo plain (top_job own_rules) t (name ∷ place) k → k.path ≡ []
+        → ⊥
     below_path name place k leads none =
         let names : [] ≡ name ∷ place =
-        sym (ap names_of_path none) ∙ place_names plain (name ∷ place) (top_job None) k t listings leads in
+        sym (ap names_of_path none) ∙ place_names plain (name ∷ place) (top_job own_rules) k t listings leads in
         absurd (cc names)
 
     -- so the only ignore file that is read is the top's
-    pub reads_by_lists : ReadsTopRules plain (top_job None) t bytes
+    pub reads_by_lists : ReadsTopRules plain (top_job own_rules) t bytes
     reads_by_lists [] k items files leads here read =
-        top_read items files here (subst (λ p. rule_bytes p items (t []) ≡ Ok files) (ap (λ (j : JobModel). j.path) (sym leads)) read)
+        top_read items files here (subst (λ (j : JobModel). rule_bytes j.ignore.no_ignore j.path items (t []) ≡ Ok files) (sym leads) read)
     reads_by_lists (n ∷ place) k items files leads here read =
-        none_below k.path (t (n ∷ place)) items files (below_path n place k leads) (given (n ∷ place) k leads) here read
+        none_below k.ignore.no_ignore k.path (t (n ∷ place)) items files (below_path n place k leads) (given (n ∷ place) k leads) here read

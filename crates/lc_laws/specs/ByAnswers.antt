@@ -1,9 +1,9 @@
 -- What is said of a path by given answers: one state of a tree's directories, as far as an explanation asked for it.
-use Rattle.std.specs.Prelude.{◌≡◌, ℕ, Bool, List, [], ◌∷◌, ◌++◌, option_map, Result, Ok, Err}
+use Rattle.std.specs.Prelude.{◌≡◌, ℕ, Bool, List, [], ◌∷◌, ◌++◌, Result, Ok, Err}
 use Rattle.std.specs.List.{Contains}
-use Rattle.lc_explain.specs.Explain.{MaySay}
+use Rattle.lc_explain.specs.Explain.{MaySay, top_rules_of, top_texts_of}
 use Rattle.lc_explain.specs.Explained.{Explanation, IsExplained}
-use Rattle.lc_explain.specs.OpenDirs.{OpenDirModel, open_dir, text_or_none}
+use Rattle.lc_explain.specs.OpenDirs.{OpenDirModel, open_dir}
 use Rattle.lc_explain.specs.declared.explain_options.ExplainOptions.{ExplainOptions}
 use Rattle.lc_glob.specs.Path.{segments_of}
 use Rattle.lc_level.specs.Answers.{Item, Items, Answers, Tree, entries_of}
@@ -14,7 +14,6 @@ use Rattle.lc_level.specs.Selection.{SelectionModel, narrowed}
 use Rattle.lc_level.specs.TopJob.{top_job}
 use Rattle.lc_level.specs.TreeAnswers.{MayAnswer}
 use Rattle.lc_level.specs.WellFormed.{IsWellFormed}
-use Rattle.lc_rules.specs.IgnoreRules.{rules_of}
 use Rattle.lc_tree.specs.Listing.{EntryModel}
 use Rattle.lc_tree.specs.Paths.{names_of_path}
 use Rattle.lc_tree.specs.Trees.{Listings, Contents}
@@ -38,14 +37,14 @@ pub record EntersGiven (lists : List ℕ → Listings) (gives : List ℕ → Con
 module _ (q : ExplainOptions) where
   -- where an explanation begins, and what it leaves out: it looks at a whole tree
   abbrev pub top_asked : JobModel
-  top_asked = top_job (option_map rules_of q.exclude)
+  top_asked = top_job (top_rules_of q)
 
   abbrev pub whole_asked : SelectionModel
   whole_asked = narrowed q.selection []
 
   -- what is said of a path, where directories are entered so
   abbrev pub SaysEntering : (JobModel → Result OpenDirModel FaultLineModel → Type 0) → List ℕ → Bool → Explanation → Type 0
-  SaysEntering Enters path as_dir x = IsExplained Enters q.selection (text_or_none q.exclude) top_asked path as_dir x
+  SaysEntering Enters path as_dir x = IsExplained Enters q.selection (top_texts_of q) top_asked path as_dir x
 
   -- by the answers of a tree
   abbrev pub SaysBy : Tree → List ℕ → Bool → Explanation → Type 0
@@ -66,17 +65,17 @@ SaidByAnswersLaw lists gives =
 
 -- ---- two states of a tree
 
--- what is read of a directory at a path before its files are counted: its entries and the bytes of its rule files, or the first fault
+-- what is read of the directory of a job before its files are counted: its entries and the bytes of its rule files, or the first fault
 abbrev pub read_after : List Item → Result RuleBytes FaultLineModel → Result (List EntryModel × RuleBytes) FaultLineModel
 read_after items (Ok files) = Ok (entries_of items, files)
 read_after items (Err fault) = Err fault
 
-abbrev pub read_of : List ℕ → Answers → Items → Result (List EntryModel × RuleBytes) FaultLineModel
-read_of path a (Ok items) = read_after items (rule_bytes path items a)
-read_of path a (Err word) = Err (record { path = path; word = word })
+abbrev pub read_of : JobModel → Answers → Items → Result (List EntryModel × RuleBytes) FaultLineModel
+read_of j a (Ok items) = read_after items (rule_bytes j.ignore.no_ignore j.path items a)
+read_of j a (Err word) = Err (record { path = j.path; word = word })
 
-abbrev pub what_is_read : List ℕ → Answers → Result (List EntryModel × RuleBytes) FaultLineModel
-what_is_read path a = read_of path a a.here
+abbrev pub what_is_read : JobModel → Answers → Result (List EntryModel × RuleBytes) FaultLineModel
+what_is_read j a = read_of j a a.here
 
 -- the kind of a name that others follow, or else this
 abbrev pub kind_before : Kind → List (List ℕ) → Kind
@@ -88,7 +87,7 @@ module _ (s : SelectionModel) (top : JobModel) (t : Tree) where
   abbrev pub AgreeOnWay : Tree → List ℕ → Type 0
   AgreeOnWay u path =
       (place : List (List ℕ)) (name : List ℕ) (names : List (List ℕ)) (k : JobModel) → segments_of path ≡ place ++ name ∷ names
-      → LeadsTo s top t place k → what_is_read k.path (t place) ≡ what_is_read k.path (u place)
+      → LeadsTo s top t place k → what_is_read k (t place) ≡ what_is_read k (u place)
 
   -- each directory on the way to a path that is listed has the next name: the last as an entry of this kind, any other as a directory
   abbrev pub IsEntryBy : List ℕ → Kind → Type 0

@@ -7,8 +7,8 @@ use Rattle.lc_level.specs.Job.{JobModel}
 use Rattle.lc_level.specs.Level.{by_rule}
 use Rattle.lc_level.specs.OneAnswer.{GivesOne}
 use Rattle.lc_level.specs.RuleFiles.{RuleBytes, rule_bytes}
-use Rattle.lc_level.specs.RuleReads.{shared}
 use Rattle.lc_level.specs.Selection.{SelectionModel, selection_of}
+use Rattle.lc_level.specs.TopJob.{own_rules}
 use Rattle.lc_rules.specs.IgnoreRules.{RuleModel, rules_of}
 use Rattle.lc_rules.specs.declared.rule_source.RuleSource.{RuleSource}
 use Rattle.lc_check.specs.CheckText.{file_verdict, path_word}
@@ -20,7 +20,7 @@ use Rattle.lc_tree.specs.declared.entry.Kind.{Kind}
 use Rattle.lc_tree.specs.declared.entry.Kind.TheVariants.{File}
 use Rattle.lc_walk.specs.FoundAt.{LeadsTo}
 use Rattle.lc_walk.specs.GivenAnswers.{HasListings, IsReportBy}
-use Rattle.lc_walk.specs.WalkOptions.{asked_by, top_of}
+use Rattle.lc_walk.specs.WalkOptions.{asked_by, top_of, top_rules_of}
 use Rattle.lc_walk.specs.Walks.{Walks}
 use Rattle.lc_walk.specs.declared.options.Options.{Options}
 use Rattle.lc_walk.specs.declared.report.Report.{Report}
@@ -44,13 +44,13 @@ text_at bytes (name ∷ place) = None
 abbrev pub ReadsTopRules : SelectionModel → JobModel → Tree → List ℕ → Type 0
 ReadsTopRules s top t bytes =
     (place : List (List ℕ)) (k : JobModel) (items : List Item) (files : RuleBytes) → LeadsTo s top t place k → (t place).here ≡ Ok items
-    → rule_bytes k.path items (t place) ≡ Ok files → (files.info.rules ≡ None) × (files.own.rules ≡ text_at bytes place)
+    → rule_bytes k.ignore.no_ignore k.path items (t place) ≡ Ok files → (files.info.rules ≡ None) × (files.own.rules ≡ text_at bytes place)
 
 -- a count that lists what it leaves out, by the rules of the tree alone
 pub record AsksRulesAlone (o : Options) : Type 0 where
   pub left_out : o.lists.left_out ≡ true
   pub selection : (asked_by o).selection ≡ selection_of false []
-  pub exclude : shared o.exclude ≡ None
+  pub rules : top_rules_of o ≡ own_rules
 
 -- a check by the rules of a file says `ignored` of a path of this kind, or `below`
 abbrev pub IsCheckedOut : List RuleModel → List ℕ → Kind → Type 0

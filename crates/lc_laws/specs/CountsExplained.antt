@@ -1,20 +1,18 @@
 -- That a count and an explanation agree.
-use Rattle.std.specs.Prelude.{◌≡◌, ◌⊎◌, ℕ, true, false, List, [], option_map, Ok}
+use Rattle.std.specs.Prelude.{◌≡◌, ◌⊎◌, ℕ, true, false, List, [], Ok}
 use Rattle.std.specs.List.{Contains}
-use Rattle.lc_explain.specs.Explain.{MaySay}
+use Rattle.lc_explain.specs.Explain.{MaySay, top_rules_of}
 use Rattle.lc_explain.specs.Explained.{Explanation, bad, faulted, below, ignored, included, unruled, left_out}
 use Rattle.lc_explain.specs.Laws.{IsSaidKept}
 use Rattle.lc_explain.specs.declared.explain_options.ExplainOptions.{ExplainOptions}
 use Rattle.lc_level.specs.Answers.{Tree}
-use Rattle.lc_level.specs.Level.{Reason, named_git, by_rule, by_attribute, other_kind}
+use Rattle.lc_level.specs.Level.{Reason, named_git, by_rule, by_attribute, not_included, other_kind}
 use Rattle.lc_level.specs.OneAnswer.{GivesOne}
-use Rattle.lc_level.specs.RuleReads.{shared}
-use Rattle.lc_rules.specs.IgnoreRules.{rules_of}
 use Rattle.lc_text.specs.PathLines.{is_bad_path}
 use Rattle.lc_tree.specs.Trees.{Listings, Contents}
 use Rattle.lc_tree.specs.declared.entry.Kind.{Kind}
 use Rattle.lc_walk.specs.GivenAnswers.{HasListings, IsReportBy}
-use Rattle.lc_walk.specs.WalkOptions.{asked_by, top_of}
+use Rattle.lc_walk.specs.WalkOptions.{asked_by, top_of, top_rules_of as walk_rules_of}
 use Rattle.lc_walk.specs.Walks.{Walks}
 use Rattle.lc_walk.specs.declared.options.Options.{Options}
 use Rattle.lc_walk.specs.declared.report.Report.{Report}
@@ -22,20 +20,21 @@ use Rattle.lc_laws.specs.ByAnswers.{SaysBy, AgreeOnWay, IsEntryBy}
 use Rattle.lc_laws.specs.Entries.{IsEntry}
 use Rattle.lc_laws.specs.ReportedPaths.{IsCounted, IsSkipped, IsKept, IsSkippedAbove}
 
--- a count of the whole tree that lists its files and what it leaves out, and an explanation by the same attributes and the same exclude
--- file
+-- a count of the whole tree that lists its files and what it leaves out, and an explanation by the same attributes and patterns, and the
+-- same rules for the whole tree
 pub record AskAlike (o : Options) (q : ExplainOptions) : Type 0 where
   pub files : o.lists.files ≡ true
   pub left_out : o.lists.left_out ≡ true
   pub selection : (asked_by o).selection ≡ q.selection
   pub whole : q.selection.only ≡ []
-  pub exclude : shared o.exclude ≡ option_map rules_of q.exclude
+  pub rules : walk_rules_of o ≡ top_rules_of q
 
 -- it is said to be left out for a reason: ignored by that rule, or left
 abbrev pub IsSaidSkipped : Reason → Explanation → Type 0
 IsSaidSkipped named_git x = x ≡ left_out named_git
 IsSaidSkipped (by_rule source line) x = (text : List ℕ) × (x ≡ ignored (record { source = source; line = line; text = text }))
 IsSaidSkipped (by_attribute name) x = x ≡ left_out (by_attribute name)
+IsSaidSkipped not_included x = x ≡ left_out not_included
 IsSaidSkipped other_kind x = x ≡ left_out other_kind
 
 -- what is said of an entry tells where the report has it: a fault that is said is one of the report; by a rule that is said to ignore

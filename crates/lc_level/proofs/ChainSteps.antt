@@ -1,17 +1,17 @@
 -- What both chains are by a directory's rule files.
-use Rattle.std.proofs.Common.{◌≡◌, ℕ, refl, ap, ◌∙◌, Option, Some, None, subst, [], List}
+use Rattle.std.proofs.Common.{◌≡◌, ℕ, Bool, refl, ap, ◌∙◌, Option, Some, None, subst, [], List}
 use Rattle.std.specs.Result.{IfOk}
 use Rattle.std.specs.declared.sync.Arc.{Arc}
 use Rattle.std.specs.Prelude.{Result}
 use Rattle.lc_rules.specs.AttrChains.{no_files, with_tree_file, with_info_file}
 use Rattle.lc_rules.specs.AttrLines.{AttrFileModel}
 use Rattle.lc_rules.specs.AttrStates.{AttrChainModel}
-use Rattle.lc_rules.specs.IgnoreChains.{ChainModel, no_ignore_files, with_exclude, with_info, with_own}
+use Rattle.lc_rules.specs.IgnoreChains.{ChainModel, no_ignore_files, with_command_line, with_exclude, with_info, with_no_ignore, with_own}
 use Rattle.lc_rules.specs.IgnoreRules.{RuleModel}
 use Rattle.lc_level.specs.Job.{JobModel}
 use Rattle.lc_level.specs.RuleFiles.{with_file_at, first_of}
 use Rattle.lc_level.specs.RuleReads.{shared}
-use Rattle.lc_level.specs.TopJob.{top_job}
+use Rattle.lc_level.specs.TopJob.{TopRulesModel, top_job}
 
 module _ {A B : Type 0} (depth : ℕ) where
   module _ (chain below new : ChainModel) (own : Option (Arc (List RuleModel) A)) (info : Option (Arc (List RuleModel) B))
@@ -57,16 +57,23 @@ module _ {A B : Type 0} (depth : ℕ) where
 abbrev parts_of : List ℕ → ChainModel → AttrChainModel → JobModel
 parts_of path ignore attributes = record { path = path; ignore = ignore; attributes = attributes }
 
--- where a walk begins, by its parts
-pub top_by : {A E : Type 0} (exclude : Option (Arc (List RuleModel) A)) (path : List ℕ) (ignore : ChainModel)
-    (attributes : AttrChainModel) (r : Result JobModel E) → path ≡ [] → ignore ≡ with_exclude no_ignore_files exclude
-    → attributes ≡ no_files → IfOk r (λ j. j ≡ parts_of path ignore attributes) → IfOk r (λ j. j ≡ top_job (shared exclude))
-top_by {A} exclude path ignore attributes r is_path is_ignore is_attributes made =
-    subst (λ (k : JobModel). IfOk r (λ j. j ≡ k)) (parts ∙ at exclude) made
-  where
-    parts : parts_of path ignore attributes ≡ parts_of [] (with_exclude no_ignore_files exclude) no_files
-    parts = cc
+-- the chain of the top, with these rules beside those of its own files
+pub chain_of_top : {A B : Type 0} (exclude : Option (Arc (List RuleModel) A)) (command_line : Option (Arc (List RuleModel) B))
+    (no_ignore : Bool) → with_no_ignore (with_command_line (with_exclude no_ignore_files exclude) command_line) no_ignore
+    ≡ (top_job (record { exclude = shared exclude; command_line = shared command_line; no_ignore = no_ignore })).ignore
+chain_of_top None None no_ignore = refl
+chain_of_top None (Some patterns) no_ignore = refl
+chain_of_top (Some file) None no_ignore = refl
+chain_of_top (Some file) (Some patterns) no_ignore = refl
 
-    at : (e : Option (Arc (List RuleModel) A)) → parts_of [] (with_exclude no_ignore_files e) no_files ≡ top_job (shared e)
-    at None = refl
-    at (Some file) = refl
+-- where a walk begins, by its parts
+pub top_by : {E : Type 0} (rules : TopRulesModel) (path : List ℕ) (ignore : ChainModel) (attributes : AttrChainModel)
+    (r : Result JobModel E) → path ≡ [] → ignore ≡ (top_job rules).ignore → attributes ≡ no_files
+    → IfOk r (λ j. j ≡ parts_of path ignore attributes) → IfOk r (λ j. j ≡ top_job rules)
+top_by rules path ignore attributes r is_path is_ignore is_attributes made =
+    subst (λ (k : JobModel). IfOk r (λ j. j ≡ k)) parts made
+  where
+    parts : parts_of path ignore attributes ≡ top_job rules
+    parts =
+        ap (λ (p : List ℕ). parts_of p ignore attributes) is_path ∙ ap (λ (i : ChainModel). parts_of [] i attributes) is_ignore
+        ∙ ap (λ (a : AttrChainModel). parts_of [] (top_job rules).ignore a) is_attributes

@@ -8,7 +8,7 @@ use Rattle.lc_level.specs.Answers.{Item, file_item, directory_item, other_item, 
 use Rattle.lc_level.specs.CountedNames.{AreCounted, file_fates}
 use Rattle.lc_level.specs.Job.{JobModel}
 use Rattle.lc_level.specs.Classified.{kept_file, kept_directory, skipped_entry}
-use Rattle.lc_level.specs.Level.{Fate, is_taken}
+use Rattle.lc_level.specs.Level.{Fate, is_counted}
 use Rattle.lc_level.specs.Level.{file_fate, fates_of, counted_of, failed_of, counted_in, failed_in}
 use Rattle.lc_level.specs.Selection.{SelectionModel}
 use Rattle.lc_tree.specs.Listing.{EntryModel}
@@ -41,7 +41,7 @@ taking_part t items = filter (λ item. t (entry_of item)) items
 module _ (s : SelectionModel) (k : JobModel) (t : EntryModel → Bool) where
   -- whether a file is counted: it takes part and is left in
   abbrev pub counts : List ℕ → Bool
-  counts n = t (record { name = n; kind = File }) && is_taken s k n false
+  counts n = t (record { name = n; kind = File }) && is_counted s k n
 
   -- the items, with these results of the files that are counted, in order
   abbrev pub counted_items : List Item → Results → List Item
@@ -85,7 +85,7 @@ module _ (s : SelectionModel) (k : JobModel) (t : EntryModel → Bool) where
   names_one n c rules items = at (t (record { name = n; kind = File }))
     where
       at : (b : Bool) → flat_map (kept_file s k) (entries_of (cond b (file_item n c rules ∷ taking_part t items) (taking_part t items)))
-          ≡ cond (b && is_taken s k n false) (n ∷ []) [] ++ kept_names items
+          ≡ cond (b && is_counted s k n) (n ∷ []) [] ++ kept_names items
       at true = refl
       at false = refl
 
@@ -153,12 +153,12 @@ module _ (s : SelectionModel) (k : JobModel) (t : EntryModel → Bool) where
           (taking_part t (counted_items s k t items (results_after (counts s k t n) rs)))
           ≡ counted_items s k all_take_part (cond b (file_item n c rules ∷ taking_part t items) (taking_part t items)) rs
       at true e more =
-          ap (λ b. file_item n (result_next (b && is_taken s k n false) c rs) rules
-          ∷ taking_part t (counted_items s k t items (results_after (b && is_taken s k n false) rs))) e
-          ∙ ap (λ l. file_item n (result_next (is_taken s k n false) c rs) rules ∷ l)
-          (more (results_after (is_taken s k n false) rs))
+          ap (λ b. file_item n (result_next (b && is_counted s k n) c rs) rules
+          ∷ taking_part t (counted_items s k t items (results_after (b && is_counted s k n) rs))) e
+          ∙ ap (λ l. file_item n (result_next (is_counted s k n) c rs) rules ∷ l)
+          (more (results_after (is_counted s k n) rs))
       at false e more =
-          ap (λ b. taking_part t (counted_items s k t items (results_after (b && is_taken s k n false) rs))) e
+          ap (λ b. taking_part t (counted_items s k t items (results_after (b && is_counted s k n) rs))) e
           ∙ more rs
   part_counted (directory_item n ∷ items) rs = at (t (record { name = n; kind = Dir })) (part_counted items rs)
     where
@@ -183,7 +183,7 @@ module _ (s : SelectionModel) (k : JobModel) where
   pub same_children : (items : List Item) (rs : Results)
       → flat_map (children_by s k) (counted_all items rs) ≡ flat_map (children_by s k) items
   same_children [] rs = refl
-  same_children (file_item n c rules ∷ items) rs = same_children items (results_after (is_taken s k n false) rs)
+  same_children (file_item n c rules ∷ items) rs = same_children items (results_after (is_counted s k n) rs)
   same_children (directory_item n ∷ items) rs = ap (λ l. children_by s k (directory_item n) ++ l) (same_children items rs)
   same_children (other_item n ∷ items) rs = same_children items rs
 
@@ -192,14 +192,14 @@ module _ (s : SelectionModel) (k : JobModel) where
       → flat_map (skipped_by_item s k) (counted_all items rs) ≡ flat_map (skipped_by_item s k) items
   same_skipped [] rs = refl
   same_skipped (file_item n c rules ∷ items) rs =
-      ap (λ l. skipped_by_item s k (file_item n c rules) ++ l) (same_skipped items (results_after (is_taken s k n false) rs))
+      ap (λ l. skipped_by_item s k (file_item n c rules) ++ l) (same_skipped items (results_after (is_counted s k n) rs))
   same_skipped (directory_item n ∷ items) rs = ap (λ l. skipped_by_item s k (directory_item n) ++ l) (same_skipped items rs)
   same_skipped (other_item n ∷ items) rs = ap (λ l. skipped_by_item s k (other_item n) ++ l) (same_skipped items rs)
 
   -- there are as many
   pub same_number : (items : List Item) (rs : Results) → length (counted_all items rs) ≡ length items
   same_number [] rs = refl
-  same_number (file_item n c rules ∷ items) rs = ap suc (same_number items (results_after (is_taken s k n false) rs))
+  same_number (file_item n c rules ∷ items) rs = ap suc (same_number items (results_after (is_counted s k n) rs))
   same_number (directory_item n ∷ items) rs = ap suc (same_number items rs)
   same_number (other_item n ∷ items) rs = ap suc (same_number items rs)
 
@@ -225,7 +225,7 @@ module _ (s : SelectionModel) (k : JobModel) where
       flat_map (files_by s k) (counted_all items rs) ≡ counted_in (file_fates k (names_in items) rs)
   files_of_items gives [] rs a = refl
   files_of_items gives (file_item n c rules ∷ items) rs a =
-      let t = is_taken s k n false in
+      let t = is_counted s k n in
       ap (λ l. cond t (counted_by k n (result_next t c rs)) [] ++ l)
       (files_of_items gives items (results_after t rs) (counted_one s k all_take_part gives n c (names_in items) t rs a))
       ∙ sym (fates_one counted_of gives n c (names_in items) t rs a)
@@ -237,7 +237,7 @@ module _ (s : SelectionModel) (k : JobModel) where
       flat_map (faults_by s k) (counted_all items rs) ≡ failed_in (file_fates k (names_in items) rs)
   faults_of_items gives [] rs a = refl
   faults_of_items gives (file_item n c rules ∷ items) rs a =
-      let t = is_taken s k n false in
+      let t = is_counted s k n in
       ap (λ l. cond t (fault_by k n (result_next t c rs)) [] ++ l)
       (faults_of_items gives items (results_after t rs) (counted_one s k all_take_part gives n c (names_in items) t rs a))
       ∙ sym (fates_one failed_of gives n c (names_in items) t rs a)

@@ -1,6 +1,6 @@
 -- The level of a directory, by what opening it and counting its files answered.
 use Rattle.std.proofs.Common.{◌≡◌, ℕ, Bool, true, false, ◌&&◌, List, [], ◌++◌, length, refl, sym, ◌∙◌, ap, subst}
-use Rattle.std.proofs.Common.{Ok, if◌then◌else◌, codes}
+use Rattle.std.proofs.Common.{Ok, None, cond, if◌then◌else◌, codes}
 use Rattle.std.specs.List.{filter, flat_map, list_any, AllByRecursion}
 use Rattle.lc_glob.specs.Path.{path_in}
 use Rattle.lc_level.specs.Answers.{Item, Items, Answers, entries_of}
@@ -17,7 +17,7 @@ use Rattle.lc_level.specs.Selection.{SelectionModel}
 use Rattle.lc_tree.specs.Listing.{EntryModel, IsListing}
 use Rattle.lc_level.specs.WellFormed.{IsWellFormed, listed_in}
 use Rattle.lc_level.specs.Opens.{IsOpened}
-use Rattle.lc_level.specs.RuleFiles.{file_named, has_git, is_top, and_then, both_read, info_items, info_bytes, own_bytes}
+use Rattle.lc_level.specs.RuleFiles.{file_named, ignore_named, has_git, is_top, and_then, both_read, info_items, info_bytes, own_bytes}
 use Rattle.lc_level.specs.RuleFiles.{rule_bytes}
 use Rattle.lc_level.specs.TreeAnswers.{MayHave, MayList, MayAnswer, items_of}
 use Rattle.lc_tree.specs.Trees.{Listings, Contents}
@@ -98,20 +98,20 @@ module _ (lists : List ℕ → Listings) (gives : List ℕ → Contents) (left_o
     same_git : has_git j.path items ≡ has_git j.path found
     same_git = ap (λ b. is_top j.path && b) (same_directory s o.job in_part (codes ".git") found f.results)
 
-    same_own : own_bytes j.path items ≡ own_bytes j.path found
+    same_own : own_bytes j.ignore.no_ignore j.path items ≡ own_bytes j.ignore.no_ignore j.path found
     same_own =
-        ap (λ x. both_read (path_in j.path (codes ".gitignore")) x (path_in j.path (codes ".gitattributes"))
+        ap (λ x. both_read (path_in j.path (codes ".gitignore")) (cond j.ignore.no_ignore None x) (path_in j.path (codes ".gitattributes"))
         (file_named (codes ".gitattributes") items))
         (same_file s o.job in_part (codes ".gitignore") found f.results)
-        ∙ ap (λ x. both_read (path_in j.path (codes ".gitignore")) (file_named (codes ".gitignore") found)
+        ∙ ap (λ x. both_read (path_in j.path (codes ".gitignore")) (ignore_named j.ignore.no_ignore (codes ".gitignore") found)
         (path_in j.path (codes ".gitattributes")) x)
         (same_file s o.job in_part (codes ".gitattributes") found f.results)
 
-    same_rules : rule_bytes j.path items answers ≡ Ok c.inside.bytes
+    same_rules : rule_bytes j.ignore.no_ignore j.path items answers ≡ Ok c.inside.bytes
     same_rules =
-        ap (λ b. and_then (and_then (info_items b answers) info_bytes)
-        (λ i. and_then (own_bytes j.path items) (λ w. Ok (record { info = i; own = w })))) same_git
-        ∙ ap (λ r. and_then (and_then (info_items (has_git j.path found) answers) info_bytes)
+        ap (λ b. and_then (and_then (info_items b answers) (info_bytes j.ignore.no_ignore))
+        (λ i. and_then (own_bytes j.ignore.no_ignore j.path items) (λ w. Ok (record { info = i; own = w })))) same_git
+        ∙ ap (λ r. and_then (and_then (info_items (has_git j.path found) answers) (info_bytes j.ignore.no_ignore))
         (λ i. and_then r (λ w. Ok (record { info = i; own = w })))) same_own
         ∙ c.inside.read
 

@@ -16,7 +16,7 @@ any_entry p (i ∷ is) = ap (λ b. p (entry_of i) || b) (any_entry p is)
 
 -- it has one where an entry that takes part is, by the directory with its rule files
 pub deep_by_entries : (s : SelectionModel) (j k : JobModel) (a : Answers) (items : List Item) (bytes : RuleBytes) → a.here ≡ Ok items
-    → rule_bytes j.path items a ≡ Ok bytes → k ≡ extended j bytes
+    → rule_bytes j.ignore.no_ignore j.path items a ≡ Ok bytes → k ≡ extended j bytes
     → has_too_deep s j a ≡ list_any (is_too_deep s k) (filter (takes_part s.only j.path) (entries_of items))
 deep_by_entries s j k a items bytes here read extends =
     ap (too_deep_among s j a) here ∙ ap (some_too_deep s j items) read

@@ -96,22 +96,24 @@ module _ (lists : List ℕ → Listings) (gives : List ℕ → Contents)
   is_well_formed given a = subst IsListing (sym (entries_items (any_count lists gives some_content j.path) given es)) is_listing
 
   -- what reading the rule files gives, by the two parts of it
-  bytes_by : (given : AsRules) (a : Answers) (r : Result Pair FaultLineModel) → and_then (info_items there a) info_bytes ≡ r →
-      rule_bytes j.path (own_items given) (answers given a)
-      ≡ and_then r (λ i. and_then (own_bytes j.path (own_items given)) (λ o. Ok (record { info = i; own = o })))
+  bytes_by : (given : AsRules) (a : Answers) (r : Result Pair FaultLineModel)
+      → and_then (info_items there a) (info_bytes j.ignore.no_ignore) ≡ r →
+      rule_bytes j.ignore.no_ignore j.path (own_items given) (answers given a)
+      ≡ and_then r (λ i. and_then (own_bytes j.ignore.no_ignore j.path (own_items given)) (λ o. Ok (record { info = i; own = o })))
   bytes_by given a r e =
-      ap (λ b. and_then (and_then (info_items b a) info_bytes)
-      (λ i. and_then (own_bytes j.path (own_items given)) (λ o. Ok (record { info = i; own = o })))) (git_there given)
-      ∙ ap (λ s. and_then s (λ i. and_then (own_bytes j.path (own_items given)) (λ o. Ok (record { info = i; own = o })))) e
+      ap (λ b. and_then (and_then (info_items b a) (info_bytes j.ignore.no_ignore))
+      (λ i. and_then (own_bytes j.ignore.no_ignore j.path (own_items given)) (λ o. Ok (record { info = i; own = o })))) (git_there given)
+      ∙ ap (λ s. and_then s (λ i. and_then (own_bytes j.ignore.no_ignore j.path (own_items given))
+      (λ o. Ok (record { info = i; own = o })))) e
 
   -- a fault of `.git`, or of the directory's own files, is the level
   fault_level : (given : AsRules) (a : Answers) (path : List ℕ) (word : FaultWord) →
-      rule_bytes j.path (own_items given) (answers given a) ≡ Err (record { path = path; word = word })
+      rule_bytes j.ignore.no_ignore j.path (own_items given) (answers given a) ≡ Err (record { path = path; word = word })
       → (s : SelectionModel) → level s j (answers given a) ≡ faulted_level path word
   fault_level given a path word e s = ap (level_after s j (own_items given)) e
 
   -- a refusal of `.git/info` is one of the directory
-  pub info_refused : (u : OpenFault) → ReadsGit lists gives texts there (Err u) → EntersLevel lists gives j texts (Err u)
+  pub info_refused : (u : OpenFault) → ReadsGit lists gives j.ignore.no_ignore texts there (Err u) → EntersLevel lists gives j texts (Err u)
   info_refused (Faulted site word) (a, git, is) = (
     answers own_rules a,
     may_answer own_rules (may_rules lists gives some_content j.path) a git,
@@ -125,16 +127,17 @@ module _ (lists : List ℕ → Listings) (gives : List ℕ → Contents)
   -- ---- the directory's own two files
 
   abbrev ReadsOwn : Result PairRead OpenFault → Type 0
-  ReadsOwn r = ReadsBoth gives (own_asked texts j.path es) r
+  ReadsOwn r = ReadsBoth gives (own_asked j.ignore.no_ignore texts j.path es) r
 
   abbrev OwnGiven : Result PairRead OpenFault → Type 0
-  OwnGiven r = PairGiven gives (own_asked texts j.path es) refl own_rules (may_rules lists gives some_content j.path) r
+  OwnGiven r = PairGiven gives (own_asked j.ignore.no_ignore texts j.path es) refl own_rules (may_rules lists gives some_content j.path) r
 
   own_given : (r : Result PairRead OpenFault) → ReadsOwn r → OwnGiven r
-  own_given r reads = pair_given gives (own_asked texts j.path es) refl own_rules (may_rules lists gives some_content j.path) r reads
+  own_given r reads = pair_given gives (own_asked j.ignore.no_ignore texts j.path es) refl own_rules
+      (may_rules lists gives some_content j.path) r reads
 
   -- so is one of its own rule files
-  pub own_refused : (info : PairRead) → ReadsGit lists gives texts there (Ok info) → (u : OpenFault) → ReadsOwn (Err u)
+  pub own_refused : (info : PairRead) → ReadsGit lists gives j.ignore.no_ignore texts there (Ok info) → (u : OpenFault) → ReadsOwn (Err u)
       → EntersLevel lists gives j texts (Err u)
   own_refused info (a, git, (i, are, is)) u reads = at u (own_given (Err u) reads)
     where
@@ -145,7 +148,7 @@ module _ (lists : List ℕ → Listings) (gives : List ℕ → Contents)
         is_well_formed given a,
         fault_level given a (site_path j.path site) word
             (bytes_by given a (Ok i) is
-            ∙ and_then_err (own_bytes j.path (own_items given)) (record { path = site_path j.path site; word = word })
+            ∙ and_then_err (own_bytes j.ignore.no_ignore j.path (own_items given)) (record { path = site_path j.path site; word = word })
             (λ o. Ok (record { info = i; own = o }))
             (e (site_path j.path) (any_count lists gives some_content j.path))),
       )
@@ -162,10 +165,12 @@ module _ (lists : List ℕ → Listings) (gives : List ℕ → Contents)
     pub own_bytes : Pair
     pub info_are : IsReadOf texts true info info_bytes
     pub own_are : IsReadOf texts (is_top j.path) own own_bytes
-    pub read : rule_bytes j.path (own_items given) (answers given git_answers) ≡ Ok (record { info = info_bytes; own = own_bytes })
+    pub read : rule_bytes j.ignore.no_ignore j.path (own_items given) (answers given git_answers)
+        ≡ Ok (record { info = info_bytes; own = own_bytes })
 
   -- what was read, where neither was refused
-  pub has_read : (info own : PairRead) → ReadsGit lists gives texts there (Ok info) → ReadsOwn (Ok own) → HasRead info own
+  pub has_read : (info own : PairRead) → ReadsGit lists gives j.ignore.no_ignore texts there (Ok info) → ReadsOwn (Ok own)
+      → HasRead info own
   has_read info own (a, git, (i, are, is)) reads =
       let g = own_given (Ok own) reads in
       record {
@@ -178,7 +183,7 @@ module _ (lists : List ℕ → Listings) (gives : List ℕ → Contents)
         info_are = are;
         own_are = g.2.1;
         read = bytes_by g.0 a (Ok i) is
-            ∙ and_then_ok (own_bytes j.path (own_items g.0)) g.2.0 (λ o. Ok (record { info = i; own = o }))
+            ∙ and_then_ok (own_bytes j.ignore.no_ignore j.path (own_items g.0)) g.2.0 (λ o. Ok (record { info = i; own = o }))
             (g.2.2 (path_in j.path (codes ".gitignore")) (path_in j.path (codes ".gitattributes"))
             (any_count lists gives some_content j.path));
       }

@@ -1,5 +1,5 @@
 -- The tree of a small node of memory.
-use Rattle.std.proofs.Common.{◌≡◌, ℕ, List, [], ◌∷◌, ◌++◌, map, refl, sym, ◌∙◌, ap, Some, None, Vec, Ok, Err, codes}
+use Rattle.std.proofs.Common.{◌≡◌, ℕ, List, [], ◌∷◌, ◌++◌, map, refl, sym, ◌∙◌, ap, Some, Vec, Ok, Err, codes}
 use Rattle.std.specs.Prelude.{option_and_then}
 use Rattle.std.specs.declared.alloc.Global.{Global}
 use Rattle.lc_level.specs.Answers.{Item, file_item, directory_item, other_item, Items, entry_of}
@@ -14,7 +14,7 @@ use Rattle.lc_glob.specs.IsMatch as IsMatch
 use Rattle.lc_rules.specs.Decision as Decision
 use Rattle.lc_level.specs.Level.{by_attribute, level_of}
 use Rattle.lc_level.specs.Selection.{SelectionModel}
-use Rattle.lc_level.specs.TopJob.{top_job}
+use Rattle.lc_level.specs.TopJob.{top_job, own_rules}
 use Rattle.lc_level.specs.FileAnswers.{census}
 use Rattle.lc_level.specs.NodeTrees.{item_by, item_of, listing_within, told_items, items_at, tree_of_node}
 use Rattle.lc_tree.specs.Listed.{listed}
@@ -68,7 +68,7 @@ module _ (alloc : Global) where
 
   -- what the directory's entries become, by its listing
   abbrev names_of_listing : SelectionModel → Items → Names
-  names_of_listing s here = names_in (level_of s (top_job None) (tree_of_node (small_node alloc) []) here)
+  names_of_listing s here = names_in (level_of s (top_job own_rules) (tree_of_node (small_node alloc) []) here)
 
   -- what its level counts, fails at, walks and leaves out
   pub names_are : small_names alloc as_it_is ≡ small_as_it_is

@@ -6,7 +6,9 @@ use Rattle.lc_census.specs.declared.line_count.Count.{Count}
 use Rattle.lc_level.specs.Answers.{Item, file_item, directory_item, other_item, name_of, entry_of}
 use Rattle.lc_level.specs.Job.{JobModel}
 use Rattle.lc_level.specs.Level.{CountedModel, FileFaultModel, Reason, other_kind, SkippedModel, Fate, walked, skipped, reason_of}
-use Rattle.lc_level.specs.Level.{is_taken, child_job, file_fate, fate_of, fates_of, counted_of, failed_of, walked_of, skipped_of}
+use Rattle.lc_level.specs.Level.{file_reason}
+use Rattle.lc_level.specs.Level.{is_taken, is_counted, child_job, file_fate, fate_of, fates_of, counted_of, failed_of, walked_of}
+use Rattle.lc_level.specs.Level.{skipped_of}
 use Rattle.lc_level.specs.Level.{counted_in, failed_in, walked_in, skipped_in}
 use Rattle.lc_level.specs.Classified.{skipped_by, skipped_entry}
 use Rattle.lc_level.specs.Selection.{SelectionModel}
@@ -23,12 +25,12 @@ fault_by j name count = failed_of (name, file_fate j name count)
 
 -- what an item gives
 abbrev pub files_by : SelectionModel → JobModel → Item → List CountedModel
-files_by s j (file_item name count rules) = cond (is_taken s j name false) (counted_by j name count) []
+files_by s j (file_item name count rules) = cond (is_counted s j name) (counted_by j name count) []
 files_by s j (directory_item name) = []
 files_by s j (other_item name) = []
 
 abbrev pub faults_by : SelectionModel → JobModel → Item → List FileFaultModel
-faults_by s j (file_item name count rules) = cond (is_taken s j name false) (fault_by j name count) []
+faults_by s j (file_item name count rules) = cond (is_counted s j name) (fault_by j name count) []
 faults_by s j (directory_item name) = []
 faults_by s j (other_item name) = []
 
@@ -56,12 +58,12 @@ skipped_by_item s j item = skipped_entry true s j (entry_of item)
 
 module _ (s : SelectionModel) (j : JobModel) where
   counted_one : (item : Item) → counted_of (name_of item, fate_of s j item) ≡ files_by s j item
-  counted_one (file_item n r rules) = none_or counted_of n File (file_fate j n r) (λ reason. refl) (reason_of s j n false)
+  counted_one (file_item n r rules) = none_or counted_of n File (file_fate j n r) (λ reason. refl) (file_reason s j n)
   counted_one (directory_item n) = nothing counted_of n Dir (walked (child_job j n)) (λ reason. refl) refl (reason_of s j n true)
   counted_one (other_item n) = nothing counted_of n Other (skipped Other other_kind) (λ reason. refl) refl (reason_of s j n false)
 
   failed_one : (item : Item) → failed_of (name_of item, fate_of s j item) ≡ faults_by s j item
-  failed_one (file_item n r rules) = none_or failed_of n File (file_fate j n r) (λ reason. refl) (reason_of s j n false)
+  failed_one (file_item n r rules) = none_or failed_of n File (file_fate j n r) (λ reason. refl) (file_reason s j n)
   failed_one (directory_item n) = nothing failed_of n Dir (walked (child_job j n)) (λ reason. refl) refl (reason_of s j n true)
   failed_one (other_item n) = nothing failed_of n Other (skipped Other other_kind) (λ reason. refl) refl (reason_of s j n false)
 
@@ -75,13 +77,13 @@ module _ (s : SelectionModel) (j : JobModel) where
   no_child n (Err word) = refl
 
   walked_one : (item : Item) → walked_of (name_of item, fate_of s j item) ≡ children_by s j item
-  walked_one (file_item n r rules) = nothing walked_of n File (file_fate j n r) (λ reason. refl) (no_child n r) (reason_of s j n false)
+  walked_one (file_item n r rules) = nothing walked_of n File (file_fate j n r) (λ reason. refl) (no_child n r) (file_reason s j n)
   walked_one (directory_item n) = none_or walked_of n Dir (walked (child_job j n)) (λ reason. refl) (reason_of s j n true)
   walked_one (other_item n) = nothing walked_of n Other (skipped Other other_kind) (λ reason. refl) refl (reason_of s j n false)
 
   -- what is left out is left for the reason that the entry has
   skipped_one : (item : Item) → skipped_of (name_of item, fate_of s j item) ≡ skipped_by_item s j item
-  skipped_one (file_item n r rules) = at (reason_of s j n false)
+  skipped_one (file_item n r rules) = at (file_reason s j n)
     where
       at : (o : Option Reason) → skipped_of (n, option_map_or (skipped File) o (file_fate j n r)) ≡ skipped_by n File o
       at None = none_left n r

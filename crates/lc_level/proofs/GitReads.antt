@@ -27,18 +27,24 @@ abbrev asked : Items → Items → Answers
 asked git info = record { here = Ok []; git = git; info = info }
 
 -- the two rule files of `.git/info`, in a directory of these entries
-abbrev pub info_asked : Bool → List ℕ → List EntryModel → PairAsked
-info_asked texts directory entries = record {
+abbrev pub info_asked : (no_ignore texts : Bool) → List ℕ → List EntryModel → PairAsked
+info_asked no_ignore texts directory entries = record {
   directory = directory;
   entries = entries;
   rules = record { name = codes "exclude"; site = InfoExclude };
   attributes = record { name = codes "attributes"; site = InfoAttributes };
   top = true;
+  no_ignore = no_ignore;
   texts = texts;
 }
 
 abbrev nothing_read : PairRead
 nothing_read = record { files = record { rules = None; attributes = None }; text = None }
+
+-- nothing is read of no items
+none_read : (no_ignore : Bool) → info_bytes no_ignore [] ≡ Ok (record { rules = None; attributes = None })
+none_read true = refl
+none_read false = refl
 
 no_text : (texts : Bool) → None ≡ text_if texts None
 no_text true = refl
@@ -84,29 +90,31 @@ module _ (lists : List ℕ → Listings) (gives : List ℕ → Contents)
   has_info : (es : List EntryModel) → has_directory (codes "info") (git_items es) ≡ has_dir (codes "info") es
   has_info es = directory_items (any_count (codes ".git")) (any_rules (codes ".git")) (codes "info") es
 
-  -- reading goes on by what stands in `.git/info`
-  by_info : (es : List EntryModel) (info : Items) (b : Bool) → has_dir (codes "info") es ≡ b →
-      and_then (info_items true (asked (Ok (git_items es)) info)) info_bytes ≡ and_then (listing b (codes ".git/info") info) info_bytes
-  by_info es info b e = ap (λ t. and_then (listing t (codes ".git/info") info) info_bytes) (has_info es ∙ e)
+  module _ (no_ignore : Bool) where
+    -- reading goes on by what stands in `.git/info`
+    by_info : (es : List EntryModel) (info : Items) (b : Bool) → has_dir (codes "info") es ≡ b →
+        and_then (info_items true (asked (Ok (git_items es)) info)) (info_bytes no_ignore)
+        ≡ and_then (listing b (codes ".git/info") info) (info_bytes no_ignore)
+    by_info es info b e = ap (λ t. and_then (listing t (codes ".git/info") info) (info_bytes no_ignore)) (has_info es ∙ e)
 
-  module _ (texts : Bool) where
-    at_true : (there : Bool) (r : Result PairRead OpenFault) → there ≡ true → ReadsGit lists gives texts true r
-        → ReadsGit lists gives texts there r
-    at_true there r e k = subst (λ b. ReadsGit lists gives texts b r) (sym e) k
+  module _ (no_ignore texts : Bool) where
+    at_true : (there : Bool) (r : Result PairRead OpenFault) → there ≡ true → ReadsGit lists gives no_ignore texts true r
+        → ReadsGit lists gives no_ignore texts there r
+    at_true there r e k = subst (λ b. ReadsGit lists gives no_ignore texts b r) (sym e) k
 
     -- where there is no `.git` nothing is read
     pub no_git : (there : Bool) (read : PairRead) → there ≡ false → read ≡ nothing_read
-        → ReadsGit lists gives texts there (Ok read)
+        → ReadsGit lists gives no_ignore texts there (Ok read)
     no_git there read e none =
-        subst (λ b. ReadsGit lists gives texts b (Ok read)) (sym e) (
+        subst (λ b. ReadsGit lists gives no_ignore texts b (Ok read)) (sym e) (
           asked (Ok []) (Ok []),
           record { git = λ t. absurd (clash t refl); info = λ t h. absurd (clash t refl) },
-          (record { rules = None; attributes = None }, no_files texts read none, refl),
+          (record { rules = None; attributes = None }, no_files texts read none, none_read no_ignore),
         )
 
     -- a fault of `.git`
     pub git_fault : (there : Bool) (site : FaultSite) (word : FaultWord) → there ≡ true → site ≡ Git → FailsBy (lists (codes ".git")) word
-        → ReadsGit lists gives texts there (Err (Faulted site word))
+        → ReadsGit lists gives no_ignore texts there (Err (Faulted site word))
     git_fault there site word e is l =
         at_true there (Err (Faulted site word)) e (
           asked (Err word) (Ok []),
@@ -116,7 +124,7 @@ module _ (lists : List ℕ → Listings) (gives : List ℕ → Contents)
 
     -- the same, by how the listing was refused
     pub git_refused : (there : Bool) (u : OpenFault) → there ≡ true → ListsFor (lists (codes ".git")) Git (Err u)
-        → ReadsGit lists gives texts there (Err u)
+        → ReadsGit lists gives no_ignore texts there (Err u)
     git_refused there (Faulted site word) e (is, l) = git_fault there site word e is l
     git_refused there Memory e l = tt
     git_refused there TooDeep e l = absurd l
@@ -124,30 +132,34 @@ module _ (lists : List ℕ → Listings) (gives : List ℕ → Contents)
     -- where `.git` has no `info` nothing is read
     pub no_info : (there : Bool) (es : List EntryModel) (read : PairRead) → there ≡ true → lists (codes ".git") (Ok es)
         → has_dir (codes "info") es ≡ false →
-        read ≡ nothing_read → ReadsGit lists gives texts there (Ok read)
+        read ≡ nothing_read → ReadsGit lists gives no_ignore texts there (Ok read)
     no_info there es read e l absent none =
         at_true there (Ok read) e (
           asked (Ok (git_items es)) (Ok []),
           record { git = λ t. may_git es l; info = λ t h. absurd (clash h (has_info es ∙ absent)) },
-          (record { rules = None; attributes = None }, no_files texts read none, by_info es (Ok []) false absent),
+          (
+            record { rules = None; attributes = None },
+            no_files texts read none,
+            by_info no_ignore es (Ok []) false absent ∙ none_read no_ignore,
+          ),
         )
 
     -- a fault of `.git/info`
     pub info_fault : (there : Bool) (es : List EntryModel) (site : FaultSite) (word : FaultWord) → there ≡ true
         → lists (codes ".git") (Ok es) → has_dir (codes "info") es ≡ true →
-        site ≡ GitInfo → FailsBy (lists (codes ".git/info")) word → ReadsGit lists gives texts there (Err (Faulted site word))
+        site ≡ GitInfo → FailsBy (lists (codes ".git/info")) word → ReadsGit lists gives no_ignore texts there (Err (Faulted site word))
     info_fault there es site word e l present is m =
         at_true there (Err (Faulted site word)) e (
           asked (Ok (git_items es)) (Err word),
           record { git = λ t. may_git es l; info = λ t h. m },
-          λ directory. by_info es (Err word) true present
+          λ directory. by_info no_ignore es (Err word) true present
               ∙ ap (λ (p : FaultSite). Err (record { path = site_path directory p; word = word })) (sym is),
         )
 
     -- the same, or want of memory
     pub info_refused : (there : Bool) (es : List EntryModel) (u : OpenFault) → there ≡ true → lists (codes ".git") (Ok es)
         → has_dir (codes "info") es ≡ true →
-        ListsFor (lists (codes ".git/info")) GitInfo (Err u) → ReadsGit lists gives texts there (Err u)
+        ListsFor (lists (codes ".git/info")) GitInfo (Err u) → ReadsGit lists gives no_ignore texts there (Err u)
     info_refused there es (Faulted site word) e l present (is, m) = info_fault there es site word e l present is m
     info_refused there es Memory e l present m = tt
     info_refused there es TooDeep e l present m = absurd m
@@ -156,38 +168,38 @@ module _ (lists : List ℕ → Listings) (gives : List ℕ → Contents)
     info_of fs given = Ok (items_at (any_count (codes ".git/info")) given fs)
 
     abbrev InfoGiven : List EntryModel → Result PairRead OpenFault → Type 0
-    InfoGiven fs r = PairGiven gives (info_asked texts (codes ".git/info") fs) refl (any_rules (codes ".git/info"))
+    InfoGiven fs r = PairGiven gives (info_asked no_ignore texts (codes ".git/info") fs) refl (any_rules (codes ".git/info"))
         (may_rules (codes ".git/info")) r
 
     -- what its two files answered
     pub both_files : (there : Bool) (es fs : List EntryModel) (r : Result PairRead OpenFault) → there ≡ true
         → lists (codes ".git") (Ok es) → has_dir (codes "info") es ≡ true →
         lists (codes ".git/info") (Ok fs) →
-        ReadsBoth gives (info_asked texts (codes ".git/info") fs) r →
-        ReadsGit lists gives texts there r
+        ReadsBoth gives (info_asked no_ignore texts (codes ".git/info") fs) r →
+        ReadsGit lists gives no_ignore texts there r
     both_files there es fs r e l present m reads =
-        at_true there r e (at r (pair_given gives (info_asked texts (codes ".git/info") fs) refl (any_rules (codes ".git/info"))
+        at_true there r e (at r (pair_given gives (info_asked no_ignore texts (codes ".git/info") fs) refl (any_rules (codes ".git/info"))
         (may_rules (codes ".git/info")) r reads))
       where
         may : (given : AsRules) → ((n : List ℕ) → MayReadRules (gives (path_in (codes ".git/info") n)) (given n))
             → MayAnswerGit lists gives true (asked (Ok (git_items es)) (info_of fs given))
         may given k = record { git = λ t. may_git es l; info = λ t h. listed (codes ".git/info") fs given k m }
 
-        at : (o : Result PairRead OpenFault) → InfoGiven fs o → ReadsGit lists gives texts true o
+        at : (o : Result PairRead OpenFault) → InfoGiven fs o → ReadsGit lists gives no_ignore texts true o
         at (Ok read) (given, k, (bytes, are, is)) = (
           asked (Ok (git_items es)) (info_of fs given),
           may given k,
           (
             bytes,
             are,
-            by_info es (info_of fs given) true present ∙ is (codes ".git/info/exclude") (codes ".git/info/attributes")
+            by_info no_ignore es (info_of fs given) true present ∙ is (codes ".git/info/exclude") (codes ".git/info/attributes")
                 (any_count (codes ".git/info")),
           ),
         )
         at (Err (Faulted site word)) (given, k, is) = (
           asked (Ok (git_items es)) (info_of fs given),
           may given k,
-          λ directory. by_info es (info_of fs given) true present
+          λ directory. by_info no_ignore es (info_of fs given) true present
               ∙ is (site_path directory) (any_count (codes ".git/info")),
         )
         at (Err Memory) k = tt

@@ -33,3 +33,4 @@ pub mod SeenPaths
 pub mod Selecting
 pub mod SomeReads
 pub mod WellFormed
+pub mod MatchedParents

@@ -112,9 +112,11 @@ module _ (lists : List ℕ → Listings) (gives : List ℕ → Contents) (one : 
         (λ in_git. listing (has_directory (codes "info") in_git) (codes ".git/info") b.info)) git
 
     -- and the same rules
-    pub same_rules : (items : List Item) → a.here ≡ Ok items → rule_bytes j.path items a ≡ rule_bytes j.path items b
+    pub same_rules : (items : List Item) → a.here ≡ Ok items → rule_bytes j.ignore.no_ignore j.path items a
+        ≡ rule_bytes j.ignore.no_ignore j.path items b
     same_rules items e =
-        ap (λ r. and_then (and_then r info_bytes) (λ i. and_then (own_bytes j.path items) (λ o. Ok (record { info = i; own = o }))))
+        ap (λ r. and_then (and_then r (info_bytes j.ignore.no_ignore))
+        (λ i. and_then (own_bytes j.ignore.no_ignore j.path items) (λ o. Ok (record { info = i; own = o }))))
         (same_info (has_git j.path items) (λ t. ap (λ (l : Items). has_git j.path (items_of l)) e ∙ t))
 
     same_level_of : (o : Items) → a.here ≡ o → level_of s j a o ≡ level_of s j b o

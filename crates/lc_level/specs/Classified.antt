@@ -6,7 +6,7 @@ use Rattle.std.specs.Global.{Global}
 use Rattle.lc_level.specs.Deep.{is_too_deep}
 use Rattle.lc_tree.specs.Kinds.{is_file, is_dir}
 use Rattle.lc_level.specs.Job.{JobModel}
-use Rattle.lc_level.specs.Level.{Reason, other_kind, SkippedModel, reason_for, is_taken, child_job, job_at}
+use Rattle.lc_level.specs.Level.{Reason, other_kind, SkippedModel, reason_for, is_taken, is_counted, child_job, job_at}
 use Rattle.lc_glob.specs.Path.{depth_of, max_depth}
 use Rattle.lc_level.specs.Selection.{SelectionModel}
 use Rattle.lc_tree.specs.Listing.{EntryModel}
@@ -18,7 +18,7 @@ use Rattle.lc_level.specs.declared.open_fault.OpenFault.TheVariants.{Faulted, Me
 
 -- the name of an entry, where it is a file that the rules leave in; the child directory, where it is one that they leave in
 abbrev pub kept_file : SelectionModel → JobModel → EntryModel → List (List ℕ)
-kept_file s j e = cond (is_file e.kind && is_taken s j e.name false) (e.name ∷ []) []
+kept_file s j e = cond (is_file e.kind && is_counted s j e.name) (e.name ∷ []) []
 
 abbrev pub kept_directory : SelectionModel → JobModel → EntryModel → List (List ℕ × JobModel)
 kept_directory s j e = cond (is_dir e.kind && is_taken s j e.name true) ((e.name, child_job j e.name) ∷ []) []

@@ -26,7 +26,7 @@ some_too_deep s j items (Ok files) =
 some_too_deep s j items (Err fault) = false
 
 abbrev pub too_deep_among : SelectionModel → JobModel → Answers → Items → Bool
-too_deep_among s j a (Ok items) = some_too_deep s j items (rule_bytes j.path items a)
+too_deep_among s j a (Ok items) = some_too_deep s j items (rule_bytes j.ignore.no_ignore j.path items a)
 too_deep_among s j a (Err word) = false
 
 -- a directory that is not at fault has such an entry

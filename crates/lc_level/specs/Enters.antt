@@ -23,7 +23,7 @@ module _ (lists : List ℕ → Listings) (gives : List ℕ → Contents) (j : Jo
     pub items : List Item
     pub here : answers.here ≡ Ok items
     pub bytes : RuleBytes
-    pub read : rule_bytes j.path items answers ≡ Ok bytes
+    pub read : rule_bytes j.ignore.no_ignore j.path items answers ≡ Ok bytes
     pub extends : k ≡ extended j bytes
 
   -- by such answers: the directory so, its entries, and the texts of its rules, where texts are kept

@@ -1,5 +1,5 @@
 -- The tree of a node of memory, computed on a small node.
-use Rattle.std.specs.Prelude.{◌≡◌, ℕ, ◌^◌, nat_lt, true, false, List, [], ◌∷◌, ◌++◌, length, map, Vec, Ok, Err, None, refl, codes}
+use Rattle.std.specs.Prelude.{◌≡◌, ℕ, ◌^◌, nat_lt, true, false, List, [], ◌∷◌, ◌++◌, length, map, Vec, Ok, Err, refl, codes}
 use Rattle.std.specs.declared.alloc.Global.{Global}
 use Rattle.std.proofs.Math.Nat.{le_refl}
 use Rattle.std.proofs.lemmas.Bool.{ltb-true}
@@ -11,7 +11,7 @@ use Rattle.lc_level.specs.Level.{named_git, by_rule, by_attribute, other_kind, S
 use Rattle.lc_level.specs.Level.{counted_in, failed_in, walked_in, skipped_in}
 use Rattle.lc_level.specs.NodeTrees.{tree_of_node}
 use Rattle.lc_level.specs.Selection.{SelectionModel, selection_of}
-use Rattle.lc_level.specs.TopJob.{top_job}
+use Rattle.lc_level.specs.TopJob.{top_job, own_rules}
 use Rattle.lc_level.specs.FileAnswers.{census}
 use Rattle.lc_tree.specs.Nodes.{Child}
 use Rattle.lc_tree.specs.declared.entry.Kind.TheVariants.{File, Other}
@@ -111,7 +111,7 @@ exported = selection_of true []
 
 -- of the small directory, by a selection
 abbrev pub small_names : Global → SelectionModel → Names
-small_names alloc s = names_in (level s (top_job None) (tree_of_node (small_node alloc) []))
+small_names alloc s = names_in (level s (top_job own_rules) (tree_of_node (small_node alloc) []))
 
 -- what is left out of it in any case
 abbrev pub small_outside : List SkippedModel

@@ -26,13 +26,13 @@ module _ (lists : List ℕ → Listings) (gives : List ℕ → Contents) where
     pub info : there ≡ true → has_directory (codes "info") (items_of a.git) ≡ true → MayList lists gives (codes ".git/info") a.info
 
   -- the answer by such answers: what was read, or the site of the first fault, or memory was refused
-  abbrev pub ReadsGit : Bool → Bool → Result PairRead OpenFault → Type 0
-  ReadsGit texts there (Ok read) =
+  abbrev pub ReadsGit : (no_ignore texts : Bool) → Bool → Result PairRead OpenFault → Type 0
+  ReadsGit no_ignore texts there (Ok read) =
       (a : Answers) × MayAnswerGit there a
-      × ((bytes : Pair) × IsReadOf texts true read bytes × (and_then (info_items there a) info_bytes ≡ Ok bytes))
-  ReadsGit texts there (Err (Faulted site word)) =
+      × ((bytes : Pair) × IsReadOf texts true read bytes × (and_then (info_items there a) (info_bytes no_ignore) ≡ Ok bytes))
+  ReadsGit no_ignore texts there (Err (Faulted site word)) =
       (a : Answers) × MayAnswerGit there a
       × ((directory : List ℕ)
-      → and_then (info_items there a) info_bytes ≡ Err (record { path = site_path directory site; word = word }))
-  ReadsGit texts there (Err Memory) = Unit {0}
-  ReadsGit texts there (Err TooDeep) = ⊥
+      → and_then (info_items there a) (info_bytes no_ignore) ≡ Err (record { path = site_path directory site; word = word }))
+  ReadsGit no_ignore texts there (Err Memory) = Unit {0}
+  ReadsGit no_ignore texts there (Err TooDeep) = ⊥

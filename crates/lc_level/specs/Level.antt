@@ -3,7 +3,6 @@ use Rattle.std.specs.Prelude.{ℕ, ◌≡◌, Bool, true, false, cond, List, [],
 use Rattle.std.specs.Prelude.{if◌then◌else◌, Option, None, Some, option_map, Result, Ok, Err}
 use Rattle.std.specs.List.{find}
 use Rattle.std.specs.Option.{is_none, option_map_or, option_or}
-use Rattle.lc_rules.specs.Attributes.{StateModel, set, unset, value, unspecified}
 use Rattle.lc_rules.specs.IgnoreChains.{rules_in}
 use Rattle.lc_rules.specs.IgnoreRules.{RuleModel}
 use Rattle.lc_rules.specs.Verdicts.{last_match}
@@ -21,7 +20,7 @@ use Rattle.lc_level.specs.Job.{JobModel}
 use Rattle.lc_level.specs.FaultLines.{FaultLineModel}
 use Rattle.lc_level.specs.Narrowing.{part_of, absent_from}
 use Rattle.lc_level.specs.RuleFiles.{RuleBytes, rule_bytes, extended}
-use Rattle.lc_level.specs.Selection.{SelectionModel}
+use Rattle.lc_level.specs.Selection.{SelectionModel, attribute_of, value_of, is_state, patterns_for, is_included}
 
 -- a counted file of a directory
 pub record CountedModel : Type 0 where
@@ -35,11 +34,13 @@ pub record FileFaultModel : Type 0 where
   pub word : FaultWord
 
 -- why an entry is left out, the first that holds: it is named `.git`; the rule that decides ignores it, and stands in a file of this
--- source, on the line with this number; an attribute that leaves out is Set for it; it is neither a file nor a directory
+-- source, on the line with this number; an attribute has the state for it that this word asks for; it is a file that no pattern
+-- includes; it is neither a file nor a directory
 pub data Reason : Type 0 where
   named_git : Reason
   by_rule : RuleSource → (line : ℕ) → Reason
-  by_attribute : (name : List ℕ) → Reason
+  by_attribute : (word : List ℕ) → Reason
+  not_included : Reason
   other_kind : Reason
 
 -- an entry that is left out: what stands under its name, and why it is
@@ -62,17 +63,15 @@ pub data Level : Type 0 where
   faulted_level : (path : List ℕ) → FaultWord → Level
   listed_level : List (List ℕ × Fate) → (absent : List (List ℕ)) → Level
 
-abbrev pub is_set : StateModel → Bool
-is_set set = true
-is_set unset = false
-is_set (value v) = false
-is_set unspecified = false
-
 -- ---- what leaves an entry out
 
--- the first attribute of the selection that is Set at a path
+-- whether an attribute has the state at a path that a word asks for
+abbrev pub is_met : JobModel → List ℕ → Bool → List ℕ → Bool
+is_met j path is_dir word = is_state (value_of word) (state_of j.attributes path is_dir (attribute_of word))
+
+-- the first word of the selection for which one has
 abbrev pub attribute_reason : SelectionModel → JobModel → List ℕ → Bool → Option Reason
-attribute_reason s j path is_dir = option_map by_attribute (find (λ name. is_set (state_of j.attributes path is_dir name)) s.without)
+attribute_reason s j path is_dir = option_map by_attribute (find (is_met j path is_dir) s.without)
 
 -- the rule that decides, where it ignores
 abbrev pub rule_reason : Option (RuleSource × RuleModel) → Option Reason
@@ -88,9 +87,17 @@ reason_at s j path is_dir =
 abbrev pub reason_of : SelectionModel → JobModel → List ℕ → Bool → Option Reason
 reason_of s j name is_dir = cond (bytes_eq name (codes ".git")) (Some named_git) (reason_at s j (path_in j.path name) is_dir)
 
+-- of a file that does not match what it must
+abbrev pub include_reason : Option (List RuleModel) → List ℕ → Option Reason
+include_reason patterns path = cond (is_included patterns path) None (Some not_included)
+
+-- of a file by its name in the directory
+abbrev pub file_reason : SelectionModel → JobModel → List ℕ → Option Reason
+file_reason s j name = option_or (reason_of s j name false) (include_reason (patterns_for s.include j.path) (path_in j.path name))
+
 -- of an entry, which may be of a kind that is left out
 abbrev pub reason_for : SelectionModel → JobModel → List ℕ → Kind → Option Reason
-reason_for s j name File = reason_of s j name false
+reason_for s j name File = file_reason s j name
 reason_for s j name Dir = reason_of s j name true
 reason_for s j name Other = option_or (reason_of s j name false) (Some other_kind)
 
@@ -100,6 +107,9 @@ is_kept s j path is_dir = is_none (reason_at s j path is_dir)
 
 abbrev pub is_taken : SelectionModel → JobModel → List ℕ → Bool → Bool
 is_taken s j name is_dir = is_none (reason_of s j name is_dir)
+
+abbrev pub is_counted : SelectionModel → JobModel → List ℕ → Bool
+is_counted s j name = is_none (file_reason s j name)
 
 -- ---- fates
 
@@ -119,7 +129,7 @@ file_fate j name (Ok count) = counted (record { name = name; text = text_of j (p
 file_fate j name (Err word) = failed word
 
 abbrev pub fate_of : SelectionModel → JobModel → Item → Fate
-fate_of s j (file_item name count rules) = option_map_or (skipped File) (reason_of s j name false) (file_fate j name count)
+fate_of s j (file_item name count rules) = option_map_or (skipped File) (file_reason s j name) (file_fate j name count)
 fate_of s j (directory_item name) = option_map_or (skipped Dir) (reason_of s j name true) (walked (child_job j name))
 fate_of s j (other_item name) = option_map_or (skipped Other) (reason_of s j name false) (skipped Other other_kind)
 
@@ -193,7 +203,7 @@ level_after s j items (Ok files) = level_of_items s items (extended j files)
 level_after s j items (Err fault) = faulted_level fault.path fault.word
 
 abbrev pub level_of : SelectionModel → JobModel → Answers → Items → Level
-level_of s j a (Ok items) = level_after s j items (rule_bytes j.path items a)
+level_of s j a (Ok items) = level_after s j items (rule_bytes j.ignore.no_ignore j.path items a)
 level_of s j a (Err word) = faulted_level j.path word
 
 -- the level of a directory whose answers these are

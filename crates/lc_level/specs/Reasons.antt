@@ -1,5 +1,5 @@
 -- What definitions see of a reason, of one that is lent, and of an entry that is left out.
-use Rattle.lc_level.specs.Level.{Reason, named_git, by_rule, by_attribute, other_kind}
+use Rattle.lc_level.specs.Level.{Reason, named_git, by_rule, by_attribute, not_included, other_kind}
 use Rattle.lc_level.specs.declared.reason.Reason.{Reason as OwnedReason}
 use Rattle.lc_level.specs.declared.reason.Reason.TheVariants as owned
 use Rattle.lc_level.specs.declared.reason.ReasonRef.{ReasonRef}
@@ -9,10 +9,12 @@ abbrev pub reason_model : OwnedReason → Reason
 reason_model owned.Git = named_git
 reason_model (owned.Rule source line) = by_rule source line
 reason_model (owned.Attribute name) = by_attribute name.items
+reason_model owned.Include = not_included
 reason_model owned.OtherKind = other_kind
 
 abbrev pub reason_ref_model : ReasonRef → Reason
 reason_ref_model lent.Git = named_git
 reason_ref_model (lent.Rule source line) = by_rule source line
 reason_ref_model (lent.Attribute name) = by_attribute name.now
+reason_ref_model lent.Include = not_included
 reason_ref_model lent.OtherKind = other_kind

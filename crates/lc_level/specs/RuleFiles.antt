@@ -16,6 +16,10 @@ file_named name (file_item m counted rules ∷ items) = cond (bytes_eq m name) (
 file_named name (directory_item m ∷ items) = file_named name items
 file_named name (other_item m ∷ items) = file_named name items
 
+-- the same of an ignore file: nothing where none is read
+abbrev pub ignore_named : Bool → List ℕ → List Item → Option (Result (List ℕ) FaultWord)
+ignore_named no_ignore name items = cond no_ignore None (file_named name items)
+
 -- whether there is a directory of this name
 abbrev pub has_directory : List ℕ → List Item → Bool
 has_directory name [] = false
@@ -67,15 +71,15 @@ both_read path file other_path other =
     and_then (reading path file) (λ x. and_then (reading other_path other) (λ y. Ok (record { rules = x; attributes = y })))
 
 -- those in `.git/info`
-abbrev pub info_bytes : List Item → Result Pair FaultLineModel
-info_bytes items =
-    both_read (codes ".git/info/exclude") (file_named (codes "exclude") items)
+abbrev pub info_bytes : Bool → List Item → Result Pair FaultLineModel
+info_bytes no_ignore items =
+    both_read (codes ".git/info/exclude") (ignore_named no_ignore (codes "exclude") items)
     (codes ".git/info/attributes") (file_named (codes "attributes") items)
 
 -- a directory's own
-abbrev pub own_bytes : List ℕ → List Item → Result Pair FaultLineModel
-own_bytes path items =
-    both_read (path_in path (codes ".gitignore")) (file_named (codes ".gitignore") items)
+abbrev pub own_bytes : Bool → List ℕ → List Item → Result Pair FaultLineModel
+own_bytes no_ignore path items =
+    both_read (path_in path (codes ".gitignore")) (ignore_named no_ignore (codes ".gitignore") items)
     (path_in path (codes ".gitattributes")) (file_named (codes ".gitattributes") items)
 
 -- the bytes of all rule files that speak of a directory for the first time
@@ -84,10 +88,10 @@ pub record RuleBytes : Type 0 where
   pub own : Pair
 
 -- the same in the order in which they are read, or the first fault
-abbrev pub rule_bytes : List ℕ → List Item → Answers → Result RuleBytes FaultLineModel
-rule_bytes path items a =
-    and_then (and_then (info_items (has_git path items) a) info_bytes)
-    (λ i. and_then (own_bytes path items) (λ o. Ok (record { info = i; own = o })))
+abbrev pub rule_bytes : Bool → List ℕ → List Item → Answers → Result RuleBytes FaultLineModel
+rule_bytes no_ignore path items a =
+    and_then (and_then (info_items (has_git path items) a) (info_bytes no_ignore))
+    (λ i. and_then (own_bytes no_ignore path items) (λ o. Ok (record { info = i; own = o })))
 
 -- ---- both chains with these files
 
@@ -109,6 +113,8 @@ extended j files = record {
     exclude = j.ignore.exclude;
     info = first_of (option_map rules_of files.info.rules) j.ignore.info;
     tree = with_file_at j.ignore.tree (depth_of j.path) (option_map rules_of files.own.rules);
+    command_line = j.ignore.command_line;
+    no_ignore = j.ignore.no_ignore;
   };
   attributes = record {
     tree = with_file_at j.attributes.tree (depth_of j.path) (option_map (attribute_file_of (is_top j.path)) files.own.attributes);

@@ -1,5 +1,5 @@
 -- What reading the two rule files of one directory answers.
-use Rattle.std.specs.Prelude.{◌≡◌, ℕ, Bool, ◌⊎◌, List, Option, Some, Result, Ok, Err, option_map, codes}
+use Rattle.std.specs.Prelude.{◌≡◌, ℕ, Bool, not, ◌&&◌, ◌⊎◌, List, Option, Some, Result, Ok, Err, option_map, codes}
 use Rattle.lc_glob.specs.Path.{path_in}
 use Rattle.lc_rules.specs.IgnoreRules.{rules_of}
 use Rattle.lc_rules.specs.AttrLines.{attribute_file_of}
@@ -39,14 +39,15 @@ pub record NameAsked : Type 0 where
   pub name : List ℕ
   pub site : FaultSite
 
--- two rule files that are asked for: in which directory, among which entries, whether its attributes may define macros, and whether the
--- text of the rules is kept
+-- two rule files that are asked for: in which directory, among which entries, whether its attributes may define macros, whether the
+-- rules are not read, and whether their text is kept
 pub record PairAsked : Type 0 where
   pub directory : List ℕ
   pub entries : List EntryModel
   pub rules : NameAsked
   pub attributes : NameAsked
   pub top : Bool
+  pub no_ignore : Bool
   pub texts : Bool
 
 -- those of these names
@@ -57,36 +58,43 @@ pair_asked names texts directory entries = record {
   rules = record { name = names.rules.name.now; site = names.rules.site };
   attributes = record { name = names.attributes.name.now; site = names.attributes.site };
   top = names.top;
+  no_ignore = names.no_ignore;
   texts = texts;
 }
 
 -- a directory's own
-abbrev pub own_asked : Bool → List ℕ → List EntryModel → PairAsked
-own_asked texts directory entries = record {
+abbrev pub own_asked : (no_ignore texts : Bool) → List ℕ → List EntryModel → PairAsked
+own_asked no_ignore texts directory entries = record {
   directory = directory;
   entries = entries;
   rules = record { name = codes ".gitignore"; site = Gitignore };
   attributes = record { name = codes ".gitattributes"; site = Gitattributes };
   top = is_top directory;
+  no_ignore = no_ignore;
   texts = texts;
 }
 
 module _ (gives : List ℕ → Contents) (asked : PairAsked) where
-  -- what one of them may have given, if it is there
-  abbrev pub MayGiveOne : NameAsked → Option (Result (List ℕ) FaultWord) → Type 0
-  MayGiveOne file read = MayGive (gives (path_in asked.directory file.name)) (has_file file.name asked.entries) read
+  -- what the rules may have given, if they are there and read, and the attributes, if they are there
+  abbrev pub MayGiveRules : Option (Result (List ℕ) FaultWord) → Type 0
+  MayGiveRules read =
+      MayGive (gives (path_in asked.directory asked.rules.name)) (not asked.no_ignore && has_file asked.rules.name asked.entries) read
+
+  abbrev pub MayGiveAttributes : Option (Result (List ℕ) FaultWord) → Type 0
+  MayGiveAttributes read =
+      MayGive (gives (path_in asked.directory asked.attributes.name)) (has_file asked.attributes.name asked.entries) read
 
   -- the bytes of both may have been read
   pub record MayGiveBoth (bytes : Pair) : Type 0 where
-    pub rules_given : MayGiveOne asked.rules (option_map Ok bytes.rules)
-    pub attributes_given : MayGiveOne asked.attributes (option_map Ok bytes.attributes)
+    pub rules_given : MayGiveRules (option_map Ok bytes.rules)
+    pub attributes_given : MayGiveAttributes (option_map Ok bytes.attributes)
 
   -- the answer to reading both, the rules first: what was read, or the site of the first fault, or memory was refused
   abbrev pub ReadsBoth : Result PairRead OpenFault → Type 0
   ReadsBoth (Ok read) = (bytes : Pair) × IsReadOf asked.texts asked.top read bytes × MayGiveBoth bytes
   ReadsBoth (Err (Faulted site word)) =
-      ((site ≡ asked.rules.site) × MayGiveOne asked.rules (Some (Err word)))
-      ⊎ ((site ≡ asked.attributes.site) × ((bytes : Option (List ℕ)) × MayGiveOne asked.rules (option_map Ok bytes))
-      × MayGiveOne asked.attributes (Some (Err word)))
+      ((site ≡ asked.rules.site) × MayGiveRules (Some (Err word)))
+      ⊎ ((site ≡ asked.attributes.site) × ((bytes : Option (List ℕ)) × MayGiveRules (option_map Ok bytes))
+      × MayGiveAttributes (Some (Err word)))
   ReadsBoth (Err Memory) = Unit {0}
   ReadsBoth (Err TooDeep) = ⊥

@@ -19,6 +19,8 @@ pub(crate) fn ignore_below(
     ensures exclude { IfOk result (λ c. (arc_value c).exclude ≡ (arc_value chain.now).exclude) }
     ensures info { IfOk result (λ c. (arc_value c).info ≡ first_of (shared info) (arc_value chain.now).info) }
     ensures tree { IfOk result (λ c. (arc_value c).tree ≡ with_file_at (arc_value chain.now).tree depth (shared own)) }
+    ensures command_line { IfOk result (λ c. (arc_value c).command_line ≡ (arc_value chain.now).command_line) }
+    ensures no_ignore { IfOk result (λ c. (arc_value c).no_ignore ≡ (arc_value chain.now).no_ignore) }
 {
     if info.is_none() && own.is_none() {
         return Ok(Arc::try_clone(chain)?);

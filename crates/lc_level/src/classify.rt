@@ -1,17 +1,21 @@
 //! The entries of a directory: those that stay by its rules and the selection, and those that are skipped.
-ghost use Rattle.std.specs.Prelude.{◌≡◌, ◌≤◌, true, false, length, nat_lt};
+ghost use Rattle.std.specs.Prelude.{◌≡◌, ◌≤◌, true, false, length, nat_lt, option_map};
+ghost use Rattle.std.specs.Option.{option_or};
 ghost use Rattle.lc_glob.specs.Path.{depth_of, max_depth, max_path};
 ghost use Rattle.lc_level.specs.Classified.{IsChild, LeavesOut, ClassifiesFile, ClassifiesDirectory, ClassifiesOther, ClassifiesEntry};
 ghost use Rattle.lc_level.specs.Classified.{ClassifiesAll};
-ghost use Rattle.lc_level.specs.Level.{reason_at, job_at};
+ghost use Rattle.lc_level.specs.Level.{include_reason, reason_at, job_at};
 ghost use Rattle.lc_level.specs.Reasons.{reason_ref_model};
+ghost use Rattle.lc_level.specs.Selection.{patterns_for};
 
 use crate::OpenFault;
+use crate::included::is_included;
 use crate::job::Job;
 use crate::level_reader::LevelReader;
 use crate::path_buffer::PathBuffer;
 use crate::reason::{ReasonRef, SkippedEntry};
 use lc_glob::path::is_too_deep;
+use lc_rules::IgnoreFile;
 use lc_tree::{Entry, Kind, Tree};
 use std::alloc::Global;
 use std::marker::Model;
@@ -79,21 +83,27 @@ impl<T: Tree> LevelReader<'_, T> {
         }
     }
 
-    /// Adds a file to those that stay, or to the skipped entries.
+    /// Adds a file to those that stay, or to the skipped entries. It must match one of these patterns, if there are some.
     fn classify_file(
         &self,
         job: &Job,
+        include: Option<&IgnoreFile>,
         name: Vec<u8>,
         path: &[u8],
         found: &mut Classified,
     ) -> Result<(), OpenFault>
-        ensures { ClassifiesFile self.now.options.left_out (reason_at self.now.selection job.now path.now false) name.items
-            found.old found.new result }
+        ensures { ClassifiesFile self.now.options.left_out
+            (option_or (reason_at self.now.selection job.now path.now false)
+            (include_reason (option_map (λ p. p.now) include.entry) path.now))
+            name.items found.old found.new result }
     {
         match self.reason_at(job, path, false) {
             Ok(None) => {}
             Ok(Some(reason)) => return self.leave_out(name, Kind::File, reason, found),
             Err(_) => return Err(OpenFault::Memory),
+        }
+        if !is_included(include, path) {
+            return self.leave_out(name, Kind::File, ReasonRef::Include, found);
         }
         match found.files.push(name) {
             Ok(()) => Ok(()),
@@ -146,15 +156,18 @@ impl<T: Tree> LevelReader<'_, T> {
         }
     }
 
-    /// Adds one entry to those that stay or to those that are skipped. Its name moves there.
+    /// Adds one entry to those that stay or to those that are skipped. Its name moves there. A file must match one of these patterns, if
+    /// there are some.
     fn classify_entry(
         &self,
         job: &Job,
+        include: Option<&IgnoreFile>,
         entry: Entry,
         path: &mut PathBuffer,
         found: &mut Classified,
     ) -> Result<(), OpenFault>
-        requires { path.old.directory ≡ job.now.path }
+        requires at { path.old.directory ≡ job.now.path }
+        requires include { option_map (λ p. p.now) include ≡ patterns_for self.now.selection.include job.now.path }
         ensures same { path.new.directory ≡ path.old.directory }
         ensures entry { ClassifiesEntry self.now.options.left_out self.now.selection job.now entry found.old found.new result }
     {
@@ -163,7 +176,7 @@ impl<T: Tree> LevelReader<'_, T> {
         }
         path.set_short(&entry.name)?;
         match entry.kind {
-            Kind::File => self.classify_file(job, entry.name, path.as_slice(), found),
+            Kind::File => self.classify_file(job, include, entry.name, path.as_slice(), found),
             Kind::Dir => self.classify_directory(job, entry.name, path.as_slice(), found),
             Kind::Other => self.classify_other(job, entry.name, path.as_slice(), found),
         }
@@ -185,8 +198,9 @@ impl<T: Tree> LevelReader<'_, T> {
             children: Vec::new(self.alloc),
             skipped: Vec::new(self.alloc),
         };
+        let include = self.selection.include_in(job.path());
         for entry in entries {
-            self.classify_entry(job, entry, path, &mut found)?;
+            self.classify_entry(job, include, entry, path, &mut found)?;
         }
         Ok(found)
     }

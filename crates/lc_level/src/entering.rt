@@ -41,28 +41,31 @@ impl<T: Tree> LevelReader<'_, T> {
     /// Reads the files of `.git/info`, which apply from the top on. Below the top it reads nothing.
     fn read_info(
         &self,
+        no_ignore: bool,
         directory: &[u8],
         listing: &Listing,
         scratch: &mut Scratch,
     ) -> Result<PairRead, OpenFault>
-        ensures { ReadsGit (T.lists self.now.tree.now) (T.gives self.now.tree.now) self.now.options.texts
+        ensures { ReadsGit (T.lists self.now.tree.now) (T.gives self.now.tree.now) no_ignore self.now.options.texts
             (is_top directory.now && has_dir (codes ".git") listing.now) result }
     {
         if !directory.is_empty() {
             return Ok(PairRead::none());
         }
-        self.read_git_info(listing, scratch)
+        self.read_git_info(no_ignore, listing, scratch)
     }
 
-    /// Reads a directory's own `.gitignore` and `.gitattributes`. The scratch paths are then the directory's.
+    /// Reads a directory's own `.gitignore`, unless no ignore file is read, and `.gitattributes`. The scratch paths are then the
+    /// directory's.
     fn read_own(
         &self,
+        no_ignore: bool,
         directory: &[u8],
         listing: &Listing,
         scratch: &mut Scratch,
     ) -> Result<PairRead, OpenFault>
         ensures at { OnOk result (scratch.new.path.directory ≡ directory.now) }
-        ensures read { ReadsBoth (T.gives self.now.tree.now) (own_asked self.now.options.texts directory.now listing.now) result }
+        ensures read { ReadsBoth (T.gives self.now.tree.now) (own_asked no_ignore self.now.options.texts directory.now listing.now) result }
     {
         let Ok(()) = scratch.path.enter(directory) else {
             return Err(OpenFault::Memory);
@@ -77,6 +80,7 @@ impl<T: Tree> LevelReader<'_, T> {
                 site: FaultSite::Gitattributes,
             },
             top: directory.is_empty(),
+            no_ignore,
         };
         self.read_pair(listing, names, scratch)
     }
@@ -111,9 +115,10 @@ impl<T: Tree> LevelReader<'_, T> {
         ensures enters { EntersLevel (T.lists self.now.tree.now) (T.gives self.now.tree.now) job.now self.now.options.texts result }
     {
         let path = job.path();
+        let no_ignore = job.no_ignore();
         let listing = self.listed_for(path, listing, FaultSite::Directory)?;
-        let info = self.read_info(path, &listing, scratch)?;
-        let own = self.read_own(path, &listing, scratch)?;
+        let info = self.read_info(no_ignore, path, &listing, scratch)?;
+        let own = self.read_own(no_ignore, path, &listing, scratch)?;
         let Ok(inside) = self.with_files(job, info.files, own.files) else {
             return Err(OpenFault::Memory);
         };

@@ -13,13 +13,14 @@ use lc_tree::{Listing, Tree};
 
 impl<T: Tree> LevelReader<'_, T> {
     /// Reads `exclude` and `attributes` in `.git/info` of the top, which has this listing. What is of another kind is absent.
-    /// The scratch paths are then those of another directory.
+    /// The scratch paths are then those of another directory. `exclude` is not read if no ignore file is.
     pub(crate) fn read_git_info(
         &self,
+        no_ignore: bool,
         listing: &Listing,
         scratch: &mut Scratch,
     ) -> Result<PairRead, OpenFault>
-        ensures { ReadsGit (T.lists self.now.tree.now) (T.gives self.now.tree.now) self.now.options.texts
+        ensures { ReadsGit (T.lists self.now.tree.now) (T.gives self.now.tree.now) no_ignore self.now.options.texts
             (has_dir (codes ".git") listing.now) result }
     {
         if !has_dir(listing, b".git") {
@@ -43,6 +44,7 @@ impl<T: Tree> LevelReader<'_, T> {
                 site: FaultSite::InfoAttributes,
             },
             top: true,
+            no_ignore,
         };
         self.read_pair(&info, names, scratch)
     }

@@ -3,13 +3,13 @@ ghost use Rattle.std.specs.Prelude.{◌≡◌, ◌≤◌, length, option_map, If
 ghost use Rattle.std.specs.Arc.{arc_value};
 ghost use Rattle.lc_glob.specs.Path.{depth_of, max_path};
 ghost use Rattle.lc_level.specs.Level.{job_at};
-ghost use Rattle.lc_level.specs.RuleReads.{shared};
 ghost use Rattle.lc_level.specs.TopJob.{top_job};
 ghost use Rattle.lc_rules.specs.IgnoreChains.{rules_in};
 ghost use Rattle.lc_rules.specs.Verdicts.{last_match};
 
+use crate::top_rules::TopRules;
 use lc_glob::path::depth_of;
-use lc_rules::{AttrChain, Chain, IgnoreFile, Rule, RuleSource};
+use lc_rules::{AttrChain, Chain, Rule, RuleSource};
 use std::alloc::{AllocError, Global};
 use std::marker::Model;
 use std::sync::Arc;
@@ -18,7 +18,7 @@ use std::sync::Arc;
 /// same rule files. A job is one word long, so that it moves at no cost.
 ///
 /// ```
-/// let top = Job::top(alloc, None)?; // its path is empty, and its chains have no rule
+/// let top = Job::top(alloc, TopRules::none())?; // its path is empty, and its chains have no rule
 /// ```
 #[derive(Drop)]
 pub struct Job {
@@ -54,12 +54,22 @@ impl Model for Job {
     ghost view = { λ j. box_value j.parts };
 }
 
+/// The chain of the top of a tree, with these rules besides those of its own files.
+fn top_chain(rules: TopRules) -> Chain
+    ensures { result ≡ (top_job rules).ignore }
+{
+    let given = Chain::top().with_exclude(rules.exclude);
+    given
+        .with_command_line(rules.command_line)
+        .with_no_ignore(rules.no_ignore)
+}
+
 impl Job {
-    /// Makes the job of the top of a tree. All other files override the rules of the exclude file, if there is one.
-    pub fn top(alloc: Global, exclude: Option<Arc<IgnoreFile, Global>>) -> Result<Job, AllocError>
-        ensures { IfOk result (λ j. j ≡ top_job (shared exclude)) }
+    /// Makes the job of the top of a tree, with these rules besides those of its own files.
+    pub fn top(alloc: Global, rules: TopRules) -> Result<Job, AllocError>
+        ensures { IfOk result (λ j. j ≡ top_job rules) }
     {
-        let ignore = Chain::top().with_exclude(exclude);
+        let ignore = top_chain(rules);
         let path = Vec::new(alloc);
         let attributes = Arc::new(alloc, AttrChain::top())?;
         Job::new(alloc, path, Arc::new(alloc, ignore)?, attributes)
@@ -94,6 +104,13 @@ impl Job {
         ensures { arc_value result.now ≡ self.now.ignore }
     {
         &self.parts.ignore
+    }
+
+    /// Whether no ignore file of the tree is read.
+    pub(crate) fn no_ignore(&self) -> bool
+        ensures { result ≡ self.now.ignore.no_ignore }
+    {
+        self.parts.ignore.no_ignore()
     }
 
     /// The chain of attribute files above the directory's own.

@@ -19,7 +19,7 @@ pub struct ReaderOptions {
 /// let options = ReaderOptions { left_out: false, texts: false };
 /// let reader = LevelReader::new(alloc, &tree, Selection::new(false, &[]), options);
 /// let mut scratch = Scratch::new(alloc)?;
-/// let top = Job::top(alloc, None)?;
+/// let top = Job::top(alloc, TopRules::none())?;
 /// let opened = reader.open(&top, &mut scratch)?; // `opened.children` has the directories to be visited
 /// let counted = reader.count(&opened.job, opened.files, opened.absent, &mut scratch)?;
 /// ```

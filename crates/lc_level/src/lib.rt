@@ -1,10 +1,11 @@
 //! What one directory gives: its listing, its rule files, its entries in order.
 //!
-//! - `job`: a directory to be walked; `fault_site`: where it is at fault
+//! - `job`: a directory to be visited; `top_rules`: the rules for the whole tree; `fault_site`: where an error is
 //! - `listing`: a directory's listing; `entering`: that and its rule files, read whole; `opening`: which of its entries stay
 //! - `git_info`, `rule_files`, `rule_pair`: its rule files; `chains`: both chains by them
 //! - `entry_looks`, `classify`: what is looked for among its entries, and which of them stay; `skip_reason`, `reason`: why the others don't
-//! - `selection`: what decides beside the rules; `only_paths`, `lent_paths`: the paths that alone are asked for;
+//! - `selection`: what decides beside the rules; `included`: which files patterns include; `only_paths`, `lent_paths`: the paths that alone
+//!   are asked for;
 //!   `sorted_paths`, `below`: looking among them; `narrowing`: which entries take part by them
 //! - `counted`, `counting`: what became of its files, and counting them; `in_parts`, `after_large`: counting
 //!   many, and few large ones, by several threads; `spare_threads`: the threads that may help
@@ -30,6 +31,7 @@ mod fault_word;
 mod files;
 mod git_info;
 mod in_parts;
+mod included;
 mod job;
 mod laws;
 mod lent_paths;
@@ -50,6 +52,7 @@ mod selection;
 mod skip_reason;
 mod sorted_paths;
 mod spare_threads;
+mod top_rules;
 
 pub use classify::ChildDirectory;
 pub use counted::{Counted, FileFault};
@@ -73,3 +76,4 @@ pub use rule_text::{RuleText, RulesFileFault, exclude_rules, read_rule_text};
 pub use scratch::Scratch;
 pub use selection::Selection;
 pub use spare_threads::SpareThreads;
+pub use top_rules::TopRules;

@@ -15,8 +15,10 @@ pub enum Reason {
     Git,
     /// The last rule that matches it ignores it. The rule is in the file of this source, on the line with this number, from 1.
     Rule { source: RuleSource, line: u32 },
-    /// This attribute of the selection is Set for it.
+    /// An attribute has the state for it that this word of the selection asks for, such as `ATTR` or `ATTR=VALUE`.
     Attribute(Vec<u8>),
+    /// It is a file, and no pattern of the selection includes it.
+    Include,
     /// It is neither a file nor a directory.
     OtherKind,
 }
@@ -32,7 +34,8 @@ impl Reason {
                 source: *source,
                 line: *line,
             }),
-            Reason::Attribute(name) => Ok(Reason::Attribute(name.to_vec(alloc)?)),
+            Reason::Attribute(word) => Ok(Reason::Attribute(word.to_vec(alloc)?)),
+            Reason::Include => Ok(Reason::Include),
             Reason::OtherKind => Ok(Reason::OtherKind),
         }
     }
@@ -44,18 +47,20 @@ pub(crate) enum ReasonRef<'a> {
     Git,
     Rule { source: RuleSource, line: u32 },
     Attribute(&'a [u8]),
+    Include,
     OtherKind,
 }
 
 impl ReasonRef<'_> {
-    /// The reason with the attribute's name in memory of its own.
+    /// The reason with the attribute's word in memory of its own.
     pub(crate) fn to_reason(self, alloc: Global) -> Result<Reason, AllocError>
         ensures { IfOk result (λ r. reason_model r ≡ reason_ref_model self.entry) }
     {
         match self {
             ReasonRef::Git => Ok(Reason::Git),
             ReasonRef::Rule { source, line } => Ok(Reason::Rule { source, line }),
-            ReasonRef::Attribute(name) => Ok(Reason::Attribute(name.to_vec(alloc)?)),
+            ReasonRef::Attribute(word) => Ok(Reason::Attribute(word.to_vec(alloc)?)),
+            ReasonRef::Include => Ok(Reason::Include),
             ReasonRef::OtherKind => Ok(Reason::OtherKind),
         }
     }

@@ -1,5 +1,5 @@
 //! The rule files of a directory, read whole.
-ghost use Rattle.std.specs.Prelude.{◌≡◌, Some, IfOk};
+ghost use Rattle.std.specs.Prelude.{◌≡◌, ◌&&◌, not, None, Some, IfOk};
 ghost use Rattle.lc_glob.specs.Path.{path_in};
 ghost use Rattle.lc_rules.specs.AttrLines.{attribute_file_of};
 ghost use Rattle.lc_level.specs.EntryLooks.{has_file};
@@ -20,6 +20,18 @@ use std::sync::Arc;
 pub(crate) struct IgnoreRead {
     pub(crate) file: Option<Arc<IgnoreFile, Global>>,
     pub(crate) text: Option<Vec<u8>>,
+}
+
+impl IgnoreRead {
+    /// No ignore file was read.
+    fn none() -> IgnoreRead
+        ensures { result ≡ record { file = None; text = None } }
+    {
+        IgnoreRead {
+            file: None,
+            text: None,
+        }
+    }
 }
 
 impl<T: Tree> LevelReader<'_, T> {
@@ -70,10 +82,7 @@ impl<T: Tree> LevelReader<'_, T> {
             (has_file name.now listing.now) result }
     {
         if !self.read_named(listing, name, scratch)? {
-            return Ok(IgnoreRead {
-                file: None,
-                text: None,
-            });
+            return Ok(IgnoreRead::none());
         }
         let file = match IgnoreFile::read(self.alloc, &scratch.rules) {
             Ok(file) => file,
@@ -90,6 +99,24 @@ impl<T: Tree> LevelReader<'_, T> {
             }),
             Err(_) => Err(ContentFault::Memory),
         }
+    }
+
+    /// Reads the ignore file of this name, as `ignore_file` does, unless no ignore file is read.
+    pub(crate) fn ignore_file_if(
+        &self,
+        no_ignore: bool,
+        listing: &Listing,
+        name: &[u8],
+        scratch: &mut Scratch,
+    ) -> Result<IgnoreRead, ContentFault>
+        ensures same { scratch.new.path.directory ≡ scratch.old.path.directory }
+        ensures read { IsIgnoreRead self.now.options.texts (T.gives self.now.tree.now (path_in scratch.old.path.directory name.now))
+            (not no_ignore && has_file name.now listing.now) result }
+    {
+        if no_ignore {
+            return Ok(IgnoreRead::none());
+        }
+        self.ignore_file(listing, name, scratch)
     }
 
     /// Reads the attribute file of this name in the directory of the scratch paths, if it is there. It may define macros only if

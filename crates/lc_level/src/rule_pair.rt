@@ -47,16 +47,17 @@ pub(crate) struct RuleName<'a> {
     pub(crate) site: FaultSite,
 }
 
-/// Which two files of a directory are read, and whether its attributes may define macros.
+/// Which two files of a directory are read, whether its attributes may define macros, and whether the rules are not read after all.
 #[derive(Clone, Copy)]
 pub(crate) struct PairNames<'a> {
     pub(crate) rules: RuleName<'a>,
     pub(crate) attributes: RuleName<'a>,
     pub(crate) top: bool,
+    pub(crate) no_ignore: bool,
 }
 
 impl<T: Tree> LevelReader<'_, T> {
-    /// Reads the two files of these names in the directory of the scratch paths, the rules first.
+    /// Reads the two files of these names in the directory of the scratch paths, the rules first, unless no ignore file is read.
     pub(crate) fn read_pair(
         &self,
         listing: &Listing,
@@ -67,7 +68,7 @@ impl<T: Tree> LevelReader<'_, T> {
         ensures read { ReadsBoth (T.gives self.now.tree.now)
             (pair_asked names.entry self.now.options.texts scratch.old.path.directory listing.now) result }
     {
-        let rules = match self.ignore_file(listing, names.rules.name, scratch) {
+        let rules = match self.ignore_file_if(names.no_ignore, listing, names.rules.name, scratch) {
             Ok(read) => read,
             Err(content_fault) => return Err(content_fault.at(names.rules.site)),
         };

@@ -6,6 +6,7 @@ ghost use Rattle.lc_level.specs.Reasons.{reason_model, reason_ref_model};
 ghost use Rattle.lc_rules.specs.IgnoreChains.{rules_in};
 ghost use Rattle.lc_rules.specs.Verdicts.{last_match};
 
+use crate::included::is_included;
 use crate::job::Job;
 use crate::level_reader::LevelReader;
 use crate::reason::{Reason, ReasonRef};
@@ -40,8 +41,8 @@ impl<'t, T> LevelReader<'t, T> {
         if let Some(reason) = ignored_by(job, path, is_dir) {
             return Ok(Some(reason));
         }
-        match self.selection.first_set(self.alloc, job, path, is_dir)? {
-            Some(name) => Ok(Some(ReasonRef::Attribute(name))),
+        match self.selection.first_met(self.alloc, job, path, is_dir)? {
+            Some(word) => Ok(Some(ReasonRef::Attribute(word))),
             None => Ok(None),
         }
     }
@@ -64,7 +65,12 @@ impl<'t, T> LevelReader<'t, T> {
             return Ok(Some(reason.to_reason(self.alloc)?));
         }
         match kind {
-            Kind::File | Kind::Dir => Ok(None),
+            Kind::File => Ok(if is_included(self.selection.include_in(job.path()), path) {
+                None
+            } else {
+                Some(Reason::Include)
+            }),
+            Kind::Dir => Ok(None),
             Kind::Other => Ok(Some(Reason::OtherKind)),
         }
     }

@@ -5,6 +5,7 @@ mod around_slash;
 mod deep;
 mod entering;
 mod faults;
+mod filters;
 mod in_parts;
 mod left_out;
 mod levels;

@@ -1,2 +1,5 @@
-mod Asking
 mod Loading
+mod PathsListed
+mod RulesLoaded
+mod SlicesRead
+mod Told

@@ -1,36 +1,14 @@
--- A file of rules that was opened; faults that are passed on as replies.
-use Rattle.std.proofs.Common.{◌≡◌, ◌≤◌, ◌+◌, ◌∙◌, ℕ, List, length, Result, Ok, Err, ap, subst, sym}
+-- Faults that are passed on as replies.
+use Rattle.std.proofs.Common.{◌≡◌, ◌∙◌, Result, Ok, Err, ap, sym}
+use Rattle.std.specs.Prelude.{Vec}
+use Rattle.std.specs.Global.{Global}
 use Rattle.std.specs.Result.{IsErrAnd}
-use Rattle.lc_census.specs.Reads.{Answer, at_end, at_failure, at_neither}
-use Rattle.lc_level.specs.RuleTextReads.{ReadsRuleText}
-use Rattle.lc_rules.specs.Limits.{max_rule_bytes}
-use Rattle.lc_tree.specs.Trees.{Contents, GivesOnly}
-use Rattle.lc_level.specs.declared.rule_text.RulesFileFault.{RulesFileFault}
-use Rattle.lc_level.specs.declared.rule_text.RulesFileFault.TheVariants as fault
+use Rattle.lc_level.specs.FaultLines.{FaultLineModel}
 use Rattle.lc_text.specs.declared.check_fault.CheckFault.{CheckFault}
 use Rattle.lc_table.specs.declared.running.RunFault.{RunFault}
-use Rattle.lc_text.specs.declared.outcome.Outcome.{Outcome}
 use Rattle.lc_program.specs.Causes.{check_cause, run_cause}
-use Rattle.lc_program.specs.Requests.{LoadsFile, Reply, checked, ran}
-
--- what reading an opened file answered is what loading it answers
-module _ {F : Type 0} (may_give : F → ℕ → Answer → F → Type 0) (gives : Contents) (file read : F)
-    (only : GivesOnly may_give gives file) where
-  pub loads_file : (answer : Result (List ℕ) RulesFileFault) → ReadsRuleText may_give file answer read → LoadsFile gives answer
-  loads_file (Ok bytes) reads = (reads.1.pieces, only reads.1.pieces at_end read reads.1.reads, reads.1.joined, reads.0)
-  loads_file (Err fault.Read) reads =
-      let given = reads.1.1 in (
-        given.pieces,
-        only given.pieces at_failure read given.reads,
-        subst (λ (bytes : List ℕ). length bytes ≤ max_rule_bytes) (sym given.joined) reads.1.0,
-      )
-  loads_file (Err fault.TooLong) reads =
-      let given = reads.1.1 in (
-        given.pieces,
-        only given.pieces at_neither read given.reads,
-        subst (λ (bytes : List ℕ). length bytes ≡ max_rule_bytes + 1) (sym given.joined) reads.1.0,
-      )
-  loads_file (Err fault.Memory) reads = tt
+use Rattle.lc_program.specs.Replies.{Reply, checked, ran}
+use Rattle.lc_program.specs.declared.cause.Cause.{Cause}
 
 -- the fault of a check that was passed on is the reply
 pub fault_replied : (reply : Reply) (answer : Result (Unit {0}) CheckFault) (fault : CheckFault)
@@ -39,7 +17,12 @@ fault_replied (Ok outcome) answer fault is was = absurd is
 fault_replied (Err cause) answer fault is was = ap Err is ∙ sym (ap checked was)
 
 -- and so is that of a run
-pub run_replied : (reply : Reply) (answer : Result Outcome RunFault) (fault : RunFault)
+pub run_replied : (reply : Reply) (answer : Result (Vec FaultLineModel Global) RunFault) (fault : RunFault)
     → IsErrAnd reply (λ cause. cause ≡ run_cause fault) → answer ≡ Err fault → reply ≡ ran answer
 run_replied (Ok outcome) answer fault is was = absurd is
 run_replied (Err cause) answer fault is was = ap Err is ∙ sym (ap ran was)
+
+-- and so is a cause
+pub given_up : (reply : Reply) (cause : Cause) → IsErrAnd reply (λ given. given ≡ cause) → reply ≡ Err cause
+given_up (Ok answered) cause is = absurd is
+given_up (Err given) cause is = ap Err is

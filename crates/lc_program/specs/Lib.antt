@@ -1,4 +1,12 @@
 pub mod Causes
+pub mod Counts
+pub mod Faults
+pub mod Introductions
+pub mod PathLists
 pub mod Program
+pub mod Replies
 pub mod Requests
+pub mod Rules
+pub mod Styles
 pub mod Systems
+pub mod Tellings

@@ -2,9 +2,10 @@
 
 ghost use Rattle.std.specs.Prelude.{◌≡◌, IfOk, IsErr};
 ghost use Rattle.std.specs.Cow.{cow_str_bytes};
-ghost use Rattle.lc_program.specs.Causes.{HasNumber, cause_line, check_cause, print_cause, rules_cause, run_cause};
+ghost use Rattle.lc_program.specs.Causes.{HasNumber, cause_line, check_cause, list_cause, print_cause, rules_cause, run_cause};
 ghost use Rattle.lc_program.specs.declared.cause.Cause.TheVariants.{Memory};
 
+use lc_census::WholeFault;
 use lc_level::RulesFileFault;
 use lc_table::RunFault;
 use lc_text::{CheckFault, PrintFault};
@@ -13,7 +14,7 @@ use std::alloc::{AllocError, AllocFailed, Global};
 use std::borrow::CowStr;
 
 /// Why the program gives up: one line on standard error, and status 3.
-#[derive(Clone, Copy)]
+#[derive(Drop)]
 pub enum Cause {
     /// An allocation failed.
     Memory,
@@ -29,6 +30,12 @@ pub enum Cause {
     UnreadRules,
     /// The rules have too many bytes.
     RulesTooLong,
+    /// The list of paths that the command line names could not be read.
+    UnreadPaths,
+    /// The list of paths has too many bytes.
+    PathsTooLong,
+    /// The list of paths has none, or one that no entry can have. The line tells which.
+    BadPaths(String),
     /// Standard input could not be read.
     UnreadInput,
     /// Standard input has too many bytes.
@@ -39,9 +46,9 @@ pub enum Cause {
 
 impl Cause {
     /// Makes the line, with its line feed. A line with a number takes memory.
-    pub(crate) fn line(self, alloc: Global) -> Result<CowStr<'static>, AllocError>
-        ensures line { IfOk result (λ line. cow_str_bytes line ≡ cause_line self) }
-        ensures refused { IsErr result → HasNumber self }
+    pub(crate) fn line(&self, alloc: Global) -> Result<CowStr<'_>, AllocError>
+        ensures line { IfOk result (λ line. cow_str_bytes line ≡ cause_line self.now) }
+        ensures refused { IsErr result → HasNumber self.now }
     {
         let line = match self {
             Cause::Memory => "lc: out of memory\n",
@@ -57,6 +64,9 @@ impl Cause {
             }
             Cause::UnreadRules => "lc: cannot read rules\n",
             Cause::RulesTooLong => "lc: rules too long\n",
+            Cause::UnreadPaths => "lc: cannot read paths\n",
+            Cause::PathsTooLong => "lc: paths too long\n",
+            Cause::BadPaths(line) => line.as_str(),
             Cause::UnreadInput => "lc: cannot read input\n",
             Cause::InputTooLong => "lc: input too long\n",
             Cause::Unwritten => "lc: cannot write\n",
@@ -89,6 +99,18 @@ impl From<RulesFileFault> for Cause {
             RulesFileFault::Read => Cause::UnreadRules,
             RulesFileFault::TooLong => Cause::RulesTooLong,
             RulesFileFault::Memory => Cause::Memory,
+        }
+    }
+}
+
+impl From<WholeFault> for Cause {
+    ghost from_gives = { λ list cause. cause ≡ list_cause list };
+
+    fn from(fault: WholeFault) -> Cause {
+        match fault {
+            WholeFault::Read => Cause::UnreadPaths,
+            WholeFault::TooLong => Cause::PathsTooLong,
+            WholeFault::Memory => Cause::Memory,
         }
     }
 }

@@ -6,7 +6,7 @@ ghost use Rattle.lc_program.specs.Program.{status_of};
 use crate::cause::Cause;
 
 /// How a run of the program ends.
-#[derive(Clone, Copy)]
+#[derive(Drop)]
 pub enum Ending {
     /// It did what it was asked to do.
     Done,
@@ -20,8 +20,8 @@ pub enum Ending {
 
 impl Ending {
     /// Returns the exit status.
-    pub fn status(self) -> u8
-        ensures { result ≡ status_of self }
+    pub fn status(&self) -> u8
+        ensures { result ≡ status_of self.now }
     {
         match self {
             Ending::Done => 0,

@@ -1,6 +1,6 @@
 //! The rules of a file that the command line names.
 
-ghost use Rattle.lc_program.specs.Requests.{LoadsFile};
+ghost use Rattle.lc_program.specs.Rules.{LoadsFile};
 
 use crate::system::System;
 use lc_level::{RuleText, RulesFileFault, read_rule_text};
@@ -15,7 +15,7 @@ pub(crate) fn rule_text_of_file<Y: System>(
 ) -> Result<RuleText, RulesFileFault>
     ensures { LoadsFile (Y.holds system.now name.now) result }
 {
-    let mut file = match system.open_rules(alloc, name) {
+    let mut file = match system.open_file(alloc, name) {
         Ok(file) => file,
         Err(ReadFault::Memory) => return Err(RulesFileFault::Memory),
         Err(_) => return Err(RulesFileFault::Read),

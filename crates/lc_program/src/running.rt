@@ -1,22 +1,44 @@
 //! The program: it does what its arguments ask for in a system, and writes to its streams.
 
 ghost use Rattle.std.specs.Prelude.{◌≡◌, map};
-ghost use Rattle.lc_program.specs.Program.{Ends, status_of, streams_may};
+ghost use Rattle.lc_program.specs.Program.{Comments, Ends, status_of, streams_may};
 ghost use Rattle.lc_program.specs.Systems.{system_may};
 ghost use Rattle.lc_program.specs.declared.ending.Ending.{Ending};
 
+use crate::answered::Answered;
 use crate::answering::answer;
 use crate::cause::Cause;
 use crate::ending::Ending;
+use crate::faults::tell_faults;
+use crate::introducing::introduce;
 use crate::streams::{Streams, Terminals};
 use crate::system::System;
 use crate::telling::{give_up, hint, misuse, show};
 use lc_arguments::{ParseExit, Request};
 use lc_census::Source;
 use lc_text::{Outcome, Sink};
+use std::alloc::Global;
 use std::convert::AsStr;
 use std::sync::Wait;
 use std::thread::Threads;
+
+/// Tells what the answer to a request could not read, if it is a count, and what hint it gets.
+fn comment<Y: System, E: Sink>(
+    alloc: Global,
+    system: &Y,
+    request: &Request<'_>,
+    answered: &Answered,
+    terminals: Terminals,
+    err: &mut E,
+)
+    ensures { Comments E.may_take (Y.lies system.now) terminals request.now answered.now err.old err.new }
+{
+    if let (Request::Count(asked), Answered::Counted(faults)) = (request, answered) {
+        let options = asked.table.options(terminals.format());
+        tell_faults(alloc, asked.directory, options.format, faults, err);
+    }
+    hint(alloc, system, request, terminals.error, err);
+}
 
 /// Runs the program, and returns how it ended.
 fn end_of<R: Threads + Wait + Sync + AllocGlobal, Y: System, W: AsStr, S: Source, O: Sink, E: Sink>(
@@ -37,12 +59,13 @@ fn end_of<R: Threads + Wait + Sync + AllocGlobal, Y: System, W: AsStr, S: Source
         Err(ParseExit::Refused(why)) => return misuse(&why, err),
         Err(ParseExit::Memory) => return give_up(rt.alloc(), Cause::Memory, err),
     };
-    let outcome = match answer(rt, system, &request, terminals.style(), input, out) {
-        Ok(outcome) => outcome,
+    introduce(&request, terminals.input, err);
+    let answered = match answer(rt, system, &request, terminals, input, out) {
+        Ok(answered) => answered,
         Err(cause) => return give_up(rt.alloc(), cause, err),
     };
-    hint(rt.alloc(), system, &request, terminals.error, err);
-    match outcome {
+    comment(rt.alloc(), system, &request, &answered, terminals, err);
+    match answered.outcome() {
         Outcome::Clean => Ending::Done,
         Outcome::SomeFaults => Ending::SomeFaults,
     }
@@ -58,8 +81,9 @@ fn end_of<R: Threads + Wait + Sync + AllocGlobal, Y: System, W: AsStr, S: Source
 /// - `explain DIR`: which rule of the directory of this name decides each path, of the input or of the arguments
 ///   ([`explain`](lc_explain::explain)).
 ///
-/// If standard output is a terminal, checks and explanations print paths and patterns so that it shows them safely. If standard error is
-/// a terminal, a hint may follow the table of a count.
+/// If standard input is a terminal and is read, a line says so first. If standard output is a terminal, checks and explanations print
+/// paths and patterns so that it shows them safely, and a table for which no format is named is printed in columns. If standard error is a
+/// terminal, a hint may follow the table of a count. What a count could not read is told on `err` too.
 pub fn program<
     R: Threads + Wait + Sync + AllocGlobal,
     Y: System,

@@ -1,9 +1,10 @@
 //! The streams of the program.
 
 ghost use Rattle.std.specs.Prelude.{◌≡◌};
-ghost use Rattle.lc_program.specs.Program.{style_for};
+ghost use Rattle.lc_program.specs.Styles.{format_for, style_for};
 
 use lc_text::PathStyle;
+use lc_view::Format;
 
 /// The streams of the program.
 #[derive(Drop)]
@@ -12,14 +13,17 @@ pub struct Streams<I, O, E> {
     pub input: I,
     /// Where answers are written.
     pub out: O,
-    /// Where hints, refusals and the reason why the program gave up are written.
+    /// Where hints, refusals, what could not be read, and the reason why the program gave up are written.
     pub err: E,
 }
 
-/// Which output streams of the program are terminals.
+/// Which streams of the program are terminals.
 #[derive(Clone, Copy)]
 pub struct Terminals {
-    /// Standard output is a terminal: checks and explanations print paths so that it shows them safely.
+    /// Standard input is a terminal: a line says that it is read.
+    pub input: bool,
+    /// Standard output is a terminal: checks and explanations print paths so that it shows them safely, and a count prints its table in
+    /// columns if no format is named.
     pub output: bool,
     /// Standard error is a terminal: a hint may follow a count.
     pub error: bool,
@@ -34,6 +38,17 @@ impl Terminals {
             PathStyle::Visible
         } else {
             PathStyle::Escaped
+        }
+    }
+
+    /// Returns the format of a table whose format is not named.
+    pub(crate) fn format(self) -> Format
+        ensures { result ≡ format_for self.output }
+    {
+        if self.output {
+            Format::Table
+        } else {
+            Format::Tsv
         }
     }
 }

@@ -7,15 +7,15 @@ use lc_census::Source;
 use lc_tree::{ReadFault, Tree};
 use std::alloc::{AllocError, Global};
 
-/// The directories and rule files that a command line names.
+/// The directories and files that a command line names.
 ///
 /// A system defines the tree of each directory's name. Its `holds` and `lies` define which other answers may come for a name.
 pub trait System {
     /// A directory, as a tree.
     type Tree: Tree + Drop;
 
-    /// An opened rule file.
-    type RulesFile: Source + Drop;
+    /// An opened file.
+    type File: Source + Drop;
 
     // The tree of the directory with this name.
     ghost tree: { Self → List ℕ → Self.Tree };
@@ -30,9 +30,9 @@ pub trait System {
     fn tree(&self, alloc: Global, directory: &str) -> Result<Self::Tree, AllocError>
         ensures { IfOk result (λ t. t ≡ tree self.now directory.now) };
 
-    /// Opens the rule file with this name. It is refused by `ReadFault::Failed` or `ReadFault::Memory` alone.
-    fn open_rules(&self, alloc: Global, name: &str) -> Result<Self::RulesFile, ReadFault>
-        ensures { Opens Self.RulesFile.may_give (holds self.now name.now) result };
+    /// Opens the file with this name. It is refused by `ReadFault::Failed` or `ReadFault::Memory` alone.
+    fn open_file(&self, alloc: Global, name: &str) -> Result<Self::File, ReadFault>
+        ensures { Opens Self.File.may_give (holds self.now name.now) result };
 
     /// Returns whether the directory with this name lies in a repository, below its top.
     fn lies_in_repository(&self, alloc: Global, directory: &str) -> bool

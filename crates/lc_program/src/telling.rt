@@ -1,7 +1,8 @@
 //! Help, the version, and the lines on standard error.
 
 ghost use Rattle.std.specs.Prelude.{◌≡◌};
-ghost use Rattle.lc_program.specs.Program.{Tells, TellsCause, Introduces, Hints, EndsShown};
+ghost use Rattle.lc_program.specs.Tellings.{Tells};
+ghost use Rattle.lc_program.specs.Program.{TellsCause, Hints, EndsShown};
 ghost use Rattle.lc_program.specs.declared.ending.Ending.TheVariants as ending;
 
 use crate::cause::Cause;
@@ -10,20 +11,6 @@ use crate::system::System;
 use lc_arguments::Request;
 use lc_text::{Sink, print};
 use std::alloc::{AllocError, Global};
-use std::convert::AsStr;
-
-/// Says what is read if there are no arguments and standard input is a terminal. Without this line the program would seem to hang.
-pub fn introduce<W, E: Sink>(words: &[W], stdin_is_terminal: bool, err: &mut E)
-    ensures { Introduces E.may_take words.now stdin_is_terminal err.old err.new }
-{
-    if words.is_empty() && stdin_is_terminal {
-        // Help says it too.
-        let _ = print(
-            err,
-            b"lc: reads the lines of an ignore file, a line --, and paths from standard input; lc --help says more\n",
-        );
-    }
-}
 
 /// Writes the refusal of the arguments.
 pub fn misuse<E: Sink>(why: &str, err: &mut E) -> Ending

@@ -1,5 +1,12 @@
+pub mod PathCuts
+pub mod SameKeys
 pub mod Sorted
-pub mod Summing
+pub mod Folding
+pub mod Above
+pub mod Levels
 pub mod RowLaws
+pub mod DirectoryLaws
+pub mod TreeLaw
+pub mod ChildrenLaw
 pub mod ViewLaws
 pub mod ClassLaw

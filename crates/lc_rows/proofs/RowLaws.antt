@@ -1,62 +1,91 @@
 -- What is true of the rows that a table shows.
-use Rattle.std.proofs.Common.{◌≡◌, ℕ, Bool, true, false, List, [], ◌∷◌, Option, Some, None, refl, sym, ◌∙◌, ap, subst, arith}
+use Rattle.std.proofs.Common.{◌≡◌, ℕ, ◌+◌, Bool, true, false, List, [], ◌∷◌, map, Option, Some, None, refl, sym, ◌∙◌, ap, subst}
 use Rattle.std.specs.Bool.{MatchBool}
-use Rattle.std.specs.List.{sum_by}
-use Rattle.std.specs.List.Sorted.{IsPermutation}
-use Rattle.std.proofs.lemmas.List.{map-id}
-use Rattle.std.proofs.lemmas.List.Sums.{sum_by-cons}
+use Rattle.std.specs.List.{AllByRecursion, sum_by}
+use Rattle.std.specs.List.Sorted.{IsPermutation, IsStrictlySortedBy}
+use Rattle.std.specs.declared.cmp.Ordering.TheVariants.{Less}
 use Rattle.std.proofs.lemmas.List.Sorted.{IsPermutation-refl, sum_by-IsPermutation}
+use Rattle.std.proofs.lemmas.List.Sums.{sum_by-cons}
 use Rattle.lc_view.specs.declared.table_options.Columns.{Columns}
 use Rattle.lc_view.specs.declared.table_options.SortBy.{SortBy}
-use Rattle.lc_walk.proofs.RowSums.{same_sums, has_same}
-use Rattle.lc_walk.proofs.Totals.{same_totals}
-use Rattle.lc_walk.specs.TallyRows.{TallyRowModel, sums_of_rows, HasSumsOf, AddsUp}
-use Rattle.lc_rows.specs.Laws.{PermutationLaw, TotalsLaw, WholeLaw}
-use Rattle.lc_rows.specs.ShownRows.{AreSorted, keeps_all, key_in, rows_in}
+use Rattle.lc_walk.proofs.RowSums.{same_sums}
+use Rattle.lc_walk.specs.Key.{Key, key_cmp}
+use Rattle.lc_walk.specs.ReportLines.{FileLineModel}
+use Rattle.lc_walk.specs.Sums.{one_file}
+use Rattle.lc_walk.specs.TallyRows.{TallyRowModel, IsInOrder}
+use Rattle.lc_walk.specs.declared.tally.sums.Sums.{Sums}
+use Rattle.lc_rows.specs.Laws.{PermutationLaw, TotalsLaw, WholeLaw, all_columns, totals_of}
+use Rattle.lc_rows.specs.RowKeys.{RowKey, ShownRowModel, row_key, row_key_cmp, rows_within, sums_of_shown}
+use Rattle.lc_rows.specs.ShownRows.{AreAddedUp, AreSorted, keeps_all, part_of_file, part_of_row, parts_in, parts_of}
 
 -- sorted or not, the rows are the same
-moved : (sort : Option SortBy) (rs sorted : List TallyRowModel) → AreSorted sort rs sorted → IsPermutation rs sorted
-moved None rs sorted same = subst (λ (l : List TallyRowModel). IsPermutation rs l) (sym same) (IsPermutation-refl rs)
+pub moved : (sort : Option SortBy) (rs sorted : List ShownRowModel) → AreSorted sort rs sorted → IsPermutation rs sorted
+moved None rs sorted same = subst (λ (l : List ShownRowModel). IsPermutation rs l) (sym same) (IsPermutation-refl rs)
 moved (Some n) rs sorted h = h.0
 
 -- the rows that are shown are the summed ones in some order
 pub permutation_law : PermutationLaw
-permutation_law by sort rs shown h = (h.0, h.1, moved sort h.0 shown h.2)
+permutation_law by sort rs fs shown h = (h.0, h.1, moved sort h.0 shown h.2)
 
--- another key, and the same numbers
-same_numbers : (by : Columns) (v : TallyRowModel → ℕ) → ((r : TallyRowModel) → v (record { key = key_in by r.key; sums = r.sums }) ≡ v r)
-    → (rs : List TallyRowModel) → sum_by v (rows_in by rs) ≡ sum_by v rs
-same_numbers by v same [] = refl
-same_numbers by v same (r ∷ rs) =
-    let first = same r in
-    let rest = same_numbers by v same rs in
-    omega (arith, sum_by-cons v (record { key = key_in by r.key; sums = r.sums }) (rows_in by rs), sum_by-cons v r rs)
+-- the sum over what a list is mapped to
+pub sum_by-map : {X Y : Type 0} (v : Y → ℕ) (f : X → Y) (xs : List X) → sum_by v (map f xs) ≡ sum_by (λ x. v (f x)) xs
+sum_by-map v f [] = refl
+sum_by-map v f (x ∷ xs) =
+    sum_by-cons v (f x) (map f xs) ∙ ap (λ n. v (f x) + n) (sum_by-map v f xs) ∙ sym (sum_by-cons (λ y. v (f y)) x xs)
 
-same_under : (by : Columns) (rs : List TallyRowModel) → sums_of_rows (rows_in by rs) ≡ sums_of_rows rs
-same_under by rs =
-    same_sums _ _ (same_numbers by (λ r. r.sums.files) (λ r. refl) rs) (same_numbers by (λ r. r.sums.lines) (λ r. refl) rs)
-    (same_numbers by (λ r. r.sums.blank) (λ r. refl) rs) (same_numbers by (λ r. r.sums.bytes) (λ r. refl) rs)
+-- what the parts add up to in all
+parts_totals : (dir : Option ℕ) (by : Columns) (rs : List TallyRowModel) (fs : List FileLineModel)
+    → sums_of_shown (parts_in dir by rs fs) ≡ totals_of dir rs fs
+parts_totals None by rs fs =
+    let one : (v : Sums → ℕ) → sum_by (λ (r : ShownRowModel). v r.sums) (map (part_of_row by) rs)
+    ≡ sum_by (λ (r : TallyRowModel). v r.sums) rs = λ v. sum_by-map (λ (r : ShownRowModel). v r.sums) (part_of_row by) rs in
+    same_sums _ _ (one (λ s. s.files)) (one (λ s. s.lines)) (one (λ s. s.blank)) (one (λ s. s.bytes))
+parts_totals (Some n) by rs fs =
+    let one : (v : Sums → ℕ) → sum_by (λ (r : ShownRowModel). v r.sums) (map (part_of_file by n) fs)
+    ≡ sum_by (λ (f : FileLineModel). v (one_file f.count)) fs =
+    λ v. sum_by-map (λ (r : ShownRowModel). v r.sums) (part_of_file by n) fs in
+    same_sums _ _ (one (λ s. s.files)) (one (λ s. s.lines)) (one (λ s. s.blank)) (one (λ s. s.bytes))
 
-summed_totals : (by : Columns) (b : Bool) (rs summed : List TallyRowModel) → MatchBool b (summed ≡ rs) (AddsUp (rows_in by rs) summed)
-    → sums_of_rows summed ≡ sums_of_rows rs
-summed_totals by true rs summed same = ap sums_of_rows same
-summed_totals by false rs summed h = same_totals summed (rows_in by rs) h.same.sums ∙ same_under by rs
+-- all rows are within all keys
+all_within : (rs : List ShownRowModel) → rows_within (λ _. true) rs ≡ rs
+all_within [] = refl
+all_within (r ∷ rs) = ap (λ l. r ∷ l) (all_within rs)
 
-moved_totals : (xs ys : List TallyRowModel) → IsPermutation xs ys → sums_of_rows ys ≡ sums_of_rows xs
+added_totals : (parts rows : List ShownRowModel) → AreAddedUp parts rows → sums_of_shown rows ≡ sums_of_shown parts
+added_totals parts rows added =
+    ap sums_of_shown (sym (all_within rows)) ∙ added.sums (λ _. true) ∙ ap sums_of_shown (all_within parts)
+
+summed_totals : (b : Bool) (parts summed : List ShownRowModel) → MatchBool b (summed ≡ parts) (AreAddedUp parts summed)
+    → sums_of_shown summed ≡ sums_of_shown parts
+summed_totals true parts summed same = ap sums_of_shown same
+summed_totals false parts summed added = added_totals parts summed added
+
+moved_totals : (xs ys : List ShownRowModel) → IsPermutation xs ys → sums_of_shown ys ≡ sums_of_shown xs
 moved_totals xs ys h =
-    same_sums _ _ (sum_by-IsPermutation (λ (r : TallyRowModel). r.sums.files) xs ys h)
-    (sum_by-IsPermutation (λ (r : TallyRowModel). r.sums.lines) xs ys h)
-    (sum_by-IsPermutation (λ (r : TallyRowModel). r.sums.blank) xs ys h)
-    (sum_by-IsPermutation (λ (r : TallyRowModel). r.sums.bytes) xs ys h)
+    same_sums _ _ (sum_by-IsPermutation (λ (r : ShownRowModel). r.sums.files) xs ys h)
+    (sum_by-IsPermutation (λ (r : ShownRowModel). r.sums.lines) xs ys h)
+    (sum_by-IsPermutation (λ (r : ShownRowModel). r.sums.blank) xs ys h)
+    (sum_by-IsPermutation (λ (r : ShownRowModel). r.sums.bytes) xs ys h)
 
 -- sums over fewer columns add up to the same totals
 pub totals_law : TotalsLaw
-totals_law by sort rs shown h =
-    moved_totals h.0 shown (moved sort h.0 shown h.2) ∙ summed_totals by (keeps_all by) rs h.0 h.1
+totals_law by sort rs fs shown h =
+    moved_totals h.0 shown (moved sort h.0 shown h.2) ∙ summed_totals (keeps_all by) (parts_of by rs fs) h.0 h.1
+    ∙ parts_totals by.dir by rs fs
+
+-- keys of all columns rise as the keys of the report's rows do
+rows_above : (k : Key) (rs : List TallyRowModel) → AllByRecursion (λ y. key_cmp k y ≡ Less) (map (λ (r : TallyRowModel). r.key) rs)
+    → AllByRecursion (λ (y : RowKey). row_key_cmp (record { directory = None; key = k }) y ≡ Less)
+    (map row_key (map (part_of_row all_columns) rs))
+unfolding row_key_cmp
+rows_above k [] all = tt
+rows_above k (r ∷ rs) all = (all.0, rows_above k rs all.1)
+
+rows_rise : (rs : List TallyRowModel) → IsInOrder rs → IsStrictlySortedBy row_key_cmp (map row_key (map (part_of_row all_columns) rs))
+unfolding IsStrictlySortedBy
+rows_rise [] order = tt
+rows_rise (r ∷ rs) order = (rows_above r.key rs order.0, rows_rise rs order.1)
 
 -- rows of all columns add up to themselves
 pub whole_law : WholeLaw
-whole_law rs order = record {
-  same = subst (λ (l : List TallyRowModel). HasSumsOf l rs) (sym (map-id rs)) (has_same rs);
-  order = order;
-}
+whole_law rs order = record { sums = λ keys. refl; present = λ keys. refl; order = rows_rise rs order }

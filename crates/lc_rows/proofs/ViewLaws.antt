@@ -15,7 +15,7 @@ use Rattle.lc_view.specs.declared.table_options.SortBy.{SortBy}
 use Rattle.lc_walk.proofs.RowSums.{same_sums}
 use Rattle.lc_walk.specs.ReportLines.{FileLineModel}
 use Rattle.lc_walk.specs.Sums.{no_files, plus}
-use Rattle.lc_walk.specs.TallyRows.{TallyRowModel, sums_of_rows}
+use Rattle.lc_rows.specs.RowKeys.{ShownRowModel, sums_of_shown}
 use Rattle.lc_rows.specs.Laws.{CutTotalsLaw, FirstFilesLaw, SortedFilesLaw}
 use Rattle.lc_rows.specs.ShownFiles.{AreFilesSorted, file_cmp, file_number}
 use Rattle.lc_rows.specs.Views.{first_of, rest_of, sums_of_some}
@@ -23,23 +23,23 @@ use Rattle.lc_rows.proofs.RowLaws.{totals_law}
 use Rattle.lc_rows.proofs.Sorted.{files_rank}
 
 -- the sums over some rows, or over none
-some_sums : (rs : List TallyRowModel) → unwrap_or (sums_of_some rs) no_files ≡ sums_of_rows rs
+some_sums : (rs : List ShownRowModel) → unwrap_or (sums_of_some rs) no_files ≡ sums_of_shown rs
 some_sums [] = refl
 some_sums (r ∷ rs) = refl
 
 -- the first rows and those after them
-both_sums : (top : Option ℕ) (rs : List TallyRowModel)
-    → plus (sums_of_rows (first_of top rs)) (sums_of_rows (rest_of top rs)) ≡ sums_of_rows rs
+both_sums : (top : Option ℕ) (rs : List ShownRowModel)
+    → plus (sums_of_shown (first_of top rs)) (sums_of_shown (rest_of top rs)) ≡ sums_of_shown rs
 both_sums None rs = same_sums _ _ (omega arith) (omega arith) (omega arith) (omega arith)
 both_sums (Some n) rs =
-    same_sums _ _ (sum_by-take-drop (λ (r : TallyRowModel). r.sums.files) rs n)
-    (sum_by-take-drop (λ (r : TallyRowModel). r.sums.lines) rs n)
-    (sum_by-take-drop (λ (r : TallyRowModel). r.sums.blank) rs n) (sum_by-take-drop (λ (r : TallyRowModel). r.sums.bytes) rs n)
+    same_sums _ _ (sum_by-take-drop (λ (r : ShownRowModel). r.sums.files) rs n)
+    (sum_by-take-drop (λ (r : ShownRowModel). r.sums.lines) rs n)
+    (sum_by-take-drop (λ (r : ShownRowModel). r.sums.blank) rs n) (sum_by-take-drop (λ (r : ShownRowModel). r.sums.bytes) rs n)
 
 -- the rows that are shown and the sums over the others add up
 pub cut_totals_law : CutTotalsLaw
-cut_totals_law by sort top rs rows files shown =
-    ap (plus (sums_of_rows (first_of top rows))) (some_sums (rest_of top rows)) ∙ both_sums top rows ∙ totals_law by sort rs rows shown
+cut_totals_law by sort top rs fs rows files shown =
+    ap (plus (sums_of_shown (first_of top rows))) (some_sums (rest_of top rows)) ∙ both_sums top rows ∙ totals_law by sort rs fs rows shown
 
 -- sorted or not, the files are the same
 pub sorted_files_law : SortedFilesLaw

@@ -1,39 +1,98 @@
 -- What is true of the rows and files that a table shows.
-use Rattle.std.specs.Prelude.{◌≡◌, ◌≤◌, ℕ, true, List, Option, Some, unwrap_or}
-use Rattle.std.specs.List.{All}
+use Rattle.std.specs.Prelude.{◌≡◌, ◌≤◌, ◌&&◌, ℕ, true, List, length, map, Option, Some, None, unwrap_or}
+use Rattle.std.specs.List.{All, AllPass, filter}
 use Rattle.std.specs.List.Sorted.{IsPermutation}
 use Rattle.lc_view.specs.declared.table_options.Columns.{Columns}
 use Rattle.lc_view.specs.declared.table_options.SortBy.{SortBy}
+use Rattle.lc_glob.specs.Path.{is_good_path}
+use Rattle.lc_walk.specs.Key.{Key, same_key}
 use Rattle.lc_walk.specs.ReportLines.{FileLineModel}
-use Rattle.lc_walk.specs.Sums.{no_files, plus}
-use Rattle.lc_walk.specs.TallyRows.{TallyRowModel, sums_of_rows, IsInOrder, AddsUp}
+use Rattle.lc_walk.specs.Sums.{no_files, one_file, plus}
+use Rattle.lc_walk.specs.TallyRows.{TallyRowModel, sums_of_rows, IsInOrder}
+use Rattle.lc_walk.specs.declared.tally.sums.Sums.{Sums}
 use Rattle.lc_rows.specs.Classes.{binary_sums, text_sums}
+use Rattle.lc_rows.specs.Directories.{directory_of}
+use Rattle.lc_rows.specs.RowKeys.{RowKey, ShownRowModel, rows_within, same_row_key, sums_of_shown, sums_over}
 use Rattle.lc_rows.specs.ShownFiles.{AreFilesSorted, file_number}
-use Rattle.lc_rows.specs.ShownRows.{AreShown, AreSummed, rows_in}
+use Rattle.lc_rows.specs.ShownRows.{AreAddedUp, AreShown, AreSummed, file_key, key_in, part_of_row}
+use Rattle.lc_rows.specs.TreeRows.{AreTreeRows, is_below, is_child, is_in}
 use Rattle.lc_rows.specs.Views.{first_of, rest_of, view_of}
 
 -- they are the summed ones, each once
 abbrev pub PermutationLaw : Type 0
 PermutationLaw =
-    (by : Columns) (sort : Option SortBy) (rs shown : List TallyRowModel) → AreShown by sort rs shown
-    → (summed : List TallyRowModel) × AreSummed by rs summed × IsPermutation summed shown
+    (by : Columns) (sort : Option SortBy) (rs : List TallyRowModel) (fs : List FileLineModel) (shown : List ShownRowModel)
+    → AreShown by sort rs fs shown → (summed : List ShownRowModel) × AreSummed by rs fs summed × IsPermutation summed shown
 
--- whatever columns are left out, and however they are sorted, their sums are those of all rows
+-- the sums over all files
+abbrev pub sums_of_lines : List FileLineModel → Sums
+sums_of_lines fs = sums_over (λ (f : FileLineModel). one_file f.count) fs
+
+-- the sums over all that a table adds up: the rows of the report, or for a table of directories the files
+abbrev pub totals_of : Option ℕ → List TallyRowModel → List FileLineModel → Sums
+totals_of None rs fs = sums_of_rows rs
+totals_of (Some n) rs fs = sums_of_lines fs
+
+-- whatever columns are left out, and however the rows are sorted, their sums are those of all rows of the report, or of all files
 abbrev pub TotalsLaw : Type 0
 TotalsLaw =
-    (by : Columns) (sort : Option SortBy) (rs shown : List TallyRowModel) → AreShown by sort rs shown
-    → sums_of_rows shown ≡ sums_of_rows rs
+    (by : Columns) (sort : Option SortBy) (rs : List TallyRowModel) (fs : List FileLineModel) (shown : List ShownRowModel)
+    → AreShown by sort rs fs shown → sums_of_shown shown ≡ totals_of by.dir rs fs
+
+-- all columns of a report's rows, and no directories
+abbrev pub all_columns : Columns
+all_columns = record { dir = None; ext = true; text = true; eol = true }
 
 -- rows in order of their keys add up to themselves where no column is left out
 abbrev pub WholeLaw : Type 0
-WholeLaw = (rs : List TallyRowModel) → IsInOrder rs → AddsUp (rows_in (record { ext = true; text = true; eol = true }) rs) rs
+WholeLaw = (rs : List TallyRowModel) → IsInOrder rs → AreAddedUp (map (part_of_row all_columns) rs) (map (part_of_row all_columns) rs)
+
+-- the rows of directories that are cut to n segments
+abbrev pub by_directories : ℕ → Columns → Columns
+by_directories n by = record { dir = Some n; ext = by.ext; text = by.text; eol = by.eol }
+
+-- the row of a file in a table of directories: its directory, cut, and its key in the columns that are kept
+abbrev pub file_row_key : ℕ → Columns → FileLineModel → RowKey
+file_row_key n by f = record { directory = Some (directory_of n f.path); key = key_in by (file_key f) }
+
+-- for each directory and key, the rows have the sums over the files whose directory is cut to that one and which have that key
+abbrev pub DirectoriesLaw : Type 0
+DirectoriesLaw =
+    (n : ℕ) (by : Columns) (sort : Option SortBy) (rs : List TallyRowModel) (fs : List FileLineModel) (shown : List ShownRowModel)
+    (k : RowKey) → AreShown (by_directories n by) sort rs fs shown
+    → sums_of_shown (rows_within (same_row_key k) shown) ≡ sums_of_lines (filter (λ f. same_row_key k (file_row_key n by f)) fs)
+
+-- each file is in exactly one row
+abbrev pub OneRowLaw : Type 0
+OneRowLaw =
+    (n : ℕ) (by : Columns) (sort : Option SortBy) (rs : List TallyRowModel) (fs : List FileLineModel) (shown : List ShownRowModel)
+    → AreShown (by_directories n by) sort rs fs shown
+    → All (λ f. length (rows_within (same_row_key (file_row_key n by f)) shown) ≡ 1) fs
+
+-- for each directory and key, the rows of a tree have the sums over the files in this directory and below it which have that key
+abbrev pub TreeLaw : Type 0
+TreeLaw =
+    (by : Columns) (fs : List FileLineModel) (rows : List ShownRowModel) (directory : List ℕ) (key : Key)
+    → AllPass (λ f. is_good_path f.path) fs → AreTreeRows by fs rows
+    → sums_of_shown (rows_within (same_row_key (record { directory = Some directory; key = key })) rows)
+    ≡ sums_of_lines (filter (λ f. is_below directory f.path && same_key key (key_in by (file_key f))) fs)
+
+-- for each directory and key, the sums of a row of a tree are those over the files right in the directory, and those of the rows of the
+-- directories right in it
+abbrev pub ChildrenLaw : Type 0
+ChildrenLaw =
+    (by : Columns) (fs : List FileLineModel) (rows : List ShownRowModel) (directory : List ℕ) (key : Key)
+    → AllPass (λ f. is_good_path f.path) fs → AreTreeRows by fs rows
+    → sums_of_shown (rows_within (same_row_key (record { directory = Some directory; key = key })) rows)
+    ≡ plus (sums_of_lines (filter (λ f. is_in directory f.path && same_key key (key_in by (file_key f))) fs))
+    (sums_of_shown (rows_within (λ k. is_child directory k.directory && same_key key k.key) rows))
 
 -- the rows that are shown where a table is cut, and the sums over the others, add up to those over all
 abbrev pub CutTotalsLaw : Type 0
 CutTotalsLaw =
-    (by : Columns) (sort : Option SortBy) (top : Option ℕ) (rs rows : List TallyRowModel) (files : List FileLineModel)
-    → AreShown by sort rs rows
-    → plus (sums_of_rows (view_of top rows files).rows) (unwrap_or (view_of top rows files).others no_files) ≡ sums_of_rows rs
+    (by : Columns) (sort : Option SortBy) (top : Option ℕ) (rs : List TallyRowModel) (fs : List FileLineModel)
+    (rows : List ShownRowModel) (files : List FileLineModel) → AreShown by sort rs fs rows
+    → plus (sums_of_shown (view_of top rows files).rows) (unwrap_or (view_of top rows files).others no_files) ≡ totals_of by.dir rs fs
 
 -- sorted files are the files, each once
 abbrev pub SortedFilesLaw : Type 0

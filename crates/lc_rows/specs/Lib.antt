@@ -1,6 +1,10 @@
+pub mod Directories
+pub mod RowKeys
+pub mod Parts
 pub mod ShownRows
-pub mod LentRows
 pub mod ShownFiles
+pub mod AddingUp
+pub mod TreeRows
 pub mod Views
 pub mod Classes
 pub mod Laws

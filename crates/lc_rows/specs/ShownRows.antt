@@ -1,5 +1,5 @@
--- The rows that a table shows: summed over the columns that are left out, and sorted.
-use Rattle.std.specs.Prelude.{◌≡◌, ℕ, Bool, ◌&&◌, if◌then◌else◌, List, map, Option, Some, None}
+-- The rows that a table shows: summed over the columns that it leaves out, and sorted.
+use Rattle.std.specs.Prelude.{◌≡◌, ℕ, Bool, true, false, ◌&&◌, if◌then◌else◌, List, map, Option, Some, None}
 use Rattle.std.specs.Bool.{MatchBool}
 use Rattle.std.specs.List.Sorted.{IsPermutation, IsSorted}
 use Rattle.std.specs.Ordering.{nat_cmp, on, then_cmp}
@@ -9,9 +9,14 @@ use Rattle.lc_rules.specs.declared.states.TextState.TheVariants.{Unspecified}
 use Rattle.lc_view.specs.declared.table_options.Columns.{Columns}
 use Rattle.lc_view.specs.declared.table_options.SortBy.{SortBy}
 use Rattle.lc_view.specs.declared.table_options.SortBy.TheVariants.{Files, Lines, Blank, Bytes}
-use Rattle.lc_walk.specs.Key.{Key, key_cmp}
-use Rattle.lc_walk.specs.TallyRows.{TallyRowModel, AddsUp}
+use Rattle.lc_walk.specs.Extension.{extension_of}
+use Rattle.lc_walk.specs.Key.{Key}
+use Rattle.lc_walk.specs.ReportLines.{FileLineModel}
+use Rattle.lc_walk.specs.Sums.{one_file}
+use Rattle.lc_walk.specs.TallyRows.{TallyRowModel}
 use Rattle.lc_walk.specs.declared.tally.sums.Sums.{Sums}
+use Rattle.lc_rows.specs.Directories.{directory_of, name_of}
+use Rattle.lc_rows.specs.RowKeys.{RowKey, ShownRowModel, AreInRowOrder, has_within, row_key, row_key_cmp, rows_within, sums_of_shown}
 
 -- the key in the columns that are kept; a column that is left out is the same in all keys
 abbrev pub key_in : Columns → Key → Key
@@ -21,17 +26,44 @@ key_in by k = record {
   eol = if by.eol then k.eol else NoEnd;
 }
 
--- the rows under these keys
-abbrev pub rows_in : Columns → List TallyRowModel → List TallyRowModel
-rows_in by rs = map (λ r. record { key = key_in by r.key; sums = r.sums }) rs
+-- the key of a file, as the walk's tally has it
+abbrev pub file_key : FileLineModel → Key
+file_key f = record { extension = extension_of (name_of f.path); text = f.text; eol = f.count.eol }
 
--- whether no column is left out
+-- what a row of the report adds to a table without directories
+abbrev pub part_of_row : Columns → TallyRowModel → ShownRowModel
+part_of_row by r = record { directory = None; key = key_in by r.key; sums = r.sums }
+
+-- what a file adds to a table of directories that are cut to n segments
+abbrev pub part_of_file : Columns → ℕ → FileLineModel → ShownRowModel
+part_of_file by n f = record { directory = Some (directory_of n f.path); key = key_in by (file_key f); sums = one_file f.count }
+
+-- what the rows of a table add up: the rows of the report, or for a table of directories the files
+abbrev pub parts_in : Option ℕ → Columns → List TallyRowModel → List FileLineModel → List ShownRowModel
+parts_in None by rs fs = map (part_of_row by) rs
+parts_in (Some n) by rs fs = map (part_of_file by n) fs
+
+abbrev pub parts_of : Columns → List TallyRowModel → List FileLineModel → List ShownRowModel
+parts_of by rs fs = parts_in by.dir by rs fs
+
+-- a row for each key that some part has, with the sums over the parts of this key, in order of keys. So for each set of keys, rows and
+-- parts have the same sums, and some row is in the set where some part is
+pub record AreAddedUp (parts rows : List ShownRowModel) : Type 0 where
+  pub sums : (keys : RowKey → Bool) → sums_of_shown (rows_within keys rows) ≡ sums_of_shown (rows_within keys parts)
+  pub present : (keys : RowKey → Bool) → has_within keys rows ≡ has_within keys parts
+  pub order : AreInRowOrder rows
+
+-- whether the rows of a report are those of a table: no column is left out, and there are no directories
+abbrev pub has_no_directories : Option ℕ → Bool
+has_no_directories None = true
+has_no_directories (Some n) = false
+
 abbrev pub keeps_all : Columns → Bool
-keeps_all by = by.ext && by.text && by.eol
+keeps_all by = has_no_directories by.dir && by.ext && by.text && by.eol
 
--- the rows as they stand, or summed over the columns that are left out
-abbrev pub AreSummed : Columns → List TallyRowModel → List TallyRowModel → Type 0
-AreSummed by rs summed = MatchBool (keeps_all by) (summed ≡ rs) (AddsUp (rows_in by rs) summed)
+-- the rows as they stand in the report, or what the parts add up to
+abbrev pub AreSummed : Columns → List TallyRowModel → List FileLineModel → List ShownRowModel → Type 0
+AreSummed by rs fs summed = MatchBool (keeps_all by) (summed ≡ parts_of by rs fs) (AreAddedUp (parts_of by rs fs) summed)
 
 -- the number that rows are sorted by
 abbrev pub number_in : SortBy → Sums → ℕ
@@ -41,18 +73,18 @@ number_in Blank s = s.blank
 number_in Bytes s = s.bytes
 
 -- the largest number first
-abbrev pub by_number : SortBy → TallyRowModel → TallyRowModel → Ordering
+abbrev pub by_number : SortBy → ShownRowModel → ShownRowModel → Ordering
 by_number n a b = nat_cmp (number_in n b.sums) (number_in n a.sums)
 
--- the largest number first, and rows of equal numbers by their keys
-abbrev pub row_cmp : SortBy → TallyRowModel → TallyRowModel → Ordering
-row_cmp n = then_cmp (by_number n) (on (λ (r : TallyRowModel). r.key) key_cmp)
+-- the largest number first, and rows of equal numbers by their directories and keys
+abbrev pub row_cmp : SortBy → ShownRowModel → ShownRowModel → Ordering
+row_cmp n = then_cmp (by_number n) (on row_key row_key_cmp)
 
 -- the rows as they stand, or sorted
-abbrev pub AreSorted : Option SortBy → List TallyRowModel → List TallyRowModel → Type 0
+abbrev pub AreSorted : Option SortBy → List ShownRowModel → List ShownRowModel → Type 0
 AreSorted None rs sorted = sorted ≡ rs
 AreSorted (Some n) rs sorted = IsPermutation rs sorted × IsSorted (row_cmp n) sorted
 
--- the rows that a table shows of these
-abbrev pub AreShown : Columns → Option SortBy → List TallyRowModel → List TallyRowModel → Type 0
-AreShown by sort rs shown = (summed : List TallyRowModel) × AreSummed by rs summed × AreSorted sort summed shown
+-- the rows that a table shows of a report's rows and files
+abbrev pub AreShown : Columns → Option SortBy → List TallyRowModel → List FileLineModel → List ShownRowModel → Type 0
+AreShown by sort rs fs shown = (summed : List ShownRowModel) × AreSummed by rs fs summed × AreSorted sort summed shown

@@ -1,13 +1,13 @@
 -- What a table shows of the rows and files that it has: as many as are asked for.
 use Rattle.std.specs.Prelude.{ℕ, List, [], ◌∷◌, take, drop, Option, Some, None}
 use Rattle.lc_rows.specs.declared.cut.View.{View}
+use Rattle.lc_rows.specs.RowKeys.{ShownRowModel, sums_of_shown}
 use Rattle.lc_walk.specs.ReportLines.{FileLineModel}
-use Rattle.lc_walk.specs.TallyRows.{TallyRowModel, sums_of_rows}
 use Rattle.lc_walk.specs.declared.tally.sums.Sums.{Sums}
 
 -- rows, the sums over those that are cut off where some are, and files
 pub record ViewModel : Type 0 where
-  pub rows : List TallyRowModel
+  pub rows : List ShownRowModel
   pub others : Option Sums
   pub files : List FileLineModel
 
@@ -25,12 +25,12 @@ rest_of None xs = []
 rest_of (Some n) xs = drop n xs
 
 -- the sums over rows, where there are some
-abbrev pub sums_of_some : List TallyRowModel → Option Sums
+abbrev pub sums_of_some : List ShownRowModel → Option Sums
 sums_of_some [] = None
-sums_of_some (r ∷ rs) = Some (sums_of_rows (r ∷ rs))
+sums_of_some (r ∷ rs) = Some (sums_of_shown (r ∷ rs))
 
 -- the first of these rows and files, and the sums over the other rows
-abbrev pub view_of : Option ℕ → List TallyRowModel → List FileLineModel → ViewModel
+abbrev pub view_of : Option ℕ → List ShownRowModel → List FileLineModel → ViewModel
 view_of top rows files = record {
   rows = first_of top rows;
   others = sums_of_some (rest_of top rows);

@@ -1,17 +1,18 @@
 //! Where a table is cut: its first rows, the sums over the others, and its first files.
 
 ghost use Rattle.std.specs.Prelude.{◌≡◌, IfOk};
+ghost use Rattle.lc_rows.specs.RowKeys.{sums_of_shown};
 ghost use Rattle.lc_rows.specs.Views.{first_of, rest_of, sums_of_some, view_model, view_of};
-ghost use Rattle.lc_walk.specs.TallyRows.{sums_of_rows};
 
-use lc_walk::{FileLine, Sums, TallyRow};
+use crate::shown_row::ShownRow;
+use lc_walk::{FileLine, Sums};
 use std::alloc::AllocError;
 
 /// What a table shows of its rows and files ([`View::of`]).
 #[derive(Clone, Copy)]
 pub struct View<'a> {
     /// The first rows.
-    pub rows: &'a [TallyRow],
+    pub rows: &'a [ShownRow<'a>],
     /// The sums over the rows that are cut off, if some are.
     pub others: Option<Sums>,
     /// The first files.
@@ -28,17 +29,17 @@ fn split_at_top<T>(top: Option<u32>, items: &[T]) -> (&[T], &[T])
     }
 }
 
-fn sums_of(rows: &[TallyRow]) -> Result<Sums, AllocError>
-    ensures { IfOk result (λ sums. sums ≡ sums_of_rows rows.now) }
+fn sums_of(rows: &[ShownRow<'_>]) -> Result<Sums, AllocError>
+    ensures { IfOk result (λ sums. sums ≡ sums_of_shown rows.now) }
 {
     let mut sums = Sums::none();
     for row in rows {
-        sums = sums.checked_add(row.sums()).ok_or(AllocError)?;
+        sums = sums.checked_add(row.sums).ok_or(AllocError)?;
     }
     Ok(sums)
 }
 
-fn sums_of_some(rows: &[TallyRow]) -> Result<Option<Sums>, AllocError>
+fn sums_of_some(rows: &[ShownRow<'_>]) -> Result<Option<Sums>, AllocError>
     ensures { IfOk result (λ sums. sums ≡ sums_of_some rows.now) }
 {
     if rows.is_empty() {
@@ -54,7 +55,7 @@ impl<'a> View<'a> {
     /// It stops with an error for rows that no walk has, whose sums overflow.
     pub fn of(
         top: Option<u32>,
-        rows: &'a [TallyRow],
+        rows: &'a [ShownRow<'a>],
         files: &'a [FileLine],
     ) -> Result<View<'a>, AllocError>
         ensures { IfOk result (λ view. view_model view ≡ view_of top rows.entry.now files.entry.now) }

@@ -1,23 +1,36 @@
 //! What a table shows of a report: its rows, summed, sorted, and by class.
 //!
 //! - `shown`: the rows that a table shows, summed over the columns that it leaves out, and sorted
+//! - `shown_row`, `row_key`: a row, and its key; `parts`, `adding_up`: what rows add up, and how
+//! - `directories`: the directories of files; `directory_tree`, `depth_first`: the rows of a tree of directories, and their order
 //! - `files`: the files that it lists, sorted; `cut`: its first rows and files, and the sums over the other rows
 //! - `classes`: the sums over all files, over binary ones and over others
 //! - `laws`: what is true of the definitions that the contracts cite
 #![tactic(auto)]
 
+mod adding_up;
 mod classes;
 mod cut;
+mod depth_first;
+mod directories;
+mod directory_tree;
 mod files;
 mod laws;
+mod parts;
+mod row_key;
 mod shown;
+mod shown_row;
 
 pub use classes::{AllSums, ClassSums};
 pub use cut::View;
+pub use directories::directory_at;
+pub use directory_tree::tree_rows;
 pub use files::sort_files;
 pub use laws::{
-    classes_add_up_to_all_rows, shown_rows_are_the_summed_ones, shown_rows_keep_the_totals,
-    sorted_files_are_the_files, the_first_files_are_the_largest, what_is_cut_off_adds_up,
-    whole_keys_add_up_to_themselves,
+    a_directory_is_its_files_and_its_children, classes_add_up_to_all_rows, each_file_is_in_one_row,
+    rows_of_a_directory_are_the_sums_of_its_files, rows_of_a_tree_are_the_sums_of_what_is_below,
+    shown_rows_are_the_summed_ones, shown_rows_keep_the_totals, sorted_files_are_the_files,
+    the_first_files_are_the_largest, what_is_cut_off_adds_up, whole_keys_add_up_to_themselves,
 };
-pub use shown::{ShownRows, shown_rows};
+pub use shown::shown_rows;
+pub use shown_row::ShownRow;

@@ -1,11 +1,13 @@
 -- The rule that decides is the last one that matches.
-use Rattle.std.proofs.Common.{◌≡◌, ℕ, Bool, true, false, cond, ◌||◌, List, [], ◌∷◌, Option, Some, None, MatchOption, filter}
-use Rattle.std.proofs.Common.{refl, sym, ◌∙◌, ap, ap₂, subst}
+use Rattle.std.proofs.Common.{◌≡◌, ℕ, Bool, true, false, cond, ◌||◌, List, [], ◌∷◌, ◌++◌, Option, Some, None, MatchOption, filter}
+use Rattle.std.proofs.Common.{refl, sym, ◌∙◌, ap, ap₂, subst, append-nil}
 use Rattle.std.specs.Option.{option_or}
 use Rattle.std.specs.List.{list_any, last_or}
 use Rattle.lc_rules.specs.IgnoreRules.{RuleModel}
 use Rattle.lc_rules.specs.declared.rule_source.RuleSource.{RuleSource}
-use Rattle.lc_rules.specs.IgnoreLaws.{IsLastMatch, LastMatchLaw}
+use Rattle.lc_rules.specs.declared.rule_source.RuleSource.TheVariants.{CommandLine, ExcludeFrom, InfoExclude}
+use Rattle.lc_rules.specs.IgnoreChains.{joined, rules_if, rules_in, with_given}
+use Rattle.lc_rules.specs.IgnoreLaws.{CommandLineLaw, IsLastMatch, LastMatchLaw}
 use Rattle.lc_rules.specs.Verdicts.{rule_matches, last_match}
 use Rattle.lc_rules.proofs.LastRule.{last_match-append, last_match_one}
 
@@ -59,3 +61,11 @@ module _ (path : List ℕ) (is_dir : Bool) where
 -- the rule that decides is the last one that matches, and no other rule is
 pub decides_by_last : LastMatchLaw
 decides_by_last rules path is_dir = (told path is_dir rules, last_decides path is_dir rules)
+
+-- the command line decides, or else the files
+pub decides_by_command_line : CommandLineLaw
+decides_by_command_line chain path is_dir =
+    let files = rules_if ExcludeFrom chain.exclude ++ rules_if InfoExclude chain.info ++ joined chain.tree in
+    last_match-append files (rules_if CommandLine chain.command_line) path is_dir
+    ∙ ap (λ l. option_or (last_match (rules_if CommandLine chain.command_line) path is_dir) (last_match l path is_dir))
+    (sym (append-nil files))

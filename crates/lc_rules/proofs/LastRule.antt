@@ -14,7 +14,7 @@ use Rattle.lc_rules.specs.IgnoreRules.{RuleModel, patterns_of}
 use Rattle.lc_rules.specs.IgnoreChains.{ChainModel, joined, rules_if, rules_in}
 use Rattle.lc_rules.specs.Verdicts.{below, rule_matches, last_match, depth_at, at_depth, from_file}
 use Rattle.lc_rules.specs.declared.rule_source.RuleSource.{RuleSource}
-use Rattle.lc_rules.specs.declared.rule_source.RuleSource.TheVariants.{ExcludeFrom, InfoExclude, Gitignore}
+use Rattle.lc_rules.specs.declared.rule_source.RuleSource.TheVariants.{ExcludeFrom, InfoExclude, Gitignore, CommandLine}
 
 last_or-append : {A : Type 0} (o : Option A) (xs ys : List A) → last_or o (xs ++ ys) ≡ last_or (last_or o xs) ys
 last_or-append o [] ys = refl
@@ -140,16 +140,19 @@ module _ (files nearer : List (ℕ × List RuleModel)) (d : ℕ) (rules : List R
       ∙ ap (option_or (last_match (joined nearer) path is_dir)) (sym (file_below (Gitignore d) rules path is_dir))
       ∙ sym (ap (λ l. last_match (joined l) path is_dir) split ∙ last_match-append (at_depth d rules) (joined nearer) path is_dir)
 
--- the files of the tree decide, or else that of `.git/info`, or else the exclude file
-pub chain_decides : (c : ChainModel) (path : List ℕ) (is_dir : Bool) (tree info exclude : Option (RuleSource × RuleModel))
+-- the command line decides, or else the files of the tree, or else that of `.git/info`, or else the exclude file
+pub chain_decides : (c : ChainModel) (path : List ℕ) (is_dir : Bool) (given tree info exclude : Option (RuleSource × RuleModel))
+    → given ≡ last_match (rules_if CommandLine c.command_line) path is_dir
     → tree ≡ last_match (joined c.tree) path is_dir → info ≡ last_match (rules_if InfoExclude c.info) path is_dir
     → exclude ≡ last_match (rules_if ExcludeFrom c.exclude) path is_dir
-    → option_or tree (option_or info exclude) ≡ last_match (rules_in c) path is_dir
-chain_decides c path is_dir tree info exclude by_tree by_info by_exclude =
-    ap₂ option_or by_tree (ap₂ option_or by_info by_exclude)
+    → option_or given (option_or tree (option_or info exclude)) ≡ last_match (rules_in c) path is_dir
+chain_decides c path is_dir given tree info exclude by_given by_tree by_info by_exclude =
+    ap₂ option_or by_given (ap₂ option_or by_tree (ap₂ option_or by_info by_exclude)
     ∙ sym (last_match-append (rules_if ExcludeFrom c.exclude ++ rules_if InfoExclude c.info) (joined c.tree) path is_dir
     ∙ ap (option_or (last_match (joined c.tree) path is_dir))
-    (last_match-append (rules_if ExcludeFrom c.exclude) (rules_if InfoExclude c.info) path is_dir))
+    (last_match-append (rules_if ExcludeFrom c.exclude) (rules_if InfoExclude c.info) path is_dir)))
+    ∙ sym (last_match-append (rules_if ExcludeFrom c.exclude ++ rules_if InfoExclude c.info ++ joined c.tree)
+    (rules_if CommandLine c.command_line) path is_dir)
 
 -- a file at the top decides as it does alone, by rules of its own source
 pub file_decides : {B : Type 0} (now : B → RuleModel) (o : RuleSource) (file : Option (List RuleModel)) (rules : List RuleModel)

@@ -1,9 +1,12 @@
 -- What holds of the rules of ignore files and of the rule that decides.
-use Rattle.std.specs.Prelude.{◌≡◌, ◌<◌, ◌+◌, ℕ, Bool, true, false, List, [], ◌∷◌, ◌++◌, length, Some, MatchOption}
+use Rattle.std.specs.Prelude.{◌≡◌, ◌<◌, ◌+◌, ℕ, Bool, true, false, List, [], ◌∷◌, ◌++◌, length, Some, None, MatchOption}
 use Rattle.std.specs.List.{All, list_any, slice_index_or}
+use Rattle.std.specs.Option.{option_or}
+use Rattle.lc_rules.specs.IgnoreChains.{ChainModel, rules_if, rules_in, with_given}
 use Rattle.lc_rules.specs.IgnoreRules.{RuleModel, rule_of_line, rules_of}
 use Rattle.lc_rules.specs.RuleLines.{lines_of}
 use Rattle.lc_rules.specs.declared.rule_source.RuleSource.{RuleSource}
+use Rattle.lc_rules.specs.declared.rule_source.RuleSource.TheVariants.{CommandLine}
 use Rattle.lc_rules.specs.Verdicts.{rule_matches, last_match}
 
 -- a rule that stands among the rules and matches, where no later one matches
@@ -21,6 +24,15 @@ LastMatchLaw =
     (rules : List (RuleSource × RuleModel)) (path : List ℕ) (is_dir : Bool)
     → MatchOption (last_match rules path is_dir) (list_any (rule_matches path is_dir) rules ≡ false) (IsLastMatch rules path is_dir)
     × ((rule : RuleSource × RuleModel) → IsLastMatch rules path is_dir rule → last_match rules path is_dir ≡ Some rule)
+
+-- the last pattern of the command line that matches decides, whatever the files say; where none matches, the files decide as they do
+-- without it
+abbrev pub CommandLineLaw : Type 0
+CommandLineLaw =
+    (chain : ChainModel) (path : List ℕ) (is_dir : Bool)
+    → last_match (rules_in chain) path is_dir
+    ≡ option_or (last_match (rules_if CommandLine chain.command_line) path is_dir)
+    (last_match (rules_in (with_given chain chain.exclude None)) path is_dir)
 
 -- a rule that the line with its number gives
 pub record IsOnLine (lines : List (List ℕ)) (rule : RuleModel) : Type 0 where

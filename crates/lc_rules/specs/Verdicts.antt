@@ -6,7 +6,7 @@ use Rattle.lc_glob.specs.Pieces.{is_byte}
 use Rattle.lc_glob.specs.IsMatch.{is_match}
 use Rattle.lc_rules.specs.IgnoreRules.{RuleModel}
 use Rattle.lc_rules.specs.declared.rule_source.RuleSource.{RuleSource}
-use Rattle.lc_rules.specs.declared.rule_source.RuleSource.TheVariants.{ExcludeFrom, InfoExclude, Gitignore}
+use Rattle.lc_rules.specs.declared.rule_source.RuleSource.TheVariants.{ExcludeFrom, InfoExclude, Gitignore, CommandLine}
 use Rattle.lc_rules.specs.declared.verdicts.Verdict.{Verdict}
 use Rattle.lc_rules.specs.declared.verdicts.Verdict.TheVariants.{Ignored, Included, NoRule}
 
@@ -20,6 +20,7 @@ abbrev pub depth_at : RuleSource → ℕ
 depth_at ExcludeFrom = 0
 depth_at InfoExclude = 0
 depth_at (Gitignore depth) = depth
+depth_at CommandLine = 0
 
 -- whether a rule of a file of this source matches a path
 abbrev pub rule_matches : List ℕ → Bool → (RuleSource × RuleModel) → Bool

@@ -2,7 +2,8 @@
 
 ghost use Rattle.std.specs.Prelude.{◌≡◌, ℕ, option_map, IfOk};
 ghost use Rattle.lc_rules.specs.Chains.{lent};
-ghost use Rattle.lc_rules.specs.IgnoreChains.{joined, no_ignore_files, rules_if, rules_in, with_exclude, with_info, with_own};
+ghost use Rattle.lc_rules.specs.IgnoreChains.{joined, no_ignore_files, rules_if, rules_in};
+ghost use Rattle.lc_rules.specs.IgnoreChains.{with_command_line, with_exclude, with_info, with_no_ignore, with_own};
 ghost use Rattle.lc_rules.specs.Verdicts.{last_match, depth_at, verdict_of};
 ghost use Rattle.lc_rules.specs.declared.rule_source.RuleSource.{RuleSource as RuleSourceModel};
 ghost use Rattle.lc_rules.specs.declared.rule_source.RuleSource.TheVariants.{Gitignore};
@@ -17,13 +18,15 @@ use std::alloc::{AllocError, Global};
 use std::marker::Model;
 use std::sync::Arc;
 
-/// The ignore files for a directory's entries: the exclude file of the whole tree, that of `.git/info`, and those of the tree
-/// from the top down, each with the depth of its directory. Each overrides those before it.
+/// The rules for a directory's entries: the exclude file of the whole tree, that of `.git/info`, those of the tree from the top
+/// down, each with the depth of its directory, and the patterns of the command line. Each overrides those before it.
 #[derive(Drop)]
 pub struct Chain {
     exclude: Option<Arc<IgnoreFile, Global>>,
     info: Option<Arc<IgnoreFile, Global>>,
     tree: ChainFiles<IgnoreFile>,
+    command_line: Option<Arc<IgnoreFile, Global>>,
+    no_ignore: bool,
 }
 
 impl Model for Chain {
@@ -32,7 +35,13 @@ impl Model for Chain {
 
     ghost Value = { ChainModel };
 
-    ghost view = { λ c. record { exclude = lent c.exclude; info = lent c.info; tree = c.tree } };
+    ghost view = { λ c. record {
+      exclude = lent c.exclude;
+      info = lent c.info;
+      tree = c.tree;
+      command_line = lent c.command_line;
+      no_ignore = c.no_ignore;
+    } };
 }
 
 impl Chain {
@@ -44,6 +53,8 @@ impl Chain {
             exclude: None,
             info: None,
             tree: ChainFiles::new(),
+            command_line: None,
+            no_ignore: false,
         }
     }
 
@@ -56,9 +67,36 @@ impl Chain {
         };
         Chain {
             exclude: Some(file),
-            info: self.info,
-            tree: self.tree,
+            ..self
         }
+    }
+
+    /// The chain with the patterns of the command line, or an equal one. They override the rules of every file, also of those that
+    /// the chain gains later.
+    pub fn with_command_line(self, file: Option<Arc<IgnoreFile, Global>>) -> Chain
+        ensures { result ≡ with_command_line self file }
+    {
+        let Some(file) = file else {
+            return self;
+        };
+        Chain {
+            command_line: Some(file),
+            ..self
+        }
+    }
+
+    /// The chain of a tree of which no ignore file is read, or of which each is read.
+    pub fn with_no_ignore(self, no_ignore: bool) -> Chain
+        ensures { result ≡ with_no_ignore self no_ignore }
+    {
+        Chain { no_ignore, ..self }
+    }
+
+    /// Whether no ignore file of the tree is read.
+    pub fn no_ignore(&self) -> bool
+        ensures { result ≡ self.now.no_ignore }
+    {
+        self.no_ignore
     }
 
     /// The chain with the file of `.git/info/exclude`, or an equal one.
@@ -69,9 +107,8 @@ impl Chain {
             return self;
         };
         Chain {
-            exclude: self.exclude,
             info: Some(file),
-            tree: self.tree,
+            ..self
         }
     }
 
@@ -86,11 +123,14 @@ impl Chain {
     {
         let exclude = share(&self.exclude)?;
         let info = share(&self.info)?;
+        let command_line = share(&self.command_line)?;
         let tree = self.tree.with(alloc, depth, file)?;
         Ok(Chain {
             exclude,
             info,
             tree,
+            command_line,
+            no_ignore: self.no_ignore,
         })
     }
 
@@ -109,6 +149,9 @@ impl Chain {
     pub fn last_match(&self, path: &[u8], is_dir: bool) -> Option<(RuleSource, &Rule)>
         ensures { option_map (λ r. (r.0, r.1.now)) result ≡ last_match (rules_in self.now) path.now is_dir }
     {
+        if let Some(rule) = last_match_in_file(&self.command_line, path, is_dir) {
+            return Some((RuleSource::CommandLine, rule));
+        }
         let by_tree = last_match_in_files(self.tree.left(), PathBelow::new(path), is_dir);
         if let Some((depth, rule)) = by_tree {
             return Some((RuleSource::Gitignore(depth), rule));

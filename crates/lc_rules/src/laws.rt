@@ -1,11 +1,16 @@
 //! Laws of the definitions of ignore files that the contracts cite. The functions do nothing: their contracts are what is proved.
 
-ghost use Rattle.lc_rules.specs.IgnoreLaws.{LastMatchLaw, LinesLaw};
+ghost use Rattle.lc_rules.specs.IgnoreLaws.{CommandLineLaw, LastMatchLaw, LinesLaw};
 
 /// The law that the rule which decides is among the rules and matches, that no later rule matches, and that no other rule has
 /// this property. If no rule decides, none matches.
 pub fn the_last_match_decides()
     ensures { LastMatchLaw }
+{}
+
+/// The law that the last pattern of the command line that matches decides, and that the files decide where none matches.
+pub fn the_command_line_decides()
+    ensures { CommandLineLaw }
 {}
 
 /// The law that each rule of a file comes from the line with its number.

@@ -43,7 +43,7 @@ pub use faults::{MAX_RULE_BYTES, RuleFault};
 pub use ignore_chain::Chain;
 pub use ignore_file::IgnoreFile;
 pub use ignore_line::{Rule, text_of_line};
-pub use laws::{rules_stand_on_their_lines, the_last_match_decides};
+pub use laws::{rules_stand_on_their_lines, the_command_line_decides, the_last_match_decides};
 pub use lines::Lines;
 pub use resolver::decides_by_equations;
 pub use rule_source::RuleSource;

@@ -1,6 +1,6 @@
 //! The file that a rule was read from.
 
-/// The file that a rule was read from: gitignore(5), DESCRIPTION.
+/// The file that a rule was read from, or the command line: gitignore(5), DESCRIPTION. Each overrides those before it.
 #[derive(Debug, Clone, Copy, PartialEq, Eq)]
 pub enum RuleSource {
     /// The file of `--exclude-from`, which holds for the whole tree.
@@ -9,4 +9,6 @@ pub enum RuleSource {
     InfoExclude,
     /// The `.gitignore` of the directory whose path has this number of segments.
     Gitignore(u32),
+    /// The patterns of `--exclude`, one a line, which override those of every file.
+    CommandLine,
 }

@@ -1,6 +1,6 @@
 -- The value of a report is a document.
 use Rattle.std.proofs.Common.{◌≡◌, ℕ, ◌≤◌, Bool, true, false, cond, List, [], ◌∷◌, ◌++◌, map, Option, Some, None}
-use Rattle.std.proofs.Common.{option_and_then, codes, sym, ap, ◌∙◌, arith, append-nil}
+use Rattle.std.proofs.Common.{option_and_then, is_some, unwrap_or, codes, sym, ap, ◌∙◌, arith, append-nil}
 use Rattle.std.proofs.Common.{Result, Ok, Err, IfOk}
 use Rattle.std.specs.Prelude.{Vec}
 use Rattle.std.specs.Global.{Global}
@@ -14,19 +14,21 @@ use Rattle.json.proofs.Printed.Trees.{value-json_tokens}
 use Rattle.lc_rules.specs.declared.states.TextState.{TextState}
 use Rattle.lc_rules.specs.declared.states.TextState.TheVariants as text
 use Rattle.lc_level.specs.FaultLines.{FaultLineModel}
-use Rattle.lc_level.specs.Level.{Reason, named_git, by_rule, by_attribute, other_kind}
+use Rattle.lc_level.specs.Level.{Reason, named_git, by_rule, by_attribute, not_included, other_kind}
 use Rattle.lc_text.specs.RulePlaces.{rule_file}
 use Rattle.lc_view.specs.declared.table_options.Columns.{Columns}
+use Rattle.lc_view.specs.declared.table_options.TableOptions.{TableOptions}
 use Rattle.lc_walk.specs.ReportLines.{FileLineModel, SkippedLineModel}
-use Rattle.lc_walk.specs.TallyRows.{TallyRowModel}
 use Rattle.lc_walk.specs.declared.report.Report.{Report}
 use Rattle.lc_walk.specs.declared.tally.sums.Sums.{Sums}
 use Rattle.lc_rows.specs.Classes.{binary_sums, text_sums}
+use Rattle.lc_rows.specs.RowKeys.{ShownRowModel}
 use Rattle.lc_rows.specs.Views.{ViewModel}
 use Rattle.lc_table.specs.JsonText.{Member, items_with, members_with, array_with, integer, bytes_member, extension_member}
 use Rattle.lc_table.specs.JsonText.{text_value, if_kept, key_members, sums_members, row_value, file_value, fault_value}
 use Rattle.lc_table.specs.JsonText.{entries_member, files_member, skipped_member, skipped_value, reason_members, report_value, IsDocument}
-use Rattle.lc_table.specs.JsonText.{list_members, number_members, others_members, sums_member}
+use Rattle.lc_table.specs.DirectoryWords.{directory_name}
+use Rattle.lc_table.specs.JsonText.{directory_member, list_members, number_members, others_members, sums_member}
 use Rattle.lc_table.specs.TsvText.{eol_word}
 
 -- an array is as deep as its values
@@ -64,7 +66,7 @@ kept_within : (n : ℕ) (kept : Bool) (m : Member) → depth m.1 ≤ n → membe
 kept_within n true m h = omega arith
 kept_within n false m h = omega arith
 
-row_within : (by : Columns) (r : TallyRowModel) → depth (row_value by r) ≤ 2
+row_within : (by : Columns) (r : ShownRowModel) → depth (row_value by r) ≤ 2
 row_within by r =
     let text : Member = (codes "text", text_value r.key.text) in
     let eol : Member = (codes "eol", string (eol_word r.key.eol)) in
@@ -73,8 +75,13 @@ row_within by r =
     (kept_within 1 by.ext _ (extension_within r.key.extension))
     (both_within 1 (if_kept by.text text) (if_kept by.eol eol) (kept_within 1 by.text text (text_within r.key.text))
     (kept_within 1 by.eol eol (omega arith))) in
-    let all : members_depth (members_with (key_members by r.key ++ sums_members r.sums)) ≤ 1 =
+    let directory = directory_member (unwrap_or r.directory []) in
+    let rest : members_depth (members_with (key_members by r.key ++ sums_members r.sums)) ≤ 1 =
     both_within 1 (key_members by r.key) (sums_members r.sums) key (omega arith) in
+    let all : members_depth (members_with (if_kept (is_some by.dir) directory ++ (key_members by r.key ++ sums_members r.sums))) ≤ 1 =
+    both_within 1 (if_kept (is_some by.dir) directory) (key_members by r.key ++ sums_members r.sums)
+    (kept_within 1 (is_some by.dir) directory
+    (bytes_within (codes "dir") (codes "dir_bytes") (directory_name (unwrap_or r.directory [])))) rest in
     omega arith
 
 file_within : (f : FileLineModel) → depth (file_value f) ≤ 2
@@ -92,6 +99,7 @@ reason_within path (by_rule source line) =
     let file = bytes_within (codes "file") (codes "file_bytes") (rule_file (λ directory. directory) path source) in omega arith
 reason_within path (by_attribute name) =
     let attribute = bytes_within (codes "attribute") (codes "attribute_bytes") name in omega arith
+reason_within path not_included = omega arith
 reason_within path other_kind = omega arith
 
 skipped_within : (l : SkippedLineModel) → depth (skipped_value l) ≤ 2
@@ -104,26 +112,26 @@ others_within : (o : Option Sums) → members_depth (members_with (others_member
 others_within None = omega arith
 others_within (Some s) = omega arith
 
-report_within : (by : Columns) (r : Report) (v : ViewModel) → depth (report_value by r v) ≤ 4
-report_within by r v =
+report_within : (options : TableOptions) (r : Report) (v : ViewModel) → depth (report_value options r v) ≤ 4
+report_within options r v =
     let faults : Member = (codes "faults", array_with (map fault_value r.faults.items)) in
     let entries = if_kept r.lists.left_out (entries_member r) in
-    let files = if_kept r.lists.files (files_member v.files) in
+    let files = if_kept options.files (files_member v.files) in
     let skipped = if_kept r.lists.left_out (skipped_member r) in
-    let each_row = items_within (row_value by) 2 (row_within by) v.rows in
+    let each_row = items_within (row_value options.by) 2 (row_within options.by) v.rows in
     let each_file = items_within file_value 2 file_within v.files in
     let each_skipped = items_within skipped_value 2 skipped_within r.skipped.items in
     let each_fault = items_within fault_value 2 fault_within r.faults.items in
     let last : members_depth (members_with (faults ∷ [])) ≤ 3 = omega arith in
     let with_skipped = both_within 3 skipped (faults ∷ []) (kept_within 3 r.lists.left_out (skipped_member r) (omega arith)) last in
-    let listed = kept_within 3 r.lists.files (files_member v.files) (omega arith) in
+    let listed = kept_within 3 options.files (files_member v.files) (omega arith) in
     let lists = both_within 3 files (skipped ++ faults ∷ []) listed with_skipped in
     let kept = kept_within 3 r.lists.left_out (entries_member r) (omega arith) in
     let members = sums_member (codes "total") r.totals ∷ sums_member (codes "text") (text_sums r.rows.items)
     ∷ sums_member (codes "binary") (binary_sums r.rows.items) ∷ (codes "directories", integer r.directories) ∷ entries in
     let counted : members_depth (members_with members) ≤ 3 = omega arith in
     let numbers = both_within 3 (others_members v.others) members (others_within v.others) counted in
-    let all = both_within 3 (number_members r v.others) (list_members r v.files) numbers lists in
+    let all = both_within 3 (number_members r v.others) (list_members options r v.files) numbers lists in
     omega arith
 
 read_back : (j : Json) → depth j ≤ max_depth → (ts : List Token) → ts ≡ json_tokens j
@@ -132,16 +140,16 @@ read_back j shallow ts same =
     ap (λ o. option_and_then (λ (p : Json × List Token). if_last p.0 p.1) o)
     (ap (value max_depth) (same ∙ sym (append-nil (json_tokens j))) ∙ value-json_tokens j max_depth [] shallow)
 
-report_document : (by : Columns) (r : Report) (v : ViewModel)
-    → tokens (print (json_tokens (report_value by r v))) ≡ json_tokens (report_value by r v)
-    → document (print (json_tokens (report_value by r v))) ≡ Some (report_value by r v)
-report_document by r v back =
-    let shallow = report_within by r v in read_back (report_value by r v) (omega arith) _ back
+report_document : (options : TableOptions) (r : Report) (v : ViewModel)
+    → tokens (print (json_tokens (report_value options r v))) ≡ json_tokens (report_value options r v)
+    → document (print (json_tokens (report_value options r v))) ≡ Some (report_value options r v)
+report_document options r v back =
+    let shallow = report_within options r v in read_back (report_value options r v) (omega arith) _ back
 
 -- a line that reads back as the tokens of a report's value is a document of it
-pub is_document : {E : Type 0} (by : Columns) (r : Report) (v : ViewModel) (answer : Result (Vec ℕ Global) E)
-    → IfOk answer (λ line. line.items ≡ print (json_tokens (report_value by r v)) ++ codes "\n")
-    → IfOk answer (λ _. tokens (print (json_tokens (report_value by r v))) ≡ json_tokens (report_value by r v))
-    → IfOk answer (λ line. IsDocument (report_value by r v) line.items)
-is_document by r v (Ok line) text back = (print (json_tokens (report_value by r v)), text, report_document by r v back)
-is_document by r v (Err e) text back = text
+pub is_document : {E : Type 0} (options : TableOptions) (r : Report) (v : ViewModel) (answer : Result (Vec ℕ Global) E)
+    → IfOk answer (λ line. line.items ≡ print (json_tokens (report_value options r v)) ++ codes "\n")
+    → IfOk answer (λ _. tokens (print (json_tokens (report_value options r v))) ≡ json_tokens (report_value options r v))
+    → IfOk answer (λ line. IsDocument (report_value options r v) line.items)
+is_document options r v (Ok line) text back = (print (json_tokens (report_value options r v)), text, report_document options r v back)
+is_document options r v (Err e) text back = text

@@ -2,33 +2,34 @@
 use Rattle.std.proofs.Common.{◌≡◌, List, ℕ, subst}
 use Rattle.std.specs.Prelude.{Vec}
 use Rattle.std.specs.Global.{Global}
-use Rattle.lc_view.specs.declared.table_options.Columns.{Columns}
 use Rattle.lc_view.specs.declared.table_options.Format.{Format}
-use Rattle.lc_view.specs.declared.table_options.Format.TheVariants.{Tsv, Table, Json}
+use Rattle.lc_view.specs.declared.table_options.Format.TheVariants.{Tsv, Table, Json, Csv, Markdown}
 use Rattle.lc_view.specs.declared.table_options.TableOptions.{TableOptions}
 use Rattle.lc_walk.specs.ReportLines.{FileLineModel}
-use Rattle.lc_walk.specs.TallyRows.{TallyRowModel}
 use Rattle.lc_walk.specs.declared.report.Report.{Report}
+use Rattle.lc_rows.specs.RowKeys.{ShownRowModel}
 use Rattle.lc_rows.specs.ShownFiles.{AreFilesSorted}
 use Rattle.lc_rows.specs.ShownRows.{AreShown}
 use Rattle.lc_rows.specs.Views.{ViewModel, view_of}
-use Rattle.lc_table.specs.TableText.{IsTextIn, IsTextOf}
+use Rattle.lc_table.specs.TableText.{IsTextAs, IsTextIn, IsTextOf, listed_files}
 
 -- a text in the format of the options, with the first of these rows and files, is a text with these options
-pub text_shown : (options : TableOptions) (r : Report) (rows : List TallyRowModel) (files : List FileLineModel) (v : ViewModel)
-    (text : List ℕ) → AreShown options.by options.sort r.rows.items rows → AreFilesSorted options.sort r.files.items files
-    → v ≡ view_of options.top rows files → IsTextIn options.format options.by r v text → IsTextOf options r text
-text_shown options r rows files v text are_rows are_files is_view is = record {
-  rows = rows;
-  are_rows = are_rows;
+pub text_shown : (options : TableOptions) (r : Report) (rows : List ShownRowModel) (files : List FileLineModel) (v : ViewModel)
+    (text : List ℕ) → AreFilesSorted options.sort r.files.items files → AreShown options.by options.sort r.rows.items files rows
+    → v ≡ view_of options.top rows (listed_files options.files files) → IsTextIn options r v text → IsTextOf options r text
+text_shown options r rows files v text are_files are_rows is_view is = record {
   files = files;
   are_files = are_files;
-  is = subst (λ (w : ViewModel). IsTextIn options.format options.by r w text) is_view is;
+  rows = rows;
+  are_rows = are_rows;
+  is = subst (λ (w : ViewModel). IsTextIn options r w text) is_view is;
 }
 
 -- the files of the report itself are in no text, only those of the view
-pub same_but_files : (format : Format) (by : Columns) (r : Report) (files : Vec FileLineModel Global) (v : ViewModel) (text : List ℕ)
-    → IsTextIn format by (record r { files = files }) v text → IsTextIn format by r v text
-same_but_files Tsv by r files v text is = is
-same_but_files Table by r files v text is = is
-same_but_files Json by r files v text is = is
+pub same_but_files : (format : Format) (options : TableOptions) (r : Report) (files : Vec FileLineModel Global) (v : ViewModel)
+    (text : List ℕ) → IsTextAs format options (record r { files = files }) v text → IsTextAs format options r v text
+same_but_files Tsv options r files v text is = is
+same_but_files Table options r files v text is = is
+same_but_files Json options r files v text is = is
+same_but_files Csv options r files v text is = is
+same_but_files Markdown options r files v text is = is

@@ -11,6 +11,13 @@ pub mod EvenParts
 pub mod LinesApart
 pub mod OneLine
 pub mod Spacing
-pub mod WidthLawProofs
 pub mod Listed
+pub mod Records
+pub mod Marked
 pub mod Formats
+pub mod SoundCells
+pub mod Bars
+pub mod SummaryWidth
+pub mod WidthLawProofs
+pub mod ShareLawProofs
+pub mod FormatLawProofs

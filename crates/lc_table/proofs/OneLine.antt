@@ -47,8 +47,9 @@ no_feed_digit n = grind (arith, nat_tests)
 one_line_hex : (b : ℕ) → is_one_line (hex_byte b) ≡ true
 one_line_hex b = and_from _ _ (no_feed_digit (b / 16)) (and_from _ _ (no_feed_digit (b % 16)) refl)
 
-one_line_encode : (c : ℕ) → (c ≡ 10 → ⊥) → is_one_line (encode_utf8 c) ≡ true
-one_line_encode c other = from_each (encode_utf8 c) at
+-- an encoded character other than a line feed is in one line
+pub one_line-encode : (c : ℕ) → (c ≡ 10 → ⊥) → is_one_line (encode_utf8 c) ≡ true
+one_line-encode c other = from_each (encode_utf8 c) at
   where
     at : (k : ℕ) → k < length (encode_utf8 c) → get_or (encode_utf8 c) k 0 ≡ 10 → ⊥
     at k below e = other (inside_one c [] (encode_utf8 c) k (sym (append-nil _)) below (omega arith) ∙ e)
@@ -59,7 +60,7 @@ one_line_char c = at (nat_eq c backslash) (is_hidden c) refl refl
     at : (q h : Bool) → nat_eq c backslash ≡ q → is_hidden c ≡ h → is_one_line (visible_char c) ≡ true
     at true h x y = rw x refl
     at false true x y = rw (x, y) (one_line_each hex_byte one_line_hex (encode_utf8 c))
-    at false false x y = rw (x, y) (one_line_encode c (λ e. let t : is_hidden c ≡ true = ap is_hidden e in absurd (cc)))
+    at false false x y = rw (x, y) (one_line-encode c (λ e. let t : is_hidden c ≡ true = ap is_hidden e in absurd (cc)))
 
 one_line_escape : (b : ℕ) → is_one_line (escape_byte b) ≡ true
 one_line_escape b = at (nat_eq b backslash) (is_control b) refl refl

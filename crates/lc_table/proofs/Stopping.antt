@@ -1,6 +1,9 @@
 -- A table that is written, and one that stops at a fault of its output, and so the run.
 use Rattle.std.proofs.Common.{◌≡◌, Result, Ok, Err, List, ℕ, sym}
+use Rattle.std.specs.Global.{Global}
+use Rattle.std.specs.Prelude.{Vec}
 use Rattle.std.specs.Result.{IsErrAnd}
+use Rattle.lc_level.specs.FaultLines.{FaultLineModel}
 use Rattle.lc_text.specs.declared.printing.PrintFault.{PrintFault}
 use Rattle.lc_text.specs.declared.printing.PrintFault.TheVariants as print
 use Rattle.lc_view.specs.declared.table_options.TableOptions.{TableOptions}
@@ -10,15 +13,14 @@ use Rattle.lc_walk.specs.declared.walk_fault.WalkFault.{WalkFault}
 use Rattle.lc_text.specs.Writes.{AnswersPrint, Writes}
 use Rattle.lc_table.specs.TableText.{IsTextOf}
 use Rattle.lc_table.specs.Runs.{AnswersRun, AnswersTable, table_fault}
-use Rattle.lc_text.specs.declared.outcome.Outcome.{Outcome}
 use Rattle.lc_table.specs.declared.running.RunFault.{RunFault}
 
 -- a table that was not written whole
 pub run_stops : {O : Type 0} (may_take : O → List ℕ → Result ℕ Failed → O → Type 0) (walks : Result Report WalkFault → Type 0)
     (options : TableOptions) (r : Report) (fault : PrintFault)
-    (answer : Result Outcome RunFault) (out wrote : O) → walks (Ok r) → AnswersTable may_take options r out (Err fault) wrote
+    (answer : Result (Vec FaultLineModel Global) RunFault) (out wrote : O) → walks (Ok r) → AnswersTable may_take options r out (Err fault) wrote
     → IsErrAnd answer (λ e. e ≡ table_fault fault) → AnswersRun may_take walks options out answer wrote
-run_stops may_take walks options r fault (Ok outcome) out wrote walked stopped is = absurd is
+run_stops may_take walks options r fault (Ok faults) out wrote walked stopped is = absurd is
 run_stops may_take walks options r print.Write (Err e) out wrote walked stopped is = rw is (r, walked, stopped)
 run_stops may_take walks options r print.Memory (Err e) out wrote walked stopped is = rw is stopped
 

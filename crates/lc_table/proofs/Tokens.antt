@@ -51,6 +51,18 @@ listed_tokens name other bytes none =
     ap (λ b. member_tokens (if b then (name, string bytes) else (other, array_with (map integer bytes))))
     (false_if (is_utf8 bytes) (λ e. none (IsUtf8-from_is_utf8 bytes e)))
 
+in_turn_4 : {A : Type 0} (t b x y z e : List A) → ((((t ++ b) ++ x) ++ y) ++ z) ++ e ≡ t ++ (b ++ (x ++ ((y ++ z) ++ e)))
+in_turn_4 t b x y z e = simp append_assoc
+
+-- an object of three lists of members, appended in turn
+pub three_tokens : (text : List Token) (xs ys zs : List Member)
+    → ((((text ++ begin_object ∷ []) ++ members_tokens_of xs) ++ members_tokens_of ys) ++ members_tokens_of zs) ++ end_object ∷ []
+    ≡ text ++ json_tokens (object_with (xs ++ (ys ++ zs)))
+three_tokens text xs ys zs =
+    in_turn_4 text (begin_object ∷ []) (members_tokens_of xs) (members_tokens_of ys) (members_tokens_of zs) (end_object ∷ [])
+    ∙ ap (λ (ts : List Token). text ++ begin_object ∷ (members_tokens_of xs ++ (ts ++ end_object ∷ []))) (sym (members_of_both ys zs))
+    ∙ ap (λ (ts : List Token). text ++ ts) (sym (both_tokens xs (ys ++ zs)))
+
 in_turn_6 : {A : Type 0} (t b x y z m e : List A)
     → (((((t ++ b) ++ x) ++ y) ++ z) ++ m) ++ e ≡ t ++ (b ++ ((x ++ (y ++ (z ++ m))) ++ e))
 in_turn_6 t b x y z m e = simp append_assoc

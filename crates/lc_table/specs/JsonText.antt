@@ -1,5 +1,5 @@
 -- The JSON value of a report, and its text.
-use Rattle.std.specs.Prelude.{◌≡◌, ℕ, Bool, if◌then◌else◌, List, [], ◌∷◌, ◌++◌, map, codes, decimal, Option, Some, None}
+use Rattle.std.specs.Prelude.{◌≡◌, ℕ, Bool, if◌then◌else◌, List, [], ◌∷◌, ◌++◌, map, codes, decimal, is_some, unwrap_or, Option, Some, None}
 use Rattle.std.specs.Str.{is_utf8}
 use Rattle.json.specs.Json.{Json, null, number, string, array, object, Items, no_items, item, Members, no_members, member, document}
 use Rattle.json.specs.Print.{print}
@@ -7,17 +7,19 @@ use Rattle.json.specs.Tree.{json_tokens}
 use Rattle.lc_rules.specs.declared.states.TextState.{TextState}
 use Rattle.lc_rules.specs.declared.states.TextState.TheVariants as text
 use Rattle.lc_level.specs.FaultLines.{FaultLineModel}
-use Rattle.lc_level.specs.Level.{Reason, named_git, by_rule, by_attribute, other_kind}
+use Rattle.lc_level.specs.Level.{Reason, named_git, by_rule, by_attribute, not_included, other_kind}
 use Rattle.lc_text.specs.RulePlaces.{rule_file}
 use Rattle.lc_level.specs.FaultWords.{fault_word}
 use Rattle.lc_view.specs.declared.table_options.Columns.{Columns}
+use Rattle.lc_view.specs.declared.table_options.TableOptions.{TableOptions}
 use Rattle.lc_rows.specs.Classes.{binary_sums, text_sums}
+use Rattle.lc_rows.specs.RowKeys.{ShownRowModel}
 use Rattle.lc_rows.specs.Views.{ViewModel}
 use Rattle.lc_walk.specs.Key.{Key}
 use Rattle.lc_walk.specs.ReportLines.{FileLineModel, SkippedLineModel}
-use Rattle.lc_walk.specs.TallyRows.{TallyRowModel}
 use Rattle.lc_walk.specs.declared.report.Report.{Report}
 use Rattle.lc_walk.specs.declared.tally.sums.Sums.{Sums}
+use Rattle.lc_table.specs.DirectoryWords.{directory_name}
 use Rattle.lc_table.specs.SkippedWords.{kind_word, reason_word}
 use Rattle.lc_table.specs.TsvText.{eol_word, text_word}
 
@@ -50,6 +52,9 @@ abbrev pub extension_member : Option (List ℕ) → Member
 extension_member None = (codes "ext", null)
 extension_member (Some name) = bytes_member (codes "ext") (codes "ext_bytes") (codes "." ++ name)
 
+abbrev pub directory_member : List ℕ → Member
+directory_member path = bytes_member (codes "dir") (codes "dir_bytes") (directory_name path)
+
 abbrev pub path_member : List ℕ → Member
 path_member = bytes_member (codes "path") (codes "path_bytes")
 
@@ -75,8 +80,9 @@ key_members by k =
     if_kept by.ext (extension_member k.extension)
     ++ (if_kept by.text (codes "text", text_value k.text) ++ if_kept by.eol (codes "eol", string (eol_word k.eol)))
 
-abbrev pub row_value : Columns → TallyRowModel → Json
-row_value by r = object_with (key_members by r.key ++ sums_members r.sums)
+abbrev pub row_value : Columns → ShownRowModel → Json
+row_value by r =
+    object_with (if_kept (is_some by.dir) (directory_member (unwrap_or r.directory [])) ++ (key_members by r.key ++ sums_members r.sums))
 
 abbrev pub file_value : FileLineModel → Json
 file_value f =
@@ -92,6 +98,7 @@ reason_members path named_git = []
 reason_members path (by_rule source line) =
     bytes_member (codes "file") (codes "file_bytes") (rule_file (λ directory. directory) path source) ∷ (codes "line", integer line) ∷ []
 reason_members path (by_attribute name) = bytes_member (codes "attribute") (codes "attribute_bytes") name ∷ []
+reason_members path not_included = []
 reason_members path other_kind = []
 
 abbrev pub skipped_value : SkippedLineModel → Json
@@ -126,19 +133,20 @@ number_members r others =
     ∷ if_kept r.lists.left_out (entries_member r))
 
 -- and those that list
-abbrev pub list_members : Report → List FileLineModel → List Member
-list_members r files =
-    if_kept r.lists.files (files_member files) ++ (if_kept r.lists.left_out (skipped_member r)
+abbrev pub list_members : TableOptions → Report → List FileLineModel → List Member
+list_members options r files =
+    if_kept options.files (files_member files) ++ (if_kept r.lists.left_out (skipped_member r)
     ++ (codes "faults", array_with (map fault_value r.faults.items)) ∷ [])
 
 -- the value of a report, with this view of its rows and files
-abbrev pub report_value : Columns → Report → ViewModel → Json
-report_value by r v =
-    object_with ((codes "rows", array_with (map (row_value by) v.rows)) ∷ (number_members r v.others ++ list_members r v.files))
+abbrev pub report_value : TableOptions → Report → ViewModel → Json
+report_value options r v =
+    object_with ((codes "rows", array_with (map (row_value options.by) v.rows))
+    ∷ (number_members r v.others ++ list_members options r v.files))
 
 -- the value on one line
-abbrev pub json_text_of : Columns → Report → ViewModel → List ℕ
-json_text_of by r v = print (json_tokens (report_value by r v)) ++ codes "\n"
+abbrev pub json_text_of : TableOptions → Report → ViewModel → List ℕ
+json_text_of options r v = print (json_tokens (report_value options r v)) ++ codes "\n"
 
 -- a JSON document of a value (RFC 8259), and a line feed
 abbrev pub IsDocument : Json → List ℕ → Type 0

@@ -1,6 +1,6 @@
 -- What is told of an entry that was left out.
 use Rattle.std.specs.Prelude.{ℕ, List, [], ◌++◌, codes}
-use Rattle.lc_level.specs.Level.{Reason, named_git, by_rule, by_attribute, other_kind}
+use Rattle.lc_level.specs.Level.{Reason, named_git, by_rule, by_attribute, not_included, other_kind}
 use Rattle.lc_text.specs.RulePlaces.{rule_place}
 use Rattle.lc_tree.specs.declared.entry.Kind.{Kind}
 use Rattle.lc_tree.specs.declared.entry.Kind.TheVariants.{File, Dir, Other}
@@ -10,6 +10,7 @@ abbrev pub reason_word : Reason → List ℕ
 reason_word named_git = codes "git"
 reason_word (by_rule source line) = codes "rule"
 reason_word (by_attribute name) = codes "attribute"
+reason_word not_included = codes "include"
 reason_word other_kind = codes "other"
 
 -- where the rule stands, the attribute's name, or a dash, paths and names written by `escape`
@@ -17,6 +18,7 @@ abbrev pub reason_place : (List ℕ → List ℕ) → List ℕ → Reason → Li
 reason_place escape path named_git = codes "-"
 reason_place escape path (by_rule source line) = rule_place escape path source line
 reason_place escape path (by_attribute name) = escape name
+reason_place escape path not_included = codes "-"
 reason_place escape path other_kind = codes "-"
 
 abbrev pub kind_word : Kind → List ℕ
@@ -29,6 +31,7 @@ abbrev pub skipped_end : Kind → Reason → List ℕ
 skipped_end Dir named_git = []
 skipped_end Dir (by_rule source line) = codes "/"
 skipped_end Dir (by_attribute name) = codes "/"
+skipped_end Dir not_included = codes "/"
 skipped_end Dir other_kind = codes "/"
 skipped_end File reason = []
 skipped_end Other reason = []

@@ -1,29 +1,40 @@
 -- The text of a table, by its options.
-use Rattle.std.specs.Prelude.{◌≡◌, ℕ, List}
-use Rattle.lc_view.specs.declared.table_options.Columns.{Columns}
+use Rattle.std.specs.Prelude.{◌≡◌, ℕ, Bool, if◌then◌else◌, List, []}
 use Rattle.lc_view.specs.declared.table_options.Format.{Format}
-use Rattle.lc_view.specs.declared.table_options.Format.TheVariants.{Tsv, Table, Json}
+use Rattle.lc_view.specs.declared.table_options.Format.TheVariants.{Tsv, Table, Json, Csv, Markdown}
 use Rattle.lc_view.specs.declared.table_options.TableOptions.{TableOptions}
+use Rattle.lc_table.specs.CsvText.{csv_text_of}
 use Rattle.lc_table.specs.JsonText.{IsDocument, json_text_of, report_value}
+use Rattle.lc_table.specs.MarkdownText.{markdown_text_of}
 use Rattle.lc_table.specs.ScreenText.{screen_text_of}
+use Rattle.lc_rows.specs.RowKeys.{ShownRowModel}
 use Rattle.lc_rows.specs.ShownFiles.{AreFilesSorted}
 use Rattle.lc_rows.specs.ShownRows.{AreShown}
 use Rattle.lc_rows.specs.Views.{ViewModel, view_of}
 use Rattle.lc_table.specs.TsvText.{tsv_text_of}
 use Rattle.lc_walk.specs.ReportLines.{FileLineModel}
-use Rattle.lc_walk.specs.TallyRows.{TallyRowModel}
 use Rattle.lc_walk.specs.declared.report.Report.{Report}
 
 -- a text of a report in a format, with this view of its rows and files
-abbrev pub IsTextIn : Format → Columns → Report → ViewModel → List ℕ → Type 0
-IsTextIn Tsv by r v text = text ≡ tsv_text_of by r v
-IsTextIn Table by r v text = text ≡ screen_text_of by r v
-IsTextIn Json by r v text = (text ≡ json_text_of by r v) × IsDocument (report_value by r v) text
+abbrev pub IsTextAs : Format → TableOptions → Report → ViewModel → List ℕ → Type 0
+IsTextAs Tsv options r v text = text ≡ tsv_text_of options.by r v
+IsTextAs Table options r v text = text ≡ screen_text_of options r v
+IsTextAs Json options r v text = (text ≡ json_text_of options r v) × IsDocument (report_value options r v) text
+IsTextAs Csv options r v text = text ≡ csv_text_of options r v
+IsTextAs Markdown options r v text = text ≡ markdown_text_of options r v
+
+-- the format that the options ask for
+abbrev pub IsTextIn : TableOptions → Report → ViewModel → List ℕ → Type 0
+IsTextIn options = IsTextAs options.format options
+
+-- the files that a table lists: none where it is not to list files
+abbrev pub listed_files : Bool → List FileLineModel → List FileLineModel
+listed_files listed files = if listed then files else []
 
 -- a text of a report's table with these options: the first of its rows and files, as they are summed and sorted
 pub record IsTextOf (options : TableOptions) (r : Report) (text : List ℕ) : Type 0 where
-  pub rows : List TallyRowModel
-  pub are_rows : AreShown options.by options.sort r.rows.items rows
   pub files : List FileLineModel
   pub are_files : AreFilesSorted options.sort r.files.items files
-  pub is : IsTextIn options.format options.by r (view_of options.top rows files) text
+  pub rows : List ShownRowModel
+  pub are_rows : AreShown options.by options.sort r.rows.items files rows
+  pub is : IsTextIn options r (view_of options.top rows (listed_files options.files files)) text

@@ -1,12 +1,12 @@
 -- The text of a table with tabs: a header, a line for each key, the sums of what was cut off, the totals, the directories, the files, what
 -- was left out, the faults.
-use Rattle.std.specs.Prelude.{ℕ, Bool, if◌then◌else◌, List, [], ◌∷◌, ◌++◌, codes, decimal, Option, Some, None}
+use Rattle.std.specs.Prelude.{ℕ, Bool, if◌then◌else◌, List, [], ◌∷◌, ◌++◌, codes, decimal, is_some, unwrap_or, Option, Some, None}
 use Rattle.std.specs.List.{flat_map}
 use Rattle.lc_census.specs.declared.line_count.Eol.{Eol}
 use Rattle.lc_census.specs.declared.line_count.Eol.TheVariants.{NoEnd, Lf, CrLf, Cr, Mixed, Nul}
 use Rattle.lc_rules.specs.declared.states.TextState.{TextState}
 use Rattle.lc_rules.specs.declared.states.TextState.TheVariants as text
-use Rattle.lc_walk.specs.TallyRows.{TallyRowModel}
+use Rattle.lc_rows.specs.RowKeys.{ShownRowModel}
 use Rattle.lc_walk.specs.ReportLines.{FileLineModel, SkippedLineModel}
 use Rattle.lc_level.specs.FaultLines.{FaultLineModel}
 use Rattle.lc_walk.specs.declared.tally.sums.Sums.{Sums}
@@ -48,29 +48,36 @@ line_with (f ∷ g ∷ fs) = f ++ codes "\t" ++ line_with (g ∷ fs)
 abbrev pub sums_fields : Sums → List (List ℕ)
 sums_fields s = decimal s.files ∷ decimal s.lines ∷ decimal s.blank ∷ decimal s.bytes ∷ []
 
-abbrev pub header_line : List ℕ
-header_line = codes "ext\ttext\teol\tfiles\tlines\tblank\tbytes\n"
+-- a field for directories where rows are by directory
+abbrev pub directory_fields : Columns → List ℕ → List (List ℕ)
+directory_fields by field = if is_some by.dir then field ∷ [] else []
+
+abbrev pub header_line : Columns → List ℕ
+header_line by =
+    line_with (directory_fields by (codes "dir")
+    ++ (codes "ext" ∷ codes "text" ∷ codes "eol" ∷ codes "files" ∷ codes "lines" ∷ codes "blank" ∷ codes "bytes" ∷ []))
 
 -- a star in a column that is left out
 abbrev pub column : Bool → List ℕ → List ℕ
 column kept word = if kept then word else codes "*"
 
-abbrev pub row_line : Columns → TallyRowModel → List ℕ
+abbrev pub row_line : Columns → ShownRowModel → List ℕ
 row_line by r =
-    line_with (column by.ext (extension_word r.key.extension) ∷ column by.text (text_word r.key.text) ∷ column by.eol (eol_word r.key.eol)
-    ∷ sums_fields r.sums)
+    line_with (directory_fields by (escape_path (unwrap_or r.directory []))
+    ++ (column by.ext (extension_word r.key.extension) ∷ column by.text (text_word r.key.text) ∷ column by.eol (eol_word r.key.eol)
+    ∷ sums_fields r.sums))
 
 -- a name in place of a key
-abbrev pub sums_line : List ℕ → Sums → List ℕ
-sums_line name s = line_with (name ∷ codes "*" ∷ codes "*" ∷ sums_fields s)
+abbrev pub sums_line : Columns → List ℕ → Sums → List ℕ
+sums_line by name s = line_with (name ∷ (directory_fields by (codes "*") ++ (codes "*" ∷ codes "*" ∷ sums_fields s)))
 
-abbrev pub totals_line : Sums → List ℕ
-totals_line s = sums_line (codes "total") s
+abbrev pub totals_line : Columns → Sums → List ℕ
+totals_line by s = sums_line by (codes "total") s
 
 -- where rows were cut off
-abbrev pub others_line : Option Sums → List ℕ
-others_line None = []
-others_line (Some s) = sums_line (codes "others") s
+abbrev pub others_line : Columns → Option Sums → List ℕ
+others_line by None = []
+others_line by (Some s) = sums_line by (codes "others") s
 
 abbrev pub directories_line : ℕ → List ℕ
 directories_line n = line_with (codes "directories" ∷ decimal n ∷ [])
@@ -94,5 +101,6 @@ fault_line f = line_with (codes "fault" ∷ fault_word f.word ∷ escape_path f.
 -- the table of a report, with this view of its rows and files
 abbrev pub tsv_text_of : Columns → Report → ViewModel → List ℕ
 tsv_text_of by r v =
-    header_line ++ flat_map (row_line by) v.rows ++ others_line v.others ++ totals_line r.totals ++ directories_line r.directories
+    header_line by ++ flat_map (row_line by) v.rows ++ others_line by v.others ++ totals_line by r.totals
+    ++ directories_line r.directories
     ++ entries_line r ++ flat_map file_line v.files ++ flat_map skipped_line r.skipped.items ++ flat_map fault_line r.faults.items

@@ -1,15 +1,15 @@
 -- How wide the lines of a table for a person are, part by part.
-use Rattle.std.specs.Prelude.{◌≡◌, ◌<◌, ℕ, List, [], ◌∷◌, ◌++◌, map, codes, IfSome, ⊤}
+use Rattle.std.specs.Prelude.{◌≡◌, ◌<◌, ℕ, List, [], ◌∷◌, ◌++◌, map, codes, unwrap_or, IfSome, ⊤}
 use Rattle.std.specs.List.{All, AllZip}
 use Rattle.lc_level.specs.FaultLines.{FaultLineModel}
-use Rattle.lc_level.specs.Level.{Reason, named_git, by_rule, by_attribute, other_kind}
+use Rattle.lc_level.specs.Level.{Reason, named_git, by_rule, by_attribute, not_included, other_kind}
 use Rattle.lc_text.specs.Lines.{input_lines_of}
 use Rattle.lc_text.specs.Visible.{visible_bytes, visible_path}
-use Rattle.lc_view.specs.declared.table_options.Columns.{Columns}
 use Rattle.lc_walk.specs.ReportLines.{FileLineModel, SkippedLineModel}
 use Rattle.lc_walk.specs.declared.report.Report.{Report}
 use Rattle.lc_rows.specs.Views.{ViewModel}
 use Rattle.lc_table.specs.Columns.{width_of}
+use Rattle.lc_table.specs.declared.row_columns.RowColumns.{RowColumns}
 use Rattle.lc_table.specs.SkippedWords.{skipped_path}
 use Rattle.lc_table.specs.ScreenText.{summary, counts, listing, file_headings, file_cells}
 use Rattle.lc_table.specs.ScreenText.{skipped_headings, skipped_cells, fault_headings, fault_cells}
@@ -37,13 +37,15 @@ abbrev pub HasByteName : Reason → Type 0
 HasByteName named_git = ⊤
 HasByteName (by_rule source line) = ⊤
 HasByteName (by_attribute name) = AreBytes name
+HasByteName not_included = ⊤
 HasByteName other_kind = ⊤
 
 -- the rows between their headings and their sums, the lines of hyphens too
 abbrev pub SummaryWidthLaw : Type 0
 SummaryWidthLaw =
-    (by : Columns) (r : Report) (v : ViewModel) → All (λ row. IfSome row.key.extension AreBytes) v.rows
-    → AreAsWide (input_lines_of (summary by r v))
+    (c : RowColumns) (r : Report) (v : ViewModel)
+    → All (λ row. AreBytes (unwrap_or row.directory []) × IfSome row.key.extension AreBytes) v.rows
+    → AreAsWide (input_lines_of (summary c r v))
 
 -- the numbers of directories and of entries
 abbrev pub CountsWidthLaw : Type 0

@@ -4,10 +4,12 @@ ghost use Rattle.std.specs.Prelude.{◌≡◌, ◌<◌, ◌++◌, IsAscii, IfOk,
 ghost use Rattle.lc_table.specs.CellWords.{comma, visible_extension, with_commas};
 ghost use Rattle.lc_table.specs.Columns.{ending, number, text_at, width_at, width_of, word};
 ghost use Rattle.lc_table.specs.CellTexts.{cell_model, cells_of, shown_text};
+ghost use Rattle.lc_table.specs.Shares.{bar, share_word};
 ghost use Rattle.lc_table.specs.SkippedWords.{skipped_path, reason_place};
 ghost use Rattle.lc_text.specs.RulePlaces.{rule_file, rule_place};
 ghost use Rattle.lc_text.specs.Visible.{visible_bytes, visible_path};
 
+use crate::shares::{push_bar, push_share};
 use crate::words::skipped_end;
 use lc_level::Reason;
 use lc_rules::RuleSource;
@@ -37,6 +39,10 @@ pub(crate) enum Shown<'a> {
     SkippedPlace(&'a SkippedLine),
     /// The path of a skipped entry.
     SkippedPath(&'a SkippedLine),
+    /// A share of so many tenths of a per cent.
+    Share(u128),
+    /// A bar of so many eighths of a cell.
+    Bar(u128),
 }
 
 #[derive(Clone, Copy)]
@@ -116,7 +122,7 @@ fn push_skipped_place(text: &mut String, skipped: &SkippedLine) -> Result<(), Al
     match &skipped.reason {
         Reason::Rule { source, line } => push_rule_place(text, &skipped.path, *source, *line),
         Reason::Attribute(name) => push_visible(text, name),
-        Reason::Git | Reason::OtherKind => text.push_str("-"),
+        Reason::Git | Reason::Include | Reason::OtherKind => text.push_str("-"),
     }
 }
 
@@ -170,16 +176,25 @@ impl Shown<'_> {
             Shown::Path(path) => push_visible_path(text, path),
             Shown::SkippedPlace(skipped) => push_skipped_place(text, skipped),
             Shown::SkippedPath(skipped) => push_skipped_path(text, skipped),
+            Shown::Share(tenths) => push_share(text, tenths),
+            Shown::Bar(eighths) => push_bar(text, eighths),
         }
     }
 
+    /// Makes the text, in place of what `made` had.
+    fn make(&self, made: &mut String) -> Result<(), AllocError>
+        ensures { OnOk result (string_bytes made.new ≡ shown_text self.now) }
+    {
+        made.clear();
+        self.push(made)
+    }
+
     /// Makes the text, in place of what `made` had, and returns its width in columns of a terminal.
-    fn make(&self, made: &mut String) -> Result<usize, AllocError>
+    fn make_wide(&self, made: &mut String) -> Result<usize, AllocError>
         ensures text { OnOk result (string_bytes made.new ≡ shown_text self.now) }
         ensures width { IfOk result (λ width. width ≡ width_of (shown_text self.now)) }
     {
-        made.clear();
-        self.push(made)?;
+        self.make(made)?;
         Ok(made.as_str().width())
     }
 }
@@ -232,6 +247,36 @@ impl<'a> Cell<'a> {
         }
     }
 
+    /// Makes the cell of a directory; the top's empty path is a dot.
+    pub(crate) fn directory(path: &'a [u8]) -> Cell<'a>
+        ensures { cell_model result ≡ word (visible_path path.entry.now) }
+    {
+        Cell {
+            side: Side::Left,
+            shown: Shown::Path(path),
+        }
+    }
+
+    /// Makes the cell of a share of so many tenths of a per cent.
+    pub(crate) fn share(tenths: u128) -> Cell<'a>
+        ensures { cell_model result ≡ number (share_word tenths) }
+    {
+        Cell {
+            side: Side::Right,
+            shown: Shown::Share(tenths),
+        }
+    }
+
+    /// Makes the cell of a bar of so many eighths of a cell.
+    pub(crate) fn bar(eighths: u128) -> Cell<'a>
+        ensures { cell_model result ≡ word (bar eighths) }
+    {
+        Cell {
+            side: Side::Left,
+            shown: Shown::Bar(eighths),
+        }
+    }
+
     pub(crate) fn path(path: &'a [u8]) -> Cell<'a>
         ensures { cell_model result ≡ ending (visible_path path.entry.now) }
     {
@@ -259,13 +304,26 @@ impl<'a> Cell<'a> {
         }
     }
 
+    pub(crate) fn side(&self) -> Side
+        ensures { result ≡ (cell_model self.now).side }
+    {
+        self.side
+    }
+
+    /// Makes its text, in place of what `made` had.
+    pub(crate) fn make(&self, made: &mut String) -> Result<(), AllocError>
+        ensures { OnOk result (string_bytes made.new ≡ (cell_model self.now).text) }
+    {
+        self.shown.make(made)
+    }
+
     /// Returns how wide its column must be for it.
     pub(crate) fn width(&self, made: &mut String) -> Result<usize, AllocError>
         ensures { IfOk result (λ width. width ≡ width_at (cell_model self.now).side (cell_model self.now).text) }
     {
         match self.side {
             Side::End => Ok(0),
-            Side::Left | Side::Right => self.shown.make(made),
+            Side::Left | Side::Right => self.shown.make_wide(made),
         }
     }
 
@@ -282,12 +340,12 @@ impl<'a> Cell<'a> {
         match self.side {
             Side::End => self.shown.push(text),
             Side::Left => {
-                let own = self.shown.make(made)?;
+                let own = self.shown.make_wide(made)?;
                 text.push_str(made.as_str())?;
                 push_copies(text, ' ', width.saturating_sub(own))
             }
             Side::Right => {
-                let own = self.shown.make(made)?;
+                let own = self.shown.make_wide(made)?;
                 push_copies(text, ' ', width.saturating_sub(own))?;
                 text.push_str(made.as_str())
             }

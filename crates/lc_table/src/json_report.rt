@@ -1,10 +1,11 @@
 //! The text of a table as JSON.
 
-ghost use Rattle.std.specs.Prelude.{◌≡◌, ◌++◌, codes, map, IfOk, OnOk, option_map};
+ghost use Rattle.std.specs.Prelude.{◌≡◌, [], ◌++◌, codes, map, is_some, unwrap_or, IfOk, OnOk, option_map};
 ghost use Rattle.json.specs.Json.{string};
 ghost use Rattle.json.specs.Tree.{json_tokens};
 ghost use Rattle.lc_table.specs.TsvText.{eol_word};
-ghost use Rattle.lc_table.specs.JsonText.{array_with, object_with, extension_member, if_kept, text_value, sums_members, key_members};
+ghost use Rattle.lc_table.specs.JsonText.{array_with, object_with, directory_member, extension_member, if_kept, text_value};
+ghost use Rattle.lc_table.specs.JsonText.{key_members, sums_members};
 ghost use Rattle.lc_table.specs.JsonText.{row_value, file_value, fault_value, entries_member, files_member, skipped_member};
 ghost use Rattle.lc_table.specs.JsonText.{list_members, number_members, others_members, sums_member};
 ghost use Rattle.lc_table.specs.JsonText.{json_text_of, report_value, IsDocument};
@@ -14,11 +15,11 @@ ghost use Rattle.lc_rows.specs.Views.{view_model};
 
 use crate::json_skipped::write_skipped_list;
 use crate::json_text::JsonText;
-use crate::words::{eol_word, text_word};
+use crate::words::{directory_name, eol_word, text_word};
 use lc_census::Eol;
-use lc_rows::{ClassSums, View};
+use lc_rows::{ClassSums, ShownRow, View};
 use lc_rules::TextState;
-use lc_view::Columns;
+use lc_view::{Columns, TableOptions};
 use lc_walk::{FaultLine, FileLine, Report, Sums, TallyRow};
 use std::alloc::{AllocError, Global};
 
@@ -34,9 +35,9 @@ fn set_dotted(dotted: &mut Vec<u8>, name: &[u8]) -> Result<(), AllocError>
 fn write_extension(
     text: &mut JsonText,
     dotted: &mut Vec<u8>,
-    ext: &Option<Vec<u8>>,
+    ext: Option<&[u8]>,
 ) -> Result<(), AllocError>
-    ensures { OnOk result (text.new ≡ text.old ++ member_tokens (extension_member (option_map (λ v. v.items) ext.now))) }
+    ensures { OnOk result (text.new ≡ text.old ++ member_tokens (extension_member (option_map (λ name. name.now) ext.entry))) }
 {
     match ext {
         None => {
@@ -80,12 +81,12 @@ fn write_kept_extension(
     text: &mut JsonText,
     dotted: &mut Vec<u8>,
     kept: bool,
-    row: &TallyRow,
+    row: &ShownRow<'_>,
 ) -> Result<(), AllocError>
     ensures { OnOk result (text.new ≡ text.old ++ members_tokens_of (if_kept kept (extension_member row.now.key.extension))) }
 {
     if kept {
-        write_extension(text, dotted, &row.ext)?;
+        write_extension(text, dotted, row.extension)?;
     }
     Ok(())
 }
@@ -112,7 +113,7 @@ fn write_key(
     text: &mut JsonText,
     dotted: &mut Vec<u8>,
     by: Columns,
-    row: &TallyRow,
+    row: &ShownRow<'_>,
 ) -> Result<(), AllocError>
     ensures { OnOk result (text.new ≡ text.old ++ members_tokens_of (key_members by row.now.key)) }
 {
@@ -122,17 +123,39 @@ fn write_key(
     Ok(())
 }
 
+fn write_directory(text: &mut JsonText, row: &ShownRow<'_>) -> Result<(), AllocError>
+    ensures { OnOk result (text.new ≡ text.old ++ member_tokens (directory_member (unwrap_or row.now.directory []))) }
+{
+    let directory = directory_name(row.directory.unwrap_or(&[]));
+    text.bytes_member("dir", "dir_bytes", directory)
+}
+
+fn write_kept_directory(
+    text: &mut JsonText,
+    by: Columns,
+    row: &ShownRow<'_>,
+) -> Result<(), AllocError>
+    ensures { OnOk result (text.new
+        ≡ text.old ++ members_tokens_of (if_kept (is_some by.dir) (directory_member (unwrap_or row.now.directory [])))) }
+{
+    if by.dir.is_some() {
+        write_directory(text, row)?;
+    }
+    Ok(())
+}
+
 fn write_row(
     text: &mut JsonText,
     dotted: &mut Vec<u8>,
     by: Columns,
-    row: &TallyRow,
+    row: &ShownRow<'_>,
 ) -> Result<(), AllocError>
     ensures { OnOk result (text.new ≡ text.old ++ json_tokens (row_value by row.now)) }
 {
     text.begin_object()?;
+    write_kept_directory(text, by, row)?;
     write_key(text, dotted, by, row)?;
-    write_sums(text, &row.sums())?;
+    write_sums(text, &row.sums)?;
     text.end_object()?;
     Ok(())
 }
@@ -165,7 +188,7 @@ fn write_rows(
     text: &mut JsonText,
     alloc: Global,
     by: Columns,
-    rows: &[TallyRow],
+    rows: &[ShownRow<'_>],
 ) -> Result<(), AllocError>
     ensures { OnOk result (text.new ≡ text.old ++ member_tokens (codes "rows", array_with (map (row_value by) rows.now))) }
 {
@@ -275,11 +298,12 @@ fn write_lists(
     text: &mut JsonText,
     alloc: Global,
     report: &Report,
+    options: &TableOptions,
     files: &[FileLine],
 ) -> Result<(), AllocError>
-    ensures { OnOk result (text.new ≡ text.old ++ members_tokens_of (list_members report.now files.now)) }
+    ensures { OnOk result (text.new ≡ text.old ++ members_tokens_of (list_members options.now report.now files.now)) }
 {
-    write_files(text, report.lists.files, files)?;
+    write_files(text, options.files, files)?;
     write_skipped(text, report, alloc)?;
     write_faults(text, &report.faults)?;
     Ok(())
@@ -289,15 +313,15 @@ fn write_report(
     text: &mut JsonText,
     alloc: Global,
     report: &Report,
-    by: Columns,
+    options: &TableOptions,
     view: &View<'_>,
 ) -> Result<(), AllocError>
-    ensures { OnOk result (text.new ≡ text.old ++ json_tokens (report_value by report.now (view_model view.now))) }
+    ensures { OnOk result (text.new ≡ text.old ++ json_tokens (report_value options.now report.now (view_model view.now))) }
 {
     text.begin_object()?;
-    write_rows(text, alloc, by, view.rows)?;
+    write_rows(text, alloc, options.by, view.rows)?;
     write_numbers(text, report, view.others)?;
-    write_lists(text, alloc, report, view.files)?;
+    write_lists(text, alloc, report, options, view.files)?;
     text.end_object()?;
     Ok(())
 }
@@ -306,13 +330,13 @@ fn write_report(
 pub(crate) fn json_line(
     alloc: Global,
     report: &Report,
-    by: Columns,
+    options: &TableOptions,
     view: &View<'_>,
 ) -> Result<Vec<u8>, AllocError>
-    ensures text { IfOk result (λ text. text.items ≡ json_text_of by report.now (view_model view.now)) }
-    ensures document { IfOk result (λ text. IsDocument (report_value by report.now (view_model view.now)) text.items) }
+    ensures text { IfOk result (λ text. text.items ≡ json_text_of options.now report.now (view_model view.now)) }
+    ensures document { IfOk result (λ text. IsDocument (report_value options.now report.now (view_model view.now)) text.items) }
 {
     let mut text = JsonText::new(alloc);
-    write_report(&mut text, alloc, report, by, view)?;
+    write_report(&mut text, alloc, report, options, view)?;
     text.into_line()
 }

@@ -3,14 +3,14 @@
 ghost use Rattle.std.specs.Prelude.{◌≡◌};
 ghost use Rattle.lc_walk.specs.WalkOptions.{AreWithinLimits};
 ghost use Rattle.lc_walk.specs.Walks.{Walks};
-ghost use Rattle.lc_table.specs.Runs.{IsOutcomeOf, AnswersRun, table_fault};
+ghost use Rattle.lc_table.specs.Runs.{AnswersRun, table_fault};
 ghost use Rattle.lc_table.specs.declared.running.RunFault.TheVariants.{Walk};
 
 use crate::writing::table;
-use lc_text::{Outcome, PrintFault, Sink};
+use lc_text::{PrintFault, Sink};
 use lc_tree::Tree;
 use lc_view::TableOptions;
-use lc_walk::{Options, Report, WalkFault, walk};
+use lc_walk::{FaultLine, Options, WalkFault, walk};
 use std::alloc::Global;
 use std::sync::Wait;
 use std::thread::Threads;
@@ -49,23 +49,13 @@ impl From<PrintFault> for RunFault {
     }
 }
 
-fn outcome_of(report: &Report) -> Outcome
-    ensures { IsOutcomeOf report.now result }
-{
-    if report.faults.is_empty() {
-        Outcome::Clean
-    } else {
-        Outcome::SomeFaults
-    }
-}
-
-/// Walks a tree, and writes the table of what it found ([`table`]).
+/// Walks a tree, writes the table of what it found ([`table`]), and returns what could not be read.
 ///
 /// ```
 /// let tree = SysTree::new(&rt, rt.alloc(), "src")?;
-/// let table_options = TableOptions { format: Format::Tsv, by: Columns::ALL, sort: None, top: None };
-/// let outcome = run(&rt, rt.alloc(), &tree, &options, table_options, &mut out)?;
-/// assert_eq!(outcome, Outcome::Clean);
+/// let table_options = TableOptions { format: Format::Tsv, by: Columns::ALL, sort: None, top: None, files: false, share: false };
+/// let faults = run(&rt, rt.alloc(), &tree, &options, table_options, &mut out)?;
+/// assert!(faults.is_empty());
 /// ```
 pub fn run<T: Tree, R: Threads + Wait + Sync, O: Sink>(
     rt: &R,
@@ -74,12 +64,11 @@ pub fn run<T: Tree, R: Threads + Wait + Sync, O: Sink>(
     options: &Options<'_>,
     table_options: TableOptions,
     out: &mut O,
-) -> Result<Outcome, RunFault>
+) -> Result<Vec<FaultLine>, RunFault>
     requires limits { AreWithinLimits options.now }
     ensures { AnswersRun O.may_take (Walks (T.lists tree.now) (T.gives tree.now) options.now) table_options out.old result out.new }
 {
-    let report = walk(rt, alloc, tree, options)?;
-    let outcome = outcome_of(&report);
-    table(alloc, report, table_options, out)?;
-    Ok(outcome)
+    let mut report = walk(rt, alloc, tree, options)?;
+    table(alloc, &mut report, table_options, out)?;
+    Ok(report.faults)
 }

@@ -9,9 +9,10 @@ ghost use Rattle.lc_rows.specs.Views.{view_model};
 use crate::cells::Cell;
 use crate::columns::Widths;
 use crate::listing::push_listing;
+use crate::row_columns::RowColumns;
 use crate::summary::push_summary;
 use lc_rows::View;
-use lc_view::Columns;
+use lc_view::TableOptions;
 use lc_walk::Report;
 use std::alloc::{AllocError, Global};
 
@@ -80,17 +81,18 @@ fn push_counts(
 pub(crate) fn screen_text(
     alloc: Global,
     report: &Report,
-    by: Columns,
+    options: &TableOptions,
     view: &View<'_>,
 ) -> Result<Vec<u8>, AllocError>
-    ensures { IfOk result (λ text. text.items ≡ screen_text_of by report.now (view_model view.now)) }
+    ensures { IfOk result (λ text. text.items ≡ screen_text_of options.now report.now (view_model view.now)) }
 {
     let mut text = String::new(alloc);
     let mut made = String::new(alloc);
     push_listing(alloc, view.files, &mut text, &mut made)?;
     push_listing(alloc, &report.skipped, &mut text, &mut made)?;
     push_listing(alloc, &report.faults, &mut text, &mut made)?;
-    push_summary(alloc, report, by, view, &mut text, &mut made)?;
+    let columns = RowColumns::of(options, report, view);
+    push_summary(alloc, report, &columns, view, &mut text, &mut made)?;
     text.push_str("\n")?;
     push_counts(alloc, report, &mut text, &mut made)?;
     Ok(text.into_bytes())

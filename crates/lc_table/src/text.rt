@@ -1,48 +1,61 @@
 //! The text of a table, by its options.
 
-ghost use Rattle.std.specs.Prelude.{IfOk};
+ghost use Rattle.std.specs.Prelude.{◌≡◌, IfOk};
 ghost use Rattle.lc_rows.specs.Views.{view_model};
-ghost use Rattle.lc_table.specs.TableText.{IsTextIn, IsTextOf};
+ghost use Rattle.lc_table.specs.TableText.{IsTextIn, IsTextOf, listed_files};
 
+use crate::csv_table::csv_text;
 use crate::json_report::json_line;
+use crate::markdown::markdown_text;
 use crate::screen::screen_text;
 use crate::tsv::tsv_text;
 use lc_rows::{View, shown_rows, sort_files};
-use lc_view::{Columns, Format, TableOptions};
-use lc_walk::Report;
+use lc_view::{Format, TableOptions};
+use lc_walk::{FileLine, Report};
 use std::alloc::{AllocError, Global};
 
 fn text_in(
     alloc: Global,
-    format: Format,
-    by: Columns,
+    options: &TableOptions,
     report: &Report,
     view: &View<'_>,
 ) -> Result<Vec<u8>, AllocError>
-    ensures { IfOk result (λ text. IsTextIn format by report.now (view_model view.now) text.items) }
+    ensures { IfOk result (λ text. IsTextIn options.now report.now (view_model view.now) text.items) }
 {
-    match format {
-        Format::Tsv => tsv_text(alloc, report, by, view),
-        Format::Table => screen_text(alloc, report, by, view),
-        Format::Json => json_line(alloc, report, by, view),
+    match options.format {
+        Format::Tsv => tsv_text(alloc, report, options.by, view),
+        Format::Table => screen_text(alloc, report, options, view),
+        Format::Json => json_line(alloc, report, options, view),
+        Format::Csv => csv_text(alloc, report, options, view),
+        Format::Markdown => markdown_text(alloc, report, options, view),
     }
+}
+
+fn listed_files(listed: bool, files: &[FileLine]) -> &[FileLine]
+    ensures { result.now ≡ listed_files listed files.now }
+{
+    if listed { files } else { &[] }
 }
 
 /// Makes the table of a report as text.
 ///
-/// It sorts the files of the report in place. It stops with an error if there is no memory, and for rows that no walk has, whose sums are
-/// those of no files.
+/// It sorts the files of the report in place. Rows by directory are summed over these files, so the report must have them. It stops with an
+/// error if there is no memory, and for numbers that no walk has, whose sums or shares overflow.
 pub fn table_text(
     alloc: Global,
-    report: Report,
+    report: &mut Report,
     options: TableOptions,
 ) -> Result<Vec<u8>, AllocError>
-    ensures { IfOk result (λ text. IsTextOf options report text.items) }
+    ensures text { IfOk result (λ text. IsTextOf options report.old text.items) }
+    ensures faults { report.new.faults ≡ report.old.faults }
 {
-    let mut report = report;
     sort_files(options.sort, &mut report.files);
-    let shown = shown_rows(alloc, &report.rows, options.by, options.sort)?;
-    let view = View::of(options.top, shown.as_slice(), &report.files)?;
-    let text = text_in(alloc, options.format, options.by, &report, &view)?;
+    let shown = shown_rows(alloc, &report.rows, &report.files, options.by, options.sort)?;
+    let view = View::of(
+        options.top,
+        &shown,
+        listed_files(options.files, &report.files),
+    )?;
+    let text = text_in(alloc, &options, report, &view)?;
     Ok(text)
 }

@@ -2,8 +2,9 @@
 
 ghost use Rattle.std.specs.Prelude.{◌≡◌, ◌++◌, OnOk, IfOk, option_map};
 ghost use Rattle.std.specs.List.{flat_map};
-ghost use Rattle.lc_table.specs.TsvText.{column, extension_word, row_line, sums_line, others_line, directories_line, entries_line};
-ghost use Rattle.lc_table.specs.TsvText.{file_line, skipped_line, fault_line};
+ghost use Rattle.lc_table.specs.TsvText.{column, extension_word, header_line, row_line, sums_line, others_line, directories_line};
+ghost use Rattle.lc_table.specs.TsvText.{entries_line, file_line, skipped_line, fault_line};
+ghost use Rattle.lc_table.specs.TsvColumns.{row_end, stars};
 ghost use Rattle.lc_table.specs.SkippedWords.{reason_place};
 ghost use Rattle.lc_text.specs.Escape.{escape_bytes};
 ghost use Rattle.lc_rows.specs.Views.{view_model};
@@ -11,15 +12,15 @@ ghost use Rattle.lc_table.specs.TsvText.{tsv_text_of};
 
 use crate::words::{eol_word, reason_word, skipped_end, text_word};
 use lc_level::Reason;
-use lc_rows::View;
+use lc_rows::{ShownRow, View};
 use lc_text::{PathStyle, push_escaped, push_path, push_rule_source};
 use lc_view::Columns;
-use lc_walk::{FaultLine, FileLine, Report, SkippedLine, Sums, TallyRow};
+use lc_walk::{FaultLine, FileLine, Report, SkippedLine, Sums};
 use std::alloc::{AllocError, Global};
 use std::io::Write;
 
-fn push_extension(text: &mut Vec<u8>, extension: &Option<Vec<u8>>) -> Result<(), AllocError>
-    ensures { OnOk result (text.new.items ≡ text.old.items ++ extension_word (option_map (λ v. v.items) extension.now)) }
+fn push_extension(text: &mut Vec<u8>, extension: Option<&[u8]>) -> Result<(), AllocError>
+    ensures { OnOk result (text.new.items ≡ text.old.items ++ extension_word (option_map (λ name. name.now) extension.entry)) }
 {
     match extension {
         None => text.extend_from_slice(b"-"),
@@ -36,50 +37,87 @@ fn column(kept: bool, word: &'static str) -> &'static str
     if kept { word } else { "*" }
 }
 
-fn push_kept_extension(text: &mut Vec<u8>, by: Columns, row: &TallyRow) -> Result<(), AllocError>
+fn push_kept_extension(
+    text: &mut Vec<u8>,
+    by: Columns,
+    row: &ShownRow<'_>,
+) -> Result<(), AllocError>
     ensures { OnOk result (text.new.items ≡ text.old.items ++ column by.ext (extension_word row.now.key.extension)) }
 {
     if by.ext {
-        push_extension(text, &row.ext)
+        push_extension(text, row.extension)
     } else {
         text.extend_from_slice(b"*")
     }
 }
 
-fn push_row(text: &mut Vec<u8>, by: Columns, row: &TallyRow) -> Result<(), AllocError>
-    ensures { OnOk result (text.new.items ≡ text.old.items ++ row_line by row.now) }
+/// Appends the columns of a row from its extension on.
+fn push_row_end(text: &mut Vec<u8>, by: Columns, row: &ShownRow<'_>) -> Result<(), AllocError>
+    ensures { OnOk result (text.new.items ≡ text.old.items ++ row_end by row.now) }
 {
     push_kept_extension(text, by, row)?;
     let state = column(by.text, text_word(row.text));
     let eol = column(by.eol, eol_word(row.eol));
-    let TallyRow {
+    let Sums {
         files,
         lines,
         blank,
         bytes,
-        ..
-    } = row;
+    } = row.sums;
     writeln!(text, "\t{state}\t{eol}\t{files}\t{lines}\t{blank}\t{bytes}").map_err(|_| AllocError)
 }
 
-fn push_sums(text: &mut Vec<u8>, name: &'static str, sums: Sums) -> Result<(), AllocError>
-    ensures { OnOk result (text.new.items ≡ text.old.items ++ sums_line name.now sums) }
+fn push_row(text: &mut Vec<u8>, by: Columns, row: &ShownRow<'_>) -> Result<(), AllocError>
+    ensures { OnOk result (text.new.items ≡ text.old.items ++ row_line by row.now) }
 {
+    if by.dir.is_some() {
+        push_path(text, row.directory.unwrap_or(&[]))?;
+        text.extend_from_slice(b"\t")?;
+    }
+    push_row_end(text, by, row)
+}
+
+fn header_line(by: Columns) -> &'static str
+    ensures { result.now ≡ header_line by }
+{
+    if by.dir.is_some() {
+        "dir\text\ttext\teol\tfiles\tlines\tblank\tbytes\n"
+    } else {
+        "ext\ttext\teol\tfiles\tlines\tblank\tbytes\n"
+    }
+}
+
+/// Returns the stars in the columns of keys after the first.
+fn stars(by: Columns) -> &'static str
+    ensures { result.now ≡ stars by }
+{
+    if by.dir.is_some() { "*\t*\t*" } else { "*\t*" }
+}
+
+fn push_sums(
+    text: &mut Vec<u8>,
+    by: Columns,
+    name: &'static str,
+    sums: Sums,
+) -> Result<(), AllocError>
+    ensures { OnOk result (text.new.items ≡ text.old.items ++ sums_line by name.now sums) }
+{
+    let stars = stars(by);
     let Sums {
         files,
         lines,
         blank,
         bytes,
     } = sums;
-    writeln!(text, "{name}\t*\t*\t{files}\t{lines}\t{blank}\t{bytes}").map_err(|_| AllocError)
+    writeln!(text, "{name}\t{stars}\t{files}\t{lines}\t{blank}\t{bytes}").map_err(|_| AllocError)
 }
 
-fn push_others(text: &mut Vec<u8>, others: Option<Sums>) -> Result<(), AllocError>
-    ensures { OnOk result (text.new.items ≡ text.old.items ++ others_line others) }
+fn push_others(text: &mut Vec<u8>, by: Columns, others: Option<Sums>) -> Result<(), AllocError>
+    ensures { OnOk result (text.new.items ≡ text.old.items ++ others_line by others) }
 {
     match others {
         None => Ok(()),
-        Some(sums) => push_sums(text, "others", sums),
+        Some(sums) => push_sums(text, by, "others", sums),
     }
 }
 
@@ -121,7 +159,7 @@ fn push_reason_place(text: &mut Vec<u8>, skipped: &SkippedLine) -> Result<(), Al
             push_rule_source(text, PathStyle::Escaped, &skipped.path, *source, *line)
         }
         Reason::Attribute(name) => push_escaped(text, name),
-        Reason::Git | Reason::OtherKind => text.extend_from_slice(b"-"),
+        Reason::Git | Reason::Include | Reason::OtherKind => text.extend_from_slice(b"-"),
     }
 }
 
@@ -148,7 +186,7 @@ fn push_fault(text: &mut Vec<u8>, fault: &FaultLine) -> Result<(), AllocError>
     text.extend_from_slice(b"\n")
 }
 
-fn push_rows(text: &mut Vec<u8>, by: Columns, rows: &[TallyRow]) -> Result<(), AllocError>
+fn push_rows(text: &mut Vec<u8>, by: Columns, rows: &[ShownRow<'_>]) -> Result<(), AllocError>
     ensures { OnOk result (text.new.items ≡ text.old.items ++ flat_map (row_line by) rows.now) }
 {
     for row in rows {
@@ -198,10 +236,10 @@ pub(crate) fn tsv_text(
     ensures { IfOk result (λ text. text.items ≡ tsv_text_of by report.now (view_model view.now)) }
 {
     let mut text = Vec::new(alloc);
-    text.extend_from_slice(b"ext\ttext\teol\tfiles\tlines\tblank\tbytes\n")?;
+    text.extend_from_slice(header_line(by).as_bytes())?;
     push_rows(&mut text, by, view.rows)?;
-    push_others(&mut text, view.others)?;
-    push_sums(&mut text, "total", report.totals)?;
+    push_others(&mut text, by, view.others)?;
+    push_sums(&mut text, by, "total", report.totals)?;
     push_directories(&mut text, report.directories)?;
     push_entries(&mut text, report)?;
     push_files(&mut text, view.files)?;

@@ -1,6 +1,7 @@
 //! The words in the columns of a table.
 
 ghost use Rattle.std.specs.Prelude.{◌≡◌};
+ghost use Rattle.lc_table.specs.DirectoryWords.{directory_name};
 ghost use Rattle.lc_table.specs.TsvText.{eol_word, text_word};
 ghost use Rattle.lc_table.specs.SkippedWords.{kind_word, skipped_end, reason_word};
 
@@ -42,6 +43,7 @@ pub(crate) fn reason_word(skipped: &SkippedLine) -> &'static str
         Reason::Git => "git",
         Reason::Rule { .. } => "rule",
         Reason::Attribute(_) => "attribute",
+        Reason::Include => "include",
         Reason::OtherKind => "other",
     }
 }
@@ -65,4 +67,11 @@ pub(crate) fn skipped_end(skipped: &SkippedLine) -> &'static str
         (Kind::Dir, _) => "/",
         (Kind::File | Kind::Other, _) => "",
     }
+}
+
+/// Returns the path of a directory as it is shown: the top's empty path is a dot.
+pub(crate) fn directory_name(path: &[u8]) -> &[u8]
+    ensures { result.now ≡ directory_name path.now }
+{
+    if path.is_empty() { b"." } else { path }
 }

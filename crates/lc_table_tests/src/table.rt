@@ -2,11 +2,15 @@
 
 mod asking;
 mod cuts;
+mod directories;
 mod failing_calls;
 mod failing_trees;
 mod json;
+mod markdown;
+mod records;
 mod rows;
 mod runs;
 mod screens;
+mod shares;
 mod skipped;
 mod tables;

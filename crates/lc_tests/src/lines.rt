@@ -83,6 +83,7 @@ fn push_source(text: &mut String, source: RuleSource) -> Result<(), AllocError> 
             }
             text.push_str(".gitignore")
         }
+        RuleSource::CommandLine => text.push_str("--exclude"),
     }
 }
 
@@ -95,10 +96,11 @@ pub fn push_reason(text: &mut String, reason: &Reason) -> Result<(), AllocError>
             push_source(text, *source)?;
             write!(text, ":{line}")
         }
-        Reason::Attribute(name) => {
+        Reason::Attribute(word) => {
             text.push_str("attribute ")?;
-            push_name(text, name)
+            push_name(text, word)
         }
+        Reason::Include => text.push_str("include"),
         Reason::OtherKind => text.push_str("other"),
     }
 }

@@ -1,8 +1,11 @@
 -- The lines of an input.
 use Rattle.std.specs.Prelude.{ℕ, cond, List, [], ◌∷◌, ◌++◌, codes}
+use Rattle.lc_glob.specs.Bytes.{nul}
 use Rattle.lc_glob.specs.Lists.{is_empty}
 use Rattle.lc_glob.specs.Pieces.{pieces_of}
 use Rattle.lc_rules.specs.Bytes.{line_feed}
+use Rattle.lc_text.specs.declared.lines.PathEnd.{PathEnd}
+use Rattle.lc_text.specs.declared.lines.PathEnd.TheVariants.{LineFeed, Nul}
 
 -- without the last piece where that is empty
 abbrev pub without_empty_last : List (List ℕ) → List (List ℕ)
@@ -10,9 +13,18 @@ without_empty_last [] = []
 without_empty_last (p ∷ []) = cond (is_empty p) [] (p ∷ [])
 without_empty_last (p ∷ q ∷ ps) = p ∷ without_empty_last (q ∷ ps)
 
--- what stands between line feeds; a last line needs none, and nothing after the last one is no line
+-- the byte at which a path ends
+abbrev pub end_byte : PathEnd → ℕ
+end_byte LineFeed = line_feed
+end_byte Nul = nul
+
+-- what stands between such bytes; a last path needs none, and nothing after the last one is no path
+abbrev pub input_paths_of : PathEnd → List ℕ → List (List ℕ)
+input_paths_of end bytes = without_empty_last (pieces_of (end_byte end) bytes)
+
+-- what stands between line feeds
 abbrev pub input_lines_of : List ℕ → List (List ℕ)
-input_lines_of bytes = without_empty_last (pieces_of line_feed bytes)
+input_lines_of bytes = input_paths_of LineFeed bytes
 
 -- a line with its line feed
 abbrev pub with_feed : List ℕ → List ℕ

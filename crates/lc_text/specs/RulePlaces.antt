@@ -5,23 +5,25 @@ use Rattle.lc_rules.specs.IgnoreRules.{text_of_line}
 use Rattle.lc_rules.specs.RuleLines.{lines_of as rule_lines_of}
 use Rattle.lc_rules.specs.Verdicts.{below}
 use Rattle.lc_rules.specs.declared.rule_source.RuleSource.{RuleSource}
-use Rattle.lc_rules.specs.declared.rule_source.RuleSource.TheVariants.{ExcludeFrom, InfoExclude, Gitignore}
+use Rattle.lc_rules.specs.declared.rule_source.RuleSource.TheVariants.{ExcludeFrom, InfoExclude, Gitignore, CommandLine}
 
 -- the part of a path above what a file of the directory at this depth sees: that directory's path with a slash, nothing at the top
 abbrev pub above : ℕ → List ℕ → List ℕ
 above depth path = take (length path - length (below depth path)) path
 
--- the directory of the file of a rule that decides a path: nothing where the file has one path in each tree
+-- the directory of the file of a rule that decides a path: nothing where the file has one path in each tree, and of the command line
 abbrev pub source_directory : List ℕ → RuleSource → List ℕ
 source_directory path ExcludeFrom = []
 source_directory path InfoExclude = []
 source_directory path (Gitignore depth) = above depth path
+source_directory path CommandLine = []
 
 -- the file, seen from there
 abbrev pub source_name : RuleSource → List ℕ
 source_name ExcludeFrom = codes "--exclude-from"
 source_name InfoExclude = codes ".git/info/exclude"
 source_name (Gitignore depth) = codes ".gitignore"
+source_name CommandLine = codes "--exclude"
 
 -- the file of a rule that decides a path, its directory written by `escape`
 abbrev pub rule_file : (List ℕ → List ℕ) → List ℕ → RuleSource → List ℕ

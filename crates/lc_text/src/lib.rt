@@ -3,7 +3,8 @@
 //! - `sink`: where text is written; `printing`: a text is written whole, or why not; `blocks`: a text is written as it is made
 //! - `escaping`: how paths are printed; `visible`: how they are shown in a terminal; `style`: the one or the other
 //! - `places`: where a rule is
-//! - `input`: an input of paths, read whole; `lines`, `path_line`: its lines; `check_fault`: why its paths were not answered
+//! - `input`: an input of paths, read whole; `lines`, `path_line`: its paths, and the path of a line; `check_fault`: why its paths were not
+//!   answered
 //! - `outcome`: whether what was written shows an error
 //! - `trials`: a writer for tests
 //! - `laws`: what is true of the definitions that the contracts cite
@@ -29,11 +30,11 @@ pub use check_fault::CheckFault;
 pub use escaping::{escape, push_escaped, push_path};
 pub use input::{MAX_INPUT, read_input};
 pub use laws::a_vector_takes_the_text;
-pub use lines::split_line;
+pub use lines::{PathEnd, split_path};
 pub use outcome::Outcome;
 pub use path_line::{is_bad_path, split_slash};
 pub use places::{push_rule_source, source_directory, source_name};
 pub use printing::{PrintFault, print};
 pub use sink::{Sink, StdSink};
-pub use style::{PathStyle, push_styled, push_styled_path};
+pub use style::{PathFormat, PathStyle, push_styled, push_styled_path};
 pub use visible::{push_visible, push_visible_path};

@@ -48,7 +48,7 @@ pub fn source_directory(path: &[u8], source: RuleSource) -> &[u8]
     ensures { result.now ≡ source_directory path.now source }
 {
     match source {
-        RuleSource::ExcludeFrom | RuleSource::InfoExclude => &[],
+        RuleSource::ExcludeFrom | RuleSource::InfoExclude | RuleSource::CommandLine => &[],
         RuleSource::Gitignore(depth) => above(path, depth),
     }
 }
@@ -61,11 +61,12 @@ pub fn source_name(source: RuleSource) -> &'static str
         RuleSource::ExcludeFrom => "--exclude-from",
         RuleSource::InfoExclude => ".git/info/exclude",
         RuleSource::Gitignore(_) => ".gitignore",
+        RuleSource::CommandLine => "--exclude",
     }
 }
 
 /// Appends where the rule is that decides a path: the path of its file in a style, and the number of its line, as `src/.gitignore:3`,
-/// `.git/info/exclude:2` or `--exclude-from:7`.
+/// `.git/info/exclude:2`, `--exclude-from:7` or `--exclude:2`, the second pattern of the command line.
 ///
 /// ```
 /// push_rule_source(&mut text, PathStyle::Escaped, b"src/gen/a.c", RuleSource::Gitignore(1), 3)?; // src/.gitignore:3

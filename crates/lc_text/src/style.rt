@@ -5,6 +5,7 @@ ghost use Rattle.lc_text.specs.Styles.{styled, styled_path};
 ghost use Rattle.lc_text.specs.Visible.{visible_bytes};
 
 use crate::escaping::push_escaped;
+use crate::lines::PathEnd;
 use crate::visible::push_visible;
 use std::alloc::AllocError;
 
@@ -15,6 +16,13 @@ pub enum PathStyle {
     Escaped,
     /// For a terminal: nothing in them moves the cursor or turns the direction of text ([`push_visible`]).
     Visible,
+}
+
+/// How the paths of an input end, and the style in which paths are printed. Each line that is printed ends with a line feed.
+#[derive(Debug, Clone, Copy, PartialEq, Eq)]
+pub struct PathFormat {
+    pub end: PathEnd,
+    pub style: PathStyle,
 }
 
 fn push_visible_bytes(text: &mut Vec<u8>, bytes: &[u8]) -> Result<(), AllocError>

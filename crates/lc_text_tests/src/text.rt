@@ -2,6 +2,7 @@
 
 mod blocks;
 mod interrupted;
+mod paths;
 mod places;
 mod styles;
 mod visible;

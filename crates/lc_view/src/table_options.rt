@@ -9,11 +9,17 @@ pub enum Format {
     Table,
     /// One JSON object (RFC 8259) on one line.
     Json,
+    /// Records of one kind with commas between fields (RFC 4180), and no totals, for databases and spreadsheets.
+    Csv,
+    /// Tables of GitHub Flavored Markdown.
+    Markdown,
 }
 
 /// The columns by which the rows of a table are kept apart. Rows are summed over the columns that it leaves out.
 #[derive(Debug, Clone, Copy, PartialEq, Eq)]
 pub struct Columns {
+    /// The directory that holds the file, relative to the counted directory and cut to its first segments, this many (1 to 256).
+    pub dir: Option<u32>,
     /// The extension of the file's name.
     pub ext: bool,
     /// The state of the attribute `text`.
@@ -23,8 +29,9 @@ pub struct Columns {
 }
 
 impl Columns {
-    /// All columns, so that no rows are summed.
+    /// All columns of a report's rows, so that none are summed.
     pub const ALL: Columns = Columns {
+        dir: None,
         ext: true,
         text: true,
         eol: true,
@@ -47,7 +54,7 @@ pub enum SortBy {
 /// The options of a table.
 ///
 /// ```
-/// let options = TableOptions { format: Format::Tsv, by: Columns::ALL, sort: None, top: Some(10) };
+/// let options = TableOptions { format: Format::Tsv, by: Columns::ALL, sort: None, top: Some(10), files: false, share: false };
 /// ```
 #[derive(Debug, Clone, Copy, PartialEq, Eq)]
 pub struct TableOptions {
@@ -60,4 +67,8 @@ pub struct TableOptions {
     pub sort: Option<SortBy>,
     /// The most rows, and the most files, that it shows; all if there is no limit.
     pub top: Option<u32>,
+    /// Whether it lists the files. A report may have files for its rows by directory alone.
+    pub files: bool,
+    /// Whether each row shows its share of the total, in the formats `Table` and `Markdown`.
+    pub share: bool,
 }

@@ -13,7 +13,8 @@ use Rattle.lc_level.specs.FaultLines.{FaultLineModel}
 use Rattle.lc_level.specs.Job.{JobModel}
 use Rattle.lc_level.specs.Level.{Reason, other_kind, Fate, counted, failed, walked, skipped, Level, faulted_level, listed_level, level}
 use Rattle.lc_level.specs.Level.{level_of}
-use Rattle.lc_level.specs.Level.{level_after, level_of_items, walked_in, fates_of, fate_of, file_fate, reason_of, is_taken, child_job}
+use Rattle.lc_level.specs.Level.{level_after, level_of_items, walked_in, fates_of, fate_of, file_fate, file_reason, reason_of, is_taken}
+use Rattle.lc_level.specs.Level.{child_job}
 use Rattle.lc_level.specs.Narrowing.{part_of, absent_from}
 use Rattle.lc_level.specs.RuleFiles.{RuleBytes, rule_bytes, extended}
 use Rattle.lc_level.specs.Selection.{SelectionModel}
@@ -31,17 +32,18 @@ use Rattle.lc_walk.proofs.Elements.{of_mapped}
 -- a level is that of items whose rule files were read, or a fault
 level_cases : (P : Level → Type 0) (selection : SelectionModel) (j : JobModel) (a : Answers) →
     ((p : List ℕ) (w : FaultWord) → P (faulted_level p w)) →
-    ((items : List Item) → a.here ≡ Ok items → (b : RuleBytes) → rule_bytes j.path items a ≡ Ok b
+    ((items : List Item) → a.here ≡ Ok items → (b : RuleBytes) → rule_bytes j.ignore.no_ignore j.path items a ≡ Ok b
     → P (level_of_items selection items (extended j b))) → P (level selection j a)
 level_cases P selection j a faults items_are = at a.here refl
   where
-    after : (items : List Item) → a.here ≡ Ok items → (r : Result RuleBytes FaultLineModel) → rule_bytes j.path items a ≡ r
+    after : (items : List Item) → a.here ≡ Ok items → (r : Result RuleBytes FaultLineModel) → rule_bytes j.ignore.no_ignore j.path items a
+        ≡ r
         → P (level_after selection j items r)
     after items e (Ok b) read = items_are items e b read
     after items e (Err f) read = faults f.path f.word
 
     at : (o : Items) → a.here ≡ o → P (level_of selection j a o)
-    at (Ok items) e = after items e (rule_bytes j.path items a) refl
+    at (Ok items) e = after items e (rule_bytes j.ignore.no_ignore j.path items a) refl
     at (Err word) e = faults j.path word
 
 -- the level of a directory that is listed without a fault
@@ -73,7 +75,7 @@ named_by_count n k (Err word) = refl
 counted_named : (selection : SelectionModel) (k : JobModel) (item : Item) →
     counted_name (name_of item) (fate_of selection k item) ≡ name_of item
 counted_named selection k (file_item n c rules) =
-    named_by_reason n (skipped File) (file_fate k n c) (reason_of selection k n false) (λ reason. refl) (named_by_count n k c)
+    named_by_reason n (skipped File) (file_fate k n c) (file_reason selection k n) (λ reason. refl) (named_by_count n k c)
 counted_named selection k (directory_item n) =
     named_by_reason n (skipped Dir) (walked (child_job k n)) (reason_of selection k n true) (λ reason. refl) refl
 counted_named selection k (other_item n) =

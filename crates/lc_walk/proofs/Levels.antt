@@ -10,7 +10,7 @@ use Rattle.lc_level.specs.Answers.{Item, file_item, directory_item, other_item, 
 use Rattle.lc_level.specs.Job.{JobModel}
 use Rattle.lc_level.specs.FaultLines.{FaultLineModel}
 use Rattle.lc_level.specs.RuleFiles.{Pair, RuleBytes, extended, file_named, has_directory, is_top, has_git, and_then, reading}
-use Rattle.lc_level.specs.RuleFiles.{both_read, info_items, info_bytes, own_bytes, rule_bytes}
+use Rattle.lc_level.specs.RuleFiles.{ignore_named, both_read, info_items, info_bytes, own_bytes, rule_bytes}
 use Rattle.lc_level.specs.Level.{Level, faulted_level, level, level_of, level_after, level_of_items, is_taken, child_job}
 use Rattle.lc_level.specs.Level.{walked_in, fates_of}
 use Rattle.lc_level.specs.Narrowing.{part_of}
@@ -33,7 +33,7 @@ level_keeps P selection j a faults items_keep = at a.here refl
     after items e (Err f) = faults f.path f.word
 
     at : (o : Items) → a.here ≡ o → P (level_of selection j a o)
-    at (Ok items) e = after items e (rule_bytes j.path items a)
+    at (Ok items) e = after items e (rule_bytes j.ignore.no_ignore j.path items a)
     at (Err word) e = faults j.path word
 
 -- ---- where a directory can be at fault
@@ -69,10 +69,11 @@ fault_of_both P p o q u k l =
     (λ x. fault_of_and_then P (reading q u) (λ y. Ok (record { rules = x; attributes = y })) (fault_of_reading P q u l) (λ y. tt))
 
 -- nothing of `.git` is read where it is not there
-no_git : (P : List ℕ → Type 0) (a : Answers) (there : Bool) → (there ≡ true → (p : List ℕ) → P p)
-    → IfFault P (and_then (info_items there a) info_bytes)
-no_git P a false k = tt
-no_git P a true k = any (and_then (info_items true a) info_bytes)
+no_git : (no_ignore : Bool) (P : List ℕ → Type 0) (a : Answers) (there : Bool) → (there ≡ true → (p : List ℕ) → P p)
+    → IfFault P (and_then (info_items there a) (info_bytes no_ignore))
+no_git true P a false k = tt
+no_git false P a false k = tt
+no_git no_ignore P a true k = any (and_then (info_items true a) (info_bytes no_ignore))
   where
     any : (r : Result Pair FaultLineModel) → IfFault P r
     any (Ok x) = tt
@@ -82,13 +83,14 @@ git_of_top : (p : List ℕ) (items : List Item) → has_git p items ≡ true →
 git_of_top p items e = top_is p (and_parts (is_top p) (has_directory (codes ".git") items) e).0
 
 -- a fault of rule files has the path of one of them
-pub fault_place : (path : List ℕ) (items : List Item) (a : Answers) → IfFault (IsOwnPlace path) (rule_bytes path items a)
-fault_place path items a =
-    fault_of_and_then (IsOwnPlace path) (and_then (info_items (has_git path items) a) info_bytes)
-    (λ i. and_then (own_bytes path items) (λ o. Ok (record { info = i; own = o })))
-    (no_git (IsOwnPlace path) a (has_git path items) (λ e p. inr (inr (git_of_top path items e))))
-    (λ i. fault_of_and_then (IsOwnPlace path) (own_bytes path items) (λ o. Ok (record { info = i; own = o }))
-    (fault_of_both (IsOwnPlace path) (path_in path (codes ".gitignore")) (file_named (codes ".gitignore") items)
+pub fault_place : (no_ignore : Bool) (path : List ℕ) (items : List Item) (a : Answers)
+    → IfFault (IsOwnPlace path) (rule_bytes no_ignore path items a)
+fault_place no_ignore path items a =
+    fault_of_and_then (IsOwnPlace path) (and_then (info_items (has_git path items) a) (info_bytes no_ignore))
+    (λ i. and_then (own_bytes no_ignore path items) (λ o. Ok (record { info = i; own = o })))
+    (no_git no_ignore (IsOwnPlace path) a (has_git path items) (λ e p. inr (inr (git_of_top path items e))))
+    (λ i. fault_of_and_then (IsOwnPlace path) (own_bytes no_ignore path items) (λ o. Ok (record { info = i; own = o }))
+    (fault_of_both (IsOwnPlace path) (path_in path (codes ".gitignore")) (ignore_named no_ignore (codes ".gitignore") items)
     (path_in path (codes ".gitattributes")) (file_named (codes ".gitattributes") items)
     (inr (inl (codes ".gitignore", good_one (codes ".gitignore") refl, refl)))
     (inr (inl (codes ".gitattributes", good_one (codes ".gitattributes") refl, refl))))
@@ -107,7 +109,7 @@ own_level_keeps P selection j a faults items_keep = at a.here refl
     after items e (Err f) o = faults f.path f.word o
 
     at : (o : Items) → a.here ≡ o → P (level_of selection j a o)
-    at (Ok items) e = after items e (rule_bytes j.path items a) (fault_place j.path items a)
+    at (Ok items) e = after items e (rule_bytes j.ignore.no_ignore j.path items a) (fault_place j.ignore.no_ignore j.path items a)
     at (Err word) e = faults j.path word (inl refl)
 
 -- ---- the child directories

@@ -46,3 +46,4 @@ pub mod Totals
 pub mod WalkOn
 pub mod WalkParts
 pub mod Working
+pub mod IncludedFiles

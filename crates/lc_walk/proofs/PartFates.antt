@@ -6,7 +6,7 @@ use Rattle.lc_level.specs.Answers.{Item, file_item, directory_item, other_item, 
 use Rattle.lc_level.specs.FaultLines.{FaultLineModel}
 use Rattle.lc_level.specs.Job.{JobModel}
 use Rattle.lc_level.specs.Level.{Reason, other_kind, Fate, counted, failed, walked, skipped, Level, faulted_level, listed_level, level}
-use Rattle.lc_level.specs.Level.{level_of, level_after, fate_of, file_fate, reason_of, child_job}
+use Rattle.lc_level.specs.Level.{level_of, level_after, fate_of, file_fate, file_reason, reason_of, child_job}
 use Rattle.lc_level.specs.RuleFiles.{RuleBytes, rule_bytes}
 use Rattle.lc_level.specs.Selection.{SelectionModel, narrowed}
 use Rattle.lc_level.proofs.WellFormed.{IsGoodName, Spread}
@@ -33,7 +33,7 @@ fits_count k n (Err word) = refl
 
 -- each has one that fits it
 pub fits : (s : SelectionModel) (k : JobModel) (item : Item) → IsFateOf (fate_of s k item) (entry_of item).kind
-fits s k (file_item n c rules) = fits_by File (file_fate k n c) (fits_count k n c) (reason_of s k n false)
+fits s k (file_item n c rules) = fits_by File (file_fate k n c) (fits_count k n c) (file_reason s k n)
 fits s k (directory_item n) = fits_by Dir (walked (child_job k n)) refl (reason_of s k n true)
 fits s k (other_item n) = fits_by Other (skipped Other other_kind) refl (reason_of s k n false)
 
@@ -55,7 +55,7 @@ same_fault s one two j a p w = at a.here
     after items (Err f) e = e
 
     at : (o : Items) → level_of (narrowed s one) j a o ≡ faulted_level p w → level_of (narrowed s two) j a o ≡ faulted_level p w
-    at (Ok items) e = after items (rule_bytes j.path items a) e
+    at (Ok items) e = after items (rule_bytes j.ignore.no_ignore j.path items a) e
     at (Err word) e = e
 
 abbrev fault_path : Level → List ℕ

@@ -15,8 +15,9 @@ use Rattle.lc_tree.specs.Paths.{names_of_path}
 use Rattle.lc_level.specs.Answers.{Item, file_item, directory_item, other_item, Tree, entry_of, name_of}
 use Rattle.lc_level.specs.Job.{JobModel}
 use Rattle.lc_level.specs.RuleFiles.{extended}
-use Rattle.lc_level.specs.Level.{Reason, other_kind, Fate, walked, skipped, level_of_items, reason_of, is_taken, child_job, file_fate}
-use Rattle.lc_level.specs.Level.{fate_of}
+use Rattle.lc_level.specs.Level.{Reason, other_kind, Fate, walked, skipped, level_of_items, file_reason, reason_of, is_counted, is_taken}
+use Rattle.lc_level.specs.Level.{child_job}
+use Rattle.lc_level.specs.Level.{fate_of, file_fate}
 use Rattle.lc_level.specs.Level.{listed_level, walked_in, fates_of}
 use Rattle.lc_level.specs.Narrowing.{stands_below, leads_to, part_of, absent_from}
 use Rattle.lc_level.specs.Selection.{SelectionModel}
@@ -74,9 +75,9 @@ always_so false = refl
 path_by_item : (selection : SelectionModel) (j : JobModel) (e : Item)
     → map path_of (found_by j.path (name_of e, fate_of selection j e)) ≡ map (path_in j.path) (picked name_of (stays selection j) (e ∷ []))
 path_by_item selection j (file_item n c r) =
-    path_by_reason j.path n (skipped File) (file_fate j n c) true (reason_of selection j n false) (λ reason. refl)
+    path_by_reason j.path n (skipped File) (file_fate j n c) true (file_reason selection j n) (λ reason. refl)
     (path_of_file j.path n j c)
-    ∙ ap (λ b. map (path_in j.path) (cond b (n ∷ []) [])) (always_so (is_taken selection j n false))
+    ∙ ap (λ b. map (path_in j.path) (cond b (n ∷ []) [])) (always_so (is_counted selection j n))
 path_by_item selection j (directory_item n) =
     path_by_reason j.path n (skipped Dir) (walked (child_job j n)) false (reason_of selection j n true) (λ reason. refl) refl
     ∙ ap (λ b. map (path_in j.path) (cond b (n ∷ []) [])) (stays_so (is_taken selection j n true))

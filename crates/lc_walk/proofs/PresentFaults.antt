@@ -12,9 +12,9 @@ use Rattle.lc_level.specs.FaultWords.{fault_word_of}
 use Rattle.lc_level.specs.FileReads.{MayCount, MayReadRules}
 use Rattle.lc_level.specs.Job.{JobModel}
 use Rattle.lc_level.specs.Level.{Fate, counted, failed, walked, skipped, Reason, other_kind, Level, faulted_level, listed_level, level}
-use Rattle.lc_level.specs.Level.{level_of, level_after, fates_of, file_fate, reason_of, child_job}
+use Rattle.lc_level.specs.Level.{level_of, level_after, fates_of, file_fate, file_reason, reason_of, child_job}
 use Rattle.lc_level.specs.Narrowing.{part_of, takes_part}
-use Rattle.lc_level.specs.RuleFiles.{RuleBytes, file_named, has_directory, has_git, and_then, reading, listing, both_read}
+use Rattle.lc_level.specs.RuleFiles.{RuleBytes, file_named, ignore_named, has_directory, has_git, and_then, reading, listing, both_read}
 use Rattle.lc_level.specs.RuleFiles.{info_items, info_bytes, own_bytes, rule_bytes, extended}
 use Rattle.lc_level.specs.Selection.{SelectionModel}
 use Rattle.lc_level.specs.TreeAnswers.{MayHave, MayList, MayAnswer, items_of}
@@ -107,6 +107,11 @@ module _ (lists : List ℕ → Listings) (gives : List ℕ → Contents) where
   named_word path name (directory_item m ∷ items) all w e = named_word path name items all.1 w e
   named_word path name (other_item m ∷ items) all w e = named_word path name items all.1 w e
 
+  ignore_word : (no_ignore : Bool) (path name : List ℕ) (items : List Item) → AllByRecursion (MayHave lists gives path) items
+      → (w : FaultWord) → ignore_named no_ignore name items ≡ Some (Err w) → IsOther w
+  ignore_word true path name items all w e = absurd (cc e)
+  ignore_word false path name items all w e = named_word path name items all w e
+
   module _ (path : List ℕ) (a : Answers) (may : MayAnswer lists gives path a) (items : List Item) (here : a.here ≡ Ok items) where
     all_here : AllByRecursion (MayHave lists gives path) items
     all_here = (subst (MayList lists gives path) here may.here).1
@@ -150,19 +155,19 @@ module _ (lists : List ℕ → Listings) (gives : List ℕ → Contents) where
         at (Err fault) is f = absurd (cc f)
 
     -- a rule file that could not be read is none that is absent
-    rules_fine : IsFine (rule_bytes path items a)
-    rules_fine =
-        and_then_fine (and_then (info_items (has_git path items) a) info_bytes)
-        (λ i. and_then (own_bytes path items) (λ o. Ok (record { info = i; own = o })))
-        (and_then_fine (info_items (has_git path items) a) info_bytes info_fine
-        (λ xs e. both_fine (codes ".git/info/exclude") (file_named (codes "exclude") xs)
+    rules_fine : (no_ignore : Bool) → IsFine (rule_bytes no_ignore path items a)
+    rules_fine no_ignore =
+        and_then_fine (and_then (info_items (has_git path items) a) (info_bytes no_ignore))
+        (λ i. and_then (own_bytes no_ignore path items) (λ o. Ok (record { info = i; own = o })))
+        (and_then_fine (info_items (has_git path items) a) (info_bytes no_ignore) info_fine
+        (λ xs e. both_fine (codes ".git/info/exclude") (ignore_named no_ignore (codes "exclude") xs)
         (codes ".git/info/attributes") (file_named (codes "attributes") xs)
-        (named_word (codes ".git/info") (codes "exclude") xs (info_has xs e))
+        (ignore_word no_ignore (codes ".git/info") (codes "exclude") xs (info_has xs e))
         (named_word (codes ".git/info") (codes "attributes") xs (info_has xs e))))
-        (λ i e. and_then_fine (own_bytes path items) (λ o. Ok (record { info = i; own = o }))
-        (both_fine (path_in path (codes ".gitignore")) (file_named (codes ".gitignore") items)
+        (λ i e. and_then_fine (own_bytes no_ignore path items) (λ o. Ok (record { info = i; own = o }))
+        (both_fine (path_in path (codes ".gitignore")) (ignore_named no_ignore (codes ".gitignore") items)
         (path_in path (codes ".gitattributes")) (file_named (codes ".gitattributes") items)
-        (named_word path (codes ".gitignore") items all_here) (named_word path (codes ".gitattributes") items all_here))
+        (ignore_word no_ignore path (codes ".gitignore") items all_here) (named_word path (codes ".gitattributes") items all_here))
         (λ o f. tt))
 
 -- ---- one directory
@@ -193,7 +198,7 @@ module _ (lists : List ℕ → Listings) (gives : List ℕ → Contents) (s : Se
       → AllByRecursion (λ f. IsFineFate f.1) (fates_of s k items)
   fates_fine k path [] all = tt
   fates_fine k path (file_item n c rules ∷ items) all =
-      (fine_or File (reason_of s k n false) (file_fate k n c) (count_fine k path n c all.0.0), fates_fine k path items all.1)
+      (fine_or File (file_reason s k n) (file_fate k n c) (count_fine k path n c all.0.0), fates_fine k path items all.1)
   fates_fine k path (directory_item n ∷ items) all =
       (fine_or Dir (reason_of s k n true) (walked (child_job k n)) tt, fates_fine k path items all.1)
   fates_fine k path (other_item n ∷ items) all =
@@ -212,7 +217,9 @@ module _ (lists : List ℕ → Listings) (gives : List ℕ → Contents) (s : Se
       after items here (Err f) fine = fine
 
       at : (o : Items) → a.here ≡ o → IsFineLevel (level_of s j a o)
-      at (Ok items) here = after items here (rule_bytes j.path items a) (rules_fine lists gives j.path a may items here)
+      at (Ok items) here =
+          after items here (rule_bytes j.ignore.no_ignore j.path items a)
+          (rules_fine lists gives j.path a may items here j.ignore.no_ignore)
       at (Err w) here = list_word lists gives j.path a.here may.here w here
 
 -- ---- the walk

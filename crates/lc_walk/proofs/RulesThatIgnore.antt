@@ -12,9 +12,10 @@ use Rattle.lc_tree.specs.declared.entry.Kind.TheVariants.{File, Dir, Other}
 use Rattle.lc_level.specs.declared.fault_word.FaultWord.{FaultWord}
 use Rattle.lc_level.specs.Answers.{Item, file_item, directory_item, other_item, name_of, entry_of}
 use Rattle.lc_level.specs.Job.{JobModel}
-use Rattle.lc_level.specs.Level.{SkippedModel, Reason, named_git, by_rule, by_attribute, other_kind, Fate, counted, failed, walked, skipped}
-use Rattle.lc_level.specs.Level.{attribute_reason, rule_reason, reason_at, reason_of, file_fate, fate_of, child_job}
-use Rattle.lc_level.specs.Selection.{SelectionModel}
+use Rattle.lc_level.specs.Level.{SkippedModel, Reason, named_git, by_rule, by_attribute, not_included, other_kind, Fate, counted, failed}
+use Rattle.lc_level.specs.Level.{walked, skipped, is_met, attribute_reason, rule_reason, reason_at, reason_of, file_reason, file_fate}
+use Rattle.lc_level.specs.Level.{fate_of, child_job}
+use Rattle.lc_level.specs.Selection.{SelectionModel, is_included, patterns_for}
 use Rattle.lc_rules.specs.IgnoreChains.{rules_in}
 use Rattle.lc_rules.specs.IgnoreLaws.{IsLastMatch, LastMatchLaw}
 use Rattle.lc_rules.specs.IgnoreRules.{RuleModel}
@@ -43,12 +44,14 @@ abbrev source_or : RuleSource → Reason → RuleSource
 source_or o named_git = o
 source_or o (by_rule source line) = source
 source_or o (by_attribute name) = o
+source_or o not_included = o
 source_or o other_kind = o
 
 abbrev line_or : ℕ → Reason → ℕ
 line_or n named_git = n
 line_or n (by_rule source line) = line
 line_or n (by_attribute name) = n
+line_or n not_included = n
 line_or n other_kind = n
 
 -- an attribute is no rule
@@ -66,7 +69,7 @@ module _ (s : SelectionModel) (k : JobModel) (path : List ℕ) (is_dir : Bool) (
   by_rule_at : (rule : RuleSource × RuleModel) → last_match (rules_in k.ignore) path is_dir ≡ Some rule → (b : Bool)
       → rule.1.is_negated ≡ b →
       option_or (cond b None (Some (by_rule rule.0 rule.1.line))) (attribute_reason s k path is_dir) ≡ Some (by_rule source line) → Decided
-  by_rule_at rule is true n e = absurd (no_attribute (find (λ name. _) s.without) source line e)
+  by_rule_at rule is true n e = absurd (no_attribute (find (is_met k path is_dir) s.without) source line e)
   by_rule_at rule is false n e =
       let same : by_rule rule.0 rule.1.line ≡ by_rule source line = same_reason _ _ e in
       record {
@@ -78,7 +81,7 @@ module _ (s : SelectionModel) (k : JobModel) (path : List ℕ) (is_dir : Bool) (
 
   by_last_match : (found : Option (RuleSource × RuleModel)) → last_match (rules_in k.ignore) path is_dir ≡ found →
       option_or (rule_reason found) (attribute_reason s k path is_dir) ≡ Some (by_rule source line) → Decided
-  by_last_match None is e = absurd (no_attribute (find (λ name. _) s.without) source line e)
+  by_last_match None is e = absurd (no_attribute (find (is_met k path is_dir) s.without) source line e)
   by_last_match (Some rule) is e = by_rule_at rule is rule.1.is_negated refl e
 
   -- so says a reason by a path
@@ -94,6 +97,18 @@ decided_of s k n is_dir source line = at (bytes_eq n (codes ".git"))
         → Decides (rules_in k.ignore) (path_in k.path n) is_dir source line
     at true e = let h : Some named_git ≡ Some (by_rule source line) = e in absurd (cc h)
     at false e = decided_at s k (path_in k.path n) is_dir source line e
+
+-- and of a file, which may be skipped since no pattern includes it
+decided_file : (s : SelectionModel) (k : JobModel) (n : List ℕ) (source : RuleSource) (line : ℕ) →
+    file_reason s k n ≡ Some (by_rule source line) → Decides (rules_in k.ignore) (path_in k.path n) false source line
+decided_file s k n source line e =
+    decided_of s k n false source line (by (reason_of s k n false) (is_included (patterns_for s.include k.path) (path_in k.path n)) e)
+  where
+    by : (o : Option Reason) (b : Bool) → option_or o (cond b None (Some not_included)) ≡ Some (by_rule source line)
+        → o ≡ Some (by_rule source line)
+    by (Some reason) b f = f
+    by None true f = let h : None ≡ Some (by_rule source line) = f in absurd (cc h)
+    by None false f = let h : Some not_included ≡ Some (by_rule source line) = f in absurd (cc h)
 
 -- ---- the fate of an entry
 
@@ -120,8 +135,7 @@ decided_item : (s : SelectionModel) (k : JobModel) (item : Item) (kind : Kind) (
     fate_of s k item ≡ skipped kind (by_rule source line) →
     Decides (rules_in k.ignore) (path_in k.path (name_of item)) (is_dir (entry_of item).kind) source line
 decided_item s k (file_item n c rules) kind source line e =
-    decided_of s k n false source line
-    (skipped_by (reason_of s k n false) File (file_fate k n c) kind source line (counting_leaves_none k n c) e)
+    decided_file s k n source line (skipped_by (file_reason s k n) File (file_fate k n c) kind source line (counting_leaves_none k n c) e)
 decided_item s k (directory_item n) kind source line e =
     decided_of s k n true source line (skipped_by (reason_of s k n true) Dir (walked (child_job k n)) kind source line refl e)
 decided_item s k (other_item n) kind source line e =

@@ -16,7 +16,7 @@ use Rattle.lc_walk.specs.Walk.{walk_of}
 pub record IsListed (j : JobModel) (a : Answers) (items : List Item) (inside : JobModel) : Type 0 where
   pub here : a.here ≡ Ok items
   pub bytes : RuleBytes
-  pub read : rule_bytes j.path items a ≡ Ok bytes
+  pub read : rule_bytes j.ignore.no_ignore j.path items a ≡ Ok bytes
   pub is : inside ≡ extended j bytes
 
 module _ (selection : SelectionModel) where

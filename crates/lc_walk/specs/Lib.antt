@@ -33,3 +33,4 @@ pub mod WalkReport
 pub mod Walked
 pub mod Walks
 pub mod WorkerResults
+pub mod IncludedFiles

@@ -5,6 +5,7 @@ ghost use Rattle.lc_walk.specs.Accounts.{EntriesLaw, RuleLaw};
 ghost use Rattle.lc_walk.specs.Examples.{WalkExamplesHold};
 ghost use Rattle.lc_walk.specs.FoundAt.{FoundLaw};
 ghost use Rattle.lc_walk.specs.GivenAnswers.{ByAnswersLaw};
+ghost use Rattle.lc_walk.specs.IncludedFiles.{IncludeLaw};
 ghost use Rattle.lc_walk.specs.Laws.{CoreLaw, NumbersLaw, OneAnswerLaw, PartLaw, PathsOnceLaw};
 ghost use Rattle.lc_walk.specs.NodeWalks.{NodeOneAnswerLaw, NodeReportLaw};
 ghost use Rattle.lc_walk.specs.PartOfWalk.{PartOfWalkLaw, TwoWalksLaw};
@@ -74,6 +75,11 @@ pub fn entries_are_accounted_for<T: Tree>(tree: &T)
 pub fn a_part_is_the_whole_filtered()
     ensures two_walks { TwoWalksLaw }
     ensures one_tree { PartOfWalkLaw }
+{}
+
+/// A walk of included files counts those of all files that are included, and lists the same directories.
+pub fn included_files_are_the_whole_filtered()
+    ensures { IncludeLaw }
 {}
 
 /// The rule for which a report has an entry as skipped is the last that matches the entry, and ignores it.

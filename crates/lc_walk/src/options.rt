@@ -29,10 +29,18 @@ pub struct Options<'o> {
     pub lists: ReportLists,
     /// The rules for the whole tree, which every `.gitignore` overrides, like Git's `core.excludesFile` (gitignore(5)).
     pub exclude: Option<Arc<IgnoreFile, Global>>,
+    /// The patterns of the command line, one a line, which override the rules of all files (gitignore(5)).
+    pub command_line: Option<Arc<IgnoreFile, Global>>,
+    /// Whether no ignore file of the tree is read: no `.gitignore`, and no `.git/info/exclude`.
+    pub no_ignore: bool,
     /// Whether to skip what has the attribute `export-ignore`, as `git archive` does (gitattributes(5)).
     pub archive: bool,
-    /// The attributes, such as `linguist-vendored`, for which files and directories are skipped where they are Set (gitattributes(5)).
+    /// Files and directories are skipped where an attribute is Set, such as `linguist-vendored`, or has exactly a value, such as
+    /// `linguist-generated=true` (gitattributes(5)).
     pub without: &'o [&'o str],
+    /// The patterns for files, without negated ones; if there are none, all files take part. A file takes part only if a pattern matches
+    /// it, or a directory above it below the top. Directories are visited all the same.
+    pub include: Option<Arc<IgnoreFile, Global>>,
     /// The paths that alone take part, with what is under them and the directories above them; if there are none, everything takes part.
     /// They are relative to the top, and have no slash at the end.
     pub only: &'o [&'o [u8]],
@@ -52,8 +60,11 @@ impl<'o> Options<'o> {
                 left_out: false,
             },
             exclude: None,
+            command_line: None,
+            no_ignore: false,
             archive: false,
             without: &[],
+            include: None,
             only: &[],
         }
     }

@@ -1,11 +1,14 @@
 //! The options of a walk, prepared for its workers.
-ghost use Rattle.std.specs.Prelude.{◌≡◌, IfOk};
+ghost use Rattle.std.specs.Prelude.{◌≡◌, IfOk, option_map};
+ghost use Rattle.lc_level.specs.RuleReads.{shared};
 ghost use Rattle.lc_walk.specs.WalkOptions.{asked_by};
 
 use crate::options::{Options, ReportLists};
 use lc_level::{OnlyPaths, Selection};
+use lc_rules::IgnoreFile;
 use std::alloc::{AllocError, Global};
 use std::marker::Model;
+use std::sync::Arc;
 
 /// The options of a walk, with their paths sorted once for all its workers.
 ///
@@ -29,6 +32,16 @@ impl<'o> Model for PreparedOptions<'o> {
     ghost invariant = { λ p. p.only ≡ map (λ path. path.now) p.options.now.only.now };
 }
 
+/// Lends the patterns for files, if there are some.
+fn lent(include: &Option<Arc<IgnoreFile, Global>>) -> Option<&IgnoreFile>
+    ensures { option_map (λ p. p.now) result ≡ shared include.now }
+{
+    match include {
+        Some(patterns) => Some(patterns),
+        None => None,
+    }
+}
+
 impl<'o> PreparedOptions<'o> {
     /// Sorts the paths of the options. Where there are none, this costs no memory.
     pub fn new(alloc: Global, options: &'o Options<'o>) -> Result<PreparedOptions<'o>, AllocError>
@@ -49,6 +62,9 @@ impl<'o> PreparedOptions<'o> {
     pub fn selection(&self) -> Selection<'_>
         ensures { result ≡ (asked_by self.now).selection }
     {
-        Selection::new(self.options.archive, self.options.without).narrowed(&self.only)
+        let selection = Selection::new(self.options.archive, self.options.without);
+        selection
+            .narrowed(&self.only)
+            .including(lent(&self.options.include))
     }
 }

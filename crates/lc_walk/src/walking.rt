@@ -1,5 +1,6 @@
 //! The walk over a tree.
 ghost use Rattle.std.specs.Prelude.{◌≡◌, ◌≤◌, IfOk};
+ghost use Rattle.lc_level.specs.RuleReads.{shared};
 ghost use Rattle.lc_level.specs.TreeAnswers.{MayAnswer};
 ghost use Rattle.lc_walk.specs.WalkAnswers.{WalkAnswers};
 ghost use Rattle.lc_walk.specs.WalkOptions.{AreWithinLimits, asked_by, top_of};
@@ -13,20 +14,36 @@ use crate::row::Row;
 use crate::walk_fault::WalkFault;
 use crate::workers::{Gathered, gather, run_all};
 use lc_board::{Shared, Words};
-use lc_level::Job;
+use lc_level::{Job, TopRules};
+use lc_rules::IgnoreFile;
 use lc_tree::Tree;
 use std::alloc::{AllocError, Global};
 use std::sync::{Arc, Wait};
 use std::thread::Threads;
 
+/// Adds an owner to a file of rules, if there is one.
+fn shared(
+    rules: &Option<Arc<IgnoreFile, Global>>,
+) -> Result<Option<Arc<IgnoreFile, Global>>, AllocError>
+    ensures { IfOk result (λ same. shared same ≡ shared rules.now) }
+{
+    match rules {
+        Some(rules) => Ok(Some(Arc::try_clone(rules)?)),
+        None => Ok(None),
+    }
+}
+
 /// The job of the top, with the rules for the whole tree.
 fn top_of(alloc: Global, options: &Options<'_>) -> Result<Job, AllocError>
     ensures { IfOk result (λ job. job ≡ top_of options.now) }
 {
-    match &options.exclude {
-        Some(file) => Ok(Job::top(alloc, Some(Arc::try_clone(file)?))?),
-        None => Ok(Job::top(alloc, None)?),
-    }
+    let rules = TopRules {
+        exclude: shared(&options.exclude)?,
+        command_line: shared(&options.command_line)?,
+        no_ignore: options.no_ignore,
+    };
+    let top = Job::top(alloc, rules)?;
+    Ok(top)
 }
 
 /// Walks a tree over a board of this type, with this many workers.

@@ -3,6 +3,7 @@
 mod boards;
 mod drawn;
 mod failures;
+mod filters;
 mod flat;
 mod gate;
 mod left_out;

@@ -1,10 +1,11 @@
 //! Explained checks whose text is longer than a block: it is written as it is made, and what was written is a prefix.
 
+use crate::checks::BY_LINES;
 use lc_census::Failed;
 use lc_check::check_explained;
 use lc_level::read_rule_text;
 use lc_text::trials::{Narrow, WhenFull};
-use lc_text::{CheckFault, PathStyle, Sink};
+use lc_text::{CheckFault, Sink};
 use std::alloc::{AllocError, Global};
 use std::process::Abort;
 use std::test::Fail;
@@ -46,14 +47,7 @@ fn check_long<O: Sink>(alloc: Global, out: &mut O) -> Result<(), CheckFault> {
         return Err(CheckFault::Memory);
     };
     let paths = repeated(alloc, b"a\n", LINES)?;
-    check_explained(
-        alloc,
-        b"f",
-        &rules,
-        PathStyle::Escaped,
-        &mut paths.as_slice(),
-        out,
-    )
+    check_explained(alloc, b"f", &rules, BY_LINES, &mut paths.as_slice(), out)
 }
 
 /// Takes all bytes, and keeps how many each write had.

@@ -1,8 +1,9 @@
 //! Rules and paths, and the text of their explained check.
 
+use crate::checks::{BY_LINES, BY_NUL, SHOWN_BY_LINES};
 use lc_check::check_explained;
 use lc_level::{RuleText, read_rule_text};
-use lc_text::{CheckFault, PathStyle};
+use lc_text::{CheckFault, PathFormat};
 use std::alloc::{AllocError, Global};
 use std::process::Abort;
 use std::test::Fail;
@@ -117,12 +118,17 @@ fn read_rules(alloc: Global, mut file: &[u8]) -> Result<RuleText, AllocError> {
     }
 }
 
-/// Whether the explained check of a case by a file of this name gives its text in this style.
-fn has_text(alloc: Global, name: &[u8], style: PathStyle, case: &Case) -> Result<bool, AllocError> {
+/// Whether the explained check of a case by a file of this name gives its text in this format.
+fn has_text(
+    alloc: Global,
+    name: &[u8],
+    format: PathFormat,
+    case: &Case,
+) -> Result<bool, AllocError> {
     let (_, rules, mut paths, text) = *case;
     let rules = read_rules(alloc, rules)?;
     let mut out = Vec::with_capacity(alloc, text.len())?;
-    let answer = check_explained(alloc, name, &rules, style, &mut paths, &mut out);
+    let answer = check_explained(alloc, name, &rules, format, &mut paths, &mut out);
     if answer == Err(CheckFault::Memory) && out.is_empty() {
         return Err(AllocError);
     }
@@ -132,23 +138,35 @@ fn has_text(alloc: Global, name: &[u8], style: PathStyle, case: &Case) -> Result
 fn compare<R: Abort + AllocGlobal>(
     rt: &R,
     name: &[u8],
-    style: PathStyle,
+    format: PathFormat,
     cases: &[Case],
 ) -> Result<(), Fail> {
     for case in cases {
-        assert!(rt; has_text(rt.alloc(), name, style, case)?, "{}", case.0);
+        assert!(rt; has_text(rt.alloc(), name, format, case)?, "{}", case.0);
     }
     Ok(())
 }
 
 #[test]
 fn rules_and_lines_are_named(rt: HostRuntime) -> Result<(), Fail> {
-    compare(&rt, b"f", PathStyle::Escaped, CASES)
+    compare(&rt, b"f", BY_LINES, CASES)
+}
+
+static ENDED_BY_NUL: [Case; 1] = [(
+    "a path with a line feed",
+    b"a*\n",
+    b"a\nb\0c\0",
+    b"ignored\tf:1\ta*\ta\\x0ab\nnone\t-\t-\tc\n",
+)];
+
+#[test]
+fn paths_may_end_with_nul(rt: HostRuntime) -> Result<(), Fail> {
+    compare(&rt, b"f", BY_NUL, &ENDED_BY_NUL)
 }
 
 #[test]
 fn a_name_is_escaped(rt: HostRuntime) -> Result<(), Fail> {
-    compare(&rt, b"..\\x\n:1/\xff", PathStyle::Escaped, NAMED)
+    compare(&rt, b"..\\x\n:1/\xff", BY_LINES, NAMED)
 }
 
 /// By a file with a right-to-left override in its name, as a terminal shows the lines.
@@ -161,5 +179,5 @@ const SHOWN: &[Case] = &[(
 
 #[test]
 fn a_terminal_is_shown_visible_lines(rt: HostRuntime) -> Result<(), Fail> {
-    compare(&rt, b"\xe2\x80\xaef", PathStyle::Visible, SHOWN)
+    compare(&rt, b"\xe2\x80\xaef", SHOWN_BY_LINES, SHOWN)
 }

@@ -1,12 +1,13 @@
 //! Readers and writers that give or take little, fail or never end: what is written is a prefix, and whole only on success.
 
+use crate::checks::BY_LINES;
 use lc_census::Source;
 use lc_census::trials::{Bytewise, Counted, Endless, Failing};
 use lc_check::{check, check_explained, check_joined};
 use lc_level::read_rule_text;
 use lc_rules::IgnoreFile;
+use lc_text::CheckFault;
 use lc_text::trials::{Narrow, WRITERS, WhenFull};
-use lc_text::{CheckFault, PathStyle};
 use std::alloc::{AllocError, Global};
 use std::process::Abort;
 use std::test::Fail;
@@ -45,14 +46,14 @@ fn check_paths<S: Source>(
     out: &mut Narrow,
 ) -> Result<(), CheckFault> {
     match IgnoreFile::read(alloc, RULES) {
-        Ok(rules) => check(alloc, &rules, PathStyle::Escaped, input, out),
+        Ok(rules) => check(alloc, &rules, BY_LINES, input, out),
         Err(_) => Err(CheckFault::Memory),
     }
 }
 
 fn check_told<S: Source>(alloc: Global, input: &mut S, out: &mut Narrow) -> Result<(), CheckFault> {
     match read_rule_text(alloc, &mut Bytewise(RULES)) {
-        Ok(rules) => check_explained(alloc, b"f", &rules, PathStyle::Escaped, input, out),
+        Ok(rules) => check_explained(alloc, b"f", &rules, BY_LINES, input, out),
         Err(_) => Err(CheckFault::Memory),
     }
 }
@@ -67,7 +68,7 @@ fn checked<S: Source>(
 ) -> Result<Result<(), CheckFault>, AllocError> {
     let answer = match form {
         Form::Paths => check_paths(alloc, input, out),
-        Form::Joined => check_joined(alloc, PathStyle::Escaped, input, out),
+        Form::Joined => check_joined(alloc, BY_LINES, input, out),
         Form::Explained => check_told(alloc, input, out),
     };
     match answer {

@@ -1,8 +1,9 @@
 //! Rules and paths, and the text of their check.
 
+use crate::checks::{BY_LINES, BY_NUL, SHOWN_BY_LINES};
 use lc_check::{check_joined, check_text};
 use lc_rules::IgnoreFile;
-use lc_text::{CheckFault, PathStyle};
+use lc_text::{CheckFault, PathFormat};
 use std::alloc::{AllocError, Global};
 use std::process::Abort;
 use std::test::Fail;
@@ -90,24 +91,24 @@ const RUNS: &[Case] = &[
 
 const TABLES: &[&[Case]] = &[RULES, LINES, RUNS];
 
-/// Whether the check of rules and paths, joined, gives this text in this style.
+/// Whether the check of rules and paths, joined, gives this text in this format.
 fn has_text(
     alloc: Global,
-    style: PathStyle,
+    format: PathFormat,
     mut joined: &[u8],
     text: &[u8],
 ) -> Result<bool, AllocError> {
     let mut out = Vec::with_capacity(alloc, text.len())?;
-    let answer = check_joined(alloc, style, &mut joined, &mut out);
+    let answer = check_joined(alloc, format, &mut joined, &mut out);
     if answer == Err(CheckFault::Memory) && out.is_empty() {
         return Err(AllocError);
     }
     Ok(answer == Ok(()) && out.as_slice() == text)
 }
 
-fn compare<R: Abort + AllocGlobal>(rt: &R, style: PathStyle, cases: &[Case]) -> Result<(), Fail> {
+fn compare<R: Abort + AllocGlobal>(rt: &R, format: PathFormat, cases: &[Case]) -> Result<(), Fail> {
     for (name, joined, text) in cases {
-        assert!(rt; has_text(rt.alloc(), style, joined, text)?, "{name}");
+        assert!(rt; has_text(rt.alloc(), format, joined, text)?, "{name}");
     }
     Ok(())
 }
@@ -115,7 +116,7 @@ fn compare<R: Abort + AllocGlobal>(rt: &R, style: PathStyle, cases: &[Case]) -> 
 #[test]
 fn texts_of_checks(rt: HostRuntime) -> Result<(), Fail> {
     for cases in TABLES {
-        compare(&rt, PathStyle::Escaped, cases)?;
+        compare(&rt, BY_LINES, cases)?;
     }
     Ok(())
 }
@@ -141,7 +142,22 @@ const SHOWN: &[Case] = &[
 
 #[test]
 fn texts_for_a_terminal(rt: HostRuntime) -> Result<(), Fail> {
-    compare(&rt, PathStyle::Visible, SHOWN)
+    compare(&rt, SHOWN_BY_LINES, SHOWN)
+}
+
+/// Rules by lines, and paths that each end with a NUL byte: the last may lack it.
+const ENDED_BY_NUL: &[Case] = &[
+    (
+        "a_path_with_a_line_feed",
+        b"a*\n!a\n--\na\nb\0a\0a\n\0\0d/",
+        b"ignored\ta\\x0ab\nincluded\ta\nignored\ta\\x0a\nbad\t\nnone\td/\n",
+    ),
+    ("no_path", b"a\n--\n", b""),
+];
+
+#[test]
+fn texts_of_paths_that_end_with_nul(rt: HostRuntime) -> Result<(), Fail> {
+    compare(&rt, BY_NUL, ENDED_BY_NUL)
 }
 
 /// This name so often, with a slash after each.
@@ -161,7 +177,7 @@ fn begins(alloc: Global, name: &[u8], front: &[u8]) -> Result<bool, AllocError> 
     };
     let mut path = deep(alloc, b"a", 2048)?;
     path.extend_from_slice(name)?;
-    Ok(check_text(alloc, &rules, PathStyle::Escaped, &path)?.starts_with(front))
+    Ok(check_text(alloc, &rules, BY_LINES, &path)?.starts_with(front))
 }
 
 #[test]
@@ -179,8 +195,6 @@ fn directories_deeper_than_those_asked_at_once(rt: HostRuntime) -> Result<(), Fa
     };
     let mut path = deep(rt.alloc(), b"a", 300)?;
     path.extend_from_slice(b"b/c")?;
-    assert!(rt;
-        check_text(rt.alloc(), &rules, PathStyle::Escaped, &path)?.starts_with(b"below\ta/")
-    );
+    assert!(rt; check_text(rt.alloc(), &rules, BY_LINES, &path)?.starts_with(b"below\ta/"));
     Ok(())
 }

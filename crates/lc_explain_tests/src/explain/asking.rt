@@ -4,7 +4,7 @@ use lc_census::Source;
 use lc_explain::{ExplainOptions, explain, explain_words};
 use lc_level::{RuleText, Selection, read_rule_text};
 use lc_text::trials::{Narrow, WhenFull};
-use lc_text::{CheckFault, Outcome, PathStyle, PrintFault};
+use lc_text::{CheckFault, Outcome, PathEnd, PathStyle, PrintFault};
 use lc_tree::{MemTree, Sketch, Tree};
 use std::alloc::{AllocError, Global};
 use std::process::Abort;
@@ -15,11 +15,7 @@ pub(crate) type Case = (&'static str, Sketch<'static>, &'static [u8], &'static [
 
 /// What is asked by the rules of the tree alone.
 pub(crate) fn plain() -> ExplainOptions<'static> {
-    ExplainOptions {
-        exclude: None,
-        selection: Selection::new(false, &[]),
-        style: PathStyle::Escaped,
-    }
+    ExplainOptions::new(Selection::new(false, &[]), PathStyle::Escaped)
 }
 
 /// Rules for a whole tree.
@@ -40,7 +36,7 @@ pub(crate) fn explained<T: Tree, S: Source>(
     input: &mut S,
     out: &mut Narrow,
 ) -> Result<Result<Outcome, CheckFault>, AllocError> {
-    match explain(alloc, tree, options, input, out) {
+    match explain(alloc, tree, options, PathEnd::LineFeed, input, out) {
         Err(CheckFault::Memory) => {
             assert!(rt; out.taken.is_empty());
             Err(AllocError)

@@ -3,7 +3,7 @@
 use crate::explain::asking::plain;
 use lc_explain::{explain, explain_words};
 use lc_text::trials::{Narrow, WhenFull};
-use lc_text::{BLOCK_SIZE, CheckFault, Outcome, PrintFault};
+use lc_text::{BLOCK_SIZE, CheckFault, Outcome, PathEnd, PrintFault};
 use lc_tree::{MemTree, Node};
 use std::alloc::{AllocError, Global};
 use std::process::Abort;
@@ -62,7 +62,9 @@ fn writes_stop_in_each_block(rt: HostRuntime) -> Result<(), Fail> {
     let paths = repeated(alloc, b"a\n")?;
     for room in ROOMS {
         let mut out = Narrow::new(alloc, BLOCK_SIZE, *room, WhenFull::Fails)?;
-        let answer = explain(alloc, &tree, &plain(), &mut paths.as_slice(), &mut out);
+        let mut input = paths.as_slice();
+        let end = PathEnd::LineFeed;
+        let answer = explain(alloc, &tree, &plain(), end, &mut input, &mut out);
         assert!(rt; text.starts_with(&out.taken), "at {room}");
         if answer == Err(CheckFault::Memory) {
             return Err(AllocError.into());

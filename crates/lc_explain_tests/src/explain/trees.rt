@@ -1,11 +1,12 @@
 //! Trees and paths, and the text of what decides them.
 
 use crate::explain::asking::{Case, check, explained_words, plain, rule_text};
-use lc_explain::ExplainOptions;
+use lc_explain::{ExplainOptions, explain};
 use lc_level::Selection;
 use lc_text::trials::{Narrow, WhenFull};
-use lc_text::{Outcome, PathStyle};
+use lc_text::{CheckFault, Outcome, PathEnd, PathStyle};
 use lc_tree::{MemTree, Sketch};
+use std::alloc::AllocError;
 use std::process::Abort;
 use std::test::Fail;
 
@@ -154,10 +155,61 @@ static BESIDE_THE_TREE: Case = (
 fn what_is_asked_decides(rt: HostRuntime) -> Result<(), Fail> {
     let options = ExplainOptions {
         exclude: Some(rule_text(rt.alloc(), b"!a.o\n*.bak\n")?),
-        selection: Selection::new(true, &["vendored"]),
-        style: PathStyle::Escaped,
+        ..ExplainOptions::new(Selection::new(true, &["vendored"]), PathStyle::Escaped)
     };
     check(&rt, &BESIDE_THE_TREE, &options, Outcome::Clean)
+}
+
+static BY_THE_COMMAND_LINE: Case = (
+    "patterns of the command line, no ignore file, and patterns for files",
+    REPOSITORY,
+    b"a.o\nb.o\nc.t\nv.c\nx.bak\ndocs/a\nnone.t\nd/\nd/e.t\ns/.git\n",
+    b"included\t--exclude:2\t!a.o\ta.o\n\
+      ignored\t--exclude:1\t*.o\tb.o\n\
+      none\t-\t-\tc.t\n\
+      left\tinclude\t-\tv.c\n\
+      left\tinclude\t-\tx.bak\n\
+      none\t-\t-\tdocs/a\n\
+      none\t-\t-\tnone.t\n\
+      none\t-\t-\td/\n\
+      none\t-\t-\td/e.t\n\
+      left\tgit\t-\ts/.git\n",
+);
+
+#[test]
+fn the_command_line_decides(rt: HostRuntime) -> Result<(), Fail> {
+    let patterns = rule_text(rt.alloc(), b"*.t\na.o\ndocs/\n")?;
+    let selection = Selection::new(false, &[]).including(Some(patterns.rules()));
+    let options = ExplainOptions {
+        command_line: Some(rule_text(rt.alloc(), b"*.o\n!a.o\n")?),
+        no_ignore: true,
+        ..ExplainOptions::new(selection, PathStyle::Escaped)
+    };
+    check(&rt, &BY_THE_COMMAND_LINE, &options, Outcome::Clean)
+}
+
+const ENDED_BY_NUL: &[u8] = b"ignored\t.gitignore:1\t*.log\ta\\x0a.log\nnone\t-\t-\tsrc/\n";
+
+#[test]
+fn a_path_may_have_a_line_feed(rt: HostRuntime) -> Result<(), Fail> {
+    let node = WORKED.node(rt.alloc())?;
+    let tree = MemTree::new(&node);
+    let mut out = Narrow::new(rt.alloc(), 64, ENDED_BY_NUL.len(), WhenFull::Fails)?;
+    let mut input = b"a\n.log\0src/\0".as_slice();
+    let answer = explain(
+        rt.alloc(),
+        &tree,
+        &plain(),
+        PathEnd::Nul,
+        &mut input,
+        &mut out,
+    );
+    if answer == Err(CheckFault::Memory) {
+        return Err(AllocError.into());
+    }
+    assert!(rt; answer == Ok(Outcome::Clean));
+    assert!(rt; out.taken.as_slice() == ENDED_BY_NUL);
+    Ok(())
 }
 
 /// A word is a path, whatever its bytes.

@@ -1,7 +1,7 @@
 //! What is too long or too deep for a walk.
 
 use crate::level::work::{Case, NOTHING, check, child_of};
-use lc_level::{Job, LevelReader, OpenFault, Scratch, Selection};
+use lc_level::{Job, LevelReader, OpenFault, Scratch, Selection, TopRules};
 use lc_tree::{MemTree, Node};
 use std::alloc::{AllocError, Global};
 use std::process::Abort;
@@ -48,7 +48,7 @@ fn nested(alloc: Global, depth: u32) -> Result<Node, AllocError> {
 fn descend(alloc: Global, tree: &MemTree) -> Result<(u32, Option<OpenFault>), AllocError> {
     let mut scratch = Scratch::new(alloc)?;
     let reader = LevelReader::new(alloc, tree, Selection::new(false, &[]), NOTHING);
-    let mut job = Job::top(alloc, None)?;
+    let mut job = Job::top(alloc, TopRules::none())?;
     for depth in 0..300 {
         match child_of(&reader, &job, b"d", &mut scratch)? {
             Err(open_fault) => return Ok((depth, Some(open_fault))),

@@ -1,7 +1,9 @@
 //! Directories that are entered: their entries, the texts of their rules, and what these decide of a path.
 
 use crate::level::work::{NOTHING, job_of};
-use lc_level::{Entered, Job, LevelReader, OpenFault, ReaderOptions, Scratch, Selection, path_in};
+use lc_level::{
+    Entered, Job, LevelReader, OpenFault, ReaderOptions, Scratch, Selection, TopRules, path_in,
+};
 use lc_rules::{RuleSource, Verdict};
 use lc_tests::{has_words, push_name, push_reason, tree};
 use lc_tree::{Kind, MemTree};
@@ -92,7 +94,7 @@ fn check_entered(
 ) -> Result<(), AllocError> {
     let reader = LevelReader::new(alloc, tree, Selection::new(false, WITHOUT), *kept);
     let mut scratch = Scratch::new(alloc)?;
-    let job = job_of(alloc, &reader, None, below, &mut scratch)?;
+    let job = job_of(alloc, &reader, TopRules::none(), below, &mut scratch)?;
     assert!(rt; job.is_some(), "there is no {below}");
     if let Some(job) = job {
         let found = enter(alloc, &reader, &job, &mut scratch)?;
@@ -182,7 +184,7 @@ fn check_inside(
 fn check_top(rt: &impl Abort, alloc: Global, tree: &MemTree) -> Result<(), AllocError> {
     let reader = LevelReader::new(alloc, tree, Selection::new(false, WITHOUT), NOTHING);
     let mut scratch = Scratch::new(alloc)?;
-    match reader.enter(&Job::top(alloc, None)?, &mut scratch) {
+    match reader.enter(&Job::top(alloc, TopRules::none())?, &mut scratch) {
         Ok(entered) => check_inside(rt, alloc, &reader, &entered.job),
         Err(OpenFault::Memory) => Err(AllocError),
         Err(open_fault) => {

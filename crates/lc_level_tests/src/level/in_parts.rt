@@ -3,6 +3,7 @@
 use crate::level::work::NOTHING;
 use lc_level::{
     CountedFiles, FaultWord, FileFault, Job, LevelReader, Opened, Scratch, Selection, SpareThreads,
+    TopRules,
 };
 use lc_tree::{IdleThreads, MemTree, Node};
 use std::alloc::{AllocError, Global};
@@ -51,7 +52,7 @@ pub(super) fn count_flat<R: Threads + Sync>(
     let tree = MemTree::new(node);
     let reader = LevelReader::new(alloc, &tree, Selection::new(false, &[]), NOTHING);
     let mut scratch = Scratch::new(alloc)?;
-    let Ok(opened) = reader.open(&Job::top(alloc, None)?, &mut scratch) else {
+    let Ok(opened) = reader.open(&Job::top(alloc, TopRules::none())?, &mut scratch) else {
         return Err(AllocError);
     };
     let Opened {

@@ -2,7 +2,7 @@
 
 use lc_level::{
     ChildDirectory, CountedFiles, FaultWord, Job, LevelReader, OnlyPaths, OpenFault, Opened,
-    ReaderOptions, Scratch, Selection, SkippedEntry,
+    ReaderOptions, Scratch, Selection, SkippedEntry, TopRules,
 };
 use lc_rules::IgnoreFile;
 use lc_tests::{Asked, has_words, push_kind, push_name, push_reason, text_word, tree};
@@ -55,11 +55,11 @@ pub(crate) fn child_of(
 pub(crate) fn job_of(
     alloc: Global,
     reader: &LevelReader<MemTree>,
-    exclude: Option<Arc<IgnoreFile, Global>>,
+    rules: TopRules,
     below: &str,
     scratch: &mut Scratch,
 ) -> Result<Option<Job>, AllocError> {
-    let top = Job::top(alloc, exclude)?;
+    let top = Job::top(alloc, rules)?;
     if below.is_empty() {
         return Ok(Some(top));
     }
@@ -158,6 +158,13 @@ fn is_whole(found: &Found) -> bool {
     found.entries as usize == counted.wrapping_add(walked)
 }
 
+fn lent(patterns: &Option<Arc<IgnoreFile, Global>>) -> Option<&IgnoreFile> {
+    match patterns {
+        Some(patterns) => Some(patterns),
+        None => None,
+    }
+}
+
 /// What is found in a directory of a tree, or what stops it; and how many entries take part.
 fn found_in(
     rt: &impl Abort,
@@ -169,11 +176,14 @@ fn found_in(
 ) -> Result<(String, u32), AllocError> {
     let tree = MemTree::new(node);
     let only = OnlyPaths::new(alloc, &asked.only)?;
-    let selection = Selection::new(asked.archive, &asked.without).narrowed(&only);
+    let include = asked.include(alloc)?;
+    let selection = Selection::new(asked.archive, &asked.without)
+        .narrowed(&only)
+        .including(lent(&include));
     let reader = LevelReader::new(alloc, &tree, selection, kept);
     let mut scratch = Scratch::new(alloc)?;
-    let exclude = asked.exclude_file(alloc)?;
-    let Some(job) = job_of(alloc, &reader, exclude, below, &mut scratch)? else {
+    let rules = asked.top_rules(alloc)?;
+    let Some(job) = job_of(alloc, &reader, rules, below, &mut scratch)? else {
         return Ok((String::new(alloc), 0));
     };
     match work(&reader, &job, &mut scratch)? {

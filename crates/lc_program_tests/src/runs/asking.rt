@@ -30,6 +30,7 @@ pub(super) struct Case<'a> {
 }
 
 pub(super) const NO_TERMINALS: Terminals = Terminals {
+    input: false,
     output: false,
     error: false,
 };

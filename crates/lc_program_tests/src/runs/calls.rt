@@ -2,7 +2,7 @@
 
 use crate::runs::mem_system::MemSystem;
 use lc_census::Source;
-use lc_program::{Cause, System, give_up, introduce, misuse};
+use lc_program::{Cause, System, give_up, misuse};
 use lc_tree::{Node, Sketch, Tree};
 use std::test::Fail;
 
@@ -28,7 +28,7 @@ fn names_of_a_system(rt: HostRuntime) -> Result<(), Fail> {
     let tree = system.tree(rt.alloc(), "top")?;
     let listing = tree.list(rt.alloc(), b"")?;
     assert!(rt; listing.entries().len() == 1);
-    let file = system.open_rules(rt.alloc(), "a")?;
+    let file = system.open_file(rt.alloc(), "a")?;
     let mut buffer = [0; 4];
     assert!(rt; first(file, &mut buffer) == 1 && buffer[0] == b'x');
     assert!(rt; system.lies_in_repository(rt.alloc(), "top"));
@@ -38,11 +38,6 @@ fn names_of_a_system(rt: HostRuntime) -> Result<(), Fail> {
 #[test]
 fn what_is_told(rt: HostRuntime) -> Result<(), Fail> {
     let mut err = Vec::with_capacity(rt.alloc(), 4096)?;
-    introduce::<&str, _>(&[], true, &mut err);
-    assert!(rt; err.as_slice().starts_with(b"lc: reads the lines"));
-    err.clear();
-    introduce(&["check"], true, &mut err);
-    assert!(rt; err.is_empty());
     assert!(rt; misuse("lc: no\n", &mut err).status() == 2);
     assert!(rt; give_up(rt.alloc(), Cause::TooDeep, &mut err).status() == 3);
     assert!(rt; err.as_slice() == b"lc: no\nlc: path too deep\n".as_slice());

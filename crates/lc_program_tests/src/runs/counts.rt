@@ -20,11 +20,14 @@ const SRC: Entry = (
     )]),
 );
 
+const SHUT: Entry = (b"shut", Sketch::Closed);
+
 const WORKED: Case<'static> = Case {
     top: Sketch::Dir(&[IGNORE, LOG, KEPT, BUILD, SRC]),
     files: Sketch::Dir(&[
         (b"rules", Sketch::File(b"*.c\n")),
         (b"top", Sketch::File(b"*\n")),
+        (b"list", Sketch::File(b"src/build/y.c\nsrc/build/\n")),
         (b".gitignore", Sketch::File(b"*\n")),
     ]),
     ..EMPTY
@@ -118,6 +121,131 @@ const CASES: &[Case<'static>] = &[
                total\t*\t*\t0\t0\t0\t0\n\
                directories\t0\n\
                fault\tread\t.\n",
+        err: b"lc: cannot read absent\n",
+        ..WORKED
+    },
+    Case {
+        name: "a_directory_that_is_not_read",
+        top: Sketch::Dir(&[SRC, SHUT]),
+        words: &["count", "--by", "ext", "top"],
+        status: 1,
+        out: b"ext\ttext\teol\tfiles\tlines\tblank\tbytes\n\
+               .c\t*\t*\t1\t1\t0\t8\n\
+               total\t*\t*\t1\t1\t0\t8\n\
+               directories\t3\n\
+               fault\tread\tshut\n",
+        err: b"lc: 1 path could not be read: see the line that begins with fault\n",
+        ..WORKED
+    },
+    Case {
+        name: "directories_that_are_not_read_in_csv",
+        top: Sketch::Dir(&[SHUT, SRC, (b"a\x1b", Sketch::Closed)]),
+        words: &["count", "--by", "ext", "--format", "csv", "top"],
+        status: 1,
+        out: b"ext,files,lines,blank,bytes\n\
+               .c,1,1,0,8\n",
+        err: b"lc: cannot read a\\x1b\nlc: cannot read shut\n",
+        ..WORKED
+    },
+    Case {
+        name: "rows_by_directory",
+        words: &["count", "--by", "dir", "--depth", "2", "top"],
+        out: b"dir\text\ttext\teol\tfiles\tlines\tblank\tbytes\n\
+               .\t*\t*\t*\t2\t4\t0\t26\n\
+               src/build\t*\t*\t*\t1\t1\t0\t8\n\
+               total\t*\t*\t*\t3\t5\t0\t34\n\
+               directories\t3\n",
+        ..WORKED
+    },
+    Case {
+        name: "patterns_of_the_words",
+        words: &[
+            "count",
+            "--exclude",
+            "!a.log",
+            "--include",
+            "*.log",
+            "--include",
+            "/src/",
+            "--exclude",
+            "src",
+            "--left-out",
+            "top",
+        ],
+        out: b"ext\ttext\teol\tfiles\tlines\tblank\tbytes\n\
+               .log\t-\tlf\t2\t2\t0\t4\n\
+               total\t*\t*\t2\t2\t0\t4\n\
+               directories\t1\n\
+               entries\t5\n\
+               left\tinclude\t-\t.gitignore\n\
+               left\trule\t.gitignore:3\tbuild/\n\
+               left\trule\t--exclude:2\tsrc/\n",
+        ..WORKED
+    },
+    Case {
+        name: "ignore_files_unread",
+        words: &["count", "--no-ignore", "--by", "ext", "top"],
+        out: b"ext\ttext\teol\tfiles\tlines\tblank\tbytes\n\
+               -\t*\t*\t1\t3\t0\t24\n\
+               .c\t*\t*\t2\t2\t0\t10\n\
+               .log\t*\t*\t2\t2\t0\t4\n\
+               total\t*\t*\t5\t7\t0\t38\n\
+               directories\t4\n",
+        ..WORKED
+    },
+    Case {
+        name: "paths_of_a_file",
+        words: &[
+            "count",
+            "--only-from",
+            "list",
+            "--only",
+            "keep.log",
+            "--files",
+            "--by",
+            "ext",
+            "top",
+        ],
+        out: b"ext\ttext\teol\tfiles\tlines\tblank\tbytes\n\
+               .c\t*\t*\t1\t1\t0\t8\n\
+               .log\t*\t*\t1\t1\t0\t2\n\
+               total\t*\t*\t2\t2\t0\t10\n\
+               directories\t3\n\
+               file\t-\tlf\t1\t0\t2\tkeep.log\n\
+               file\t-\tcrlf\t1\t0\t8\tsrc/build/y.c\n",
+        ..WORKED
+    },
+    Case {
+        name: "paths_of_the_input",
+        words: &["count", "--only-from", "-", "-0", "--by", "ext", "top"],
+        input: b"keep.log\0src\0",
+        out: b"ext\ttext\teol\tfiles\tlines\tblank\tbytes\n\
+               .c\t*\t*\t1\t1\t0\t8\n\
+               .log\t*\t*\t1\t1\t0\t2\n\
+               total\t*\t*\t2\t2\t0\t10\n\
+               directories\t3\n",
+        ..WORKED
+    },
+    Case {
+        name: "a_path_of_the_input_that_no_entry_has",
+        words: &["count", "--only-from=-", "top"],
+        input: b"src\n./keep.log\n",
+        status: 3,
+        err: b"lc: bad path in -: ./keep.log\n",
+        ..WORKED
+    },
+    Case {
+        name: "an_input_without_paths",
+        words: &["count", "--only-from", "-", "top"],
+        status: 3,
+        err: b"lc: no path in -\n",
+        ..WORKED
+    },
+    Case {
+        name: "a_file_of_paths_that_is_not_there",
+        words: &["count", "--only-from", "gone", "top"],
+        status: 3,
+        err: b"lc: cannot read paths\n",
         ..WORKED
     },
     Case {

@@ -54,6 +54,7 @@ const CASES: &[Case<'static>] = &[
         name: "paths_for_a_terminal",
         words: &["explain", "other", "\u{e9}\u{202e}"],
         terminals: Terminals {
+            input: false,
             output: true,
             error: false,
         },

@@ -1,7 +1,8 @@
-//! The hint after a count.
+//! What is told beside an answer, and what a terminal changes.
 
 use crate::runs::asking::{Case, EMPTY, NO_TERMINALS, compare_all};
 use lc_program::Terminals;
+use lc_tree::Sketch;
 use std::test::Fail;
 
 const TABLE: &[u8] = b"ext\ttext\teol\tfiles\tlines\tblank\tbytes\n\
@@ -13,12 +14,100 @@ const UNTOLD: Case<'static> = Case {
     name: "outside_of_a_repository",
     words: &["count", "other"],
     terminals: Terminals {
+        input: false,
         output: false,
         error: true,
     },
     out: TABLE,
     ..EMPTY
 };
+
+/// On a terminal whose input is typed.
+const TYPED: Case<'static> = Case {
+    terminals: Terminals {
+        input: true,
+        output: false,
+        error: false,
+    },
+    input: b"a\0b\nc\n",
+    top: Sketch::Dir(&[]),
+    files: Sketch::Dir(&[(b"rules", Sketch::File(b"c\n"))]),
+    ..EMPTY
+};
+
+const INTRODUCED: &[u8] = b"lc: reads paths from standard input; lc --help says more\n";
+
+const TYPED_CASES: &[Case<'static>] = &[
+    Case {
+        name: "no_words",
+        input: b"c\n--\nc\n",
+        out: b"ignored\tc\n",
+        err: b"lc: reads the lines of an ignore file, a line --, and paths from standard input; lc --help says more\n",
+        ..TYPED
+    },
+    Case {
+        name: "a_check_of_paths_that_end_with_nul",
+        words: &["check", "--null", "rules"],
+        out: b"none\ta\nnone\tb\\x0ac\\x0a\n",
+        err: INTRODUCED,
+        ..TYPED
+    },
+    Case {
+        name: "an_explanation_of_paths_that_end_with_nul",
+        words: &["explain", "--null", "--exclude", "b*", "top"],
+        out: b"none\t-\t-\ta\nignored\t--exclude:1\tb*\tb\\x0ac\\x0a\n",
+        err: INTRODUCED,
+        ..TYPED
+    },
+    Case {
+        name: "paths_of_the_words",
+        words: &["explain", "top", "a"],
+        out: b"none\t-\t-\ta\n",
+        ..TYPED
+    },
+    Case {
+        name: "a_count_of_the_paths_of_the_input",
+        words: &["count", "--only-from", "-", "other"],
+        input: b"other.x\n",
+        out: TABLE,
+        err: INTRODUCED,
+        ..TYPED
+    },
+    Case {
+        name: "a_count",
+        words: &["count", "other"],
+        out: TABLE,
+        ..TYPED
+    },
+    Case {
+        name: "a_table_on_a_terminal",
+        words: &["count", "other"],
+        terminals: Terminals {
+            input: false,
+            output: true,
+            error: false,
+        },
+        out: b"ext    text  eol  files  lines  blank  bytes\n\
+               --------------------------------------------\n\
+               .x     -     lf       1      2      0      4\n\
+               --------------------------------------------\n\
+               total                 1      2      0      4\n\
+               \n\
+               directories  1\n",
+        ..TYPED
+    },
+    Case {
+        name: "a_named_format_on_a_terminal",
+        words: &["count", "other", "--format", "tsv"],
+        terminals: Terminals {
+            input: false,
+            output: true,
+            error: false,
+        },
+        out: TABLE,
+        ..TYPED
+    },
+];
 
 const CASES: &[Case<'static>] = &[
     UNTOLD,
@@ -46,4 +135,9 @@ const CASES: &[Case<'static>] = &[
 #[test]
 fn hints_are_told(rt: HostRuntime) -> Result<(), Fail> {
     compare_all(&rt, CASES)
+}
+
+#[test]
+fn terminals_change_what_is_printed(rt: HostRuntime) -> Result<(), Fail> {
+    compare_all(&rt, TYPED_CASES)
 }

@@ -13,7 +13,7 @@ pub(super) struct MemSystem<'a> {
     pub(super) directories: &'a [(&'a str, Node)],
     /// The directory of any other name.
     pub(super) absent: &'a Node,
-    /// The directory that has the rule files.
+    /// The directory that has the files that a command line names.
     pub(super) files: &'a Node,
     /// Whether each directory lies in a repository, below its top.
     pub(super) is_repository: bool,
@@ -22,7 +22,7 @@ pub(super) struct MemSystem<'a> {
 impl<'a> System for MemSystem<'a> {
     type Tree = MemTree<'a>;
 
-    type RulesFile = MemFile<'a>;
+    type File = MemFile<'a>;
 
     ghost use Rattle.std.specs.Prelude.{◌≡◌, ℕ, List, bytes_eq, find, option_map, unwrap_or};
     ghost use Rattle.std.specs.Borrow.{Bor};
@@ -45,7 +45,7 @@ impl<'a> System for MemSystem<'a> {
         }))
     }
 
-    fn open_rules(&self, alloc: Global, name: &str) -> Result<MemFile<'a>, ReadFault> {
+    fn open_file(&self, alloc: Global, name: &str) -> Result<MemFile<'a>, ReadFault> {
         MemTree::new(self.files).open_file(alloc, name.as_bytes())
     }
 

@@ -2,6 +2,7 @@
 
 use lc_rules::{Chain, DirectoriesAbove, IgnoreFile, Lines, RuleSource, Verdict, text_of_line};
 use std::alloc::{AllocError, Global};
+use std::process::Abort;
 use std::sync::Arc;
 use std::test::Fail;
 
@@ -77,6 +78,7 @@ enum Put {
     Exclude,
     Info,
     Below(u32),
+    CommandLine,
 }
 
 fn with_file(chain: Chain, alloc: Global, (put, rules): (Put, &[u8])) -> Result<Chain, AllocError> {
@@ -85,6 +87,7 @@ fn with_file(chain: Chain, alloc: Global, (put, rules): (Put, &[u8])) -> Result<
         Put::Exclude => Ok(chain.with_exclude(file)),
         Put::Info => Ok(chain.with_info(file)),
         Put::Below(depth) => chain.below(alloc, depth, file),
+        Put::CommandLine => Ok(chain.with_command_line(file)),
     }
 }
 
@@ -116,16 +119,51 @@ const NEARER: &[Place] = &[
     (b"s/u", None),
 ];
 
-#[test]
-fn a_nearer_file_decides(rt: HostRuntime) -> Result<(), Fail> {
-    let chain = chain_of(rt.alloc(), FILES)?;
-    for (path, wanted) in NEARER {
+fn compare(
+    rt: &impl Abort,
+    alloc: Global,
+    files: &[(Put, &'static [u8])],
+    places: &[Place],
+) -> Result<(), AllocError> {
+    let chain = chain_of(alloc, files)?;
+    for (path, wanted) in places {
         let found = match chain.last_match(path, FILE) {
             Some((source, rule)) => Some((source, rule.line())),
             None => None,
         };
         assert!(rt; found == *wanted, "{path:?}: {found:?}");
     }
+    Ok(())
+}
+
+#[test]
+fn a_nearer_file_decides(rt: HostRuntime) -> Result<(), Fail> {
+    compare(&rt, rt.alloc(), FILES, NEARER)?;
+    Ok(())
+}
+
+/// Patterns of the command line, and files that come before them and after them.
+const WITH_PATTERNS: &[(Put, &'static [u8])] = &[
+    (Put::Exclude, b"*.o\n*.t\n"),
+    (Put::CommandLine, b"*.t\n!keep.c\n/s/*.p\n"),
+    (Put::Below(0), b"!*.t\n*.c\n"),
+    (Put::Info, b"*.p\n*.t\n"),
+    (Put::Below(1), b"!k.t\nkeep.c\n"),
+];
+
+const BY_PATTERNS: &[Place] = &[
+    (b"s/k.t", Some((RuleSource::CommandLine, 1))),
+    (b"s/keep.c", Some((RuleSource::CommandLine, 2))),
+    (b"s/a.p", Some((RuleSource::CommandLine, 3))),
+    (b"a.p", Some((RuleSource::InfoExclude, 1))),
+    (b"s/u.c", Some((RuleSource::Gitignore(0), 2))),
+    (b"s/a.o", Some((RuleSource::ExcludeFrom, 1))),
+    (b"s/u", None),
+];
+
+#[test]
+fn the_command_line_decides_before_every_file(rt: HostRuntime) -> Result<(), Fail> {
+    compare(&rt, rt.alloc(), WITH_PATTERNS, BY_PATTERNS)?;
     Ok(())
 }
 

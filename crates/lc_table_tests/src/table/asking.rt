@@ -12,7 +12,7 @@ use lc_text::trials::{Narrow, WhenFull};
 use lc_tree::trials::BytewiseTree;
 use lc_tree::{MemTree, Sketch, Tree};
 use lc_view::{Columns, Format, TableOptions};
-use lc_walk::{Options, ReportLists, Row, WalkFault, walk_on};
+use lc_walk::{FaultLine, Options, ReportLists, Row, WalkFault, walk_on};
 use std::alloc::{AllocError, Global};
 use std::process::Abort;
 use std::sync::{Arc, Wait};
@@ -68,6 +68,8 @@ pub(super) const TSV: TableOptions = TableOptions {
     by: Columns::ALL,
     sort: None,
     top: None,
+    files: false,
+    share: false,
 };
 
 /// The first line of each such table.
@@ -101,10 +103,30 @@ fn options_of(
         max_dirs,
         lists: asked.lists,
         exclude: excluding(alloc, asked.exclude)?,
+        command_line: None,
+        no_ignore: false,
         archive: asked.archive,
         without: &[],
+        include: None,
         only: &[],
     })
+}
+
+/// The options of a table of a report with these lists.
+pub(super) fn listing(lists: ReportLists) -> TableOptions {
+    TableOptions {
+        files: lists.files,
+        ..TSV
+    }
+}
+
+/// What a report with these faults shows.
+fn outcome_of(faults: &[FaultLine]) -> Outcome {
+    if faults.is_empty() {
+        Outcome::Clean
+    } else {
+        Outcome::SomeFaults
+    }
 }
 
 /// A writer that takes any of these tables at once.
@@ -127,7 +149,9 @@ pub(super) fn answer_of<R: Threads + Wait + Sync + AllocGlobal, T: Tree>(
     let Ok(options) = options_of(rt.alloc(), asked, threads, max_dirs) else {
         return Err(RunFault::Memory);
     };
-    run(rt, rt.alloc(), tree, &options, TSV, out)
+    let table_options = listing(options.lists);
+    let faults = run(rt, rt.alloc(), tree, &options, table_options, out)?;
+    Ok(outcome_of(&faults))
 }
 
 /// That of a walk over boards of this type, whose table is then written.
@@ -144,14 +168,9 @@ fn answer_over<B: Shared<Job, Row>, R: Threads + Wait + Sync, T: Tree>(
     let Ok(options) = options_of(alloc, asked, threads, 16) else {
         return Err(RunFault::Memory);
     };
-    let report = walk_on::<B, T, R>(rt, alloc, tree, &options)?;
-    let outcome = if report.faults.is_empty() {
-        Outcome::Clean
-    } else {
-        Outcome::SomeFaults
-    };
-    table(alloc, report, TSV, out)?;
-    Ok(outcome)
+    let mut report = walk_on::<B, T, R>(rt, alloc, tree, &options)?;
+    table(alloc, &mut report, listing(options.lists), out)?;
+    Ok(outcome_of(&report.faults))
 }
 
 /// An answer, but for want of memory where nothing is written.

@@ -69,6 +69,7 @@ const EMPTY: Case = Case {
 
 const BY_TEXT: TableOptions = TableOptions {
     by: Columns {
+        dir: None,
         ext: false,
         text: true,
         eol: false,

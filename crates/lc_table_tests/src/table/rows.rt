@@ -33,6 +33,7 @@ const NO_ROWS: &[Case] = &[Case {
     name: "no_rows",
     options: TableOptions {
         by: Columns {
+            dir: None,
             ext: false,
             text: false,
             eol: false,
@@ -136,7 +137,12 @@ const CASES: &[ShapeCase] = &[
 fn has_rows(alloc: Global, case: &ShapeCase) -> Result<bool, AllocError> {
     let report = report_of(alloc, &SUMMED)?;
     let (_, [ext, text, eol], sort, rows) = *case;
-    let by = Columns { ext, text, eol };
+    let by = Columns {
+        dir: None,
+        ext,
+        text,
+        eol,
+    };
     let options = TableOptions { by, sort, ..TSV };
     has_parts(alloc, report, options, (HEADER, rows, TOTALS))
 }

@@ -85,12 +85,14 @@ const LISTED: Case = Case {
 };
 
 const BY_TEXT: Columns = Columns {
+    dir: None,
     ext: false,
     text: true,
     eol: false,
 };
 
 const BY_EOL: Columns = Columns {
+    dir: None,
     ext: false,
     text: false,
     eol: true,

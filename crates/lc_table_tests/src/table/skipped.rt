@@ -110,21 +110,51 @@ const LINES: &[u8] = b"left out   by                   path\n\
      directories      1\n\
      entries      1,008\n";
 
-/// A format, the first line of its text, and the others.
-type Case = (Format, &'static [u8], &'static [u8]);
+const RECORDS: &[u8] = b"path,kind,reason,file,line,attribute\n\
+     .git,dir,git,,,\n\
+     \"a\n.log\",file,rule,.gitignore,1,\n\
+     docs,dir,attribute,,,export-ignore\n\
+     link.c,other,other,,,\n\
+     notes.txt,file,rule,.git/info/exclude,2,\n\
+     src/gen,dir,rule,src/.gitignore,3,\n\
+     x.bak,file,rule,--exclude-from,7,\n";
+
+const MARKDOWN: &[u8] = b"| left out | by | path |\n\
+     | --- | --- | --- |\n\
+     | git | - | .git |\n\
+     | rule | .gitignore:1 | a\\\\x0a.log |\n\
+     | attribute | export-ignore | docs/ |\n\
+     | other | - | link.c |\n\
+     | rule | .git/info/exclude:2 | notes.txt |\n\
+     | rule | src/.gitignore:3 | src/gen/ |\n\
+     | rule | --exclude-from:7 | x.bak |\n\
+     \n\
+     | ext | text | eol | files | lines | blank | bytes |\n\
+     | --- | --- | --- | ---: | ---: | ---: | ---: |\n\
+     | **total** |  |  | **0** | **0** | **0** | **0** |\n\
+     \n\
+     | directories | entries |\n\
+     | ---: | ---: |\n\
+     | 1 | 1,008 |\n";
+
+/// A format, whether files are listed, the first line of its text, and the others.
+type Case = (Format, bool, &'static [u8], &'static [u8]);
 
 const CASES: &[Case] = &[
-    (Format::Tsv, HEADER, TABS),
-    (Format::Json, b"", JSON),
-    (Format::Table, b"", LINES),
+    (Format::Tsv, true, HEADER, TABS),
+    (Format::Json, true, b"", JSON),
+    (Format::Table, true, b"", LINES),
+    (Format::Csv, false, b"", RECORDS),
+    (Format::Markdown, true, b"", MARKDOWN),
 ];
 
 #[test]
 fn left_out_in_each_format(rt: HostRuntime) -> Result<(), Fail> {
-    for (format, header, lines) in CASES {
+    for (format, files, header, lines) in CASES {
         let report = report_with(rt.alloc(), LEFT)?;
         let options = TableOptions {
             format: *format,
+            files: *files,
             ..TSV
         };
         assert!(rt;

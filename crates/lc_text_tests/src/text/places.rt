@@ -58,6 +58,13 @@ const CASES: &[Case] = &[
         4_294_967_295,
         b"--exclude-from:4294967295",
     ),
+    (
+        "command_line",
+        b"d/x.bak",
+        RuleSource::CommandLine,
+        2,
+        b"--exclude:2",
+    ),
 ];
 
 #[test]

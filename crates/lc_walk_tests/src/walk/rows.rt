@@ -4,7 +4,7 @@ ghost use Rattle.lc_board.specs.Pass.{holding, new_pass};
 
 use crate::walk::walked::{Board, walk_options};
 use lc_board::{Claim, CloseFault, Closed, Ended, Locked, Shared, Words};
-use lc_level::{Job, LevelReader, ReaderOptions, Scratch, Selection};
+use lc_level::{Job, LevelReader, ReaderOptions, Scratch, Selection, TopRules};
 use lc_tests::tree;
 use lc_tree::{IdleThreads, MemTree, Node};
 use lc_walk::{
@@ -47,7 +47,7 @@ fn start_one<B: Shared<Job, Row>>(alloc: Global) -> Result<(B, B::Pass), AllocEr
     ensures workers { IfOk result (λ b. B.workers_of b.0 ≡ 1) }
     ensures pass { IfOk result (λ b. B.owns b.0 b.1 × (B.Pass.view b.1 ≡ new_pass 0)) }
 {
-    let (board, mut passes) = B::start(alloc, 4, 1, Job::top(alloc, None)?)?;
+    let (board, mut passes) = B::start(alloc, 4, 1, Job::top(alloc, TopRules::none())?)?;
     let pass = passes.remove(0);
     Ok((board, pass))
 }

@@ -46,14 +46,19 @@ fn options_of<'a>(
     ensures { IfOk result (λ options. AreWithinLimits options) }
 {
     let exclude = asked.exclude_file(alloc)?;
+    let command_line = asked.command_line(alloc)?;
+    let include = asked.include(alloc)?;
     Ok(Options {
         lists: ReportLists {
             files: asked.files,
             left_out: asked.left_out,
         },
         exclude,
+        command_line,
+        no_ignore: asked.no_ignore,
         archive: asked.archive,
         without: &asked.without,
+        include,
         only: &asked.only,
         ..walk_options(rt, threads, asked.max_dirs)
     })

@@ -10,14 +10,14 @@ use Rattle.lc_check.proofs.checking.check_explained.Goals as goal
 
 pub returns-in_err-print_explained : goal.returns-in_err-print_explained
 returns-in_err-print_explained g c =
-    let text_of = explained_text_of (styled c.args.style) c.args.name.now c.args.rules.now in
+    let text_of = explained_text_of (styled c.args.format.style) c.args.name.now c.args.rules.now c.args.format.end in
     let bytes = c.in_ok-paths.paths.items in
     let lines = c.in_ok-lines.lines in
     let fault = c.in_err-print_explained.field-0.0 in
-    let text : explained_text_of (styled lines.style) lines.name.now lines.rules.now c.deref.result.now ≡ text_of bytes =
-    ap₂ (λ name rules. explained_text_of (styled lines.style) name rules c.deref.result.now) c.in_ok-lines.ensures.0
+    let text : explained_text_of (styled lines.style) lines.name.now lines.rules.now c.args.format.end c.deref.result.now ≡ text_of bytes =
+    ap₂ (λ name rules. explained_text_of (styled lines.style) name rules c.args.format.end c.deref.result.now) c.in_ok-lines.ensures.0
     c.in_ok-lines.ensures.1
-    ∙ ap₂ (λ style paths. explained_text_of (styled style) c.args.name.now c.args.rules.now paths) c.in_ok-lines.ensures.2
+    ∙ ap₂ (λ style paths. explained_text_of (styled style) c.args.name.now c.args.rules.now c.args.format.end paths) c.in_ok-lines.ensures.2
     c.deref.ensures.value in
     let answers = subst (λ (t : List ℕ). AnswersInPieces g.O.Sink.may_take c.args.out.now t (Err fault) c.print_explained.new.out)
     text c.in_err-print_explained.ensures in

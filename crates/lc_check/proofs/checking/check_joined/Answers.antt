@@ -23,7 +23,7 @@ pub returns-in_err-rules : goal.returns-in_err-rules
 returns-in_err-rules g c =
     let bytes = c.in_ok-bytes.bytes.items in
     let rules_are = c.split_joined.ensures.rules ∙ ap rules_part c.deref.ensures.value in
-    let text_of = joined_text (styled c.args.style) in
+    let text_of = joined_text (styled c.args.format.style) c.args.format.end in
     let stops = rules_stop g.S.Source.may_give g.O.Sink.may_take rules_part text_of c.in_err-rules.field-0.0 c.args.input.now
     c.read_input.new.input c.args.out.now bytes c.in_ok-bytes.ensures
     (λ is. subst (λ (l : List ℕ). max_rule_bytes < length l) rules_are (c.in_err-rules.ensures.too_long.0 (ap Err is))) in
@@ -38,12 +38,13 @@ returns-in_err-print g c =
     let rules_are = c.split_joined.ensures.rules ∙ ap rules_part c.deref.ensures.value in
     let paths_are = c.split_joined.ensures.paths ∙ ap paths_part c.deref.ensures.value in
     let text = c.deref-2.ensures.value ∙ (c.in_ok-text.ensures
-    ∙ ap₂ (text_by (styled c.args.style)) (c.in_ok-rules.ensures.ok ∙ ap rules_of rules_are) paths_are) in
+    ∙ ap₂ (λ rules paths. text_by (styled c.args.format.style) rules c.args.format.end paths)
+    (c.in_ok-rules.ensures.ok ∙ ap rules_of rules_are) paths_are) in
     let within = subst (λ (l : List ℕ). length l ≤ max_rule_bytes) rules_are
     (not_long c.in_ok-rules.rules (length c.split_joined.result.0.now) c.in_ok-rules.ensures.too_long.1) in
     let answers = subst (λ (t : List ℕ). AnswersPrint g.O.Sink.may_take c.args.out.now t
     (Err c.in_err-print.field-0.0) c.print.new.out) text c.in_err-print.ensures.answers in
-    let text_of = joined_text (styled c.args.style) in
+    let text_of = joined_text (styled c.args.format.style) c.args.format.end in
     let stops = output_stops g.S.Source.may_give g.O.Sink.may_take rules_part text_of c.in_err-print.field-0.0 c.args.input.now
     c.read_input.new.input c.args.out.now c.print.new.out bytes (c.in_ok-bytes.ensures, within) answers in
     subst (λ (r : Result
@@ -57,7 +58,8 @@ returns g c =
     let rules_are = c.split_joined.ensures.rules ∙ ap rules_part c.deref.ensures.value in
     let paths_are = c.split_joined.ensures.paths ∙ ap paths_part c.deref.ensures.value in
     let text = c.deref-2.ensures.value ∙ (c.in_ok-text.ensures
-    ∙ ap₂ (text_by (styled c.args.style)) (c.in_ok-rules.ensures.ok ∙ ap rules_of rules_are) paths_are) in
+    ∙ ap₂ (λ rules paths. text_by (styled c.args.format.style) rules c.args.format.end paths)
+    (c.in_ok-rules.ensures.ok ∙ ap rules_of rules_are) paths_are) in
     let within = subst (λ (l : List ℕ). length l ≤ max_rule_bytes) rules_are
     (not_long c.in_ok-rules.rules (length c.split_joined.result.0.now) c.in_ok-rules.ensures.too_long.1) in (
       bytes,

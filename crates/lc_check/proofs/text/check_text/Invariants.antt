@@ -8,7 +8,7 @@ decreases-lines l = length l.rest
 
 abbrev pub invariant-lines : goal.invariant-lines
 invariant-lines l = record {
-  text : l.text.items ++ check_text_of (styled l.fn.style) (file_verdict l.fn.rules) l.rest
-      ≡ check_text_of (styled l.fn.style) (file_verdict l.fn.rules) l.fn.paths;
+  text : l.text.items ++ check_text_of (styled l.fn.format.style) (file_verdict l.fn.rules) l.fn.format.end l.rest
+      ≡ check_text_of (styled l.fn.format.style) (file_verdict l.fn.rules) l.fn.format.end l.fn.paths;
   rules : l.checker.rules.now ≡ l.fn.rules;
 }

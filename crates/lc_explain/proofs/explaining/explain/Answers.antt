@@ -1,6 +1,6 @@
 use Rattle.std.proofs.Common.{ℕ, List, Ok, Err, subst}
 use Rattle.lc_level.proofs.PassedOn.{passed_on}
-use Rattle.lc_text.specs.Lines.{input_lines_of}
+use Rattle.lc_text.specs.Lines.{input_paths_of}
 use Rattle.lc_text.specs.CheckFaults.{print_fault}
 use Rattle.lc_explain.specs.Explain.{MaySay, AnswersLines, AnswersExplain}
 use Rattle.lc_explain.proofs.Answering.{as_asked, explain_stops}
@@ -17,15 +17,15 @@ returns-in_err-outcome g c =
     let is = c.in_ok-explainer.ensures in
     let bytes = c.in_ok-paths.paths.items in
     let fault = c.in_err-outcome.field-0.0 in
-    let answers = as_asked may_take g.T.Tree.lists g.T.Tree.gives (input_lines_of c.deref.result.now) out (Err fault) wrote
-    explainer.reader.tree.now c.args.tree.now options explainer.reader.selection explainer.exclude.now explainer.top explainer.style
-    is.tree is.selection is.top is.exclude is.style c.in_err-outcome.ensures in
-    let lines = subst (λ (b : List ℕ). AnswersLines may_take options.style says (input_lines_of b) out (Err fault) wrote)
+    let answers = as_asked may_take g.T.Tree.lists g.T.Tree.gives (input_paths_of c.args.end c.deref.result.now) out (Err fault) wrote
+    explainer.reader.tree.now c.args.tree.now options explainer.reader.selection explainer.top_texts explainer.top explainer.style
+    is.tree is.selection is.top is.texts is.style c.in_err-outcome.ensures in
+    let lines = subst (λ (b : List ℕ). AnswersLines may_take options.style says (input_paths_of c.args.end b) out (Err fault) wrote)
     c.deref.ensures.value answers in
-    passed_on (λ answer. AnswersExplain may_take options.style says g.S.Source.may_give c.args.input.now out answer
+    passed_on (λ answer. AnswersExplain may_take options.style says c.args.end g.S.Source.may_give c.args.input.now out answer
     c.read_input.new.input wrote)
     c.from_residual-in_err-outcome.result (print_fault fault) c.from_residual-in_err-outcome.ensures.1
-    (explain_stops may_take g.S.Source.may_give options.style says fault c.args.input.now c.read_input.new.input bytes out wrote
+    (explain_stops may_take c.args.end g.S.Source.may_give options.style says fault c.args.input.now c.read_input.new.input bytes out wrote
     c.in_ok-paths.ensures lines)
 
 pub returns : goal.returns
@@ -38,11 +38,11 @@ returns g c =
     let explainer = c.in_ok-explainer.explainer in
     let is = c.in_ok-explainer.ensures in
     let outcome = c.in_ok-outcome.outcome in
-    let answers = as_asked may_take g.T.Tree.lists g.T.Tree.gives (input_lines_of c.deref.result.now) out (Ok outcome) wrote
-    explainer.reader.tree.now c.args.tree.now options explainer.reader.selection explainer.exclude.now explainer.top explainer.style
-    is.tree is.selection is.top is.exclude is.style c.in_ok-outcome.ensures in (
+    let answers = as_asked may_take g.T.Tree.lists g.T.Tree.gives (input_paths_of c.args.end c.deref.result.now) out (Ok outcome) wrote
+    explainer.reader.tree.now c.args.tree.now options explainer.reader.selection explainer.top_texts explainer.top explainer.style
+    is.tree is.selection is.top is.texts is.style c.in_ok-outcome.ensures in (
       c.in_ok-paths.paths.items,
       c.in_ok-paths.ensures,
       subst (λ (b : List ℕ). AnswersLines may_take options.style says
-          (input_lines_of b) out (Ok outcome) wrote) c.deref.ensures.value answers,
+          (input_paths_of c.args.end b) out (Ok outcome) wrote) c.deref.ensures.value answers,
     )

@@ -20,5 +20,5 @@ returns g c =
     let is = c.in_ok-explainer.ensures in
     let words : List (List ℕ) = map (λ word. word.now) c.args.words.now in
     as_asked g.O.Sink.may_take g.T.Tree.lists g.T.Tree.gives words c.args.out.now c.print_words.result c.print_words.new.out
-    explainer.reader.tree.now c.args.tree.now c.args.options.now explainer.reader.selection explainer.exclude.now explainer.top
-    explainer.style is.tree is.selection is.top is.exclude is.style c.print_words.ensures
+    explainer.reader.tree.now c.args.tree.now c.args.options.now explainer.reader.selection explainer.top_texts explainer.top
+    explainer.style is.tree is.selection is.top is.texts is.style c.print_words.ensures

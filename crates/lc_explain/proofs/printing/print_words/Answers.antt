@@ -14,7 +14,7 @@ pub returns-in_err-kept : goal.returns-in_err-kept
 returns-in_err-kept g c =
     let explainer = c.args.explainer.now in
     let enters = MayEnter (g.T.Tree.lists explainer.reader.tree.now) (g.T.Tree.gives explainer.reader.tree.now) in
-    let Says : List ℕ → Bool → Explanation → Type 0 = IsExplained enters explainer.reader.selection explainer.exclude.now explainer.top in
+    let Says : List ℕ → Bool → Explanation → Type 0 = IsExplained enters explainer.reader.selection explainer.top_texts explainer.top in
     let may_take = g.O.Sink.may_take in
     let style = explainer.style in
     let out = c.args.out.now in
@@ -27,12 +27,12 @@ pub loop-word-init : goal.loop-word-init
 loop-word-init g c =
     let explainer = c.args.explainer.now in
     let enters = MayEnter (g.T.Tree.lists explainer.reader.tree.now) (g.T.Tree.gives explainer.reader.tree.now) in
-    let Says : List ℕ → Bool → Explanation → Type 0 = IsExplained enters explainer.reader.selection explainer.exclude.now explainer.top in
+    let Says : List ℕ → Bool → Explanation → Type 0 = IsExplained enters explainer.reader.selection explainer.top_texts explainer.top in
     let may_take = g.O.Sink.may_take in
     let style = explainer.style in
     let out = c.args.out.now in
     record {
-      stacks = no_stacks enters explainer.reader.selection explainer.exclude.now explainer.top c.in_ok-kept.kept c.in_ok-kept.ensures;
+      stacks = no_stacks enters explainer.reader.selection explainer.top_texts explainer.top c.in_ok-kept.kept c.in_ok-kept.ensures;
       so_far = so_far_none may_take style Says out c.new-output.result.block.text.items c.new-output.result.outcome
           c.new-output.ensures.text c.new-output.ensures.outcome;
     }
@@ -41,7 +41,7 @@ pub returns-in_err-tell : goal.returns-in_err-tell
 returns-in_err-tell g c =
     let explainer = c.args.explainer.now in
     let enters = MayEnter (g.T.Tree.lists explainer.reader.tree.now) (g.T.Tree.gives explainer.reader.tree.now) in
-    let Says : List ℕ → Bool → Explanation → Type 0 = IsExplained enters explainer.reader.selection explainer.exclude.now explainer.top in
+    let Says : List ℕ → Bool → Explanation → Type 0 = IsExplained enters explainer.reader.selection explainer.top_texts explainer.top in
     let may_take = g.O.Sink.may_take in
     let style = explainer.style in
     let out = c.args.out.now in
@@ -60,7 +60,7 @@ pub returns-in_err-print_if_full : goal.returns-in_err-print_if_full
 returns-in_err-print_if_full g c =
     let explainer = c.args.explainer.now in
     let enters = MayEnter (g.T.Tree.lists explainer.reader.tree.now) (g.T.Tree.gives explainer.reader.tree.now) in
-    let Says : List ℕ → Bool → Explanation → Type 0 = IsExplained enters explainer.reader.selection explainer.exclude.now explainer.top in
+    let Says : List ℕ → Bool → Explanation → Type 0 = IsExplained enters explainer.reader.selection explainer.top_texts explainer.top in
     let may_take = g.O.Sink.may_take in
     let style = explainer.style in
     let out = c.args.out.now in
@@ -88,7 +88,7 @@ pub loop-word-preserved : goal.loop-word-preserved
 loop-word-preserved g c =
     let explainer = c.args.explainer.now in
     let enters = MayEnter (g.T.Tree.lists explainer.reader.tree.now) (g.T.Tree.gives explainer.reader.tree.now) in
-    let Says : List ℕ → Bool → Explanation → Type 0 = IsExplained enters explainer.reader.selection explainer.exclude.now explainer.top in
+    let Says : List ℕ → Bool → Explanation → Type 0 = IsExplained enters explainer.reader.selection explainer.top_texts explainer.top in
     let may_take = g.O.Sink.may_take in
     let style = explainer.style in
     let out = c.args.out.now in
@@ -113,7 +113,7 @@ pub returns-in_err-print_rest : goal.returns-in_err-print_rest
 returns-in_err-print_rest g c =
     let explainer = c.args.explainer.now in
     let enters = MayEnter (g.T.Tree.lists explainer.reader.tree.now) (g.T.Tree.gives explainer.reader.tree.now) in
-    let Says : List ℕ → Bool → Explanation → Type 0 = IsExplained enters explainer.reader.selection explainer.exclude.now explainer.top in
+    let Says : List ℕ → Bool → Explanation → Type 0 = IsExplained enters explainer.reader.selection explainer.top_texts explainer.top in
     let may_take = g.O.Sink.may_take in
     let style = explainer.style in
     let out = c.args.out.now in
@@ -132,7 +132,7 @@ pub returns : goal.returns
 returns g c =
     let explainer = c.args.explainer.now in
     let enters = MayEnter (g.T.Tree.lists explainer.reader.tree.now) (g.T.Tree.gives explainer.reader.tree.now) in
-    let Says : List ℕ → Bool → Explanation → Type 0 = IsExplained enters explainer.reader.selection explainer.exclude.now explainer.top in
+    let Says : List ℕ → Bool → Explanation → Type 0 = IsExplained enters explainer.reader.selection explainer.top_texts explainer.top in
     let may_take = g.O.Sink.may_take in
     let style = explainer.style in
     let out = c.args.out.now in

@@ -1,4 +1,4 @@
-use Rattle.std.proofs.Common.{rules, ◌≡◌, List, Some, None, MatchResult, get_or, sym, ◌∙◌, ap, subst, find}
+use Rattle.std.proofs.Common.{rules, ◌≡◌, Some, None, MatchResult, get_or, sym, ◌∙◌, ap, subst, find}
 use Rattle.std.proofs.lemmas.Fn.{always_returns_same}
 use Rattle.lc_tree.specs.Listing.{EntryModel}
 use Rattle.lc_level.proofs.Searching.{order_of, is_named, searched}

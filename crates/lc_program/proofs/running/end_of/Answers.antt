@@ -1,4 +1,4 @@
-use Rattle.std.proofs.Common.{inl, refl, string_bytes, subst, sym}
+use Rattle.std.proofs.Common.{◌∙◌, inl, refl, string_bytes, subst, sym}
 use Rattle.lc_arguments.specs.Refusals.{IsMessage}
 use Rattle.lc_program.proofs.running.end_of.Goals as goal
 
@@ -6,7 +6,14 @@ pub returns-in-Err : goal.returns-in-Err
 returns-in-Err g c =
     rw c.give_up-in-Err.ensures.ending
     (inl (
-      (c.in-Ok.ensures.answers.0, (c.in-Ok.request, c.in-Ok.ensures.answers.1, rw c.style.ensures at c.in-Err.ensures)),
+      c.in-Ok.request,
+      c.introduce.new.err,
+      record {
+        free = c.in-Ok.ensures.answers.0;
+        asks = c.in-Ok.ensures.answers.1;
+        introduces = c.introduce.ensures;
+        answers = c.in-Err.ensures;
+      },
       c.give_up-in-Err.ensures.told,
     ))
 
@@ -28,12 +35,30 @@ returns-in-Err-Refused g c =
 pub returns-in-Clean : goal.returns-in-Clean
 returns-in-Clean g c =
     inl (
-      c.in-Ok.ensures.answers.0,
-      (c.in-Ok.request, c.in-Ok.ensures.answers.1, rw (c.style.ensures, c.in-Clean.is) at c.in-Ok-answer.ensures, c.hint.ensures),
+      c.in-Ok.request,
+      c.in-Ok-answer.answered,
+      c.introduce.new.err,
+      record {
+        free = c.in-Ok.ensures.answers.0;
+        asks = c.in-Ok.ensures.answers.1;
+        introduces = c.introduce.ensures;
+        answers = c.in-Ok-answer.ensures;
+      },
+      sym c.outcome.ensures ∙ c.in-Clean.is,
+      c.comment.ensures,
     )
 
 pub returns : goal.returns
 returns g c = (
-  c.in-Ok.ensures.answers.0,
-  (c.in-Ok.request, c.in-Ok.ensures.answers.1, rw (c.style.ensures, c.in-SomeFaults.is) at c.in-Ok-answer.ensures, c.hint.ensures),
+  c.in-Ok.request,
+  c.in-Ok-answer.answered,
+  c.introduce.new.err,
+  record {
+    free = c.in-Ok.ensures.answers.0;
+    asks = c.in-Ok.ensures.answers.1;
+    introduces = c.introduce.ensures;
+    answers = c.in-Ok-answer.ensures;
+  },
+  sym c.outcome.ensures ∙ c.in-SomeFaults.is,
+  c.comment.ensures,
 )

@@ -11,7 +11,7 @@ use Rattle.lc_table.proofs.json_report.json_line.Goals as goal
 pub returns : goal.returns
 returns c =
     let view = view_model c.args.view.now in
-    let all = json_tokens (report_value c.args.by c.args.report.now view) in
+    let all = json_tokens (report_value c.args.options.now c.args.report.now view) in
     let whole : c.write_report.new.text ≡ all =
     c.in_ok-write_report.ensures ∙ ap (λ (ts : List Token). ts ++ all) c.new-text.ensures in
     let text = subst (λ (ts : List Token). IfOk c.into_line.result (λ line. line.items ≡ print ts ++ codes "\n")) whole
@@ -19,5 +19,5 @@ returns c =
     let back = subst (λ (ts : List Token). IfOk c.into_line.result (λ _. tokens (print ts) ≡ ts)) whole c.into_line.ensures.reads_back in
     record {
       text = text;
-      document = is_document c.args.by c.args.report.now view c.into_line.result text back;
+      document = is_document c.args.options.now c.args.report.now view c.into_line.result text back;
     }

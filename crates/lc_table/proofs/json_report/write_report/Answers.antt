@@ -12,5 +12,5 @@ returns c =
       c.in_ok-write_rows.ensures,
       c.in_ok-begin_object.ensures,
     )
-    (report_tokens c.args.text.now (codes "rows", array_with (map (row_value c.args.by) c.args.view.now.rows.now))
-    (number_members c.args.report.now c.args.view.now.others) (list_members c.args.report.now c.args.view.now.files.now))
+    (report_tokens c.args.text.now (codes "rows", array_with (map (row_value c.args.options.now.by) c.args.view.now.rows.now))
+    (number_members c.args.report.now c.args.view.now.others) (list_members c.args.options.now c.args.report.now c.args.view.now.files.now))

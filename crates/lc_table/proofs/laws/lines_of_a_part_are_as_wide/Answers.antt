@@ -1,4 +1,5 @@
-use Rattle.lc_table.proofs.WidthLawProofs.{counts_law, faults_law, files_law, skipped_law, summary_law}
+use Rattle.lc_table.proofs.SummaryWidth.{summary_law}
+use Rattle.lc_table.proofs.WidthLawProofs.{counts_law, faults_law, files_law, skipped_law}
 use Rattle.lc_table.proofs.laws.lines_of_a_part_are_as_wide.Goals as goal
 
 pub returns-clause-summary : goal.returns-clause-summary

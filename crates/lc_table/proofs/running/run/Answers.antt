@@ -1,3 +1,4 @@
+use Rattle.std.proofs.Common.{ap}
 use Rattle.lc_walk.specs.Walks.{Walks}
 use Rattle.lc_table.proofs.Stopping.{run_stops}
 use Rattle.lc_table.proofs.running.run.Goals as goal
@@ -7,7 +8,8 @@ returns-in_err-table g c =
     run_stops g.O.Sink.may_take (Walks (g.T.Tree.lists c.args.tree.now)
     (g.T.Tree.gives c.args.tree.now) c.args.options.now) c.args.table_options c.in_ok-report.report
     c.in_err-table.field-0.0 c.from_residual-in_err-table.result c.args.out.now c.table.new.out c.in_ok-report.ensures
-    c.in_err-table.ensures c.from_residual-in_err-table.ensures.1
+    c.in_err-table.ensures.answers c.from_residual-in_err-table.ensures.1
 
 pub returns : goal.returns
-returns g c = (c.in_ok-report.report, c.in_ok-report.ensures, c.outcome_of-outcome.ensures, c.in_ok-table.ensures)
+returns g c =
+    (c.in_ok-report.report, c.in_ok-report.ensures, ap (λ v. v.items) c.table.ensures.faults, c.in_ok-table.ensures.answers)

@@ -7,7 +7,7 @@ use Rattle.lc_table.proofs.summary.push_rows.Goals as goal
 
 pub loop-row-preserved : goal.loop-row-preserved
 loop-row-preserved c =
-    one_lined (row_cells c.args.by) c.args.widths.now c.args.rows.now c.loop-row.row-index c.row-item.result
+    one_lined (row_cells c.args.columns.now) c.args.widths.now c.args.rows.now c.loop-row.row-index c.row-item.result
     (string_bytes c.args.text.now) (string_bytes c.loop-row.text) (string_bytes c.push_line.new.text) c.loop-row-test.true c.row-item.is
     c.loop-row.invariant
     (c.in_ok-push_line.ensures ∙ ap (λ (cs : List CellModel). string_bytes c.loop-row.text ++ line_in c.args.widths.now cs)

@@ -10,18 +10,18 @@ use Rattle.lc_table.proofs.summary.push_summary.Goals as goal
 pub returns : goal.returns
 returns c =
     let initial = string_bytes c.args.text.now in
-    let headings = row_headings c.args.by in
-    let rows = view_lines c.args.by (view_model c.args.view.now) in
+    let headings = row_headings c.args.columns.now in
+    let rows = view_lines c.args.columns.now (view_model c.args.view.now) in
     let first = ap cells_of c.deref.ensures.value ∙ c.in_ok-set_headings.ensures in
     let second = ap cells_of c.deref-2.ensures.value ∙ c.in_ok-set_headings-2.ensures in
     rows_written initial (string_bytes c.push_line.new.text) (string_bytes c.push_rule.new.text) (string_bytes c.push_view.new.text)
     (string_bytes c.push_rule-2.new.text) (string_bytes c.push_sums_lines.new.text) c.fit.new.self c.fit_view.new.widths
-    c.fit_sums.new.widths headings rows (sums_lines c.args.by c.in_ok-sums.sums)
+    c.fit_sums.new.widths headings rows (sums_lines c.args.columns.now c.in_ok-sums.sums)
     (c.in_ok-fit.ensures ∙ ap (λ (ws : List ℕ). wider ws (cell_widths (cells_of c.deref.result.now))) c.new-widths.ensures
     ∙ ap (λ (cs : List CellModel). wider [] (cell_widths cs)) first)
     c.in_ok-fit_view.ensures c.in_ok-fit_sums.ensures
     (c.in_ok-push_line.ensures ∙ ap (λ (cs : List CellModel). initial ++ line_in c.fit_sums.new.widths cs) second)
     c.in_ok-push_rule.ensures c.in_ok-push_view.ensures c.in_ok-push_rule-2.ensures c.in_ok-push_sums_lines.ensures
     ∙ ap (λ (s : AllSums). initial
-    ++ rows_in_columns (widths_of (headings ∷ (rows ++ sums_lines c.args.by s))) headings rows (sums_lines c.args.by s))
+    ++ rows_in_columns (widths_of (headings ∷ (rows ++ sums_lines c.args.columns.now s))) headings rows (sums_lines c.args.columns.now s))
     c.in_ok-sums.ensures

@@ -15,6 +15,8 @@ returns c =
       c.in_ok-push_others.ensures,
       c.in_ok-push_rows.ensures,
       c.in_ok-extend_from_slice.ensures.items,
+      c.as_bytes.ensures.value,
+      c.header_line.ensures,
       c.new-text.ensures.items,
     )
     (simp append_assoc)

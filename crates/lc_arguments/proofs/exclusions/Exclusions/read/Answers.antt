@@ -1,28 +1,30 @@
-use Rattle.std.proofs.Common.{◌∙◌, List, ℕ, ap, codes, refl, subst, sym, Err}
+use Rattle.std.proofs.Common.{codes, refl}
 use Rattle.clap.specs.Matches.{found_of}
 use Rattle.clap.specs.Walk.{rows_of}
-use Rattle.std.specs.List.{list_all}
-use Rattle.lc_rules.specs.AttrWords.{is_name}
-use Rattle.lc_arguments.specs.Explained.{AnswersNames}
+use Rattle.lc_arguments.specs.declared.repeated.Repeated.TheVariants.{Attributes, Excluded, Included}
 use Rattle.lc_arguments.proofs.Misnaming.{misnamed_by}
-use Rattle.lc_arguments.proofs.WordFaults.{flag_of, text_of, texts_of}
+use Rattle.lc_arguments.proofs.WordFaults.{flag_of, text_of}
 use Rattle.lc_arguments.proofs.exclusions.Exclusions.read.Goals as goal
 
 pub returns-in-Err : goal.returns-in-Err
-returns-in-Err c =
-    let f = found_of c.args.matches.now in
-    let names = texts_of (rows_of f) f (codes "without") c.get_strs.result _ c.unwrap_or-names.result refl c.get_strs.ensures refl
-    c.unwrap_or-names.ensures in
-    misnamed_by (rows_of f) c.in-Err.no
-    (subst (λ (texts : List (List ℕ)). AnswersNames texts (Err c.in-Err.no)) names c.in-Err.ensures)
+returns-in-Err c = misnamed_by Attributes (rows_of (found_of c.args.matches.now)) c.in-Err.no c.in-Err.ensures
+
+pub returns-in-Err-values_in : goal.returns-in-Err-values_in
+returns-in-Err-values_in c =
+    misnamed_by Excluded (rows_of (found_of c.args.matches.now)) c.in-Err-values_in.no c.in-Err-values_in.ensures
+
+pub returns-in-Err-values_in-2 : goal.returns-in-Err-values_in-2
+returns-in-Err-values_in-2 c =
+    misnamed_by Included (rows_of (found_of c.args.matches.now)) c.in-Err-values_in-2.no c.in-Err-values_in-2.ensures
 
 pub returns : goal.returns
 returns c =
     let f = found_of c.args.matches.now in
-    let names = texts_of (rows_of f) f (codes "without") c.get_strs.result _ c.unwrap_or-names.result refl c.get_strs.ensures refl
-    c.unwrap_or-names.ensures in record {
+    record {
       from = text_of (rows_of f) f (codes "exclude-from") c.get_str.result refl c.get_str.ensures;
       archive = flag_of (rows_of f) f (codes "archive") c.get_flag.result refl c.get_flag.ensures.value c.get_flag.ensures.other;
-      without = c.in-Ok.ensures.0 ∙ names;
-      named = ap (list_all is_name) (sym names) ∙ c.in-Ok.ensures.1;
+      without = c.in-Ok.ensures;
+      exclude = c.in-Ok-values_in.ensures;
+      include = c.in-Ok-values_in-2.ensures;
+      no_ignore = flag_of (rows_of f) f (codes "no-ignore") c.get_flag-2.result refl c.get_flag-2.ensures.value c.get_flag-2.ensures.other;
     }

@@ -6,7 +6,7 @@ use Rattle.clap.specs.Walk.{Row}
 use Rattle.lc_arguments.specs.CommandLine.{explain_app}
 use Rattle.lc_arguments.specs.Explained.{AnswersExclusions}
 use Rattle.lc_arguments.specs.Words.{AreExclusionsOf}
-use Rattle.lc_arguments.proofs.WordFaults.{explain_is_free, explain_is_simple, fails_as, matches_as, no_explanation_by, no_request_of}
+use Rattle.lc_arguments.proofs.WordFaults.{explain_is_free, explain_is_simple, fails_as, flag_of, matches_as, no_explanation_by, no_request_of}
 use Rattle.lc_arguments.proofs.WordFaults.{text_or, texts_of}
 use Rattle.lc_arguments.proofs.Misnaming.{explain_refused_for}
 use Rattle.lc_arguments.proofs.explain.ExplainRequest.read.Goals as goal
@@ -40,6 +40,7 @@ returns g c =
       fails_as command explain_app words (Ok m) is explain_is_free parse.kinds,
       record {
         exclusions = subst (λ (rs : List Row). AreExclusionsOf rs c.in-Ok-read.exclusions) are c.in-Ok-read.ensures;
+        null = flag_of rows (found_of m) (codes "null") c.get_flag.result are c.get_flag.ensures.value c.get_flag.ensures.other;
         directory = text_or rows (found_of m) (codes "DIR") c.get_str.result _ c.unwrap_or-2.result are c.get_str.ensures refl
             c.unwrap_or-2.ensures;
         paths = ap (map (λ path. path.now)) (c.in-Ok-to_vec.ensures.items_if_clones_equal (λ x y same. same))

@@ -8,14 +8,14 @@ use Rattle.lc_explain.proofs.PathSegments.{cut_at, stands_below, path_of_name}
 use Rattle.lc_explain.proofs.explainer.Explainer.beside.Goals as goal
 
 pub returns-in-Some-2 : goal.returns-in-Some-2
-returns-in-Some-2 g c = λ exclude stack.
+returns-in-Some-2 g c = λ top_texts stack.
     let at = cut_at c.names.rest.now c.cut_at_first.result.0.now c.cut_at_first.result.1 c.in-Some.others c.in-Some.is
     c.cut_at_first.ensures.pieces c.cut_at_first.ensures.whole in
-    c.below.ensures (cited exclude stack)
-    ∙ sym (beside_left c.args.self.now.reader.selection exclude stack c.names.job c.names.rest.now c.cut_at_first.result.0.now
+    c.below.ensures (cited top_texts stack)
+    ∙ sym (beside_left c.args.self.now.reader.selection top_texts stack c.names.job c.names.rest.now c.cut_at_first.result.0.now
     c.in-Some.others.now c.args.as_dir at (reason_model c.in-Some-2.reason)
     (sym c.in_ok-reason.ensures ∙ ap (option_map reason_model) c.in-Some-2.is))
-    ∙ c.names.invariant.same exclude stack
+    ∙ c.names.invariant.same top_texts stack
 
 pub names-preserved : goal.names-preserved
 names-preserved g c =
@@ -29,9 +29,9 @@ names-preserved g c =
     record {
       stands = stands_below c.args.path.now c.names.job.path c.names.rest.now name others c.names.invariant.stands at c.requires.good
           ∙ ap (λ j. path_in j.path others) (sym child);
-      same = λ exclude stack.
-          ap (λ j. said_beside c.args.self.now.reader.selection exclude stack j (segments_of others) c.args.as_dir) child
-          ∙ sym (beside_on c.args.self.now.reader.selection exclude stack c.names.job c.names.rest.now name others c.args.as_dir at
+      same = λ top_texts stack.
+          ap (λ j. said_beside c.args.self.now.reader.selection top_texts stack j (segments_of others) c.args.as_dir) child
+          ∙ sym (beside_on c.args.self.now.reader.selection top_texts stack c.names.job c.names.rest.now name others c.args.as_dir at
           (sym c.in_ok-reason.ensures ∙ ap (option_map reason_model) none))
-          ∙ c.names.invariant.same exclude stack;
+          ∙ c.names.invariant.same top_texts stack;
     }

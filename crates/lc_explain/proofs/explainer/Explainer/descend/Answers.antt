@@ -21,7 +21,7 @@ pub returns-in_default-others-clause-found : goal.returns-in_default-others-clau
 returns-in_default-others-clause-found g c =
     let enters = MayEnter (g.T.Tree.lists c.args.self.now.reader.tree.now) (g.T.Tree.gives c.args.self.now.reader.tree.now) in
     let s = c.args.self.now.reader.selection in
-    let exclude = c.args.self.now.exclude.now in
+    let top_texts = c.args.self.now.top_texts in
     let top = c.args.self.now.top in
     let path = c.args.path.now in
     let rest = c.names.rest.now in
@@ -29,21 +29,21 @@ returns-in_default-others-clause-found g c =
     let here = c.in-Some.here.now in
     let stack = stack_at c.names.kept c.names.at in
     let end : slice_get stack (length stack - 1) ≡ Some here = sym c.last.ensures ∙ ap option_copied c.in-Some.is in
-    let last = at_last enters s exclude top stack path rest here (c.names.invariant.stacks c.names.at) c.names.invariant.stands end in
+    let last = at_last enters s top_texts top stack path rest here (c.names.invariant.stacks c.names.at) c.names.invariant.stands end in
     let job : c.here.inside.job ≡ here.job = ap (λ (w : OpenDirModel). w.job) c.here.view_is in
     let there : c.kind-there.result ≡ kind_in here.entries name = c.kind-there.ensures in
     let none : c.cut_at_first.result.1 ≡ None = search rules in
     let at = not_cut rest name c.cut_at_first.result.1 none c.cut_at_first.ensures.pieces c.cut_at_first.ensures.whole in
-    found_on enters s exclude top c.names.kept c.names.at path c.args.as_dir c.in_ok-finding.finding c.on.result c.on.ensures
-    (last_explained enters s exclude top stack path rest here last c.requires.good name c.args.as_dir _ at.cut
-    (c.in_ok-finding.ensures (cited exclude stack)
-    ∙ ap₂ (λ (j : JobModel) k. said_of s exclude stack j name k) job (c.kind_asked.ensures ∙ ap (kind_asked c.args.as_dir) there)))
+    found_on enters s top_texts top c.names.kept c.names.at path c.args.as_dir c.in_ok-finding.finding c.on.result c.on.ensures
+    (last_explained enters s top_texts top stack path rest here last c.requires.good name c.args.as_dir _ at.cut
+    (c.in_ok-finding.ensures (cited top_texts stack)
+    ∙ ap₂ (λ (j : JobModel) k. said_of s top_texts stack j name k) job (c.kind_asked.ensures ∙ ap (kind_asked c.args.as_dir) there)))
 
 pub overflow_sub-place : goal.overflow_sub-place
 overflow_sub-place g c =
     let enters = MayEnter (g.T.Tree.lists c.args.self.now.reader.tree.now) (g.T.Tree.gives c.args.self.now.reader.tree.now) in
     let s = c.args.self.now.reader.selection in
-    let exclude = c.args.self.now.exclude.now in
+    let top_texts = c.args.self.now.top_texts in
     let top = c.args.self.now.top in
     let path = c.args.path.now in
     let rest = c.names.rest.now in
@@ -51,7 +51,7 @@ overflow_sub-place g c =
     let here = c.in-Some.here.now in
     let stack = stack_at c.names.kept c.names.at in
     let end : slice_get stack (length stack - 1) ≡ Some here = sym c.last.ensures ∙ ap option_copied c.in-Some.is in
-    let last = at_last enters s exclude top stack path rest here (c.names.invariant.stacks c.names.at) c.names.invariant.stands end in
+    let last = at_last enters s top_texts top stack path rest here (c.names.invariant.stacks c.names.at) c.names.invariant.stands end in
     let others = c.in-Some-others.others.now in
     let at = cut_at rest name c.cut_at_first.result.1 c.in-Some-others.others c.in-Some-others.is c.cut_at_first.ensures.pieces
     c.cut_at_first.ensures.whole in
@@ -61,7 +61,7 @@ pub slice_bounds-place-count : goal.slice_bounds-place-count
 slice_bounds-place-count g c =
     let enters = MayEnter (g.T.Tree.lists c.args.self.now.reader.tree.now) (g.T.Tree.gives c.args.self.now.reader.tree.now) in
     let s = c.args.self.now.reader.selection in
-    let exclude = c.args.self.now.exclude.now in
+    let top_texts = c.args.self.now.top_texts in
     let top = c.args.self.now.top in
     let path = c.args.path.now in
     let rest = c.names.rest.now in
@@ -69,7 +69,7 @@ slice_bounds-place-count g c =
     let here = c.in-Some.here.now in
     let stack = stack_at c.names.kept c.names.at in
     let end : slice_get stack (length stack - 1) ≡ Some here = sym c.last.ensures ∙ ap option_copied c.in-Some.is in
-    let last = at_last enters s exclude top stack path rest here (c.names.invariant.stacks c.names.at) c.names.invariant.stands end in
+    let last = at_last enters s top_texts top stack path rest here (c.names.invariant.stacks c.names.at) c.names.invariant.stands end in
     let others = c.in-Some-others.others.now in
     let at = cut_at rest name c.cut_at_first.result.1 c.in-Some-others.others c.in-Some-others.is c.cut_at_first.ensures.pieces
     c.cut_at_first.ensures.whole in
@@ -79,7 +79,7 @@ pub reason-requires : goal.reason-requires
 reason-requires g c =
     let enters = MayEnter (g.T.Tree.lists c.args.self.now.reader.tree.now) (g.T.Tree.gives c.args.self.now.reader.tree.now) in
     let s = c.args.self.now.reader.selection in
-    let exclude = c.args.self.now.exclude.now in
+    let top_texts = c.args.self.now.top_texts in
     let top = c.args.self.now.top in
     let path = c.args.path.now in
     let rest = c.names.rest.now in
@@ -87,7 +87,7 @@ reason-requires g c =
     let here = c.in-Some.here.now in
     let stack = stack_at c.names.kept c.names.at in
     let end : slice_get stack (length stack - 1) ≡ Some here = sym c.last.ensures ∙ ap option_copied c.in-Some.is in
-    let last = at_last enters s exclude top stack path rest here (c.names.invariant.stacks c.names.at) c.names.invariant.stands end in
+    let last = at_last enters s top_texts top stack path rest here (c.names.invariant.stacks c.names.at) c.names.invariant.stands end in
     let job : c.here.inside.job ≡ here.job = ap (λ (w : OpenDirModel). w.job) c.here.view_is in
     let others = c.in-Some-others.others.now in
     let at = cut_at rest name c.cut_at_first.result.1 c.in-Some-others.others c.in-Some-others.is c.cut_at_first.ensures.pieces
@@ -98,7 +98,7 @@ pub returns-in-Some-2-clause-found : goal.returns-in-Some-2-clause-found
 returns-in-Some-2-clause-found g c =
     let enters = MayEnter (g.T.Tree.lists c.args.self.now.reader.tree.now) (g.T.Tree.gives c.args.self.now.reader.tree.now) in
     let s = c.args.self.now.reader.selection in
-    let exclude = c.args.self.now.exclude.now in
+    let top_texts = c.args.self.now.top_texts in
     let top = c.args.self.now.top in
     let path = c.args.path.now in
     let rest = c.names.rest.now in
@@ -106,23 +106,23 @@ returns-in-Some-2-clause-found g c =
     let here = c.in-Some.here.now in
     let stack = stack_at c.names.kept c.names.at in
     let end : slice_get stack (length stack - 1) ≡ Some here = sym c.last.ensures ∙ ap option_copied c.in-Some.is in
-    let last = at_last enters s exclude top stack path rest here (c.names.invariant.stacks c.names.at) c.names.invariant.stands end in
+    let last = at_last enters s top_texts top stack path rest here (c.names.invariant.stacks c.names.at) c.names.invariant.stands end in
     let job : c.here.inside.job ≡ here.job = ap (λ (w : OpenDirModel). w.job) c.here.view_is in
     let there : c.kind-there.result ≡ kind_in here.entries name = c.kind-there.ensures in
     let others = c.in-Some-others.others.now in
     let at = cut_at rest name c.cut_at_first.result.1 c.in-Some-others.others c.in-Some-others.is c.cut_at_first.ensures.pieces
     c.cut_at_first.ensures.whole in
     let asked = ap₂ (λ (j : JobModel) k. reason_for s j name k) job (c.kind_asked-in-names.ensures ∙ ap (kind_asked true) there) in
-    found_on enters s exclude top c.names.kept c.names.at path c.args.as_dir c.below.result c.on-in-Some-2.result c.on-in-Some-2.ensures
-    (skipped_explained enters s exclude top stack path rest here last c.requires.good name others at c.args.as_dir _
+    found_on enters s top_texts top c.names.kept c.names.at path c.args.as_dir c.below.result c.on-in-Some-2.result c.on-in-Some-2.ensures
+    (skipped_explained enters s top_texts top stack path rest here last c.requires.good name others at c.args.as_dir _
     (reason_model c.in-Some-2.reason) (sym asked ∙ sym c.in_ok-reason.ensures ∙ ap (option_map reason_model) c.in-Some-2.is)
-    (c.below.ensures (cited exclude stack)))
+    (c.below.ensures (cited top_texts stack)))
 
 pub beside-requires-clause-stands : goal.beside-requires-clause-stands
 beside-requires-clause-stands g c κs within =
     let enters = MayEnter (g.T.Tree.lists c.args.self.now.reader.tree.now) (g.T.Tree.gives c.args.self.now.reader.tree.now) in
     let s = c.args.self.now.reader.selection in
-    let exclude = c.args.self.now.exclude.now in
+    let top_texts = c.args.self.now.top_texts in
     let top = c.args.self.now.top in
     let path = c.args.path.now in
     let rest = c.names.rest.now in
@@ -130,7 +130,7 @@ beside-requires-clause-stands g c κs within =
     let here = c.in-Some.here.now in
     let stack = stack_at c.names.kept c.names.at in
     let end : slice_get stack (length stack - 1) ≡ Some here = sym c.last.ensures ∙ ap option_copied c.in-Some.is in
-    let last = at_last enters s exclude top stack path rest here (c.names.invariant.stacks c.names.at) c.names.invariant.stands end in
+    let last = at_last enters s top_texts top stack path rest here (c.names.invariant.stacks c.names.at) c.names.invariant.stands end in
     let job : c.here.inside.job ≡ here.job = ap (λ (w : OpenDirModel). w.job) c.here.view_is in
     let others = c.in-Some-others.others.now in
     let at = cut_at rest name c.cut_at_first.result.1 c.in-Some-others.others c.in-Some-others.is c.cut_at_first.ensures.pieces
@@ -143,7 +143,7 @@ pub returns-then-not-is_directory-clause-found : goal.returns-then-not-is_direct
 returns-then-not-is_directory-clause-found g c =
     let enters = MayEnter (g.T.Tree.lists c.args.self.now.reader.tree.now) (g.T.Tree.gives c.args.self.now.reader.tree.now) in
     let s = c.args.self.now.reader.selection in
-    let exclude = c.args.self.now.exclude.now in
+    let top_texts = c.args.self.now.top_texts in
     let top = c.args.self.now.top in
     let path = c.args.path.now in
     let rest = c.names.rest.now in
@@ -151,7 +151,7 @@ returns-then-not-is_directory-clause-found g c =
     let here = c.in-Some.here.now in
     let stack = stack_at c.names.kept c.names.at in
     let end : slice_get stack (length stack - 1) ≡ Some here = sym c.last.ensures ∙ ap option_copied c.in-Some.is in
-    let last = at_last enters s exclude top stack path rest here (c.names.invariant.stacks c.names.at) c.names.invariant.stands end in
+    let last = at_last enters s top_texts top stack path rest here (c.names.invariant.stacks c.names.at) c.names.invariant.stands end in
     let job : c.here.inside.job ≡ here.job = ap (λ (w : OpenDirModel). w.job) c.here.view_is in
     let there : c.kind-there.result ≡ kind_in here.entries name = c.kind-there.ensures in
     let others = c.in-Some-others.others.now in
@@ -164,17 +164,17 @@ returns-then-not-is_directory-clause-found g c =
     c.in_ok-job.ensures ∙ ap₂ job_at job (path_of_name path here.job.path rest name others last.left at) in
     let outside : is_directory (kind_in here.entries name) ≡ false = ap is_directory (sym there) ∙ sym c.is_directory.ensures
     ∙ c.if-not-is_directory.true in
-    found_on enters s exclude top c.names.kept c.names.at path c.args.as_dir c.in_ok-finding-2.finding
+    found_on enters s top_texts top c.names.kept c.names.at path c.args.as_dir c.in_ok-finding-2.finding
     c.on-then-not-is_directory.result c.on-then-not-is_directory.ensures
-    (beside_explained enters s exclude top stack path rest here last c.requires.good name others at c.args.as_dir _ none outside
-    (c.in_ok-finding-2.ensures exclude stack
-    ∙ ap (λ (j : JobModel). said_beside s exclude stack j (segments_of others) c.args.as_dir) child))
+    (beside_explained enters s top_texts top stack path rest here last c.requires.good name others at c.args.as_dir _ none outside
+    (c.in_ok-finding-2.ensures top_texts stack
+    ∙ ap (λ (j : JobModel). said_beside s top_texts stack j (segments_of others) c.args.as_dir) child))
 
 pub returns-in-Err-clause-found : goal.returns-in-Err-clause-found
 returns-in-Err-clause-found g c =
     let enters = MayEnter (g.T.Tree.lists c.args.self.now.reader.tree.now) (g.T.Tree.gives c.args.self.now.reader.tree.now) in
     let s = c.args.self.now.reader.selection in
-    let exclude = c.args.self.now.exclude.now in
+    let top_texts = c.args.self.now.top_texts in
     let top = c.args.self.now.top in
     let path = c.args.path.now in
     let rest = c.names.rest.now in
@@ -182,7 +182,7 @@ returns-in-Err-clause-found g c =
     let here = c.in-Some.here.now in
     let stack = stack_at c.names.kept c.names.at in
     let end : slice_get stack (length stack - 1) ≡ Some here = sym c.last.ensures ∙ ap option_copied c.in-Some.is in
-    let last = at_last enters s exclude top stack path rest here (c.names.invariant.stacks c.names.at) c.names.invariant.stands end in
+    let last = at_last enters s top_texts top stack path rest here (c.names.invariant.stacks c.names.at) c.names.invariant.stands end in
     let job : c.here.inside.job ≡ here.job = ap (λ (w : OpenDirModel). w.job) c.here.view_is in
     let there : c.kind-there.result ≡ kind_in here.entries name = c.kind-there.ensures in
     let others = c.in-Some-others.others.now in
@@ -197,16 +197,16 @@ returns-in-Err-clause-found g c =
     ∙ c.if-not-is_directory.false in
     let entered = subst (λ o. Goes enters c.in_ok-job.job stack c.names.kept c.enter.new.kept (Ok o)) c.in-Err.is c.in_ok-child.ensures in
     let fault = fault_line_of c.in-Err.fault in
-    found_on enters s exclude top c.enter.new.kept c.names.at path c.args.as_dir (Fault c.in-Err.fault) c.on-in-Err.result
+    found_on enters s top_texts top c.enter.new.kept c.names.at path c.args.as_dir (Fault c.in-Err.fault) c.on-in-Err.result
     c.on-in-Err.ensures
-    (fault_explained enters s exclude top stack path rest here last c.requires.good name others at c.args.as_dir _ fault none inside
+    (fault_explained enters s top_texts top stack path rest here last c.requires.good name others at c.args.as_dir _ fault none inside
     (subst (λ j. enters j (Err fault)) child entered.0) refl)
 
 pub names-preserved : goal.names-preserved
 names-preserved g c =
     let enters = MayEnter (g.T.Tree.lists c.args.self.now.reader.tree.now) (g.T.Tree.gives c.args.self.now.reader.tree.now) in
     let s = c.args.self.now.reader.selection in
-    let exclude = c.args.self.now.exclude.now in
+    let top_texts = c.args.self.now.top_texts in
     let top = c.args.self.now.top in
     let path = c.args.path.now in
     let rest = c.names.rest.now in
@@ -214,7 +214,7 @@ names-preserved g c =
     let here = c.in-Some.here.now in
     let stack = stack_at c.names.kept c.names.at in
     let end : slice_get stack (length stack - 1) ≡ Some here = sym c.last.ensures ∙ ap option_copied c.in-Some.is in
-    let last = at_last enters s exclude top stack path rest here (c.names.invariant.stacks c.names.at) c.names.invariant.stands end in
+    let last = at_last enters s top_texts top stack path rest here (c.names.invariant.stacks c.names.at) c.names.invariant.stands end in
     let job : c.here.inside.job ≡ here.job = ap (λ (w : OpenDirModel). w.job) c.here.view_is in
     let there : c.kind-there.result ≡ kind_in here.entries name = c.kind-there.ensures in
     let others = c.in-Some-others.others.now in
@@ -229,14 +229,14 @@ names-preserved g c =
     ∙ c.if-not-is_directory.false in
     let entered = subst (λ o. Goes enters c.in_ok-job.job stack c.names.kept c.enter.new.kept (Ok o)) c.in-Ok.is c.in_ok-child.ensures in
     let longer_stack = stack ++ entered.0 ∷ [] in
-    let on = stack_on enters s exclude top stack path rest here last c.requires.good name others at entered.0
+    let on = stack_on enters s top_texts top stack path rest here last c.requires.good name others at entered.0
     (c.names.invariant.stacks c.names.at) none inside
     (entered_path (g.T.Tree.lists c.args.self.now.reader.tree.now)
     (g.T.Tree.gives c.args.self.now.reader.tree.now) c.in_ok-job.job entered.0
     entered.1 ∙ ap (λ (j : JobModel). j.path) child)
     (subst (λ j. enters j (Ok entered.0)) child entered.1) in
     record {
-      stacks = stacks_kept enters s exclude top c.names.kept c.enter.new.kept longer_stack c.in-Ok.child c.names.invariant.stacks on.0
+      stacks = stacks_kept enters s top_texts top c.names.kept c.enter.new.kept longer_stack c.in-Ok.child c.names.invariant.stacks on.0
           entered.2;
       stands = subst (λ l. StandsBelow l path others) (sym entered.2.is) on.1;
     }

@@ -6,7 +6,7 @@ use Rattle.lc_explain.proofs.explainer.Explainer.descend.Given as goal
 abbrev pub invariant-names : goal.invariant-names
 invariant-names g l = record {
   stacks : AreStacks (MayEnter (g.T.Tree.lists l.self.reader.tree.now) (g.T.Tree.gives l.self.reader.tree.now)) l.self.reader.selection
-      l.self.exclude.now l.self.top l.kept;
+      l.self.top_texts l.self.top l.kept;
   stands : StandsBelow (stack_at l.kept l.at) l.path l.rest;
 }
 

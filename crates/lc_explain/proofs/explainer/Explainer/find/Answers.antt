@@ -12,12 +12,13 @@ descend-requires-in-Ok-clause-stacks g c κs within =
     let gives = g.T.Tree.gives c.args.self.now.reader.tree.now in
     let enters = MayEnter lists gives in
     let s = c.args.self.now.reader.selection in
-    let exclude = c.args.self.now.exclude.now in
+    let top_texts = c.args.self.now.top_texts in
     let top = c.args.self.now.top in
     let entered = subst (λ o. Goes enters top [] c.args.kept.now c.enter.new.kept (Ok o)) c.in-Ok.is c.in_ok-at.ensures in
     let here = entered.0 in
-    stacks_kept enters s exclude top c.args.kept.now c.enter.new.kept (here ∷ []) c.in-Ok.at c.requires
-    (top_stack enters s exclude top c.args.path.now here (entered_path lists gives top here entered.1 ∙ c.args.self.now.starts) entered.1).0
+    stacks_kept enters s top_texts top c.args.kept.now c.enter.new.kept (here ∷ []) c.in-Ok.at c.requires
+    (top_stack enters s top_texts top c.args.path.now here (entered_path lists gives top here entered.1 ∙ c.args.self.now.starts)
+    entered.1).0
     entered.2
 
 pub descend-requires-in-Ok-clause-stands : goal.descend-requires-in-Ok-clause-stands
@@ -26,9 +27,10 @@ descend-requires-in-Ok-clause-stands g c κs within =
     let gives = g.T.Tree.gives c.args.self.now.reader.tree.now in
     let enters = MayEnter lists gives in
     let s = c.args.self.now.reader.selection in
-    let exclude = c.args.self.now.exclude.now in
+    let top_texts = c.args.self.now.top_texts in
     let top = c.args.self.now.top in
     let entered = subst (λ o. Goes enters top [] c.args.kept.now c.enter.new.kept (Ok o)) c.in-Ok.is c.in_ok-at.ensures in
     let here = entered.0 in
     subst (λ (l : DirStack). StandsBelow l c.args.path.now c.args.path.now) (sym entered.2.is)
-    (top_stack enters s exclude top c.args.path.now here (entered_path lists gives top here entered.1 ∙ c.args.self.now.starts) entered.1).1
+    (top_stack enters s top_texts top c.args.path.now here (entered_path lists gives top here entered.1 ∙ c.args.self.now.starts)
+    entered.1).1

@@ -8,6 +8,6 @@ use Rattle.lc_explain.proofs.output.ExplainOutput.push.Goals as goal
 
 pub returns-in-Fault-clause-outcome : goal.returns-in-Fault-clause-outcome
 returns-in-Fault-clause-outcome c =
-    sym (ap (λ f. if is_fault (explanation_of (cited c.args.exclude.now (stack_to c.args.kept.now c.args.found.now.to)) f) then SomeFaults
+    sym (ap (λ f. if is_fault (explanation_of (cited c.args.top_texts.now (stack_to c.args.kept.now c.args.found.now.to)) f) then SomeFaults
     else c.args.self.now.outcome)
     c.in-Fault.is)

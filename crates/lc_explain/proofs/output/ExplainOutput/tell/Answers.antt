@@ -10,8 +10,8 @@ returns-clause-told g c =
     let explainer = c.args.explainer.now in
     let Says : List ℕ → Bool → Explanation → Type 0 =
     IsExplained (MayEnter (g.T.Tree.lists explainer.reader.tree.now) (g.T.Tree.gives explainer.reader.tree.now)) explainer.reader.selection
-    explainer.exclude.now explainer.top in
-    let x = explanation_on explainer.exclude.now c.find.new.kept c.in_ok-found.found in
+    explainer.top_texts explainer.top in
+    let x = explanation_on explainer.top_texts c.find.new.kept c.in_ok-found.found in
     let here = subst (λ (d : Bool). Says c.split_slash-as_dir.result.0.now d x) c.split_slash-as_dir.ensures.dir
     c.in_ok-found.ensures.found in
     record {

@@ -12,4 +12,4 @@ returns-then-not-is_empty g c =
     let absent : there ≡ false = below_top c.args.directory.now (has_dir (codes ".git") c.args.listing.now)
     (sym c.is_empty.ensures ∙ c.if-not-is_empty.true) in
     no_git (g.T.Tree.lists c.args.self.now.tree.now) (g.T.Tree.gives c.args.self.now.tree.now) (law.some_content c.args.self.now.tree.now)
-    c.args.self.now.options.texts there c.none.result absent c.none.ensures
+    c.args.no_ignore c.args.self.now.options.texts there c.none.result absent c.none.ensures

@@ -10,13 +10,14 @@ top_of_length [] = refl
 top_of_length (b ∷ bs) = eqb-suc-zero (length bs)
 
 -- a directory's own two files, where they are asked for as those of a top or not
-abbrev asked : Bool → Bool → List ℕ → List EntryModel → PairAsked
-asked top texts directory entries = record {
+abbrev asked : (top no_ignore texts : Bool) → List ℕ → List EntryModel → PairAsked
+asked top no_ignore texts directory entries = record {
   directory = directory;
   entries = entries;
-  rules = (own_asked texts directory entries).rules;
-  attributes = (own_asked texts directory entries).attributes;
+  rules = (own_asked no_ignore texts directory entries).rules;
+  attributes = (own_asked no_ignore texts directory entries).attributes;
   top = top;
+  no_ignore = no_ignore;
   texts = texts;
 }
 
@@ -24,7 +25,8 @@ pub returns-clause-read : goal.returns-clause-read
 returns-clause-read g c =
     let texts = c.args.self.now.options.texts in
     let gives = g.T.Tree.gives c.args.self.now.tree.now in
-    let here = subst (λ (d : List ℕ). ReadsBoth gives (asked c.is_empty.result texts d c.args.listing.now) c.read_pair.result)
+    let here = subst (λ (d : List ℕ). ReadsBoth gives (asked c.is_empty.result c.args.no_ignore texts d c.args.listing.now)
+    c.read_pair.result)
     c.in-Ok.ensures c.read_pair.ensures.read in
-    subst (λ (b : Bool). ReadsBoth gives (asked b texts c.args.directory.now c.args.listing.now) c.read_pair.result)
+    subst (λ (b : Bool). ReadsBoth gives (asked b c.args.no_ignore texts c.args.directory.now c.args.listing.now) c.read_pair.result)
     (c.is_empty.ensures ∙ top_of_length c.args.directory.now) here

@@ -1,0 +1,6 @@
+use Rattle.std.proofs.Common.{codes}
+use Rattle.lc_arguments.specs.CommandLine.{flag_rule}
+use Rattle.lc_arguments.proofs.count.path_options.Goals as goal
+
+pub returns : goal.returns
+returns c = (c.only.ensures, (c.text_option.ensures, (c.with_short.ensures (flag_rule (codes "null")) c.flag.ensures, tt)))

@@ -1,0 +1,23 @@
+-- Options of a count that go together.
+use Rattle.std.specs.Prelude.{◌&&◌, ◌||◌, Bool, true, false, not, is_some, Option, Some}
+use Rattle.lc_view.specs.declared.table_options.Format.{Format}
+use Rattle.lc_view.specs.declared.table_options.Format.TheVariants.{Table, Csv, Markdown}
+use Rattle.lc_arguments.specs.declared.count.CountRequest.{CountRequest}
+
+-- a format was named in which rows have shares
+abbrev pub shows_shares : Option Format → Bool
+shows_shares (Some Table) = true
+shows_shares (Some Markdown) = true
+shows_shares _ = false
+
+-- the format was named that has records of one kind
+abbrev pub has_one_kind : Option Format → Bool
+has_one_kind (Some Csv) = true
+has_one_kind _ = false
+
+-- shares are shown in a format that has them; not both files and what is left out are listed in one that has records of one kind; and
+-- paths end with NUL where they come from a file
+abbrev pub fit_together : CountRequest → Bool
+fit_together c =
+    (not c.table.share || shows_shares c.table.format)
+    && (not (c.table.files && c.left_out && has_one_kind c.table.format) && (not c.null || is_some c.only_from))

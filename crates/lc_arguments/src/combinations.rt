@@ -1,0 +1,24 @@
+//! Options of a count that do not go together.
+
+ghost use Rattle.std.specs.Prelude.{◌≡◌, is_some, not};
+ghost use Rattle.lc_arguments.specs.Combinations.{fit_together};
+
+use crate::count::CountRequest;
+use lc_view::Format;
+
+/// Finds out why the options of a count do not go together.
+pub(crate) fn misfit(request: &CountRequest<'_>) -> Option<&'static str>
+    ensures { is_some result ≡ not (fit_together request.now) }
+{
+    let format = request.table.format;
+    if request.table.share && !matches!(format, Some(Format::Table | Format::Markdown)) {
+        return Some("'--share' needs '--format table' or '--format markdown'");
+    }
+    if request.table.files && request.left_out && matches!(format, Some(Format::Csv)) {
+        return Some("'--format csv' prints records of one kind: '--files' or '--left-out'");
+    }
+    if request.null && request.only_from.is_none() {
+        return Some("'--null' needs '--only-from <FILE>'");
+    }
+    None
+}

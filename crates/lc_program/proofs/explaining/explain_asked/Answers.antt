@@ -1,0 +1,24 @@
+use Rattle.std.proofs.Common.{inl, inr, refl}
+use Rattle.lc_program.proofs.Loading.{given_up}
+use Rattle.lc_program.specs.declared.cause.Cause.TheVariants.{Memory}
+use Rattle.lc_program.proofs.explaining.explain_asked.Goals as goal
+
+pub returns-in_err-rules : goal.returns-in_err-rules
+returns-in_err-rules g c =
+    inr (
+      c.in_err-rules.field-0.0,
+      inl c.in_err-rules.ensures,
+      given_up c.from_residual.result c.in_err-rules.field-0.0 c.from_residual.ensures.1,
+      refl,
+      refl,
+    )
+
+pub returns-in_err-tree : goal.returns-in_err-tree
+returns-in_err-tree g c =
+    inr (
+      Memory,
+      inr refl,
+      given_up c.from_residual-in_err-tree.result Memory c.from_residual-in_err-tree.ensures.1,
+      refl,
+      refl,
+    )

@@ -1,0 +1,65 @@
+-- How a count is answered, by what was read and written.
+use Rattle.std.specs.Prelude.{◌≡◌, ◌⊎◌, ◌||◌, ℕ, List, [], ◌++◌, map, Option, Some, None, Result, Ok, Err, Vec, is_some, option_map}
+use Rattle.std.specs.Borrow.{Bor}
+use Rattle.std.specs.Global.{Global}
+use Rattle.lc_arguments.specs.TableWords.{options_in}
+use Rattle.lc_arguments.specs.declared.count.CountRequest.{CountRequest}
+use Rattle.lc_census.specs.Reads.{Answer}
+use Rattle.lc_census.specs.declared.source.Failed.{Failed}
+use Rattle.lc_census.specs.declared.whole.WholeFault.{WholeFault}
+use Rattle.lc_level.specs.FaultLines.{FaultLineModel}
+use Rattle.lc_level.specs.RuleReads.{shared}
+use Rattle.lc_rules.specs.IgnoreRules.{rules_of}
+use Rattle.lc_table.specs.Runs.{AnswersRun}
+use Rattle.lc_table.specs.declared.running.RunFault.{RunFault}
+use Rattle.lc_view.specs.declared.table_options.Format.{Format}
+use Rattle.lc_walk.specs.Walks.{Walks}
+use Rattle.lc_walk.specs.declared.options.Options.{Options}
+use Rattle.lc_program.specs.Causes.{list_cause}
+use Rattle.lc_program.specs.PathLists.{AnswersList, AnswersWanted}
+use Rattle.lc_program.specs.Replies.{Reply, ran}
+use Rattle.lc_program.specs.Rules.{AreRulesOf, LacksRules}
+use Rattle.lc_program.specs.Styles.{end_for}
+use Rattle.lc_program.specs.Systems.{SystemMay}
+use Rattle.lc_program.specs.declared.asked_rules.AskedRules.{AskedRules}
+use Rattle.lc_program.specs.declared.cause.Cause.{Cause}
+use Rattle.lc_program.specs.declared.cause.Cause.TheVariants.{Memory}
+
+-- options that ask for what the words of a count ask, with these rules and these paths
+pub record IsAskedBy (c : CountRequest) (rules : AskedRules) (only : List (List ℕ)) (o : Options) : Type 0 where
+  pub threads : o.threads ≡ c.threads
+  pub max_dirs : o.max_dirs ≡ c.max_dirs
+  pub files : o.lists.files ≡ (c.table.files || is_some c.table.by.dir)
+  pub left_out : o.lists.left_out ≡ c.left_out
+  pub exclude : shared o.exclude ≡ option_map rules_of rules.exclude
+  pub command_line : shared o.command_line ≡ option_map rules_of rules.command_line
+  pub no_ignore : o.no_ignore ≡ c.exclusions.no_ignore
+  pub archive : o.archive ≡ c.exclusions.archive
+  pub without : o.without.now ≡ c.exclusions.without.items
+  pub include : shared o.include ≡ option_map rules_of rules.include
+  pub paths : map (λ path. path.now) o.only.now ≡ only
+
+module _ (may : SystemMay) {I O : Type 0} (may_give : I → ℕ → Answer → I → Type 0)
+    (may_take : O → List ℕ → Result ℕ Failed → O → Type 0) (other : Format) (c : CountRequest) where
+  -- the paths that the words ask for, with those of the list that they name, or why there are none
+  abbrev pub AnswersPathsOf : I → Result (Vec (Bor (List ℕ)) Global) Cause → I → Type 0
+  AnswersPathsOf input answer read =
+      ((list : Vec ℕ Global) × AnswersList may_give may.hold c.only_from input (Ok list) read
+      × AnswersWanted (map (λ path. path.now) c.only.items) c.only_from (end_for c.null) list.items answer)
+      ⊎ ((fault : WholeFault) × AnswersList may_give may.hold c.only_from input (Err fault) read × (answer ≡ Err (list_cause fault)))
+
+  -- a run over the tree of the directory that the words name, by what they ask; the table has this format if they name none
+  abbrev pub Runs : I → O → Reply → I → O → Type 0
+  Runs input out reply read wrote =
+      (rules : AskedRules) × AreRulesOf may.hold c.exclusions rules
+      × ((paths : Vec (Bor (List ℕ)) Global) × AnswersPathsOf input (Ok paths) read
+      × ((o : Options) × IsAskedBy c rules (map (λ path. path.now) paths.items) o
+      × ((answer : Result (Vec FaultLineModel Global) RunFault) × (reply ≡ ran answer)
+      × AnswersRun may_take (Walks (may.list c.directory.now) (may.give c.directory.now) o) (options_in other c.table) out answer wrote)))
+
+  -- such a run; or there were no rules or no memory, and nothing was read; or there were no paths; then nothing was written
+  abbrev pub AnswersCount : I → O → Reply → I → O → Type 0
+  AnswersCount input out reply read wrote =
+      Runs input out reply read wrote
+      ⊎ ((cause : Cause) × (reply ≡ Err cause) × (wrote ≡ out)
+      × (((LacksRules may.hold c.exclusions cause ⊎ (cause ≡ Memory)) × (read ≡ input)) ⊎ AnswersPathsOf input (Err cause) read))

@@ -1,0 +1,82 @@
+-- The list of paths that words name, in a file or on the input.
+use Rattle.std.specs.Prelude.{◌≡◌, ◌≢◌, ◌⊎◌, ◌≤◌, ◌+◌, ℕ, true, false, List, [], ◌∷◌, ◌++◌, map, length, Option, Some, None}
+use Rattle.std.specs.Prelude.{Result, Ok, Err, Vec, bytes_eq, cond, codes, string_bytes}
+use Rattle.std.specs.Borrow.{Bor}
+use Rattle.std.specs.Global.{Global}
+use Rattle.std.specs.List.{concat, list_any}
+use Rattle.lc_census.specs.Reads.{Answer, at_end, at_failure, at_neither}
+use Rattle.lc_census.specs.Whole.{AnswersWhole}
+use Rattle.lc_census.specs.declared.whole.WholeFault.{WholeFault}
+use Rattle.lc_census.specs.declared.whole.WholeFault.TheVariants.{Read, TooLong, Memory}
+use Rattle.lc_text.specs.Lines.{input_paths_of}
+use Rattle.lc_text.specs.PathLines.{is_bad_path, path_of}
+use Rattle.lc_text.specs.Visible.{visible_bytes}
+use Rattle.lc_text.specs.declared.lines.PathEnd.{PathEnd}
+use Rattle.lc_tree.specs.Trees.{Contents}
+use Rattle.lc_program.specs.Causes.{bad_path_line, no_path_line}
+use Rattle.lc_program.specs.declared.cause.Cause.{Cause}
+use Rattle.lc_program.specs.declared.cause.Cause.TheVariants as cause
+
+-- the most bytes of a list
+abbrev pub max_list : ℕ
+max_list = 268435456
+
+-- a list that is read whole, up to that limit; or the reads failed, or gave more bytes
+abbrev pub ReadsList : {I : Type 0} → (I → ℕ → Answer → I → Type 0) → I → Result (Vec ℕ Global) WholeFault → I → Type 0
+ReadsList may_give old (Ok bytes) new = AnswersWhole may_give max_list old (Ok tt) bytes.items new
+ReadsList may_give old (Err Read) new = (bytes : List ℕ) × AnswersWhole may_give max_list old (Err Read) bytes new
+ReadsList may_give old (Err TooLong) new = (bytes : List ℕ) × AnswersWhole may_give max_list old (Err TooLong) bytes new
+ReadsList may_give old (Err Memory) new = Unit {0}
+
+-- the list in a file of which these reads may come
+abbrev pub LoadsList : Contents → Result (Vec ℕ Global) WholeFault → Type 0
+LoadsList gives (Ok bytes) =
+    (pieces : List (List ℕ)) × gives pieces at_end × (concat pieces ≡ bytes.items) × (length bytes.items ≤ max_list)
+LoadsList gives (Err Read) = (pieces : List (List ℕ)) × gives pieces at_failure × (length (concat pieces) ≤ max_list)
+LoadsList gives (Err TooLong) = (pieces : List (List ℕ)) × gives pieces at_neither × (length (concat pieces) ≡ max_list + 1)
+LoadsList gives (Err Memory) = Unit {0}
+
+module _ {I : Type 0} (may_give : I → ℕ → Answer → I → Type 0) (holds : List ℕ → Contents) where
+  -- the list of this name: `-` is the input, and any other name a file's
+  abbrev pub ReadsNamed : List ℕ → I → Result (Vec ℕ Global) WholeFault → I → Type 0
+  ReadsNamed name input answer read =
+      ((name ≡ codes "-") × ReadsList may_give input answer read)
+      ⊎ ((name ≢ codes "-") × LoadsList (holds name) answer × (read ≡ input))
+
+  -- the list that the words name; none has no bytes
+  abbrev pub AnswersList : Option (Bor (List ℕ)) → I → Result (Vec ℕ Global) WholeFault → I → Type 0
+  AnswersList None input (Ok bytes) read = (bytes.items ≡ []) × (read ≡ input)
+  AnswersList None input (Err fault) read = ⊥
+  AnswersList (Some name) input answer read = ReadsNamed name.now input answer read
+
+-- the paths of a list, in its order, each without one slash at its end
+abbrev pub paths_listed : PathEnd → List ℕ → List (List ℕ)
+paths_listed end list = map path_of (input_paths_of end list)
+
+-- a list has no path, or its first one that no entry can have
+pub record IsFirstBad (end : PathEnd) (list path : List ℕ) : Type 0 where
+  pub before : List (List ℕ)
+  pub after : List (List ℕ)
+  pub are : input_paths_of end list ≡ before ++ path ∷ after
+  pub fine : list_any is_bad_path (map path_of before) ≡ false
+  pub bad : is_bad_path (path_of path) ≡ true
+
+-- the paths of the list of this name; or it has none, or one that no entry can have
+abbrev pub AnswersListed : List ℕ → PathEnd → List ℕ → Result (Vec (Bor (List ℕ)) Global) Cause → Type 0
+AnswersListed name end list (Ok paths) =
+    (map (λ path. path.now) paths.items ≡ paths_listed end list) × (list_any is_bad_path (paths_listed end list) ≡ false)
+    × (paths_listed end list ≢ [])
+AnswersListed name end list (Err (cause.BadPaths line)) =
+    ((path : List ℕ) × IsFirstBad end list path × (string_bytes line ≡ bad_path_line name path))
+    ⊎ ((paths_listed end list ≡ []) × (string_bytes line ≡ no_path_line name))
+AnswersListed name end list (Err cause.Memory) = Unit {0}
+AnswersListed name end list (Err _) = ⊥
+
+-- the paths of the words, and then those of the list that they name
+abbrev pub AnswersWanted : List (List ℕ) → Option (Bor (List ℕ)) → PathEnd → List ℕ → Result (Vec (Bor (List ℕ)) Global) Cause → Type 0
+AnswersWanted only None end list (Ok paths) = map (λ path. path.now) paths.items ≡ only
+AnswersWanted only (Some name) end list (Ok paths) =
+    (map (λ path. path.now) paths.items ≡ only ++ paths_listed end list) × (list_any is_bad_path (paths_listed end list) ≡ false)
+    × (paths_listed end list ≢ [])
+AnswersWanted only None end list (Err why) = why ≡ cause.Memory
+AnswersWanted only (Some name) end list (Err why) = AnswersListed name.now end list (Err why)

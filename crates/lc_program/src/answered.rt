@@ -1,0 +1,37 @@
+//! The answers to requests.
+
+ghost use Rattle.std.specs.Prelude.{◌≡◌};
+ghost use Rattle.lc_program.specs.Replies.{outcome_of};
+
+use lc_text::Outcome;
+use lc_walk::FaultLine;
+
+/// The answer that was written to a request.
+#[derive(Drop)]
+pub(crate) enum Answered {
+    /// A check of paths, which names no fault.
+    Checked,
+    /// An explanation of paths.
+    Explained(Outcome),
+    /// A count, and what could not be read.
+    Counted(Vec<FaultLine>),
+}
+
+impl Answered {
+    /// Returns whether the answer names a fault.
+    pub(crate) fn outcome(&self) -> Outcome
+        ensures { result ≡ outcome_of self.now }
+    {
+        match self {
+            Answered::Checked => Outcome::Clean,
+            Answered::Explained(outcome) => *outcome,
+            Answered::Counted(faults) => {
+                if faults.is_empty() {
+                    Outcome::Clean
+                } else {
+                    Outcome::SomeFaults
+                }
+            }
+        }
+    }
+}

@@ -1,0 +1,100 @@
+//! Answering checks of paths.
+
+ghost use Rattle.std.specs.Prelude.{◌≡◌, true, false};
+ghost use Rattle.lc_program.specs.Requests.{AnswersFile, AnswersJoined};
+ghost use Rattle.lc_program.specs.Styles.{end_for, format_with};
+
+use crate::answered::Answered;
+use crate::cause::Cause;
+use crate::rules_file::rule_text_of_file;
+use crate::system::System;
+use lc_arguments::CheckRequest;
+use lc_census::Source;
+use lc_check::{check, check_explained, check_joined};
+use lc_text::{PathEnd, PathFormat, PathStyle, Sink};
+use std::alloc::Global;
+
+/// Returns the byte that ends each path of the input, by `--null`.
+pub(crate) fn path_end(null: bool) -> PathEnd
+    ensures { result ≡ end_for null }
+{
+    if null {
+        PathEnd::Nul
+    } else {
+        PathEnd::LineFeed
+    }
+}
+
+/// Checks the paths of the input by the rules of a file, which is read first.
+fn check_plainly<Y: System, S: Source, O: Sink>(
+    alloc: Global,
+    system: &Y,
+    file: &str,
+    format: PathFormat,
+    input: &mut S,
+    out: &mut O,
+) -> Result<Answered, Cause>
+    ensures { AnswersFile S.may_give O.may_take (Y.holds system.now) format file.entry.now false input.old out.old result input.new
+        out.new }
+{
+    let text = rule_text_of_file(alloc, system, file)?;
+    check(alloc, text.rules(), format, input, out)?;
+    Ok(Answered::Checked)
+}
+
+/// Checks the paths of the input by the rules of a file, which is read first, and names the rule that decides each.
+fn check_explaining<Y: System, S: Source, O: Sink>(
+    alloc: Global,
+    system: &Y,
+    file: &str,
+    format: PathFormat,
+    input: &mut S,
+    out: &mut O,
+) -> Result<Answered, Cause>
+    ensures { AnswersFile S.may_give O.may_take (Y.holds system.now) format file.entry.now true input.old out.old result input.new
+        out.new }
+{
+    let text = rule_text_of_file(alloc, system, file)?;
+    check_explained(alloc, file.as_bytes(), &text, format, input, out)?;
+    Ok(Answered::Checked)
+}
+
+/// Checks the paths of the input by the rules of the file that a command line names.
+pub(crate) fn check_file<Y: System, S: Source, O: Sink>(
+    alloc: Global,
+    system: &Y,
+    asked: &CheckRequest<'_>,
+    style: PathStyle,
+    input: &mut S,
+    out: &mut O,
+) -> Result<Answered, Cause>
+    ensures { AnswersFile S.may_give O.may_take (Y.holds system.now) (format_with asked.now.null style) asked.now.file.now
+        asked.now.explain input.old out.old result input.new out.new }
+{
+    let format = PathFormat {
+        end: path_end(asked.null),
+        style,
+    };
+    if asked.explain {
+        check_explaining(alloc, system, asked.file, format, input, out)
+    } else {
+        check_plainly(alloc, system, asked.file, format, input, out)
+    }
+}
+
+/// Checks paths by rules, both from the input.
+pub(crate) fn check_input<S: Source, O: Sink>(
+    alloc: Global,
+    style: PathStyle,
+    input: &mut S,
+    out: &mut O,
+) -> Result<Answered, Cause>
+    ensures { AnswersJoined S.may_give O.may_take (format_with false style) input.old out.old result input.new out.new }
+{
+    let format = PathFormat {
+        end: PathEnd::LineFeed,
+        style,
+    };
+    check_joined(alloc, format, input, out)?;
+    Ok(Answered::Checked)
+}

@@ -1,0 +1,81 @@
+//! Answering counts.
+
+ghost use Rattle.std.specs.Prelude.{map};
+ghost use Rattle.lc_arguments.specs.Words.{IsCountWithinLimits};
+ghost use Rattle.lc_program.specs.Counts.{AnswersCount, IsAskedBy};
+ghost use Rattle.lc_program.specs.Rules.{Share};
+ghost use Rattle.lc_program.specs.Systems.{system_may};
+ghost use Rattle.lc_program.specs.declared.asked_rules.AskedRules.{AskedRules as AskedRulesModel};
+
+use crate::answered::Answered;
+use crate::asked_rules::{AskedRules, SharedRules};
+use crate::cause::Cause;
+use crate::checking::path_end;
+use crate::path_list::{list_of, wanted_paths};
+use crate::system::System;
+use lc_arguments::{CountRequest, MAX_DIRS, MAX_THREADS};
+use lc_board::limits::{MAX_CAPACITY, MAX_WORKERS};
+use lc_census::Source;
+use lc_table::run;
+use lc_text::Sink;
+use lc_view::Format;
+use lc_walk::{Options, ReportLists};
+use std::sync::Wait;
+use std::thread::Threads;
+
+// A count may be asked for as many threads and directories as a walk can have.
+const _: () = prove!(MAX_THREADS == MAX_WORKERS && MAX_DIRS == MAX_CAPACITY);
+
+/// Makes the options of a walk that the command line asks for. Rows by directory need the report's files.
+fn options_of<'o>(
+    asked: &'o CountRequest<'_>,
+    rules: SharedRules,
+    only: &'o [&'o [u8]],
+) -> Options<'o>
+    ensures { (texts : AskedRulesModel) → Share texts rules
+        → IsAskedBy asked.entry.now texts (map (λ path. path.now) only.entry.now) result }
+{
+    Options {
+        threads: asked.threads,
+        max_dirs: asked.max_dirs,
+        lists: ReportLists {
+            files: asked.table.files || asked.table.by.dir.is_some(),
+            left_out: asked.left_out,
+        },
+        exclude: rules.exclude,
+        command_line: rules.command_line,
+        no_ignore: asked.exclusions.no_ignore,
+        archive: asked.exclusions.archive,
+        without: &asked.exclusions.without,
+        include: rules.include,
+        only,
+    }
+}
+
+/// Counts a directory and prints the table, in this format if the command line names none.
+pub(crate) fn count<R: Threads + Wait + Sync + AllocGlobal, Y: System, S: Source, O: Sink>(
+    rt: &R,
+    system: &Y,
+    asked: &CountRequest<'_>,
+    format: Format,
+    input: &mut S,
+    out: &mut O,
+) -> Result<Answered, Cause>
+    requires limits { IsCountWithinLimits asked.now }
+    ensures { AnswersCount (system_may (λ dir. Y.Tree.lists (Y.tree system.now dir)) (λ dir. Y.Tree.gives (Y.tree system.now dir))
+        (Y.holds system.now) (Y.lies system.now)) S.may_give O.may_take format asked.now input.old out.old result input.new out.new }
+{
+    let rules = AskedRules::read(rt.alloc(), system, &asked.exclusions)?;
+    let shared = rules.shared()?;
+    let tree = system.tree(rt.alloc(), asked.directory)?;
+    let list = list_of(rt.alloc(), system, asked.only_from, input)?;
+    let listed = list.as_slice();
+    let only = asked.only.as_slice();
+    let end = path_end(asked.null);
+    let wanted = wanted_paths(rt.alloc(), only, asked.only_from, end, listed)?;
+    let paths = wanted.as_slice();
+    let options = options_of(asked, shared, paths);
+    let table = asked.table.options(format);
+    let faults = run(rt, rt.alloc(), &tree, &options, table, out)?;
+    Ok(Answered::Counted(faults))
+}

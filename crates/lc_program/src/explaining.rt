@@ -1,0 +1,73 @@
+//! Answering explanations of paths.
+
+ghost use Rattle.lc_program.specs.Requests.{AnswersExplanation, AnswersPaths};
+ghost use Rattle.lc_program.specs.Systems.{system_may};
+
+use crate::answered::Answered;
+use crate::asked_rules::AskedRules;
+use crate::cause::Cause;
+use crate::checking::path_end;
+use crate::system::System;
+use lc_arguments::ExplainRequest;
+use lc_census::Source;
+use lc_explain::{ExplainOptions, explain, explain_words};
+use lc_level::Selection;
+use lc_text::{PathStyle, Sink};
+use lc_tree::Tree;
+use std::alloc::Global;
+
+/// Explains the paths of the command line, or those of the input if there are none.
+fn explain_paths<T: Tree, S: Source, O: Sink>(
+    alloc: Global,
+    tree: &T,
+    options: &ExplainOptions<'_>,
+    asked: &ExplainRequest<'_>,
+    input: &mut S,
+    out: &mut O,
+) -> Result<Answered, Cause>
+    ensures { AnswersPaths (T.lists tree.now) (T.gives tree.now) S.may_give O.may_take options.now asked.now.null asked.now.paths.items
+        input.old out.old result input.new out.new }
+{
+    if asked.paths.is_empty() {
+        let end = path_end(asked.null);
+        let outcome = explain(alloc, tree, options, end, input, out)?;
+        return Ok(Answered::Explained(outcome));
+    }
+    let outcome = explain_words(alloc, tree, options, &asked.paths, out)?;
+    Ok(Answered::Explained(outcome))
+}
+
+/// Explains paths of a directory, by its rules and those of the command line.
+pub(crate) fn explain_asked<Y: System, S: Source, O: Sink>(
+    alloc: Global,
+    system: &Y,
+    asked: &ExplainRequest<'_>,
+    style: PathStyle,
+    input: &mut S,
+    out: &mut O,
+) -> Result<Answered, Cause>
+    ensures { AnswersExplanation (system_may (λ dir. Y.Tree.lists (Y.tree system.now dir)) (λ dir. Y.Tree.gives (Y.tree system.now dir))
+        (Y.holds system.now) (Y.lies system.now)) S.may_give O.may_take style asked.now input.old out.old result input.new
+        out.new }
+{
+    let rules = AskedRules::read(alloc, system, &asked.exclusions)?;
+    let AskedRules {
+        exclude,
+        command_line,
+        include,
+    } = rules;
+    let tree = system.tree(alloc, asked.directory)?;
+    let patterns = match &include {
+        Some(text) => Some(text.rules()),
+        None => None,
+    };
+    let selection = Selection::new(asked.exclusions.archive, &asked.exclusions.without);
+    let options = ExplainOptions {
+        exclude,
+        command_line,
+        no_ignore: asked.exclusions.no_ignore,
+        selection: selection.including(patterns),
+        style,
+    };
+    explain_paths(alloc, &tree, &options, asked, input, out)
+}

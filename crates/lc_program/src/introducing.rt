@@ -1,0 +1,43 @@
+//! The line on standard error that says what is read if standard input is a terminal.
+
+ghost use Rattle.std.specs.Prelude.{◌≡◌};
+ghost use Rattle.lc_program.specs.Introductions.{Introduces, reads_paths};
+
+use lc_arguments::Request;
+use lc_text::{Sink, print};
+
+/// Returns whether a request reads paths from the input.
+fn reads_paths(request: &Request<'_>) -> bool
+    ensures { result ≡ reads_paths request.now }
+{
+    match request {
+        Request::CheckJoined => false,
+        Request::Check(_) => true,
+        Request::Count(asked) => match asked.only_from {
+            Some(name) => name == "-",
+            None => false,
+        },
+        Request::Explain(asked) => asked.paths.is_empty(),
+    }
+}
+
+/// Says what a request reads from the input if that is a terminal. Without this line the program would seem to hang.
+pub(crate) fn introduce<E: Sink>(request: &Request<'_>, stdin_is_terminal: bool, err: &mut E)
+    ensures { Introduces E.may_take stdin_is_terminal request.now err.old err.new }
+{
+    if !stdin_is_terminal {
+        return;
+    }
+    // Help says it too, so a line that can't be written changes nothing.
+    if matches!(request, Request::CheckJoined) {
+        let _ = print(
+            err,
+            b"lc: reads the lines of an ignore file, a line --, and paths from standard input; lc --help says more\n",
+        );
+    } else if reads_paths(request) {
+        let _ = print(
+            err,
+            b"lc: reads paths from standard input; lc --help says more\n",
+        );
+    }
+}

@@ -1,0 +1,125 @@
+//! The paths that the file of `--only-from` lists.
+
+ghost use Rattle.std.specs.Prelude.{◌≡◌, map, string_bytes, IfOk};
+ghost use Rattle.lc_program.specs.Causes.{bad_path_line, no_path_line};
+ghost use Rattle.lc_program.specs.PathLists.{AnswersList, AnswersListed, AnswersWanted, LoadsList, ReadsList};
+
+use crate::cause::Cause;
+use crate::system::System;
+use lc_census::{Source, WholeFault, new_buffer, read_whole};
+use lc_text::{PathEnd, is_bad_path, push_visible, split_path, split_slash};
+use lc_tree::ReadFault;
+use std::alloc::{AllocError, Global};
+
+/// The most bytes of a list of paths.
+const MAX_LIST: usize = 268_435_456;
+
+/// Reads a list of paths to its end, or up to the first byte past [`MAX_LIST`].
+fn read_list<S: Source>(alloc: Global, list: &mut S) -> Result<Vec<u8>, WholeFault>
+    ensures { ReadsList S.may_give list.old result list.new }
+{
+    let Ok(mut buffer) = new_buffer(alloc) else {
+        return Err(WholeFault::Memory);
+    };
+    let mut bytes = Vec::new(alloc);
+    match read_whole(&mut buffer, &mut bytes, list, MAX_LIST) {
+        Ok(()) => Ok(bytes),
+        Err(fault) => Err(fault),
+    }
+}
+
+/// Reads the list of paths in the file with this name.
+fn list_in_file<Y: System>(alloc: Global, system: &Y, name: &str) -> Result<Vec<u8>, WholeFault>
+    ensures { LoadsList (Y.holds system.now name.now) result }
+{
+    let mut file = match system.open_file(alloc, name) {
+        Ok(file) => file,
+        Err(ReadFault::Memory) => return Err(WholeFault::Memory),
+        Err(_) => return Err(WholeFault::Read),
+    };
+    read_list(alloc, &mut file)
+}
+
+/// Reads the list of paths that a command line names: that of a file, or `-` for the one of the input.
+pub(crate) fn list_of<Y: System, S: Source>(
+    alloc: Global,
+    system: &Y,
+    file: Option<&str>,
+    input: &mut S,
+) -> Result<Vec<u8>, WholeFault>
+    ensures { AnswersList S.may_give (Y.holds system.now) file.entry input.old result input.new }
+{
+    match file {
+        None => Ok(Vec::new(alloc)),
+        Some("-") => read_list(alloc, input),
+        Some(name) => list_in_file(alloc, system, name),
+    }
+}
+
+fn bad_path_line(alloc: Global, file: &str, path: &[u8]) -> Result<String, AllocError>
+    ensures { IfOk result (λ line. string_bytes line ≡ bad_path_line file.now path.now) }
+{
+    let mut line = String::from_str(alloc, "lc: bad path in ")?;
+    push_visible(&mut line, file.as_bytes())?;
+    line.push_str(": ")?;
+    push_visible(&mut line, path)?;
+    line.push_str("\n")?;
+    Ok(line)
+}
+
+fn no_path_line(alloc: Global, file: &str) -> Result<String, AllocError>
+    ensures { IfOk result (λ line. string_bytes line ≡ no_path_line file.now) }
+{
+    let mut line = String::from_str(alloc, "lc: no path in ")?;
+    push_visible(&mut line, file.as_bytes())?;
+    line.push_str("\n")?;
+    Ok(line)
+}
+
+/// Reads the paths of a list, and drops a slash at the end of each.
+fn paths_of<'l>(
+    alloc: Global,
+    file: &str,
+    end: PathEnd,
+    list: &'l [u8],
+) -> Result<Vec<&'l [u8]>, Cause>
+    ensures { AnswersListed file.now end list.now result }
+{
+    let mut paths = Vec::new(alloc);
+    let mut rest = list;
+    'paths: while !rest.is_empty() {
+        let (line, others) = split_path(end, rest);
+        let (path, _) = split_slash(line);
+        if is_bad_path(path) {
+            return Err(Cause::BadPaths(bad_path_line(alloc, file, line)?));
+        }
+        paths.push(path)?;
+        rest = others;
+    }
+    if paths.is_empty() {
+        return Err(Cause::BadPaths(no_path_line(alloc, file)?));
+    }
+    Ok(paths)
+}
+
+/// Joins the paths of the command line with those of the list that it names.
+pub(crate) fn wanted_paths<'w: 'l, 'l>(
+    alloc: Global,
+    only: &[&'w [u8]],
+    file: Option<&str>,
+    end: PathEnd,
+    list: &'l [u8],
+) -> Result<Vec<&'l [u8]>, Cause>
+    ensures { AnswersWanted (map (λ path. path.now) only.now) file.entry end list.now result }
+{
+    let mut wanted = Vec::new(alloc);
+    for path in only {
+        wanted.push(*path)?;
+    }
+    let Some(file) = file else {
+        return Ok(wanted);
+    };
+    let listed = paths_of(alloc, file, end, list)?;
+    wanted.extend_from_slice(&listed)?;
+    Ok(wanted)
+}

@@ -1,0 +1,88 @@
+-- What is true of the rows of directories.
+use Rattle.std.proofs.Common.{◌≡◌, ℕ, Bool, true, false, cond, ◌||◌, List, [], ◌∷◌, map, length, get_or, suc, refl, sym, ◌∙◌, ap}
+use Rattle.std.proofs.Common.{arith}
+use Rattle.std.specs.List.{AllByRecursion, filter, list_any, sum_by}
+use Rattle.std.specs.List.Sorted.{IsPermutation, IsStrictlySortedBy}
+use Rattle.std.specs.Ordering.{is_eq}
+use Rattle.std.specs.declared.cmp.Ordering.TheVariants.{Less, Equal}
+use Rattle.std.proofs.lemmas.Cmp.{tied_itself}
+use Rattle.std.proofs.lemmas.List.{get_or-map, length-map}
+use Rattle.std.proofs.lemmas.List.Folds.{list_any_at}
+use Rattle.std.proofs.lemmas.List.Sorted.{sum_by-IsPermutation}
+use Rattle.std.proofs.lemmas.List.Sums.{length-filter}
+use Rattle.lc_view.specs.declared.table_options.Columns.{Columns}
+use Rattle.lc_walk.proofs.Filtered.{part, sum_by-filter}
+use Rattle.lc_walk.proofs.Keys.{equal_if}
+use Rattle.lc_walk.proofs.RowSums.{same_sums}
+use Rattle.lc_walk.specs.ReportLines.{FileLineModel}
+use Rattle.lc_walk.specs.Sums.{one_file}
+use Rattle.lc_walk.specs.declared.tally.sums.Sums.{Sums}
+use Rattle.lc_rows.specs.Laws.{DirectoriesLaw, OneRowLaw, file_row_key, sums_of_lines}
+use Rattle.lc_rows.specs.RowKeys.{RowKey, ShownRowModel, AreInRowOrder, has_within, row_key, row_key_cmp, rows_within, same_row_key}
+use Rattle.lc_rows.specs.RowKeys.{sums_of_shown}
+use Rattle.lc_rows.specs.ShownRows.{part_of_file}
+use Rattle.lc_rows.proofs.Folding.{alike_permuted, alike_sums}
+use Rattle.lc_rows.proofs.RowLaws.{moved, sum_by-map}
+use Rattle.lc_rows.proofs.SameKeys.{row_key_cmp_total}
+
+-- the sums over the parts of a set of keys are those over their files
+file_sums : (n : ℕ) (by : Columns) (keys : RowKey → Bool) (fs : List FileLineModel)
+    → sums_of_shown (rows_within keys (map (part_of_file by n) fs)) ≡ sums_of_lines (filter (λ f. keys (file_row_key n by f)) fs)
+file_sums n by keys fs =
+    let p : ShownRowModel → Bool = λ r. keys (row_key r) in
+    let q : FileLineModel → Bool = λ f. keys (file_row_key n by f) in
+    let one : (v : Sums → ℕ) → sum_by (λ (r : ShownRowModel). v r.sums) (filter p (map (part_of_file by n) fs))
+    ≡ sum_by (λ (f : FileLineModel). v (one_file f.count)) (filter q fs) =
+    λ v. sum_by-filter p (λ (r : ShownRowModel). v r.sums) (map (part_of_file by n) fs)
+    ∙ sum_by-map (part p (λ (r : ShownRowModel). v r.sums)) (part_of_file by n) fs
+    ∙ sym (sum_by-filter q (λ (f : FileLineModel). v (one_file f.count)) fs) in
+    same_sums _ _ (one (λ s. s.files)) (one (λ s. s.lines)) (one (λ s. s.blank)) (one (λ s. s.bytes))
+
+-- the rows of a directory and a key have the sums over its files
+pub directories_law : DirectoriesLaw
+directories_law n by sort rs fs shown k h =
+    alike_sums h.0 shown (alike_permuted h.0 shown (moved sort h.0 shown h.2)) (same_row_key k) ∙ h.1.sums (same_row_key k)
+    ∙ file_sums n by (same_row_key k) fs
+
+-- no row after the one of a key has this key
+none_after : (k x : RowKey) (rows : List ShownRowModel) → row_key_cmp k x ≡ Equal
+    → AllByRecursion (λ y. row_key_cmp x y ≡ Less) (map row_key rows) → length (rows_within (same_row_key k) rows) ≡ 0
+none_after k x [] same above = refl
+none_after k x (r ∷ rs) same above =
+    let other : same_row_key k (row_key r) ≡ false = ap is_eq (row_key_cmp_total.congr k x (row_key r) same ∙ above.0) in
+    ap (λ b. length (cond b (r ∷ rows_within (same_row_key k) rs) (rows_within (same_row_key k) rs))) other
+    ∙ none_after k x rs same above.1
+
+-- where keys rise, and some row has the key, one has
+module _ (k : RowKey) where
+  single_at : (r : ShownRowModel) (rs : List ShownRowModel) (b : Bool) → same_row_key k (row_key r) ≡ b
+      → (list_any (λ (x : ShownRowModel). same_row_key k (row_key x)) rs ≡ true → length (rows_within (same_row_key k) rs) ≡ 1)
+      → AllByRecursion (λ y. row_key_cmp (row_key r) y ≡ Less) (map row_key rs)
+      → (b || list_any (λ (x : ShownRowModel). same_row_key k (row_key x)) rs) ≡ true
+      → length (cond b (r ∷ rows_within (same_row_key k) rs) (rows_within (same_row_key k) rs)) ≡ 1
+  single_at r rs true same later above some = ap suc (none_after k (row_key r) rs (equal_if _ same) above)
+  single_at r rs false other later above some = later some
+
+  single : (rows : List ShownRowModel) → AreInRowOrder rows → has_within (same_row_key k) rows ≡ true
+      → length (rows_within (same_row_key k) rows) ≡ 1
+  unfolding IsStrictlySortedBy
+  single [] order some = absurd (cc)
+  single (r ∷ rs) order some = single_at r rs _ refl (single rs order.1) order.0 some
+
+-- as many rows pass a test in another order
+moved_many : (p : ShownRowModel → Bool) (xs ys : List ShownRowModel) → IsPermutation xs ys → length (filter p ys) ≡ length (filter p xs)
+moved_many p xs ys h = length-filter p ys ∙ sum_by-IsPermutation (part p (λ _. 1)) xs ys h ∙ sym (length-filter p xs)
+
+-- each file is in exactly one row
+pub one_row_law : OneRowLaw
+one_row_law n by sort rs fs shown h = λ i d within.
+    let k : RowKey = file_row_key n by (get_or fs i d) in
+    let made : ShownRowModel = part_of_file by n d in
+    let read : get_or (map (part_of_file by n) fs) i made ≡ part_of_file by n (get_or fs i d) = get_or-map (part_of_file by n) fs i d made within in
+    let own : same_row_key k (row_key (get_or (map (part_of_file by n) fs) i made)) ≡ true =
+    ap (λ (r : ShownRowModel). same_row_key k (row_key r)) read ∙ ap is_eq (tied_itself row_key_cmp_total k) in
+    let some : has_within (same_row_key k) (map (part_of_file by n) fs) ≡ true =
+    list_any_at (λ (r : ShownRowModel). same_row_key k (row_key r)) (map (part_of_file by n) fs) i made
+    (omega (arith, length-map fs (part_of_file by n))) own in
+    moved_many (λ (r : ShownRowModel). same_row_key k (row_key r)) h.0 shown (moved sort h.0 shown h.2)
+    ∙ single k h.0 h.1.order (h.1.present (same_row_key k) ∙ some)

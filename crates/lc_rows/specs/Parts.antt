@@ -1,0 +1,10 @@
+-- What a row adds up, as the code keeps it.
+use Rattle.lc_rows.specs.declared.parts.Source.{Source}
+use Rattle.lc_rows.specs.declared.parts.Source.TheVariants.{File, Row}
+use Rattle.lc_walk.specs.Sums.{one_file}
+use Rattle.lc_walk.specs.declared.tally.sums.Sums.{Sums}
+
+-- the sums over a file, or over the files of a row
+abbrev pub sums_of_source : Source → Sums
+sums_of_source (File file) = one_file file.now.count
+sums_of_source (Row row) = row.now.sums

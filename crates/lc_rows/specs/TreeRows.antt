@@ -1,0 +1,53 @@
+-- The rows of a tree of directories: each directory with the files in it and below it.
+use Rattle.std.specs.Prelude.{ℕ, ◌+◌, ◌==◌, Bool, false, bytes_eq, cond, List, [], ◌∷◌, map, Option, Some, None}
+use Rattle.std.specs.Cmp.Lexicographic.{slice_cmp}
+use Rattle.std.specs.List.{flat_map, range_with_len}
+use Rattle.std.specs.List.Sorted.{IsPermutation, IsSorted}
+use Rattle.std.specs.Option.{option_cmp}
+use Rattle.std.specs.Ordering.{nat_cmp, on, then_cmp}
+use Rattle.std.specs.declared.cmp.Ordering.{Ordering}
+use Rattle.lc_glob.specs.Bytes.{slash}
+use Rattle.lc_glob.specs.Path.{depth_of}
+use Rattle.lc_view.specs.declared.table_options.Columns.{Columns}
+use Rattle.lc_walk.specs.Key.{key_cmp}
+use Rattle.lc_walk.specs.ReportLines.{FileLineModel}
+use Rattle.lc_rows.specs.Directories.{directory_of, parent_of}
+use Rattle.lc_rows.specs.RowKeys.{RowKey, ShownRowModel, row_key}
+use Rattle.lc_rows.specs.ShownRows.{AreAddedUp, part_of_file}
+
+-- whether a file is in a directory or below it: the directory that holds the file is cut to this one
+abbrev pub is_below : List ℕ → List ℕ → Bool
+is_below directory path = bytes_eq directory (directory_of (depth_of directory) path)
+
+-- whether a file is right in a directory
+abbrev pub is_in : List ℕ → List ℕ → Bool
+is_in directory path = bytes_eq directory (parent_of path)
+
+-- whether a directory is right in another; the top is in none
+abbrev pub is_child : List ℕ → Option (List ℕ) → Bool
+is_child directory None = false
+is_child directory (Some []) = false
+is_child directory (Some (b ∷ bs)) = bytes_eq directory (parent_of (b ∷ bs))
+
+-- what a file adds to each directory above it, from the top down to the one that holds it: as many as its path has segments
+abbrev pub parts_above : Columns → FileLineModel → List ShownRowModel
+parts_above by f = map (λ n. part_of_file by n f) (range_with_len 0 (depth_of f.path))
+
+abbrev pub tree_parts : Columns → List FileLineModel → List ShownRowModel
+tree_parts by fs = flat_map (parts_above by) fs
+
+-- a slash comes before all other bytes, so what is below a directory comes right after it
+abbrev pub byte_place : ℕ → ℕ
+byte_place b = cond (b == slash) 0 (b + 1)
+
+abbrev pub path_cmp : List ℕ → List ℕ → Ordering
+path_cmp = slice_cmp (on byte_place nat_cmp)
+
+-- depth first: by directory, and then by key
+unfoldable pub depth_first_cmp : RowKey → RowKey → Ordering
+depth_first_cmp = then_cmp (on (λ (k : RowKey). k.directory) (option_cmp path_cmp)) (on (λ (k : RowKey). k.key) key_cmp)
+
+-- a row for each directory above some file and each key of such a file, with the sums over the files in it and below it, depth first
+abbrev pub AreTreeRows : Columns → List FileLineModel → List ShownRowModel → Type 0
+AreTreeRows by fs rows = (summed : List ShownRowModel) × AreAddedUp (tree_parts by fs) summed × IsPermutation summed rows
+    × IsSorted (on row_key depth_first_cmp) rows

@@ -1,0 +1,78 @@
+//! Parts added up to rows, one row for each key.
+
+ghost use Rattle.std.specs.Prelude.{◌≡◌, IfOk};
+ghost use Rattle.std.specs.List.Sorted.{IsPermutation, IsSortedByKey};
+ghost use Rattle.lc_rows.specs.AddingUp.{IsAdded};
+ghost use Rattle.lc_rows.specs.RowKeys.{row_key, row_key_cmp};
+ghost use Rattle.lc_rows.specs.ShownRows.{AreAddedUp};
+
+use crate::parts::Part;
+use crate::shown_row::ShownRow;
+use std::alloc::{AllocError, Global};
+
+fn sort(parts: &mut Vec<Part<'_>>)
+    ensures same { IsPermutation parts.old.items parts.new.items }
+    ensures order { IsSortedByKey row_key row_key_cmp parts.new.items }
+{
+    parts.sort_unstable_by(|a, b| a.key.compare(&b.key));
+}
+
+/// Adds a part to the last row if that has the same key. Otherwise it pushes the last row, and returns the row of the part.
+fn add_part<'a>(
+    rows: &mut Vec<ShownRow<'a>>,
+    last: ShownRow<'a>,
+    part: &Part<'a>,
+) -> Result<ShownRow<'a>, AllocError>
+    ensures { IfOk result (IsAdded rows.old.items last.entry part.now rows.new.items) }
+{
+    if last.key().compare(&part.key).is_eq() {
+        return last.with(part.sums());
+    }
+    rows.push(last)?;
+    Ok(ShownRow::of(part))
+}
+
+/// Adds up parts that are in the order of their keys.
+fn added_in_order<'a>(alloc: Global, parts: &[Part<'a>]) -> Result<Vec<ShownRow<'a>>, AllocError>
+    requires { IsSortedByKey row_key row_key_cmp parts.now }
+    ensures { IfOk result (λ rows. AreAddedUp parts.now rows.items) }
+{
+    let mut rows = Vec::new(alloc);
+    let Some((first, others)) = parts.split_first() else {
+        return Ok(rows);
+    };
+    let mut last = ShownRow::of(first);
+    let mut rest = others;
+    'parts: while let Some((part, others)) = rest.split_first() {
+        last = add_part(&mut rows, last, part)?;
+        rest = others;
+    }
+    rows.push(last)?;
+    Ok(rows)
+}
+
+/// Makes a row of each part.
+pub(crate) fn rows_of<'a>(
+    alloc: Global,
+    parts: &[Part<'a>],
+) -> Result<Vec<ShownRow<'a>>, AllocError>
+    ensures { IfOk result (λ rows. rows.items ≡ parts.now) }
+{
+    let mut rows = Vec::with_capacity(alloc, parts.len())?;
+    for part in parts {
+        rows.push(ShownRow::of(part))?;
+    }
+    Ok(rows)
+}
+
+/// Adds up the parts of each key, in the order of keys. It stops with an error if the sums overflow.
+pub(crate) fn added_up<'a>(
+    alloc: Global,
+    mut parts: Vec<Part<'a>>,
+) -> Result<Vec<ShownRow<'a>>, AllocError>
+    ensures { IfOk result (λ rows. AreAddedUp parts.entry.items rows.items) }
+{
+    sort(&mut parts);
+    let rows = added_in_order(alloc, &parts)?;
+    Ok(rows)
+}

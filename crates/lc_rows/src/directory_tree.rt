@@ -1,0 +1,66 @@
+//! The rows of a tree of directories: each directory with the files in it and below it.
+
+ghost use Rattle.std.specs.Prelude.{◌≡◌, ◌++◌, IfOk, OnOk};
+ghost use Rattle.std.specs.List.Sorted.{IsPermutation, IsSortedByKey};
+ghost use Rattle.lc_rows.specs.RowKeys.{row_key};
+ghost use Rattle.lc_rows.specs.TreeRows.{AreTreeRows, depth_first_cmp, parts_above, tree_parts};
+
+use crate::adding_up::added_up;
+use crate::parts::{Part, file_part};
+use crate::shown_row::ShownRow;
+use lc_glob::path::depth_of;
+use lc_view::Columns;
+use lc_walk::FileLine;
+use std::alloc::{AllocError, Global};
+
+fn push_parts<'a>(
+    by: Columns,
+    file: &'a FileLine,
+    parts: &mut Vec<Part<'a>>,
+) -> Result<(), AllocError>
+    ensures { OnOk result (parts.new.items ≡ parts.old.items ++ parts_above by file.now) }
+{
+    for depth in 0..depth_of(&file.path) {
+        parts.push(file_part(by, depth, file))?;
+    }
+    Ok(())
+}
+
+fn tree_parts<'a>(
+    alloc: Global,
+    files: &'a [FileLine],
+    by: Columns,
+) -> Result<Vec<Part<'a>>, AllocError>
+    ensures { IfOk result (λ parts. parts.items ≡ tree_parts by files.entry.now) }
+{
+    let mut parts = Vec::new(alloc);
+    for file in files {
+        push_parts(by, file, &mut parts)?;
+    }
+    Ok(parts)
+}
+
+fn sort(rows: &mut Vec<ShownRow<'_>>)
+    ensures same { IsPermutation rows.old.items rows.new.items }
+    ensures order { IsSortedByKey row_key depth_first_cmp rows.new.items }
+{
+    rows.sort_unstable_by(|a, b| a.key().compare_depth_first(&b.key()));
+}
+
+/// Returns a row for each directory above some file, with the sums over the files in it and below it, depth first: each directory comes
+/// right before those below it. The first row is the top's.
+///
+/// Where columns are kept, a directory has a row for each key of the files in it and below it; `dir` does not matter. It stops with an
+/// error if there is no memory, and if sums overflow. It takes 56 bytes for each file and each directory above it.
+pub fn tree_rows<'a>(
+    alloc: Global,
+    files: &'a [FileLine],
+    by: Columns,
+) -> Result<Vec<ShownRow<'a>>, AllocError>
+    ensures { IfOk result (λ rows. AreTreeRows by files.entry.now rows.items) }
+{
+    let parts = tree_parts(alloc, files, by)?;
+    let mut rows = added_up(alloc, parts)?;
+    sort(&mut rows);
+    Ok(rows)
+}

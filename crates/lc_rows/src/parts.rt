@@ -1,0 +1,166 @@
+//! What the rows of a table add up: the rows of a report, or its files.
+
+ghost use Rattle.std.specs.Prelude.{◌≡◌, map, IfOk};
+ghost use Rattle.lc_rows.specs.Parts.{sums_of_source};
+ghost use Rattle.lc_rows.specs.RowKeys.{row_key};
+ghost use Rattle.lc_rows.specs.ShownRows.{file_key, key_in, part_of_file, part_of_row, parts_of};
+
+use crate::directories::{first_segments, split_path};
+use crate::row_key::RowKeyRef;
+use lc_census::Eol;
+use lc_rules::TextState;
+use lc_view::Columns;
+use lc_walk::{FileLine, KeyRef, Sums, TallyRow, extension};
+use std::alloc::{AllocError, Global};
+use std::marker::Model;
+
+/// Where the sums of a part are.
+#[derive(Clone, Copy)]
+pub(crate) enum Source<'a> {
+    /// In the census of a file.
+    File(&'a FileLine),
+    /// In a row of the report.
+    Row(&'a TallyRow),
+}
+
+/// What a file or a row of the report adds to a row of a table. It lends all its bytes.
+#[derive(Drop)]
+pub(crate) struct Part<'a> {
+    pub(crate) key: RowKeyRef<'a>,
+    source: Source<'a>,
+}
+
+impl<'a> Model for Part<'a> {
+    ghost use Rattle.lc_rows.specs.RowKeys.{ShownRowModel};
+
+    ghost Value = { ShownRowModel };
+
+    ghost use Rattle.lc_rows.specs.RowKeys.{row_with};
+    ghost use Rattle.lc_rows.specs.Parts.{sums_of_source};
+
+    ghost view = { λ p. row_with p.key (sums_of_source p.source) };
+}
+
+impl Source<'_> {
+    fn sums(self) -> Sums
+        ensures { result ≡ sums_of_source self.entry }
+    {
+        match self {
+            Source::File(file) => Sums {
+                files: 1,
+                lines: u128::from(file.count.lines),
+                blank: u128::from(file.count.blank),
+                bytes: u128::from(file.count.bytes),
+            },
+            Source::Row(row) => row.sums(),
+        }
+    }
+}
+
+impl Part<'_> {
+    /// The sums that the part adds.
+    pub(crate) fn sums(&self) -> Sums
+        ensures { result ≡ self.now.sums }
+    {
+        self.source.sums()
+    }
+}
+
+fn key_in<'a>(by: Columns, key: KeyRef<'a>) -> KeyRef<'a>
+    ensures { result ≡ key_in by key.entry }
+{
+    KeyRef {
+        extension: if by.ext { key.extension } else { None },
+        text: if by.text {
+            key.text
+        } else {
+            TextState::Unspecified
+        },
+        eol: if by.eol { key.eol } else { Eol::NoEnd },
+    }
+}
+
+fn row_part<'a>(by: Columns, row: &'a TallyRow) -> Part<'a>
+    ensures { result ≡ part_of_row by row.now }
+{
+    let key = key_in(by, row.key());
+    Part {
+        key: RowKeyRef {
+            directory: None,
+            extension: key.extension,
+            text: key.text,
+            eol: key.eol,
+        },
+        source: Source::Row(row),
+    }
+}
+
+/// Makes the part of a file in the directory above it that has this depth, or in the directory that holds it if that is less deep.
+pub(crate) fn file_part<'a>(by: Columns, depth: usize, file: &'a FileLine) -> Part<'a>
+    ensures { result ≡ part_of_file by depth file.now }
+{
+    let (parent, name) = split_path(&file.path);
+    let key = key_in(
+        by,
+        KeyRef {
+            extension: extension(name),
+            text: file.text,
+            eol: file.count.eol,
+        },
+    );
+    Part {
+        key: RowKeyRef {
+            directory: Some(first_segments(depth, parent)),
+            extension: key.extension,
+            text: key.text,
+            eol: key.eol,
+        },
+        source: Source::File(file),
+    }
+}
+
+fn row_parts<'a>(
+    alloc: Global,
+    rows: &'a [TallyRow],
+    by: Columns,
+) -> Result<Vec<Part<'a>>, AllocError>
+    ensures { IfOk result (λ parts. parts.items ≡ map (part_of_row by) rows.entry.now) }
+{
+    let mut parts = Vec::with_capacity(alloc, rows.len())?;
+    for row in rows {
+        parts.push(row_part(by, row))?;
+    }
+    Ok(parts)
+}
+
+fn file_parts<'a>(
+    alloc: Global,
+    files: &'a [FileLine],
+    by: Columns,
+    depth: u32,
+) -> Result<Vec<Part<'a>>, AllocError>
+    ensures { IfOk result (λ parts. parts.items ≡ map (part_of_file by depth) files.entry.now) }
+{
+    let mut parts = Vec::with_capacity(alloc, files.len())?;
+    for file in files {
+        parts.push(file_part(by, depth as usize, file))?;
+    }
+    Ok(parts)
+}
+
+/// Makes the parts of a table: one for each row of the report, or for each file where rows are by directory.
+///
+/// A part takes 56 bytes. Each path is cut once.
+pub(crate) fn parts_of<'a>(
+    alloc: Global,
+    rows: &'a [TallyRow],
+    files: &'a [FileLine],
+    by: Columns,
+) -> Result<Vec<Part<'a>>, AllocError>
+    ensures { IfOk result (λ parts. parts.items ≡ parts_of by rows.entry.now files.entry.now) }
+{
+    match by.dir {
+        None => row_parts(alloc, rows, by),
+        Some(depth) => file_parts(alloc, files, by, depth),
+    }
+}

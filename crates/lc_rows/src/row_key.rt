@@ -1,0 +1,114 @@
+//! The key of a row of a table, and the order of keys.
+
+ghost use Rattle.std.specs.Prelude.{◌≡◌, ◌<◌, option_map};
+ghost use Rattle.std.specs.Option.{option_cmp};
+ghost use Rattle.lc_tree.specs.ByteOrder.{bytes_cmp};
+ghost use Rattle.lc_walk.specs.Key.{eol_place, key_cmp, text_place};
+ghost use Rattle.lc_rows.specs.RowKeys.{row_key_cmp};
+ghost use Rattle.lc_rows.specs.TreeRows.{depth_first_cmp, path_cmp};
+
+use crate::depth_first::compare_paths;
+use lc_census::Eol;
+use lc_rules::TextState;
+use std::cmp::Ordering;
+use std::marker::Model;
+
+/// The key of a row, which lends its directory and its extension.
+#[derive(Drop)]
+pub(crate) struct RowKeyRef<'a> {
+    pub(crate) directory: Option<&'a [u8]>,
+    pub(crate) extension: Option<&'a [u8]>,
+    pub(crate) text: TextState,
+    pub(crate) eol: Eol,
+}
+
+impl<'a> Model for RowKeyRef<'a> {
+    ghost use Rattle.std.specs.Prelude.{option_map};
+    ghost use Rattle.lc_rows.specs.RowKeys.{RowKey};
+
+    ghost Value = { RowKey };
+
+    ghost view = { λ k. record {
+      directory = option_map (λ s. s.now) k.directory;
+      key = record { extension = option_map (λ s. s.now) k.extension; text = k.text; eol = k.eol };
+    } };
+}
+
+impl RowKeyRef<'_> {
+    /// Compares two keys, in the order of rows.
+    #[tactic(auto, unfolding(crate::specs::RowKeys::row_key_cmp))]
+    pub(crate) fn compare(&self, other: &RowKeyRef<'_>) -> Ordering
+        ensures { result ≡ row_key_cmp self.now other.now }
+    {
+        compare_bytes(self.directory, other.directory).then(self.compare_columns(other))
+    }
+
+    /// Compares two keys, in the order of the rows of a tree.
+    #[tactic(auto, unfolding(crate::specs::TreeRows::depth_first_cmp))]
+    pub(crate) fn compare_depth_first(&self, other: &RowKeyRef<'_>) -> Ordering
+        ensures { result ≡ depth_first_cmp self.now other.now }
+    {
+        compare_directories(self.directory, other.directory).then(self.compare_columns(other))
+    }
+
+    /// Compares two keys by all columns but the directory.
+    #[tactic(auto, unfolding(lc_walk::specs::Key::key_cmp))]
+    fn compare_columns(&self, other: &RowKeyRef<'_>) -> Ordering
+        ensures { result ≡ key_cmp self.now.key other.now.key }
+    {
+        compare_bytes(self.extension, other.extension)
+            .then(text_rank(self.text).cmp(&text_rank(other.text)))
+            .then(eol_rank(self.eol).cmp(&eol_rank(other.eol)))
+    }
+}
+
+/// Compares optional directories, depth first; none come first.
+fn compare_directories(a: Option<&[u8]>, b: Option<&[u8]>) -> Ordering
+    ensures { result ≡ option_cmp path_cmp (option_map (λ s. s.now) a.entry) (option_map (λ s. s.now) b.entry) }
+{
+    match (a, b) {
+        (None, None) => Ordering::Equal,
+        (None, Some(_)) => Ordering::Less,
+        (Some(_), None) => Ordering::Greater,
+        (Some(a), Some(b)) => compare_paths(a, b),
+    }
+}
+
+/// Compares optional bytes; none come first.
+fn compare_bytes(a: Option<&[u8]>, b: Option<&[u8]>) -> Ordering
+    ensures { result ≡ option_cmp bytes_cmp (option_map (λ s. s.now) a.entry) (option_map (λ s. s.now) b.entry) }
+{
+    match (a, b) {
+        (None, None) => Ordering::Equal,
+        (None, Some(_)) => Ordering::Less,
+        (Some(_), None) => Ordering::Greater,
+        (Some(a), Some(b)) => a.cmp(&b),
+    }
+}
+
+/// The place of a text state in the order of keys.
+fn text_rank(text: TextState) -> u8
+    ensures { result ≡ text_place text }
+{
+    match text {
+        TextState::Set => 0,
+        TextState::Unset => 1,
+        TextState::Auto => 2,
+        TextState::Other => 3,
+        TextState::Unspecified => 4,
+    }
+}
+
+/// The place of a class of line ends in the order of keys.
+fn eol_rank(eol: Eol) -> u8
+    ensures { result ≡ eol_place eol }
+{
+    match eol {
+        Eol::NoEnd => 0,
+        Eol::Lf => 1,
+        Eol::CrLf => 2,
+        Eol::Cr => 3,
+        Eol::Mixed => 4,
+        Eol::Nul => 5,
+    }
+}

@@ -1,0 +1,81 @@
+//! A row of a table.
+
+ghost use Rattle.std.specs.Prelude.{◌≡◌, IfOk};
+ghost use Rattle.lc_rows.specs.RowKeys.{row_key, row_with};
+ghost use Rattle.lc_walk.specs.Sums.{plus};
+
+use crate::parts::Part;
+use crate::row_key::RowKeyRef;
+use lc_census::Eol;
+use lc_rules::TextState;
+use lc_walk::Sums;
+use std::alloc::AllocError;
+use std::marker::Model;
+
+/// A row of a table: the sums over the files that have the same values in the columns that the table keeps.
+#[derive(Drop)]
+pub struct ShownRow<'a> {
+    /// The directory that holds the files, cut to its first segments, where rows are by directory. It is empty for the top.
+    pub directory: Option<&'a [u8]>,
+    /// The extension of the files' names, or none. It is none too where the table has no column for it.
+    pub extension: Option<&'a [u8]>,
+    /// What the attribute `text` is for the files, or `Unspecified` where the table has no column for it.
+    pub text: TextState,
+    /// How the files' lines end, or `NoEnd` where the table has no column for it.
+    pub eol: Eol,
+    /// The sums over the files.
+    pub sums: Sums,
+}
+
+impl<'a> Model for ShownRow<'a> {
+    ghost use Rattle.std.specs.Prelude.{option_map};
+    ghost use Rattle.lc_rows.specs.RowKeys.{ShownRowModel};
+
+    ghost Value = { ShownRowModel };
+
+    ghost view = { λ r. record {
+      directory = option_map (λ s. s.now) r.directory;
+      key = record { extension = option_map (λ s. s.now) r.extension; text = r.text; eol = r.eol };
+      sums = r.sums;
+    } };
+}
+
+impl<'a> ShownRow<'a> {
+    /// The row of one part.
+    pub(crate) fn of(part: &Part<'a>) -> ShownRow<'a>
+        ensures { result ≡ part.now }
+    {
+        ShownRow {
+            directory: part.key.directory,
+            extension: part.key.extension,
+            text: part.key.text,
+            eol: part.key.eol,
+            sums: part.sums(),
+        }
+    }
+
+    /// The key of the row.
+    pub(crate) fn key(&self) -> RowKeyRef<'a>
+        ensures { result ≡ row_key self.now }
+    {
+        RowKeyRef {
+            directory: self.directory,
+            extension: self.extension,
+            text: self.text,
+            eol: self.eol,
+        }
+    }
+    /// The row with further sums added. It stops with an error if they overflow.
+    pub(crate) fn with(self, more: Sums) -> Result<ShownRow<'a>, AllocError>
+        ensures { IfOk result (λ row. row ≡ row_with (row_key self.entry) (plus self.entry.sums more)) }
+    {
+        let sums = self.sums.checked_add(more).ok_or(AllocError)?;
+        Ok(ShownRow {
+            directory: self.directory,
+            extension: self.extension,
+            text: self.text,
+            eol: self.eol,
+            sums,
+        })
+    }
+}

@@ -1,0 +1,6 @@
+//! What no clause says: worked cases, and that calls succeed if there is memory.
+
+mod by_directory;
+mod cut_paths;
+mod files;
+mod trees;

@@ -1,0 +1,142 @@
+//! Rows by directory, alone and with other columns, sorted and cut.
+
+use crate::rows::files::{BY_DIRECTORY, File, NONE, Row, are_rows, file_lines, sums};
+use lc_census::Eol;
+use lc_rows::{View, shown_rows};
+use lc_rules::TextState;
+use lc_view::{Columns, SortBy};
+use lc_walk::TallyRow;
+use std::alloc::{AllocError, Global};
+use std::process::Abort;
+use std::test::Fail;
+
+const FILES: &[File] = &[
+    (b"Makefile", NONE, Eol::Lf, [4, 1, 9]),
+    (b"src/main.c", TextState::Set, Eol::Lf, [7, 0, 50]),
+    (b"src/view/old/rows.h", NONE, Eol::Lf, [1, 0, 15]),
+    (b"src/view/rows.c", NONE, Eol::CrLf, [3, 3, 20]),
+    (b"test/rows.c", NONE, Eol::Lf, [3, 1, 15]),
+];
+
+struct Case {
+    name: &'static str,
+    by: Columns,
+    sort: Option<SortBy>,
+    rows: &'static [Row],
+}
+
+const CASES: &[Case] = &[
+    Case {
+        name: "by_directory",
+        by: BY_DIRECTORY,
+        sort: None,
+        rows: &[
+            (b"", None, Eol::NoEnd, [1, 4, 1, 9]),
+            (b"src", None, Eol::NoEnd, [3, 11, 3, 85]),
+            (b"test", None, Eol::NoEnd, [1, 3, 1, 15]),
+        ],
+    },
+    Case {
+        name: "deeper",
+        by: Columns {
+            dir: Some(2),
+            ..BY_DIRECTORY
+        },
+        sort: None,
+        rows: &[
+            (b"", None, Eol::NoEnd, [1, 4, 1, 9]),
+            (b"src", None, Eol::NoEnd, [1, 7, 0, 50]),
+            (b"src/view", None, Eol::NoEnd, [2, 4, 3, 35]),
+            (b"test", None, Eol::NoEnd, [1, 3, 1, 15]),
+        ],
+    },
+    Case {
+        name: "by_directory_and_extension",
+        by: Columns {
+            ext: true,
+            ..BY_DIRECTORY
+        },
+        sort: None,
+        rows: &[
+            (b"", None, Eol::NoEnd, [1, 4, 1, 9]),
+            (b"src", Some(b"c"), Eol::NoEnd, [2, 10, 3, 70]),
+            (b"src", Some(b"h"), Eol::NoEnd, [1, 1, 0, 15]),
+            (b"test", Some(b"c"), Eol::NoEnd, [1, 3, 1, 15]),
+        ],
+    },
+    Case {
+        name: "by_directory_and_class",
+        by: Columns {
+            eol: true,
+            ..BY_DIRECTORY
+        },
+        sort: None,
+        rows: &[
+            (b"", None, Eol::Lf, [1, 4, 1, 9]),
+            (b"src", None, Eol::Lf, [2, 8, 0, 65]),
+            (b"src", None, Eol::CrLf, [1, 3, 3, 20]),
+            (b"test", None, Eol::Lf, [1, 3, 1, 15]),
+        ],
+    },
+    Case {
+        name: "sorted_by_blank",
+        by: BY_DIRECTORY,
+        sort: Some(SortBy::Blank),
+        rows: &[
+            (b"src", None, Eol::NoEnd, [3, 11, 3, 85]),
+            (b"", None, Eol::NoEnd, [1, 4, 1, 9]),
+            (b"test", None, Eol::NoEnd, [1, 3, 1, 15]),
+        ],
+    },
+];
+
+fn has_rows(alloc: Global, case: &Case) -> Result<bool, AllocError> {
+    let files = file_lines(alloc, FILES)?;
+    let shown = shown_rows(alloc, &[], &files, case.by, case.sort)?;
+    Ok(are_rows(&shown, case.rows))
+}
+
+#[test]
+fn rows_by_directory(rt: HostRuntime) -> Result<(), Fail> {
+    for case in CASES {
+        assert!(rt; has_rows(rt.alloc(), case)?, "{}", case.name);
+    }
+    Ok(())
+}
+
+#[test]
+fn the_first_row_and_the_others(rt: HostRuntime) -> Result<(), Fail> {
+    let alloc = rt.alloc();
+    let files = file_lines(alloc, FILES)?;
+    let shown = shown_rows(alloc, &[], &files, BY_DIRECTORY, Some(SortBy::Lines))?;
+    let view = View::of(Some(1), &shown, &files)?;
+    assert!(rt; are_rows(view.rows, &[(b"src", None, Eol::NoEnd, [3, 11, 3, 85])]));
+    assert!(rt; view.others == Some(sums([2, 7, 2, 24])));
+    assert!(rt; view.files.len() == 1);
+    Ok(())
+}
+
+fn large_row(eol: Eol) -> TallyRow {
+    TallyRow {
+        ext: None,
+        text: NONE,
+        eol,
+        files: u64::MAX,
+        lines: 0,
+        blank: 0,
+        bytes: 0,
+    }
+}
+
+#[test]
+fn sums_that_overflow_are_an_error(rt: HostRuntime) -> Result<(), Fail> {
+    let rows = [large_row(Eol::Lf), large_row(Eol::CrLf)];
+    let all = shown_rows(rt.alloc(), &rows, &[], Columns::ALL, None)?;
+    assert!(rt; all.len() == 2);
+    let by = Columns {
+        eol: false,
+        ..Columns::ALL
+    };
+    assert!(rt; shown_rows(rt.alloc(), &rows, &[], by, None).is_err());
+    Ok(())
+}

@@ -1,0 +1,56 @@
+//! The rows of a tree of directories.
+
+use crate::rows::files::{BY_DIRECTORY, File, NONE, Row, are_rows, file_lines};
+use lc_census::Eol;
+use lc_rows::tree_rows;
+use lc_view::Columns;
+use std::process::Abort;
+use std::test::Fail;
+
+const FILES: &[File] = &[
+    (b"Makefile", NONE, Eol::Lf, [4, 1, 9]),
+    (b"src-old/main.c", NONE, Eol::Lf, [3, 1, 15]),
+    (b"src/main.c", NONE, Eol::Lf, [7, 0, 50]),
+    (b"src/view/old/rows.h", NONE, Eol::Lf, [1, 0, 15]),
+    (b"src/view/rows.c", NONE, Eol::Lf, [3, 3, 20]),
+];
+
+const DIRECTORIES: &[Row] = &[
+    (b"", None, Eol::NoEnd, [5, 18, 5, 109]),
+    (b"src", None, Eol::NoEnd, [3, 11, 3, 85]),
+    (b"src/view", None, Eol::NoEnd, [2, 4, 3, 35]),
+    (b"src/view/old", None, Eol::NoEnd, [1, 1, 0, 15]),
+    (b"src-old", None, Eol::NoEnd, [1, 3, 1, 15]),
+];
+
+const EXTENSIONS: &[Row] = &[
+    (b"", None, Eol::NoEnd, [1, 4, 1, 9]),
+    (b"", Some(b"c"), Eol::NoEnd, [3, 13, 4, 85]),
+    (b"", Some(b"h"), Eol::NoEnd, [1, 1, 0, 15]),
+    (b"src", Some(b"c"), Eol::NoEnd, [2, 10, 3, 70]),
+    (b"src", Some(b"h"), Eol::NoEnd, [1, 1, 0, 15]),
+    (b"src/view", Some(b"c"), Eol::NoEnd, [1, 3, 3, 20]),
+    (b"src/view", Some(b"h"), Eol::NoEnd, [1, 1, 0, 15]),
+    (b"src/view/old", Some(b"h"), Eol::NoEnd, [1, 1, 0, 15]),
+    (b"src-old", Some(b"c"), Eol::NoEnd, [1, 3, 1, 15]),
+];
+
+#[test]
+fn directories_and_what_is_below_them(rt: HostRuntime) -> Result<(), Fail> {
+    let files = file_lines(rt.alloc(), FILES)?;
+    let rows = tree_rows(rt.alloc(), &files, BY_DIRECTORY)?;
+    assert!(rt; are_rows(&rows, DIRECTORIES));
+    Ok(())
+}
+
+#[test]
+fn extensions_of_directories(rt: HostRuntime) -> Result<(), Fail> {
+    let files = file_lines(rt.alloc(), FILES)?;
+    let by = Columns {
+        ext: true,
+        ..BY_DIRECTORY
+    };
+    let rows = tree_rows(rt.alloc(), &files, by)?;
+    assert!(rt; are_rows(&rows, EXTENSIONS));
+    Ok(())
+}

@@ -1,0 +1,182 @@
+//! Tables whose rows are by directory, in each format.
+
+use crate::table::asking::TSV;
+use crate::table::tables::{Case, NONE, compare_as_asked};
+use lc_census::Eol;
+use lc_rules::TextState;
+use lc_view::{Columns, Format, SortBy, TableOptions};
+use std::test::Fail;
+
+const HEADER: &[u8] = b"dir\text\ttext\teol\tfiles\tlines\tblank\tbytes\n";
+
+/// The first directories of paths alone.
+const BY_DIR: TableOptions = TableOptions {
+    by: Columns {
+        dir: Some(1),
+        ext: false,
+        text: false,
+        eol: false,
+    },
+    ..TSV
+};
+
+/// By two directories of paths and by extension, the largest number of lines first.
+const BY_TWO: TableOptions = TableOptions {
+    by: Columns {
+        dir: Some(2),
+        ext: true,
+        text: false,
+        eol: false,
+    },
+    sort: Some(SortBy::Lines),
+    top: Some(2),
+    ..TSV
+};
+
+const TREE: Case = Case {
+    name: "first_directories",
+    options: BY_DIR,
+    rows: &[
+        (None, NONE, Eol::Lf, [2, 7, 2, 24]),
+        (Some(b"c"), TextState::Set, Eol::Lf, [1, 3, 3, 20]),
+        (Some(b"c"), TextState::Set, Eol::CrLf, [1, 7, 0, 50]),
+        (Some(b"h"), TextState::Set, Eol::Lf, [1, 1, 0, 15]),
+    ],
+    totals: [5, 18, 5, 109],
+    directories: 5,
+    files: &[
+        (b"Makefile", NONE, Eol::Lf, [4, 1, 9]),
+        (b"a|b/x.c", TextState::Set, Eol::Lf, [3, 3, 20]),
+        (b"src/a.c", TextState::Set, Eol::CrLf, [7, 0, 50]),
+        (b"src/x/b.h", TextState::Set, Eol::Lf, [1, 0, 15]),
+        (b"src/x/y/c", NONE, Eol::Lf, [3, 1, 15]),
+    ],
+    faults: &[],
+    lines: b".\t*\t*\t*\t1\t4\t1\t9\n\
+             a|b\t*\t*\t*\t1\t3\t3\t20\n\
+             src\t*\t*\t*\t3\t11\t1\t80\n\
+             total\t*\t*\t*\t5\t18\t5\t109\n\
+             directories\t5\n",
+};
+
+const TABS: &[Case] = &[
+    TREE,
+    Case {
+        name: "two_rows_of_two_directories_and_extensions",
+        options: BY_TWO,
+        lines: b"src\t.c\t*\t*\t1\t7\t0\t50\n\
+                 .\t-\t*\t*\t1\t4\t1\t9\n\
+                 others\t*\t*\t*\t3\t7\t4\t50\n\
+                 total\t*\t*\t*\t5\t18\t5\t109\n\
+                 directories\t5\n",
+        ..TREE
+    },
+];
+
+const OTHER_FORMATS: &[Case] = &[
+    Case {
+        name: "in_columns_by_lines",
+        options: TableOptions {
+            format: Format::Table,
+            sort: Some(SortBy::Lines),
+            ..BY_DIR
+        },
+        lines: b"dir    files  lines  blank  bytes\n\
+                 ---------------------------------\n\
+                 src        3     11      1     80\n\
+                 .          1      4      1      9\n\
+                 a|b        1      3      3     20\n\
+                 ---------------------------------\n\
+                 total      5     18      5    109\n\
+                 \n\
+                 directories  5\n",
+        ..TREE
+    },
+    Case {
+        name: "as_json",
+        options: TableOptions {
+            format: Format::Json,
+            ..BY_DIR
+        },
+        lines: b"{\"rows\":[{\"dir\":\".\",\"files\":1,\"lines\":4,\"blank\":1,\"bytes\":9},{\"dir\":\"a|b\",\"files\":1,\"lines\":3\
+                 ,\"blank\":3,\"bytes\":20},{\"dir\":\"src\",\"files\":3,\"lines\":11,\"blank\":1,\"bytes\":80}],\"total\":{\"files\
+                 \":5,\"lines\":18,\"blank\":5,\"bytes\":109},\"text\":{\"files\":5,\"lines\":18,\"blank\":5,\"bytes\":109},\"binary\
+                 \":{\"files\":0,\"lines\":0,\"blank\":0,\"bytes\":0},\"directories\":5,\"faults\":[]}\n",
+        ..TREE
+    },
+    Case {
+        name: "rows_as_csv",
+        options: TableOptions {
+            format: Format::Csv,
+            ..BY_DIR
+        },
+        lines: b"dir,files,lines,blank,bytes\n\
+                 .,1,4,1,9\n\
+                 a|b,1,3,3,20\n\
+                 src,3,11,1,80\n",
+        ..TREE
+    },
+    Case {
+        name: "files_as_csv",
+        options: TableOptions {
+            format: Format::Csv,
+            files: true,
+            sort: None,
+            top: None,
+            ..BY_TWO
+        },
+        lines: b"path,dir,ext,text,eol,lines,blank,bytes\n\
+                 Makefile,.,,,lf,4,1,9\n\
+                 a|b/x.c,a|b,.c,set,lf,3,3,20\n\
+                 src/a.c,src,.c,set,crlf,7,0,50\n\
+                 src/x/b.h,src/x,.h,set,lf,1,0,15\n\
+                 src/x/y/c,src/x,,,lf,3,1,15\n",
+        ..TREE
+    },
+    Case {
+        name: "as_markdown_with_shares_and_others",
+        options: TableOptions {
+            format: Format::Markdown,
+            sort: Some(SortBy::Lines),
+            top: Some(2),
+            share: true,
+            ..BY_DIR
+        },
+        lines: b"| dir | files | lines | blank | bytes | share |\n\
+                 | --- | ---: | ---: | ---: | ---: | ---: |\n\
+                 | src | 3 | 11 | 1 | 80 | 61.1% |\n\
+                 | . | 1 | 4 | 1 | 9 | 22.2% |\n\
+                 | **others** | **1** | **3** | **3** | **20** | **16.7%** |\n\
+                 | **total** | **5** | **18** | **5** | **109** | **100.0%** |\n\
+                 \n\
+                 | directories |\n\
+                 | ---: |\n\
+                 | 5 |\n",
+        ..TREE
+    },
+];
+
+/// A directory whose name is no UTF-8.
+const NO_TEXT: &[Case] = &[Case {
+    name: "directories_that_are_no_text",
+    options: TableOptions {
+        format: Format::Json,
+        ..BY_DIR
+    },
+    rows: &[(None, NONE, Eol::Lf, [1, 1, 0, 2])],
+    totals: [1, 1, 0, 2],
+    directories: 2,
+    files: &[(b"\xff/a", NONE, Eol::Lf, [1, 0, 2])],
+    lines: b"{\"rows\":[{\"dir_bytes\":[255],\"files\":1,\"lines\":1,\"blank\":0,\"bytes\":2}],\
+             \"total\":{\"files\":1,\"lines\":1,\"blank\":0,\"bytes\":2},\
+             \"text\":{\"files\":1,\"lines\":1,\"blank\":0,\"bytes\":2},\
+             \"binary\":{\"files\":0,\"lines\":0,\"blank\":0,\"bytes\":0},\"directories\":2,\"faults\":[]}\n",
+    ..TREE
+}];
+
+#[test]
+fn rows_by_directory(rt: HostRuntime) -> Result<(), Fail> {
+    compare_as_asked(&rt, HEADER, TABS)?;
+    compare_as_asked(&rt, b"", OTHER_FORMATS)?;
+    compare_as_asked(&rt, b"", NO_TEXT)
+}
