@@ -63,6 +63,12 @@ fn writer_of(alloc: Global, text: &[u8]) -> Result<Narrow, AllocError> {
     Narrow::new(alloc, 4_096, text.len().saturating_add(64), WhenFull::Fails)
 }
 
+/// Whether this is told where memory is refused, in place of another line.
+fn is_refusal(told: &[u8]) -> bool {
+    told == b"lc: out of memory\n".as_slice()
+        || told == b"lc: some paths could not be read\n".as_slice()
+}
+
 /// Whether a run in a system ends so.
 fn ends_so<R: Threads + Wait + Sync + AllocGlobal>(
     rt: &R,
@@ -76,7 +82,7 @@ fn ends_so<R: Threads + Wait + Sync + AllocGlobal>(
         err: writer_of(rt.alloc(), case.err)?,
     };
     let status = program(rt, system, words, case.terminals, &mut streams);
-    if streams.err.taken.as_slice() == b"lc: out of memory\n".as_slice() {
+    if is_refusal(&streams.err.taken) {
         return Err(AllocError);
     }
     Ok(
