@@ -61,9 +61,11 @@ exclusion_rules =
 abbrev pub null_rule : Rule
 null_rule = short_rule 48 (flag_rule (codes "null"))
 
--- which paths are counted
+-- which paths are counted; `-x` stays on one file system
 abbrev pub path_rules : List Rule
-path_rules = texts_rule (codes "only") ∷ text_rule (codes "only-from") ∷ null_rule ∷ []
+path_rules =
+    texts_rule (codes "only") ∷ text_rule (codes "only-from") ∷ null_rule
+    ∷ short_rule 120 (flag_rule (codes "one-file-system")) ∷ []
 
 -- the most rows and files that are asked for
 abbrev pub max_top : ℕ

@@ -156,6 +156,7 @@ pub record IsCountOf (rows : List Row) (c : CountRequest) : Type 0 where
   pub only : ArePathsOf rows c.only.items
   pub only_from : option_map (λ s. s.now) c.only_from ≡ first_of (codes "only-from") rows
   pub null : IsFlag (codes "null") rows c.null
+  pub one_file_system : IsFlag (codes "one-file-system") rows c.one_file_system
   pub table : IsTableIn rows c.table
   pub top : c.table.top ≡ number_if_given (codes "top") rows
   pub share : IsFlag (codes "share") rows c.table.share

@@ -40,6 +40,8 @@ pub struct CountRequest<'w> {
     pub only_from: Option<&'w str>,
     /// Each path in the file of `only_from` ends with NUL.
     pub null: bool,
+    /// Directories on another file system than DIR are skipped.
+    pub one_file_system: bool,
     /// How the table is printed.
     pub table: TableRequest,
     /// The path of DIR, as it was given. `.` is the directory that the program runs in.
@@ -47,13 +49,14 @@ pub struct CountRequest<'w> {
 }
 
 /// Makes the options that choose paths.
-fn path_options<'a>(alloc: Global) -> (Arg<'a>, Arg<'a>, Arg<'a>)
-    ensures { AreArgsOf path_rules (result.0 ∷ result.1 ∷ result.2 ∷ []) }
+fn path_options<'a>(alloc: Global) -> (Arg<'a>, Arg<'a>, Arg<'a>, Arg<'a>)
+    ensures { AreArgsOf path_rules (result.0 ∷ result.1 ∷ result.2 ∷ result.3 ∷ []) }
 {
     (
         only(alloc),
         text_option(alloc, "only-from", "FILE", help::ONLY_FROM),
         with_short(flag(alloc, "null", help::NULL), '0'),
+        with_short(flag(alloc, "one-file-system", help::ONE_FILE_SYSTEM), 'x'),
     )
 }
 
@@ -98,11 +101,11 @@ fn limits<'a>(alloc: Global) -> (Arg<'a>, Arg<'a>)
     )
 }
 
-fn args<'a>(alloc: Global) -> [Arg<'a>; 20]
+fn args<'a>(alloc: Global) -> [Arg<'a>; 21]
     ensures { AreArgsOf count_rules result }
 {
     let exclusions = exclusion_options(alloc);
-    let (only, only_from, null) = path_options(alloc);
+    let (only, only_from, null, one_file_system) = path_options(alloc);
     let (files, left_out, format, by, depth, sort, top, share) = table_options(alloc);
     let (threads, max_dirs) = limits(alloc);
     [
@@ -115,6 +118,7 @@ fn args<'a>(alloc: Global) -> [Arg<'a>; 20]
         only,
         only_from,
         null,
+        one_file_system,
         files,
         left_out,
         format,
@@ -190,6 +194,7 @@ fn request_in<'w>(
         only,
         only_from: matches.get_str("only-from"),
         null: matches.get_flag("null"),
+        one_file_system: matches.get_flag("one-file-system"),
         table: TableRequest {
             top: numbers.top,
             files: matches.get_flag("files"),

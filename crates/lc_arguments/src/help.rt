@@ -223,6 +223,12 @@ pub(crate) const NULL: OptionHelp = OptionHelp {
     long: "The paths of --only-from end with NUL, as git ls-files -z prints them",
 };
 
+pub(crate) const ONE_FILE_SYSTEM: OptionHelp = OptionHelp {
+    heading: WHICH_FILES,
+    short: "Skip directories on other file systems",
+    long: "Skip directories on another file system than DIR, such as /proc below /",
+};
+
 pub(crate) const NULL_INPUT: OptionHelp = OptionHelp {
     heading: INPUT,
     short: "Paths on standard input end with NUL",

@@ -41,6 +41,10 @@ const COUNTS: &[Case] = &[
         "count .: 8 threads, 65536 directories, no format by ext text eol, excluding a, excluding !b, including *.c, no ignore files",
     ),
     (
+        "count -x .",
+        "count .: 4 threads, 65536 directories, no format by ext text eol, one file system",
+    ),
+    (
         "count --only-from - -0 .",
         "count .: 4 threads, 65536 directories, no format by ext text eol, only from - ended by NUL",
     ),
@@ -162,6 +166,7 @@ const MEANT: &[Case] = &[
     ("count --thread 8 .", "lc count --threads 8 ."),
     ("count --sorted lines .", "lc count --sort lines ."),
     ("count --hidden .", "lc count --no-ignore ."),
+    ("count --xdev .", "lc count --one-file-system ."),
     ("cuont .", "lc count ."),
     ("chekc .", "git ls-files | lc check .gitignore"),
     ("explian .", "lc explain . README.md"),
@@ -235,6 +240,9 @@ fn push_paths(text: &mut String, request: &CountRequest) -> Result<(), AllocErro
     }
     if request.null {
         text.push_str(" ended by NUL")?;
+    }
+    if request.one_file_system {
+        text.push_str(", one file system")?;
     }
     Ok(())
 }

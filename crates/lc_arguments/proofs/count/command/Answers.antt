@@ -17,11 +17,11 @@ returns c =
     let has = given (codes "count") count_rules bare args command c.in_ok-command.ensures are added in (
       seen_with (codes "count") count_rules command has,
       λ m parsed. record {
-        threads = reads_number (codes "count") count_rules command has refl 17 dir (omega arith) (codes "threads") 16 refl refl m parsed;
-        max_dirs = reads_number (codes "count") count_rules command has refl 18 dir (omega arith) (codes "max-dirs") 1048576 refl refl m
+        threads = reads_number (codes "count") count_rules command has refl 18 dir (omega arith) (codes "threads") 16 refl refl m parsed;
+        max_dirs = reads_number (codes "count") count_rules command has refl 19 dir (omega arith) (codes "max-dirs") 1048576 refl refl m
             parsed;
-        depth = reads_number (codes "count") count_rules command has refl 13 dir (omega arith) (codes "depth") 256 refl refl m parsed;
-        top = reads_number (codes "count") count_rules command has refl 15 dir (omega arith) (codes "top") 4294967295 refl refl m parsed;
+        depth = reads_number (codes "count") count_rules command has refl 14 dir (omega arith) (codes "depth") 256 refl refl m parsed;
+        top = reads_number (codes "count") count_rules command has refl 16 dir (omega arith) (codes "top") 4294967295 refl refl m parsed;
       },
     ))
     c.args-3.ensures

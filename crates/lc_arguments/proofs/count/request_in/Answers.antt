@@ -35,15 +35,17 @@ returns c = λ are.
       };
       threads = are.threads;
       max_dirs = are.max_dirs;
-      files = flag_of rows f (codes "files") c.get_flag-3.result refl c.get_flag-3.ensures.value c.get_flag-3.ensures.other;
+      files = flag_of rows f (codes "files") c.get_flag-4.result refl c.get_flag-4.ensures.value c.get_flag-4.ensures.other;
       left_out = flag_of rows f (codes "left-out") c.get_flag.result refl c.get_flag.ensures.value c.get_flag.ensures.other;
       exclusions = c.in-Ok.ensures;
       only = c.in-Ok-paths_in.ensures;
       only_from = text_of rows f (codes "only-from") c.get_str.result refl c.get_str.ensures;
       null = flag_of rows f (codes "null") c.get_flag-2.result refl c.get_flag-2.ensures.value c.get_flag-2.ensures.other;
+      one_file_system = flag_of rows f (codes "one-file-system") c.get_flag-3.result refl c.get_flag-3.ensures.value
+          c.get_flag-3.ensures.other;
       table = record { format_is = table.format_is; by_is = table.by_is; sort_is = table.sort_is };
       top = are.top;
-      share = flag_of rows f (codes "share") c.get_flag-4.result refl c.get_flag-4.ensures.value c.get_flag-4.ensures.other;
+      share = flag_of rows f (codes "share") c.get_flag-5.result refl c.get_flag-5.ensures.value c.get_flag-5.ensures.other;
       directory = text_or rows f (codes "DIR") c.get_str-2.result _ c.unwrap_or.result refl c.get_str-2.ensures refl
           c.unwrap_or.ensures;
     }
