@@ -49,7 +49,7 @@ module _ (s : SelectionModel) (k : JobModel) (t : EntryModel → Bool) where
   counted_items (file_item n c rules ∷ items) rs =
       file_item n (result_next (counts n) c rs) rules ∷ counted_items items (results_after (counts n) rs)
   counted_items (directory_item n ∷ items) rs = directory_item n ∷ counted_items items rs
-  counted_items (other_item n ∷ items) rs = other_item n ∷ counted_items items rs
+  counted_items (other_item n what ∷ items) rs = other_item n what ∷ counted_items items rs
 
   -- nothing but what the files gave has changed
   pub same_entries : (items : List Item) (rs : Results) → entries_of (counted_items items rs) ≡ entries_of items
@@ -57,7 +57,7 @@ module _ (s : SelectionModel) (k : JobModel) (t : EntryModel → Bool) where
   same_entries (file_item n c rules ∷ items) rs =
       ap (λ l. entry_of (file_item n c rules) ∷ l) (same_entries items (results_after (counts n) rs))
   same_entries (directory_item n ∷ items) rs = ap (λ l. entry_of (directory_item n) ∷ l) (same_entries items rs)
-  same_entries (other_item n ∷ items) rs = ap (λ l. entry_of (other_item n) ∷ l) (same_entries items rs)
+  same_entries (other_item n what ∷ items) rs = ap (λ l. entry_of (other_item n what) ∷ l) (same_entries items rs)
 
   -- what a file reads as in rules is the same, whatever counting gave
   pub same_file : (name : List ℕ) (items : List Item) (rs : Results) → file_named name (counted_items items rs) ≡ file_named name items
@@ -65,7 +65,7 @@ module _ (s : SelectionModel) (k : JobModel) (t : EntryModel → Bool) where
   same_file name (file_item n c rules ∷ items) rs =
       ap (λ o. cond (bytes_eq n name) (Some rules) o) (same_file name items (results_after (counts n) rs))
   same_file name (directory_item n ∷ items) rs = same_file name items rs
-  same_file name (other_item n ∷ items) rs = same_file name items rs
+  same_file name (other_item n what ∷ items) rs = same_file name items rs
 
   -- so are the directories
   pub same_directory : (name : List ℕ) (items : List Item) (rs : Results)
@@ -73,7 +73,7 @@ module _ (s : SelectionModel) (k : JobModel) (t : EntryModel → Bool) where
   same_directory name [] rs = refl
   same_directory name (file_item n c rules ∷ items) rs = same_directory name items (results_after (counts n) rs)
   same_directory name (directory_item n ∷ items) rs = ap (λ b. bytes_eq n name || b) (same_directory name items rs)
-  same_directory name (other_item n ∷ items) rs = same_directory name items rs
+  same_directory name (other_item n what ∷ items) rs = same_directory name items rs
 
   -- the names of the files that are counted
   abbrev pub kept_names : List Item → List (List ℕ)
@@ -128,9 +128,9 @@ module _ (s : SelectionModel) (k : JobModel) (t : EntryModel → Bool) where
       let b : AreCounted gives k (kept_names items) rs = subst
       (λ (ns : List (List ℕ)). AreCounted gives k ns rs) (names_none (directory_item n) items refl) a in
       (m.0, may_counted lists gives items rs b m.1)
-  may_counted lists gives (other_item n ∷ items) rs a m =
+  may_counted lists gives (other_item n what ∷ items) rs a m =
       let b : AreCounted gives k (kept_names items) rs = subst
-      (λ (ns : List (List ℕ)). AreCounted gives k ns rs) (names_none (other_item n) items refl) a in
+      (λ (ns : List (List ℕ)). AreCounted gives k ns rs) (names_none (other_item n what) items refl) a in
       (m.0, may_counted lists gives items rs b m.1)
 
 abbrev pub all_take_part : EntryModel → Bool
@@ -167,12 +167,12 @@ module _ (s : SelectionModel) (k : JobModel) (t : EntryModel → Bool) where
           ≡ counted_items s k all_take_part (cond b (directory_item n ∷ taking_part t items) (taking_part t items)) rs
       at true more = ap (λ l. directory_item n ∷ l) more
       at false more = more
-  part_counted (other_item n ∷ items) rs = at (t (record { name = n; kind = Other })) (part_counted items rs)
+  part_counted (other_item n what ∷ items) rs = at (t (record { name = n; kind = Other what })) (part_counted items rs)
     where
       at : (b : Bool) → taking_part t (counted_items s k t items rs) ≡ counted_items s k all_take_part (taking_part t items) rs
-          → cond b (other_item n ∷ taking_part t (counted_items s k t items rs)) (taking_part t (counted_items s k t items rs))
-          ≡ counted_items s k all_take_part (cond b (other_item n ∷ taking_part t items) (taking_part t items)) rs
-      at true more = ap (λ l. other_item n ∷ l) more
+          → cond b (other_item n what ∷ taking_part t (counted_items s k t items rs)) (taking_part t (counted_items s k t items rs))
+          ≡ counted_items s k all_take_part (cond b (other_item n what ∷ taking_part t items) (taking_part t items)) rs
+      at true more = ap (λ l. other_item n what ∷ l) more
       at false more = more
 
 module _ (s : SelectionModel) (k : JobModel) where
@@ -185,7 +185,7 @@ module _ (s : SelectionModel) (k : JobModel) where
   same_children [] rs = refl
   same_children (file_item n c rules ∷ items) rs = same_children items (results_after (is_counted s k n) rs)
   same_children (directory_item n ∷ items) rs = ap (λ l. children_by s k (directory_item n) ++ l) (same_children items rs)
-  same_children (other_item n ∷ items) rs = same_children items rs
+  same_children (other_item n what ∷ items) rs = same_children items rs
 
   -- and what is left out
   pub same_skipped : (items : List Item) (rs : Results)
@@ -194,14 +194,14 @@ module _ (s : SelectionModel) (k : JobModel) where
   same_skipped (file_item n c rules ∷ items) rs =
       ap (λ l. skipped_by_item s k (file_item n c rules) ++ l) (same_skipped items (results_after (is_counted s k n) rs))
   same_skipped (directory_item n ∷ items) rs = ap (λ l. skipped_by_item s k (directory_item n) ++ l) (same_skipped items rs)
-  same_skipped (other_item n ∷ items) rs = ap (λ l. skipped_by_item s k (other_item n) ++ l) (same_skipped items rs)
+  same_skipped (other_item n what ∷ items) rs = ap (λ l. skipped_by_item s k (other_item n what) ++ l) (same_skipped items rs)
 
   -- there are as many
   pub same_number : (items : List Item) (rs : Results) → length (counted_all items rs) ≡ length items
   same_number [] rs = refl
   same_number (file_item n c rules ∷ items) rs = ap suc (same_number items (results_after (is_counted s k n) rs))
   same_number (directory_item n ∷ items) rs = ap suc (same_number items rs)
-  same_number (other_item n ∷ items) rs = ap suc (same_number items rs)
+  same_number (other_item n what ∷ items) rs = ap suc (same_number items rs)
 
   -- each item has one fate
   pub number_of_fates : (items : List Item) → length (fates_of s k items) ≡ length items
@@ -230,7 +230,7 @@ module _ (s : SelectionModel) (k : JobModel) where
       (files_of_items gives items (results_after t rs) (counted_one s k all_take_part gives n c (names_in items) t rs a))
       ∙ sym (fates_one counted_of gives n c (names_in items) t rs a)
   files_of_items gives (directory_item n ∷ items) rs a = files_of_items gives items rs a
-  files_of_items gives (other_item n ∷ items) rs a = files_of_items gives items rs a
+  files_of_items gives (other_item n what ∷ items) rs a = files_of_items gives items rs a
 
   -- and so are the faults
   pub faults_of_items : (gives : List ℕ → Contents) (items : List Item) (rs : Results) → AreCounted gives k (names_in items) rs →
@@ -242,14 +242,14 @@ module _ (s : SelectionModel) (k : JobModel) where
       (faults_of_items gives items (results_after t rs) (counted_one s k all_take_part gives n c (names_in items) t rs a))
       ∙ sym (fates_one failed_of gives n c (names_in items) t rs a)
   faults_of_items gives (directory_item n ∷ items) rs a = faults_of_items gives items rs a
-  faults_of_items gives (other_item n ∷ items) rs a = faults_of_items gives items rs a
+  faults_of_items gives (other_item n what ∷ items) rs a = faults_of_items gives items rs a
 
   -- the child directories are those that are left in
   pub children_of_items : (items : List Item) → flat_map (children_by s k) items ≡ flat_map (kept_directory s k) (entries_of items)
   children_of_items [] = refl
   children_of_items (file_item n c rules ∷ items) = children_of_items items
   children_of_items (directory_item n ∷ items) = ap (λ l. kept_directory s k (entry_of (directory_item n)) ++ l) (children_of_items items)
-  children_of_items (other_item n ∷ items) = children_of_items items
+  children_of_items (other_item n what ∷ items) = children_of_items items
 
   nothing_skipped : (items : List Item) → flat_map (skipped_entry false s k) (entries_of items) ≡ []
   nothing_skipped [] = refl

@@ -17,6 +17,7 @@ use Rattle.lc_level.specs.Selection.{SelectionModel}
 use Rattle.lc_level.specs.TopJob.{top_job, own_rules}
 use Rattle.lc_level.specs.FileAnswers.{census}
 use Rattle.lc_level.specs.NodeTrees.{item_by, item_of, listing_within, told_items, items_at, tree_of_node}
+use Rattle.lc_tree.specs.declared.entry.OtherKind.TheVariants.{Special}
 use Rattle.lc_tree.specs.Listed.{listed}
 use Rattle.lc_tree.specs.MemTrees.{content_within}
 use Rattle.lc_tree.specs.declared.entry.Kind.TheVariants.{File}
@@ -45,7 +46,7 @@ module _ (alloc : Global) where
   items =
       whole_file (codes "c") (codes "one\n") ∷ directory_item (codes "d") ∷ directory_item (codes "b") ∷ whole_file
       (codes ".gitignore") (codes "*.o\n")
-      ∷ file_item (codes "e") (Err Read) (Err Read) ∷ whole_file (codes "a.o") (codes "x") ∷ other_item (codes "l")
+      ∷ file_item (codes "e") (Err Read) (Err Read) ∷ whole_file (codes "a.o") (codes "x") ∷ other_item (codes "l") Special
       ∷ whole_file (codes ".gitattributes") (codes "s export-ignore\n") ∷ whole_file (codes "s") (codes "x") ∷ whole_file
       (codes ".git") (codes "x") ∷ []
 
@@ -57,7 +58,7 @@ module _ (alloc : Global) where
       (same_first (item_is (vec alloc (codes ".gitignore") refl) (Node-F.File (vec alloc (codes "*.o\n") refl)))
       (same_first (item_is (vec alloc (codes "e") refl) (Node-F.Failing (vec alloc (codes "x") refl)))
       (same_first (item_is (vec alloc (codes "a.o") refl) (Node-F.File (vec alloc (codes "x") refl)))
-      (same_first (item_is (vec alloc (codes "l") refl) Node-F.Other)
+      (same_first (item_is (vec alloc (codes "l") refl) (Node-F.Other Special))
       (same_first (item_is (vec alloc (codes ".gitattributes") refl) (Node-F.File (vec alloc (codes "s export-ignore\n") refl)))
       (same_first (item_is (vec alloc (codes "s") refl) (Node-F.File (vec alloc (codes "x") refl)))
       (same_first (item_is (vec alloc (codes ".git") refl) (Node-F.File (vec alloc (codes "x") refl))) refl)))))))))
@@ -89,7 +90,7 @@ module _ (alloc : Global) where
   pub bad_name_is : (tree_of_node (small_node alloc) (codes "d" ∷ [])).here ≡ Err Name
   bad_name_is =
       below_is (codes "d") (Node-F.Dir (vec alloc (entries alloc) refl)) ∙ items_are (Node-F.Dir (vec alloc (bad_name alloc ∷ []) refl))
-      ∙ ap (λ item. told_items (listed entry_of (item ∷ []))) (item_is (vec alloc (codes "x/y") refl) Node-F.Other)
+      ∙ ap (λ item. told_items (listed entry_of (item ∷ []))) (item_is (vec alloc (codes "x/y") refl) (Node-F.Other Special))
 
   -- and what is not there
   pub none_is : (tree_of_node (small_node alloc) (codes "f" ∷ [])).here ≡ Err Read

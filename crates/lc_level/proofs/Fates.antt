@@ -27,17 +27,17 @@ fault_by j name count = failed_of (name, file_fate j name count)
 abbrev pub files_by : SelectionModel → JobModel → Item → List CountedModel
 files_by s j (file_item name count rules) = cond (is_counted s j name) (counted_by j name count) []
 files_by s j (directory_item name) = []
-files_by s j (other_item name) = []
+files_by s j (other_item name what) = []
 
 abbrev pub faults_by : SelectionModel → JobModel → Item → List FileFaultModel
 faults_by s j (file_item name count rules) = cond (is_counted s j name) (fault_by j name count) []
 faults_by s j (directory_item name) = []
-faults_by s j (other_item name) = []
+faults_by s j (other_item name what) = []
 
 abbrev pub children_by : SelectionModel → JobModel → Item → List (List ℕ × JobModel)
 children_by s j (file_item name count rules) = []
 children_by s j (directory_item name) = cond (is_taken s j name true) ((name, child_job j name) ∷ []) []
-children_by s j (other_item name) = []
+children_by s j (other_item name what) = []
 
 -- what a kept entry gives, and nothing where it is left out
 none_or : {A : Type 0} (f : List ℕ × Fate → List A) (name : List ℕ) (kind : Kind) (fate : Fate)
@@ -60,12 +60,14 @@ module _ (s : SelectionModel) (j : JobModel) where
   counted_one : (item : Item) → counted_of (name_of item, fate_of s j item) ≡ files_by s j item
   counted_one (file_item n r rules) = none_or counted_of n File (file_fate j n r) (λ reason. refl) (file_reason s j n)
   counted_one (directory_item n) = nothing counted_of n Dir (walked (child_job j n)) (λ reason. refl) refl (reason_of s j n true)
-  counted_one (other_item n) = nothing counted_of n Other (skipped Other other_kind) (λ reason. refl) refl (reason_of s j n false)
+  counted_one (other_item n what) =
+      nothing counted_of n (Other what) (skipped (Other what) (other_kind what)) (λ reason. refl) refl (reason_of s j n false)
 
   failed_one : (item : Item) → failed_of (name_of item, fate_of s j item) ≡ faults_by s j item
   failed_one (file_item n r rules) = none_or failed_of n File (file_fate j n r) (λ reason. refl) (file_reason s j n)
   failed_one (directory_item n) = nothing failed_of n Dir (walked (child_job j n)) (λ reason. refl) refl (reason_of s j n true)
-  failed_one (other_item n) = nothing failed_of n Other (skipped Other other_kind) (λ reason. refl) refl (reason_of s j n false)
+  failed_one (other_item n what) =
+      nothing failed_of n (Other what) (skipped (Other what) (other_kind what)) (λ reason. refl) refl (reason_of s j n false)
 
   -- counting a file leaves it in, and makes it no directory
   none_left : (n : List ℕ) (r : Result Count FaultWord) → skipped_of (n, file_fate j n r) ≡ []
@@ -79,7 +81,8 @@ module _ (s : SelectionModel) (j : JobModel) where
   walked_one : (item : Item) → walked_of (name_of item, fate_of s j item) ≡ children_by s j item
   walked_one (file_item n r rules) = nothing walked_of n File (file_fate j n r) (λ reason. refl) (no_child n r) (file_reason s j n)
   walked_one (directory_item n) = none_or walked_of n Dir (walked (child_job j n)) (λ reason. refl) (reason_of s j n true)
-  walked_one (other_item n) = nothing walked_of n Other (skipped Other other_kind) (λ reason. refl) refl (reason_of s j n false)
+  walked_one (other_item n what) =
+      nothing walked_of n (Other what) (skipped (Other what) (other_kind what)) (λ reason. refl) refl (reason_of s j n false)
 
   -- what is left out is left for the reason that the entry has
   skipped_one : (item : Item) → skipped_of (name_of item, fate_of s j item) ≡ skipped_by_item s j item
@@ -93,10 +96,11 @@ module _ (s : SelectionModel) (j : JobModel) where
       at : (o : Option Reason) → skipped_of (n, option_map_or (skipped Dir) o (walked (child_job j n))) ≡ skipped_by n Dir o
       at None = refl
       at (Some reason) = refl
-  skipped_one (other_item n) = at (reason_of s j n false)
+  skipped_one (other_item n what) = at (reason_of s j n false)
     where
       at : (o : Option Reason)
-          → skipped_of (n, option_map_or (skipped Other) o (skipped Other other_kind)) ≡ skipped_by n Other (option_or o (Some other_kind))
+          → skipped_of (n, option_map_or (skipped (Other what)) o (skipped (Other what) (other_kind what)))
+          ≡ skipped_by n (Other what) (option_or o (Some (other_kind what)))
       at None = refl
       at (Some reason) = refl
 

@@ -28,7 +28,7 @@ AsRules = List ℕ → Result (List ℕ) FaultWord
 abbrev pub item_of : Counted → AsRules → List ℕ → Kind → Item
 item_of counted rules name File = file_item name (counted name) (rules name)
 item_of counted rules name Dir = directory_item name
-item_of counted rules name Other = other_item name
+item_of counted rules name (Other what) = other_item name what
 
 abbrev pub item_at : Counted → AsRules → EntryModel → Item
 item_at counted rules e = item_of counted rules e.name e.kind
@@ -40,7 +40,7 @@ entry_item : (counted : Counted) (rules : AsRules) (name : List ℕ) (kind : Kin
     → entry_of (item_of counted rules name kind) ≡ record { name = name; kind = kind }
 entry_item counted rules name File = refl
 entry_item counted rules name Dir = refl
-entry_item counted rules name Other = refl
+entry_item counted rules name (Other what) = refl
 
 -- they are items of these entries
 pub entries_items : (counted : Counted) (rules : AsRules) (es : List EntryModel) → entries_of (items_at counted rules es) ≡ es
@@ -59,7 +59,7 @@ named_one counted rules n m File any items e = at (bytes_eq m n) refl
     at true same = ap (λ l. Some (rules l)) (same_bytes m n same)
     at false other = e
 named_one counted rules n m Dir any items e = e
-named_one counted rules n m Other any items e = e
+named_one counted rules n m (Other what) any items e = e
 
 -- a file of a name is among the items where it is among the entries
 pub file_items : (counted : Counted) (rules : AsRules) (n : List ℕ) (es : List EntryModel)
@@ -72,7 +72,7 @@ directory_one : (counted : Counted) (rules : AsRules) (n m : List ℕ) (kind : K
     has_directory n items ≡ any → has_directory n (item_of counted rules m kind ∷ items) ≡ ((is_dir kind && bytes_eq m n) || any)
 directory_one counted rules n m File any items e = e
 directory_one counted rules n m Dir any items e = ap (λ b. bytes_eq m n || b) e
-directory_one counted rules n m Other any items e = e
+directory_one counted rules n m (Other what) any items e = e
 
 -- and so is a directory
 pub directory_items : (counted : Counted) (rules : AsRules) (n : List ℕ) (es : List EntryModel)
@@ -88,7 +88,7 @@ module _ (lists : List ℕ → Listings) (gives : List ℕ → Contents) (path :
   may_one : (name : List ℕ) (kind : Kind) → MayHave lists gives path (item_of counted rules name kind)
   may_one name File = (may_count name, may_read name)
   may_one name Dir = tt
-  may_one name Other = tt
+  may_one name (Other what) = tt
 
   -- a tree may have items whose files give what it may give
   pub may_items : (es : List EntryModel) → AllByRecursion (MayHave lists gives path) (items_at counted rules es)

@@ -9,6 +9,7 @@ use Rattle.lc_level.specs.Selection.{SelectionModel}
 use Rattle.lc_tree.specs.Kinds.{is_dir}
 use Rattle.lc_tree.specs.declared.entry.Kind.{Kind}
 use Rattle.lc_tree.specs.declared.entry.Kind.TheVariants.{Other}
+use Rattle.lc_tree.specs.declared.entry.OtherKind.{OtherKind}
 use Rattle.lc_rules.specs.IgnoreRules.{RuleModel}
 use Rattle.lc_rules.specs.Verdicts.{verdict_by}
 use Rattle.lc_rules.specs.declared.rule_source.RuleSource.{RuleSource}
@@ -27,12 +28,12 @@ by_ignoring source rule line decides is ignores at =
     told false e = refl
 
 -- what neither is named `.git` nor has another reason is left out for its kind
-pub by_kind : (s : SelectionModel) (j : JobModel) (name path : List ℕ) (kind : Kind) (dir : Bool) → kind ≡ Other
+pub by_kind : (s : SelectionModel) (j : JobModel) (name path : List ℕ) (kind : Kind) (what : OtherKind) (dir : Bool) → kind ≡ Other what
     → false ≡ bytes_eq name (codes ".git") → path ≡ path_in j.path name → dir ≡ is_dir kind → None ≡ reason_at s j path dir
-    → Some other_kind ≡ reason_for s j name kind
-by_kind s j name path kind dir other named at as_dir none =
+    → Some (other_kind what) ≡ reason_for s j name kind
+by_kind s j name path kind what dir other named at as_dir none =
     sym (ap (reason_for s j name) other
-    ∙ ap (λ b. option_or (cond b (Some named_git) (reason_at s j (path_in j.path name) false)) (Some other_kind)) (sym named)
-    ∙ ap (λ p. option_or (reason_at s j p false) (Some other_kind)) (sym at)
-    ∙ ap (λ b. option_or (reason_at s j path b) (Some other_kind)) (sym (as_dir ∙ ap is_dir other))
-    ∙ ap (λ r. option_or r (Some other_kind)) (sym none))
+    ∙ ap (λ b. option_or (cond b (Some named_git) (reason_at s j (path_in j.path name) false)) (Some (other_kind what))) (sym named)
+    ∙ ap (λ p. option_or (reason_at s j p false) (Some (other_kind what))) (sym at)
+    ∙ ap (λ b. option_or (reason_at s j path b) (Some (other_kind what))) (sym (as_dir ∙ ap is_dir other))
+    ∙ ap (λ r. option_or r (Some (other_kind what))) (sym none))

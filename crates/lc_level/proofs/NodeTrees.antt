@@ -37,7 +37,7 @@ use Rattle.lc_tree.proofs.NodesIn.{node_in, each_found}
 entry_by : (name : List ℕ) (file : Content) (kind : Kind) → entry_of (item_by name file kind) ≡ record { name = name; kind = kind }
 entry_by name file File = refl
 entry_by name file Dir = refl
-entry_by name file Other = refl
+entry_by name file (Other what) = refl
 
 entries_are : (children : List Child) → entries_of (map item_of children) ≡ map nodes.entry_of_child children
 entries_are [] = refl
@@ -62,7 +62,7 @@ lists_within (Node-F.Dir entries) =
 lists_within Node-F.Closed = refl
 lists_within (Node-F.File bytes) = refl
 lists_within (Node-F.Failing bytes) = refl
-lists_within Node-F.Other = refl
+lists_within (Node-F.Other what) = refl
 
 lists_node : (o : Option Node) → ListsNode o (answer_of (listing_at o))
 lists_node None = refl
@@ -74,7 +74,7 @@ no_memory_within (Node-F.Dir entries) l = l
 no_memory_within Node-F.Closed l = absurd (cc l)
 no_memory_within (Node-F.File bytes) l = absurd (cc l)
 no_memory_within (Node-F.Failing bytes) l = absurd (cc l)
-no_memory_within Node-F.Other l = absurd (cc l)
+no_memory_within (Node-F.Other what) l = absurd (cc l)
 
 no_memory : (o : Option Node) → ListsNode o (Err Memory) → ⊥
 no_memory None l = absurd (cc l)
@@ -93,7 +93,7 @@ module _ (top : Node) (path : List ℕ) where
         (may_read_rules (content_of (Some node))),
   )
   may_have name node Dir e = tt
-  may_have name node Other e = tt
+  may_have name node (Other what) e = tt
 
   -- of all of them, each of which is found by its name
   all_have : (children : List Child) → have_good_names (map nodes.entry_of_child children) ≡ true
@@ -122,7 +122,7 @@ module _ (top : Node) (path : List ℕ) where
   have_within node Node-F.Closed e is = tt
   have_within node (Node-F.File bytes) e is = tt
   have_within node (Node-F.Failing bytes) e is = tt
-  have_within node Node-F.Other e is = tt
+  have_within node (Node-F.Other what) e is = tt
 
   have_at : (o : Option Node) → node_at top path ≡ o → IfOk (listing_at o) (AllByRecursion (MayHave (mem_lists top) (mem_gives top) path))
   have_at None e = tt
@@ -182,7 +182,7 @@ well_formed_within (Node-F.Dir entries) =
 well_formed_within Node-F.Closed = no_entries
 well_formed_within (Node-F.File bytes) = no_entries
 well_formed_within (Node-F.Failing bytes) = no_entries
-well_formed_within Node-F.Other = no_entries
+well_formed_within (Node-F.Other what) = no_entries
 
 -- and its listings are listings
 pub well_formed_at : (o : Option Node) → IsListing (listed_in (items_at o))

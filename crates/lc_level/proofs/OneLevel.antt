@@ -37,7 +37,13 @@ differ e = absurd (cc e)
 abbrev kind_code : Kind → ℕ
 kind_code File = 0
 kind_code Dir = 1
-kind_code Other = 2
+kind_code (Other what) = 2
+
+-- the item of an entry that is neither a file nor a directory, by its kind
+abbrev other_of : Kind → List ℕ → Item
+other_of File name = directory_item name
+other_of Dir name = directory_item name
+other_of (Other what) name = other_item name what
 
 abbrev first_or : EntryModel → List EntryModel → EntryModel
 first_or d [] = d
@@ -55,13 +61,13 @@ module _ (lists : List ℕ → Listings) (gives : List ℕ → Contents) (one : 
       let rules : r ≡ s = one.rules (path_in path m) r s (subst (λ (l : List ℕ). MayReadRules (gives (path_in path l)) r) name a.1) b.1 in
       ap (λ l. file_item l c r) name ∙ ap (λ x. file_item m x r) count ∙ ap (λ x. file_item m d x) rules
   same_item path (directory_item n) (directory_item m) a b e = ap (λ (x : EntryModel). directory_item x.name) e
-  same_item path (other_item n) (other_item m) a b e = ap (λ (x : EntryModel). other_item x.name) e
+  same_item path (other_item n what) (other_item m how) a b e = ap (λ (x : EntryModel). other_of x.kind x.name) e
   same_item path (file_item n c r) (directory_item m) a b e = let h : 0 ≡ 1 = ap (λ (x : EntryModel). kind_code x.kind) e in absurd (cc h)
-  same_item path (file_item n c r) (other_item m) a b e = let h : 0 ≡ 2 = ap (λ (x : EntryModel). kind_code x.kind) e in absurd (cc h)
+  same_item path (file_item n c r) (other_item m what) a b e = let h : 0 ≡ 2 = ap (λ (x : EntryModel). kind_code x.kind) e in absurd (cc h)
   same_item path (directory_item n) (file_item m d s) a b e = let h : 1 ≡ 0 = ap (λ (x : EntryModel). kind_code x.kind) e in absurd (cc h)
-  same_item path (directory_item n) (other_item m) a b e = let h : 1 ≡ 2 = ap (λ (x : EntryModel). kind_code x.kind) e in absurd (cc h)
-  same_item path (other_item n) (file_item m d s) a b e = let h : 2 ≡ 0 = ap (λ (x : EntryModel). kind_code x.kind) e in absurd (cc h)
-  same_item path (other_item n) (directory_item m) a b e = let h : 2 ≡ 1 = ap (λ (x : EntryModel). kind_code x.kind) e in absurd (cc h)
+  same_item path (directory_item n) (other_item m what) a b e = let h : 1 ≡ 2 = ap (λ (x : EntryModel). kind_code x.kind) e in absurd (cc h)
+  same_item path (other_item n what) (file_item m d s) a b e = let h : 2 ≡ 0 = ap (λ (x : EntryModel). kind_code x.kind) e in absurd (cc h)
+  same_item path (other_item n what) (directory_item m) a b e = let h : 2 ≡ 1 = ap (λ (x : EntryModel). kind_code x.kind) e in absurd (cc h)
 
   same_items : (path : List ℕ) (xs ys : List Item) → AllByRecursion (MayHave lists gives path) xs
       → AllByRecursion (MayHave lists gives path) ys → entries_of xs ≡ entries_of ys → xs ≡ ys

@@ -3,18 +3,19 @@ use Rattle.std.specs.Prelude.{ℕ, List, [], map, Result, Ok}
 use Rattle.lc_census.specs.declared.line_count.Count.{Count}
 use Rattle.lc_tree.specs.Listing.{EntryModel}
 use Rattle.lc_tree.specs.declared.entry.Kind.TheVariants.{File, Dir, Other}
+use Rattle.lc_tree.specs.declared.entry.OtherKind.{OtherKind}
 use Rattle.lc_level.specs.declared.fault_word.FaultWord.{FaultWord}
 
 -- an entry: of a file what counting it gave, its census or a fault, and what reading it whole as rules gave, its bytes or a fault
 pub data Item : Type 0 where
   file_item : (name : List ℕ) → (counted : Result Count FaultWord) → (rules : Result (List ℕ) FaultWord) → Item
   directory_item : (name : List ℕ) → Item
-  other_item : (name : List ℕ) → Item
+  other_item : (name : List ℕ) → OtherKind → Item
 
 abbrev pub entry_of : Item → EntryModel
 entry_of (file_item name counted rules) = record { name = name; kind = File }
 entry_of (directory_item name) = record { name = name; kind = Dir }
-entry_of (other_item name) = record { name = name; kind = Other }
+entry_of (other_item name what) = record { name = name; kind = Other what }
 
 abbrev pub entries_of : List Item → List EntryModel
 entries_of items = map entry_of items

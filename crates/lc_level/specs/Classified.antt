@@ -13,6 +13,7 @@ use Rattle.lc_tree.specs.Listing.{EntryModel}
 use Rattle.lc_level.specs.declared.classify.Classified.{Classified}
 use Rattle.lc_tree.specs.declared.entry.Kind.{Kind}
 use Rattle.lc_tree.specs.declared.entry.Kind.TheVariants.{File, Dir, Other}
+use Rattle.lc_tree.specs.declared.entry.OtherKind.{OtherKind}
 use Rattle.lc_level.specs.declared.open_fault.OpenFault.{OpenFault}
 use Rattle.lc_level.specs.declared.open_fault.OpenFault.TheVariants.{Faulted, Memory, TooDeep}
 
@@ -79,9 +80,9 @@ LeavesOut left_out reason name kind old new (Err TooDeep) = ⊥
 LeavesOut left_out reason name kind old new (Err (Faulted site word)) = ⊥
 
 -- what classifying what is neither a file nor a directory answers
-abbrev pub ClassifiesOther : Bool → Option Reason → List ℕ → Classified → Classified → Result (Unit {0}) OpenFault → Type 0
-ClassifiesOther left_out reason name old new result =
-    LeavesOut left_out (unwrap_or reason other_kind) name Other old new result
+abbrev pub ClassifiesOther : Bool → Option Reason → OtherKind → List ℕ → Classified → Classified → Result (Unit {0}) OpenFault → Type 0
+ClassifiesOther left_out reason what name old new result =
+    LeavesOut left_out (unwrap_or reason (other_kind what)) name (Other what) old new result
 
 -- what classifying one entry more answers: none that is too deep is classified
 abbrev pub ClassifiesEntry : Bool → SelectionModel → JobModel → EntryModel → Classified → Classified → Result (Unit {0}) OpenFault → Type 0

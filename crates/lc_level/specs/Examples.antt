@@ -15,6 +15,7 @@ use Rattle.lc_level.specs.TopJob.{top_job, own_rules}
 use Rattle.lc_level.specs.FileAnswers.{census}
 use Rattle.lc_tree.specs.Nodes.{Child}
 use Rattle.lc_tree.specs.declared.entry.Kind.TheVariants.{File, Other}
+use Rattle.lc_tree.specs.declared.entry.OtherKind.TheVariants.{Special}
 use Rattle.lc_level.specs.declared.fault_word.FaultWord.TheVariants.{Read, Name}
 use Rattle.lc_tree.specs.declared.node.Node.{Node, roll-Node}
 use Rattle.lc_tree.specs.declared.node.Node.TheOpen.{Node-F}
@@ -52,7 +53,7 @@ module _ (alloc : Global) where
   unexported_file = (vec alloc (codes "s") refl, roll-Node (Node-F.File (vec alloc (codes "x") refl)))
 
   abbrev pub link : Child
-  link = (vec alloc (codes "l") refl, roll-Node Node-F.Other)
+  link = (vec alloc (codes "l") refl, roll-Node (Node-F.Other Special))
 
   abbrev pub failing_file : Child
   failing_file = (vec alloc (codes "e") refl, roll-Node (Node-F.Failing (vec alloc (codes "x") refl)))
@@ -61,7 +62,7 @@ module _ (alloc : Global) where
   closed = (vec alloc (codes "b") refl, roll-Node Node-F.Closed)
 
   abbrev pub bad_name : Child
-  bad_name = (vec alloc (codes "x/y") refl, roll-Node Node-F.Other)
+  bad_name = (vec alloc (codes "x/y") refl, roll-Node (Node-F.Other Special))
 
   abbrev pub with_bad_name : Child
   with_bad_name = (vec alloc (codes "d") refl, roll-Node (Node-F.Dir (vec alloc (bad_name ∷ []) refl)))
@@ -84,7 +85,7 @@ small_items =
     whole_file (codes ".git") (codes "x") ∷ whole_file (codes ".gitattributes") (codes "s export-ignore\n")
     ∷ whole_file (codes ".gitignore") (codes "*.o\n") ∷ whole_file (codes "a.o") (codes "x") ∷ directory_item (codes "b")
     ∷ whole_file (codes "c") (codes "one\n") ∷ directory_item (codes "d") ∷ file_item (codes "e") (Err Read) (Err Read)
-    ∷ other_item (codes "l") ∷ whole_file (codes "s") (codes "x") ∷ []
+    ∷ other_item (codes "l") Special ∷ whole_file (codes "s") (codes "x") ∷ []
 
 -- the names of a level's counted files, of the others, and of its child directories; and what is left out, and why
 pub record Names : Type 0 where
@@ -118,7 +119,7 @@ abbrev pub small_outside : List SkippedModel
 small_outside =
     record { name = codes ".git"; kind = File; reason = named_git }
     ∷ record { name = codes "a.o"; kind = File; reason = by_rule (Gitignore 0) 1 }
-    ∷ record { name = codes "l"; kind = Other; reason = other_kind } ∷ []
+    ∷ record { name = codes "l"; kind = Other Special; reason = other_kind Special } ∷ []
 
 abbrev pub small_as_it_is : Names
 small_as_it_is = record {

@@ -11,6 +11,7 @@ use Rattle.lc_rules.specs.declared.states.TextState.{TextState}
 use Rattle.lc_census.specs.declared.line_count.Count.{Count}
 use Rattle.lc_tree.specs.declared.entry.Kind.{Kind}
 use Rattle.lc_tree.specs.declared.entry.Kind.TheVariants.{File, Dir, Other}
+use Rattle.lc_tree.specs.declared.entry.OtherKind.{OtherKind}
 use Rattle.lc_level.specs.declared.fault_word.FaultWord.{FaultWord}
 use Rattle.lc_level.specs.declared.fault_word.FaultWord.TheVariants.{Absent}
 use Rattle.lc_glob.specs.Path.{path_in}
@@ -35,13 +36,13 @@ pub record FileFaultModel : Type 0 where
 
 -- why an entry is left out, the first that holds: it is named `.git`; the rule that decides ignores it, and stands in a file of this
 -- source, on the line with this number; an attribute has the state for it that this word asks for; it is a file that no pattern
--- includes; it is neither a file nor a directory
+-- includes; it is of another kind than those
 pub data Reason : Type 0 where
   named_git : Reason
   by_rule : RuleSource → (line : ℕ) → Reason
   by_attribute : (word : List ℕ) → Reason
   not_included : Reason
-  other_kind : Reason
+  other_kind : OtherKind → Reason
 
 -- an entry that is left out: what stands under its name, and why it is
 pub record SkippedModel : Type 0 where
@@ -99,7 +100,7 @@ file_reason s j name = option_or (reason_of s j name false) (include_reason (pat
 abbrev pub reason_for : SelectionModel → JobModel → List ℕ → Kind → Option Reason
 reason_for s j name File = file_reason s j name
 reason_for s j name Dir = reason_of s j name true
-reason_for s j name Other = option_or (reason_of s j name false) (Some other_kind)
+reason_for s j name (Other what) = option_or (reason_of s j name false) (Some (other_kind what))
 
 -- nothing does
 abbrev pub is_kept : SelectionModel → JobModel → List ℕ → Bool → Bool
@@ -131,7 +132,8 @@ file_fate j name (Err word) = failed word
 abbrev pub fate_of : SelectionModel → JobModel → Item → Fate
 fate_of s j (file_item name count rules) = option_map_or (skipped File) (file_reason s j name) (file_fate j name count)
 fate_of s j (directory_item name) = option_map_or (skipped Dir) (reason_of s j name true) (walked (child_job j name))
-fate_of s j (other_item name) = option_map_or (skipped Other) (reason_of s j name false) (skipped Other other_kind)
+fate_of s j (other_item name what) =
+    option_map_or (skipped (Other what)) (reason_of s j name false) (skipped (Other what) (other_kind what))
 
 abbrev pub fates_of : SelectionModel → JobModel → List Item → List (List ℕ × Fate)
 fates_of s j items = map (λ item. (name_of item, fate_of s j item)) items

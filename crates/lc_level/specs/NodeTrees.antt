@@ -19,7 +19,7 @@ use Rattle.lc_tree.specs.declared.read_fault.ReadFault.TheVariants.{Failed}
 abbrev pub item_by : List ℕ → Content → Kind → Item
 item_by name file File = file_item name (counted file) (read_as_rules file)
 item_by name file Dir = directory_item name
-item_by name file Other = other_item name
+item_by name file (Other what) = other_item name what
 
 abbrev pub item_of : Child → Item
 item_of child = item_by child.0.items (content_of (Some child.1)) (kind_of child.1)
@@ -30,7 +30,7 @@ listing_within (Node-F.Dir entries) = listed entry_of (map item_of entries.items
 listing_within Node-F.Closed = Err Failed
 listing_within (Node-F.File bytes) = Err Failed
 listing_within (Node-F.Failing bytes) = Err Failed
-listing_within Node-F.Other = Err Failed
+listing_within (Node-F.Other what) = Err Failed
 
 abbrev pub listing_at : Option Node → Result (List Item) ReadFault
 listing_at None = Err Failed

@@ -14,7 +14,7 @@ abbrev pub file_named : List ℕ → List Item → Option (Result (List ℕ) Fau
 file_named name [] = None
 file_named name (file_item m counted rules ∷ items) = cond (bytes_eq m name) (Some rules) (file_named name items)
 file_named name (directory_item m ∷ items) = file_named name items
-file_named name (other_item m ∷ items) = file_named name items
+file_named name (other_item m what ∷ items) = file_named name items
 
 -- the same of an ignore file: nothing where none is read
 abbrev pub ignore_named : Bool → List ℕ → List Item → Option (Result (List ℕ) FaultWord)
@@ -25,7 +25,7 @@ abbrev pub has_directory : List ℕ → List Item → Bool
 has_directory name [] = false
 has_directory name (file_item m counted rules ∷ items) = has_directory name items
 has_directory name (directory_item m ∷ items) = bytes_eq m name || has_directory name items
-has_directory name (other_item m ∷ items) = has_directory name items
+has_directory name (other_item m what ∷ items) = has_directory name items
 
 abbrev pub is_top : List ℕ → Bool
 is_top [] = true

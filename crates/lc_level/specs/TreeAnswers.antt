@@ -26,7 +26,7 @@ module _ (lists : List ℕ → Listings) (gives : List ℕ → Contents) where
   MayHave path (file_item name counted rules) = MayCount (gives (path_in path name)) counted
       × MayReadRules (gives (path_in path name)) rules
   MayHave path (directory_item name) = Unit {0}
-  MayHave path (other_item name) = Unit {0}
+  MayHave path (other_item name what) = Unit {0}
 
   abbrev pub MayList : List ℕ → Items → Type 0
   MayList path (Ok items) = lists path (Ok (entries_of items)) × AllByRecursion (MayHave path) items

@@ -16,7 +16,7 @@ use crate::path_buffer::PathBuffer;
 use crate::reason::{ReasonRef, SkippedEntry};
 use lc_glob::path::is_too_deep;
 use lc_rules::IgnoreFile;
-use lc_tree::{Entry, Kind, Tree};
+use lc_tree::{Entry, Kind, OtherKind, Tree};
 use std::alloc::Global;
 use std::marker::Model;
 
@@ -139,19 +139,20 @@ impl<T: Tree> LevelReader<'_, T> {
     fn classify_other(
         &self,
         job: &Job,
+        what: OtherKind,
         name: Vec<u8>,
         path: &[u8],
         found: &mut Classified,
     ) -> Result<(), OpenFault>
-        ensures { ClassifiesOther self.now.options.left_out (reason_at self.now.selection job.now path.now false) name.items
+        ensures { ClassifiesOther self.now.options.left_out (reason_at self.now.selection job.now path.now false) what name.items
             found.old found.new result }
     {
         if !self.options.left_out {
             return Ok(());
         }
         match self.reason_at(job, path, false) {
-            Ok(None) => self.leave_out(name, Kind::Other, ReasonRef::OtherKind, found),
-            Ok(Some(reason)) => self.leave_out(name, Kind::Other, reason, found),
+            Ok(None) => self.leave_out(name, Kind::Other(what), ReasonRef::OtherKind(what), found),
+            Ok(Some(reason)) => self.leave_out(name, Kind::Other(what), reason, found),
             Err(_) => Err(OpenFault::Memory),
         }
     }
@@ -178,7 +179,7 @@ impl<T: Tree> LevelReader<'_, T> {
         match entry.kind {
             Kind::File => self.classify_file(job, include, entry.name, path.as_slice(), found),
             Kind::Dir => self.classify_directory(job, entry.name, path.as_slice(), found),
-            Kind::Other => self.classify_other(job, entry.name, path.as_slice(), found),
+            Kind::Other(what) => self.classify_other(job, what, entry.name, path.as_slice(), found),
         }
     }
 

@@ -37,6 +37,7 @@ mod laws;
 mod lent_paths;
 mod level_reader;
 mod listing;
+mod named_attributes;
 mod narrowing;
 mod only_paths;
 mod open_fault;
@@ -67,6 +68,7 @@ pub use laws::{
     level_examples_hold, one_answer_is_one_level, trees_of_memory_give_one, work_is_a_level,
 };
 pub use level_reader::{LevelReader, ReaderOptions};
+pub use named_attributes::NamedAttributes;
 pub use only_paths::OnlyPaths;
 pub use open_fault::OpenFault;
 pub use opening::Opened;

@@ -48,7 +48,7 @@ fn leads_on(rests: &[&[u8]], entry: &Entry) -> bool
     }
     match entry.kind {
         Kind::Dir => has_below(rests, &entry.name),
-        Kind::File | Kind::Other => false,
+        Kind::File | Kind::Other(_) => false,
     }
 }
 
@@ -61,7 +61,7 @@ fn leads_to(entry: &Entry, rest: &[u8]) -> bool
     }
     match entry.kind {
         Kind::Dir => stands_below(rest, &entry.name),
-        Kind::File | Kind::Other => false,
+        Kind::File | Kind::Other(_) => false,
     }
 }
 

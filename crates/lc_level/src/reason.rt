@@ -4,7 +4,7 @@ ghost use Rattle.std.specs.Prelude.{◌≡◌, IfOk};
 ghost use Rattle.lc_level.specs.Reasons.{reason_model, reason_ref_model};
 
 use lc_rules::RuleSource;
-use lc_tree::Kind;
+use lc_tree::{Kind, OtherKind};
 use std::alloc::{AllocError, Global};
 use std::marker::Model;
 
@@ -19,8 +19,8 @@ pub enum Reason {
     Attribute(Vec<u8>),
     /// It is a file, and no pattern of the selection includes it.
     Include,
-    /// It is neither a file nor a directory.
-    OtherKind,
+    /// It is of another kind than the files that are read and the directories that are entered.
+    OtherKind(OtherKind),
 }
 
 impl Reason {
@@ -36,7 +36,7 @@ impl Reason {
             }),
             Reason::Attribute(word) => Ok(Reason::Attribute(word.to_vec(alloc)?)),
             Reason::Include => Ok(Reason::Include),
-            Reason::OtherKind => Ok(Reason::OtherKind),
+            Reason::OtherKind(what) => Ok(Reason::OtherKind(*what)),
         }
     }
 }
@@ -48,7 +48,7 @@ pub(crate) enum ReasonRef<'a> {
     Rule { source: RuleSource, line: u32 },
     Attribute(&'a [u8]),
     Include,
-    OtherKind,
+    OtherKind(OtherKind),
 }
 
 impl ReasonRef<'_> {
@@ -61,7 +61,7 @@ impl ReasonRef<'_> {
             ReasonRef::Rule { source, line } => Ok(Reason::Rule { source, line }),
             ReasonRef::Attribute(word) => Ok(Reason::Attribute(word.to_vec(alloc)?)),
             ReasonRef::Include => Ok(Reason::Include),
-            ReasonRef::OtherKind => Ok(Reason::OtherKind),
+            ReasonRef::OtherKind(what) => Ok(Reason::OtherKind(what)),
         }
     }
 }

@@ -135,6 +135,7 @@ impl<T: Tree> LevelReader<'_, T> {
         if !self.read_named(listing, name, scratch)? {
             return Ok(None);
         }
+        self.selection.note(&scratch.rules);
         match AttrFile::read(self.alloc, &scratch.rules, top) {
             Ok(file) => match Arc::new(self.alloc, file) {
                 Ok(file) => Ok(Some(file)),

@@ -8,6 +8,7 @@ ghost use Rattle.lc_rules.specs.Models.{state_model};
 use crate::included::patterns_for;
 use crate::job::Job;
 use crate::lent_paths::LentPaths;
+use crate::named_attributes::NamedAttributes;
 use crate::narrowing::Wanted;
 use crate::only_paths::OnlyPaths;
 use lc_glob::cut_at_first;
@@ -33,6 +34,7 @@ pub struct Selection<'o> {
     without: &'o [&'o str],
     only: LentPaths<'o>,
     include: Option<&'o IgnoreFile>,
+    named: Option<&'o NamedAttributes<'o>>,
 }
 
 impl<'o> Model for Selection<'o> {
@@ -94,6 +96,7 @@ impl<'o> Selection<'o> {
             without,
             only: LentPaths::none(),
             include: None,
+            named: None,
         }
     }
 
@@ -106,6 +109,7 @@ impl<'o> Selection<'o> {
             without: self.without,
             only: self.only.copy(),
             include: self.include,
+            named: self.named,
         }
     }
 
@@ -118,6 +122,7 @@ impl<'o> Selection<'o> {
             without: self.without,
             only: only.lend(),
             include: self.include,
+            named: self.named,
         }
     }
 
@@ -131,6 +136,27 @@ impl<'o> Selection<'o> {
             without: self.without,
             only: self.only,
             include: patterns,
+            named: self.named,
+        }
+    }
+
+    /// Notes there which attributes the attribute files name that are read by this selection.
+    pub fn noting(self, named: Option<&'o NamedAttributes<'o>>) -> Selection<'o>
+        ensures { result ≡ self.entry }
+    {
+        Selection {
+            archive: self.archive,
+            without: self.without,
+            only: self.only,
+            include: self.include,
+            named,
+        }
+    }
+
+    /// Notes which attributes stand in the bytes of an attribute file, where this is asked for.
+    pub(crate) fn note(&self, bytes: &[u8]) {
+        if let Some(named) = self.named {
+            named.note(bytes);
         }
     }
 

@@ -71,7 +71,7 @@ impl<'t, T> LevelReader<'t, T> {
                 Some(Reason::Include)
             }),
             Kind::Dir => Ok(None),
-            Kind::Other => Ok(Some(Reason::OtherKind)),
+            Kind::Other(what) => Ok(Some(Reason::OtherKind(what))),
         }
     }
 }

@@ -9,6 +9,7 @@ mod filters;
 mod in_parts;
 mod left_out;
 mod levels;
+mod named;
 mod narrowed;
 mod repository;
 mod rule_text;

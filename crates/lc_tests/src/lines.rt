@@ -3,7 +3,7 @@
 use lc_census::Eol;
 use lc_level::Reason;
 use lc_rules::{RuleSource, TextState};
-use lc_tree::Kind;
+use lc_tree::{Kind, OtherKind};
 use std::alloc::AllocError;
 
 const TEXT_STATES: &[TextState] = &[
@@ -68,7 +68,8 @@ pub fn push_kind(text: &mut String, kind: Kind) -> Result<(), AllocError> {
     match kind {
         Kind::Dir => text.push_str("/"),
         Kind::File => Ok(()),
-        Kind::Other => text.push_str("@"),
+        Kind::Other(OtherKind::Special) => text.push_str("@"),
+        Kind::Other(OtherKind::Mounted) => text.push_str("@/"),
     }
 }
 
@@ -101,7 +102,8 @@ pub fn push_reason(text: &mut String, reason: &Reason) -> Result<(), AllocError>
             push_name(text, word)
         }
         Reason::Include => text.push_str("include"),
-        Reason::OtherKind => text.push_str("other"),
+        Reason::OtherKind(OtherKind::Special) => text.push_str("other"),
+        Reason::OtherKind(OtherKind::Mounted) => text.push_str("filesystem"),
     }
 }
 

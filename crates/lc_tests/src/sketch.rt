@@ -1,6 +1,6 @@
 //! Trees of memory by a sketch.
 
-use lc_tree::Node;
+use lc_tree::{Node, OtherKind};
 use std::alloc::{AllocError, Global};
 
 /// A directory that is being read: its name, and its entries up to here.
@@ -32,11 +32,14 @@ fn entry<'a>(alloc: Global, word: &'a str) -> Result<(&'a str, Node), AllocError
     if let Some((name, text)) = word.split_once('!') {
         return Ok((name, Node::Failing(content(alloc, text)?)));
     }
+    if let Some(name) = word.strip_suffix("@/") {
+        return Ok((name, Node::Other(OtherKind::Mounted)));
+    }
     if let Some(name) = word.strip_suffix('/') {
         return Ok((name, Node::Dir(Vec::new(alloc))));
     }
     match word.strip_suffix('@') {
-        Some(name) => Ok((name, Node::Other)),
+        Some(name) => Ok((name, Node::Other(OtherKind::Special))),
         None => Ok((word, Node::File(b"x\n".to_vec(alloc)?))),
     }
 }

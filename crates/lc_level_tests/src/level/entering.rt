@@ -6,7 +6,7 @@ use lc_level::{
 };
 use lc_rules::{RuleSource, Verdict};
 use lc_tests::{has_words, push_name, push_reason, tree};
-use lc_tree::{Kind, MemTree};
+use lc_tree::{Kind, MemTree, OtherKind};
 use std::alloc::{AllocError, Global};
 use std::process::Abort;
 use std::test::Fail;
@@ -139,7 +139,8 @@ type Judged = (&'static [u8], Kind, &'static str);
 const JUDGED: &[Judged] = &[
     (b"docs", Kind::Dir, "attribute export-ignore"),
     (b"m.c", Kind::File, ""),
-    (b"m.c", Kind::Other, "other"),
+    (b"m.c", Kind::Other(OtherKind::Special), "other"),
+    (b"m", Kind::Other(OtherKind::Mounted), "filesystem"),
     (b".git", Kind::Dir, "git"),
     (b"a.log", Kind::File, "rule .gitignore:1"),
 ];

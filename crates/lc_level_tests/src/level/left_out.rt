@@ -4,6 +4,7 @@ use crate::level::work::{Case, Part, check, check_parts};
 use lc_level::Reason;
 use lc_rules::RuleSource;
 use lc_tests::push_reason;
+use lc_tree::OtherKind;
 use std::alloc::{AllocError, Global};
 use std::test::Fail;
 
@@ -13,6 +14,7 @@ const EACH: &str = "
     .gitattributes=docs_export-ignore;
     .gitignore=*.log;!keep.log;gen;
     a.log
+    disk@/
     docs/
     gen/
     keep.log
@@ -20,6 +22,7 @@ const EACH: &str = "
     notes.txt
     old.log@
     src/
+    tmp.log@/
     x.bak";
 
 const OF_EACH: &str = "
@@ -29,11 +32,13 @@ const OF_EACH: &str = "
     src/
     left git .git/
     left rule .gitignore:1 a.log
+    left filesystem disk@/
     left attribute export-ignore docs/
     left rule .gitignore:3 gen/
     left other link.c@
     left rule .git/info/exclude:3 notes.txt
     left rule .gitignore:1 old.log@
+    left rule .gitignore:1 tmp.log@/
     left rule --exclude-from:2 x.bak";
 
 const SEVERAL: &str = "
@@ -138,6 +143,7 @@ fn a_reason_is_copied(rt: HostRuntime) -> Result<(), Fail> {
     );
     let attribute = copied(alloc, &attribute(alloc, b"export-ignore")?)?;
     assert_eq!(rt; attribute.as_str(), "attribute export-ignore");
-    assert_eq!(rt; copied(alloc, &Reason::OtherKind)?.as_str(), "other");
+    let mounted = copied(alloc, &Reason::OtherKind(OtherKind::Mounted))?;
+    assert_eq!(rt; mounted.as_str(), "filesystem");
     Ok(())
 }

@@ -6,13 +6,19 @@ use std::test::Fail;
 const LISTED: &[Case] = &[
     (
         "each kind",
-        "f d/ o@ e!x c/!",
+        "f d/ o@ e!x c/! m@/",
         "",
-        "f, fault read e, c/, d/, left other o@",
+        "f, fault read e, c/, d/, left filesystem m@/, left other o@",
     ),
     (".git is a directory", ".git/ a", "", "a, left git .git/"),
     (".git is a file", ".git a", "", "a, left git .git"),
     (".git is another kind", ".git@ a", "", "a, left git .git@"),
+    (
+        ".git is on another file system",
+        ".git@/ a",
+        "",
+        "a, left git .git@/",
+    ),
     (
         ".git has a file",
         ".git/{ HEAD } a",
