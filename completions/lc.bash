@@ -28,7 +28,7 @@ _lc() {
         *)
           local options='--exclude --exclude-from --include --no-ignore --archive --without --null --help'
           if [ "${COMP_WORDS[1]}" = count ]; then
-            options+=' --only --only-from --files --left-out --format --by --depth --sort --top --share --threads --max-dirs'
+            options+=' --only --only-from --one-file-system --files --left-out --format --by --depth --sort --top --share --threads --max-dirs'
           fi
           case ${COMP_WORDS[1]}$current in
             count-* | explain-*) mapfile -t COMPREPLY < <(compgen -W "$options" -- "$current") ;;

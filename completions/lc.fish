@@ -19,6 +19,7 @@ complete -c lc -n '__fish_seen_subcommand_from count explain' -l archive -d 'Ski
 complete -c lc -n '__fish_seen_subcommand_from count explain' -l without -x -a 'linguist-vendored linguist-generated linguist-documentation' -d 'Skip what has this attribute'
 complete -c lc -n '__fish_seen_subcommand_from count explain' -l exclude-from -r -F -d 'Skip what the patterns in FILE match'
 complete -c lc -n '__fish_seen_subcommand_from count' -l only -r -F -d 'Count only what is at or under PATH'
+complete -c lc -n '__fish_seen_subcommand_from count' -l one-file-system -s x -d 'Skip directories on other file systems'
 complete -c lc -n '__fish_seen_subcommand_from count' -l only-from -r -F -d 'Count only the paths that FILE lists'
 complete -c lc -n '__fish_seen_subcommand_from count' -l format -x -a 'tsv table json csv markdown' -d 'How to print'
 complete -c lc -n '__fish_seen_subcommand_from count' -l by -x -a 'dir ext text eol dir,ext ext,text ext,eol text,eol' -d 'Sum rows by these columns'

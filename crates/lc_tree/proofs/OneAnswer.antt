@@ -55,7 +55,7 @@ once_within (Node-F.Dir entries) a b p q = one_answer _ a b p q
 once_within Node-F.Closed a b p q = p ∙ sym q
 once_within (Node-F.File bytes) a b p q = p ∙ sym q
 once_within (Node-F.Failing bytes) a b p q = p ∙ sym q
-once_within Node-F.Other a b p q = p ∙ sym q
+once_within (Node-F.Other what) a b p q = p ∙ sym q
 
 -- a node is listed in one way
 pub lists_once : (node : Option Node) (a b : Result (List EntryModel) ReadFault) → ListsNode node a → ListsNode node b → a ≡ b

@@ -7,6 +7,7 @@ use Rattle.std.specs.Borrow.{Bor}
 use Rattle.std.specs.declared.alloc.Global.{Global}
 use Rattle.lc_tree.specs.Nodes.{Child, child_among, child_of, child_within, node_below}
 use Rattle.lc_tree.specs.Sketches.{Drawn, Has, HasWithin, IsTreeOf, sketch_among, sketch_below, sketch_within}
+use Rattle.lc_tree.specs.declared.entry.OtherKind.{OtherKind}
 use Rattle.lc_tree.specs.declared.node.Node.{Node, out-Node, out-roll-Node}
 use Rattle.lc_tree.specs.declared.node.Node.TheOpen.{Node-F}
 use Rattle.lc_tree.specs.declared.node.Node.TheVariants as node
@@ -101,11 +102,11 @@ is_closed =
     (ap out-Sketch (sym sketch.rolls-Closed) ∙ out-roll-Sketch Sketch-F.Closed)
     (ap out-Node (sym node.rolls-Closed) ∙ out-roll-Node Node-F.Closed) tt (λ name names. tt)
 
-pub is_other : IsTreeOf sketch.Other node.Other
-is_other =
-    by_contents sketch.Other node.Other Sketch-F.Other Node-F.Other
-    (ap out-Sketch (sym sketch.rolls-Other) ∙ out-roll-Sketch Sketch-F.Other)
-    (ap out-Node (sym node.rolls-Other) ∙ out-roll-Node Node-F.Other) tt (λ name names. tt)
+pub is_other : (what : OtherKind) → IsTreeOf (sketch.Other what) (node.Other what)
+is_other what =
+    by_contents (sketch.Other what) (node.Other what) (Sketch-F.Other what) (Node-F.Other what)
+    (ap out-Sketch (sym (sketch.rolls-Other what)) ∙ out-roll-Sketch (Sketch-F.Other what))
+    (ap out-Node (sym (node.rolls-Other what)) ∙ out-roll-Node (Node-F.Other what)) refl (λ name names. tt)
 
 pub is_file : (bytes : Bor (List ℕ)) (held : Vec ℕ Global) → held.items ≡ bytes.now → IsTreeOf (sketch.File bytes) (node.File held)
 is_file bytes held same =

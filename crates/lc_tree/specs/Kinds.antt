@@ -6,9 +6,9 @@ use Rattle.lc_tree.specs.declared.entry.Kind.TheVariants.{File, Dir, Other}
 abbrev pub is_file : Kind → Bool
 is_file File = true
 is_file Dir = false
-is_file Other = false
+is_file (Other what) = false
 
 abbrev pub is_dir : Kind → Bool
 is_dir File = false
 is_dir Dir = true
-is_dir Other = false
+is_dir (Other what) = false

@@ -27,7 +27,7 @@ ListsWithin (Node-F.Dir entries) answer = IsAnswerFor (map entry_of_child entrie
 ListsWithin Node-F.Closed answer = answer ≡ Err fault.Failed
 ListsWithin (Node-F.File bytes) answer = answer ≡ Err fault.Failed
 ListsWithin (Node-F.Failing bytes) answer = answer ≡ Err fault.Failed
-ListsWithin Node-F.Other answer = answer ≡ Err fault.Failed
+ListsWithin (Node-F.Other what) answer = answer ≡ Err fault.Failed
 
 abbrev pub ListsNode : Option Node → Listings
 ListsNode None answer = answer ≡ Err fault.Failed
@@ -42,7 +42,7 @@ content_within (Node-F.File bytes) = record { bytes = bytes.items; fails = false
 content_within (Node-F.Failing bytes) = record { bytes = bytes.items; fails = true }
 content_within (Node-F.Dir entries) = nothing
 content_within Node-F.Closed = nothing
-content_within Node-F.Other = nothing
+content_within (Node-F.Other what) = nothing
 
 abbrev pub content_of : Option Node → Content
 content_of None = nothing

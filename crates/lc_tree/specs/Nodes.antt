@@ -14,7 +14,7 @@ kind_within (Node-F.Dir entries) = Dir
 kind_within Node-F.Closed = Dir
 kind_within (Node-F.File bytes) = File
 kind_within (Node-F.Failing bytes) = File
-kind_within Node-F.Other = Other
+kind_within (Node-F.Other what) = Other what
 
 abbrev pub kind_of : Node → Kind
 kind_of node = kind_within (out-Node node)
@@ -37,7 +37,7 @@ child_within name (Node-F.Dir entries) = child_among name entries.items
 child_within name Node-F.Closed = None
 child_within name (Node-F.File bytes) = None
 child_within name (Node-F.Failing bytes) = None
-child_within name Node-F.Other = None
+child_within name (Node-F.Other what) = None
 
 abbrev pub child_of : List ℕ → Node → Option Node
 child_of name node = child_within name (out-Node node)

@@ -20,7 +20,7 @@ sketch_within name (Sketch-F.Dir entries) = sketch_among name entries.now
 sketch_within name Sketch-F.Closed = None
 sketch_within name (Sketch-F.File bytes) = None
 sketch_within name (Sketch-F.Failing bytes) = None
-sketch_within name Sketch-F.Other = None
+sketch_within name (Sketch-F.Other what) = None
 
 -- the sketch that these names lead to, one after another
 abbrev pub sketch_below : List (List ℕ) → Sketch → Option Sketch
@@ -35,7 +35,7 @@ HasWithin (Sketch-F.Dir entries) (Node-F.Dir children) =
 HasWithin Sketch-F.Closed Node-F.Closed = Unit {0}
 HasWithin (Sketch-F.File bytes) (Node-F.File held) = held.items ≡ bytes.now
 HasWithin (Sketch-F.Failing bytes) (Node-F.Failing held) = held.items ≡ bytes.now
-HasWithin Sketch-F.Other Node-F.Other = Unit {0}
+HasWithin (Sketch-F.Other what) (Node-F.Other is) = is ≡ what
 HasWithin _ _ = ⊥
 
 -- there is neither a sketch nor a node, or a node that has what is written

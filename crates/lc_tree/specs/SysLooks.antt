@@ -1,38 +1,48 @@
 -- What looks at the entries of a directory of the system tell of them.
-use Rattle.std.specs.Prelude.{◌≡◌, ◌≢◌, ◌⊎◌, ℕ, Bool, nat_lt, List, [], ◌∷◌, ◌++◌, length, map, Option, Some, None, Result, Ok, Err}
+use Rattle.std.specs.Prelude.{◌≡◌, ◌≢◌, ◌⊎◌, ℕ, Bool, true, false, nat_lt, List, [], ◌∷◌, ◌++◌, length, map, Option, Some, None, Result, Ok, Err}
 use Rattle.std.specs.Prelude.{IsTrue, IsFalse, Vec}
 use Rattle.std.specs.Fs.{file_type, IsFile, IsDir}
 use Rattle.std.specs.Global.{Global}
 use Rattle.std.specs.IoError.{error_kind}
 use Rattle.std.specs.Str.{IsUtf8}
-use Rattle.std.specs.declared.fs.attrs.Metadata.{Metadata}
 use Rattle.std.specs.declared.io.Error.{Error}
 use Rattle.std.specs.declared.io.ErrorKind.TheVariants.{NotFound, Interrupted}
 use Rattle.lc_glob.specs.Path.{path_in, max_path}
 use Rattle.lc_tree.specs.Listing.{EntryModel}
 use Rattle.lc_tree.specs.declared.entry.Kind.{Kind}
 use Rattle.lc_tree.specs.declared.entry.Kind.TheVariants.{File, Dir, Other}
+use Rattle.lc_tree.specs.declared.entry.OtherKind.TheVariants.{Special, Mounted}
+use Rattle.lc_tree.specs.declared.file_systems.Bounds.{Bounds}
+use Rattle.lc_tree.specs.declared.file_systems.Bounds.TheVariants as bounds
 use Rattle.lc_tree.specs.declared.read_fault.ReadFault.{ReadFault}
 use Rattle.lc_tree.specs.declared.read_fault.ReadFault.TheVariants as fault
+use Rattle.lc_tree.specs.declared.sys_looks.Looked.{Looked}
 
 -- what a look at a path may answer: what is known of what is there, or an error
 abbrev pub Looks : Type 1
-Looks = Result Metadata Error → Type 0
+Looks = Result Looked Error → Type 0
 
--- anything but that a signal interrupted the look
-abbrev pub AnyLook : Looks
-AnyLook (Ok found) = Unit {0}
-AnyLook (Err error) = error_kind error ≢ Interrupted
+-- whether a tree stays on one file system
+abbrev pub stays : Bounds → Bool
+stays bounds.Everywhere = false
+stays (bounds.Device number) = true
+stays bounds.TopAlone = true
 
--- the kind of what has this metadata; a link is neither a regular file nor a directory
-abbrev pub IsKindOf : Metadata → Kind → Type 0
-IsKindOf found File = IsFile (file_type found)
-IsKindOf found Dir = IsDir (file_type found)
-IsKindOf found Other = (IsFile (file_type found) → ⊥) × (IsDir (file_type found) → ⊥)
+-- anything but that a signal interrupted the look, or that a tree which does not stay on one file system is left
+abbrev pub AnyLook : Bounds → Looks
+AnyLook within (Ok found) = IsTrue found.is_outside → IsTrue (stays within)
+AnyLook within (Err error) = error_kind error ≢ Interrupted
+
+-- the kind of what a look found; a link is neither a regular file nor a directory
+abbrev pub IsKindOf : Looked → Kind → Type 0
+IsKindOf found File = IsFile (file_type found.metadata)
+IsKindOf found Dir = IsDir (file_type found.metadata) × IsFalse found.is_outside
+IsKindOf found (Other Mounted) = IsDir (file_type found.metadata) × IsTrue found.is_outside
+IsKindOf found (Other Special) = (IsFile (file_type found.metadata) → ⊥) × (IsDir (file_type found.metadata) → ⊥)
 
 -- what such an answer tells: the kind of what is there, that nothing is, or that it can't be told
 abbrev pub Tells : Looks → Result (Option Kind) ReadFault → Type 0
-Tells may (Ok (Some kind)) = (found : Metadata) × may (Ok found) × IsKindOf found kind
+Tells may (Ok (Some kind)) = (found : Looked) × may (Ok found) × IsKindOf found kind
 Tells may (Ok None) = (error : Error) × may (Err error) × (error_kind error ≡ NotFound)
 Tells may (Err fault.Failed) = (error : Error) × may (Err error) × (error_kind error ≢ NotFound)
 Tells may (Err fault.Unnamed) = ⊥
@@ -58,7 +68,7 @@ entry_of name (Some kind) = record { name = name; kind = kind } ∷ []
 module _ (may : List ℕ → Looks) (directory text : List ℕ) where
   -- what is told of a name that is UTF-8: where its path is too long that it is something else, without a look
   abbrev pub TellsOf : List ℕ → Result (Option Kind) ReadFault → Type 0
-  TellsOf name told = (IsTrue (is_beyond directory name) × (told ≡ Ok (Some Other)))
+  TellsOf name told = (IsTrue (is_beyond directory name) × (told ≡ Ok (Some (Other Special))))
       ⊎ (IsFalse (is_beyond directory name) × Tells (may (text ++ name)) told)
 
   -- the entry of a name, or that there is none

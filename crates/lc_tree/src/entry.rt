@@ -4,6 +4,15 @@ ghost use Rattle.lc_tree.specs.Kinds.{is_file, is_dir};
 
 use std::marker::Model;
 
+/// Why an entry is neither a file that is read nor a directory that is entered.
+#[derive(Clone, Copy, Debug, Drop, PartialEq, Eq)]
+pub enum OtherKind {
+    /// It is neither a regular file nor a directory: a symbolic link, for instance.
+    Special,
+    /// It is a directory on another file system than the top of its tree, which stays on one.
+    Mounted,
+}
+
 /// What stands under a name in a directory.
 #[derive(Clone, Copy, Debug, Drop, PartialEq, Eq)]
 pub enum Kind {
@@ -12,7 +21,7 @@ pub enum Kind {
     /// A directory.
     Dir,
     /// Anything else, symbolic links included.
-    Other,
+    Other(OtherKind),
 }
 
 impl Kind {

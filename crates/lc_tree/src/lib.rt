@@ -3,6 +3,7 @@
 //! - `tree`: the trait `Tree`
 //! - `entry`, `listing`: the entries of one directory, in the order of their names
 //! - `read_fault`: why a tree did not answer
+//! - `file_systems`: the file systems whose directories a tree of the system enters
 //! - `sys_tree`, `sys_list`, `sys_names`, `sys_entries`, `sys_looks`: a directory of the system as a tree
 //! - `system_call`: calls of the system that signals interrupt
 //! - `list_parts`: the listing of a large directory, with the help of idle threads; `idle_threads`: how many there are
@@ -12,6 +13,7 @@
 #![tactic(auto)]
 
 mod entry;
+mod file_systems;
 mod idle_threads;
 mod laws;
 mod list_parts;
@@ -30,7 +32,8 @@ mod system_call;
 mod tree;
 pub mod trials;
 
-pub use entry::{Entry, Kind};
+pub use entry::{Entry, Kind, OtherKind};
+pub use file_systems::FileSystems;
 pub use idle_threads::IdleThreads;
 pub use laws::{the_limit_is_this_number, trees_of_memory_list_once};
 pub use list_parts::list_in_parts;

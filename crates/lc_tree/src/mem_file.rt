@@ -34,7 +34,7 @@ impl<'a> MemFile<'a> {
                 fails: false,
             }),
             Node::Failing(bytes) => Some(MemFile { bytes, fails: true }),
-            Node::Dir(_) | Node::Closed | Node::Other => None,
+            Node::Dir(_) | Node::Closed | Node::Other(_) => None,
         }
     }
 }

@@ -4,7 +4,7 @@ ghost use Rattle.std.specs.Option.{option_copied};
 ghost use Rattle.lc_glob.specs.Path.{segments_of};
 ghost use Rattle.lc_tree.specs.Nodes.{kind_of, child_among, child_of, node_below, node_at};
 
-use crate::Kind;
+use crate::{Kind, OtherKind};
 use lc_glob::cut_at_first;
 
 /// A part of a tree of memory.
@@ -18,8 +18,8 @@ pub enum Node {
     File(Vec<u8>),
     /// A file that gives these bytes and then fails in place of its end.
     Failing(Vec<u8>),
-    /// Neither a file nor a directory.
-    Other,
+    /// Neither a file nor a directory that is entered.
+    Other(OtherKind),
 }
 
 impl Node {
@@ -30,7 +30,7 @@ impl Node {
         match self {
             Node::Dir(_) | Node::Closed => Kind::Dir,
             Node::File(_) | Node::Failing(_) => Kind::File,
-            Node::Other => Kind::Other,
+            Node::Other(what) => Kind::Other(*what),
         }
     }
 
@@ -40,7 +40,7 @@ impl Node {
     {
         match self {
             Node::Dir(children) => child_among(children, name),
-            Node::Closed | Node::File(_) | Node::Failing(_) | Node::Other => None,
+            Node::Closed | Node::File(_) | Node::Failing(_) | Node::Other(_) => None,
         }
     }
 

@@ -2,7 +2,7 @@
 ghost use Rattle.std.specs.Prelude.{IfOk};
 ghost use Rattle.lc_tree.specs.Sketches.{IsTreeOf};
 
-use crate::Node;
+use crate::{Node, OtherKind};
 use std::alloc::{AllocError, Global};
 
 /// A tree of memory as a table writes it, for tests and benchmarks.
@@ -17,7 +17,7 @@ pub enum Sketch<'a> {
     Closed,
     File(&'a [u8]),
     Failing(&'a [u8]),
-    Other,
+    Other(OtherKind),
 }
 
 impl Sketch<'_> {
@@ -37,7 +37,7 @@ impl Sketch<'_> {
             Sketch::Closed => Ok(Node::Closed),
             Sketch::File(bytes) => Ok(Node::File(bytes.to_vec(alloc)?)),
             Sketch::Failing(bytes) => Ok(Node::Failing(bytes.to_vec(alloc)?)),
-            Sketch::Other => Ok(Node::Other),
+            Sketch::Other(what) => Ok(Node::Other(*what)),
         }
     }
 }

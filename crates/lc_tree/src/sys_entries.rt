@@ -4,7 +4,7 @@ ghost use Rattle.lc_tree.specs.SysLooks.{bytes_of, entry_of, is_beyond, AreEntri
 ghost use Rattle.lc_tree.specs.declared.entry.Kind.{Kind};
 
 use crate::sys_looks::{Look, kind_at};
-use crate::{Entry, Kind, ReadFault};
+use crate::{Entry, Kind, OtherKind, ReadFault};
 use lc_glob::path::MAX_PATH;
 use std::alloc::Global;
 
@@ -69,7 +69,7 @@ fn kind_in<L: Look>(
     ensures told { TellsOf (L.may_answer looks.now) directory.now (string_bytes path.old) name.now result }
 {
     if is_beyond(directory, name.as_bytes()) {
-        return Ok(Some(Kind::Other));
+        return Ok(Some(Kind::Other(OtherKind::Special)));
     }
     let base = path.len();
     path.push_str(name)?;

@@ -2,12 +2,21 @@
 ghost use Rattle.std.specs.Prelude.{List, ℕ};
 ghost use Rattle.lc_tree.specs.SysLooks.{AnyLook, IsKindOf, Looks, Tells};
 
+use crate::file_systems::Bounds;
 use crate::system_call::uninterrupted;
-use crate::{Kind, ReadFault};
+use crate::{Kind, OtherKind, ReadFault};
 use std::fs::Metadata;
 use std::io;
 use std::io::ErrorKind;
 use std::rt::Files;
+
+/// What a look at a path found.
+#[derive(Drop)]
+pub(crate) struct Looked {
+    pub(crate) metadata: Metadata,
+    /// Whether it is on a file system that the tree does not enter.
+    pub(crate) is_outside: bool,
+}
 
 /// Looks at paths of the system. A symbolic link is not followed.
 pub(crate) trait Look {
@@ -15,7 +24,7 @@ pub(crate) trait Look {
     ghost may_answer: { Self → List ℕ → Looks };
 
     /// Looks at a path.
-    fn look(&self, path: &str) -> io::Result<Metadata>
+    fn look(&self, path: &str) -> io::Result<Looked>
         ensures { may_answer self.now path.now result };
 }
 
@@ -24,13 +33,23 @@ pub(crate) trait Look {
 #[derive(Drop)]
 pub(crate) struct SysLook<'a, R> {
     pub(crate) files: &'a R,
+    pub(crate) bounds: Bounds,
 }
 
 impl<R: Files> Look for SysLook<'_, R> {
-    ghost may_answer = { λ looks path. AnyLook };
+    ghost may_answer = { λ looks path. AnyLook looks.bounds };
 
-    fn look(&self, path: &str) -> io::Result<Metadata> {
-        uninterrupted(|| self.files.symlink_metadata(path))
+    fn look(&self, path: &str) -> io::Result<Looked> {
+        match uninterrupted(|| self.files.symlink_metadata(path)) {
+            Ok(metadata) => {
+                let is_outside = self.bounds.leave_out(&metadata);
+                Ok(Looked {
+                    metadata,
+                    is_outside,
+                })
+            }
+            Err(error) => Err(error),
+        }
     }
 }
 
@@ -45,15 +64,19 @@ pub(crate) fn kind_at<L: Look>(looks: &L, path: &str) -> Result<Option<Kind>, Re
     }
 }
 
-// The kind in the metadata.
-fn kind_of(found: &Metadata) -> Kind
+// The kind of what a look found.
+fn kind_of(found: &Looked) -> Kind
     ensures { IsKindOf found.now result }
 {
-    if found.is_file() {
-        Kind::File
-    } else if found.is_dir() {
-        Kind::Dir
+    if found.metadata.is_file() {
+        return Kind::File;
+    }
+    if !found.metadata.is_dir() {
+        return Kind::Other(OtherKind::Special);
+    }
+    if found.is_outside {
+        Kind::Other(OtherKind::Mounted)
     } else {
-        Kind::Other
+        Kind::Dir
     }
 }

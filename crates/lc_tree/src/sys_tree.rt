@@ -2,6 +2,7 @@
 ghost use Rattle.std.specs.Prelude.{◌≡◌, ◌++◌, IfOk, MatchResult, string_bytes};
 ghost use Rattle.lc_tree.specs.SysTrees.{top_text, IsFaultOfOpening};
 
+use crate::file_systems::{Bounds, FileSystems};
 use crate::sys_entries::look_at_each;
 use crate::sys_list::list_dir;
 use crate::sys_looks::SysLook;
@@ -19,7 +20,8 @@ const NAME_ROOM: usize = 256;
 
 /// A directory of the system, with what is below it.
 ///
-/// Symbolic links below it, and all that is neither a regular file nor a directory, are `Kind::Other`. What the system
+/// Symbolic links below it, and all that is neither a regular file nor a directory, are `Kind::Other`, and so are
+/// directories on other file systems where the tree stays on that of its top. What the system
 /// does not give is `ReadFault::Failed`, and a name that is not UTF-8 makes its directory `ReadFault::Unnamed`. An entry
 /// that is removed while its directory is listed is left out. A call that a signal interrupts is tried again, up to
 /// `MAX_TRIES` times in all.
@@ -35,6 +37,7 @@ pub struct SysTree<'a, R> {
     files: &'a R,
     // The directory's path and a slash, by which a link to it is followed; nothing where that path is empty.
     top: String,
+    bounds: Bounds,
 }
 
 impl<'a, R> Model for SysTree<'a, R> {
@@ -50,10 +53,15 @@ impl<'a, R: Files> SysTree<'a, R> {
     /// where no directory is there, the tree's top can't be listed.
     ///
     /// ```
-    /// let tree = SysTree::new(&rt, rt.alloc(), "src")?;
+    /// let tree = SysTree::new(&rt, rt.alloc(), "src", FileSystems::All)?;
     /// let listing = tree.list(rt.alloc(), b"")?;
     /// ```
-    pub fn new(rt: &'a R, alloc: Global, dir: &str) -> Result<SysTree<'a, R>, AllocError>
+    pub fn new(
+        rt: &'a R,
+        alloc: Global,
+        dir: &str,
+        entered: FileSystems,
+    ) -> Result<SysTree<'a, R>, AllocError>
         ensures { IfOk result (λ t. t ≡ top_text dir.now) }
     {
         let mut top = String::from_str(alloc, dir)?;
@@ -61,7 +69,12 @@ impl<'a, R: Files> SysTree<'a, R> {
         if !dir.is_empty() {
             top.push('/')?;
         }
-        Ok(SysTree { files: rt, top })
+        let bounds = Bounds::of(rt, top.as_str(), entered);
+        Ok(SysTree {
+            files: rt,
+            top,
+            bounds,
+        })
     }
 
     // The system's path of a path of the tree.
@@ -99,7 +112,11 @@ where
     fn list(&self, alloc: Global, path: &[u8]) -> Result<Listing, ReadFault> {
         let text = self.full_path(alloc, path)?;
         let mut dir = open_dir(self.files, text.as_str())?;
-        list_dir(&SysLook { files: self.files }, alloc, &mut dir, path, text)
+        let looks = SysLook {
+            files: self.files,
+            bounds: self.bounds,
+        };
+        list_dir(&looks, alloc, &mut dir, path, text)
     }
 
     fn names(&self, alloc: Global, path: &[u8]) -> Result<Option<Vec<Vec<u8>>>, ReadFault> {
@@ -115,7 +132,10 @@ where
         names: Vec<Vec<u8>>,
     ) -> Result<Vec<Entry>, ReadFault> {
         let text = self.full_path(alloc, path)?;
-        let looks = SysLook { files: self.files };
+        let looks = SysLook {
+            files: self.files,
+            bounds: self.bounds,
+        };
         look_at_each(&looks, alloc, path, with_slash(text)?, names)
     }
 

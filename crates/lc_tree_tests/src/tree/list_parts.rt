@@ -1,7 +1,9 @@
 //! Large directories are listed in parts as they are by one thread.
 
 use crate::tree::system::{Reads, Signals, System};
-use lc_tree::{IdleThreads, Listing, MemTree, ReadFault, Sketch, SysTree, Tree, list_in_parts};
+use lc_tree::{
+    FileSystems, IdleThreads, Listing, MemTree, ReadFault, Sketch, SysTree, Tree, list_in_parts,
+};
 use std::alloc::Global;
 use std::os::unix::fs::symlink;
 use std::process::Abort;
@@ -64,7 +66,7 @@ fn check_listing<T: Tree, R: Threads + Abort + Sync>(
 #[test]
 fn large_folders_are_listed(rt: HostRuntime) -> Result<(), Fail> {
     make_folder(&rt)?;
-    let tree = SysTree::new(&rt, rt.alloc(), FOLDER)?;
+    let tree = SysTree::new(&rt, rt.alloc(), FOLDER, FileSystems::All)?;
     for threads in [0, 1, 3, 40] {
         let len = check_listing(&rt, rt.alloc(), &tree, threads)?;
         assert_eq!(&rt; len, 3_002);
@@ -133,7 +135,7 @@ fn the_first_fault_is_answered(rt: HostRuntime) -> Result<(), Fail> {
             given: Some(reads),
             signals: &signals,
         };
-        let tree = SysTree::new(&system, rt.alloc(), "top")?;
+        let tree = SysTree::new(&system, rt.alloc(), "top", FileSystems::All)?;
         match check_listing(&rt, rt.alloc(), &tree, 1) {
             Err(ReadFault::Memory) => return Err(Fail::from(ReadFault::Memory)),
             found => assert!(&rt; found.err() == Some(wanted)),

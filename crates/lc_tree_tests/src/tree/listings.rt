@@ -1,7 +1,7 @@
 //! Which entries make no listing, and the order of those that do.
 
 use crate::tree::checks::{Entries, are_entries};
-use lc_tree::{Entry, Kind, Listing, ListingFault};
+use lc_tree::{Entry, Kind, Listing, ListingFault, OtherKind};
 use std::alloc::{AllocError, Global};
 use std::test::Fail;
 
@@ -29,7 +29,7 @@ const CASES: &[Case] = &[
     (&[(b"/", Kind::Dir)], BAD_NAME),
     (&[(b"x\0", Kind::File)], BAD_NAME),
     (&[(b"a", Kind::File), (b"b/", Kind::Dir)], BAD_NAME),
-    (&[(b"", Kind::File), (b"a", Kind::Other)], BAD_NAME),
+    (&[(b"", Kind::File), (b"a", Kind::Other(OtherKind::Special))], BAD_NAME),
     // A bad name goes before a name that stands twice.
     (&[(b"", Kind::File), (b"", Kind::File)], BAD_NAME),
     (
@@ -39,7 +39,7 @@ const CASES: &[Case] = &[
     (&[(b"a", Kind::File), (b"a", Kind::Dir)], TWICE),
     (&[(b"a", Kind::File), (b"a", Kind::File)], TWICE),
     (
-        &[(b"b", Kind::File), (b"a", Kind::File), (b"b", Kind::Other)],
+        &[(b"b", Kind::File), (b"a", Kind::File), (b"b", Kind::Other(OtherKind::Special))],
         TWICE,
     ),
     (&[], Ok(&[])),
@@ -48,8 +48,8 @@ const CASES: &[Case] = &[
         Ok(&[(b"a", Kind::Dir), (b"b", Kind::File)]),
     ),
     (
-        &[(b"ab", Kind::Other), (b"a", Kind::File)],
-        Ok(&[(b"a", Kind::File), (b"ab", Kind::Other)]),
+        &[(b"ab", Kind::Other(OtherKind::Special)), (b"a", Kind::File)],
+        Ok(&[(b"a", Kind::File), (b"ab", Kind::Other(OtherKind::Special))]),
     ),
     (
         &[(b"\xFF", Kind::File), (b"z", Kind::File)],

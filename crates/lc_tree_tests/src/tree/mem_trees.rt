@@ -2,7 +2,7 @@
 
 use crate::tree::checks::{Entries, Given, Listed, check_files, check_listings};
 use lc_census::WholeFault;
-use lc_tree::{Kind, MemTree, Node, ReadFault, Sketch};
+use lc_tree::{Kind, MemTree, Node, OtherKind, ReadFault, Sketch};
 use std::alloc::Global;
 use std::process::Abort;
 use std::test::Fail;
@@ -15,12 +15,12 @@ const NODES: Sketch = Sketch::Dir(&[
     ),
     (
         b"bad",
-        Sketch::Dir(&[(b"..", Sketch::Other), (b"..", Sketch::Other)]),
+        Sketch::Dir(&[(b"..", Sketch::Other(OtherKind::Special)), (b"..", Sketch::Other(OtherKind::Special))]),
     ),
     (
         b"all",
         Sketch::Dir(&[
-            (b"other", Sketch::Other),
+            (b"other", Sketch::Other(OtherKind::Special)),
             (b"closed", Sketch::Closed),
             (b"failing", Sketch::Failing(b"xyz")),
             (b"file", Sketch::File(b"one\ntwo")),
@@ -40,7 +40,7 @@ const ALL: Entries = &[
     (b"empty", Kind::File),
     (b"failing", Kind::File),
     (b"file", Kind::File),
-    (b"other", Kind::Other),
+    (b"other", Kind::Other(OtherKind::Special)),
 ];
 
 const DIRECTORIES: &[(&[u8], Listed)] = &[
@@ -85,7 +85,7 @@ type Case = (
 const CASES: &[Case] = &[
     (NODES, DIRECTORIES, FILES),
     (Sketch::Closed, NOT_LISTED, &[]),
-    (Sketch::Other, NOT_LISTED, &[]),
+    (Sketch::Other(OtherKind::Special), NOT_LISTED, &[]),
     (Sketch::File(b""), NOT_LISTED, &[]),
     (Sketch::Failing(b""), NOT_LISTED, &[]),
     (Sketch::File(b"top"), &[], TOP_FILE),

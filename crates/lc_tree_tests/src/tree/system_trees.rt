@@ -3,7 +3,7 @@
 use crate::tree::checks::{Entries, Given, Listed, check_files, check_listings};
 use crate::tree::system::{Reads, Signals, System};
 use lc_census::WholeFault;
-use lc_tree::{Kind, ReadFault, SysTree};
+use lc_tree::{FileSystems, Kind, OtherKind, ReadFault, SysTree};
 use std::os::unix::fs::symlink;
 use std::process::Abort;
 use std::sync::atomic::AtomicU64;
@@ -40,9 +40,9 @@ const TOP: Entries = &[
     (b".e", Kind::File),
     (b"a", Kind::File),
     (b"b", Kind::Dir),
-    (b"to_a", Kind::Other),
-    (b"to_b", Kind::Other),
-    (b"to_nothing", Kind::Other),
+    (b"to_a", Kind::Other(OtherKind::Special)),
+    (b"to_b", Kind::Other(OtherKind::Special)),
+    (b"to_nothing", Kind::Other(OtherKind::Special)),
 ];
 
 const C_ALONE: Entries = &[(b"c", Kind::File)];
@@ -148,7 +148,7 @@ const CASES: &[Case] = &[
     },
     Case {
         reads: Some(&[Some(b"l\0"), Some(b"f\0")]),
-        directories: &[(b"", Ok(&[(b"f", Kind::File), (b"l", Kind::Other)]))],
+        directories: &[(b"", Ok(&[(b"f", Kind::File), (b"l", Kind::Other(OtherKind::Special))]))],
         ..GIVEN
     },
     Case {
@@ -193,7 +193,7 @@ fn check(rt: &impl Abort, host: &HostRuntime, case: &Case) -> Result<(), ReadFau
         given: case.reads,
         signals: &signals,
     };
-    let tree = SysTree::new(&system, host.alloc(), case.top)?;
+    let tree = SysTree::new(&system, host.alloc(), case.top, FileSystems::All)?;
     check_listings(rt, host.alloc(), &tree, case.directories)?;
     check_files(rt, host.alloc(), &tree, case.files)
 }

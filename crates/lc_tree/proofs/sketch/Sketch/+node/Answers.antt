@@ -24,7 +24,7 @@ pub returns-in-Closed : goal.returns-in-Closed
 returns-in-Closed t c = subst (λ (s : Sketch). IsTreeOf s node.Closed) (sym c.in-Closed.is) is_closed
 
 pub returns-in-Other : goal.returns-in-Other
-returns-in-Other t c = subst (λ (s : Sketch). IsTreeOf s node.Other) (sym c.in-Other.is) is_other
+returns-in-Other t c = subst (λ (s : Sketch). IsTreeOf s (node.Other c.in-Other.what)) (sym c.in-Other.is) (is_other c.in-Other.what)
 
 pub returns-in_ok-to_vec-in-File : goal.returns-in_ok-to_vec-in-File
 returns-in_ok-to_vec-in-File t c =

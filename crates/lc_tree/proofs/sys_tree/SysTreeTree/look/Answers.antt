@@ -5,5 +5,5 @@ use Rattle.lc_tree.proofs.sys_tree.SysTreeTree.look.Goals as goal
 
 pub returns : goal.returns
 returns g c =
-    are_of (λ path. AnyLook) c.args.path.now (string_bytes c.in_ok-with_slash.field-0) c.args.names.items c.look_at_each.result
-    c.look_at_each.ensures
+    are_of (λ path. AnyLook c.self.inside.bounds) c.args.path.now (string_bytes c.in_ok-with_slash.field-0) c.args.names.items
+    c.look_at_each.result c.look_at_each.ensures

@@ -1,0 +1,53 @@
+//! The file systems whose directories a tree of the system enters.
+ghost use Rattle.std.specs.Prelude.{IsTrue};
+ghost use Rattle.lc_tree.specs.SysLooks.{stays};
+
+use crate::system_call::uninterrupted;
+use std::fs::Metadata;
+use std::io;
+use std::os::unix::fs::MetadataExt;
+use std::rt::Files;
+
+/// The file systems whose directories a tree of the system enters.
+#[derive(Clone, Copy, Debug, Drop, PartialEq, Eq)]
+pub enum FileSystems {
+    /// All.
+    All,
+    /// That of the tree's top alone.
+    One,
+}
+
+/// Where a tree of the system ends.
+#[derive(Clone, Copy, Debug)]
+pub(crate) enum Bounds {
+    /// It enters all directories.
+    Everywhere,
+    /// It enters the directories on the device of this number.
+    Device(u64),
+    /// It enters its top alone, since the top's device can't be told.
+    TopAlone,
+}
+
+impl Bounds {
+    /// The bounds of the tree whose top has this path in the system.
+    pub(crate) fn of<R: Files>(files: &R, top: &str, entered: FileSystems) -> Bounds {
+        match entered {
+            FileSystems::All => Bounds::Everywhere,
+            FileSystems::One => match uninterrupted(|| files.metadata(top)) {
+                Ok(found) => Bounds::Device(found.dev()),
+                Err(_) => Bounds::TopAlone,
+            },
+        }
+    }
+
+    /// Whether a directory with this metadata is on a file system that the tree does not enter.
+    pub(crate) fn leave_out(self, found: &Metadata) -> bool
+        ensures { IsTrue result → IsTrue (stays self) }
+    {
+        match self {
+            Bounds::Everywhere => false,
+            Bounds::Device(number) => found.dev() != number,
+            Bounds::TopAlone => true,
+        }
+    }
+}
