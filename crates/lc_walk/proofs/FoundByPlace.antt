@@ -78,8 +78,8 @@ counted_named selection k (file_item n c rules) =
     named_by_reason n (skipped File) (file_fate k n c) (file_reason selection k n) (λ reason. refl) (named_by_count n k c)
 counted_named selection k (directory_item n) =
     named_by_reason n (skipped Dir) (walked (child_job k n)) (reason_of selection k n true) (λ reason. refl) refl
-counted_named selection k (other_item n) =
-    named_by_reason n (skipped Other) (skipped Other other_kind) (reason_of selection k n false) (λ reason. refl) refl
+counted_named selection k (other_item n what) =
+    named_by_reason n (skipped (Other what)) (skipped (Other what) (other_kind what)) (reason_of selection k n false) (λ reason. refl) refl
 
 module _ (selection : SelectionModel) (j : JobModel) (a : Answers) where
   abbrev pair_of : JobModel → Item → List ℕ × Fate
@@ -216,7 +216,7 @@ module _ (selection : SelectionModel) (j : JobModel) (a : Answers) where
   by_child_item : (k : JobModel) (c : List ℕ × JobModel) (item : Item) → In c (children_by selection k item)
       → (item ≡ directory_item c.0) × (is_taken selection k c.0 true ≡ true) × (c.1 ≡ child_job k c.0)
   by_child_item k c (file_item n count rules) i = absurd i
-  by_child_item k c (other_item n) i = absurd i
+  by_child_item k c (other_item n what) i = absurd i
   by_child_item k c (directory_item n) i = at (if_cond (is_taken selection k n true) c ((n, child_job k n) ∷ []) i)
     where
       at : (is_taken selection k n true ≡ true) × In c ((n, child_job k n) ∷ [])

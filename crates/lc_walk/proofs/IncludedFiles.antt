@@ -65,10 +65,12 @@ module _ (s : SelectionModel) (patterns : Option (List RuleModel)) where
           ≡ filter (includes patterns) (flat_map counted_in (by_name d n (option_map_or (skipped Dir) o (walked (child_job j n)))))
       by None = refl
       by (Some reason) = refl
-  counted_one d j (other_item n) at = by (reason_of whole j n false)
+  counted_one d j (other_item n what) at = by (reason_of whole j n false)
     where
-      by : (o : Option Reason) → flat_map counted_in (by_name d n (option_map_or (skipped Other) o (skipped Other other_kind)))
-          ≡ filter (includes patterns) (flat_map counted_in (by_name d n (option_map_or (skipped Other) o (skipped Other other_kind))))
+      by : (o : Option Reason)
+          → flat_map counted_in (by_name d n (option_map_or (skipped (Other what)) o (skipped (Other what) (other_kind what))))
+          ≡ filter (includes patterns)
+          (flat_map counted_in (by_name d n (option_map_or (skipped (Other what)) o (skipped (Other what) (other_kind what)))))
       by None = refl
       by (Some reason) = refl
 
@@ -159,7 +161,7 @@ module _ (s : SelectionModel) (patterns : Option (List RuleModel)) where
   same_by k (file_item n c rules ∷ items) = same_by k items
   same_by k (directory_item n ∷ items) =
       ap (λ (l : List (List ℕ × JobModel)). cond (is_taken whole k n true) ((n, child_job k n) ∷ []) [] ++ l) (same_by k items)
-  same_by k (other_item n ∷ items) = same_by k items
+  same_by k (other_item n what ∷ items) = same_by k items
 
   same_children : (j : JobModel) (a : Answers) → children_at part j a ≡ children_at whole j a
   same_children j a = at a.here

@@ -133,7 +133,7 @@ each_by_item : (selection : SelectionModel) (j : JobModel) (P : List ℕ × JobM
     (es : List Item) → AllByRecursion (λ e. Q (name_of e)) es → AllByRecursion P (flat_map (children_by selection j) es)
 each_by_item selection j P Q f [] a = tt
 each_by_item selection j P Q f (file_item n c r ∷ es) a = each_by_item selection j P Q f es a.1
-each_by_item selection j P Q f (other_item n ∷ es) a = each_by_item selection j P Q f es a.1
+each_by_item selection j P Q f (other_item n what ∷ es) a = each_by_item selection j P Q f es a.1
 each_by_item selection j P Q f (directory_item n ∷ es) a =
     each_cond P (is_taken selection j n true) (n, child_job j n) (flat_map (children_by selection j) es) (f n a.0)
     (each_by_item selection j P Q f es a.1)
@@ -152,7 +152,7 @@ apart_cond false c cs a b = b
 apart_children : (selection : SelectionModel) (j : JobModel) (es : List Item) → Spread es → IsApart (flat_map (children_by selection j) es)
 apart_children selection j [] t = tt
 apart_children selection j (file_item n c r ∷ es) t = apart_children selection j es t.2
-apart_children selection j (other_item n ∷ es) t = apart_children selection j es t.2
+apart_children selection j (other_item n what ∷ es) t = apart_children selection j es t.2
 apart_children selection j (directory_item n ∷ es) t =
     apart_cond (is_taken selection j n true) (n, child_job j n) (flat_map (children_by selection j) es)
     (each_by_item selection j (λ d. bytes_eq d.0 n ≡ false) (λ m. bytes_eq m n ≡ false) (λ m e. e) es t.0)

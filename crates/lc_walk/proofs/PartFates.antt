@@ -35,14 +35,14 @@ fits_count k n (Err word) = refl
 pub fits : (s : SelectionModel) (k : JobModel) (item : Item) → IsFateOf (fate_of s k item) (entry_of item).kind
 fits s k (file_item n c rules) = fits_by File (file_fate k n c) (fits_count k n c) (file_reason s k n)
 fits s k (directory_item n) = fits_by Dir (walked (child_job k n)) refl (reason_of s k n true)
-fits s k (other_item n) = fits_by Other (skipped Other other_kind) refl (reason_of s k n false)
+fits s k (other_item n what) = fits_by (Other what) (skipped (Other what) (other_kind what)) refl (reason_of s k n false)
 
 -- the paths that are asked for decide no fate
 pub same_fate : (s : SelectionModel) (one two : List (List ℕ)) (k : JobModel) (item : Item)
     → fate_of (narrowed s one) k item ≡ fate_of (narrowed s two) k item
 same_fate s one two k (file_item n c rules) = refl
 same_fate s one two k (directory_item n) = refl
-same_fate s one two k (other_item n) = refl
+same_fate s one two k (other_item n what) = refl
 
 -- nor whether a directory is at fault
 pub same_fault : (s : SelectionModel) (one two : List (List ℕ)) (j : JobModel) (a : Answers) (p : List ℕ) (w : FaultWord)

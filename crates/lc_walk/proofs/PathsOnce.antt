@@ -42,7 +42,7 @@ use Rattle.lc_level.proofs.Fates.{children_by, walked_items_are}
 abbrev enters_it : SelectionModel → JobModel → Item → Bool
 enters_it selection j (file_item n c r) = false
 enters_it selection j (directory_item n) = is_taken selection j n true
-enters_it selection j (other_item n) = false
+enters_it selection j (other_item n what) = false
 
 abbrev stays : SelectionModel → JobModel → Item → Bool
 stays selection j e = not (enters_it selection j e)
@@ -82,8 +82,9 @@ path_by_item selection j (directory_item n) =
     path_by_reason j.path n (skipped Dir) (walked (child_job j n)) false (reason_of selection j n true) (λ reason. refl) refl
     ∙ ap (λ b. map (path_in j.path) (cond b (n ∷ []) [])) (stays_so (is_taken selection j n true))
     ∙ ap (map (path_in j.path)) (sym (append-nil (cond (stays selection j (directory_item n)) (n ∷ []) [])))
-path_by_item selection j (other_item n) =
-    path_by_reason j.path n (skipped Other) (skipped Other other_kind) true (reason_of selection j n false) (λ reason. refl) refl
+path_by_item selection j (other_item n what) =
+    path_by_reason j.path n (skipped (Other what)) (skipped (Other what) (other_kind what)) true (reason_of selection j n false)
+    (λ reason. refl) refl
     ∙ ap (λ b. map (path_in j.path) (cond b (n ∷ []) [])) (always_so (is_taken selection j n false))
 
 paths_by_items : (selection : SelectionModel) (j : JobModel) (es : List Item)
@@ -105,7 +106,7 @@ child_name selection j (directory_item n) = at (is_taken selection j n true)
     at : (b : Bool) → map (λ (c : List ℕ × JobModel). c.0) (cond b ((n, child_job j n) ∷ []) []) ≡ cond b (n ∷ []) []
     at true = refl
     at false = refl
-child_name selection j (other_item n) = refl
+child_name selection j (other_item n what) = refl
 
 child_names : (selection : SelectionModel) (j : JobModel) (es : List Item)
     → map (λ (c : List ℕ × JobModel). c.0) (flat_map (children_by selection j) es) ≡ picked name_of (enters_it selection j) es
@@ -233,7 +234,7 @@ module _ (selection : SelectionModel) where
       AllByRecursion (IsApartFrom r) (flat_map (children_by selection j) es)
   no_child_led j r [] a = tt
   no_child_led j r (file_item n c rules ∷ es) a = no_child_led j r es a.1
-  no_child_led j r (other_item n ∷ es) a = no_child_led j r es a.1
+  no_child_led j r (other_item n what ∷ es) a = no_child_led j r es a.1
   no_child_led j r (directory_item n ∷ es) a = at (is_taken selection j n true) (no_child_led j r es a.1)
     where
       apart : (bytes_eq n r ≡ false) × (stands_below r n ≡ false)

@@ -105,7 +105,7 @@ module _ (lists : List ℕ → Listings) (gives : List ℕ → Contents) where
           of_rules (gives (path_in path m)) w (subst (MayReadRules (gives (path_in path m))) same all.0.1)
       at false rest f = rest f
   named_word path name (directory_item m ∷ items) all w e = named_word path name items all.1 w e
-  named_word path name (other_item m ∷ items) all w e = named_word path name items all.1 w e
+  named_word path name (other_item m what ∷ items) all w e = named_word path name items all.1 w e
 
   ignore_word : (no_ignore : Bool) (path name : List ℕ) (items : List Item) → AllByRecursion (MayHave lists gives path) items
       → (w : FaultWord) → ignore_named no_ignore name items ≡ Some (Err w) → IsOther w
@@ -201,8 +201,8 @@ module _ (lists : List ℕ → Listings) (gives : List ℕ → Contents) (s : Se
       (fine_or File (file_reason s k n) (file_fate k n c) (count_fine k path n c all.0.0), fates_fine k path items all.1)
   fates_fine k path (directory_item n ∷ items) all =
       (fine_or Dir (reason_of s k n true) (walked (child_job k n)) tt, fates_fine k path items all.1)
-  fates_fine k path (other_item n ∷ items) all =
-      (fine_or Other (reason_of s k n false) (skipped Other other_kind) tt, fates_fine k path items all.1)
+  fates_fine k path (other_item n what ∷ items) all =
+      (fine_or (Other what) (reason_of s k n false) (skipped (Other what) (other_kind what)) tt, fates_fine k path items all.1)
 
   -- so it is by answers that a tree may give
   pub level_fine : (j : JobModel) (a : Answers) → MayAnswer lists gives j.path a → IsFineLevel (level s j a)

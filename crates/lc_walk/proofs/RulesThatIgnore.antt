@@ -9,6 +9,8 @@ use Rattle.lc_glob.specs.Path.{path_in}
 use Rattle.lc_tree.specs.Kinds.{is_dir}
 use Rattle.lc_tree.specs.declared.entry.Kind.{Kind}
 use Rattle.lc_tree.specs.declared.entry.Kind.TheVariants.{File, Dir, Other}
+use Rattle.lc_tree.specs.declared.entry.OtherKind.{OtherKind}
+use Rattle.lc_tree.specs.declared.entry.OtherKind.TheVariants.{Special}
 use Rattle.lc_level.specs.declared.fault_word.FaultWord.{FaultWord}
 use Rattle.lc_level.specs.Answers.{Item, file_item, directory_item, other_item, name_of, entry_of}
 use Rattle.lc_level.specs.Job.{JobModel}
@@ -45,14 +47,14 @@ source_or o named_git = o
 source_or o (by_rule source line) = source
 source_or o (by_attribute name) = o
 source_or o not_included = o
-source_or o other_kind = o
+source_or o (other_kind what) = o
 
 abbrev line_or : ℕ → Reason → ℕ
 line_or n named_git = n
 line_or n (by_rule source line) = line
 line_or n (by_attribute name) = n
 line_or n not_included = n
-line_or n other_kind = n
+line_or n (other_kind what) = n
 
 -- an attribute is no rule
 no_attribute : (found : Option (List ℕ)) (source : RuleSource) (line : ℕ) → option_map by_attribute found ≡ Some (by_rule source line) → ⊥
@@ -119,14 +121,15 @@ reason_or r (walked job) = r
 reason_or r (skipped kind reason) = reason
 
 -- a fate that is left for a rule is so by the reason
-skipped_by : (o : Option Reason) (own : Kind) (fate : Fate) (kind : Kind) (source : RuleSource) (line : ℕ) →
-    (reason_or other_kind fate ≡ other_kind) → option_map_or (skipped own) o fate ≡ skipped kind (by_rule source line)
+skipped_by : (o : Option Reason) (own : Kind) (fate : Fate) (what : OtherKind) (kind : Kind) (source : RuleSource) (line : ℕ)
+    → (reason_or (other_kind what) fate ≡ other_kind what) → option_map_or (skipped own) o fate ≡ skipped kind (by_rule source line)
     → o ≡ Some (by_rule source line)
-skipped_by None own fate kind source line none e =
-    let h : other_kind ≡ by_rule source line = sym none ∙ ap (reason_or other_kind) e in absurd (cc h)
-skipped_by (Some reason) own fate kind source line none e = ap Some (ap (reason_or other_kind) e)
+skipped_by None own fate what kind source line none e =
+    let h : other_kind what ≡ by_rule source line = sym none ∙ ap (reason_or (other_kind what)) e in absurd (cc h)
+skipped_by (Some reason) own fate what kind source line none e = ap Some (ap (reason_or (other_kind what)) e)
 
-counting_leaves_none : (k : JobModel) (n : List ℕ) (c : Result Count FaultWord) → reason_or other_kind (file_fate k n c) ≡ other_kind
+counting_leaves_none : (k : JobModel) (n : List ℕ) (c : Result Count FaultWord)
+    → reason_or (other_kind Special) (file_fate k n c) ≡ other_kind Special
 counting_leaves_none k n (Ok count) = refl
 counting_leaves_none k n (Err word) = refl
 
@@ -135,11 +138,13 @@ decided_item : (s : SelectionModel) (k : JobModel) (item : Item) (kind : Kind) (
     fate_of s k item ≡ skipped kind (by_rule source line) →
     Decides (rules_in k.ignore) (path_in k.path (name_of item)) (is_dir (entry_of item).kind) source line
 decided_item s k (file_item n c rules) kind source line e =
-    decided_file s k n source line (skipped_by (file_reason s k n) File (file_fate k n c) kind source line (counting_leaves_none k n c) e)
+    decided_file s k n source line
+    (skipped_by (file_reason s k n) File (file_fate k n c) Special kind source line (counting_leaves_none k n c) e)
 decided_item s k (directory_item n) kind source line e =
-    decided_of s k n true source line (skipped_by (reason_of s k n true) Dir (walked (child_job k n)) kind source line refl e)
-decided_item s k (other_item n) kind source line e =
-    decided_of s k n false source line (skipped_by (reason_of s k n false) Other (skipped Other other_kind) kind source line refl e)
+    decided_of s k n true source line (skipped_by (reason_of s k n true) Dir (walked (child_job k n)) Special kind source line refl e)
+decided_item s k (other_item n what) kind source line e =
+    decided_of s k n false source line (skipped_by (reason_of s k n false) (Other what) (skipped (Other what) (other_kind what)) what
+    kind source line refl e)
 
 -- the rule that decides is the last that matches
 is_last_match : LastMatchLaw → (rules : List (RuleSource × RuleModel)) (path : List ℕ) (is_dir : Bool) (rule : RuleSource × RuleModel)

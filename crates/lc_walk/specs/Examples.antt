@@ -4,6 +4,7 @@ use Rattle.lc_census.specs.declared.line_count.Count.{Count}
 use Rattle.lc_census.specs.declared.line_count.Eol.TheVariants.{Lf}
 use Rattle.lc_level.specs.Answers.{file_item, directory_item, other_item, Answers}
 use Rattle.lc_rules.specs.IgnoreChains.{no_ignore_files}
+use Rattle.lc_tree.specs.declared.entry.OtherKind.TheVariants.{Special}
 use Rattle.lc_walk.specs.Found.{children_at}
 use Rattle.lc_level.specs.Job.{JobModel}
 use Rattle.lc_level.specs.Selection.{SelectionModel, selection_of}
@@ -27,7 +28,7 @@ small_directory = record {
       directory_item (codes ".git") ∷ file_item (codes ".gitignore") (Ok one_line) (Ok (codes "*.o"))
       ∷ file_item (codes "a.o") (Ok one_line) (Ok []) ∷ directory_item (codes "b") ∷ file_item (codes "c") (Ok one_line) (Ok [])
       ∷ directory_item (codes "d") ∷ file_item (codes "k.o") (Ok one_line) (Ok [])
-      ∷ other_item (codes "l") ∷ []
+      ∷ other_item (codes "l") Special ∷ []
       );
   git = Ok (directory_item (codes "info") ∷ []);
   info = Ok (file_item (codes "exclude") (Ok one_line) (Ok (codes "!k.o\nb/")) ∷ []);

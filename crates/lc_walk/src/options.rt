@@ -1,6 +1,7 @@
 //! The options of a walk.
 ghost use Rattle.lc_walk.specs.WalkOptions.{IsOfAll};
 
+use lc_level::NamedAttributes;
 use lc_rules::IgnoreFile;
 use std::alloc::Global;
 use std::sync::Arc;
@@ -44,6 +45,8 @@ pub struct Options<'o> {
     /// The paths that alone take part, with what is under them and the directories above them; if there are none, everything takes part.
     /// They are relative to the top, and have no slash at the end.
     pub only: &'o [&'o [u8]],
+    /// Where to note which attributes of `without` the attribute files of the tree name. It changes no report.
+    pub named: Option<&'o NamedAttributes<'o>>,
 }
 
 impl<'o> Options<'o> {
@@ -66,6 +69,7 @@ impl<'o> Options<'o> {
             without: &[],
             include: None,
             only: &[],
+            named: None,
         }
     }
 }

@@ -66,5 +66,6 @@ impl<'o> PreparedOptions<'o> {
         selection
             .narrowed(&self.only)
             .including(lent(&self.options.include))
+            .noting(self.options.named)
     }
 }

@@ -8,6 +8,7 @@ mod flat;
 mod gate;
 mod left_out;
 mod limits;
+mod named;
 mod names;
 mod narrowed;
 mod other_boards;

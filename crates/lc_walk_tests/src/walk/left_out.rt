@@ -69,12 +69,14 @@ const REASONED: &str = "
     .gitattributes=docs/_export-ignore;
     .gitignore=*.log;
     a.log
+    disk@/
     docs/{ d.log }
     link.c@
     main.c
     notes.txt
     src/{ .gitignore=#;;gen/; gen/{ g.log h@ } m.c }
-    x.bak";
+    x.bak
+    z.log@/";
 
 /// In order of the paths, each line has the reason that comes first; nothing stands below an entry that is left out. The exclude file
 /// has a rule on its last line.
@@ -84,33 +86,37 @@ const WITH_REASONS: &[Part] = &[
         "--archive --left-out --max-dirs=4 --exclude-from=#;#;#;#;#;#;*.bak;",
         "- - lf 3 5 1 34
          .c - lf 2 2 0 4
-         directories 2 entries 13
+         directories 2 entries 15
          left git .git/
          left rule .gitignore:1 a.log
+         left filesystem disk@/
          left attribute export-ignore docs/
          left other link.c@
          left rule .git/info/exclude:2 notes.txt
          left rule */.gitignore:3 src/gen/
-         left rule --exclude-from:7 x.bak",
+         left rule --exclude-from:7 x.bak
+         left rule .gitignore:1 z.log@/",
     ),
     (
         "reasons of a tree",
         "--left-out --max-dirs=4 --exclude-from=#;#;#;#;#;#;*.bak;",
         "- - lf 3 5 1 34
          .c - lf 2 2 0 4
-         directories 3 entries 14
+         directories 3 entries 16
          left git .git/
          left rule .gitignore:1 a.log
+         left filesystem disk@/
          left rule .gitignore:1 docs/d.log
          left other link.c@
          left rule .git/info/exclude:2 notes.txt
          left rule */.gitignore:3 src/gen/
-         left rule --exclude-from:7 x.bak",
+         left rule --exclude-from:7 x.bak
+         left rule .gitignore:1 z.log@/",
     ),
     (
         "an archive without reasons",
         "--archive --max-dirs=4 --exclude-from=#;#;#;#;#;#;*.bak;",
-        "- - lf 3 5 1 34, .c - lf 2 2 0 4, directories 2 entries 13",
+        "- - lf 3 5 1 34, .c - lf 2 2 0 4, directories 2 entries 15",
     ),
 ];
 

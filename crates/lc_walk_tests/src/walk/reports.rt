@@ -6,7 +6,7 @@ use lc_census::{Count, Eol};
 use lc_level::{FaultWord, Reason};
 use lc_rules::TextState;
 use lc_tests::has_words;
-use lc_tree::Kind;
+use lc_tree::{Kind, OtherKind};
 use lc_walk::{FaultLine, FileLine, Findings, Report, ReportLists, SkippedLine};
 use std::alloc::{AllocError, Global};
 use std::test::Fail;
@@ -48,8 +48,8 @@ fn skipped(alloc: Global) -> Result<Vec<SkippedLine>, AllocError> {
     for path in PATHS {
         skipped.push(SkippedLine {
             path: path.to_vec(alloc)?,
-            kind: Kind::Other,
-            reason: Reason::OtherKind,
+            kind: Kind::Other(OtherKind::Special),
+            reason: Reason::OtherKind(OtherKind::Special),
         })?;
     }
     Ok(skipped)
