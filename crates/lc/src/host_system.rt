@@ -1,39 +1,54 @@
 //! The directories and files of the host.
 
+use crate::progress::Progress;
+use crate::watched_tree::WatchedTree;
 use lc_census::StdSource;
 use lc_program::System;
-use lc_tree::{ReadFault, SysTree};
+use lc_tree::{FileSystems, ReadFault, SysTree};
 use std::alloc::{AllocError, Global};
 use std::fs;
 use std::io::ErrorKind;
 use std::path::Path;
 use std::rt::Files;
+use std::time::Clock;
 
 /// The directories and files of the host. Any answer may come for any name.
 #[derive(Drop)]
 pub(crate) struct HostSystem<'a, R> {
     pub(crate) rt: &'a R,
+    /// Where to count what is opened of a directory, if a terminal shows it.
+    pub(crate) progress: Option<&'a Progress>,
 }
 
-impl<'a, R: Files + Sync + AllocGlobal> System for HostSystem<'a, R>
+impl<'a, R: Files + Clock + Sync + AllocGlobal> System for HostSystem<'a, R>
 where
     R::File: Send,
     R::Dir: Send,
 {
-    type Tree = SysTree<'a, R>;
+    type Tree = WatchedTree<'a, R>;
 
     type File = StdSource<R::File>;
 
     ghost use Rattle.lc_tree.specs.SysTrees.{AnyContents, top_text};
 
-    ghost tree = { λ s directory. top_text directory };
+    ghost tree = { λ s directory entered. top_text directory };
 
     ghost holds = { λ s name. AnyContents };
 
     ghost lies = { λ s directory answer. Unit {0} };
 
-    fn tree(&self, alloc: Global, directory: &str) -> Result<SysTree<'a, R>, AllocError> {
-        SysTree::new(self.rt, alloc, directory)
+    fn tree(
+        &self,
+        alloc: Global,
+        directory: &str,
+        entered: FileSystems,
+    ) -> Result<WatchedTree<'a, R>, AllocError> {
+        let tree = SysTree::new(self.rt, alloc, directory, entered)?;
+        Ok(WatchedTree {
+            tree,
+            clock: self.rt,
+            progress: self.progress,
+        })
     }
 
     fn open_file(&self, _alloc: Global, name: &str) -> Result<StdSource<R::File>, ReadFault> {

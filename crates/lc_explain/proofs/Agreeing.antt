@@ -11,6 +11,7 @@ use Rattle.lc_rules.specs.Verdicts.{last_match}
 use Rattle.lc_rules.specs.declared.rule_source.RuleSource.{RuleSource}
 use Rattle.lc_tree.specs.declared.entry.Kind.{Kind}
 use Rattle.lc_tree.specs.declared.entry.Kind.TheVariants.{File, Dir, Other}
+use Rattle.lc_tree.specs.declared.entry.OtherKind.{OtherKind}
 use Rattle.lc_explain.specs.Explained.{CitedRule, cited, said_by}
 use Rattle.lc_explain.specs.Laws.{IsSaidKept, Agrees, EntryLaw, IntoLaw}
 
@@ -24,10 +25,11 @@ left_or : (cite : RuleSource → ℕ → CitedRule) (kind : Kind) (reason : Opti
 left_or cite kind None fate rule agrees = agrees
 left_or cite kind (Some reason) fate rule agrees = refl
 
-other : (cite : RuleSource → ℕ → CitedRule) (reason : Option Reason) (rule : Option (RuleSource × RuleModel))
-    → Agrees cite (option_map_or (skipped Other) reason (skipped Other other_kind)) (said_by cite (option_or reason (Some other_kind)) rule)
-other cite None rule = refl
-other cite (Some reason) rule = refl
+other : (cite : RuleSource → ℕ → CitedRule) (what : OtherKind) (reason : Option Reason) (rule : Option (RuleSource × RuleModel))
+    → Agrees cite (option_map_or (skipped (Other what)) reason (skipped (Other what) (other_kind what)))
+    (said_by cite (option_or reason (Some (other_kind what))) rule)
+other cite what None rule = refl
+other cite what (Some reason) rule = refl
 
 -- for each entry of a level
 pub agree : EntryLaw
@@ -40,8 +42,8 @@ agree s top_texts stack j (file_item name (Err word) rules) =
 agree s top_texts stack j (directory_item name) =
     let rule = last_match (rules_in j.ignore) (path_in j.path name) true in
     left_or (cited top_texts stack) Dir (reason_of s j name true) (walked (child_job j name)) rule (taken (cited top_texts stack) rule)
-agree s top_texts stack j (other_item name) =
-    other (cited top_texts stack) (reason_of s j name false) (last_match (rules_in j.ignore) (path_in j.path name) false)
+agree s top_texts stack j (other_item name what) =
+    other (cited top_texts stack) what (reason_of s j name false) (last_match (rules_in j.ignore) (path_in j.path name) false)
 
 -- a directory is explained further just where it is walked
 pub into : IntoLaw

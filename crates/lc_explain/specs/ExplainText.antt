@@ -8,6 +8,7 @@ use Rattle.lc_text.specs.RulePlaces.{rule_place}
 use Rattle.lc_text.specs.Styles.{styled, styled_path}
 use Rattle.lc_text.specs.declared.style.PathStyle.{PathStyle}
 use Rattle.lc_level.specs.FaultWords.{fault_word}
+use Rattle.lc_tree.specs.declared.entry.OtherKind.TheVariants.{Special, Mounted}
 use Rattle.lc_explain.specs.Explained.{CitedRule, Explanation, bad, faulted, below, ignored, included, unruled, left_out}
 
 -- the fields, with tabs between
@@ -22,7 +23,8 @@ module _ (style : PathStyle) where
   reason_text (by_rule source line) = codes "-"
   reason_text (by_attribute word) = codes "attribute:" ++ styled style word
   reason_text not_included = codes "include"
-  reason_text other_kind = codes "other"
+  reason_text (other_kind Special) = codes "other"
+  reason_text (other_kind Mounted) = codes "filesystem"
 
   -- of a directory that is at fault
   abbrev pub fault_line : FaultLineModel → List ℕ

@@ -45,7 +45,7 @@ said_for cite ignores (by_rule source line) = ignores (cite source line)
 said_for cite ignores named_git = left_out named_git
 said_for cite ignores (by_attribute name) = left_out (by_attribute name)
 said_for cite ignores not_included = left_out not_included
-said_for cite ignores other_kind = left_out other_kind
+said_for cite ignores (other_kind what) = left_out (other_kind what)
 
 -- of what the walk leaves out for a reason, or else by the rule that decides it
 abbrev pub said_by : (RuleSource → ℕ → CitedRule) → Option Reason → Option (RuleSource × RuleModel) → Explanation
@@ -56,7 +56,7 @@ said_by cite None None = unruled
 -- a name is asked about as what the tree has under it; what is not there is a file, and a name before a slash, or with one at its end,
 -- is that of a directory, unless the tree has what is neither a file nor a directory
 abbrev pub kind_asked : Bool → Option Kind → Kind
-kind_asked as_dir (Some Other) = Other
+kind_asked as_dir (Some (Other what)) = Other what
 kind_asked as_dir (Some Dir) = Dir
 kind_asked true (Some File) = Dir
 kind_asked false (Some File) = File

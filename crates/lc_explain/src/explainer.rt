@@ -31,7 +31,7 @@ fn kind_asked(as_dir: bool, there: Option<Kind>) -> Kind
     ensures { result ≡ kind_asked as_dir there }
 {
     match there {
-        Some(Kind::Other) => Kind::Other,
+        Some(Kind::Other(what)) => Kind::Other(what),
         Some(Kind::Dir) => Kind::Dir,
         Some(Kind::File) | None => { if as_dir { Kind::Dir } else { Kind::File } }
     }

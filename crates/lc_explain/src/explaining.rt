@@ -37,7 +37,7 @@ use std::alloc::Global;
 /// more than about [`MAX_KEPT`](crate::MAX_KEPT) bytes. Past that this holds only for paths in the order of a walk.
 ///
 /// ```
-/// let tree = SysTree::new(&rt, rt.alloc(), ".")?;
+/// let tree = SysTree::new(&rt, rt.alloc(), ".", FileSystems::All)?;
 /// let options = ExplainOptions::new(Selection::new(false, &[]), PathStyle::Escaped);
 /// let mut input = b"a.log\nsrc/\n".as_slice();
 /// let outcome = explain(rt.alloc(), &tree, &options, PathEnd::LineFeed, &mut input, &mut out)?;

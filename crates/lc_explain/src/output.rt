@@ -20,7 +20,7 @@ use lc_rules::{Lines, text_of_line};
 use lc_text::{
     Block, Outcome, PathStyle, push_rule_source, push_styled, push_styled_path, split_slash,
 };
-use lc_tree::Tree;
+use lc_tree::{OtherKind, Tree};
 use std::alloc::{AllocError, Global};
 
 /// Returns the line of a rule file with this number, as it is read: without a CR and the unquoted spaces at its end.
@@ -116,7 +116,14 @@ fn push_skipped(
         Reason::Git => push_plain(text, style, "left", "git", line),
         Reason::Rule { .. } => push_plain(text, style, "left", "-", line),
         Reason::Include => push_plain(text, style, "left", "include", line),
-        Reason::OtherKind => push_plain(text, style, "left", "other", line),
+        Reason::OtherKind(OtherKind::Special) => push_plain(text, style, "left", "other", line),
+        Reason::OtherKind(OtherKind::Mounted) => push_plain(
+            text,
+            style,
+            "left",
+            "filesystem",
+            line,
+        ),
         Reason::Attribute(word) => {
             text.extend_from_slice(b"left\tattribute:")?;
             push_styled(text, style, word)?;

@@ -1,5 +1,5 @@
 -- Faults that are passed on as replies.
-use Rattle.std.proofs.Common.{◌≡◌, ◌∙◌, Result, Ok, Err, ap, sym}
+use Rattle.std.proofs.Common.{◌≡◌, ◌∙◌, Result, Ok, Err, ap, subst, sym}
 use Rattle.std.specs.Prelude.{Vec}
 use Rattle.std.specs.Global.{Global}
 use Rattle.std.specs.Result.{IsErrAnd}
@@ -7,7 +7,7 @@ use Rattle.lc_level.specs.FaultLines.{FaultLineModel}
 use Rattle.lc_text.specs.declared.check_fault.CheckFault.{CheckFault}
 use Rattle.lc_table.specs.declared.running.RunFault.{RunFault}
 use Rattle.lc_program.specs.Causes.{check_cause, run_cause}
-use Rattle.lc_program.specs.Replies.{Reply, checked, ran}
+use Rattle.lc_program.specs.Replies.{IsRunReply, Reply, checked}
 use Rattle.lc_program.specs.declared.cause.Cause.{Cause}
 
 -- the fault of a check that was passed on is the reply
@@ -18,9 +18,10 @@ fault_replied (Err cause) answer fault is was = ap Err is ∙ sym (ap checked wa
 
 -- and so is that of a run
 pub run_replied : (reply : Reply) (answer : Result (Vec FaultLineModel Global) RunFault) (fault : RunFault)
-    → IsErrAnd reply (λ cause. cause ≡ run_cause fault) → answer ≡ Err fault → reply ≡ ran answer
-run_replied (Ok outcome) answer fault is was = absurd is
-run_replied (Err cause) answer fault is was = ap Err is ∙ sym (ap ran was)
+    → IsErrAnd reply (λ cause. cause ≡ run_cause fault) → answer ≡ Err fault → IsRunReply answer reply
+run_replied (Ok answered) answer fault is was = absurd is
+run_replied (Err cause) answer fault is was =
+    subst (λ (a : Result (Vec FaultLineModel Global) RunFault). IsRunReply a (Err cause)) (sym was) (ap Err is)
 
 -- and so is a cause
 pub given_up : (reply : Reply) (cause : Cause) → IsErrAnd reply (λ given. given ≡ cause) → reply ≡ Err cause

@@ -1,5 +1,6 @@
 -- How a count is answered, by what was read and written.
-use Rattle.std.specs.Prelude.{◌≡◌, ◌⊎◌, ◌||◌, ℕ, List, [], ◌++◌, map, Option, Some, None, Result, Ok, Err, Vec, is_some, option_map}
+use Rattle.std.specs.Prelude.{◌≡◌, ◌⊎◌, ◌||◌, ℕ, List, [], ◌++◌, map, if◌then◌else◌, Option, Some, None, Result, Ok, Err, Vec, is_some}
+use Rattle.std.specs.Prelude.{option_map}
 use Rattle.std.specs.Borrow.{Bor}
 use Rattle.std.specs.Global.{Global}
 use Rattle.lc_arguments.specs.TableWords.{options_in}
@@ -12,18 +13,24 @@ use Rattle.lc_level.specs.RuleReads.{shared}
 use Rattle.lc_rules.specs.IgnoreRules.{rules_of}
 use Rattle.lc_table.specs.Runs.{AnswersRun}
 use Rattle.lc_table.specs.declared.running.RunFault.{RunFault}
+use Rattle.lc_tree.specs.declared.file_systems.FileSystems.{FileSystems}
+use Rattle.lc_tree.specs.declared.file_systems.FileSystems.TheVariants.{All, One}
 use Rattle.lc_view.specs.declared.table_options.Format.{Format}
 use Rattle.lc_walk.specs.Walks.{Walks}
 use Rattle.lc_walk.specs.declared.options.Options.{Options}
 use Rattle.lc_program.specs.Causes.{list_cause}
 use Rattle.lc_program.specs.PathLists.{AnswersList, AnswersWanted}
-use Rattle.lc_program.specs.Replies.{Reply, ran}
+use Rattle.lc_program.specs.Replies.{IsRunReply, Reply}
 use Rattle.lc_program.specs.Rules.{AreRulesOf, LacksRules}
 use Rattle.lc_program.specs.Styles.{end_for}
 use Rattle.lc_program.specs.Systems.{SystemMay}
 use Rattle.lc_program.specs.declared.asked_rules.AskedRules.{AskedRules}
 use Rattle.lc_program.specs.declared.cause.Cause.{Cause}
 use Rattle.lc_program.specs.declared.cause.Cause.TheVariants.{Memory}
+
+-- the file systems whose directories the words of a count let it enter
+abbrev pub entered_by : CountRequest → FileSystems
+entered_by c = if c.one_file_system then One else All
 
 -- options that ask for what the words of a count ask, with these rules and these paths
 pub record IsAskedBy (c : CountRequest) (rules : AskedRules) (only : List (List ℕ)) (o : Options) : Type 0 where
@@ -54,8 +61,9 @@ module _ (may : SystemMay) {I O : Type 0} (may_give : I → ℕ → Answer → I
       (rules : AskedRules) × AreRulesOf may.hold c.exclusions rules
       × ((paths : Vec (Bor (List ℕ)) Global) × AnswersPathsOf input (Ok paths) read
       × ((o : Options) × IsAskedBy c rules (map (λ path. path.now) paths.items) o
-      × ((answer : Result (Vec FaultLineModel Global) RunFault) × (reply ≡ ran answer)
-      × AnswersRun may_take (Walks (may.list c.directory.now) (may.give c.directory.now) o) (options_in other c.table) out answer wrote)))
+      × ((answer : Result (Vec FaultLineModel Global) RunFault) × IsRunReply answer reply
+      × AnswersRun may_take (Walks (may.list c.directory.now (entered_by c)) (may.give c.directory.now (entered_by c)) o)
+      (options_in other c.table) out answer wrote)))
 
   -- such a run; or there were no rules or no memory, and nothing was read; or there were no paths; then nothing was written
   abbrev pub AnswersCount : I → O → Reply → I → O → Type 0

@@ -10,3 +10,4 @@ pub mod Rules
 pub mod Styles
 pub mod Systems
 pub mod Tellings
+pub mod Unnamed

@@ -1,5 +1,5 @@
 -- How the program ends on words, by what it read, wrote and told.
-use Rattle.std.specs.Prelude.{◌≡◌, ◌⊎◌, ℕ, Bool, true, false, List, [], ◌∷◌, Result, Ok, Err, codes}
+use Rattle.std.specs.Prelude.{◌≡◌, ◌⊎◌, ℕ, Bool, true, false, List, [], ◌∷◌, Result, Ok, Err, codes, string_bytes}
 use Rattle.lc_census.specs.declared.source.Failed.{Failed}
 use Rattle.lc_census.specs.Reads.{Answer}
 use Rattle.lc_program.specs.Causes.{HasNumber, cause_line}
@@ -55,15 +55,20 @@ module _ {E : Type 0} (may_take : E → List ℕ → Result ℕ Failed → E →
 
   -- after a count it is told what it could not read; its table has this format if the words name none
   abbrev pub TellsUnread : Format → Request → Answered → E → E → Type 0
-  TellsUnread other (Count c) (Counted faults) err told =
+  TellsUnread other (Count c) (Counted faults unnamed) err told =
       TellsFaults may_take c.directory.now (options_in other c.table).format faults.items err told
   TellsUnread other request answered err told = told ≡ err
 
-  -- what could not be read is told, and perhaps a hint
+  -- and which attributes no attribute file names
+  abbrev pub TellsUnnamed : Request → Answered → E → E → Type 0
+  TellsUnnamed (Count c) (Counted faults unnamed) err told = Tells may_take err (string_bytes unnamed) told
+  TellsUnnamed request answered err told = told ≡ err
+
+  -- what could not be read is told, which attributes are not named, and perhaps a hint
   abbrev pub Comments : (List ℕ → Bool → Type 0) → Terminals → Request → Answered → E → E → Type 0
   Comments may_lie terminals request answered err told =
-      (between : E) × TellsUnread (format_for terminals.output) request answered err between
-      × Hints may_lie terminals.error request between told
+      (unread : E) × TellsUnread (format_for terminals.output) request answered err unread
+      × ((unnamed : E) × TellsUnnamed request answered unread unnamed × Hints may_lie terminals.error request unnamed told)
 
 -- a text was written, as help is; or it was not, or not whole
 abbrev pub EndsShown : {O E : Type 0} → (O → List ℕ → Result ℕ Failed → O → Type 0) → (E → List ℕ → Result ℕ Failed → E → Type 0)

@@ -6,6 +6,7 @@ use Rattle.lc_census.specs.Reads.{Answer}
 use Rattle.lc_rules.specs.IgnoreRules.{rules_of}
 use Rattle.lc_level.specs.Selection.{including, selection_of}
 use Rattle.lc_tree.specs.Trees.{Listings, Contents}
+use Rattle.lc_tree.specs.declared.file_systems.FileSystems.TheVariants.{All}
 use Rattle.lc_explain.specs.Explain.{AnswersExplain, AnswersLines, MaySay}
 use Rattle.lc_explain.specs.declared.explain_options.ExplainOptions.{ExplainOptions}
 use Rattle.lc_check.specs.Check.{AnswersCheck, AnswersExplainedCheck, no_rules}
@@ -81,8 +82,8 @@ module _ (may : SystemMay) {I O : Type 0} (may_give : I → ℕ → Answer → I
   abbrev pub AnswersExplanation : PathStyle → ExplainRequest → I → O → Reply → I → O → Type 0
   AnswersExplanation style c input out reply read wrote =
       ((rules : AskedRules) × AreRulesOf may.hold c.exclusions rules × ((q : ExplainOptions) × IsOptionsOf style c rules q
-      × AnswersPaths (may.list c.directory.now) (may.give c.directory.now) may_give may_take q c.null c.paths.items input out reply read
-      wrote))
+      × AnswersPaths (may.list c.directory.now All) (may.give c.directory.now All) may_give may_take q c.null c.paths.items input out reply
+      read wrote))
       ⊎ ((cause : Cause) × (LacksRules may.hold c.exclusions cause ⊎ (cause ≡ Memory)) × (reply ≡ Err cause) × (read ≡ input)
       × (wrote ≡ out))
 

@@ -13,8 +13,8 @@ pub(crate) enum Answered {
     Checked,
     /// An explanation of paths.
     Explained(Outcome),
-    /// A count, and what could not be read.
-    Counted(Vec<FaultLine>),
+    /// A count: what could not be read, and lines about attributes that no attribute file names.
+    Counted(Vec<FaultLine>, String),
 }
 
 impl Answered {
@@ -25,7 +25,7 @@ impl Answered {
         match self {
             Answered::Checked => Outcome::Clean,
             Answered::Explained(outcome) => *outcome,
-            Answered::Counted(faults) => {
+            Answered::Counted(faults, _) => {
                 if faults.is_empty() {
                     Outcome::Clean
                 } else {

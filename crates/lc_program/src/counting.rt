@@ -1,8 +1,8 @@
 //! Answering counts.
 
-ghost use Rattle.std.specs.Prelude.{map};
+ghost use Rattle.std.specs.Prelude.{◌≡◌, map};
 ghost use Rattle.lc_arguments.specs.Words.{IsCountWithinLimits};
-ghost use Rattle.lc_program.specs.Counts.{AnswersCount, IsAskedBy};
+ghost use Rattle.lc_program.specs.Counts.{AnswersCount, IsAskedBy, entered_by};
 ghost use Rattle.lc_program.specs.Rules.{Share};
 ghost use Rattle.lc_program.specs.Systems.{system_may};
 ghost use Rattle.lc_program.specs.declared.asked_rules.AskedRules.{AskedRules as AskedRulesModel};
@@ -13,11 +13,14 @@ use crate::cause::Cause;
 use crate::checking::path_end;
 use crate::path_list::{list_of, wanted_paths};
 use crate::system::System;
+use crate::unnamed::unnamed_lines;
 use lc_arguments::{CountRequest, MAX_DIRS, MAX_THREADS};
 use lc_board::limits::{MAX_CAPACITY, MAX_WORKERS};
 use lc_census::Source;
+use lc_level::NamedAttributes;
 use lc_table::run;
 use lc_text::Sink;
+use lc_tree::FileSystems;
 use lc_view::Format;
 use lc_walk::{Options, ReportLists};
 use std::sync::Wait;
@@ -31,6 +34,7 @@ fn options_of<'o>(
     asked: &'o CountRequest<'_>,
     rules: SharedRules,
     only: &'o [&'o [u8]],
+    named: &'o NamedAttributes<'o>,
 ) -> Options<'o>
     ensures { (texts : AskedRulesModel) → Share texts rules
         → IsAskedBy asked.entry.now texts (map (λ path. path.now) only.entry.now) result }
@@ -49,6 +53,18 @@ fn options_of<'o>(
         without: &asked.exclusions.without,
         include: rules.include,
         only,
+        named: Some(named),
+    }
+}
+
+/// The file systems whose directories the command line lets a count enter.
+fn entered_by(asked: &CountRequest<'_>) -> FileSystems
+    ensures { result ≡ entered_by asked.now }
+{
+    if asked.one_file_system {
+        FileSystems::One
+    } else {
+        FileSystems::All
     }
 }
 
@@ -62,20 +78,23 @@ pub(crate) fn count<R: Threads + Wait + Sync + AllocGlobal, Y: System, S: Source
     out: &mut O,
 ) -> Result<Answered, Cause>
     requires limits { IsCountWithinLimits asked.now }
-    ensures { AnswersCount (system_may (λ dir. Y.Tree.lists (Y.tree system.now dir)) (λ dir. Y.Tree.gives (Y.tree system.now dir))
-        (Y.holds system.now) (Y.lies system.now)) S.may_give O.may_take format asked.now input.old out.old result input.new out.new }
+    ensures { AnswersCount (system_may (λ dir entered. Y.Tree.lists (Y.tree system.now dir entered))
+        (λ dir entered. Y.Tree.gives (Y.tree system.now dir entered)) (Y.holds system.now) (Y.lies system.now))
+        S.may_give O.may_take format asked.now input.old out.old result input.new out.new }
 {
     let rules = AskedRules::read(rt.alloc(), system, &asked.exclusions)?;
     let shared = rules.shared()?;
-    let tree = system.tree(rt.alloc(), asked.directory)?;
+    let tree = system.tree(rt.alloc(), asked.directory, entered_by(asked))?;
+    let named = NamedAttributes::new(rt.alloc(), &asked.exclusions.without)?;
     let list = list_of(rt.alloc(), system, asked.only_from, input)?;
     let listed = list.as_slice();
     let only = asked.only.as_slice();
     let end = path_end(asked.null);
     let wanted = wanted_paths(rt.alloc(), only, asked.only_from, end, listed)?;
     let paths = wanted.as_slice();
-    let options = options_of(asked, shared, paths);
+    let options = options_of(asked, shared, paths, &named);
     let table = asked.table.options(format);
     let faults = run(rt, rt.alloc(), &tree, &options, table, out)?;
-    Ok(Answered::Counted(faults))
+    let unnamed = unnamed_lines(rt.alloc(), &named);
+    Ok(Answered::Counted(faults, unnamed))
 }

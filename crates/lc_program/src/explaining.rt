@@ -13,7 +13,7 @@ use lc_census::Source;
 use lc_explain::{ExplainOptions, explain, explain_words};
 use lc_level::Selection;
 use lc_text::{PathStyle, Sink};
-use lc_tree::Tree;
+use lc_tree::{FileSystems, Tree};
 use std::alloc::Global;
 
 /// Explains the paths of the command line, or those of the input if there are none.
@@ -46,9 +46,9 @@ pub(crate) fn explain_asked<Y: System, S: Source, O: Sink>(
     input: &mut S,
     out: &mut O,
 ) -> Result<Answered, Cause>
-    ensures { AnswersExplanation (system_may (λ dir. Y.Tree.lists (Y.tree system.now dir)) (λ dir. Y.Tree.gives (Y.tree system.now dir))
-        (Y.holds system.now) (Y.lies system.now)) S.may_give O.may_take style asked.now input.old out.old result input.new
-        out.new }
+    ensures { AnswersExplanation (system_may (λ dir entered. Y.Tree.lists (Y.tree system.now dir entered))
+        (λ dir entered. Y.Tree.gives (Y.tree system.now dir entered)) (Y.holds system.now) (Y.lies system.now))
+        S.may_give O.may_take style asked.now input.old out.old result input.new out.new }
 {
     let rules = AskedRules::read(alloc, system, &asked.exclusions)?;
     let AskedRules {
@@ -56,7 +56,7 @@ pub(crate) fn explain_asked<Y: System, S: Source, O: Sink>(
         command_line,
         include,
     } = rules;
-    let tree = system.tree(alloc, asked.directory)?;
+    let tree = system.tree(alloc, asked.directory, FileSystems::All)?;
     let patterns = match &include {
         Some(text) => Some(text.rules()),
         None => None,

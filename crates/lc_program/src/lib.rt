@@ -4,7 +4,7 @@
 //! - `running`: the program; `answering`: the answer to each request, by `checking`, `counting` and `explaining`; `answered`: the answers
 //! - `asked_rules`: the rules that a command line names, by `rules_file`: those of a file; `path_list`: the paths in a file
 //! - `ending`: how the program ends; `cause`: why it gives up
-//! - `telling`: help, the version, and the lines on standard error, with `introducing` and `faults`
+//! - `telling`: help, the version, and the lines on standard error, with `introducing`, `faults` and `unnamed`
 #![tactic(auto)]
 
 mod answered;
@@ -23,6 +23,7 @@ mod running;
 mod streams;
 mod system;
 mod telling;
+mod unnamed;
 
 pub use cause::Cause;
 pub use ending::Ending;

@@ -16,13 +16,13 @@ use crate::system::System;
 use crate::telling::{give_up, hint, misuse, show};
 use lc_arguments::{ParseExit, Request};
 use lc_census::Source;
-use lc_text::{Outcome, Sink};
+use lc_text::{Outcome, Sink, print};
 use std::alloc::Global;
 use std::convert::AsStr;
 use std::sync::Wait;
 use std::thread::Threads;
 
-/// Tells what the answer to a request could not read, if it is a count, and what hint it gets.
+/// Tells what a count could not read and which attributes no attribute file names, and the hint that a request gets.
 fn comment<Y: System, E: Sink>(
     alloc: Global,
     system: &Y,
@@ -33,9 +33,11 @@ fn comment<Y: System, E: Sink>(
 )
     ensures { Comments E.may_take (Y.lies system.now) terminals request.now answered.now err.old err.new }
 {
-    if let (Request::Count(asked), Answered::Counted(faults)) = (request, answered) {
+    if let (Request::Count(asked), Answered::Counted(faults, unnamed)) = (request, answered) {
         let options = asked.table.options(terminals.format());
         tell_faults(alloc, asked.directory, options.format, faults, err);
+        // Nothing rests on a line that can't be written.
+        let _ = print(err, unnamed.as_bytes());
     }
     hint(alloc, system, request, terminals.error, err);
 }
@@ -48,9 +50,9 @@ fn end_of<R: Threads + Wait + Sync + AllocGlobal, Y: System, W: AsStr, S: Source
     terminals: Terminals,
     streams: &mut Streams<S, O, E>,
 ) -> Ending
-    ensures { Ends (system_may (λ dir. Y.Tree.lists (Y.tree system.now dir)) (λ dir. Y.Tree.gives (Y.tree system.now dir))
-        (Y.holds system.now) (Y.lies system.now)) (streams_may S.may_give O.may_take E.may_take) (map W.text words.now) terminals
-        streams.old result streams.new }
+    ensures { Ends (system_may (λ dir entered. Y.Tree.lists (Y.tree system.now dir entered))
+        (λ dir entered. Y.Tree.gives (Y.tree system.now dir entered)) (Y.holds system.now) (Y.lies system.now))
+        (streams_may S.may_give O.may_take E.may_take) (map W.text words.now) terminals streams.old result streams.new }
 {
     let Streams { input, out, err } = streams;
     let request = match Request::read(rt.alloc(), words) {
@@ -93,9 +95,9 @@ pub fn program<
     E: Sink,
 >(rt: &R, system: &Y, words: &[W], terminals: Terminals, streams: &mut Streams<S, O, E>) -> u8
     ensures { (ending : Ending) × (result ≡ status_of ending)
-        × Ends (system_may (λ dir. Y.Tree.lists (Y.tree system.now dir)) (λ dir. Y.Tree.gives (Y.tree system.now dir))
-        (Y.holds system.now) (Y.lies system.now)) (streams_may S.may_give O.may_take E.may_take) (map W.text words.now) terminals
-        streams.old ending streams.new }
+        × Ends (system_may (λ dir entered. Y.Tree.lists (Y.tree system.now dir entered))
+        (λ dir entered. Y.Tree.gives (Y.tree system.now dir entered)) (Y.holds system.now) (Y.lies system.now))
+        (streams_may S.may_give O.may_take E.may_take) (map W.text words.now) terminals streams.old ending streams.new }
 {
     end_of(rt, system, words, terminals, streams).status()
 }

@@ -100,7 +100,7 @@ reason_within path (by_rule source line) =
 reason_within path (by_attribute name) =
     let attribute = bytes_within (codes "attribute") (codes "attribute_bytes") name in omega arith
 reason_within path not_included = omega arith
-reason_within path other_kind = omega arith
+reason_within path (other_kind what) = omega arith
 
 skipped_within : (l : SkippedLineModel) → depth (skipped_value l) ≤ 2
 skipped_within l =

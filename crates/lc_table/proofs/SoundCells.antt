@@ -19,6 +19,7 @@ use Rattle.lc_text.specs.Visible.{visible_bytes, visible_path}
 use Rattle.lc_level.specs.FaultWords.{fault_word}
 use Rattle.lc_tree.specs.declared.entry.Kind.{Kind}
 use Rattle.lc_tree.specs.declared.entry.Kind.TheVariants.{File, Dir, Other}
+use Rattle.lc_tree.specs.declared.entry.OtherKind.TheVariants.{Special, Mounted}
 use Rattle.lc_level.specs.declared.fault_word.FaultWord.{FaultWord}
 use Rattle.lc_table.specs.CellWords.{visible_extension}
 use Rattle.lc_table.specs.SkippedWords.{reason_word, reason_place, skipped_end}
@@ -88,7 +89,8 @@ sound_reason named_git = ascii (codes "git") refl refl
 sound_reason (by_rule source line) = ascii (codes "rule") refl refl
 sound_reason (by_attribute name) = ascii (codes "attribute") refl refl
 sound_reason not_included = ascii (codes "include") refl refl
-sound_reason other_kind = ascii (codes "other") refl refl
+sound_reason (other_kind Special) = ascii (codes "other") refl refl
+sound_reason (other_kind Mounted) = ascii (codes "filesystem") refl refl
 
 pub sound_place : (path : List ℕ) (r : Reason) → AreBytes path → HasByteName r → IsSound Left (reason_place visible_bytes path r)
 sound_place path named_git small own = ascii (codes "-") refl refl
@@ -98,13 +100,14 @@ sound_place path (by_rule source line) small own =
     (one_line-decimal line)
 sound_place path (by_attribute name) small own = sound_bytes name own
 sound_place path not_included small own = ascii (codes "-") refl refl
-sound_place path other_kind small own = ascii (codes "-") refl refl
+sound_place path (other_kind what) small own = ascii (codes "-") refl refl
 
 pub one_line_skipped_end : (k : Kind) (r : Reason) → is_one_line (skipped_end k r) ≡ true
 one_line_skipped_end Dir named_git = refl
 one_line_skipped_end Dir (by_rule source line) = refl
 one_line_skipped_end Dir (by_attribute name) = refl
 one_line_skipped_end Dir not_included = refl
-one_line_skipped_end Dir other_kind = refl
+one_line_skipped_end Dir (other_kind what) = refl
 one_line_skipped_end File r = refl
-one_line_skipped_end Other r = refl
+one_line_skipped_end (Other Special) r = refl
+one_line_skipped_end (Other Mounted) r = refl

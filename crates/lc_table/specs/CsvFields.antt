@@ -70,7 +70,7 @@ reason_fields path named_git = [] ∷ [] ∷ [] ∷ []
 reason_fields path (by_rule source line) = rule_file (λ directory. directory) path source ∷ decimal line ∷ [] ∷ []
 reason_fields path (by_attribute name) = [] ∷ [] ∷ name ∷ []
 reason_fields path not_included = [] ∷ [] ∷ [] ∷ []
-reason_fields path other_kind = [] ∷ [] ∷ [] ∷ []
+reason_fields path (other_kind what) = [] ∷ [] ∷ [] ∷ []
 
 abbrev pub skipped_fields : SkippedLineModel → List (List ℕ)
 skipped_fields l = l.path ∷ kind_word l.kind ∷ reason_word l.reason ∷ reason_fields l.path l.reason

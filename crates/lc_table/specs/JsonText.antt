@@ -99,7 +99,7 @@ reason_members path (by_rule source line) =
     bytes_member (codes "file") (codes "file_bytes") (rule_file (λ directory. directory) path source) ∷ (codes "line", integer line) ∷ []
 reason_members path (by_attribute name) = bytes_member (codes "attribute") (codes "attribute_bytes") name ∷ []
 reason_members path not_included = []
-reason_members path other_kind = []
+reason_members path (other_kind what) = []
 
 abbrev pub skipped_value : SkippedLineModel → Json
 skipped_value l =

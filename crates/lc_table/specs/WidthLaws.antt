@@ -38,7 +38,7 @@ HasByteName named_git = ⊤
 HasByteName (by_rule source line) = ⊤
 HasByteName (by_attribute name) = AreBytes name
 HasByteName not_included = ⊤
-HasByteName other_kind = ⊤
+HasByteName (other_kind what) = ⊤
 
 -- the rows between their headings and their sums, the lines of hyphens too
 abbrev pub SummaryWidthLaw : Type 0

@@ -74,7 +74,12 @@ fn push_with_commas(text: &mut String, digits: &[u8]) -> Result<(), AllocError>
     Ok(())
 }
 
-fn push_number(text: &mut String, n: u128) -> Result<(), AllocError>
+/// Appends a number with commas between groups of three digits.
+///
+/// ```
+/// push_number(&mut text, 41_203)?; // `41,203`
+/// ```
+pub fn push_number(text: &mut String, n: u128) -> Result<(), AllocError>
     ensures { OnOk result (string_bytes text.new ≡ string_bytes text.old ++ with_commas (decimal n)) }
 {
     let mut buffer = itoa::Buffer::new();
@@ -122,7 +127,7 @@ fn push_skipped_place(text: &mut String, skipped: &SkippedLine) -> Result<(), Al
     match &skipped.reason {
         Reason::Rule { source, line } => push_rule_place(text, &skipped.path, *source, *line),
         Reason::Attribute(name) => push_visible(text, name),
-        Reason::Git | Reason::Include | Reason::OtherKind => text.push_str("-"),
+        Reason::Git | Reason::Include | Reason::OtherKind(_) => text.push_str("-"),
     }
 }
 

@@ -161,7 +161,9 @@ fn push_reason(fields: &mut Fields, skipped: &SkippedLine) -> Result<(), AllocEr
             fields.push(b"")
         }
         Reason::Attribute(name) => fields.push_each(&[b"", b"", name]),
-        Reason::Git | Reason::Include | Reason::OtherKind => { fields.push_each(&[b"", b"", b""]) }
+        Reason::Git | Reason::Include | Reason::OtherKind(_) => {
+            fields.push_each(&[b"", b"", b""])
+        }
     }
 }
 

@@ -34,6 +34,7 @@ mod tsv;
 mod words;
 mod writing;
 
+pub use cells::push_number;
 pub use laws::{
     bars_are_within_the_longest, csv_reads_back, lines_of_a_part_are_as_wide,
     markdown_has_no_markup_of_names, numbers_with_commas_read_back, shares_are_of_the_total,

@@ -52,7 +52,7 @@ impl From<PrintFault> for RunFault {
 /// Walks a tree, writes the table of what it found ([`table`]), and returns what could not be read.
 ///
 /// ```
-/// let tree = SysTree::new(&rt, rt.alloc(), "src")?;
+/// let tree = SysTree::new(&rt, rt.alloc(), "src", FileSystems::All)?;
 /// let table_options = TableOptions { format: Format::Tsv, by: Columns::ALL, sort: None, top: None, files: false, share: false };
 /// let faults = run(&rt, rt.alloc(), &tree, &options, table_options, &mut out)?;
 /// assert!(faults.is_empty());

@@ -8,7 +8,7 @@ ghost use Rattle.lc_table.specs.SkippedWords.{kind_word, skipped_end, reason_wor
 use lc_census::Eol;
 use lc_level::Reason;
 use lc_rules::TextState;
-use lc_tree::Kind;
+use lc_tree::{Kind, OtherKind};
 use lc_walk::SkippedLine;
 
 pub(crate) fn eol_word(eol: Eol) -> &'static str
@@ -44,7 +44,8 @@ pub(crate) fn reason_word(skipped: &SkippedLine) -> &'static str
         Reason::Rule { .. } => "rule",
         Reason::Attribute(_) => "attribute",
         Reason::Include => "include",
-        Reason::OtherKind => "other",
+        Reason::OtherKind(OtherKind::Special) => "other",
+        Reason::OtherKind(OtherKind::Mounted) => "filesystem",
     }
 }
 
@@ -53,8 +54,8 @@ pub(crate) fn kind_word(kind: Kind) -> &'static str
 {
     match kind {
         Kind::File => "file",
-        Kind::Dir => "dir",
-        Kind::Other => "other",
+        Kind::Dir | Kind::Other(OtherKind::Mounted) => "dir",
+        Kind::Other(OtherKind::Special) => "other",
     }
 }
 
@@ -64,8 +65,8 @@ pub(crate) fn skipped_end(skipped: &SkippedLine) -> &'static str
 {
     match (skipped.kind, &skipped.reason) {
         (Kind::Dir, Reason::Git) => "",
-        (Kind::Dir, _) => "/",
-        (Kind::File | Kind::Other, _) => "",
+        (Kind::Dir | Kind::Other(OtherKind::Mounted), _) => "/",
+        (Kind::File | Kind::Other(OtherKind::Special), _) => "",
     }
 }
 

@@ -5,7 +5,7 @@ use lc_explain::{ExplainOptions, explain};
 use lc_level::Selection;
 use lc_text::trials::{Narrow, WhenFull};
 use lc_text::{CheckFault, Outcome, PathEnd, PathStyle};
-use lc_tree::{MemTree, Sketch};
+use lc_tree::{MemTree, OtherKind, Sketch};
 use std::alloc::AllocError;
 use std::process::Abort;
 use std::test::Fail;
@@ -45,8 +45,9 @@ const KINDS: Sketch = Sketch::Dir(&[
     (b"d", Sketch::Dir(&[])),
     (b"e", Sketch::Dir(&[(b"d", LINE)])),
     (b"f", LINE),
-    (b"l", Sketch::Other),
-    (b"l.x", Sketch::Other),
+    (b"l", Sketch::Other(OtherKind::Special)),
+    (b"l.x", Sketch::Other(OtherKind::Special)),
+    (b"m", Sketch::Other(OtherKind::Mounted)),
 ]);
 
 const INFO: Sketch = Sketch::Dir(&[
@@ -112,11 +113,13 @@ static CASES: [Case; 7] = [
     (
         "what a walk leaves out without a rule",
         KINDS,
-        b"l\nl/\nl/a\nl.x\n.git\n.git/config\ne/.git/\n",
+        b"l\nl/\nl/a\nl.x\nm/\nm/a\n.git\n.git/config\ne/.git/\n",
         b"left\tother\t-\tl\n\
           left\tother\t-\tl/\n\
           left\tother\t-\tl/a\n\
           ignored\t.gitignore:2\t*.x\tl.x\n\
+          left\tfilesystem\t-\tm/\n\
+          left\tfilesystem\t-\tm/a\n\
           left\tgit\t-\t.git\n\
           left\tgit\t-\t.git/config\n\
           left\tgit\t-\te/.git/\n",

@@ -18,6 +18,8 @@ pub(super) type Entry = (&'static [u8], Sketch<'static>);
 pub(super) struct Case<'a> {
     pub(super) name: &'a str,
     pub(super) top: Sketch<'a>,
+    /// The same on one file system.
+    pub(super) bounded: Sketch<'a>,
     pub(super) files: Sketch<'a>,
     pub(super) words: &'a [&'a str],
     pub(super) input: &'a [u8],
@@ -39,6 +41,7 @@ pub(super) const NO_TERMINALS: Terminals = Terminals {
 pub(super) const EMPTY: Case<'static> = Case {
     name: "",
     top: Sketch::Closed,
+    bounded: Sketch::Closed,
     files: Sketch::Dir(&[]),
     words: &[],
     input: b"",
@@ -51,10 +54,13 @@ pub(super) const EMPTY: Case<'static> = Case {
 
 const OTHER: Sketch<'static> = Sketch::Dir(&[(b"other.x", Sketch::File(b"1\n2\n"))]);
 
-fn directories_of(alloc: Global, case: &Case<'_>) -> Result<Vec<(&'static str, Node)>, AllocError> {
+fn directories_of(
+    alloc: Global,
+    top: &Sketch<'_>,
+) -> Result<Vec<(&'static str, Node)>, AllocError> {
     let mut directories = Vec::with_capacity(alloc, 2)?;
     directories.push(("other", OTHER.node(alloc)?))?;
-    directories.push(("top", case.top.node(alloc)?))?;
+    directories.push(("top", top.node(alloc)?))?;
     Ok(directories)
 }
 
@@ -63,10 +69,11 @@ fn writer_of(alloc: Global, text: &[u8]) -> Result<Narrow, AllocError> {
     Narrow::new(alloc, 4_096, text.len().saturating_add(64), WhenFull::Fails)
 }
 
-/// Whether this is told where memory is refused, in place of another line.
-fn is_refusal(told: &[u8]) -> bool {
+/// Whether this is told where memory is refused, in place of what is wanted.
+fn is_refusal(told: &[u8], wanted: &[u8]) -> bool {
     told == b"lc: out of memory\n".as_slice()
         || told == b"lc: some paths could not be read\n".as_slice()
+        || (told.is_empty() && !wanted.is_empty())
 }
 
 /// Whether a run in a system ends so.
@@ -82,7 +89,7 @@ fn ends_so<R: Threads + Wait + Sync + AllocGlobal>(
         err: writer_of(rt.alloc(), case.err)?,
     };
     let status = program(rt, system, words, case.terminals, &mut streams);
-    if is_refusal(&streams.err.taken) {
+    if is_refusal(&streams.err.taken, case.err) {
         return Err(AllocError);
     }
     Ok(
@@ -98,10 +105,12 @@ fn is_so<R: Threads + Wait + Sync + AllocGlobal>(
     words: &[&str],
     case: &Case<'_>,
 ) -> Result<bool, AllocError> {
-    let directories = directories_of(rt.alloc(), case)?;
+    let directories = directories_of(rt.alloc(), &case.top)?;
+    let bounded = directories_of(rt.alloc(), &case.bounded)?;
     let files = case.files.node(rt.alloc())?;
     let system = MemSystem {
         directories: &directories,
+        bounded: &bounded,
         absent: &Node::Closed,
         files: &files,
         is_repository: case.is_repository,

@@ -3,7 +3,7 @@
 use crate::runs::mem_system::MemSystem;
 use lc_census::Source;
 use lc_program::{Cause, System, give_up, misuse};
-use lc_tree::{Node, Sketch, Tree};
+use lc_tree::{FileSystems, Node, Sketch, Tree};
 use std::test::Fail;
 
 const TOP: Sketch<'static> = Sketch::Dir(&[(b"a", Sketch::File(b"x"))]);
@@ -21,11 +21,12 @@ fn names_of_a_system(rt: HostRuntime) -> Result<(), Fail> {
     let directories = vec![in rt.alloc(); ("top", TOP.node(rt.alloc())?)]?;
     let system = MemSystem {
         directories: &directories,
+        bounded: &[],
         absent: &Node::Closed,
         files: &directories[0].1,
         is_repository: true,
     };
-    let tree = system.tree(rt.alloc(), "top")?;
+    let tree = system.tree(rt.alloc(), "top", FileSystems::All)?;
     let listing = tree.list(rt.alloc(), b"")?;
     assert!(rt; listing.entries().len() == 1);
     let file = system.open_file(rt.alloc(), "a")?;

@@ -1,7 +1,7 @@
 //! Counts: their tables, by one thread and by several.
 
 use crate::runs::asking::{Case, EMPTY, Entry, compare_by_threads};
-use lc_tree::Sketch;
+use lc_tree::{OtherKind, Sketch};
 use std::test::Fail;
 
 const IGNORE: Entry = (b".gitignore", Sketch::File(b"*.log\n!keep.log\n/build/\n"));
@@ -86,6 +86,17 @@ const CASES: &[Case<'static>] = &[
                \"total\":{\"files\":3,\"lines\":5,\"blank\":0,\"bytes\":34},\
                \"text\":{\"files\":3,\"lines\":5,\"blank\":0,\"bytes\":34},\
                \"binary\":{\"files\":0,\"lines\":0,\"blank\":0,\"bytes\":0},\"directories\":3,\"faults\":[]}\n",
+        ..WORKED
+    },
+    Case {
+        name: "one_file_system",
+        words: &["count", "-x", "--by", "ext", "--left-out", "top"],
+        bounded: Sketch::Dir(&[(b"mnt", Sketch::Other(OtherKind::Mounted))]),
+        out: b"ext\ttext\teol\tfiles\tlines\tblank\tbytes\n\
+               total\t*\t*\t0\t0\t0\t0\n\
+               directories\t1\n\
+               entries\t1\n\
+               left\tfilesystem\t-\tmnt/\n",
         ..WORKED
     },
     Case {

@@ -35,6 +35,7 @@ fn words_are_refused(rt: HostRuntime) -> Result<(), Fail> {
 fn the_version_is_shown(rt: HostRuntime) -> Result<(), Fail> {
     let system = MemSystem {
         directories: &[],
+        bounded: &[],
         absent: &Node::Closed,
         files: &Node::Closed,
         is_repository: false,

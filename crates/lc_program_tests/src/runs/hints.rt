@@ -22,6 +22,29 @@ const UNTOLD: Case<'static> = Case {
     ..EMPTY
 };
 
+/// Attributes that an attribute file names, and others.
+const NAMED: Case<'static> = Case {
+    name: "attributes_that_no_file_names",
+    words: &[
+        "count",
+        "--by",
+        "ext",
+        "--without",
+        "a",
+        "--without",
+        "b=1",
+        "--without=c",
+        "top",
+    ],
+    top: Sketch::Dir(&[(b".gitattributes", Sketch::File(b"x b=2\n"))]),
+    out: b"ext\ttext\teol\tfiles\tlines\tblank\tbytes\n\
+           -\t*\t*\t1\t1\t0\t6\n\
+           total\t*\t*\t1\t1\t0\t6\n\
+           directories\t1\n",
+    err: b"lc: no attribute file names a\nlc: no attribute file names c\n",
+    ..EMPTY
+};
+
 /// On a terminal whose input is typed.
 const TYPED: Case<'static> = Case {
     terminals: Terminals {
@@ -111,6 +134,7 @@ const TYPED_CASES: &[Case<'static>] = &[
 
 const CASES: &[Case<'static>] = &[
     UNTOLD,
+    NAMED,
     Case {
         name: "inside_of_a_repository",
         is_repository: true,

@@ -3,7 +3,7 @@
 ghost use Rattle.std.specs.Prelude.{◌≡◌};
 
 use lc_program::System;
-use lc_tree::{MemFile, MemTree, Node, ReadFault, Tree};
+use lc_tree::{FileSystems, MemFile, MemTree, Node, ReadFault, Tree};
 use std::alloc::{AllocError, Global};
 
 /// A system of memory.
@@ -11,6 +11,8 @@ use std::alloc::{AllocError, Global};
 pub(super) struct MemSystem<'a> {
     /// Directories, each with its name.
     pub(super) directories: &'a [(&'a str, Node)],
+    /// The same without what is on other file systems.
+    pub(super) bounded: &'a [(&'a str, Node)],
     /// The directory of any other name.
     pub(super) absent: &'a Node,
     /// The directory that has the files that a command line names.
@@ -27,18 +29,28 @@ impl<'a> System for MemSystem<'a> {
     ghost use Rattle.std.specs.Prelude.{◌≡◌, ℕ, List, bytes_eq, find, option_map, unwrap_or};
     ghost use Rattle.std.specs.Borrow.{Bor};
     ghost use Rattle.lc_tree.specs.MemTrees.{mem_gives};
+    ghost use Rattle.lc_program_tests.specs.Listed.{listed_by};
     ghost use Rattle.lc_tree.specs.declared.node.Node.{Node};
 
-    ghost tree = { λ s name. unwrap_or (option_map (λ (d : Bor (List ℕ) × Node). d.1)
-        (find (λ (d : Bor (List ℕ) × Node). bytes_eq d.0.now name) s.directories.now)) s.absent.now };
+    ghost tree = { λ s name entered. unwrap_or (option_map (λ (d : Bor (List ℕ) × Node). d.1)
+        (find (λ (d : Bor (List ℕ) × Node). bytes_eq d.0.now name) (listed_by s.directories.now s.bounded.now entered))) s.absent.now };
 
     ghost holds = { λ s name. mem_gives s.files.now name };
 
     ghost lies = { λ s name answer. answer ≡ s.is_repository };
 
     /// Takes no memory.
-    fn tree(&self, _alloc: Global, directory: &str) -> Result<MemTree<'a>, AllocError> {
-        let found = self.directories.iter().find(|named| named.0 == directory);
+    fn tree(
+        &self,
+        _alloc: Global,
+        directory: &str,
+        entered: FileSystems,
+    ) -> Result<MemTree<'a>, AllocError> {
+        let directories = match entered {
+            FileSystems::All => self.directories,
+            FileSystems::One => self.bounded,
+        };
+        let found = directories.iter().find(|named| named.0 == directory);
         Ok(MemTree::new(match found {
             Some(named) => &named.1,
             None => self.absent,

@@ -109,6 +109,7 @@ fn options_of(
         without: &[],
         include: None,
         only: &[],
+        named: None,
     })
 }
 

@@ -5,7 +5,7 @@ use crate::table::screens::EMPTY;
 use crate::table::tables::{has_parts, report_of};
 use lc_level::Reason;
 use lc_rules::RuleSource;
-use lc_tree::Kind;
+use lc_tree::{Kind, OtherKind};
 use lc_view::{Format, TableOptions};
 use lc_walk::{Report, ReportLists, SkippedLine};
 use std::alloc::{AllocError, Global};
@@ -18,7 +18,7 @@ enum Why {
     Git,
     Rule(RuleSource, u32),
     Attribute(&'static [u8]),
-    Other,
+    Other(OtherKind),
 }
 
 const LEFT: &[(&[u8], Kind, Why)] = &[
@@ -29,7 +29,16 @@ const LEFT: &[(&[u8], Kind, Why)] = &[
         Why::Rule(RuleSource::Gitignore(0), 1),
     ),
     (b"docs", Kind::Dir, Why::Attribute(b"export-ignore")),
-    (b"link.c", Kind::Other, Why::Other),
+    (
+        b"link.c",
+        Kind::Other(OtherKind::Special),
+        Why::Other(OtherKind::Special),
+    ),
+    (
+        b"mnt",
+        Kind::Other(OtherKind::Mounted),
+        Why::Other(OtherKind::Mounted),
+    ),
     (
         b"notes.txt",
         Kind::File,
@@ -48,7 +57,7 @@ fn reason_of(alloc: Global, why: Why) -> Result<Reason, AllocError> {
         Why::Git => Ok(Reason::Git),
         Why::Rule(source, line) => Ok(Reason::Rule { source, line }),
         Why::Attribute(name) => Ok(Reason::Attribute(name.to_vec(alloc)?)),
-        Why::Other => Ok(Reason::OtherKind),
+        Why::Other(what) => Ok(Reason::OtherKind(what)),
     }
 }
 
@@ -78,6 +87,7 @@ const TABS: &[u8] = b"total\t*\t*\t0\t0\t0\t0\n\
       left\trule\t.gitignore:1\ta\\x0a.log\n\
       left\tattribute\texport-ignore\tdocs/\n\
       left\tother\t-\tlink.c\n\
+      left\tfilesystem\t-\tmnt/\n\
       left\trule\t.git/info/exclude:2\tnotes.txt\n\
       left\trule\tsrc/.gitignore:3\tsrc/gen/\n\
       left\trule\t--exclude-from:7\tx.bak\n";
@@ -88,19 +98,21 @@ const JSON: &[u8] = b"{\"rows\":[],\"total\":{\"files\":0,\"lines\":0,\"blank\":
       \"entries\":1008,\"files\":[],\"left\":[{\"path\":\".git\",\"kind\":\"dir\",\"reason\":\"git\"},\
       {\"path\":\"a\\n.log\",\"kind\":\"file\",\"reason\":\"rule\",\"file\":\".gitignore\",\
       \"line\":1},{\"path\":\"docs\",\"kind\":\"dir\",\"reason\":\"attribute\",\"attribute\":\"export-ignore\"},\
-      {\"path\":\"link.c\",\"kind\":\"other\",\"reason\":\"other\"},{\"path\":\"notes.txt\",\
+      {\"path\":\"link.c\",\"kind\":\"other\",\"reason\":\"other\"},\
+      {\"path\":\"mnt\",\"kind\":\"dir\",\"reason\":\"filesystem\"},{\"path\":\"notes.txt\",\
       \"kind\":\"file\",\"reason\":\"rule\",\"file\":\".git/info/exclude\",\"line\":2},{\"path\":\"src/gen\",\
       \"kind\":\"dir\",\"reason\":\"rule\",\"file\":\"src/.gitignore\",\"line\":3},{\"path\":\"x.bak\",\
       \"kind\":\"file\",\"reason\":\"rule\",\"file\":\"--exclude-from\",\"line\":7}],\"faults\":[]}\n";
 
-const LINES: &[u8] = b"left out   by                   path\n\
-     git        -                    .git\n\
-     rule       .gitignore:1         a\\x0a.log\n\
-     attribute  export-ignore        docs/\n\
-     other      -                    link.c\n\
-     rule       .git/info/exclude:2  notes.txt\n\
-     rule       src/.gitignore:3     src/gen/\n\
-     rule       --exclude-from:7     x.bak\n\
+const LINES: &[u8] = b"left out    by                   path\n\
+     git         -                    .git\n\
+     rule        .gitignore:1         a\\x0a.log\n\
+     attribute   export-ignore        docs/\n\
+     other       -                    link.c\n\
+     filesystem  -                    mnt/\n\
+     rule        .git/info/exclude:2  notes.txt\n\
+     rule        src/.gitignore:3     src/gen/\n\
+     rule        --exclude-from:7     x.bak\n\
      \n\
      ext    text  eol  files  lines  blank  bytes\n\
      --------------------------------------------\n\
@@ -115,6 +127,7 @@ const RECORDS: &[u8] = b"path,kind,reason,file,line,attribute\n\
      \"a\n.log\",file,rule,.gitignore,1,\n\
      docs,dir,attribute,,,export-ignore\n\
      link.c,other,other,,,\n\
+     mnt,dir,filesystem,,,\n\
      notes.txt,file,rule,.git/info/exclude,2,\n\
      src/gen,dir,rule,src/.gitignore,3,\n\
      x.bak,file,rule,--exclude-from,7,\n";
@@ -125,6 +138,7 @@ const MARKDOWN: &[u8] = b"| left out | by | path |\n\
      | rule | .gitignore:1 | a\\\\x0a.log |\n\
      | attribute | export-ignore | docs/ |\n\
      | other | - | link.c |\n\
+     | filesystem | - | mnt/ |\n\
      | rule | .git/info/exclude:2 | notes.txt |\n\
      | rule | src/.gitignore:3 | src/gen/ |\n\
      | rule | --exclude-from:7 | x.bak |\n\

@@ -1,0 +1,23 @@
+//! Outputs before which the line of a long count is erased.
+
+use crate::progress::Progress;
+use lc_census::Failed;
+use lc_text::Sink;
+
+/// A sink on which nothing is written beside the line of a count.
+#[derive(Drop)]
+pub(crate) struct WatchedSink<'a, S> {
+    pub(crate) sink: S,
+    pub(crate) progress: Option<&'a Progress>,
+}
+
+impl<S: Sink> Sink for WatchedSink<'_, S> {
+    ghost may_take = { λ old bytes answer new. S.may_take old.sink bytes answer new.sink };
+
+    fn write(&mut self, bytes: &[u8]) -> Result<usize, Failed> {
+        if let Some(progress) = self.progress {
+            progress.erase();
+        }
+        self.sink.write(bytes)
+    }
+}

@@ -1,0 +1,81 @@
+//! A directory of the host as a tree, whose calls are counted for a terminal.
+
+use crate::progress::Progress;
+use lc_census::StdSource;
+use lc_tree::{Entry, Listing, ReadFault, SysTree, Tree};
+use std::alloc::Global;
+use std::marker::Model;
+use std::rt::Files;
+use std::time::Clock;
+
+/// A directory of the host as a tree. It answers what the tree itself answers.
+#[derive(Drop)]
+pub(crate) struct WatchedTree<'a, R> {
+    pub(crate) tree: SysTree<'a, R>,
+    pub(crate) clock: &'a R,
+    /// Where to count what is opened, if a terminal shows it.
+    pub(crate) progress: Option<&'a Progress>,
+}
+
+impl<'a, R> Model for WatchedTree<'a, R> {
+    ghost use Rattle.std.specs.Prelude.{List, ℕ};
+
+    ghost Value = { List ℕ };
+
+    ghost view = { λ t. t.tree };
+}
+
+impl<R: Clock> WatchedTree<'_, R> {
+    fn note_directory(&self) {
+        if let Some(progress) = self.progress {
+            progress.add_directory(self.clock);
+        }
+    }
+
+    fn note_file(&self) {
+        if let Some(progress) = self.progress {
+            progress.add_file(self.clock);
+        }
+    }
+}
+
+impl<R: Files + Clock + Sync> Tree for WatchedTree<'_, R>
+where
+    R::File: Send,
+    R::Dir: Send,
+{
+    type File = StdSource<R::File>;
+
+    ghost use Rattle.lc_tree.specs.MemTrees.{nothing};
+    ghost use Rattle.lc_tree.specs.SysTrees.{AnyListing, AnyContents};
+
+    ghost lists = { λ t path. AnyListing };
+
+    ghost gives = { λ t path. AnyContents };
+
+    fn list(&self, alloc: Global, path: &[u8]) -> Result<Listing, ReadFault> {
+        self.note_directory();
+        self.tree.list(alloc, path)
+    }
+
+    fn names(&self, alloc: Global, path: &[u8]) -> Result<Option<Vec<Vec<u8>>>, ReadFault> {
+        self.note_directory();
+        self.tree.names(alloc, path)
+    }
+
+    fn look(
+        &self,
+        alloc: Global,
+        path: &[u8],
+        names: Vec<Vec<u8>>,
+    ) -> Result<Vec<Entry>, ReadFault> {
+        self.tree.look(alloc, path, names)
+    }
+
+    fn open_file(&self, alloc: Global, path: &[u8]) -> Result<StdSource<R::File>, ReadFault> {
+        self.note_file();
+        self.tree.open_file(alloc, path)
+    }
+
+    ghost some_content = { λ t path. (nothing, λ pieces stop given. tt) };
+}

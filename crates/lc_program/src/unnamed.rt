@@ -1,0 +1,44 @@
+//! The lines on standard error about attributes that no attribute file names.
+
+ghost use Rattle.std.specs.Prelude.{◌≡◌, ◌++◌, string_bytes, IfOk, OnOk};
+ghost use Rattle.lc_program.specs.Unnamed.{AreUnnamedLines, unnamed_line, unnamed_lines_of};
+
+use lc_level::NamedAttributes;
+use lc_text::push_visible;
+use std::alloc::{AllocError, Global};
+
+fn push_unnamed(text: &mut String, attribute: &[u8]) -> Result<(), AllocError>
+    ensures { OnOk result (string_bytes text.new ≡ string_bytes text.old ++ unnamed_line attribute.now) }
+{
+    text.push_str("lc: no attribute file names ")?;
+    push_visible(text, attribute)?;
+    text.push_str("\n")
+}
+
+fn lines_of(alloc: Global, attributes: &[&[u8]]) -> Result<String, AllocError>
+    ensures { IfOk result (λ text. string_bytes text ≡ unnamed_lines_of attributes.now) }
+{
+    let mut text = String::new(alloc);
+    for attribute in attributes {
+        push_unnamed(&mut text, attribute)?;
+    }
+    Ok(text)
+}
+
+fn unnamed_text(alloc: Global, named: &NamedAttributes<'_>) -> Result<String, AllocError>
+    ensures { IfOk result (λ text. AreUnnamedLines (string_bytes text)) }
+{
+    let attributes = named.unnamed(alloc)?;
+    let text = lines_of(alloc, &attributes)?;
+    Ok(text)
+}
+
+/// Makes a line for each attribute that no attribute file names; none if there is no memory for them, since nothing rests on these lines.
+pub(crate) fn unnamed_lines(alloc: Global, named: &NamedAttributes<'_>) -> String
+    ensures { AreUnnamedLines (string_bytes result) }
+{
+    match unnamed_text(alloc, named) {
+        Ok(text) => text,
+        Err(AllocError) => String::new(alloc),
+    }
+}
