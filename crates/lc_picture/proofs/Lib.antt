@@ -1,0 +1,5 @@
+pub mod Texts
+pub mod References
+pub mod Outlines
+pub mod Boxing
+pub mod Pages

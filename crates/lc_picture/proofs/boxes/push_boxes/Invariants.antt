@@ -1,0 +1,8 @@
+use Rattle.std.proofs.Common.{◌≡◌, ◌++◌, drop}
+use Rattle.lc_picture.specs.Boxes.{boxes_in}
+use Rattle.lc_picture.specs.Pieces.{text_of}
+use Rattle.lc_picture.proofs.boxes.push_boxes.Given as goal
+
+abbrev pub invariant-loop-index : goal.invariant-loop-index
+invariant-loop-index l =
+    l.text.items ++ text_of (boxes_in l.by l.within (drop l.index l.boxes)) ≡ l.initial.text.items ++ text_of (boxes_in l.by 0 l.boxes)

@@ -1,0 +1,61 @@
+-- The boxes of a tree of directories. Each has a box inside for each directory right in it, and its share of the space is its number.
+use Rattle.std.specs.Prelude.{ℕ, ◌+◌, ◌-◌, ◌/◌, ◌==◌, nat_le, if◌then◌else◌, List, [], ◌∷◌, ◌++◌}
+use Rattle.std.specs.Prelude.{map, max, min, replicate, codes, unwrap_or}
+use Rattle.std.specs.List.{filter}
+use Rattle.lc_glob.specs.Path.{depth_of}
+use Rattle.lc_rows.specs.Directories.{name_of}
+use Rattle.lc_rows.specs.RowKeys.{ShownRowModel}
+use Rattle.lc_rows.specs.ShownRows.{number_in}
+use Rattle.lc_text.specs.Visible.{visible_path}
+use Rattle.lc_view.specs.declared.table_options.SortBy.{SortBy}
+use Rattle.lc_walk.specs.declared.tally.sums.Sums.{Sums}
+use Rattle.lc_picture.specs.Pieces.{Piece, markup, name, share, sums_pieces}
+
+-- a directory: the last name of its path, how many directories are above it, and the sums over the files in it and below it
+pub record BoxModel : Type 0 where
+  pub directory : List ℕ
+  pub depth : ℕ
+  pub sums : Sums
+
+abbrev pub path_of : ShownRowModel → List ℕ
+path_of r = unwrap_or r.directory []
+
+abbrev pub box_of : ShownRowModel → BoxModel
+box_of r = record { directory = name_of (path_of r); depth = depth_of (path_of r); sums = r.sums }
+
+-- the least number that is drawn: a thousandth of the total, and not nothing
+abbrev pub least_drawn : ℕ → ℕ
+least_drawn total = max (total / 1000) 1
+
+-- the directories that are drawn
+abbrev pub drawn_boxes : SortBy → ℕ → List ShownRowModel → List BoxModel
+drawn_boxes by least rows = map box_of (filter (λ r. nat_le least (number_in by r.sums)) rows)
+
+-- what is left of a number without those of the boxes right in one of this depth, which come before the next box that is not in it
+abbrev pub left_beside : SortBy → ℕ → ℕ → List BoxModel → ℕ
+left_beside by depth n [] = n
+left_beside by depth n (b ∷ bs) =
+    if nat_le b.depth depth then n
+    else left_beside by depth (if b.depth == depth + 1 then n - number_in by b.sums else n) bs
+
+-- the begin of a box: its name and its sums, and empty space for the files right in it and for the directories in it that are not drawn
+abbrev pub opening : SortBy → BoxModel → ℕ → List Piece
+opening by b left =
+    markup (codes "<details open style=\"flex-grow:") ∷ share (number_in by b.sums) ∷ markup (codes "\"><summary><b>")
+    ∷ name (visible_path b.directory) ∷ markup (codes "</b> ")
+    ∷ (sums_pieces b.sums ++ markup (codes "</summary><div><i style=\"flex-grow:") ∷ share left ∷ markup (codes "\"></i>") ∷ [])
+
+abbrev pub closing : Piece
+closing = markup (codes "</div></details>\n")
+
+abbrev pub closings : ℕ → List Piece
+closings n = replicate n closing
+
+-- the next box: the open ones that don't hold it are closed before it begins
+abbrev pub next_box : SortBy → ℕ → BoxModel → List BoxModel → List Piece
+next_box by within b bs = closings (within - b.depth) ++ opening by b (left_beside by b.depth (number_in by b.sums) bs)
+
+-- the boxes of directories that come depth first, while so many boxes are open
+abbrev pub boxes_in : SortBy → ℕ → List BoxModel → List Piece
+boxes_in by within [] = closings within
+boxes_in by within (b ∷ bs) = next_box by within b bs ++ boxes_in by (min within b.depth + 1) bs

@@ -1,0 +1,7 @@
+pub mod Escaping
+pub mod Pieces
+pub mod Style
+pub mod Boxes
+pub mod Chart
+pub mod Page
+pub mod Laws

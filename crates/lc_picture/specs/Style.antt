@@ -1,0 +1,26 @@
+-- The fixed parts of a page.
+use Rattle.std.specs.Prelude.{ℕ, List, ◌++◌, codes}
+
+-- how the parts of a page look: a box beside its parent, and space by shares
+unfoldable pub style : List ℕ
+style =
+    codes ":root{color-scheme:light dark}\n" ++ codes "body{margin:1rem;font:.875rem/1.35 system-ui,sans-serif}\n"
+    ++ codes "h1,h2{font-size:1.1rem}\n" ++ codes "table{border-collapse:collapse;font-variant-numeric:tabular-nums}\n"
+    ++ codes "th,td{padding:0 .6rem;text-align:right}\n" ++ codes "tr>:first-child{text-align:left}\n"
+    ++ codes ".bar{display:flex;width:18rem;height:.8em}\n" ++ codes ".bar i{outline:1px solid;background:#4e79a780}\n"
+    ++ codes ".tree{display:flex;flex-direction:column;height:92vh;min-height:42rem;overflow:auto}\n"
+    ++ codes "details{position:relative;flex:1 0 0;min-width:11rem;outline:1px solid #888}\n"
+    ++ codes "details:hover,details:focus-within{min-height:2.8em}\n"
+    ++ codes "details:not([open]){flex-grow:0!important;min-height:1.4em}\n"
+    ++ codes "summary{position:absolute;inset:0 auto 0 0;width:10.4rem;padding:0 .3rem;overflow:hidden;overflow-wrap:anywhere;"
+    ++ codes "background:#4e79a740}\n"
+    ++ codes "details>div{position:absolute;inset:0 0 0 11rem;display:flex;flex-direction:column}\n"
+    ++ codes "details>div>i{order:1;flex:1 0 0}\n" ++ codes "@media print{.tree{height:24cm;overflow:visible}}\n"
+
+abbrev pub page_begin : List ℕ
+page_begin =
+    codes "<!DOCTYPE html>\n<html lang=\"en\">\n<head>\n<meta charset=\"utf-8\">\n"
+    ++ codes "<meta name=\"viewport\" content=\"width=device-width\">\n<title>Lines by directory</title>\n<style>\n"
+
+abbrev pub sums_begin : List ℕ
+sums_begin = codes "</style>\n</head>\n<body>\n<h1>Lines by directory</h1>\n<p>"

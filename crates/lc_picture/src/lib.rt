@@ -1,0 +1,22 @@
+//! The picture of a tree: a page of HTML with the sums of a report, a bar chart of its extensions, and the boxes of its directories.
+//!
+//! - `escaping`: texts in HTML; `style`: the fixed parts of a page
+//! - `boxes`, `directory_box`: the boxes of the directories, each inside that of the directory that holds it
+//! - `chart`: the bar chart; `sums`: sums in words
+//! - `report_page`: the page of a report
+//! - `laws`: what is true of the definitions that the contracts cite
+#![tactic(auto)]
+
+mod boxes;
+mod chart;
+mod directory_box;
+mod escaping;
+mod laws;
+mod report_page;
+mod style;
+mod sums;
+
+pub use laws::{
+    boxes_are_the_directories_and_their_sums, names_are_never_markup, names_change_no_tag,
+};
+pub use report_page::page;

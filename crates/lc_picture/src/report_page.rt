@@ -1,0 +1,119 @@
+//! The page of a report.
+
+ghost use Rattle.std.specs.Prelude.{◌≡◌, ◌++◌, IfOk, OnOk};
+ghost use Rattle.lc_rows.specs.Views.{view_model};
+ghost use Rattle.lc_picture.specs.Page.{IsPageOf, chart_part, drawn_number, page_pieces, sums_part, tree_part};
+ghost use Rattle.lc_picture.specs.Pieces.{text_of};
+
+use crate::boxes::push_boxes;
+use crate::chart::push_chart;
+use crate::directory_box::{drawn_boxes, least_drawn};
+use crate::style::{
+    boxes_begin, chart_begin, number_word, page_begin, style, sums_begin, tree_begin,
+};
+use crate::sums::{number_in, push_sums};
+use lc_rows::{ShownRow, View, shown_rows, tree_rows};
+use lc_view::{Columns, SortBy};
+use lc_walk::{Report, Sums};
+use std::alloc::{AllocError, Global};
+
+/// The columns of the chart.
+const CHART_COLUMNS: Columns = Columns {
+    dir: None,
+    ext: true,
+    text: false,
+    eol: false,
+};
+
+/// The most extensions that have a bar.
+const CHART_ROWS: u32 = 20;
+
+/// The columns of the boxes.
+const TREE_COLUMNS: Columns = Columns {
+    dir: Some(1),
+    ext: false,
+    text: false,
+    eol: false,
+};
+
+fn push_sums_part(text: &mut Vec<u8>, totals: Sums) -> Result<(), AllocError>
+    ensures { OnOk result (text.new.items ≡ text.old.items ++ text_of (sums_part totals)) }
+{
+    text.extend_from_slice(page_begin())?;
+    text.extend_from_slice(style())?;
+    text.extend_from_slice(sums_begin())?;
+    push_sums(text, totals)?;
+    Ok(())
+}
+
+fn push_chart_part(
+    text: &mut Vec<u8>,
+    by: SortBy,
+    view: &View<'_>,
+    made: &mut String,
+) -> Result<(), AllocError>
+    ensures { OnOk result (text.new.items ≡ text.old.items ++ text_of (chart_part by (view_model view.now))) }
+{
+    text.extend_from_slice(chart_begin())?;
+    push_chart(text, by, view, made)?;
+    Ok(())
+}
+
+fn push_tree_part(
+    alloc: Global,
+    text: &mut Vec<u8>,
+    by: SortBy,
+    totals: Sums,
+    tree: &[ShownRow<'_>],
+    made: &mut String,
+) -> Result<(), AllocError>
+    ensures { OnOk result (text.new.items ≡ text.old.items ++ text_of (tree_part by totals tree.now)) }
+{
+    let boxes = drawn_boxes(alloc, by, least_drawn(number_in(by, totals)), tree)?;
+    text.extend_from_slice(tree_begin())?;
+    text.extend_from_slice(number_word(by))?;
+    text.extend_from_slice(boxes_begin())?;
+    push_boxes(text, by, &boxes, made)?;
+    text.extend_from_slice(b"</div>\n</body>\n</html>\n")?;
+    Ok(())
+}
+
+fn page_text(
+    alloc: Global,
+    by: SortBy,
+    totals: Sums,
+    view: &View<'_>,
+    tree: &[ShownRow<'_>],
+) -> Result<Vec<u8>, AllocError>
+    ensures { IfOk result (λ text. text.items ≡ text_of (page_pieces by totals (view_model view.now) tree.now)) }
+{
+    let mut text = Vec::new(alloc);
+    let mut made = String::new(alloc);
+    push_sums_part(&mut text, totals)?;
+    push_chart_part(&mut text, by, view, &mut made)?;
+    push_tree_part(alloc, &mut text, by, totals, tree, &mut made)?;
+    Ok(text)
+}
+
+fn page_by(alloc: Global, report: &Report, by: SortBy) -> Result<Vec<u8>, AllocError>
+    ensures { IfOk result (λ text. IsPageOf by report.now text.items) }
+{
+    let extensions = shown_rows(alloc, &report.rows, &report.files, CHART_COLUMNS, Some(by))?;
+    let view = View::of(Some(CHART_ROWS), &extensions, &[])?;
+    let tree = tree_rows(alloc, &report.files, TREE_COLUMNS)?;
+    let text = page_text(alloc, by, report.totals, &view, &tree)?;
+    Ok(text)
+}
+
+/// Makes the page of a report: one file of HTML with no script, no font and no address.
+///
+/// It has the sums over all files, a bar for each of the first extensions, and a box for each directory, inside that of the directory
+/// that holds it. Bars and boxes are drawn by the number `sort`, or by lines, and the browser divides the space by these numbers.
+/// Directories with less than a thousandth of the total have no boxes. A reader folds a box to give its space to others.
+///
+/// The report must have its files. It stops with an error if there is no memory, and for numbers that no walk has, whose sums overflow.
+pub fn page(alloc: Global, report: &Report, sort: Option<SortBy>) -> Result<Vec<u8>, AllocError>
+    ensures { IfOk result (λ text. IsPageOf (drawn_number sort) report.now text.items) }
+{
+    page_by(alloc, report, sort.unwrap_or(SortBy::Lines))
+}

@@ -1,0 +1,81 @@
+//! The fixed parts of a page.
+
+ghost use Rattle.std.specs.Prelude.{◌≡◌};
+ghost use Rattle.lc_picture.specs.Page.{boxes_begin, chart_begin, number_word, tree_begin};
+ghost use Rattle.lc_picture.specs.Style.{page_begin, style, sums_begin};
+
+use lc_view::SortBy;
+
+/// The begin of a page, up to its style.
+pub(crate) fn page_begin() -> &'static [u8]
+    ensures { result.now ≡ page_begin }
+{
+    b"<!DOCTYPE html>\n<html lang=\"en\">\n<head>\n<meta charset=\"utf-8\">\n\
+      <meta name=\"viewport\" content=\"width=device-width\">\n<title>Lines by directory</title>\n<style>\n"
+}
+
+/// How the parts of a page look: a box beside its parent, and space by shares.
+#[tactic(auto, unfolding(crate::specs::Style::style))]
+pub(crate) fn style() -> &'static [u8]
+    ensures { result.now ≡ style }
+{
+    b":root{color-scheme:light dark}\n\
+      body{margin:1rem;font:.875rem/1.35 system-ui,sans-serif}\n\
+      h1,h2{font-size:1.1rem}\n\
+      table{border-collapse:collapse;font-variant-numeric:tabular-nums}\n\
+      th,td{padding:0 .6rem;text-align:right}\n\
+      tr>:first-child{text-align:left}\n\
+      .bar{display:flex;width:18rem;height:.8em}\n\
+      .bar i{outline:1px solid;background:#4e79a780}\n\
+      .tree{display:flex;flex-direction:column;height:92vh;min-height:42rem;overflow:auto}\n\
+      details{position:relative;flex:1 0 0;min-width:11rem;outline:1px solid #888}\n\
+      details:hover,details:focus-within{min-height:2.8em}\n\
+      details:not([open]){flex-grow:0!important;min-height:1.4em}\n\
+      summary{position:absolute;inset:0 auto 0 0;width:10.4rem;padding:0 .3rem;overflow:hidden;overflow-wrap:anywhere;\
+      background:#4e79a740}\n\
+      details>div{position:absolute;inset:0 0 0 11rem;display:flex;flex-direction:column}\n\
+      details>div>i{order:1;flex:1 0 0}\n\
+      @media print{.tree{height:24cm;overflow:visible}}\n"
+}
+
+/// What is between the style and the sums.
+pub(crate) fn sums_begin() -> &'static [u8]
+    ensures { result.now ≡ sums_begin }
+{
+    b"</style>\n</head>\n<body>\n<h1>Lines by directory</h1>\n<p>"
+}
+
+/// What is between the sums and the rows of the chart.
+pub(crate) fn chart_begin() -> &'static [u8]
+    ensures { result.now ≡ chart_begin }
+{
+    b"</p>\n<h2>By extension</h2>\n<table>\n<tr><th>extension</th><th>files</th><th>lines</th><th>blank</th><th>bytes</th>\
+      <td></td></tr>\n"
+}
+
+/// What is between the chart and the name of the number that the boxes are drawn by.
+pub(crate) fn tree_begin() -> &'static [u8]
+    ensures { result.now ≡ tree_begin }
+{
+    b"</table>\n<h2>By directory</h2>\n<p>Each box is as tall as its share of the "
+}
+
+/// The name of a number.
+pub(crate) fn number_word(by: SortBy) -> &'static [u8]
+    ensures { result.now ≡ number_word by }
+{
+    match by {
+        SortBy::Files => b"files",
+        SortBy::Lines => b"lines",
+        SortBy::Blank => b"blank lines",
+        SortBy::Bytes => b"bytes",
+    }
+}
+
+/// What is between that name and the boxes.
+pub(crate) fn boxes_begin() -> &'static [u8]
+    ensures { result.now ≡ boxes_begin }
+{
+    b". Empty space stands for the files right in a directory, and for directories with less than a thousandth of all. \
+      Fold a box to make room for the others.</p>\n<div class=\"tree\">\n"
+}
