@@ -1,7 +1,7 @@
 -- Options of a count that go together.
 use Rattle.std.specs.Prelude.{◌&&◌, ◌||◌, Bool, true, false, not, is_some, Option, Some}
 use Rattle.lc_view.specs.declared.table_options.Format.{Format}
-use Rattle.lc_view.specs.declared.table_options.Format.TheVariants.{Table, Csv, Markdown}
+use Rattle.lc_view.specs.declared.table_options.Format.TheVariants.{Table, Csv, Markdown, Html}
 use Rattle.lc_arguments.specs.declared.count.CountRequest.{CountRequest}
 
 -- a format was named in which rows have shares
@@ -15,9 +15,21 @@ abbrev pub has_one_kind : Option Format → Bool
 has_one_kind (Some Csv) = true
 has_one_kind _ = false
 
--- shares are shown in a format that has them; not both files and what is left out are listed in one that has records of one kind; and
--- paths end with NUL where they come from a file
+-- the format was named that is a picture
+abbrev pub is_picture : Option Format → Bool
+is_picture (Some Html) = true
+is_picture _ = false
+
+-- rows were asked for that are not all of a report's, or lists
+abbrev pub asks_for_rows : CountRequest → Bool
+asks_for_rows c =
+    c.table.files || c.left_out || is_some c.table.top || is_some c.table.by.dir
+    || not (c.table.by.ext && c.table.by.text && c.table.by.eol)
+
+-- shares are shown in a format that has them; not both files and what is left out are listed in one that has records of one kind; a
+-- picture has no rows and no lists; and paths end with NUL where they come from a file
 abbrev pub fit_together : CountRequest → Bool
 fit_together c =
     (not c.table.share || shows_shares c.table.format)
-    && (not (c.table.files && c.left_out && has_one_kind c.table.format) && (not c.null || is_some c.only_from))
+    && (not (c.table.files && c.left_out && has_one_kind c.table.format)
+    && (not (is_picture c.table.format && asks_for_rows c) && (not c.null || is_some c.only_from)))

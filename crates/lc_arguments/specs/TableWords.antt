@@ -4,7 +4,7 @@ use Rattle.std.specs.Str.{bytes_eq}
 use Rattle.lc_glob.specs.Pieces.{pieces_of}
 use Rattle.lc_view.specs.declared.table_options.Columns.{Columns}
 use Rattle.lc_view.specs.declared.table_options.Format.{Format}
-use Rattle.lc_view.specs.declared.table_options.Format.TheVariants.{Tsv, Table, Json, Csv, Markdown}
+use Rattle.lc_view.specs.declared.table_options.Format.TheVariants.{Tsv, Table, Json, Csv, Markdown, Html}
 use Rattle.lc_view.specs.declared.table_options.TableOptions.{TableOptions}
 use Rattle.lc_view.specs.declared.table_options.SortBy.{SortBy}
 use Rattle.lc_view.specs.declared.table_options.SortBy.TheVariants.{Files, Lines, Blank, Bytes}
@@ -16,6 +16,7 @@ format_word Table = codes "table"
 format_word Json = codes "json"
 format_word Csv = codes "csv"
 format_word Markdown = codes "markdown"
+format_word Html = codes "html"
 
 abbrev pub sort_word : SortBy → List ℕ
 sort_word Files = codes "files"

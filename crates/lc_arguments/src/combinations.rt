@@ -1,10 +1,23 @@
 //! Options of a count that do not go together.
 
 ghost use Rattle.std.specs.Prelude.{◌≡◌, is_some, not};
-ghost use Rattle.lc_arguments.specs.Combinations.{fit_together};
+ghost use Rattle.lc_arguments.specs.Combinations.{asks_for_rows, fit_together};
 
 use crate::count::CountRequest;
 use lc_view::Format;
+
+/// Whether rows are asked for that are not all of a report's, or lists.
+fn asks_for_rows(request: &CountRequest<'_>) -> bool
+    ensures { result ≡ asks_for_rows request.now }
+{
+    let table = &request.table;
+    let by = table.by;
+    table.files
+        || request.left_out
+        || table.top.is_some()
+        || by.dir.is_some()
+        || !(by.ext && by.text && by.eol)
+}
 
 /// Finds out why the options of a count do not go together.
 pub(crate) fn misfit(request: &CountRequest<'_>) -> Option<&'static str>
@@ -16,6 +29,11 @@ pub(crate) fn misfit(request: &CountRequest<'_>) -> Option<&'static str>
     }
     if request.table.files && request.left_out && matches!(format, Some(Format::Csv)) {
         return Some("'--format csv' prints records of one kind: '--files' or '--left-out'");
+    }
+    if matches!(format, Some(Format::Html)) && asks_for_rows(request) {
+        return Some(
+            "'--format html' draws a tree: no '--files', '--left-out', '--by <COLUMNS>' or '--top <N>'",
+        );
     }
     if request.null && request.only_from.is_none() {
         return Some("'--null' needs '--only-from <FILE>'");

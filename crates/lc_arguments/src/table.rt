@@ -57,6 +57,7 @@ fn format_named(name: &str) -> Option<Format>
         "json" => Some(Format::Json),
         "csv" => Some(Format::Csv),
         "markdown" => Some(Format::Markdown),
+        "html" => Some(Format::Html),
         _ => None,
     }
 }
@@ -116,7 +117,7 @@ fn format_of(alloc: Global, name: Option<&str>) -> Result<Option<Format>, ParseE
             alloc,
             "--format <FORMAT>",
             name,
-            "\n  [possible values: tsv, table, json, csv, markdown]",
+            "\n  [possible values: tsv, table, json, csv, markdown, html]",
         )),
         format => Ok(format),
     }

@@ -3,6 +3,7 @@ use Rattle.std.specs.Prelude.{◌≡◌, ◌⊎◌, ◌||◌, ℕ, List, [], ◌
 use Rattle.std.specs.Prelude.{option_map}
 use Rattle.std.specs.Borrow.{Bor}
 use Rattle.std.specs.Global.{Global}
+use Rattle.lc_arguments.specs.Combinations.{is_picture}
 use Rattle.lc_arguments.specs.TableWords.{options_in}
 use Rattle.lc_arguments.specs.declared.count.CountRequest.{CountRequest}
 use Rattle.lc_census.specs.Reads.{Answer}
@@ -36,7 +37,7 @@ entered_by c = if c.one_file_system then One else All
 pub record IsAskedBy (c : CountRequest) (rules : AskedRules) (only : List (List ℕ)) (o : Options) : Type 0 where
   pub threads : o.threads ≡ c.threads
   pub max_dirs : o.max_dirs ≡ c.max_dirs
-  pub files : o.lists.files ≡ (c.table.files || is_some c.table.by.dir)
+  pub files : o.lists.files ≡ (c.table.files || is_some c.table.by.dir || is_picture c.table.format)
   pub left_out : o.lists.left_out ≡ c.left_out
   pub exclude : shared o.exclude ≡ option_map rules_of rules.exclude
   pub command_line : shared o.command_line ≡ option_map rules_of rules.command_line

@@ -6,7 +6,7 @@ use Rattle.lc_glob.specs.Lists.{is_empty}
 use Rattle.lc_level.specs.FaultLines.{FaultLineModel}
 use Rattle.lc_text.specs.Visible.{visible_bytes}
 use Rattle.lc_view.specs.declared.table_options.Format.{Format}
-use Rattle.lc_view.specs.declared.table_options.Format.TheVariants.{Tsv, Table, Json, Csv, Markdown}
+use Rattle.lc_view.specs.declared.table_options.Format.TheVariants.{Tsv, Table, Json, Csv, Markdown, Html}
 use Rattle.lc_program.specs.Tellings.{Tells}
 
 -- one path could not be read
@@ -26,9 +26,10 @@ number_line count = cond (nat_eq count 1) (codes "lc: 1 path could not be read: 
 abbrev pub is_top_unread : List FaultLineModel → Bool
 is_top_unread faults = list_any (λ (f : FaultLineModel). is_empty f.path) faults
 
--- CSV has no lines for what could not be read
+-- CSV and HTML have no lines for what could not be read
 abbrev pub lines_by : Format → List FaultLineModel → List ℕ
 lines_by Csv faults = each_line faults
+lines_by Html faults = each_line faults
 lines_by Tsv faults = number_line (length faults)
 lines_by Table faults = number_line (length faults)
 lines_by Json faults = number_line (length faults)

@@ -1,6 +1,7 @@
 //! Answering counts.
 
 ghost use Rattle.std.specs.Prelude.{◌≡◌, map};
+ghost use Rattle.lc_arguments.specs.Combinations.{is_picture};
 ghost use Rattle.lc_arguments.specs.Words.{IsCountWithinLimits};
 ghost use Rattle.lc_program.specs.Counts.{AnswersCount, IsAskedBy, entered_by};
 ghost use Rattle.lc_program.specs.Rules.{Share};
@@ -29,7 +30,14 @@ use std::thread::Threads;
 // A count may be asked for as many threads and directories as a walk can have.
 const _: () = prove!(MAX_THREADS == MAX_WORKERS && MAX_DIRS == MAX_CAPACITY);
 
-/// Makes the options of a walk that the command line asks for. Rows by directory need the report's files.
+/// Whether a named format is a picture.
+fn is_picture(format: Option<Format>) -> bool
+    ensures { result ≡ is_picture format }
+{
+    matches!(format, Some(Format::Html))
+}
+
+/// Makes the options of a walk that the command line asks for. Rows by directory and pictures need the report's files.
 fn options_of<'o>(
     asked: &'o CountRequest<'_>,
     rules: SharedRules,
@@ -43,7 +51,9 @@ fn options_of<'o>(
         threads: asked.threads,
         max_dirs: asked.max_dirs,
         lists: ReportLists {
-            files: asked.table.files || asked.table.by.dir.is_some(),
+            files: asked.table.files
+                || asked.table.by.dir.is_some()
+                || is_picture(asked.table.format),
             left_out: asked.left_out,
         },
         exclude: rules.exclude,

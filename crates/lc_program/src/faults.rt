@@ -61,14 +61,14 @@ fn fault_lines(
         return Ok(text);
     }
     match format {
-        Format::Csv => each_line(alloc, faults),
+        Format::Csv | Format::Html => each_line(alloc, faults),
         Format::Tsv | Format::Table | Format::Json | Format::Markdown => {
             number_line(alloc, faults.len())
         }
     }
 }
 
-/// Tells that a part of a counted directory could not be read. The table in this format has all of it but in CSV.
+/// Tells that a part of a counted directory could not be read. Each format but CSV and HTML has all of it.
 pub(crate) fn tell_faults<E: Sink>(
     alloc: Global,
     directory: &str,

@@ -4,7 +4,7 @@ use Rattle.lc_rows.specs.RowKeys.{ShownRowModel}
 use Rattle.lc_rows.specs.ShownRows.{number_in}
 use Rattle.lc_rows.specs.Views.{ViewModel}
 use Rattle.lc_view.specs.declared.table_options.Format.{Format}
-use Rattle.lc_view.specs.declared.table_options.Format.TheVariants.{Tsv, Table, Json, Csv, Markdown}
+use Rattle.lc_view.specs.declared.table_options.Format.TheVariants.{Tsv, Table, Json, Csv, Markdown, Html}
 use Rattle.lc_view.specs.declared.table_options.SortBy.{SortBy}
 use Rattle.lc_view.specs.declared.table_options.SortBy.TheVariants.{Lines}
 use Rattle.lc_view.specs.declared.table_options.TableOptions.{TableOptions}
@@ -28,6 +28,7 @@ largest_in Tsv n rs = None
 largest_in Table n rs = Some (largest n rs)
 largest_in Json n rs = None
 largest_in Csv n rs = None
+largest_in Html n rs = None
 largest_in Markdown n rs = None
 
 -- the number that a table is sorted by, or lines

@@ -53,7 +53,7 @@ fn largest_in(format: Format, number: SortBy, rows: &[ShownRow<'_>]) -> Option<u
 {
     match format {
         Format::Table => Some(largest(number, rows)),
-        Format::Tsv | Format::Json | Format::Csv | Format::Markdown => None,
+        Format::Tsv | Format::Json | Format::Csv | Format::Markdown | Format::Html => None,
     }
 }
 

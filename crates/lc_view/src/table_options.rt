@@ -13,6 +13,8 @@ pub enum Format {
     Csv,
     /// Tables of GitHub Flavored Markdown.
     Markdown,
+    /// A page of HTML with a bar for each extension and a box for each directory, in place of rows.
+    Html,
 }
 
 /// The columns by which the rows of a table are kept apart. Rows are summed over the columns that it leaves out.

@@ -6,7 +6,7 @@ use Rattle.lc_rows.specs.ShownRows.{AreShown}
 use Rattle.lc_rows.specs.Views.{view_model, view_of}
 use Rattle.lc_table.specs.TableText.{listed_files}
 use Rattle.lc_table.proofs.Formats.{same_but_files, text_shown}
-use Rattle.lc_table.proofs.text.table_text.Goals as goal
+use Rattle.lc_table.proofs.text.rows_text.Goals as goal
 
 pub returns-clause-text : goal.returns-clause-text
 returns-clause-text c =
