@@ -1,5 +1,5 @@
 -- A text with the view of its rows and files that a table shows.
-use Rattle.std.proofs.Common.{◌≡◌, false, List, ℕ, subst, absurd}
+use Rattle.std.proofs.Common.{◌≡◌, false, List, ℕ, subst}
 use Rattle.std.specs.Prelude.{Vec}
 use Rattle.std.specs.Global.{Global}
 use Rattle.lc_view.specs.declared.table_options.Format.{Format}
