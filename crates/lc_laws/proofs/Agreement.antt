@@ -41,7 +41,7 @@ said_skipped top_texts stack named_git x e = e
 said_skipped top_texts stack (by_rule source line) x e = ((cited top_texts stack source line).text, e)
 said_skipped top_texts stack (by_attribute name) x e = e
 said_skipped top_texts stack not_included x e = e
-said_skipped top_texts stack other_kind x e = e
+said_skipped top_texts stack (other_kind what) x e = e
 
 -- what is said to be left out is not said to be taken
 not_both : (reason : Reason) (x : Explanation) → IsSaidSkipped reason x → IsSaidKept x → ⊥
@@ -53,8 +53,8 @@ not_both (by_attribute name) x e (inl u) = absurd (cc (sym e ∙ u))
 not_both (by_attribute name) x e (inr u) = absurd (cc (sym e ∙ u.1))
 not_both not_included x e (inl u) = absurd (cc (sym e ∙ u))
 not_both not_included x e (inr u) = absurd (cc (sym e ∙ u.1))
-not_both other_kind x e (inl u) = absurd (cc (sym e ∙ u))
-not_both other_kind x e (inr u) = absurd (cc (sym e ∙ u.1))
+not_both (other_kind what) x e (inl u) = absurd (cc (sym e ∙ u))
+not_both (other_kind what) x e (inr u) = absurd (cc (sym e ∙ u.1))
 
 module _ (law : EntryLaw) (Enters : Entering) (s : SelectionModel) (whole : s.only ≡ []) (top_texts : TopTextsModel) (x : Explanation)
     (top : JobModel) (at_top : top.path ≡ []) (t : Tree) (known : IsKnown Enters s top t)

@@ -133,7 +133,8 @@ fate_skipped s inside (file_item n c rules) reason e =
     ap (λ o. option_map_or (skipped File)
     (option_or o (include_reason (patterns_for s.include inside.path) (path_in inside.path n))) (file_fate inside n c)) e
 fate_skipped s inside (directory_item n) reason e = ap (λ o. option_map_or (skipped Dir) o (walked (child_job inside n))) e
-fate_skipped s inside (other_item n) reason e = ap (λ o. option_map_or (skipped Other) o (skipped Other other_kind)) e
+fate_skipped s inside (other_item n what) reason e =
+    ap (λ o. option_map_or (skipped (Other what)) o (skipped (Other what) (other_kind what))) e
 
 -- ---- down to the entry
 

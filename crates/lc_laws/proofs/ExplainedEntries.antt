@@ -62,14 +62,14 @@ module _ (r : Report) (path : List ℕ) (kind : Kind) (top_texts : TopTextsModel
   skipped_told (by_rule source line) has = has
   skipped_told (by_attribute name) has = inl has
   skipped_told not_included has = inl has
-  skipped_told other_kind has = inl has
+  skipped_told (other_kind what) has = inl has
 
   above_told : (reason : Reason) → IsSkippedAbove r path reason → TellsOf r path kind (said_for (cited top_texts stack) below reason)
   above_told named_git has = inr has
   above_told (by_rule source line) has = has
   above_told (by_attribute name) has = inr has
   above_told not_included has = inr has
-  above_told other_kind has = inr has
+  above_told (other_kind what) has = inr has
 
   taken_told : (rule : Option (RuleSource × RuleModel)) → IsKept r path kind
       → TellsOf r path kind (said_by (cited top_texts stack) None rule)
@@ -132,22 +132,23 @@ module _ (Enters : Entering) (s : SelectionModel) (whole : s.only ≡ []) (top_t
                 (taken_told r path kind top_texts stack (rule_for n true)
                 (subst (λ (d : Kind). IsKept r path d) (sym own)
                 (kept (subst IsSaidKept (sym same) (taken (cited top_texts stack) (rule_for n true))))))
-        entry_told (other_item n) has at own is = by (reason_of s inside n false) refl
+        entry_told (other_item n what) has at own is = by (reason_of s inside n false) refl
           where
             told : (reason : Reason) → x ≡ said_for (cited top_texts stack) ignored reason
-                → fate_of s inside (other_item n) ≡ skipped Other reason → TellsOf r path kind x
+                → fate_of s inside (other_item n what) ≡ skipped (Other what) reason → TellsOf r path kind x
             told reason same fate =
                 subst (TellsOf r path kind) (sym same)
                 (skipped_told r path kind top_texts stack reason
-                (subst (λ p. IsSkipped r p reason) (sym at) (is_skipped (other_item n) has Other reason fate)))
+                (subst (λ p. IsSkipped r p reason) (sym at) (is_skipped (other_item n what) has (Other what) reason fate)))
 
             by : (o : Option Reason) → reason_of s inside n false ≡ o → TellsOf r path kind x
             by (Some reason) e =
-                told reason (is ∙ ap (λ o. said_by (cited top_texts stack) (option_or o (Some other_kind)) (rule_for n false)) e)
-                (ap (λ o. option_map_or (skipped Other) o (skipped Other other_kind)) e)
+                told reason (is ∙ ap (λ o. said_by (cited top_texts stack) (option_or o (Some (other_kind what))) (rule_for n false)) e)
+                (ap (λ o. option_map_or (skipped (Other what)) o (skipped (Other what) (other_kind what))) e)
             by None e =
-                told other_kind (is ∙ ap (λ o. said_by (cited top_texts stack) (option_or o (Some other_kind)) (rule_for n false)) e)
-                (ap (λ o. option_map_or (skipped Other) o (skipped Other other_kind)) e)
+                told (other_kind what)
+                (is ∙ ap (λ o. said_by (cited top_texts stack) (option_or o (Some (other_kind what))) (rule_for n false)) e)
+                (ap (λ o. option_map_or (skipped (Other what)) o (skipped (Other what) (other_kind what))) e)
 
   -- ---- down to the entry
 

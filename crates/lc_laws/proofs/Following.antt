@@ -35,7 +35,7 @@ none_is (Some x) e = absurd (cc e)
 pub asked_as_it_is : (kind : Kind) → kind_asked false (Some kind) ≡ kind
 asked_as_it_is File = refl
 asked_as_it_is Dir = refl
-asked_as_it_is Other = refl
+asked_as_it_is (Other what) = refl
 
 -- a directory that nothing leaves out is gone into
 pub went_into : (reason : Option Reason) (is_there : Bool) (Skipped : Reason → Type 0) (Into Beside : Type 0) → reason ≡ None

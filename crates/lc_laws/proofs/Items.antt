@@ -22,7 +22,7 @@ use Rattle.lc_laws.specs.Entries.{HasListed, LeadDown, IsEntry}
 pub directory_is : (item : Item) → (entry_of item).kind ≡ Dir → item ≡ directory_item (name_of item)
 directory_is (file_item n c rules) e = absurd (cc e)
 directory_is (directory_item n) e = refl
-directory_is (other_item n) e = absurd (cc e)
+directory_is (other_item n what) e = absurd (cc e)
 
 -- an item of a name and a kind
 pub record IsItem (items : List Item) (name : List ℕ) (own : Kind) : Type 0 where

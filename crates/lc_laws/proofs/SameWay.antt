@@ -66,7 +66,7 @@ pub dir_there : (o : Option Kind) → is_directory o ≡ true → o ≡ Some Dir
 dir_there None e = absurd (cc e)
 dir_there (Some File) e = absurd (cc e)
 dir_there (Some Dir) e = refl
-dir_there (Some Other) e = absurd (cc e)
+dir_there (Some (Other what)) e = absurd (cc e)
 
 -- where an explanation goes into a directory a walk of the whole tree does
 pub walked_into : (s : SelectionModel) (k : JobModel) (a : Answers) (here : OpenDirModel) → open_dir k a ≡ Ok here → (name : List ℕ)

@@ -50,7 +50,7 @@ file_of (file_item n c own ∷ items) name rules e = at (file_of items name rule
         (c, inl (ap (λ m. file_item m c own) (same_bytes n name same) ∙ ap (file_item name c) reads_is))
     at rest false same f = let h = rest f in (h.0, inr h.1)
 file_of (directory_item n ∷ items) name rules e = let h = file_of items name rules e in (h.0, inr h.1)
-file_of (other_item n ∷ items) name rules e = let h = file_of items name rules e in (h.0, inr h.1)
+file_of (other_item n what ∷ items) name rules e = let h = file_of items name rules e in (h.0, inr h.1)
 
 -- a file of a name is read under it
 some_file : (items : List Item) (name : List ℕ) (item : Item) → In item items → entry_of item ≡ record { name = name; kind = File }
@@ -72,10 +72,10 @@ some_file (directory_item n ∷ items) name item (inl is) e =
     let h : entry_of (directory_item n) ≡ record { name = name; kind = File } = ap entry_of is ∙ e in
     let k : Dir ≡ File = ap (λ (x : EntryModel). x.kind) h in absurd (cc k)
 some_file (directory_item n ∷ items) name item (inr i) e = some_file items name item i e
-some_file (other_item n ∷ items) name item (inl is) e =
-    let h : entry_of (other_item n) ≡ record { name = name; kind = File } = ap entry_of is ∙ e in
-    let k : Other ≡ File = ap (λ (x : EntryModel). x.kind) h in absurd (cc k)
-some_file (other_item n ∷ items) name item (inr i) e = some_file items name item i e
+some_file (other_item n what ∷ items) name item (inl is) e =
+    let h : entry_of (other_item n what) ≡ record { name = name; kind = File } = ap entry_of is ∙ e in
+    let k : Other what ≡ File = ap (λ (x : EntryModel). x.kind) h in absurd (cc k)
+some_file (other_item n what ∷ items) name item (inr i) e = some_file items name item i e
 
 -- ---- what was read
 

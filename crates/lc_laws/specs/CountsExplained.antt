@@ -35,7 +35,7 @@ IsSaidSkipped named_git x = x ≡ left_out named_git
 IsSaidSkipped (by_rule source line) x = (text : List ℕ) × (x ≡ ignored (record { source = source; line = line; text = text }))
 IsSaidSkipped (by_attribute name) x = x ≡ left_out (by_attribute name)
 IsSaidSkipped not_included x = x ≡ left_out not_included
-IsSaidSkipped other_kind x = x ≡ left_out other_kind
+IsSaidSkipped (other_kind what) x = x ≡ left_out (other_kind what)
 
 -- what is said of an entry tells where the report has it: a fault that is said is one of the report; by a rule that is said to ignore
 -- it the report leaves it out, and by one that it is said to stand below a directory above it; for a reason that is said it leaves out

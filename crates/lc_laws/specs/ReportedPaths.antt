@@ -25,7 +25,7 @@ module _ (r : Report) (path : List ℕ) where
   abbrev pub IsKept : Kind → Type 0
   IsKept File = IsCounted ⊎ IsAtFault
   IsKept Dir = Contains (skipped_paths r.skipped.items) path → ⊥
-  IsKept Other = ⊥
+  IsKept (Other what) = ⊥
 
 -- a directory above it is left out, for this reason
 abbrev pub IsSkippedAbove : Report → List ℕ → Reason → Type 0
