@@ -19,7 +19,7 @@ _lc() {
         -j | --threads) mapfile -t COMPREPLY < <(compgen -W '1 2 4 8 16' -- "$current") ;;
         --max-dirs) mapfile -t COMPREPLY < <(compgen -W '65536 1048576' -- "$current") ;;
         --without) mapfile -t COMPREPLY < <(compgen -W 'linguist-vendored linguist-generated linguist-documentation' -- "$current") ;;
-        --format) mapfile -t COMPREPLY < <(compgen -W 'tsv table json csv markdown' -- "$current") ;;
+        --format) mapfile -t COMPREPLY < <(compgen -W 'tsv table json csv markdown html' -- "$current") ;;
         --by) mapfile -t COMPREPLY < <(compgen -W 'dir ext text eol dir,ext ext,text ext,eol text,eol' -- "$current") ;;
         --depth) mapfile -t COMPREPLY < <(compgen -W '1 2 3' -- "$current") ;;
         --top) mapfile -t COMPREPLY < <(compgen -W '10 20 50' -- "$current") ;;

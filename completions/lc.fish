@@ -21,7 +21,7 @@ complete -c lc -n '__fish_seen_subcommand_from count explain' -l exclude-from -r
 complete -c lc -n '__fish_seen_subcommand_from count' -l only -r -F -d 'Count only what is at or under PATH'
 complete -c lc -n '__fish_seen_subcommand_from count' -l one-file-system -s x -d 'Skip directories on other file systems'
 complete -c lc -n '__fish_seen_subcommand_from count' -l only-from -r -F -d 'Count only the paths that FILE lists'
-complete -c lc -n '__fish_seen_subcommand_from count' -l format -x -a 'tsv table json csv markdown' -d 'How to print'
+complete -c lc -n '__fish_seen_subcommand_from count' -l format -x -a 'tsv table json csv markdown html' -d 'How to print'
 complete -c lc -n '__fish_seen_subcommand_from count' -l by -x -a 'dir ext text eol dir,ext ext,text ext,eol text,eol' -d 'Sum rows by these columns'
 complete -c lc -n '__fish_seen_subcommand_from count' -l sort -x -a 'files lines blank bytes' -d 'Sort rows and files, largest first'
 complete -c lc -n '__fish_seen_subcommand_from count' -l depth -x -a '1 2 3' -d 'Cut the directories of --by dir to so many segments'

@@ -251,12 +251,12 @@ with the rule or the reason",
 
 pub(crate) const FORMAT: OptionHelp = OptionHelp {
     heading: WHAT_IS_PRINTED,
-    short: "tsv, table, json, csv or markdown",
+    short: "tsv, table, json, csv, markdown or html",
     long: "How to print: table aligns columns for reading and is the default on
 a terminal; tsv separates fields by tabs and is the default
 elsewhere; json is for programs; csv has one kind of record and no
 totals, for databases and spreadsheets; markdown is for a page on
-GitHub",
+GitHub; html is a page for a browser that draws each directory",
 };
 
 pub(crate) const BY: OptionHelp = OptionHelp {

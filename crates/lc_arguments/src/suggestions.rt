@@ -39,6 +39,7 @@ fn count_meant(word: &str) -> Option<&'static str> {
         "--json" | "json" => Some("lc count --format json ."),
         "--csv" | "csv" => Some("lc count --format csv ."),
         "--markdown" | "--md" | "markdown" => Some("lc count --format markdown ."),
+        "--html" | "html" => Some("lc count --format html ."),
         "--table" | "table" => Some("lc count --format table ."),
         "--tsv" | "tsv" => Some("lc count --format tsv ."),
         "--hidden" | "--no-gitignore" | "--no-vcs-ignore" => Some("lc count --no-ignore ."),

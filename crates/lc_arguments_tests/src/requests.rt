@@ -53,6 +53,10 @@ const COUNTS: &[Case] = &[
         "count .: 4 threads, 65536 directories, Markdown by dir to 1 ext, shares",
     ),
     (
+        "count --format html --sort bytes .",
+        "count .: 4 threads, 65536 directories, Html by ext text eol sorted by Bytes",
+    ),
+    (
         "count --depth 256 --by dir --format csv .",
         "count .: 4 threads, 65536 directories, Csv by dir to 256",
     ),
@@ -136,8 +140,12 @@ const EXITS: &[Case] = &[
         "refused: error: '--null' needs '--only-from <FILE>'",
     ),
     (
-        "count --format html .",
-        "refused: error: invalid value 'html' for '--format <FORMAT>'\n  [possible values: tsv, table, json, csv, markdown]",
+        "count --format xml .",
+        "refused: error: invalid value 'xml' for '--format <FORMAT>'\n  [possible values: tsv, table, json, csv, markdown, html]",
+    ),
+    (
+        "count --format html --by ext .",
+        "refused: error: '--format html' draws a tree: no '--files', '--left-out', '--by <COLUMNS>' or '--top <N>'",
     ),
     (
         "count --only /src .",

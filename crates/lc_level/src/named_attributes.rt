@@ -17,25 +17,25 @@ use std::sync::atomic::{AtomicBool, Ordering};
 /// let unnamed = named.unnamed(alloc)?; // `linguist-generated`, if no attribute file has it
 /// ```
 #[derive(Drop)]
-pub struct NamedAttributes<'o> {
-    words: Vec<NotedWord<'o>>,
+pub struct NamedAttributes {
+    words: Vec<NotedWord>,
 }
 
 /// A word, and whether its attribute stands in some attribute file.
 #[derive(Drop)]
-struct NotedWord<'o> {
-    attribute: &'o [u8],
+struct NotedWord {
+    attribute: Vec<u8>,
     is_named: AtomicBool,
 }
 
-impl<'o> NamedAttributes<'o> {
+impl NamedAttributes {
     /// Takes words, each of them `ATTR` or `ATTR=VALUE`. No attribute is named yet.
-    pub fn new(alloc: Global, words: &[&'o str]) -> Result<NamedAttributes<'o>, AllocError> {
+    pub fn new(alloc: Global, words: &[&str]) -> Result<NamedAttributes, AllocError> {
         let mut noted = Vec::with_capacity(alloc, words.len())?;
         for word in words {
             let (attribute, _) = cut_at_first(b'=', word.as_bytes());
             noted.push(NotedWord {
-                attribute,
+                attribute: attribute.to_vec(alloc)?,
                 is_named: AtomicBool::new(false),
             })?;
         }
@@ -43,11 +43,11 @@ impl<'o> NamedAttributes<'o> {
     }
 
     /// The attributes of the words that stand in no attribute file that was read, in the order of the words.
-    pub fn unnamed(&self, alloc: Global) -> Result<Vec<&'o [u8]>, AllocError> {
+    pub fn unnamed(&self, alloc: Global) -> Result<Vec<Vec<u8>>, AllocError> {
         let mut unnamed = Vec::new(alloc);
         for word in &self.words {
             if !word.is_named.load(Ordering::SeqCst) {
-                unnamed.push(word.attribute)?;
+                unnamed.push(word.attribute.to_vec(alloc)?)?;
             }
         }
         Ok(unnamed)
@@ -57,7 +57,7 @@ impl<'o> NamedAttributes<'o> {
     pub(crate) fn note(&self, bytes: &[u8]) {
         for word in &self.words {
             if !word.is_named.load(Ordering::SeqCst)
-                && memmem::find(bytes, word.attribute).is_some()
+                && memmem::find(bytes, &word.attribute).is_some()
             {
                 word.is_named.store(true, Ordering::SeqCst);
             }

@@ -34,7 +34,7 @@ pub struct Selection<'o> {
     without: &'o [&'o str],
     only: LentPaths<'o>,
     include: Option<&'o IgnoreFile>,
-    named: Option<&'o NamedAttributes<'o>>,
+    named: Option<&'o NamedAttributes>,
 }
 
 impl<'o> Model for Selection<'o> {
@@ -141,7 +141,7 @@ impl<'o> Selection<'o> {
     }
 
     /// Notes there which attributes the attribute files name that are read by this selection.
-    pub fn noting(self, named: Option<&'o NamedAttributes<'o>>) -> Selection<'o>
+    pub fn noting(self, named: Option<&'o NamedAttributes>) -> Selection<'o>
         ensures { result ≡ self.entry }
     {
         Selection {

@@ -1,13 +1,10 @@
 -- Boxes that are written one after the other.
-use Rattle.std.proofs.Common.{◌≡◌, ℕ, ◌+◌, ◌<◌, List, ◌∷◌, ◌++◌, length, drop, get_or, min, suc, refl, sym, ap, ap₂, ◌∙◌}
-use Rattle.std.proofs.Common.{arith, drop-cons}
+use Rattle.std.proofs.Common.{◌≡◌, ℕ, ◌+◌, ◌<◌, List, ◌∷◌, ◌++◌, length, drop, get_or, min, refl, sym, ap, ap₂, ◌∙◌}
 use Rattle.lc_view.specs.declared.table_options.SortBy.{SortBy}
 use Rattle.lc_picture.specs.Boxes.{BoxModel, boxes_in, next_box}
 use Rattle.lc_picture.specs.Pieces.{text_of}
+use Rattle.lc_picture.proofs.Steps.{one_on}
 use Rattle.lc_picture.proofs.Texts.{two_texts}
-
-one_on : (i : ℕ) → suc i ≡ i + 1
-one_on i = omega arith
 
 -- behind the next box of some come the others
 pub one_box_more : (by : SortBy) (within next : ℕ) (t0 t1 all : List ℕ) (b d : BoxModel) (bs after : List BoxModel) (i : ℕ)
@@ -15,9 +12,7 @@ pub one_box_more : (by : SortBy) (within next : ℕ) (t0 t1 all : List ℕ) (b d
     → t1 ≡ t0 ++ text_of (next_box by within b after) → t0 ++ text_of (boxes_in by within (drop i bs)) ≡ all
     → t1 ++ text_of (boxes_in by next (drop (i + 1) bs)) ≡ all
 one_box_more by within next t0 t1 all b d bs after i inside is rest deeper e same =
-    let next_first : drop i bs ≡ b ∷ after =
-    drop-cons bs i d inside ∙ ap (λ (k : ℕ). get_or bs i d ∷ drop k bs) (one_on i)
-    ∙ ap₂ (λ (x : BoxModel) (xs : List BoxModel). x ∷ xs) (sym is) (sym rest) in
+    let next_first : drop i bs ≡ b ∷ after = one_on b d bs i inside is ∙ ap (λ (xs : List BoxModel). b ∷ xs) (sym rest) in
     ap₂ (λ (n : ℕ) (xs : List BoxModel). t1 ++ text_of (boxes_in by n xs)) deeper (sym rest)
     ∙ two_texts t0 t1 (t1 ++ text_of (boxes_in by (min within b.depth + 1) after)) (next_box by within b after)
     (boxes_in by (min within b.depth + 1) after) e refl

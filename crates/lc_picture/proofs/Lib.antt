@@ -1,4 +1,5 @@
 pub mod Texts
+pub mod Steps
 pub mod References
 pub mod Outlines
 pub mod Boxing

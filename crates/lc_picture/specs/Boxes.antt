@@ -1,7 +1,6 @@
 -- The boxes of a tree of directories. Each has a box inside for each directory right in it, and its share of the space is its number.
 use Rattle.std.specs.Prelude.{ℕ, ◌+◌, ◌-◌, ◌/◌, ◌==◌, nat_le, if◌then◌else◌, List, [], ◌∷◌, ◌++◌}
-use Rattle.std.specs.Prelude.{map, max, min, replicate, codes, unwrap_or}
-use Rattle.std.specs.List.{filter}
+use Rattle.std.specs.Prelude.{max, min, replicate, codes}
 use Rattle.lc_glob.specs.Path.{depth_of}
 use Rattle.lc_rows.specs.Directories.{name_of}
 use Rattle.lc_rows.specs.RowKeys.{ShownRowModel}
@@ -9,27 +8,31 @@ use Rattle.lc_rows.specs.ShownRows.{number_in}
 use Rattle.lc_text.specs.Visible.{visible_path}
 use Rattle.lc_view.specs.declared.table_options.SortBy.{SortBy}
 use Rattle.lc_walk.specs.declared.tally.sums.Sums.{Sums}
+use Rattle.lc_picture.specs.Colours.{main_colour, path_of, rows_from, shared_colour}
 use Rattle.lc_picture.specs.Pieces.{Piece, markup, name, share, sums_pieces}
 
--- a directory: the last name of its path, how many directories are above it, and the sums over the files in it and below it
+-- a directory: the last name of its path, how many directories are above it, its colour, and the sums over the files in it and below it
 pub record BoxModel : Type 0 where
   pub directory : List ℕ
   pub depth : ℕ
+  pub colour : ℕ
   pub sums : Sums
 
-abbrev pub path_of : ShownRowModel → List ℕ
-path_of r = unwrap_or r.directory []
-
-abbrev pub box_of : ShownRowModel → BoxModel
-box_of r = record { directory = name_of (path_of r); depth = depth_of (path_of r); sums = r.sums }
+abbrev pub box_of : ShownRowModel → ℕ → BoxModel
+box_of r colour = record { directory = name_of (path_of r); depth = depth_of (path_of r); colour = colour; sums = r.sums }
 
 -- the least number that is drawn: a thousandth of the total, and not nothing
 abbrev pub least_drawn : ℕ → ℕ
 least_drawn total = max (total / 1000) 1
 
--- the directories that are drawn
-abbrev pub drawn_boxes : SortBy → ℕ → List ShownRowModel → List BoxModel
-drawn_boxes by least rows = map box_of (filter (λ r. nat_le least (number_in by r.sums)) rows)
+-- the directories that are drawn, with the colours of their largest extensions, which come in the same order
+abbrev pub drawn_boxes : SortBy → ℕ → List ShownRowModel → List ShownRowModel → List ShownRowModel → List BoxModel
+drawn_boxes by least chart kinds [] = []
+drawn_boxes by least chart kinds (r ∷ rs) =
+    if nat_le least (number_in by r.sums)
+    then box_of r (main_colour chart by (path_of r) 0 shared_colour (rows_from (path_of r) kinds))
+    ∷ drawn_boxes by least chart (rows_from (path_of r) kinds) rs
+    else drawn_boxes by least chart kinds rs
 
 -- what is left of a number without those of the boxes right in one of this depth, which come before the next box that is not in it
 abbrev pub left_beside : SortBy → ℕ → ℕ → List BoxModel → ℕ
@@ -38,12 +41,21 @@ left_beside by depth n (b ∷ bs) =
     if nat_le b.depth depth then n
     else left_beside by depth (if b.depth == depth + 1 then n - number_in by b.sums else n) bs
 
--- the begin of a box: its name and its sums, and empty space for the files right in it and for the directories in it that are not drawn
-abbrev pub opening : SortBy → BoxModel → ℕ → List Piece
-opening by b left =
-    markup (codes "<details open style=\"flex-grow:") ∷ share (number_in by b.sums) ∷ markup (codes "\"><summary><b>")
-    ∷ name (visible_path b.directory) ∷ markup (codes "</b> ")
+-- the tag of a box, with its colour and its number
+abbrev pub tag : SortBy → BoxModel → List Piece
+tag by b =
+    markup (codes "<details open class=\"e") ∷ share b.colour ∷ markup (codes "\" style=\"flex-grow:") ∷ share (number_in by b.sums)
+    ∷ markup (codes "\"><summary><b>") ∷ []
+
+-- the name and the sums of a box, and the space of the files right in it and of the directories in it that are not drawn
+abbrev pub label : BoxModel → ℕ → List Piece
+label b left =
+    name (visible_path b.directory) ∷ markup (codes "</b> ")
     ∷ (sums_pieces b.sums ++ markup (codes "</summary><div><i style=\"flex-grow:") ∷ share left ∷ markup (codes "\"></i>") ∷ [])
+
+-- the begin of a box
+abbrev pub opening : SortBy → BoxModel → ℕ → List Piece
+opening by b left = tag by b ++ label b left
 
 abbrev pub closing : Piece
 closing = markup (codes "</div></details>\n")

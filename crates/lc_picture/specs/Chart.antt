@@ -7,6 +7,7 @@ use Rattle.lc_text.specs.Visible.{visible_bytes}
 use Rattle.lc_view.specs.declared.table_options.Columns.{Columns}
 use Rattle.lc_view.specs.declared.table_options.SortBy.{SortBy}
 use Rattle.lc_walk.specs.declared.tally.sums.Sums.{Sums}
+use Rattle.lc_picture.specs.Colours.{colour_of}
 use Rattle.lc_picture.specs.Pieces.{Piece, count, markup, name, share}
 
 -- rows by extension alone
@@ -38,9 +39,10 @@ bar most n =
     markup (codes "<td><div class=\"bar\"><i style=\"flex-grow:") ∷ share n ∷ markup (codes "\"></i><u style=\"flex-grow:")
     ∷ share (most - n) ∷ markup (codes "\"></u></div></td></tr>\n") ∷ []
 
-abbrev pub chart_row : SortBy → ℕ → ShownRowModel → List Piece
-chart_row by most r =
-    markup (codes "<tr><th>") ∷ name (visible_extension r.key.extension) ∷ (cells r.sums ++ bar most (number_in by r.sums))
+abbrev pub chart_row : SortBy → ℕ → List ShownRowModel → ShownRowModel → List Piece
+chart_row by most rows r =
+    markup (codes "<tr class=\"e") ∷ share (colour_of rows r.key.extension) ∷ markup (codes "\"><th>")
+    ∷ name (visible_extension r.key.extension) ∷ (cells r.sums ++ bar most (number_in by r.sums))
 
 abbrev pub others_row : Option Sums → List Piece
 others_row None = []
@@ -48,4 +50,4 @@ others_row (Some s) = markup (codes "<tr><th>others") ∷ (cells s ++ markup (co
 
 -- the rows of a chart, with the sums over those that it has no place for
 abbrev pub chart_pieces : SortBy → ViewModel → List Piece
-chart_pieces by v = flat_map (chart_row by (largest by v.rows)) v.rows ++ others_row v.others
+chart_pieces by v = flat_map (chart_row by (largest by v.rows) v.rows) v.rows ++ others_row v.others

@@ -54,9 +54,9 @@ nameless (name t) = name []
 
 -- a directory without its name
 abbrev pub outline : BoxModel → BoxModel
-outline b = record { directory = []; depth = b.depth; sums = b.sums }
+outline b = record { directory = []; depth = b.depth; colour = b.colour; sums = b.sums }
 
--- but for the names, the boxes depend on depths and sums alone: no name adds a tag, or takes one away
+-- but for the names, the boxes depend on depths, colours and sums alone: no name adds a tag, or takes one away
 abbrev pub OutlineLaw : Type 0
 OutlineLaw =
     (by : SortBy) (bs cs : List BoxModel) → map outline bs ≡ map outline cs

@@ -2,7 +2,7 @@
 
 ghost use Rattle.std.specs.Prelude.{◌≡◌, ◌+◌, ◌-◌, ◌==◌, if◌then◌else◌, ◌++◌, IfOk, OnOk, min};
 ghost use Rattle.lc_rows.specs.ShownRows.{number_in};
-ghost use Rattle.lc_picture.specs.Boxes.{boxes_in, closings, left_beside, next_box, opening};
+ghost use Rattle.lc_picture.specs.Boxes.{boxes_in, closings, label, left_beside, next_box, tag};
 ghost use Rattle.lc_picture.specs.Pieces.{text_of};
 
 use crate::directory_box::DirectoryBox;
@@ -36,19 +36,25 @@ fn left_beside<'a>(by: SortBy, depth: usize, number: u128, after: &[DirectoryBox
     left
 }
 
-/// Appends the begin of a box.
-fn push_opening(
+fn push_tag(text: &mut Vec<u8>, by: SortBy, drawn: &DirectoryBox<'_>) -> Result<(), AllocError>
+    ensures { OnOk result (text.new.items ≡ text.old.items ++ text_of (tag by drawn.now)) }
+{
+    text.extend_from_slice(b"<details open class=\"e")?;
+    push_number(text, drawn.colour as u128)?;
+    text.extend_from_slice(b"\" style=\"flex-grow:")?;
+    push_number(text, number_in(by, drawn.sums))?;
+    text.extend_from_slice(b"\"><summary><b>")?;
+    Ok(())
+}
+
+fn push_label(
     text: &mut Vec<u8>,
-    by: SortBy,
     drawn: &DirectoryBox<'_>,
     left: u128,
     made: &mut String,
 ) -> Result<(), AllocError>
-    ensures { OnOk result (text.new.items ≡ text.old.items ++ text_of (opening by drawn.now left)) }
+    ensures { OnOk result (text.new.items ≡ text.old.items ++ text_of (label drawn.now left)) }
 {
-    text.extend_from_slice(b"<details open style=\"flex-grow:")?;
-    push_number(text, number_in(by, drawn.sums))?;
-    text.extend_from_slice(b"\"><summary><b>")?;
     push_name(text, drawn.directory, made)?;
     text.extend_from_slice(b"</b> ")?;
     push_sums(text, drawn.sums)?;
@@ -85,7 +91,8 @@ fn push_box<'a>(
     let next = within.min(drawn.depth).checked_add(1).ok_or(AllocError)?;
     push_closings(text, within.saturating_sub(drawn.depth))?;
     let left = left_beside(by, drawn.depth, number_in(by, drawn.sums), after);
-    push_opening(text, by, drawn, left, made)?;
+    push_tag(text, by, drawn)?;
+    push_label(text, drawn, left, made)?;
     Ok(next)
 }
 

@@ -5,6 +5,7 @@ ghost use Rattle.lc_rows.specs.Views.{view_model};
 ghost use Rattle.lc_picture.specs.Chart.{bar, cells, chart_pieces, chart_row, largest, others_row};
 ghost use Rattle.lc_picture.specs.Pieces.{text_of};
 
+use crate::colours::colour_of;
 use crate::escaping::push_extension;
 use crate::sums::{number_in, push_number};
 use lc_rows::{ShownRow, View};
@@ -52,12 +53,15 @@ fn push_row(
     text: &mut Vec<u8>,
     by: SortBy,
     most: u128,
+    rows: &[ShownRow<'_>],
     row: &ShownRow<'_>,
     made: &mut String,
 ) -> Result<(), AllocError>
-    ensures { OnOk result (text.new.items ≡ text.old.items ++ text_of (chart_row by most row.now)) }
+    ensures { OnOk result (text.new.items ≡ text.old.items ++ text_of (chart_row by most rows.now row.now)) }
 {
-    text.extend_from_slice(b"<tr><th>")?;
+    text.extend_from_slice(b"<tr class=\"e")?;
+    push_number(text, colour_of(rows, row.extension) as u128)?;
+    text.extend_from_slice(b"\"><th>")?;
     push_extension(text, row.extension, made)?;
     push_cells(text, row.sums)?;
     push_bar(text, most, number_in(by, row.sums))?;
@@ -71,10 +75,10 @@ fn push_rows(
     rows: &[ShownRow<'_>],
     made: &mut String,
 ) -> Result<(), AllocError>
-    ensures { OnOk result (text.new.items ≡ text.old.items ++ flat_map (λ r. text_of (chart_row by most r)) rows.now) }
+    ensures { OnOk result (text.new.items ≡ text.old.items ++ flat_map (λ r. text_of (chart_row by most rows.now r)) rows.now) }
 {
     for row in rows {
-        push_row(text, by, most, row, made)?;
+        push_row(text, by, most, rows, row, made)?;
     }
     Ok(())
 }

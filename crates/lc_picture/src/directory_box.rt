@@ -1,10 +1,12 @@
 //! A directory as a box of the picture.
 
-ghost use Rattle.std.specs.Prelude.{◌≡◌, IfOk, nat_le};
+ghost use Rattle.std.specs.Prelude.{◌≡◌, [], ◌∷◌, ◌++◌, IfOk, OnOk, drop, nat_le};
 ghost use Rattle.lc_rows.specs.Directories.{name_of};
 ghost use Rattle.lc_rows.specs.ShownRows.{number_in};
 ghost use Rattle.lc_picture.specs.Boxes.{box_of, drawn_boxes, least_drawn};
+ghost use Rattle.lc_picture.specs.Colours.{main_colour, path_of, rows_from, shared_colour};
 
+use crate::colours::{main_colour, next_place, path_of};
 use crate::sums::number_in;
 use lc_glob::path::depth_of;
 use lc_rows::ShownRow;
@@ -21,6 +23,8 @@ pub(crate) struct DirectoryBox<'a> {
     pub(crate) directory: &'a [u8],
     /// The number of directories above it.
     pub(crate) depth: usize,
+    /// The colour of the extension with the largest number in it.
+    pub(crate) colour: usize,
     /// The sums over the files in it and below it.
     pub(crate) sums: Sums,
 }
@@ -30,7 +34,7 @@ impl<'a> Model for DirectoryBox<'a> {
 
     ghost Value = { BoxModel };
 
-    ghost view = { λ b. record { directory = b.directory.now; depth = b.depth; sums = b.sums } };
+    ghost view = { λ b. record { directory = b.directory.now; depth = b.depth; colour = b.colour; sums = b.sums } };
 }
 
 fn name_of(path: &[u8]) -> &[u8]
@@ -49,30 +53,62 @@ pub(crate) fn least_drawn(total: u128) -> u128
     (total / 1_000).max(1)
 }
 
-fn box_of<'a>(row: &ShownRow<'a>) -> DirectoryBox<'a>
-    ensures { result ≡ box_of row.now }
+fn rest_from<'a, 'b>(kinds: &'b [ShownRow<'a>], place: usize) -> &'b [ShownRow<'a>]
+    ensures { result.now ≡ drop place kinds.entry.now }
 {
-    let path = row.directory.unwrap_or(&[]);
+    &kinds[place.min(kinds.len())..]
+}
+
+fn box_of<'a>(row: &ShownRow<'a>, colour: usize) -> DirectoryBox<'a>
+    ensures { result ≡ box_of row.now colour }
+{
+    let path = path_of(row);
     DirectoryBox {
         directory: name_of(path),
         depth: depth_of(path),
+        colour,
         sums: row.sums,
     }
 }
 
+/// Appends the box of a directory, and returns the place of its first row among those by directory and extension.
+fn push_drawn<'a>(
+    boxes: &mut Vec<DirectoryBox<'a>>,
+    by: SortBy,
+    row: &ShownRow<'a>,
+    chart: &[ShownRow<'_>],
+    kinds: &[ShownRow<'_>],
+    start: usize,
+) -> Result<usize, AllocError>
+    ensures kinds { IfOk result (λ place. drop place kinds.now ≡ rows_from (path_of row.now) (drop start kinds.now)) }
+    ensures boxes { OnOk result (boxes.new.items ≡ boxes.old.items
+        ++ box_of row.now (main_colour chart.now by (path_of row.now) 0 shared_colour (rows_from (path_of row.now) (drop start kinds.now)))
+        ∷ []) }
+{
+    let place = next_place(path_of(row), kinds, start);
+    let colour = main_colour(chart, by, path_of(row), rest_from(kinds, place));
+    boxes.push(box_of(row, colour))?;
+    Ok(place)
+}
+
 /// Returns the directories that are drawn: those with a number of at least `least`.
+///
+/// The rows of `kinds`, by directory and extension, give their colours, and come in the same order.
 pub(crate) fn drawn_boxes<'a>(
     alloc: Global,
     by: SortBy,
     least: u128,
     rows: &[ShownRow<'a>],
+    chart: &[ShownRow<'_>],
+    kinds: &[ShownRow<'_>],
 ) -> Result<Vec<DirectoryBox<'a>>, AllocError>
-    ensures { IfOk result (λ boxes. boxes.items ≡ drawn_boxes by least rows.now) }
+    ensures { IfOk result (λ boxes. boxes.items ≡ drawn_boxes by least chart.now kinds.now rows.now) }
 {
     let mut boxes = Vec::new(alloc);
+    let mut place = 0;
     for row in rows {
         if number_in(by, row.sums) >= least {
-            boxes.push(box_of(row))?;
+            place = push_drawn(&mut boxes, by, row, chart, kinds, place)?;
         }
     }
     Ok(boxes)

@@ -2,6 +2,7 @@
 //!
 //! - `escaping`: texts in HTML; `style`: the fixed parts of a page
 //! - `boxes`, `directory_box`: the boxes of the directories, each inside that of the directory that holds it
+//! - `colours`: the colours of extensions and of directories
 //! - `chart`: the bar chart; `sums`: sums in words
 //! - `report_page`: the page of a report
 //! - `laws`: what is true of the definitions that the contracts cite
@@ -9,6 +10,7 @@
 
 mod boxes;
 mod chart;
+mod colours;
 mod directory_box;
 mod escaping;
 mod laws;

@@ -2,19 +2,19 @@
 
 ghost use Rattle.std.specs.Prelude.{◌≡◌, ◌++◌, IfOk, OnOk};
 ghost use Rattle.lc_rows.specs.Views.{view_model};
-ghost use Rattle.lc_picture.specs.Page.{IsPageOf, chart_part, drawn_number, page_pieces, sums_part, tree_part};
+ghost use Rattle.lc_picture.specs.Page.{AreBoxesOf, IsPageOf, chart_part, drawn_number, page_pieces, sums_part, tree_part};
 ghost use Rattle.lc_picture.specs.Pieces.{text_of};
 
 use crate::boxes::push_boxes;
 use crate::chart::push_chart;
-use crate::directory_box::{drawn_boxes, least_drawn};
+use crate::directory_box::{DirectoryBox, drawn_boxes, least_drawn};
 use crate::style::{
     boxes_begin, chart_begin, number_word, page_begin, style, sums_begin, tree_begin,
 };
 use crate::sums::{number_in, push_sums};
 use lc_rows::{ShownRow, View, shown_rows, tree_rows};
 use lc_view::{Columns, SortBy};
-use lc_walk::{Report, Sums};
+use lc_walk::{FileLine, Report, Sums};
 use std::alloc::{AllocError, Global};
 
 /// The columns of the chart.
@@ -34,6 +34,12 @@ const TREE_COLUMNS: Columns = Columns {
     ext: false,
     text: false,
     eol: false,
+};
+
+/// The columns of the colours of the boxes.
+const KIND_COLUMNS: Columns = Columns {
+    ext: true,
+    ..TREE_COLUMNS
 };
 
 fn push_sums_part(text: &mut Vec<u8>, totals: Sums) -> Result<(), AllocError>
@@ -60,20 +66,17 @@ fn push_chart_part(
 }
 
 fn push_tree_part(
-    alloc: Global,
     text: &mut Vec<u8>,
     by: SortBy,
-    totals: Sums,
-    tree: &[ShownRow<'_>],
+    boxes: &[DirectoryBox<'_>],
     made: &mut String,
 ) -> Result<(), AllocError>
-    ensures { OnOk result (text.new.items ≡ text.old.items ++ text_of (tree_part by totals tree.now)) }
+    ensures { OnOk result (text.new.items ≡ text.old.items ++ text_of (tree_part by boxes.now)) }
 {
-    let boxes = drawn_boxes(alloc, by, least_drawn(number_in(by, totals)), tree)?;
     text.extend_from_slice(tree_begin())?;
     text.extend_from_slice(number_word(by))?;
     text.extend_from_slice(boxes_begin())?;
-    push_boxes(text, by, &boxes, made)?;
+    push_boxes(text, by, boxes, made)?;
     text.extend_from_slice(b"</div>\n</body>\n</html>\n")?;
     Ok(())
 }
@@ -83,16 +86,33 @@ fn page_text(
     by: SortBy,
     totals: Sums,
     view: &View<'_>,
-    tree: &[ShownRow<'_>],
+    boxes: &[DirectoryBox<'_>],
 ) -> Result<Vec<u8>, AllocError>
-    ensures { IfOk result (λ text. text.items ≡ text_of (page_pieces by totals (view_model view.now) tree.now)) }
+    ensures { IfOk result (λ text. text.items ≡ text_of (page_pieces by totals (view_model view.now) boxes.now)) }
 {
     let mut text = Vec::new(alloc);
     let mut made = String::new(alloc);
     push_sums_part(&mut text, totals)?;
     push_chart_part(&mut text, by, view, &mut made)?;
-    push_tree_part(alloc, &mut text, by, totals, tree, &mut made)?;
+    push_tree_part(&mut text, by, boxes, &mut made)?;
     Ok(text)
+}
+
+/// Returns the boxes of the directories of some files.
+fn boxes_of<'a>(
+    alloc: Global,
+    by: SortBy,
+    totals: Sums,
+    files: &'a [FileLine],
+    chart: &[ShownRow<'_>],
+) -> Result<Vec<DirectoryBox<'a>>, AllocError>
+    ensures { IfOk result (λ boxes. AreBoxesOf by totals files.entry.now chart.now boxes.items) }
+{
+    let tree = tree_rows(alloc, files, TREE_COLUMNS)?;
+    let kinds = tree_rows(alloc, files, KIND_COLUMNS)?;
+    let least = least_drawn(number_in(by, totals));
+    let boxes = drawn_boxes(alloc, by, least, &tree, chart, &kinds)?;
+    Ok(boxes)
 }
 
 fn page_by(alloc: Global, report: &Report, by: SortBy) -> Result<Vec<u8>, AllocError>
@@ -100,8 +120,8 @@ fn page_by(alloc: Global, report: &Report, by: SortBy) -> Result<Vec<u8>, AllocE
 {
     let extensions = shown_rows(alloc, &report.rows, &report.files, CHART_COLUMNS, Some(by))?;
     let view = View::of(Some(CHART_ROWS), &extensions, &[])?;
-    let tree = tree_rows(alloc, &report.files, TREE_COLUMNS)?;
-    let text = page_text(alloc, by, report.totals, &view, &tree)?;
+    let boxes = boxes_of(alloc, by, report.totals, &report.files, view.rows)?;
+    let text = page_text(alloc, by, report.totals, &view, &boxes)?;
     Ok(text)
 }
 

@@ -26,15 +26,25 @@ pub(crate) fn style() -> &'static [u8]
       th,td{padding:0 .6rem;text-align:right}\n\
       tr>:first-child{text-align:left}\n\
       .bar{display:flex;width:18rem;height:.8em}\n\
-      .bar i{outline:1px solid;background:#4e79a780}\n\
+      .bar i{outline:1px solid #888}\n\
       .tree{display:flex;flex-direction:column;height:92vh;min-height:42rem;overflow:auto}\n\
-      details{position:relative;flex:1 0 0;min-width:11rem;outline:1px solid #888}\n\
+      details{position:relative;flex:1 0 0;min-width:11rem}\n\
       details:hover,details:focus-within{min-height:2.8em}\n\
-      details:not([open]){flex-grow:0!important;min-height:1.4em}\n\
-      summary{position:absolute;inset:0 auto 0 0;width:10.4rem;padding:0 .3rem;overflow:hidden;overflow-wrap:anywhere;\
-      background:#4e79a740}\n\
+      details:not([open]){flex-grow:0!important;min-height:1.5em}\n\
+      summary{position:absolute;inset:0 auto 0 0;box-sizing:border-box;width:11rem;padding:0 .3rem;overflow:hidden;overflow-wrap:anywhere;\
+      border:1px solid #888;border-width:1px 0 0 1px}\n\
       details>div{position:absolute;inset:0 0 0 11rem;display:flex;flex-direction:column}\n\
-      details>div>i{order:1;flex:1 0 0}\n\
+      details>div>i{order:1;flex:1 0 0;overflow:hidden;padding-left:.3rem;border-top:1px solid #8888}\n\
+      details>div>i:not(:only-child)::after{content:\"others\"}\n\
+      .e0>summary,.e0 .bar i{background:#4e79a780}\n\
+      .e1>summary,.e1 .bar i{background:#f28e2b80}\n\
+      .e2>summary,.e2 .bar i{background:#59a14f80}\n\
+      .e3>summary,.e3 .bar i{background:#e1575980}\n\
+      .e4>summary,.e4 .bar i{background:#76b7b280}\n\
+      .e5>summary,.e5 .bar i{background:#edc94880}\n\
+      .e6>summary,.e6 .bar i{background:#b07aa180}\n\
+      .e7>summary,.e7 .bar i{background:#9c755f80}\n\
+      .e8>summary,.e8 .bar i{background:#bab0ac80}\n\
       @media print{.tree{height:24cm;overflow:visible}}\n"
 }
 
@@ -76,6 +86,6 @@ pub(crate) fn number_word(by: SortBy) -> &'static [u8]
 pub(crate) fn boxes_begin() -> &'static [u8]
     ensures { result.now ≡ boxes_begin }
 {
-    b". Empty space stands for the files right in a directory, and for directories with less than a thousandth of all. \
-      Fold a box to make room for the others.</p>\n<div class=\"tree\">\n"
+    b", in the colour of the extension that has most of them. Others are the files right in a directory, \
+      and directories with less than a thousandth of all. Fold a box to make room for the rest.</p>\n<div class=\"tree\">\n"
 }

@@ -46,7 +46,7 @@ pub struct Options<'o> {
     /// They are relative to the top, and have no slash at the end.
     pub only: &'o [&'o [u8]],
     /// Where to note which attributes of `without` the attribute files of the tree name. It changes no report.
-    pub named: Option<&'o NamedAttributes<'o>>,
+    pub named: Option<&'o NamedAttributes>,
 }
 
 impl<'o> Options<'o> {

@@ -10,8 +10,8 @@ returns c =
     let by = c.args.by in
     let rows = c.args.view.now.rows.now in
     let most = largest by rows in
-    two_texts t0 c.push_rows.new.text.items c.push_others.new.text.items (flat_map (chart_row by most) rows)
+    two_texts t0 c.push_rows.new.text.items c.push_others.new.text.items (flat_map (chart_row by most rows) rows)
     (others_row c.args.view.now.others)
-    (c.in_ok-push_rows.ensures ∙ ap (λ (n : ℕ). t0 ++ flat_map (λ r. text_of (chart_row by n r)) rows) c.largest.ensures
-    ∙ ap (λ (t : List ℕ). t0 ++ t) (texts_of_each (chart_row by most) rows))
+    (c.in_ok-push_rows.ensures ∙ ap (λ (n : ℕ). t0 ++ flat_map (λ r. text_of (chart_row by n rows r)) rows) c.largest.ensures
+    ∙ ap (λ (t : List ℕ). t0 ++ t) (texts_of_each (chart_row by most rows) rows))
     c.in_ok-push_others.ensures

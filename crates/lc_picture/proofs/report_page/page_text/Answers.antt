@@ -14,7 +14,7 @@ returns c =
     let by = c.args.by in
     let totals = c.args.totals in
     let v = view_model c.args.view.now in
-    let tree = c.args.tree.now in
-    two_texts t0 t1 t3 (sums_part totals) (chart_part by v ++ tree_part by totals tree) c.in_ok-push_sums_part.ensures
-    (two_texts t1 t2 t3 (chart_part by v) (tree_part by totals tree) c.in_ok-push_chart_part.ensures c.in_ok-push_tree_part.ensures)
-    ∙ ap (λ (t : List ℕ). t ++ text_of (page_pieces by totals v tree)) c.new-text.ensures.items
+    let boxes = c.args.boxes.now in
+    two_texts t0 t1 t3 (sums_part totals) (chart_part by v ++ tree_part by boxes) c.in_ok-push_sums_part.ensures
+    (two_texts t1 t2 t3 (chart_part by v) (tree_part by boxes) c.in_ok-push_chart_part.ensures c.in_ok-push_tree_part.ensures)
+    ∙ ap (λ (t : List ℕ). t ++ text_of (page_pieces by totals v boxes)) c.new-text.ensures.items

@@ -1,8 +1,7 @@
 use Rattle.std.proofs.Common.{ℕ, List, [], ◌∷◌, ◌++◌, ap, ◌∙◌, codes}
-use Rattle.lc_rows.specs.ShownRows.{number_in}
-use Rattle.lc_picture.specs.Boxes.{BoxModel, boxes_in, drawn_boxes, least_drawn}
+use Rattle.lc_picture.specs.Boxes.{boxes_in}
 use Rattle.lc_picture.specs.Page.{boxes_begin, number_word, tree_begin}
-use Rattle.lc_picture.specs.Pieces.{Piece, markup, text_of}
+use Rattle.lc_picture.specs.Pieces.{Piece, markup}
 use Rattle.lc_picture.proofs.Texts.{one_piece, three_pieces, two_texts}
 use Rattle.lc_picture.proofs.report_page.push_tree_part.Goals as goal
 
@@ -15,16 +14,12 @@ returns c =
     let t4 = c.push_boxes.new.text.items in
     let t5 = c.extend_from_slice-4.new.self.items in
     let by = c.args.by in
-    let tree = c.args.tree.now in
-    let boxes = drawn_boxes by (least_drawn (number_in by c.args.totals)) tree in
+    let boxes = c.args.boxes.now in
     let last : Piece = markup (codes "</div>\n</body>\n</html>\n") in
     two_texts t0 t3 t5 (markup tree_begin ∷ markup (number_word by) ∷ markup boxes_begin ∷ []) (boxes_in by 0 boxes ++ last ∷ [])
     (three_pieces t0 t1 t2 t3 (markup tree_begin) (markup (number_word by)) (markup boxes_begin)
     (c.in_ok-extend_from_slice.ensures.items ∙ ap (λ (l : List ℕ). t0 ++ l) c.tree_begin.ensures)
     (c.in_ok-extend_from_slice-2.ensures.items ∙ ap (λ (l : List ℕ). t1 ++ l) c.number_word.ensures)
     (c.in_ok-extend_from_slice-3.ensures.items ∙ ap (λ (l : List ℕ). t2 ++ l) c.boxes_begin.ensures))
-    (two_texts t3 t4 t5 (boxes_in by 0 boxes) (last ∷ [])
-    (c.in_ok-push_boxes.ensures ∙ ap (λ (bs : List BoxModel). t3 ++ text_of (boxes_in by 0 bs))
-    (c.deref.ensures.value ∙ c.in_ok-boxes.ensures ∙ ap (λ (least : ℕ). drawn_boxes by least tree)
-    (c.least_drawn.ensures ∙ ap least_drawn c.number_in.ensures)))
+    (two_texts t3 t4 t5 (boxes_in by 0 boxes) (last ∷ []) c.in_ok-push_boxes.ensures
     (one_piece t4 t5 last c.in_ok-extend_from_slice-4.ensures.items))

@@ -1,0 +1,27 @@
+-- Lists gone over step by step.
+use Rattle.std.proofs.Common.{◌≡◌, ℕ, ◌+◌, ◌<◌, true, false, bytes_eq, List, ◌∷◌, length, drop, get_or, suc, refl, sym, ap, ◌∙◌, arith}
+use Rattle.std.proofs.Common.{drop-cons}
+use Rattle.lc_rows.specs.RowKeys.{ShownRowModel}
+use Rattle.lc_picture.specs.Colours.{path_of, rows_from}
+
+-- from a place on come the element there and those behind it
+pub one_on : {X : Type 0} (x d : X) (xs : List X) (i : ℕ) → i < length xs → x ≡ get_or xs i d → drop i xs ≡ x ∷ drop (i + 1) xs
+one_on x d xs i inside is =
+    let next : suc i ≡ i + 1 = omega arith in
+    drop-cons xs i d inside ∙ ap (λ (k : ℕ). get_or xs i d ∷ drop k xs) next ∙ ap (λ y. y ∷ drop (i + 1) xs) (sym is)
+
+-- a row of the directory is the first
+pub first_row : (directory : List ℕ) (k d : ShownRowModel) (ks all : List ShownRowModel) (i : ℕ) → i < length ks → k ≡ get_or ks i d
+    → bytes_eq directory (path_of k) ≡ true → rows_from directory (drop i ks) ≡ all → drop i ks ≡ all
+first_row directory k d ks all i inside is own same =
+    let next = one_on k d ks i inside is in
+    let found : rows_from directory (k ∷ drop (i + 1) ks) ≡ k ∷ drop (i + 1) ks = rw own refl in
+    next ∙ sym found ∙ sym (ap (rows_from directory) next) ∙ same
+
+-- a row of another directory is not
+pub later_row : (directory : List ℕ) (k d : ShownRowModel) (ks all : List ShownRowModel) (i : ℕ) → i < length ks → k ≡ get_or ks i d
+    → bytes_eq directory (path_of k) ≡ false → rows_from directory (drop i ks) ≡ all → rows_from directory (drop (i + 1) ks) ≡ all
+later_row directory k d ks all i inside is other same =
+    let next = one_on k d ks i inside is in
+    let passed : rows_from directory (k ∷ drop (i + 1) ks) ≡ rows_from directory (drop (i + 1) ks) = rw other refl in
+    sym passed ∙ sym (ap (rows_from directory) next) ∙ same
