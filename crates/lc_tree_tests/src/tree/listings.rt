@@ -29,7 +29,10 @@ const CASES: &[Case] = &[
     (&[(b"/", Kind::Dir)], BAD_NAME),
     (&[(b"x\0", Kind::File)], BAD_NAME),
     (&[(b"a", Kind::File), (b"b/", Kind::Dir)], BAD_NAME),
-    (&[(b"", Kind::File), (b"a", Kind::Other(OtherKind::Special))], BAD_NAME),
+    (
+        &[(b"", Kind::File), (b"a", Kind::Other(OtherKind::Special))],
+        BAD_NAME,
+    ),
     // A bad name goes before a name that stands twice.
     (&[(b"", Kind::File), (b"", Kind::File)], BAD_NAME),
     (
@@ -39,7 +42,11 @@ const CASES: &[Case] = &[
     (&[(b"a", Kind::File), (b"a", Kind::Dir)], TWICE),
     (&[(b"a", Kind::File), (b"a", Kind::File)], TWICE),
     (
-        &[(b"b", Kind::File), (b"a", Kind::File), (b"b", Kind::Other(OtherKind::Special))],
+        &[
+            (b"b", Kind::File),
+            (b"a", Kind::File),
+            (b"b", Kind::Other(OtherKind::Special)),
+        ],
         TWICE,
     ),
     (&[], Ok(&[])),

@@ -15,7 +15,10 @@ const NODES: Sketch = Sketch::Dir(&[
     ),
     (
         b"bad",
-        Sketch::Dir(&[(b"..", Sketch::Other(OtherKind::Special)), (b"..", Sketch::Other(OtherKind::Special))]),
+        Sketch::Dir(&[
+            (b"..", Sketch::Other(OtherKind::Special)),
+            (b"..", Sketch::Other(OtherKind::Special)),
+        ]),
     ),
     (
         b"all",

@@ -59,7 +59,7 @@ fn read_given(reads: Reads, at: usize, buffer: &mut [u8]) -> IoResult<usize>
         return Ok(0);
     }
     let Some(names) = reads[at] else {
-        return Err(Error::from(ErrorKind::Other(OtherKind::Special)));
+        return Err(Error::from(ErrorKind::Other));
     };
     let len = names.len().min(buffer.len());
     buffer[..len].copy_from_slice(&names[..len]);

@@ -148,7 +148,10 @@ const CASES: &[Case] = &[
     },
     Case {
         reads: Some(&[Some(b"l\0"), Some(b"f\0")]),
-        directories: &[(b"", Ok(&[(b"f", Kind::File), (b"l", Kind::Other(OtherKind::Special))]))],
+        directories: &[(
+            b"",
+            Ok(&[(b"f", Kind::File), (b"l", Kind::Other(OtherKind::Special))]),
+        )],
         ..GIVEN
     },
     Case {
