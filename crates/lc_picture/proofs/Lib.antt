@@ -4,3 +4,4 @@ pub mod References
 pub mod Outlines
 pub mod Boxing
 pub mod Pages
+pub mod Nesting

@@ -1,5 +1,6 @@
 -- Texts of pieces that are written one after the other.
-use Rattle.std.proofs.Common.{◌≡◌, ℕ, ◌+◌, ◌-◌, ◌<◌, List, [], ◌∷◌, ◌++◌, suc, length, take, get_or, flat_map, refl, sym, ap, ap₂, ◌∙◌, append_assoc, arith}
+use Rattle.std.proofs.Common.{◌≡◌, ℕ, ◌+◌, ◌-◌, ◌<◌, List, [], ◌∷◌, ◌++◌, suc, length, take, get_or, flat_map, refl, sym, ap, ap₂, ◌∙◌}
+use Rattle.std.proofs.Common.{append_assoc, arith}
 use Rattle.std.proofs.lemmas.Grind.{flat_map-append, take_at_read}
 use Rattle.std.proofs.lemmas.List.{append-nil, flat_map_more}
 use Rattle.lc_picture.specs.Boxes.{closings}
@@ -37,7 +38,8 @@ pub texts_of_each : {X : Type 0} (pieces : X → List Piece) (xs : List X)
     → flat_map (λ x. text_of (pieces x)) xs ≡ text_of (flat_map pieces xs)
 texts_of_each pieces [] = refl
 texts_of_each pieces (x ∷ xs) =
-    ap (λ (t : List ℕ). text_of (pieces x) ++ t) (texts_of_each pieces xs) ∙ sym (flat_map-append piece_text (pieces x) (flat_map pieces xs))
+    ap (λ (t : List ℕ). text_of (pieces x) ++ t) (texts_of_each pieces xs)
+    ∙ sym (flat_map-append piece_text (pieces x) (flat_map pieces xs))
 
 -- behind the texts of some elements comes that of the next
 pub one_text_more : {X : Type 0} (text : X → List ℕ) (t0 t1 t2 : List ℕ) (x d : X) (xs : List X) (i : ℕ) → i < length xs

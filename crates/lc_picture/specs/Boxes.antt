@@ -44,14 +44,14 @@ left_beside by depth n (b ∷ bs) =
 -- the tag of a box, with its colour and its number
 abbrev pub tag : SortBy → BoxModel → List Piece
 tag by b =
-    markup (codes "<details open class=\"e") ∷ share b.colour ∷ markup (codes "\" style=\"flex-grow:") ∷ share (number_in by b.sums)
+    markup (codes "<details open class=\"e") ∷ share b.colour ∷ markup (codes "\" style=\"--n:") ∷ share (number_in by b.sums)
     ∷ markup (codes "\"><summary><b>") ∷ []
 
 -- the name and the sums of a box, and the space of the files right in it and of the directories in it that are not drawn
 abbrev pub label : BoxModel → ℕ → List Piece
 label b left =
     name (visible_path b.directory) ∷ markup (codes "</b> ")
-    ∷ (sums_pieces b.sums ++ markup (codes "</summary><div><i style=\"flex-grow:") ∷ share left ∷ markup (codes "\"></i>") ∷ [])
+    ∷ (sums_pieces b.sums ++ markup (codes "</summary><div><i style=\"--n:") ∷ share left ∷ markup (codes "\"></i>") ∷ [])
 
 -- the begin of a box
 abbrev pub opening : SortBy → BoxModel → ℕ → List Piece

@@ -36,7 +36,7 @@ cells s =
 -- a bar: its part of the largest number, and the space beside it
 abbrev pub bar : ℕ → ℕ → List Piece
 bar most n =
-    markup (codes "<td><div class=\"bar\"><i style=\"flex-grow:") ∷ share n ∷ markup (codes "\"></i><u style=\"flex-grow:")
+    markup (codes "<td><div class=\"bar\"><i style=\"--n:") ∷ share n ∷ markup (codes "\"></i><u style=\"--n:")
     ∷ share (most - n) ∷ markup (codes "\"></u></div></td></tr>\n") ∷ []
 
 abbrev pub chart_row : SortBy → ℕ → List ShownRowModel → ShownRowModel → List Piece

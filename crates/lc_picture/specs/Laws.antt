@@ -1,10 +1,17 @@
 -- What is true of pages.
-use Rattle.std.specs.Prelude.{◌≡◌, ◌+◌, ◌*◌, ◌-◌, ℕ, nat_eq, Bool, true, false, if◌then◌else◌, List, [], ◌∷◌, map, flat_map, codes}
+use Rattle.std.specs.Prelude.{◌≡◌, ◌+◌, ◌*◌, ◌-◌, ℕ, nat_eq, Bool, true, false, if◌then◌else◌, List, [], ◌∷◌, ◌++◌, map, flat_map, codes}
+use Rattle.std.specs.Prelude.{◌==◌, bytes_eq, nat_le, Option, Some, None}
 use Rattle.std.specs.List.{filter, list_any}
+use Rattle.lc_rows.specs.RowKeys.{ShownRowModel}
+use Rattle.lc_rows.specs.ShownRows.{number_in}
+use Rattle.lc_rows.specs.Views.{ViewModel}
 use Rattle.lc_view.specs.declared.table_options.SortBy.{SortBy}
+use Rattle.lc_walk.specs.declared.tally.sums.Sums.{Sums}
 use Rattle.lc_text.specs.Visible.{visible_path}
-use Rattle.lc_picture.specs.Boxes.{BoxModel, boxes_in}
+use Rattle.lc_picture.specs.Boxes.{BoxModel, box_of, boxes_in, drawn_boxes}
+use Rattle.lc_picture.specs.Chart.{visible_extension}
 use Rattle.lc_picture.specs.Escaping.{html}
+use Rattle.lc_picture.specs.Page.{page_pieces}
 use Rattle.lc_picture.specs.Pieces.{Piece, count, markup, name, share}
 
 -- whether a byte can begin or end a tag or an attribute
@@ -36,14 +43,41 @@ is_shown (share n) = false
 is_shown (count n) = true
 is_shown (name t) = true
 
--- the name and the sums of a directory
-abbrev pub shown_of : BoxModel → List Piece
-shown_of b =
-    name (visible_path b.directory) ∷ count b.sums.lines ∷ count b.sums.files ∷ count b.sums.blank ∷ count b.sums.bytes ∷ []
+abbrev pub counts : Sums → List Piece
+counts s = count s.lines ∷ count s.files ∷ count s.blank ∷ count s.bytes ∷ []
 
--- the boxes show the name and the sums of each directory that is drawn, once and in turn, and nothing else
-abbrev pub BoxesLaw : Type 0
-BoxesLaw = (by : SortBy) (bs : List BoxModel) → filter is_shown (boxes_in by 0 bs) ≡ flat_map shown_of bs
+-- the extension and the sums of a row of the chart
+abbrev pub cell_counts : Sums → List Piece
+cell_counts s = count s.files ∷ count s.lines ∷ count s.blank ∷ count s.bytes ∷ []
+
+abbrev pub shown_of_row : ShownRowModel → List Piece
+shown_of_row r = name (visible_extension r.key.extension) ∷ cell_counts r.sums
+
+abbrev pub shown_of_others : Option Sums → List Piece
+shown_of_others None = []
+shown_of_others (Some s) = cell_counts s
+
+-- the name and the sums of a directory
+abbrev pub shown_of_box : BoxModel → List Piece
+shown_of_box b = name (visible_path b.directory) ∷ counts b.sums
+
+-- a page shows the sums over all files, the extensions of the chart with their sums, and the directories that are drawn with theirs: each
+-- once, in turn, and nothing else
+abbrev pub ShownLaw : Type 0
+ShownLaw =
+    (by : SortBy) (totals : Sums) (v : ViewModel) (boxes : List BoxModel)
+    → filter is_shown (page_pieces by totals v boxes)
+    ≡ counts totals ++ ((flat_map shown_of_row v.rows ++ shown_of_others v.others) ++ flat_map shown_of_box boxes)
+
+abbrev pub without_colour : BoxModel → BoxModel
+without_colour b = record { directory = b.directory; depth = b.depth; colour = 0; sums = b.sums }
+
+-- whatever the colours, the directories that are drawn are those with at least the least number, each once
+abbrev pub DrawnLaw : Type 0
+DrawnLaw =
+    (by : SortBy) (least : ℕ) (chart kinds tree : List ShownRowModel)
+    → map without_colour (drawn_boxes by least chart kinds tree)
+    ≡ map (λ r. box_of r 0) (filter (λ r. nat_le least (number_in by r.sums)) tree)
 
 -- a piece without its name
 abbrev pub nameless : Piece → Piece
@@ -61,3 +95,28 @@ abbrev pub OutlineLaw : Type 0
 OutlineLaw =
     (by : SortBy) (bs cs : List BoxModel) → map outline bs ≡ map outline cs
     → map nameless (boxes_in by 0 bs) ≡ map nameless (boxes_in by 0 cs)
+
+-- whether a piece begins a box, and whether it ends one
+abbrev pub begins_box : Piece → Bool
+begins_box (markup t) = bytes_eq t (codes "<details open class=\"e")
+begins_box (share n) = false
+begins_box (count n) = false
+begins_box (name t) = false
+
+abbrev pub ends_box : Piece → Bool
+ends_box (markup t) = bytes_eq t (codes "</div></details>\n")
+ends_box (share n) = false
+ends_box (count n) = false
+ends_box (name t) = false
+
+-- how many boxes are open behind some pieces, if so many are before them; none, if a box is closed where none is open
+abbrev pub open_after : ℕ → List Piece → Option ℕ
+open_after n [] = Some n
+open_after n (p ∷ ps) =
+    if begins_box p then open_after (n + 1) ps
+    else if ends_box p then (if n == 0 then None else open_after (n - 1) ps)
+    else open_after n ps
+
+-- each box that is opened is closed, and no others
+abbrev pub NestingLaw : Type 0
+NestingLaw = (by : SortBy) (bs : List BoxModel) → open_after 0 (boxes_in by 0 bs) ≡ Some 0

@@ -41,7 +41,7 @@ fn push_tag(text: &mut Vec<u8>, by: SortBy, drawn: &DirectoryBox<'_>) -> Result<
 {
     text.extend_from_slice(b"<details open class=\"e")?;
     push_number(text, drawn.colour as u128)?;
-    text.extend_from_slice(b"\" style=\"flex-grow:")?;
+    text.extend_from_slice(b"\" style=\"--n:")?;
     push_number(text, number_in(by, drawn.sums))?;
     text.extend_from_slice(b"\"><summary><b>")?;
     Ok(())
@@ -58,7 +58,7 @@ fn push_label(
     push_name(text, drawn.directory, made)?;
     text.extend_from_slice(b"</b> ")?;
     push_sums(text, drawn.sums)?;
-    text.extend_from_slice(b"</summary><div><i style=\"flex-grow:")?;
+    text.extend_from_slice(b"</summary><div><i style=\"--n:")?;
     push_number(text, left)?;
     text.extend_from_slice(b"\"></i>")?;
     Ok(())

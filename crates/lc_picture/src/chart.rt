@@ -41,9 +41,9 @@ fn push_cells(text: &mut Vec<u8>, sums: Sums) -> Result<(), AllocError>
 fn push_bar(text: &mut Vec<u8>, most: u128, number: u128) -> Result<(), AllocError>
     ensures { OnOk result (text.new.items ≡ text.old.items ++ text_of (bar most number)) }
 {
-    text.extend_from_slice(b"<td><div class=\"bar\"><i style=\"flex-grow:")?;
+    text.extend_from_slice(b"<td><div class=\"bar\"><i style=\"--n:")?;
     push_number(text, number)?;
-    text.extend_from_slice(b"\"></i><u style=\"flex-grow:")?;
+    text.extend_from_slice(b"\"></i><u style=\"--n:")?;
     push_number(text, most.saturating_sub(number))?;
     text.extend_from_slice(b"\"></u></div></td></tr>\n")?;
     Ok(())

@@ -1,6 +1,6 @@
 //! Laws of the definitions that the contracts cite. The functions do nothing: their contracts are what is proved.
 
-ghost use Rattle.lc_picture.specs.Laws.{BoxesLaw, OutlineLaw, TagLaw, UnescapedLaw};
+ghost use Rattle.lc_picture.specs.Laws.{DrawnLaw, NestingLaw, OutlineLaw, ShownLaw, TagLaw, UnescapedLaw};
 
 /// A name in the page begins and ends no tag and no attribute, and with its character references read it is the name as terminals show it.
 pub fn names_are_never_markup()
@@ -8,9 +8,16 @@ pub fn names_are_never_markup()
     ensures reads_back { UnescapedLaw }
 {}
 
-/// The boxes show the name and the sums of each directory that is drawn, once and in turn, and nothing else.
-pub fn boxes_are_the_directories_and_their_sums()
-    ensures { BoxesLaw }
+/// A page shows the sums over all files, each extension of the chart with its sums, and each directory that is drawn with its sums: once, and
+/// no other numbers or names. The directories that are drawn are those with enough lines, or with enough of the number that is asked for.
+pub fn a_page_shows_each_directory_once()
+    ensures shown { ShownLaw }
+    ensures drawn { DrawnLaw }
+{}
+
+/// Each box that is opened is closed, and no box is closed where none is open.
+pub fn boxes_are_nested()
+    ensures { NestingLaw }
 {}
 
 /// But for the names themselves, the boxes are the same for any names.

@@ -19,6 +19,6 @@ mod style;
 mod sums;
 
 pub use laws::{
-    boxes_are_the_directories_and_their_sums, names_are_never_markup, names_change_no_tag,
+    a_page_shows_each_directory_once, boxes_are_nested, names_are_never_markup, names_change_no_tag,
 };
 pub use report_page::page;

@@ -26,15 +26,15 @@ pub(crate) fn style() -> &'static [u8]
       th,td{padding:0 .6rem;text-align:right}\n\
       tr>:first-child{text-align:left}\n\
       .bar{display:flex;width:18rem;height:.8em}\n\
-      .bar i{outline:1px solid #888}\n\
+      .bar i,.bar u{flex-grow:var(--n)}\n.bar i{outline:1px solid #888}\n\
       .tree{display:flex;flex-direction:column;height:92vh;min-height:42rem;overflow:auto}\n\
-      details{position:relative;flex:1 0 0;min-width:11rem}\n\
+      details{position:relative;flex:var(--n) 0 0;min-width:11em}\n\
       details:hover,details:focus-within{min-height:2.8em}\n\
-      details:not([open]){flex-grow:0!important;min-height:1.5em}\n\
-      summary{position:absolute;inset:0 auto 0 0;box-sizing:border-box;width:11rem;padding:0 .3rem;overflow:hidden;overflow-wrap:anywhere;\
-      border:1px solid #888;border-width:1px 0 0 1px}\n\
-      details>div{position:absolute;inset:0 0 0 11rem;display:flex;flex-direction:column}\n\
-      details>div>i{order:1;flex:1 0 0;overflow:hidden;padding-left:.3rem;border-top:1px solid #8888}\n\
+      details:not([open]){flex-grow:0;min-height:1.5em}\n\
+      summary{position:absolute;inset:0 auto 0 0;box-sizing:border-box;width:11em;padding:0 .3rem;overflow:hidden;\
+      overflow-wrap:anywhere;border:1px solid #888;border-width:1px 0 0 1px}\n\
+      details>div{position:absolute;inset:0 0 0 11em;display:flex;flex-direction:column}\n\
+      details>div>i{order:1;flex:var(--n) 0 0;overflow:hidden;padding-left:.3rem}\n\
       details>div>i:not(:only-child)::after{content:\"others\"}\n\
       .e0>summary,.e0 .bar i{background:#4e79a780}\n\
       .e1>summary,.e1 .bar i{background:#f28e2b80}\n\
@@ -45,7 +45,7 @@ pub(crate) fn style() -> &'static [u8]
       .e6>summary,.e6 .bar i{background:#b07aa180}\n\
       .e7>summary,.e7 .bar i{background:#9c755f80}\n\
       .e8>summary,.e8 .bar i{background:#bab0ac80}\n\
-      @media print{.tree{height:24cm;overflow:visible}}\n"
+      @media print{.tree{height:24cm;overflow:hidden;break-inside:avoid;font-size:7pt}}\n"
 }
 
 /// What is between the style and the sums.

@@ -3,7 +3,7 @@
 use crate::tree::checks::{Entries, Given, Listed, check_files, check_listings};
 use crate::tree::system::{Reads, Signals, System};
 use lc_census::WholeFault;
-use lc_tree::{FileSystems, Kind, OtherKind, ReadFault, SysTree};
+use lc_tree::{FileSystems, Kind, OtherKind, ReadFault, SysTree, Tree};
 use std::os::unix::fs::symlink;
 use std::process::Abort;
 use std::sync::atomic::AtomicU64;
@@ -213,5 +213,22 @@ fn folders_are_listed_and_files_opened(rt: HostRuntime) -> Result<(), Fail> {
     make_folder(&rt)?;
     check_all(&rt, &rt)?;
     fs::remove_dir_all(&rt, FOLDER)?;
+    Ok(())
+}
+
+/// The kind of `/proc` in a tree of the whole system that enters these file systems.
+fn kind_of_proc(rt: &HostRuntime, entered: FileSystems) -> Result<Option<Kind>, ReadFault> {
+    let tree = SysTree::new(rt, rt.alloc(), "/", entered)?;
+    let mut names = Vec::with_capacity(rt.alloc(), 1)?;
+    names.push(b"proc".to_vec(rt.alloc())?)?;
+    let entries = tree.look(rt.alloc(), b"", names)?;
+    Ok(entries.first().map(|entry| entry.kind))
+}
+
+#[test]
+fn a_tree_may_stay_on_one_file_system(rt: HostRuntime) -> Result<(), Fail> {
+    let mounted = Kind::Other(OtherKind::Mounted);
+    assert!(rt; kind_of_proc(&rt, FileSystems::All)? == Some(Kind::Dir));
+    assert!(rt; kind_of_proc(&rt, FileSystems::One)? == Some(mounted));
     Ok(())
 }

@@ -16,7 +16,7 @@ returns c =
     let b = c.args.drawn.now in
     let named : Piece = name (visible_path b.directory) in
     let first : Piece = markup (codes "</b> ") in
-    let second : Piece = markup (codes "</summary><div><i style=\"flex-grow:") in
+    let second : Piece = markup (codes "</summary><div><i style=\"--n:") in
     let left : Piece = share c.args.left in
     let last : Piece = markup (codes "\"></i>") in
     two_texts t0 t2 t6 (named ∷ first ∷ []) (sums_pieces b.sums ++ second ∷ left ∷ last ∷ [])

@@ -12,7 +12,7 @@ returns c =
     let b = c.args.drawn.now in
     five_pieces c.args.text.now.items t1 c.push_number.new.text.items t3 c.push_number-2.new.text.items
     c.extend_from_slice-3.new.self.items (markup (codes "<details open class=\"e")) (share b.colour)
-    (markup (codes "\" style=\"flex-grow:")) (share (number_in c.args.by b.sums)) (markup (codes "\"><summary><b>"))
+    (markup (codes "\" style=\"--n:")) (share (number_in c.args.by b.sums)) (markup (codes "\"><summary><b>"))
     c.in_ok-extend_from_slice.ensures.items
     (c.in_ok-push_number.ensures ∙ ap (λ (d : BoxModel). t1 ++ decimal d.colour) c.drawn.view_is)
     c.in_ok-extend_from_slice-2.ensures.items

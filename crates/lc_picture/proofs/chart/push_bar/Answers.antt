@@ -7,8 +7,8 @@ pub returns : goal.returns
 returns c =
     five_pieces c.args.text.now.items c.extend_from_slice.new.self.items c.push_number.new.text.items
     c.extend_from_slice-2.new.self.items c.push_number-2.new.text.items c.extend_from_slice-3.new.self.items
-    (markup (codes "<td><div class=\"bar\"><i style=\"flex-grow:")) (share _)
-    (markup (codes "\"></i><u style=\"flex-grow:")) (share _) (markup (codes "\"></u></div></td></tr>\n"))
+    (markup (codes "<td><div class=\"bar\"><i style=\"--n:")) (share _)
+    (markup (codes "\"></i><u style=\"--n:")) (share _) (markup (codes "\"></u></div></td></tr>\n"))
     c.in_ok-extend_from_slice.ensures.items c.in_ok-push_number.ensures c.in_ok-extend_from_slice-2.ensures.items
     (c.in_ok-push_number-2.ensures ∙ ap (λ (n : ℕ). c.extend_from_slice-2.new.self.items ++ decimal n) c.saturating_sub.ensures)
     c.in_ok-extend_from_slice-3.ensures.items

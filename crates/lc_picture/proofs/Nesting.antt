@@ -1,0 +1,39 @@
+-- Boxes that are opened and closed.
+use Rattle.std.proofs.Common.{◌≡◌, ℕ, ◌+◌, ◌-◌, ◌≤◌, ◌==◌, false, List, [], ◌∷◌, ◌++◌, min, suc, zero, Some, None, if◌then◌else◌}
+use Rattle.std.proofs.Common.{refl, sym, ap, ◌∙◌, append_assoc, arith}
+use Rattle.std.proofs.lemmas.Bool.{ne_eqb}
+use Rattle.std.proofs.lemmas.List.{append-nil}
+use Rattle.lc_rows.specs.ShownRows.{number_in}
+use Rattle.lc_view.specs.declared.table_options.SortBy.{SortBy}
+use Rattle.lc_picture.specs.Boxes.{BoxModel, boxes_in, closings, left_beside, opening}
+use Rattle.lc_picture.specs.Laws.{NestingLaw, open_after}
+use Rattle.lc_picture.specs.Pieces.{Piece}
+
+one_closed : (n : ℕ) (ps : List Piece) → 1 ≤ n → (if n == 0 then None else open_after (n - 1) ps) ≡ open_after (n - 1) ps
+one_closed n ps some = let open_box : (n == 0) ≡ false = ne_eqb n 0 (λ none. absurd (omega arith)) in rw open_box refl
+
+closed_after : (n k : ℕ) (ps : List Piece) → k ≤ n → open_after n (closings k ++ ps) ≡ open_after (n - k) ps
+closed_after n zero ps le = let same : n ≡ n - 0 = omega arith in ap (λ (m : ℕ). open_after m ps) same
+closed_after n (suc k) ps le =
+    let next : n - 1 - k ≡ n - suc k = omega arith in
+    one_closed n (closings k ++ ps) (omega arith) ∙ closed_after (n - 1) k ps (omega arith) ∙ ap (λ (m : ℕ). open_after m ps) next
+
+opened_after : (n : ℕ) (by : SortBy) (b : BoxModel) (left : ℕ) (ps : List Piece)
+    → open_after n (opening by b left ++ ps) ≡ open_after (n + 1) ps
+opened_after n by b left ps = refl
+
+all_closed : (by : SortBy) (within : ℕ) (bs : List BoxModel) → open_after within (boxes_in by within bs) ≡ Some 0
+all_closed by within [] =
+    let none : within - within ≡ 0 = omega arith in
+    ap (open_after within) (sym (append-nil (closings within))) ∙ closed_after within within [] (omega arith) ∙ ap (λ (n : ℕ). Some n) none
+all_closed by within (b ∷ bs) =
+    let left = left_beside by b.depth (number_in by b.sums) bs in
+    let rest = boxes_in by (min within b.depth + 1) bs in
+    let open_boxes : within - (within - b.depth) ≡ min within b.depth = omega arith in
+    ap (open_after within) (append_assoc (closings (within - b.depth)) (opening by b left) rest)
+    ∙ closed_after within (within - b.depth) (opening by b left ++ rest) (omega arith)
+    ∙ opened_after (within - (within - b.depth)) by b left rest ∙ ap (λ (n : ℕ). open_after (n + 1) rest) open_boxes
+    ∙ all_closed by (min within b.depth + 1) bs
+
+pub nesting_law : NestingLaw
+nesting_law by bs = all_closed by 0 bs

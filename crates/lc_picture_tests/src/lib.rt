@@ -1,0 +1,5 @@
+//! The tests of the picture of a tree.
+#![tactic(auto)]
+
+#[cfg(test)]
+mod picture;

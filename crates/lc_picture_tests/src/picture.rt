@@ -1,0 +1,3 @@
+//! What no clause says: worked cases, and that calls succeed if there is memory.
+
+mod pages;

@@ -1,0 +1,274 @@
+//! Pages of reports.
+
+use lc_census::{Count, Eol};
+use lc_picture::page;
+use lc_rules::TextState;
+use lc_view::SortBy;
+use lc_walk::{FileLine, Report, ReportLists, Sums, TallyRow};
+use std::alloc::{AllocError, Global};
+use std::test::Fail;
+
+/// A path, and the lines, blank lines and bytes.
+type File = (&'static [u8], [u64; 3]);
+
+/// An extension, and the files, lines, blank lines and bytes.
+type Row = (Option<&'static [u8]>, [u64; 4]);
+
+/// A report, and the parts of its page: the sums, the rows of the chart, the word for the number that is drawn, and the boxes.
+struct Case {
+    name: &'static str,
+    sort: Option<SortBy>,
+    rows: &'static [Row],
+    totals: [u64; 4],
+    files: &'static [File],
+    parts: [&'static [u8]; 4],
+}
+
+const CASES: &[Case] = &[
+    Case {
+        name: "no_files",
+        sort: None,
+        rows: &[],
+        totals: [0, 0, 0, 0],
+        files: &[],
+        parts: [b"lines 0, files 0, blank 0, bytes 0", b"", b"lines", b""],
+    },
+    Case {
+        name: "directories_in_directories",
+        sort: None,
+        rows: &[
+            (None, [1, 4, 1, 9]),
+            (Some(b"c"), [3, 13, 4, 85]),
+            (Some(b"h"), [1, 1, 0, 15]),
+        ],
+        totals: [5, 18, 5, 109],
+        files: &[
+            (b"Makefile", [4, 1, 9]),
+            (b"src-old/main.c", [3, 1, 15]),
+            (b"src/main.c", [7, 0, 50]),
+            (b"src/view/old/rows.h", [1, 0, 15]),
+            (b"src/view/rows.c", [3, 3, 20]),
+        ],
+        parts: [
+            b"lines 18, files 5, blank 5, bytes 109",
+            b"<tr class=\"e0\"><th>.c</th><td>3</td><td>13</td><td>4</td><td>85</td><td><div class=\"bar\">\
+                <i style=\"--n:13\"></i><u style=\"--n:0\"></u></div></td></tr>\n\
+                <tr class=\"e1\"><th>-</th><td>1</td><td>4</td><td>1</td><td>9</td><td><div class=\"bar\">\
+                <i style=\"--n:4\"></i><u style=\"--n:9\"></u></div></td></tr>\n\
+                <tr class=\"e2\"><th>.h</th><td>1</td><td>1</td><td>0</td><td>15</td><td><div class=\"bar\">\
+                <i style=\"--n:1\"></i><u style=\"--n:12\"></u></div></td></tr>\n",
+            b"lines",
+            b"<details open class=\"e0\" style=\"--n:18\"><summary><b>.</b> lines 18, files 5, blank 5, bytes 109\
+                </summary><div><i style=\"--n:4\"></i><details open class=\"e0\" style=\"--n:11\"><summary><b>src\
+                </b> lines 11, files 3, blank 3, bytes 85</summary><div><i style=\"--n:7\"></i>\
+                <details open class=\"e0\" style=\"--n:4\"><summary><b>view</b> lines 4, files 2, blank 3, bytes 35\
+                </summary><div><i style=\"--n:3\"></i><details open class=\"e2\" style=\"--n:1\"><summary><b>old\
+                </b> lines 1, files 1, blank 0, bytes 15</summary><div><i style=\"--n:1\"></i></div></details>\n\
+                </div></details>\n\
+                </div></details>\n\
+                <details open class=\"e0\" style=\"--n:3\"><summary><b>src-old</b> lines 3, files 1, blank 1, bytes 15\
+                </summary><div><i style=\"--n:3\"></i></div></details>\n\
+                </div></details>\n",
+        ],
+    },
+    // The directory `tiny` has less than a thousandth of the bytes, so it has no box.
+    Case {
+        name: "markup_and_hidden_bytes_in_names",
+        sort: Some(SortBy::Bytes),
+        rows: &[
+            (None, [1, 2, 0, 1_995]),
+            (Some(b"<i>"), [1, 1, 0, 1_000]),
+            (Some(b"h"), [2, 5, 0, 5]),
+        ],
+        totals: [4, 8, 0, 3_000],
+        files: &[
+            (b"<b>&amp;\"'/x.<i>", [1, 0, 1_000]),
+            (b"deep/z.h", [0, 0, 3]),
+            (b"tiny/w.h", [5, 0, 2]),
+            (b"\xff/\xe2\x80\xae/y", [2, 0, 1_995]),
+        ],
+        parts: [
+            b"lines 8, files 4, blank 0, bytes 3000",
+            b"<tr class=\"e0\"><th>-</th><td>1</td><td>2</td><td>0</td><td>1995</td><td><div class=\"bar\">\
+                <i style=\"--n:1995\"></i><u style=\"--n:0\"></u></div></td></tr>\n\
+                <tr class=\"e1\"><th>.&#60;i&#62;</th><td>1</td><td>1</td><td>0</td><td>1000</td><td><div class=\"bar\">\
+                <i style=\"--n:1000\"></i><u style=\"--n:995\"></u></div></td></tr>\n\
+                <tr class=\"e2\"><th>.h</th><td>2</td><td>5</td><td>0</td><td>5</td><td><div class=\"bar\">\
+                <i style=\"--n:5\"></i><u style=\"--n:1990\"></u></div></td></tr>\n",
+            b"bytes",
+            b"<details open class=\"e0\" style=\"--n:3000\"><summary><b>.</b> lines 8, files 4, blank 0, bytes 3000\
+                </summary><div><i style=\"--n:2\"></i><details open class=\"e1\" style=\"--n:1000\"><summary>\
+                <b>&#60;b&#62;&#38;amp;&#34;&#39;</b> lines 1, files 1, blank 0, bytes 1000</summary><div>\
+                <i style=\"--n:1000\"></i></div></details>\n\
+                <details open class=\"e2\" style=\"--n:3\"><summary><b>deep</b> lines 0, files 1, blank 0, bytes 3\
+                </summary><div><i style=\"--n:3\"></i></div></details>\n\
+                <details open class=\"e0\" style=\"--n:1995\"><summary><b>\\xff</b> lines 2, files 1, blank 0, bytes 1995\
+                </summary><div><i style=\"--n:0\"></i><details open class=\"e0\" style=\"--n:1995\"><summary>\
+                <b>\\xe2\\x80\\xae</b> lines 2, files 1, blank 0, bytes 1995</summary><div><i style=\"--n:1995\"></i>\
+                </div></details>\n\
+                </div></details>\n\
+                </div></details>\n",
+        ],
+    },
+];
+
+/// Extensions, of which the chart has no place for the last two.
+const MANY: &[Row] = &[
+    (Some(b"a"), [1, 40, 0, 0]),
+    (Some(b"b"), [1, 39, 1, 2]),
+    (Some(b"c"), [1, 38, 2, 4]),
+    (Some(b"d"), [1, 37, 3, 6]),
+    (Some(b"e"), [1, 36, 4, 8]),
+    (Some(b"f"), [1, 35, 5, 10]),
+    (Some(b"g"), [1, 34, 6, 12]),
+    (Some(b"h"), [1, 33, 7, 14]),
+    (Some(b"i"), [1, 32, 8, 16]),
+    (Some(b"j"), [1, 31, 9, 18]),
+    (Some(b"k"), [1, 30, 10, 20]),
+    (Some(b"l"), [1, 29, 11, 22]),
+    (Some(b"m"), [1, 28, 12, 24]),
+    (Some(b"n"), [1, 27, 13, 26]),
+    (Some(b"o"), [1, 26, 14, 28]),
+    (Some(b"p"), [1, 25, 15, 30]),
+    (Some(b"q"), [1, 24, 16, 32]),
+    (Some(b"r"), [1, 23, 17, 34]),
+    (Some(b"s"), [1, 22, 18, 36]),
+    (Some(b"t"), [1, 21, 19, 38]),
+    (Some(b"u"), [1, 20, 20, 40]),
+    (Some(b"v"), [1, 19, 21, 42]),
+];
+
+const BETWEEN: [&[u8]; 5] = [
+    b"</style>\n</head>\n<body>\n<h1>Lines by directory</h1>\n<p>",
+    b"</p>\n<h2>By extension</h2>\n<table>\n\
+      <tr><th>extension</th><th>files</th><th>lines</th><th>blank</th><th>bytes</th><td></td></tr>\n",
+    b"</table>\n<h2>By directory</h2>\n<p>Each box is as tall as its share of the ",
+    b", in the colour of the extension that has most of them. \
+      Others are the files right in a directory, and directories with less than a thousandth of all. \
+      Fold a box to make room for the rest.</p>\n<div class=\"tree\">\n",
+    b"</div>\n</body>\n</html>\n",
+];
+
+fn sums([files, lines, blank, bytes]: [u64; 4]) -> Sums {
+    Sums {
+        files,
+        lines: u128::from(lines),
+        blank: u128::from(blank),
+        bytes: u128::from(bytes),
+    }
+}
+
+fn row_of(alloc: Global, row: &Row) -> Result<TallyRow, AllocError> {
+    let (extension, [files, lines, blank, bytes]) = *row;
+    let ext = match extension {
+        Some(name) => Some(name.to_vec(alloc)?),
+        None => None,
+    };
+    Ok(TallyRow {
+        ext,
+        text: TextState::Unspecified,
+        eol: Eol::Lf,
+        files,
+        lines: u128::from(lines),
+        blank: u128::from(blank),
+        bytes: u128::from(bytes),
+    })
+}
+
+fn rows_of(alloc: Global, rows: &[Row]) -> Result<Vec<TallyRow>, AllocError> {
+    let mut made = Vec::new(alloc);
+    for row in rows {
+        made.push(row_of(alloc, row)?)?;
+    }
+    Ok(made)
+}
+
+fn file_of(alloc: Global, file: &File) -> Result<FileLine, AllocError> {
+    let (path, [lines, blank, bytes]) = *file;
+    Ok(FileLine {
+        path: path.to_vec(alloc)?,
+        text: TextState::Unspecified,
+        count: Count {
+            lines,
+            blank,
+            bytes,
+            eol: Eol::Lf,
+        },
+    })
+}
+
+fn files_of(alloc: Global, files: &[File]) -> Result<Vec<FileLine>, AllocError> {
+    let mut made = Vec::new(alloc);
+    for file in files {
+        made.push(file_of(alloc, file)?)?;
+    }
+    Ok(made)
+}
+
+fn report_of(
+    alloc: Global,
+    rows: &[Row],
+    totals: [u64; 4],
+    files: &[File],
+) -> Result<Report, AllocError> {
+    Ok(Report {
+        rows: rows_of(alloc, rows)?,
+        totals: sums(totals),
+        directories: 1,
+        entries: 0,
+        lists: ReportLists {
+            files: true,
+            left_out: false,
+        },
+        files: files_of(alloc, files)?,
+        faults: Vec::new(alloc),
+        skipped: Vec::new(alloc),
+    })
+}
+
+/// Whether the page of a report ends with these parts, from its sums on.
+fn has_parts(alloc: Global, case: &Case) -> Result<bool, AllocError> {
+    let report = report_of(alloc, case.rows, case.totals, case.files)?;
+    let mut body = Vec::new(alloc);
+    for (between, part) in BETWEEN.iter().zip(&case.parts) {
+        body.extend_from_slice(between)?;
+        body.extend_from_slice(part)?;
+    }
+    body.extend_from_slice(BETWEEN[4])?;
+    let text = page(alloc, &report, case.sort)?;
+    Ok(text.ends_with(&body))
+}
+
+#[test]
+fn pages(rt: HostRuntime) -> Result<(), Fail> {
+    for case in CASES {
+        assert!(rt; has_parts(rt.alloc(), case)?, "{}", case.name);
+    }
+    Ok(())
+}
+
+#[test]
+fn a_page_is_one_whole_document(rt: HostRuntime) -> Result<(), Fail> {
+    let report = report_of(rt.alloc(), &[], [0, 0, 0, 0], &[])?;
+    let text = page(rt.alloc(), &report, None)?;
+    assert!(rt;
+        text.starts_with(b"<!DOCTYPE html>\n<html lang=\"en\">\n<head>\n<meta charset=\"utf-8\">\n")
+    );
+    Ok(())
+}
+
+#[test]
+fn extensions_that_the_chart_has_no_place_for(rt: HostRuntime) -> Result<(), Fail> {
+    let report = report_of(rt.alloc(), MANY, [22, 649, 231, 462], &[])?;
+    let mut end =
+        b"<tr><th>others</th><td>2</td><td>39</td><td>41</td><td>82</td><td></td></tr>\n".to_vec(
+            rt.alloc(),
+        )?;
+    end.extend_from_slice(BETWEEN[2])?;
+    end.extend_from_slice(b"lines")?;
+    end.extend_from_slice(BETWEEN[3])?;
+    end.extend_from_slice(BETWEEN[4])?;
+    let text = page(rt.alloc(), &report, Some(SortBy::Lines))?;
+    assert!(rt; text.ends_with(&end));
+    Ok(())
+}
