@@ -1,6 +1,6 @@
 -- Rules that are read from a slice.
-use Rattle.std.proofs.Common.{◌≡◌, ◌≢◌, ◌≤◌, ◌<◌, ◌+◌, ◌∙◌, ◌++◌, ℕ, zero, suc, List, [], ◌∷◌, length, take, drop, map, Result, Ok, Err}
-use Rattle.std.proofs.Common.{Some, ap, sym, refl, subst, arith, append_assoc, append-nil, length-append}
+use Rattle.std.proofs.Common.{◌≡◌, ◌≢◌, ◌<◌, ◌+◌, ◌∙◌, ◌++◌, ℕ, zero, suc, List, [], ◌∷◌, length, take, drop, Ok, Err}
+use Rattle.std.proofs.Common.{Some, ap, sym, refl, arith, append_assoc, append-nil, length-append}
 use Rattle.std.specs.Borrow.{Bor}
 use Rattle.std.specs.List.{concat}
 use Rattle.lc_arguments.specs.Repeated.{lines_text}
@@ -8,7 +8,6 @@ use Rattle.lc_census.specs.Reads.{Answer, AnyRoom, Reads, Stop, at_end, at_failu
 use Rattle.lc_level.specs.RuleTextReads.{ReadsRuleText}
 use Rattle.lc_level.specs.declared.rule_text.RulesFileFault.{RulesFileFault}
 use Rattle.lc_level.specs.declared.rule_text.RulesFileFault.TheVariants as fault
-use Rattle.lc_rules.specs.Limits.{max_rule_bytes}
 use Rattle.lc_program.specs.Rules.{AnswersPatterns, patterns_text}
 
 -- what a read of a slice may give

@@ -1,5 +1,5 @@
 -- How a count is answered, by what was read and written.
-use Rattle.std.specs.Prelude.{◌≡◌, ◌⊎◌, ◌||◌, ℕ, List, [], ◌++◌, map, if◌then◌else◌, Option, Some, None, Result, Ok, Err, Vec, is_some}
+use Rattle.std.specs.Prelude.{◌≡◌, ◌⊎◌, ◌||◌, ℕ, List, map, if◌then◌else◌, Result, Ok, Err, Vec, is_some}
 use Rattle.std.specs.Prelude.{option_map}
 use Rattle.std.specs.Borrow.{Bor}
 use Rattle.std.specs.Global.{Global}

@@ -1,6 +1,6 @@
 -- The list of paths that words name, in a file or on the input.
 use Rattle.std.specs.Prelude.{◌≡◌, ◌≢◌, ◌⊎◌, ◌≤◌, ◌+◌, ℕ, true, false, List, [], ◌∷◌, ◌++◌, map, length, Option, Some, None}
-use Rattle.std.specs.Prelude.{Result, Ok, Err, Vec, bytes_eq, cond, codes, string_bytes}
+use Rattle.std.specs.Prelude.{Result, Ok, Err, Vec, codes, string_bytes}
 use Rattle.std.specs.Borrow.{Bor}
 use Rattle.std.specs.Global.{Global}
 use Rattle.std.specs.List.{concat, list_any}
@@ -10,7 +10,6 @@ use Rattle.lc_census.specs.declared.whole.WholeFault.{WholeFault}
 use Rattle.lc_census.specs.declared.whole.WholeFault.TheVariants.{Read, TooLong, Memory}
 use Rattle.lc_text.specs.Lines.{input_paths_of}
 use Rattle.lc_text.specs.PathLines.{is_bad_path, path_of}
-use Rattle.lc_text.specs.Visible.{visible_bytes}
 use Rattle.lc_text.specs.declared.lines.PathEnd.{PathEnd}
 use Rattle.lc_tree.specs.Trees.{Contents}
 use Rattle.lc_program.specs.Causes.{bad_path_line, no_path_line}

@@ -1,5 +1,5 @@
 -- How the program ends on words, by what it read, wrote and told.
-use Rattle.std.specs.Prelude.{◌≡◌, ◌⊎◌, ℕ, Bool, true, false, List, [], ◌∷◌, Result, Ok, Err, codes, string_bytes}
+use Rattle.std.specs.Prelude.{◌≡◌, ◌⊎◌, ℕ, Bool, true, false, List, [], Result, Ok, Err, codes, string_bytes}
 use Rattle.lc_census.specs.declared.source.Failed.{Failed}
 use Rattle.lc_census.specs.Reads.{Answer}
 use Rattle.lc_program.specs.Causes.{HasNumber, cause_line}
@@ -17,7 +17,7 @@ use Rattle.lc_text.specs.Writes.{Writes, StopsWriting}
 use Rattle.lc_arguments.specs.declared.request.Request.{Request}
 use Rattle.lc_arguments.specs.declared.request.Request.TheVariants.{CheckJoined, Check, Count, Explain}
 use Rattle.lc_program.specs.declared.answered.Answered.{Answered}
-use Rattle.lc_program.specs.declared.answered.Answered.TheVariants.{Checked, Counted, Explained}
+use Rattle.lc_program.specs.declared.answered.Answered.TheVariants.{Counted}
 use Rattle.lc_program.specs.declared.cause.Cause.{Cause}
 use Rattle.lc_program.specs.declared.cause.Cause.TheVariants.{Memory, Unwritten}
 use Rattle.lc_program.specs.declared.ending.Ending.{Ending}
@@ -60,15 +60,15 @@ module _ {E : Type 0} (may_take : E → List ℕ → Result ℕ Failed → E →
   TellsUnread other request answered err told = told ≡ err
 
   -- and which attributes no attribute file names
-  abbrev pub TellsUnnamed : Request → Answered → E → E → Type 0
-  TellsUnnamed (Count c) (Counted faults unnamed) err told = Tells may_take err (string_bytes unnamed) told
-  TellsUnnamed request answered err told = told ≡ err
+  abbrev pub TellsUnnamed : Answered → E → E → Type 0
+  TellsUnnamed (Counted faults unnamed) err told = Tells may_take err (string_bytes unnamed) told
+  TellsUnnamed answered err told = told ≡ err
 
   -- what could not be read is told, which attributes are not named, and perhaps a hint
   abbrev pub Comments : (List ℕ → Bool → Type 0) → Terminals → Request → Answered → E → E → Type 0
   Comments may_lie terminals request answered err told =
       (unread : E) × TellsUnread (format_for terminals.output) request answered err unread
-      × ((unnamed : E) × TellsUnnamed request answered unread unnamed × Hints may_lie terminals.error request unnamed told)
+      × ((unnamed : E) × TellsUnnamed answered unread unnamed × Hints may_lie terminals.error request unnamed told)
 
 -- a text was written, as help is; or it was not, or not whole
 abbrev pub EndsShown : {O E : Type 0} → (O → List ℕ → Result ℕ Failed → O → Type 0) → (E → List ℕ → Result ℕ Failed → E → Type 0)

@@ -1,6 +1,6 @@
 -- The lines that tell of attributes which no attribute file names.
-use Rattle.std.specs.Prelude.{◌≡◌, ℕ, List, ◌++◌, flat_map, codes, map}
-use Rattle.std.specs.Borrow.{Bor}
+use Rattle.std.specs.Prelude.{◌≡◌, ℕ, List, ◌++◌, Vec, flat_map, codes}
+use Rattle.std.specs.Global.{Global}
 use Rattle.lc_text.specs.Visible.{visible_bytes}
 
 -- no attribute file names this attribute
@@ -8,9 +8,9 @@ abbrev pub unnamed_line : List ℕ → List ℕ
 unnamed_line attribute = codes "lc: no attribute file names " ++ visible_bytes attribute ++ codes "\n"
 
 -- a line for each
-abbrev pub unnamed_lines_of : List (Bor (List ℕ)) → List ℕ
-unnamed_lines_of attributes = flat_map (λ (a : Bor (List ℕ)). unnamed_line a.now) attributes
+abbrev pub unnamed_lines_of : List (Vec ℕ Global) → List ℕ
+unnamed_lines_of attributes = flat_map (λ (a : Vec ℕ Global). unnamed_line a.items) attributes
 
 -- lines for some attributes
 abbrev pub AreUnnamedLines : List ℕ → Type 0
-AreUnnamedLines text = (attributes : List (Bor (List ℕ))) × (text ≡ unnamed_lines_of attributes)
+AreUnnamedLines text = (attributes : List (Vec ℕ Global)) × (text ≡ unnamed_lines_of attributes)

@@ -42,7 +42,7 @@ fn options_of<'o>(
     asked: &'o CountRequest<'_>,
     rules: SharedRules,
     only: &'o [&'o [u8]],
-    named: &'o NamedAttributes<'o>,
+    named: &'o NamedAttributes,
 ) -> Options<'o>
     ensures { (texts : AskedRulesModel) → Share texts rules
         → IsAskedBy asked.entry.now texts (map (λ path. path.now) only.entry.now) result }
@@ -96,15 +96,17 @@ pub(crate) fn count<R: Threads + Wait + Sync + AllocGlobal, Y: System, S: Source
     let shared = rules.shared()?;
     let tree = system.tree(rt.alloc(), asked.directory, entered_by(asked))?;
     let named = NamedAttributes::new(rt.alloc(), &asked.exclusions.without)?;
+    // Lent before the list is, so that the options' references end together.
+    let noted = &named;
     let list = list_of(rt.alloc(), system, asked.only_from, input)?;
     let listed = list.as_slice();
     let only = asked.only.as_slice();
     let end = path_end(asked.null);
     let wanted = wanted_paths(rt.alloc(), only, asked.only_from, end, listed)?;
     let paths = wanted.as_slice();
-    let options = options_of(asked, shared, paths, &named);
+    let options = options_of(asked, shared, paths, noted);
     let table = asked.table.options(format);
     let faults = run(rt, rt.alloc(), &tree, &options, table, out)?;
-    let unnamed = unnamed_lines(rt.alloc(), &named);
+    let unnamed = unnamed_lines(rt.alloc(), noted);
     Ok(Answered::Counted(faults, unnamed))
 }

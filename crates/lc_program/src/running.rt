@@ -1,7 +1,7 @@
 //! The program: it does what its arguments ask for in a system, and writes to its streams.
 
 ghost use Rattle.std.specs.Prelude.{◌≡◌, map};
-ghost use Rattle.lc_program.specs.Program.{Comments, Ends, status_of, streams_may};
+ghost use Rattle.lc_program.specs.Program.{Comments, Ends, TellsUnread, status_of, streams_may};
 ghost use Rattle.lc_program.specs.Systems.{system_may};
 ghost use Rattle.lc_program.specs.declared.ending.Ending.{Ending};
 
@@ -14,13 +14,31 @@ use crate::introducing::introduce;
 use crate::streams::{Streams, Terminals};
 use crate::system::System;
 use crate::telling::{give_up, hint, misuse, show};
+use crate::unnamed::tell_unnamed;
 use lc_arguments::{ParseExit, Request};
 use lc_census::Source;
-use lc_text::{Outcome, Sink, print};
+use lc_text::{Outcome, Sink};
+use lc_view::Format;
 use std::alloc::Global;
 use std::convert::AsStr;
 use std::sync::Wait;
 use std::thread::Threads;
+
+/// Tells what a count could not read. Its table has this format if the command line names none.
+fn tell_unread<E: Sink>(
+    alloc: Global,
+    request: &Request<'_>,
+    answered: &Answered,
+    format: Format,
+    err: &mut E,
+)
+    ensures { TellsUnread E.may_take format request.now answered.now err.old err.new }
+{
+    if let (Request::Count(asked), Answered::Counted(faults, _)) = (request, answered) {
+        let options = asked.table.options(format);
+        tell_faults(alloc, asked.directory, options.format, faults, err);
+    }
+}
 
 /// Tells what a count could not read and which attributes no attribute file names, and the hint that a request gets.
 fn comment<Y: System, E: Sink>(
@@ -33,12 +51,8 @@ fn comment<Y: System, E: Sink>(
 )
     ensures { Comments E.may_take (Y.lies system.now) terminals request.now answered.now err.old err.new }
 {
-    if let (Request::Count(asked), Answered::Counted(faults, unnamed)) = (request, answered) {
-        let options = asked.table.options(terminals.format());
-        tell_faults(alloc, asked.directory, options.format, faults, err);
-        // Nothing rests on a line that can't be written.
-        let _ = print(err, unnamed.as_bytes());
-    }
+    tell_unread(alloc, request, answered, terminals.format(), err);
+    tell_unnamed(answered, err);
     hint(alloc, system, request, terminals.error, err);
 }
 

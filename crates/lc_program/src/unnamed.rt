@@ -1,10 +1,12 @@
 //! The lines on standard error about attributes that no attribute file names.
 
 ghost use Rattle.std.specs.Prelude.{◌≡◌, ◌++◌, string_bytes, IfOk, OnOk};
+ghost use Rattle.lc_program.specs.Program.{TellsUnnamed};
 ghost use Rattle.lc_program.specs.Unnamed.{AreUnnamedLines, unnamed_line, unnamed_lines_of};
 
+use crate::answered::Answered;
 use lc_level::NamedAttributes;
-use lc_text::push_visible;
+use lc_text::{Sink, print, push_visible};
 use std::alloc::{AllocError, Global};
 
 fn push_unnamed(text: &mut String, attribute: &[u8]) -> Result<(), AllocError>
@@ -12,10 +14,11 @@ fn push_unnamed(text: &mut String, attribute: &[u8]) -> Result<(), AllocError>
 {
     text.push_str("lc: no attribute file names ")?;
     push_visible(text, attribute)?;
-    text.push_str("\n")
+    text.push_str("\n")?;
+    Ok(())
 }
 
-fn lines_of(alloc: Global, attributes: &[&[u8]]) -> Result<String, AllocError>
+fn lines_of(alloc: Global, attributes: &[Vec<u8>]) -> Result<String, AllocError>
     ensures { IfOk result (λ text. string_bytes text ≡ unnamed_lines_of attributes.now) }
 {
     let mut text = String::new(alloc);
@@ -25,7 +28,7 @@ fn lines_of(alloc: Global, attributes: &[&[u8]]) -> Result<String, AllocError>
     Ok(text)
 }
 
-fn unnamed_text(alloc: Global, named: &NamedAttributes<'_>) -> Result<String, AllocError>
+fn unnamed_text(alloc: Global, named: &NamedAttributes) -> Result<String, AllocError>
     ensures { IfOk result (λ text. AreUnnamedLines (string_bytes text)) }
 {
     let attributes = named.unnamed(alloc)?;
@@ -34,11 +37,21 @@ fn unnamed_text(alloc: Global, named: &NamedAttributes<'_>) -> Result<String, Al
 }
 
 /// Makes a line for each attribute that no attribute file names; none if there is no memory for them, since nothing rests on these lines.
-pub(crate) fn unnamed_lines(alloc: Global, named: &NamedAttributes<'_>) -> String
+pub(crate) fn unnamed_lines(alloc: Global, named: &NamedAttributes) -> String
     ensures { AreUnnamedLines (string_bytes result) }
 {
     match unnamed_text(alloc, named) {
         Ok(text) => text,
         Err(AllocError) => String::new(alloc),
+    }
+}
+
+/// Tells which attributes no attribute file names, if a count was answered.
+pub(crate) fn tell_unnamed<E: Sink>(answered: &Answered, err: &mut E)
+    ensures { TellsUnnamed E.may_take answered.now err.old err.new }
+{
+    if let Answered::Counted(_, unnamed) = answered {
+        // Nothing rests on these lines, so one that can't be written changes nothing.
+        let _ = print(err, unnamed.as_bytes());
     }
 }

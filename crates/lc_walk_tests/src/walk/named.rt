@@ -2,14 +2,12 @@
 
 use crate::walk::walked::{Board, report_of, walk_options};
 use lc_level::NamedAttributes;
-use lc_tests::tree;
+use lc_tests::{push_name, tree};
 use lc_tree::MemTree;
 use lc_walk::Options;
 use std::test::Fail;
 
 const WORDS: &[&str] = &["generated", "vendored=true"];
-
-const GENERATED: &[&[u8]] = &[b"generated"];
 
 #[test]
 fn attribute_files_of_a_walk_name_attributes(rt: HostRuntime) -> Result<(), Fail> {
@@ -26,6 +24,10 @@ fn attribute_files_of_a_walk_name_attributes(rt: HostRuntime) -> Result<(), Fail
     };
     let answer = Board::Words.walk(&rt, alloc, &MemTree::new(&node), &options);
     report_of(&rt, answer)?;
-    assert_eq!(rt; named.unnamed(alloc)?.as_slice(), GENERATED);
+    let mut unnamed = String::new(alloc);
+    for attribute in &named.unnamed(alloc)? {
+        push_name(&mut unnamed, attribute)?;
+    }
+    assert_eq!(rt; unnamed.as_str(), "generated");
     Ok(())
 }

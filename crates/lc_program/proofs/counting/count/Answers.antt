@@ -1,7 +1,6 @@
-use Rattle.std.proofs.Common.{ap, inl, inr, refl, sym}
-use Rattle.lc_program.proofs.Loading.{given_up, run_replied}
+use Rattle.std.proofs.Common.{inl, inr, refl}
+use Rattle.lc_program.proofs.Loading.{given_up, run_counted, run_replied}
 use Rattle.lc_program.specs.Causes.{list_cause}
-use Rattle.lc_program.specs.Replies.{ran}
 use Rattle.lc_program.specs.declared.cause.Cause.TheVariants.{Memory}
 use Rattle.lc_program.proofs.counting.count.Goals as goal
 
@@ -28,6 +27,15 @@ returns-in_err-tree g c =
     inr (
       Memory,
       given_up c.from_residual-in_err-tree.result Memory c.from_residual-in_err-tree.ensures.1,
+      refl,
+      inl (inr refl, refl),
+    )
+
+pub returns-in_err-named : goal.returns-in_err-named
+returns-in_err-named g c =
+    inr (
+      Memory,
+      given_up c.from_residual-in_err-named.result Memory c.from_residual-in_err-named.ensures.1,
       refl,
       inl (inr refl, refl),
     )
@@ -74,7 +82,7 @@ returns-in_err-faults g c =
             c.run.result,
             run_replied c.from_residual-in_err-faults.result c.run.result c.in_err-faults.field-0.0 c.from_residual-in_err-faults.ensures.1
                 c.in_err-faults.was,
-            rw (c.in_ok-tree.ensures, c.options-table.ensures) at c.run.ensures,
+            rw (c.in_ok-tree.ensures, c.entered_by.ensures, c.options-table.ensures) at c.run.ensures,
           ),
         ),
       ),
@@ -97,8 +105,8 @@ returns g c =
           rw c.as_slice-paths.ensures.value at c.options_of-options.ensures c.in_ok-rules.rules c.in_ok-shared.ensures,
           (
             c.run.result,
-            sym (ap ran c.in_ok-faults.was),
-            rw (c.in_ok-tree.ensures, c.options-table.ensures) at c.run.ensures,
+            run_counted c.run.result c.in_ok-faults.faults c.unnamed_lines-unnamed.result c.unnamed_lines-unnamed.ensures c.in_ok-faults.was,
+            rw (c.in_ok-tree.ensures, c.entered_by.ensures, c.options-table.ensures) at c.run.ensures,
           ),
         ),
       ),

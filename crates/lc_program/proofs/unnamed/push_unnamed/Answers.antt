@@ -1,0 +1,14 @@
+use Rattle.std.proofs.Common.{◌≡◌, ◌∙◌, ◌++◌, ℕ, List, ap, append_assoc, codes, string_bytes}
+use Rattle.lc_text.specs.Visible.{visible_bytes}
+use Rattle.lc_program.proofs.unnamed.push_unnamed.Goals as goal
+
+-- three texts that are appended one after the other
+appended : (old one two new a b c : List ℕ) → one ≡ old ++ a → two ≡ one ++ b → new ≡ two ++ c → new ≡ old ++ (a ++ b ++ c)
+appended old one two new a b c first second third =
+    third ∙ (ap (λ text. text ++ c) (second ∙ (ap (λ text. text ++ b) first ∙ append_assoc old a b)) ∙ append_assoc old (a ++ b) c)
+
+pub returns : goal.returns
+returns c =
+    appended (string_bytes c.args.text.now) (string_bytes c.push_str.new.self) (string_bytes c.push_visible.new.text)
+    (string_bytes c.push_str-2.new.self) (codes "lc: no attribute file names ") (visible_bytes c.args.attribute.now) (codes "\n")
+    c.in_ok-push_str.ensures.bytes c.in_ok-push_visible.ensures c.in_ok-push_str-2.ensures.bytes
