@@ -8,8 +8,9 @@ pub fn names_are_never_markup()
     ensures reads_back { UnescapedLaw }
 {}
 
-/// A page shows the sums over all files, each extension of the chart with its sums, and each directory that is drawn with its sums: once, and
-/// no other numbers or names. The directories that are drawn are those with enough lines, or with enough of the number that is asked for.
+/// A page shows the sums over all files, each extension of the chart with its sums, and each directory that is drawn with its sums: once,
+/// and no other numbers or names. The directories that are drawn are those with enough lines, or with enough of the number that is asked
+/// for.
 pub fn a_page_shows_each_directory_once()
     ensures shown { ShownLaw }
     ensures drawn { DrawnLaw }
