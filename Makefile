@@ -5,7 +5,7 @@ PREFIX ?= /usr/local
 CPU ?= $(or $(shell cat crates/lc/out/cpu 2> /dev/null),x86-64-v2)
 SHELL := /bin/bash
 
-.PHONY: run test test-memory test-program test-git test-faults test-fuzz test-edits test-memcheck install uninstall dist deb clean rt FORCE
+.PHONY: run test test-memory test-program test-git test-faults test-fuzz test-edits test-memcheck test-picture install uninstall dist deb clean rt FORCE
 
 lc: $(shell find crates -name out -prune -o -type f -print 2>/dev/null) crates.txt tools/build crates/lc/out/cpu | rt
 	@echo "make: proves lc and all that it stands on, then builds it for $(CPU): up to forty minutes the first time, seconds after an edit"
@@ -57,6 +57,10 @@ test-fuzz: lc
 # the edits that must fail which the gate leaves out (not part of the gate); tools/test-edits NAME tries those of one crate
 test-edits: rt
 	tools/test-edits
+
+# pictures of this repository and of a tree of hostile names, laid out by headless Chromium; no part of the gate
+test-picture: lc
+	tools/test-picture
 
 # the built program under valgrind's memcheck; no part of the gate
 test-memcheck: lc

@@ -5,6 +5,7 @@ use crate::table::screens::EMPTY;
 use crate::table::tables::{Case, NONE, compare_as_asked};
 use lc_census::Eol;
 use lc_rules::TextState;
+use lc_table::push_number;
 use lc_view::{Format, SortBy, TableOptions};
 use std::test::Fail;
 
@@ -131,4 +132,19 @@ const CASES: &[Case] = &[
 #[test]
 fn shares_of_rows(rt: HostRuntime) -> Result<(), Fail> {
     compare_as_asked(&rt, b"", CASES)
+}
+
+#[test]
+fn numbers_have_commas(rt: HostRuntime) -> Result<(), Fail> {
+    for (number, wanted) in [
+        (0, "0"),
+        (999, "999"),
+        (41_203, "41,203"),
+        (1_000_000, "1,000,000"),
+    ] {
+        let mut text = String::new(rt.alloc());
+        push_number(&mut text, number)?;
+        assert_eq!(rt; text.as_str(), wanted);
+    }
+    Ok(())
 }
