@@ -226,7 +226,8 @@ pub(crate) const NULL: OptionHelp = OptionHelp {
 pub(crate) const ONE_FILE_SYSTEM: OptionHelp = OptionHelp {
     heading: WHICH_FILES,
     short: "Skip directories on other file systems",
-    long: "Skip directories on another file system than DIR, such as /proc below /",
+    long: "Skip directories on another file system than DIR, such as /proc
+below /",
 };
 
 pub(crate) const NULL_INPUT: OptionHelp = OptionHelp {
