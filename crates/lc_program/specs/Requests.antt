@@ -34,7 +34,8 @@ use Rattle.lc_program.specs.declared.cause.Cause.TheVariants.{Memory}
 -- a question that asks what the words of an explanation ask, by these rules, with paths in this style
 pub record IsOptionsOf (style : PathStyle) (c : ExplainRequest) (rules : AskedRules) (q : ExplainOptions) : Type 0 where
   pub selection : q.selection
-      ≡ including (selection_of c.exclusions.archive (map (λ word. word.now) c.exclusions.without.items)) (option_map rules_of rules.include)
+      ≡ including (selection_of c.exclusions.archive (map (λ word. word.now) c.exclusions.without.items))
+      (option_map rules_of rules.include)
   pub exclude : q.exclude ≡ rules.exclude
   pub command_line : q.command_line ≡ rules.command_line
   pub no_ignore : q.no_ignore ≡ c.exclusions.no_ignore

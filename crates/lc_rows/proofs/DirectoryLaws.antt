@@ -78,7 +78,8 @@ pub one_row_law : OneRowLaw
 one_row_law n by sort rs fs shown h = λ i d within.
     let k : RowKey = file_row_key n by (get_or fs i d) in
     let made : ShownRowModel = part_of_file by n d in
-    let read : get_or (map (part_of_file by n) fs) i made ≡ part_of_file by n (get_or fs i d) = get_or-map (part_of_file by n) fs i d made within in
+    let read : get_or (map (part_of_file by n) fs) i made ≡ part_of_file by n (get_or fs i d)
+    = get_or-map (part_of_file by n) fs i d made within in
     let own : same_row_key k (row_key (get_or (map (part_of_file by n) fs) i made)) ≡ true =
     ap (λ (r : ShownRowModel). same_row_key k (row_key r)) read ∙ ap is_eq (tied_itself row_key_cmp_total k) in
     let some : has_within (same_row_key k) (map (part_of_file by n) fs) ≡ true =

@@ -1,6 +1,6 @@
 -- How deep the directories above a file are.
-use Rattle.std.proofs.Common.{◌≡◌, ℕ, ◌+◌, ◌-◌, ◌<◌, ◌≤◌, ◌==◌, min, suc, zero, Bool, true, false, cond, List, [], ◌∷◌, ◌++◌, length, take, drop}
-use Rattle.std.proofs.Common.{Option, Some, None, refl, sym, ◌∙◌, ap, subst, arith, length-append}
+use Rattle.std.proofs.Common.{◌≡◌, ℕ, ◌+◌, ◌-◌, ◌<◌, ◌≤◌, ◌==◌, min, suc, zero, Bool, true, false, cond, List, [], ◌∷◌, ◌++◌, length, take}
+use Rattle.std.proofs.Common.{drop, Option, Some, None, refl, sym, ◌∙◌, ap, subst, arith, length-append}
 use Rattle.std.specs.List.{AllByRecursion, join_with_byte, list_all, onto_first}
 use Rattle.std.specs.Prelude.{slice_index}
 use Rattle.std.proofs.lemmas.List.{length-take, take-take, take_all, take_at}
@@ -125,7 +125,8 @@ depth_by path n some (Some i, h) =
     let deep : depth_of path - 1 ≡ length (segments_of parent) =
     omega (arith, depth_is path (omega arith), ap length parts, length-append (segments_of parent) (name ∷ [])) in
     ap (λ p. depth_of (first_segments n p)) (sym (parent_at path i h))
-    ∙ depth_taken n (segments_of parent) (whole_segments parent) (first_of_both (segments_of parent) (name ∷ []) (subst FirstHasBytes parts some))
+    ∙ depth_taken n (segments_of parent) (whole_segments parent)
+    (first_of_both (segments_of parent) (name ∷ []) (subst FirstHasBytes parts some))
     ∙ ap (min n) (sym deep)
 
 good_first : (ps : List (List ℕ)) → list_all is_good_name ps ≡ true → FirstHasBytes ps

@@ -112,7 +112,8 @@ cut_path path rest n cut =
     ∙ ap (join_with_byte slash) (sym (take_at cut.names (segments_of rest) n cut.many) ∙ ap (take n) (sym cut.segments))
 
 -- a path with no more than n segments is whole
-pub cut_whole : (path rest name : List ℕ) (k n : ℕ) → IsCut path rest k → segments_of rest ≡ name ∷ [] → k < n → path ≡ first_segments n path
+pub cut_whole : (path rest name : List ℕ) (k n : ℕ) → IsCut path rest k → segments_of rest ≡ name ∷ [] → k < n
+    → path ≡ first_segments n path
 cut_whole path rest name k n cut last more =
     let all : segments_of path ≡ cut.names ++ name ∷ [] = cut.segments ∙ ap (λ l. cut.names ++ l) last in
     let few : length (segments_of path) ≤ n = omega (arith, ap length all, length_push cut.names name, cut.many) in

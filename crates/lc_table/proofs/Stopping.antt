@@ -18,8 +18,8 @@ use Rattle.lc_table.specs.declared.running.RunFault.{RunFault}
 -- a table that was not written whole
 pub run_stops : {O : Type 0} (may_take : O → List ℕ → Result ℕ Failed → O → Type 0) (walks : Result Report WalkFault → Type 0)
     (options : TableOptions) (r : Report) (fault : PrintFault)
-    (answer : Result (Vec FaultLineModel Global) RunFault) (out wrote : O) → walks (Ok r) → AnswersTable may_take options r out (Err fault) wrote
-    → IsErrAnd answer (λ e. e ≡ table_fault fault) → AnswersRun may_take walks options out answer wrote
+    (answer : Result (Vec FaultLineModel Global) RunFault) (out wrote : O) → walks (Ok r)
+    → AnswersTable may_take options r out (Err fault) wrote → IsErrAnd answer (λ e. e ≡ table_fault fault) → AnswersRun may_take walks options out answer wrote
 run_stops may_take walks options r fault (Ok faults) out wrote walked stopped is = absurd is
 run_stops may_take walks options r print.Write (Err e) out wrote walked stopped is = rw is (r, walked, stopped)
 run_stops may_take walks options r print.Memory (Err e) out wrote walked stopped is = rw is stopped

@@ -22,7 +22,8 @@ table_fault print.Memory = Memory
 abbrev pub AnswersTable : {O : Type 0} → (O → List ℕ → Result ℕ Failed → O → Type 0) → TableOptions → Report
     → O → Result (Unit {0}) PrintFault → O → Type 0
 AnswersTable may_take options r out (Ok _) wrote = (text : List ℕ) × IsTextOf options r text × Writes may_take out text wrote
-AnswersTable may_take options r out (Err print.Write) wrote = (text : List ℕ) × IsTextOf options r text × StopsWriting may_take out text wrote
+AnswersTable may_take options r out (Err print.Write) wrote =
+    (text : List ℕ) × IsTextOf options r text × StopsWriting may_take out text wrote
 AnswersTable may_take options r out (Err print.Memory) wrote = wrote ≡ out
 
 module _ {O : Type 0} (may_take : O → List ℕ → Result ℕ Failed → O → Type 0) (walks : Result Report WalkFault → Type 0)

@@ -63,8 +63,8 @@ fn rows_text(
 
 /// Makes the table of a report as text, or its picture.
 ///
-/// It sorts the files of the report in place. Rows by directory and a picture are made of these files, so the report must have them. It stops
-/// with an error if there is no memory, and for numbers that no walk has, whose sums or shares overflow.
+/// It sorts the files of the report in place. Rows by directory and a picture are made of these files, so the report must have them. It
+/// stops with an error if there is no memory, and for numbers that no walk has, whose sums or shares overflow.
 pub fn table_text(
     alloc: Global,
     report: &mut Report,

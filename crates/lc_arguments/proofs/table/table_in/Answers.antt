@@ -9,6 +9,7 @@ pub returns : goal.returns
 returns c =
     let f = found_of c.args.matches.now in
     let rows = rows_of f in
-    answers_table_as _ _ _ _ _ _ c.args.depth c.table_of.result (text_of rows f (codes "format") c.get_str-format.result refl c.get_str-format.ensures)
+    answers_table_as _ _ _ _ _ _ c.args.depth c.table_of.result
+    (text_of rows f (codes "format") c.get_str-format.result refl c.get_str-format.ensures)
     (text_of rows f (codes "by") c.get_str-by.result refl c.get_str-by.ensures)
     (text_of rows f (codes "sort") c.get_str-sort.result refl c.get_str-sort.ensures) c.table_of.ensures

@@ -11,7 +11,8 @@ pub returns-in-Ok-read_rule_text : goal.returns-in-Ok-read_rule_text
 returns-in-Ok-read_rule_text c =
     let patterns = c.args.patterns.now in
     text_read (map (λ pattern. pattern.now) patterns) c.as_slice.result c.read_rule_text.new.file c.in-Ok-read_rule_text.text
-    (some_texts patterns (sym c.is_empty.ensures ∙ c.if-is_empty.false)) (c.as_slice.ensures.value ∙ c.in-Ok.ensures) c.in-Ok-read_rule_text.ensures
+    (some_texts patterns (sym c.is_empty.ensures ∙ c.if-is_empty.false)) (c.as_slice.ensures.value ∙ c.in-Ok.ensures)
+    c.in-Ok-read_rule_text.ensures
 
 pub returns : goal.returns
 returns c =

@@ -105,7 +105,8 @@ returns g c =
           rw c.as_slice-paths.ensures.value at c.options_of-options.ensures c.in_ok-rules.rules c.in_ok-shared.ensures,
           (
             c.run.result,
-            run_counted c.run.result c.in_ok-faults.faults c.unnamed_lines-unnamed.result c.unnamed_lines-unnamed.ensures c.in_ok-faults.was,
+            run_counted c.run.result c.in_ok-faults.faults c.unnamed_lines-unnamed.result c.unnamed_lines-unnamed.ensures
+                c.in_ok-faults.was,
             rw (c.in_ok-tree.ensures, c.entered_by.ensures, c.options-table.ensures) at c.run.ensures,
           ),
         ),

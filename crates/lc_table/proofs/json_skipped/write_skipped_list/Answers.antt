@@ -10,9 +10,9 @@ use Rattle.lc_table.proofs.json_skipped.write_skipped_list.Goals as goal
 
 pub loop-skipped-preserved : goal.loop-skipped-preserved
 loop-skipped-preserved c =
-    one_written (λ (x : SkippedLineModel). json_tokens (skipped_value x)) c.args.lines.now c.loop-skipped.skipped-index c.skipped-item.result
-    c.begin_list.new.self c.loop-skipped.text c.write_skipped_line.new.text c.loop-skipped-test.true c.skipped-item.is c.loop-skipped.invariant
-    c.in_ok-write_skipped_line.ensures
+    one_written (λ (x : SkippedLineModel). json_tokens (skipped_value x)) c.args.lines.now c.loop-skipped.skipped-index
+    c.skipped-item.result c.begin_list.new.self c.loop-skipped.text c.write_skipped_line.new.text c.loop-skipped-test.true
+    c.skipped-item.is c.loop-skipped.invariant c.in_ok-write_skipped_line.ensures
 
 pub returns : goal.returns
 returns c =

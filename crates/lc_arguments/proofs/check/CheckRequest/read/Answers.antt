@@ -17,7 +17,8 @@ returns-in-Ok-try_get_matches_from g c =
       fails_as command check_app words (Ok m) is check_is_free parse.kinds,
       record {
         explain = flag_of rows (found_of m) (codes "explain") c.get_flag.result are c.get_flag.ensures.value c.get_flag.ensures.other;
-        null = flag_of rows (found_of m) (codes "null") c.get_flag-in-Ok-try_get_matches_from.result are c.get_flag-in-Ok-try_get_matches_from.ensures.value c.get_flag-in-Ok-try_get_matches_from.ensures.other;
+        null = flag_of rows (found_of m) (codes "null") c.get_flag-in-Ok-try_get_matches_from.result are
+            c.get_flag-in-Ok-try_get_matches_from.ensures.value c.get_flag-in-Ok-try_get_matches_from.ensures.other;
         file = text_or rows (found_of m) (codes "FILE") c.get_str.result _ c.unwrap_or.result are c.get_str.ensures refl
             c.unwrap_or.ensures;
       },

@@ -11,8 +11,8 @@ use Rattle.lc_arguments.proofs.count.CountRequest.read.Goals as goal
 pub returns-in-Err : goal.returns-in-Err
 returns-in-Err g c =
     no_count_by (map g.W.AsStr.text c.args.words.now) c.explained_count.result
-    (no_request_of c.in-Ok.command count_app (map g.W.AsStr.text c.args.words.now) c.in-Err.error c.explained_count.result c.in-Ok.ensures.0.0
-    count_is_free c.in-Err.ensures.kinds c.explained_count.ensures)
+    (no_request_of c.in-Ok.command count_app (map g.W.AsStr.text c.args.words.now) c.in-Err.error c.explained_count.result
+    c.in-Ok.ensures.0.0 count_is_free c.in-Err.ensures.kinds c.explained_count.ensures)
 
 pub returns-in-Err-request_in : goal.returns-in-Err-request_in
 returns-in-Err-request_in g c =

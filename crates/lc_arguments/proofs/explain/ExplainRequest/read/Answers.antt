@@ -6,8 +6,8 @@ use Rattle.clap.specs.Walk.{Row}
 use Rattle.lc_arguments.specs.CommandLine.{explain_app}
 use Rattle.lc_arguments.specs.Explained.{AnswersExclusions}
 use Rattle.lc_arguments.specs.Words.{AreExclusionsOf}
-use Rattle.lc_arguments.proofs.WordFaults.{explain_is_free, explain_is_simple, fails_as, flag_of, matches_as, no_explanation_by, no_request_of}
-use Rattle.lc_arguments.proofs.WordFaults.{text_or, texts_of}
+use Rattle.lc_arguments.proofs.WordFaults.{explain_is_free, explain_is_simple, fails_as, flag_of, matches_as, no_explanation_by}
+use Rattle.lc_arguments.proofs.WordFaults.{no_request_of, text_or, texts_of}
 use Rattle.lc_arguments.proofs.Misnaming.{explain_refused_for}
 use Rattle.lc_arguments.proofs.explain.ExplainRequest.read.Goals as goal
 
