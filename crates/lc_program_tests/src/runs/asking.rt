@@ -69,10 +69,10 @@ fn writer_of(alloc: Global, text: &[u8]) -> Result<Narrow, AllocError> {
     Narrow::new(alloc, 4_096, text.len().saturating_add(64), WhenFull::Fails)
 }
 
-/// Whether this is told where memory is refused, in place of what is wanted.
+/// Whether this is told where memory is refused, in place of what is wanted or after some of it.
 fn is_refusal(told: &[u8], wanted: &[u8]) -> bool {
-    told == b"lc: out of memory\n".as_slice()
-        || told == b"lc: some paths could not be read\n".as_slice()
+    told.ends_with(b"lc: out of memory\n")
+        || told.ends_with(b"lc: some paths could not be read\n")
         || (told.is_empty() && !wanted.is_empty())
 }
 
