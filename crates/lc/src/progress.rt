@@ -9,7 +9,7 @@ use std::time::Clock;
 /// How long a count runs before it shows a line, in milliseconds.
 const DELAY: u64 = 1000;
 
-/// How long a line stands at least, in milliseconds.
+/// The least time between two lines, in milliseconds.
 const PERIOD: u64 = 250;
 
 /// What a count has opened so far, and when it shows this. Its answer does not depend on it.

@@ -5,10 +5,11 @@ use memchr::memmem;
 use std::alloc::{AllocError, Global};
 use std::sync::atomic::{AtomicBool, Ordering};
 
-/// Which of some words have an attribute that stands in an attribute file of a tree. Workers note it while they read these files.
+/// The attributes that a command line names, and which of them the attribute files of a tree contain. Workers note this as they read
+/// the files.
 ///
-/// No clause says what is noted: it is good for a hint. A word is noted too soon where its attribute's name is a part of another word
-/// of a file, or stands in a comment.
+/// No contract says what is noted, so it serves for a hint alone. The name of an attribute also counts if it is a part of another word,
+/// or is in a comment.
 ///
 /// ```
 /// let named = NamedAttributes::new(alloc, &["linguist-generated=true"])?;
@@ -21,7 +22,7 @@ pub struct NamedAttributes {
     words: Vec<NotedWord>,
 }
 
-/// A word, and whether its attribute stands in some attribute file.
+/// An attribute, and whether an attribute file contains its name.
 #[derive(Drop)]
 struct NotedWord {
     attribute: Vec<u8>,
@@ -42,7 +43,7 @@ impl NamedAttributes {
         Ok(NamedAttributes { words: noted })
     }
 
-    /// The attributes of the words that stand in no attribute file that was read, in the order of the words.
+    /// Returns the attributes that no attribute file contains of those that were read, in the order of the words.
     pub fn unnamed(&self, alloc: Global) -> Result<Vec<Vec<u8>>, AllocError> {
         let mut unnamed = Vec::new(alloc);
         for word in &self.words {
@@ -53,7 +54,7 @@ impl NamedAttributes {
         Ok(unnamed)
     }
 
-    /// Notes which attributes stand in the bytes of an attribute file.
+    /// Notes which attributes an attribute file with these bytes contains.
     pub(crate) fn note(&self, bytes: &[u8]) {
         for word in &self.words {
             if !word.is_named.load(Ordering::SeqCst)

@@ -153,7 +153,7 @@ impl<'o> Selection<'o> {
         }
     }
 
-    /// Notes which attributes stand in the bytes of an attribute file, where this is asked for.
+    /// Notes which attributes an attribute file with these bytes contains, if they are to be noted.
     pub(crate) fn note(&self, bytes: &[u8]) {
         if let Some(named) = self.named {
             named.note(bytes);

@@ -1,5 +1,5 @@
 -- The boxes of a tree of directories. Each has a box inside for each directory right in it, and its share of the space is its number.
-use Rattle.std.specs.Prelude.{ℕ, ◌+◌, ◌-◌, ◌/◌, ◌==◌, nat_le, if◌then◌else◌, List, [], ◌∷◌, ◌++◌}
+use Rattle.std.specs.Prelude.{ℕ, ◌+◌, ◌-◌, ◌/◌, ◌%◌, ◌==◌, nat_le, if◌then◌else◌, List, [], ◌∷◌, ◌++◌}
 use Rattle.std.specs.Prelude.{max, min, replicate, codes}
 use Rattle.lc_glob.specs.Path.{depth_of}
 use Rattle.lc_rows.specs.Directories.{name_of}
@@ -21,9 +21,9 @@ pub record BoxModel : Type 0 where
 abbrev pub box_of : ShownRowModel → ℕ → BoxModel
 box_of r colour = record { directory = name_of (path_of r); depth = depth_of (path_of r); colour = colour; sums = r.sums }
 
--- the least number that is drawn: a thousandth of the total, and not nothing
+-- the least number that is drawn: a thousandth of the total, rounded up, and not nothing
 abbrev pub least_drawn : ℕ → ℕ
-least_drawn total = max (total / 1000) 1
+least_drawn total = max (total / 1000 + (if nat_le 1 (total % 1000) then 1 else 0)) 1
 
 -- the directories that are drawn, with the colours of their largest extensions, which come in the same order
 abbrev pub drawn_boxes : SortBy → ℕ → List ShownRowModel → List ShownRowModel → List ShownRowModel → List BoxModel

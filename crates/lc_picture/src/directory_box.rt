@@ -46,11 +46,12 @@ fn name_of(path: &[u8]) -> &[u8]
     }
 }
 
-/// Returns the least number that is drawn: a thousandth of the total, and not nothing.
+/// Returns the least number that is drawn: a thousandth of the total, rounded up, and not nothing.
 pub(crate) fn least_drawn(total: u128) -> u128
     ensures { result ≡ least_drawn total }
 {
-    (total / 1_000).max(1)
+    let rest = if total % 1_000 >= 1 { 1 } else { 0 };
+    (total / 1_000 + rest).max(1)
 }
 
 fn rest_from<'a, 'b>(kinds: &'b [ShownRow<'a>], place: usize) -> &'b [ShownRow<'a>]

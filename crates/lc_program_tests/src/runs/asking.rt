@@ -18,7 +18,7 @@ pub(super) type Entry = (&'static [u8], Sketch<'static>);
 pub(super) struct Case<'a> {
     pub(super) name: &'a str,
     pub(super) top: Sketch<'a>,
-    /// The same on one file system.
+    /// What `top` is if one file system alone is entered.
     pub(super) bounded: Sketch<'a>,
     pub(super) files: Sketch<'a>,
     pub(super) words: &'a [&'a str],
