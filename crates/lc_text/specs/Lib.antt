@@ -4,6 +4,7 @@ pub mod Styles
 pub mod RulePlaces
 pub mod Lines
 pub mod PathLines
+pub mod Quoting
 pub mod Input
 pub mod Writes
 pub mod Pieces

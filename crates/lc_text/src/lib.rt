@@ -2,6 +2,7 @@
 //!
 //! - `sink`: where text is written; `printing`: a text is written whole, or why not; `blocks`: a text is written as it is made
 //! - `escaping`: how paths are printed; `visible`: how they are shown in a terminal; `style`: the one or the other
+//! - `quoting`: how a shell takes a text for one argument
 //! - `places`: where a rule is
 //! - `input`: an input of paths, read whole; `lines`, `path_line`: its paths, and the path of a line; `check_fault`: why its paths were not
 //!   answered
@@ -20,6 +21,7 @@ mod outcome;
 mod path_line;
 mod places;
 mod printing;
+mod quoting;
 mod sink;
 mod style;
 pub mod trials;
@@ -32,9 +34,10 @@ pub use input::{MAX_INPUT, read_input};
 pub use laws::a_vector_takes_the_text;
 pub use lines::{PathEnd, split_path};
 pub use outcome::Outcome;
-pub use path_line::{is_bad_path, split_slash};
+pub use path_line::{is_bad_path, is_top, split_slash, undotted};
 pub use places::{push_rule_source, source_directory, source_name};
 pub use printing::{PrintFault, print};
+pub use quoting::push_quoted;
 pub use sink::{Sink, StdSink};
 pub use style::{PathFormat, PathStyle, push_styled, push_styled_path};
 pub use visible::{push_visible, push_visible_path};

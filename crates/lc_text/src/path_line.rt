@@ -1,9 +1,54 @@
 //! Lines that name paths.
 
 ghost use Rattle.std.specs.Prelude.{◌≡◌};
-ghost use Rattle.lc_text.specs.PathLines.{is_dir_line, path_of, is_bad_path};
+ghost use Rattle.lc_text.specs.PathLines.{is_dir_line, path_of, is_bad_path, after_dot, or_dot, undotted, is_top};
 
 use lc_glob::path::{is_good_path, is_too_long};
+
+/// Returns what follows the `./` that a line began with, without further slashes and further `./`.
+fn after_dot(tail: &[u8]) -> &[u8]
+    ensures { result.now ≡ after_dot tail.now }
+{
+    let mut rest = tail;
+    'dots: loop {
+        rest = match rest {
+            [b'/', others @ ..] => others,
+            [b'.', b'/', others @ ..] => others,
+            _ => return rest,
+        };
+    }
+}
+
+/// Returns a path, or `.` for an empty one.
+fn or_dot(path: &[u8]) -> &[u8]
+    ensures { result.now ≡ or_dot path.now }
+{
+    match path {
+        [] => b".",
+        [_, ..] => path,
+    }
+}
+
+/// Returns a line without any `./` at its beginning, and without further slashes after such a dot. Where nothing else is left, it is `.`.
+///
+/// ```
+/// assert!(rt; undotted(b".//./src/") == b"src/".as_slice() && undotted(b"./") == b".".as_slice());
+/// ```
+pub fn undotted(line: &[u8]) -> &[u8]
+    ensures { result.now ≡ undotted line.now }
+{
+    let [b'.', b'/', others @ ..] = line else {
+        return line;
+    };
+    or_dot(after_dot(others))
+}
+
+/// Returns whether a path is `.`, which names the directory itself.
+pub fn is_top(path: &[u8]) -> bool
+    ensures { result ≡ is_top path.now }
+{
+    matches!(path, [b'.'])
+}
 
 /// Splits a line into its path and whether a slash follows it, which means a directory.
 pub fn split_slash(line: &[u8]) -> (&[u8], bool)

@@ -4,5 +4,6 @@ mod blocks;
 mod interrupted;
 mod paths;
 mod places;
+mod quoting;
 mod styles;
 mod visible;

@@ -1,6 +1,6 @@
 //! The paths of an input.
 
-use lc_text::{PathEnd, split_path};
+use lc_text::{PathEnd, is_top, split_path, split_slash, undotted};
 use std::process::Abort;
 use std::test::Fail;
 
@@ -21,6 +21,55 @@ fn a_path_ends_at_its_byte(rt: HostRuntime) -> Result<(), Fail> {
         assert!(rt; bytes.len() > 0);
         let (first, others) = split_path(*end, bytes);
         assert!(rt; first == *path && others == *rest, "{bytes:?}");
+    }
+    Ok(())
+}
+
+/// A path as `find .` or a person writes it, and the same path without what means nothing.
+const UNDOTTED: &[(&[u8], &[u8])] = &[
+    (b"", b""),
+    (b"/", b"/"),
+    (b"a", b"a"),
+    (b".", b"."),
+    (b"./", b"."),
+    (b"././", b"."),
+    (b"./.", b"."),
+    (b".//", b"."),
+    (b"./a", b"a"),
+    (b"././a", b"a"),
+    (b".//a", b"a"),
+    (b".///.//a", b"a"),
+    (b"./a/", b"a/"),
+    (b"./../a", b"../a"),
+    (b"./.a", b".a"),
+    (b"./..", b".."),
+    (b"..", b".."),
+    (b"../a", b"../a"),
+    (b".a", b".a"),
+    (b"/a", b"/a"),
+    (b"/./a", b"/./a"),
+    (b"a/./b", b"a/./b"),
+    (b"a/.", b"a/."),
+];
+
+#[test]
+fn dots_before_a_path_mean_nothing(rt: HostRuntime) -> Result<(), Fail> {
+    for (line, path) in UNDOTTED {
+        assert!(rt; undotted(line) == *path, "{line:?}");
+        assert!(rt; undotted(undotted(line)) == *path, "{line:?}");
+    }
+    Ok(())
+}
+
+#[test]
+fn a_dot_alone_is_the_top(rt: HostRuntime) -> Result<(), Fail> {
+    for line in [b".".as_slice(), b"./", b"././/", b"./."] {
+        let (path, _) = split_slash(undotted(line));
+        assert!(rt; is_top(path), "{line:?}");
+    }
+    for line in [b"".as_slice(), b"/", b"..", b"a", b"./a", b".a", b"a/."] {
+        let (path, _) = split_slash(undotted(line));
+        assert!(rt; !is_top(path), "{line:?}");
     }
     Ok(())
 }

@@ -1,0 +1,25 @@
+-- How a shell takes a text for one argument: POSIX.1-2017, Shell Command Language, 2.2 (Quoting).
+use Rattle.std.specs.Prelude.{ℕ, ◌==◌, ◌||◌, Bool, if◌then◌else◌, List, [], ◌∷◌, ◌++◌, codes, flat_map}
+use Rattle.std.specs.Int.{is_in_range}
+use Rattle.std.specs.List.{list_all, list_any}
+
+-- `'`, which quotes all that follows it up to the next one
+abbrev pub apostrophe : ℕ
+apostrophe = 39
+
+-- letters, digits and the marks that mean nothing to a shell
+abbrev pub is_shell_plain : ℕ → Bool
+is_shell_plain b =
+    is_in_range 97 122 b || (is_in_range 65 90 b || (is_in_range 48 57 b || list_any (λ mark. mark == b) (codes "_./:=@%+,-")))
+
+-- inside single quotes each byte is itself, but for such a quote: the quotes end, it follows a backslash, and they begin again
+abbrev pub quote_byte : ℕ → List ℕ
+quote_byte b = if b == apostrophe then codes "'\\''" else b ∷ []
+
+abbrev pub in_quotes : List ℕ → List ℕ
+in_quotes word = apostrophe ∷ flat_map quote_byte word ++ apostrophe ∷ []
+
+-- a word that a shell takes as it is, or the word in single quotes
+abbrev pub quoted : List ℕ → List ℕ
+quoted [] = in_quotes []
+quoted (b ∷ bs) = if list_all is_shell_plain (b ∷ bs) then b ∷ bs else in_quotes (b ∷ bs)

@@ -1,0 +1,56 @@
+//! Words of a command line as a shell reads them.
+
+ghost use Rattle.std.specs.Prelude.{◌≡◌, ◌++◌, OnOk, encode_utf8, flat_map, string_bytes};
+ghost use Rattle.std.specs.List.{list_all};
+ghost use Rattle.lc_text.specs.Quoting.{is_shell_plain, quote_byte, quoted};
+
+use std::alloc::AllocError;
+
+fn is_shell_plain(b: u8) -> bool
+    ensures { result ≡ is_shell_plain b }
+{
+    matches!(b, b'a'..=b'z' | b'A'..=b'Z' | b'0'..=b'9') || b"_./:=@%+,-".contains(&b)
+}
+
+fn are_shell_plain(word: &[u8]) -> bool
+    ensures { result ≡ list_all is_shell_plain word.now }
+{
+    word.iter().all(|b| is_shell_plain(*b))
+}
+
+/// Appends a character as it is written inside single quotes.
+fn push_quoted_char(text: &mut String, c: char) -> Result<(), AllocError>
+    ensures { OnOk result (string_bytes text.new ≡ string_bytes text.old ++ flat_map quote_byte (encode_utf8 c)) }
+{
+    if c == '\'' {
+        text.push_str("'\\''")
+    } else {
+        text.push(c)
+    }
+}
+
+fn push_each_quoted(text: &mut String, word: &str) -> Result<(), AllocError>
+    ensures { OnOk result (string_bytes text.new ≡ string_bytes text.old ++ flat_map quote_byte word.now) }
+{
+    for c in word.chars() {
+        push_quoted_char(text, c)?;
+    }
+    Ok(())
+}
+
+/// Appends a word as a POSIX shell takes it for one argument: as it is if that is safe, else in single quotes.
+///
+/// ```
+/// push_quoted(&mut text, "it's")?;
+/// assert!(rt; text.as_str() == "'it'\\''s'");
+/// ```
+pub fn push_quoted(text: &mut String, word: &str) -> Result<(), AllocError>
+    ensures { OnOk result (string_bytes text.new ≡ string_bytes text.old ++ quoted word.now) }
+{
+    if !word.is_empty() && are_shell_plain(word.as_bytes()) {
+        return text.push_str(word);
+    }
+    text.push_str("'")?;
+    push_each_quoted(text, word)?;
+    text.push_str("'")
+}

@@ -1,0 +1,43 @@
+//! Words that a shell takes for one argument, as `printf '%s\n'` of dash and bash gives them back.
+
+use lc_text::push_quoted;
+use std::process::Abort;
+use std::test::Fail;
+
+/// A word, and how it is written for a shell.
+type Case = (&'static str, &'static str);
+
+const CASES: &[Case] = &[
+    ("", "''"),
+    ("src/main.c", "src/main.c"),
+    ("azAZ09_./:=@%+,-", "azAZ09_./:=@%+,-"),
+    ("a b", "'a b'"),
+    ("it's", "'it'\\''s'"),
+    ("'", "''\\'''"),
+    ("$HOME", "'$HOME'"),
+    ("*.c", "'*.c'"),
+    ("~", "'~'"),
+    ("a\\b", "'a\\b'"),
+    ("\"", "'\"'"),
+    ("a\nb", "'a\nb'"),
+    ("Grüße", "'Grüße'"),
+];
+
+#[test]
+fn words_for_a_shell(rt: HostRuntime) -> Result<(), Fail> {
+    for (word, expected) in CASES {
+        let mut text = String::new(rt.alloc());
+        push_quoted(&mut text, word)?;
+        assert!(rt; text.as_str() == *expected, "{word}");
+    }
+    Ok(())
+}
+
+#[test]
+fn a_word_is_appended(rt: HostRuntime) -> Result<(), Fail> {
+    let mut text = String::new(rt.alloc());
+    text.push_str("lc count ")?;
+    push_quoted(&mut text, "my files")?;
+    assert!(rt; text.as_str() == "lc count 'my files'");
+    Ok(())
+}
