@@ -18,4 +18,6 @@ pub mod NamedLines
 pub mod LastWords
 pub mod LinePlaces
 pub mod AboveRules
+pub mod DotSegments
+pub mod MatchingNothing
 pub mod RulePlaces

@@ -4,6 +4,7 @@ pub mod RuleLines
 pub mod IgnoreRules
 pub mod Verdicts
 pub mod Above
+pub mod CanMatch
 pub mod IgnoreLaws
 pub mod Chains
 pub mod IgnoreChains

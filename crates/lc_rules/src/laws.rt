@@ -1,5 +1,6 @@
 //! Laws of the definitions of ignore files that the contracts cite. The functions do nothing: their contracts are what is proved.
 
+ghost use Rattle.lc_rules.specs.CanMatch.{CanMatchLaw};
 ghost use Rattle.lc_rules.specs.IgnoreLaws.{CommandLineLaw, LastMatchLaw, LinesLaw};
 
 /// The law that the rule which decides is among the rules and matches, that no later rule matches, and that no other rule has
@@ -16,4 +17,9 @@ pub fn the_command_line_decides()
 /// The law that each rule of a file comes from the line with its number.
 pub fn rules_stand_on_their_lines()
     ensures { LinesLaw }
+{}
+
+/// The law that a line of which `can_match` is false gives no rule, or one that matches no path of an entry.
+pub fn what_cannot_match_gives_nothing()
+    ensures { CanMatchLaw }
 {}

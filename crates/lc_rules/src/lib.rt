@@ -3,6 +3,7 @@
 //! The formats are those of gitignore(5) and gitattributes(5); `docs/RULES.md` has each rule with an example.
 //!
 //! - `ignore_line`, `ignore_file`, `ignore_chain`: a rule, an ignore file, and the chain of those that apply to a path
+//! - `matchable`: whether a line gives a rule that can match
 //! - `attr_line`, `attr_words`, `last_word`, `attr_quotes`, `assignment`: a line of an attribute file
 //! - `attr_file`, `line_table`, `macro_table`, `attr_chain`: an attribute file, and the chain of those that apply to a path
 //! - `known_macros`, `resolver`, `states`: deciding one attribute
@@ -29,6 +30,7 @@ mod laws;
 mod line_table;
 mod lines;
 mod macro_table;
+mod matchable;
 mod paths;
 mod resolver;
 mod rule_source;
@@ -43,8 +45,12 @@ pub use faults::{MAX_RULE_BYTES, RuleFault};
 pub use ignore_chain::Chain;
 pub use ignore_file::IgnoreFile;
 pub use ignore_line::{Rule, text_of_line};
-pub use laws::{rules_stand_on_their_lines, the_command_line_decides, the_last_match_decides};
+pub use laws::{
+    rules_stand_on_their_lines, the_command_line_decides, the_last_match_decides,
+    what_cannot_match_gives_nothing,
+};
 pub use lines::Lines;
+pub use matchable::can_match;
 pub use resolver::decides_by_equations;
 pub use rule_source::RuleSource;
 pub use states::{State, TextState};

@@ -4,3 +4,4 @@ mod attributes;
 mod chains;
 mod deciding;
 mod ignore;
+mod matchable;
