@@ -7,13 +7,12 @@ use Rattle.std.proofs.lemmas.List.{map-append, take_more}
 use Rattle.std.proofs.lemmas.List.Folds.{list_any-append}
 use Rattle.lc_text.specs.Lines.{input_paths_of}
 use Rattle.lc_text.specs.declared.lines.PathEnd.{PathEnd}
-use Rattle.lc_text.specs.PathLines.{path_of, is_dir_line}
 use Rattle.lc_text.specs.declared.style.PathStyle.{PathStyle}
 use Rattle.lc_text.specs.declared.outcome.Outcome.{Outcome}
 use Rattle.lc_text.specs.declared.outcome.Outcome.TheVariants.{Clean, SomeFaults}
 use Rattle.lc_explain.specs.Explain.{Explains, ExplainsLine}
 use Rattle.lc_explain.specs.Explained.{Explanation}
-use Rattle.lc_explain.specs.ExplainText.{Told, told_line, told_text, explained_line, is_fault, has_fault}
+use Rattle.lc_explain.specs.ExplainText.{Told, named_path, names_dir, told_line, told_text, explained_line, is_fault, has_fault}
 
 -- what holds of each holds of one more
 all_more : {A : Type 0} (P : A → Type 0) (xs : List A) (x : A) → AllByRecursion P xs → P x → AllByRecursion P (xs ++ x ∷ [])
@@ -49,7 +48,7 @@ module _ (style : PathStyle) (Says : List ℕ → Bool → Explanation → Type 
         told = told ++ more ∷ [];
         lines_are = map-append (λ (t : Told). t.0) told (more ∷ [])
             ∙ ap (λ (l : List (List ℕ)). l ++ line ∷ []) explained.lines_are;
-        said = all_more (λ (t : Told). Says (path_of t.0) (is_dir_line t.0) t.1) told more explained.said here.said;
+        said = all_more (λ (t : Told). Says (named_path t.0) (names_dir t.0) t.1) told more explained.said here.said;
         text_is = ap (λ (l : List ℕ). l ++ explained_line style line x) explained.text_is ∙ sym one;
         outcome_is = here.outcome_is ∙ ap (λ (o : Outcome). if is_fault x then SomeFaults else o) explained.outcome_is
             ∙ sym (fault_more (has_fault told) (is_fault x)) ∙ ap (λ (b : Bool). cond b SomeFaults Clean) (sym any);

@@ -9,7 +9,7 @@ use Rattle.lc_level.specs.Job.{JobModel}
 use Rattle.lc_level.specs.Level.{Reason, reason_for, child_job}
 use Rattle.lc_level.specs.Selection.{SelectionModel}
 use Rattle.lc_text.specs.PathLines.{is_bad_path}
-use Rattle.lc_explain.specs.Explained.{Explanation, bad, below, cited, said_for, said_of, said_beside, kind_asked, is_directory}
+use Rattle.lc_explain.specs.Explained.{Explanation, below, cited, said_for, said_of, said_beside, said_of_none, kind_asked, is_directory}
 use Rattle.lc_explain.specs.Explained.{OnTheWay, OnEntering, IsSaid, IsExplained}
 use Rattle.lc_explain.specs.OpenDirs.{OpenDirModel, DirStack, kind_in, TopTextsModel}
 use Rattle.lc_explain.specs.DirStacks.{Reaches, IsStackBelow}
@@ -102,7 +102,7 @@ module _ (Enters : JobModel → Result OpenDirModel FaultLineModel → Type 0) (
     reached stack here path rest as_dir x reaches is good said =
         let OnPath : List ℕ → Type 0 =
         λ p. OnEntering Enters top x (λ first. IsSaid Enters s top_texts (first ∷ []) first (segments_of p) as_dir x) in
-        subst (λ (b : Bool). cond b (x ≡ bad) (OnPath path)) (sym good) (subst OnPath (sym is) (reaches rest as_dir x said))
+        subst (λ (b : Bool). cond b (x ≡ said_of_none path) (OnPath path)) (sym good) (subst OnPath (sym is) (reaches rest as_dir x said))
 
     -- a directory that the walk goes into from one that is reached is reached
     pub child_reached : (stack : DirStack) (here child : OpenDirModel) (name : List ℕ) → Reaches Enters s top_texts top stack here

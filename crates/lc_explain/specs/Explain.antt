@@ -9,7 +9,6 @@ use Rattle.lc_level.specs.TopJob.{TopRulesModel, own_rules, top_job}
 use Rattle.lc_rules.specs.IgnoreRules.{rules_of}
 use Rattle.lc_text.specs.Input.{AnswersInput}
 use Rattle.lc_text.specs.Lines.{input_paths_of}
-use Rattle.lc_text.specs.PathLines.{path_of, is_dir_line}
 use Rattle.lc_text.specs.Pieces.{WritesInPieces, AnswersInPieces}
 use Rattle.lc_text.specs.declared.check_fault.CheckFault.{CheckFault}
 use Rattle.lc_text.specs.declared.check_fault.CheckFault.TheVariants.{Read, InputTooLong, RulesTooLong, Memory, Write}
@@ -19,7 +18,7 @@ use Rattle.lc_text.specs.declared.lines.PathEnd.{PathEnd}
 use Rattle.lc_text.specs.declared.style.PathStyle.{PathStyle}
 use Rattle.lc_tree.specs.Trees.{Listings, Contents}
 use Rattle.lc_explain.specs.Explained.{Explanation, IsExplained}
-use Rattle.lc_explain.specs.ExplainText.{Told, explained_line, told_text, is_fault, has_fault}
+use Rattle.lc_explain.specs.ExplainText.{Told, named_path, names_dir, explained_line, told_text, is_fault, has_fault}
 use Rattle.lc_explain.specs.OpenDirs.{TopTextsModel, text_or_none, MayEnter}
 use Rattle.lc_explain.specs.declared.explain_options.ExplainOptions.{ExplainOptions}
 use Rattle.lc_text.specs.declared.outcome.Outcome.{Outcome}
@@ -56,7 +55,7 @@ module _ (style : PathStyle) (Says : List ℕ → Bool → Explanation → Type 
   pub record Explains (lines : List (List ℕ)) (text : List ℕ) (outcome : Outcome) : Type 0 where
     pub told : List Told
     pub lines_are : map (λ (t : Told). t.0) told ≡ lines
-    pub said : AllByRecursion (λ (t : Told). Says (path_of t.0) (is_dir_line t.0) t.1) told
+    pub said : AllByRecursion (λ (t : Told). Says (named_path t.0) (names_dir t.0) t.1) told
     pub text_is : text ≡ told_text style told
     pub outcome_is : outcome ≡ outcome_of told
 
@@ -73,7 +72,7 @@ module _ (style : PathStyle) (Says : List ℕ → Bool → Explanation → Type 
   -- one more line was explained: the text before it and after it, and whether a directory was at fault
   pub record ExplainsLine (line old new : List ℕ) (before after : Outcome) : Type 0 where
     pub x : Explanation
-    pub said : Says (path_of line) (is_dir_line line) x
+    pub said : Says (named_path line) (names_dir line) x
     pub text_is : new ≡ old ++ explained_line style line x
     pub outcome_is : after ≡ (if is_fault x then SomeFaults else before)
 

@@ -3,13 +3,20 @@ use Rattle.std.specs.Prelude.{ℕ, Bool, true, false, List, ◌++◌, flat_map, 
 use Rattle.std.specs.List.{list_any}
 use Rattle.lc_level.specs.FaultLines.{FaultLineModel}
 use Rattle.lc_level.specs.Level.{Reason, named_git, by_rule, by_attribute, not_included, other_kind}
-use Rattle.lc_text.specs.PathLines.{path_of}
+use Rattle.lc_text.specs.PathLines.{path_of, is_dir_line, undotted}
 use Rattle.lc_text.specs.RulePlaces.{rule_place}
 use Rattle.lc_text.specs.Styles.{styled, styled_path}
 use Rattle.lc_text.specs.declared.style.PathStyle.{PathStyle}
 use Rattle.lc_level.specs.FaultWords.{fault_word}
 use Rattle.lc_tree.specs.declared.entry.OtherKind.TheVariants.{Special, Mounted}
 use Rattle.lc_explain.specs.Explained.{CitedRule, Explanation, bad, faulted, below, ignored, included, unruled, left_out}
+
+-- the path that a line names, and whether as that of a directory: `./` at the beginning of the line means nothing
+abbrev pub named_path : List ℕ → List ℕ
+named_path line = path_of (undotted line)
+
+abbrev pub names_dir : List ℕ → Bool
+names_dir line = is_dir_line (undotted line)
 
 -- the fields, with tabs between
 abbrev pub four_fields : List ℕ → List ℕ → List ℕ → List ℕ → List ℕ
@@ -33,7 +40,7 @@ module _ (style : PathStyle) where
   -- of a line that a rule decides: where the rule stands, and the text of its line
   abbrev pub rule_line : List ℕ → List ℕ → CitedRule → List ℕ
   rule_line word line rule =
-      four_fields word (rule_place (styled style) (path_of line) rule.source rule.line) (styled style rule.text) (styled style line)
+      four_fields word (rule_place (styled style) (named_path line) rule.source rule.line) (styled style rule.text) (styled style line)
 
   -- the word of what is said of a line's path, where it is said by, the pattern, and the line as it came
   abbrev pub explained_line : List ℕ → Explanation → List ℕ

@@ -11,7 +11,7 @@ use Rattle.lc_rules.specs.IgnoreRules.{RuleModel}
 use Rattle.lc_rules.specs.Verdicts.{last_match}
 use Rattle.lc_rules.specs.declared.rule_source.RuleSource.{RuleSource}
 use Rattle.lc_text.specs.RulePlaces.{line_text}
-use Rattle.lc_text.specs.PathLines.{is_bad_path}
+use Rattle.lc_text.specs.PathLines.{is_bad_path, is_top}
 use Rattle.lc_tree.specs.Kinds.{is_dir}
 use Rattle.lc_tree.specs.declared.entry.Kind.{Kind}
 use Rattle.lc_tree.specs.declared.entry.Kind.TheVariants.{File, Dir, Other}
@@ -91,6 +91,10 @@ module _ (s : SelectionModel) (top_texts : TopTextsModel) where
   said_beside stack j (name ∷ next ∷ names) as_dir =
       said_above (cited top_texts stack) (reason_for s j name Dir) (said_beside stack (child_job j name) (next ∷ names) as_dir)
 
+-- of a path that no entry has: `.` is the top directory itself, which no rule decides, and any other is bad
+abbrev pub said_of_none : List ℕ → Explanation
+said_of_none path = cond (is_top path) unruled bad
+
 module _ (Enters : JobModel → Result OpenDirModel FaultLineModel → Type 0) where
   -- a directory is entered, and says this of what stands below it, or is at fault
   abbrev pub OnEntering : JobModel → Explanation → (OpenDirModel → Type 0) → Type 0
@@ -111,5 +115,5 @@ module _ (Enters : JobModel → Result OpenDirModel FaultLineModel → Type 0) w
     -- of a path, from the top of the tree down; `as_dir` says that it is that of a directory
     abbrev pub IsExplained : JobModel → List ℕ → Bool → Explanation → Type 0
     IsExplained top path as_dir x =
-        cond (is_bad_path path) (x ≡ bad)
+        cond (is_bad_path path) (x ≡ said_of_none path)
         (OnEntering top x (λ here. IsSaid (here ∷ []) here (segments_of path) as_dir x))

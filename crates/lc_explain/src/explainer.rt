@@ -10,7 +10,7 @@ ghost use Rattle.lc_rules.specs.declared.rule_source.RuleSource.{RuleSource};
 ghost use Rattle.lc_text.specs.PathLines.{is_bad_path};
 ghost use Rattle.lc_tree.specs.Kinds.{is_dir};
 ghost use Rattle.lc_explain.specs.Explain.{top_rules_of, top_texts_of};
-ghost use Rattle.lc_explain.specs.Explained.{CitedRule, cited, kind_asked, is_directory, said_by, said_beside, IsExplained};
+ghost use Rattle.lc_explain.specs.Explained.{CitedRule, cited, kind_asked, is_directory, said_by, said_beside, said_of_none, IsExplained};
 ghost use Rattle.lc_explain.specs.Findings.{explanation_of, explanation_on};
 ghost use Rattle.lc_explain.specs.OpenDirs.{OpenDirModel, TopTextsModel, stack_at, stack_to, MayEnter};
 ghost use Rattle.lc_explain.specs.DirStacks.{StandsBelow, Goes, AreStacks};
@@ -22,7 +22,7 @@ use crate::stack_cache::{Near, StackCache};
 use crate::top_texts::TopTexts;
 use lc_glob::cut_at_first;
 use lc_level::{Job, LevelReader, OpenFault, ReaderOptions};
-use lc_text::{PathStyle, is_bad_path};
+use lc_text::{PathStyle, is_bad_path, is_top};
 use lc_tree::{Kind, Tree};
 use std::alloc::{AllocError, Global};
 
@@ -43,6 +43,17 @@ fn is_directory(there: Option<Kind>) -> bool
     match there {
         None => false,
         Some(kind) => kind.is_dir(),
+    }
+}
+
+/// Returns the finding of a path that no entry of a tree has.
+fn without_entry<'p>(path: &[u8]) -> Finding<'p>
+    ensures { (cite : RuleSource → ℕ → CitedRule) → explanation_of cite result ≡ said_of_none path.now }
+{
+    if is_top(path) {
+        Finding::NoRule
+    } else {
+        Finding::Bad
     }
 }
 
@@ -236,7 +247,7 @@ impl<'t, T: Tree> Explainer<'t, T> {
             (explanation_on self.now.top_texts kept.new f)) }
     {
         if is_bad_path(path) {
-            return Ok(Found::on_none(Finding::Bad));
+            return Ok(Found::on_none(without_entry(path)));
         }
         if let Some(near) = kept.nearest(path) {
             let found = self.descend(kept, near, path, as_dir)?;

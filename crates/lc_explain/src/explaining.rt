@@ -15,8 +15,9 @@ use std::alloc::Global;
 /// it.
 ///
 /// A line of the output has four fields, separated by tabs: a word, its source, a pattern, and the path as it was read. Paths and patterns
-/// are printed in the style of the options. A path that ends with one slash is a directory; for any other the tree is asked, and a path
-/// that isn't there is taken for a file. The word is the first of these that holds, from the top directory down to the path:
+/// are printed in the style of the options. `./` at the beginning of a path means nothing, and `.` alone is the tree's top directory, which
+/// no rule decides: its word is `none`. A path that ends with one slash is a directory; for any other the tree is asked, and a path that
+/// isn't there is taken for a file. The word is the first of these that holds, from the top directory down to the path:
 ///
 /// - `bad`: no entry of a tree can have this path, or it has over 4,096 bytes;
 /// - `fault`: a directory above the path could not be listed, or a rule file could not be read. Then come the word of the fault, a dash

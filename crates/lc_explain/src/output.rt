@@ -19,6 +19,7 @@ use lc_level::Reason;
 use lc_rules::{Lines, text_of_line};
 use lc_text::{
     Block, Outcome, PathStyle, push_rule_source, push_styled, push_styled_path, split_slash,
+    undotted,
 };
 use lc_tree::{OtherKind, Tree};
 use std::alloc::{AllocError, Global};
@@ -91,7 +92,7 @@ fn push_ruled(
     ensures { OnOk result (text.new.items ≡ text.old.items ++ rule_line style word.now line.now
         (record { source = rule.entry.place.source; line = rule.entry.place.line; text = rule.entry.text.now })) }
 {
-    let (path, _) = split_slash(line);
+    let (path, _) = split_slash(undotted(line));
     text.extend_from_slice(word.as_bytes())?;
     text.extend_from_slice(b"\t")?;
     push_rule_source(text, style, path, rule.place.source, rule.place.line)?;
@@ -222,7 +223,8 @@ impl ExplainOutput {
             explainer.now.reader.selection explainer.now.top_texts explainer.now.top) line.now self.old.block.text.items
             self.new.block.text.items self.old.outcome self.new.outcome) }
     {
-        let (path, as_dir) = split_slash(line);
+        let named = undotted(line);
+        let (path, as_dir) = split_slash(named);
         let found = explainer.find(kept, path, as_dir)?;
         self.push(&explainer.top_texts, explainer.style, kept, line, &found)?;
         Ok(())

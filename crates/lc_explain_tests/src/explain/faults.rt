@@ -44,8 +44,8 @@ static CASES: [Case; 4] = [
     (
         "the top can't be listed",
         Sketch::Closed,
-        b"a\n./a\n",
-        b"fault\tread\t-\t.\nbad\t-\t-\t./a\n",
+        b"a\n./a\n.\na//b\n",
+        b"fault\tread\t-\t.\nfault\tread\t-\t.\nnone\t-\t-\t.\nbad\t-\t-\ta//b\n",
     ),
     (
         "nor .git/info",

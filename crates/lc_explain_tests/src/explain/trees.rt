@@ -67,7 +67,7 @@ const REPOSITORY: Sketch = Sketch::Dir(&[
     (b"s", Sketch::Dir(&[(b".git", LINE)])),
 ]);
 
-static CASES: [Case; 7] = [
+static CASES: [Case; 9] = [
     (
         "each word but one, by rules of the top",
         WORKED,
@@ -127,8 +127,38 @@ static CASES: [Case; 7] = [
     (
         "paths that no entry can have",
         WORKED,
-        b"\n/\n./a\na//b\n../a\na/b\x00\n",
-        b"bad\t-\t-\t\nbad\t-\t-\t/\nbad\t-\t-\t./a\nbad\t-\t-\ta//b\nbad\t-\t-\t../a\nbad\t-\t-\ta/b\\x00\n",
+        b"\n/\na//b\n../a\n./../a\na/./b\na/.\na/b\x00\n",
+        b"bad\t-\t-\t\nbad\t-\t-\t/\nbad\t-\t-\ta//b\nbad\t-\t-\t../a\nbad\t-\t-\t./../a\n\
+          bad\t-\t-\ta/./b\nbad\t-\t-\ta/.\nbad\t-\t-\ta/b\\x00\n",
+    ),
+    (
+        "dots before a path mean nothing, and a dot alone is the top",
+        DEEP,
+        b"./src/a.o\n.//src/k.o\n././src/in/a.o\n./src/high/low/\n./src/gen  /\n./gone\n.\n./\n.//./\n",
+        b"ignored\t.gitignore:1\t*.o\t./src/a.o\n\
+          included\tsrc/.gitignore:2\t!k.o\t.//src/k.o\n\
+          included\tsrc/in/.gitignore:1\t!a.o\t././src/in/a.o\n\
+          below\tsrc/.gitignore:4\thigh/\t./src/high/low/\n\
+          ignored\tsrc/.gitignore:3\t/gen\\\\ \\\\ \t./src/gen  /\n\
+          none\t-\t-\t./gone\n\
+          none\t-\t-\t.\n\
+          none\t-\t-\t./\n\
+          none\t-\t-\t.//./\n",
+    ),
+    (
+        "the paths of find . in a repository",
+        REPOSITORY,
+        b".\n./.git\n./.git/info\n./.git/HEAD\n./.gitignore\n./a.o\n./docs\n./docs/a\n./s\n./s/.git\n",
+        b"none\t-\t-\t.\n\
+          left\tgit\t-\t./.git\n\
+          left\tgit\t-\t./.git/info\n\
+          left\tgit\t-\t./.git/HEAD\n\
+          none\t-\t-\t./.gitignore\n\
+          ignored\t.git/info/exclude:2\t*.o\t./a.o\n\
+          none\t-\t-\t./docs\n\
+          none\t-\t-\t./docs/a\n\
+          none\t-\t-\t./s\n\
+          left\tgit\t-\t./s/.git\n",
     ),
     ("no paths", WORKED, b"", b""),
 ];
@@ -216,10 +246,11 @@ fn a_path_may_have_a_line_feed(rt: HostRuntime) -> Result<(), Fail> {
 }
 
 /// A word is a path, whatever its bytes.
-const WORDS: [&str; 3] = ["a.log", "a\nb", "src/"];
+const WORDS: [&str; 5] = ["a.log", "a\nb", "src/", "./a.log", "."];
 
 const OF_WORDS: &[u8] =
-    b"ignored\t.gitignore:1\t*.log\ta.log\nnone\t-\t-\ta\\x0ab\nnone\t-\t-\tsrc/\n";
+    b"ignored\t.gitignore:1\t*.log\ta.log\nnone\t-\t-\ta\\x0ab\nnone\t-\t-\tsrc/\n\
+      ignored\t.gitignore:1\t*.log\t./a.log\nnone\t-\t-\t.\n";
 
 #[test]
 fn words_are_paths(rt: HostRuntime) -> Result<(), Fail> {

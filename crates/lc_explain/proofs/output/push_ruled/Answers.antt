@@ -3,6 +3,7 @@ use Rattle.lc_text.specs.PathLines.{path_of}
 use Rattle.lc_text.specs.RulePlaces.{rule_place}
 use Rattle.lc_text.specs.Styles.{styled}
 use Rattle.lc_text.proofs.Appended.{last_piece}
+use Rattle.lc_explain.specs.ExplainText.{named_path}
 use Rattle.lc_explain.proofs.OutputLines.{eight_pieces}
 use Rattle.lc_explain.proofs.output.push_ruled.Goals as goal
 
@@ -24,6 +25,7 @@ returns c =
     c.extend_from_slice-5.ensures.items
     (ap (λ (t : List ℕ). t ++ 10 ∷ []) pushed
     ∙ eight_pieces old word (9 ∷ []) (place c.split_slash.result.0.now) (9 ∷ []) pattern (9 ∷ []) line (10 ∷ [])
-    ∙ ap (λ (p : List ℕ). old ++ (word ++ 9 ∷ [] ++ place p ++ 9 ∷ [] ++ pattern ++ 9 ∷ [] ++ line ++ 10 ∷ [])) c.split_slash.ensures.path
+    ∙ ap (λ (p : List ℕ). old ++ (word ++ 9 ∷ [] ++ place p ++ 9 ∷ [] ++ pattern ++ 9 ∷ [] ++ line ++ 10 ∷ []))
+    (c.split_slash.ensures.path ∙ ap path_of c.undotted.ensures)
     ∙ ap (λ (w : List ℕ). old ++ (w ++ 9 ∷ [] ++ place
-    (path_of c.args.line.now) ++ 9 ∷ [] ++ pattern ++ 9 ∷ [] ++ line ++ 10 ∷ [])) c.as_bytes.ensures.value)
+    (named_path c.args.line.now) ++ 9 ∷ [] ++ pattern ++ 9 ∷ [] ++ line ++ 10 ∷ [])) c.as_bytes.ensures.value)

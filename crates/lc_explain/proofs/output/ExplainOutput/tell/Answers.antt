@@ -1,5 +1,5 @@
 use Rattle.std.proofs.Common.{ℕ, Bool, List, subst}
-use Rattle.lc_text.specs.PathLines.{is_dir_line}
+use Rattle.lc_text.specs.PathLines.{path_of, is_dir_line}
 use Rattle.lc_explain.specs.Explained.{Explanation, IsExplained}
 use Rattle.lc_explain.specs.Findings.{explanation_on}
 use Rattle.lc_explain.specs.OpenDirs.{MayEnter}
@@ -16,7 +16,8 @@ returns-clause-told g c =
     c.in_ok-found.ensures.found in
     record {
       x = x;
-      said = subst (λ (p : List ℕ). Says p (is_dir_line c.args.line.now) x) c.split_slash-as_dir.ensures.path here;
+      said = subst (λ (l : List ℕ). Says (path_of l) (is_dir_line l) x) c.undotted-named.ensures
+          (subst (λ (p : List ℕ). Says p (is_dir_line c.undotted-named.result.now) x) c.split_slash-as_dir.ensures.path here);
       text_is = c.in_ok-push.ensures.text;
       outcome_is = c.in_ok-push.ensures.outcome;
     }
