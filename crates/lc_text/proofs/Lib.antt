@@ -3,6 +3,8 @@ pub mod Taking
 pub mod Plain
 pub mod Appended
 pub mod ShellWords
+pub mod DotsDropped
+pub mod ReadBack
 pub mod Clear
 pub mod InPieces
 pub mod KnownWrites

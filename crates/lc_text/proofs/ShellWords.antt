@@ -1,30 +1,6 @@
 -- What is written of a text in single quotes, byte by byte and character by character.
-use Rattle.std.proofs.Common.{
-  ◌≡◌,
-  ℕ,
-  ◌<◌,
-  ◌==◌,
-  Bool,
-  true,
-  false,
-  suc,
-  List,
-  [],
-  ◌∷◌,
-  ◌++◌,
-  length,
-  refl,
-  sym,
-  ap,
-  ap₂,
-  arith,
-  ◌∙◌,
-  codes,
-  chars,
-  encode_utf8,
-  flat_map,
-  get_or,
-}
+use Rattle.std.proofs.Common.{◌≡◌, ℕ, ◌<◌, ◌==◌, Bool, true, false, suc, List, [], ◌∷◌, ◌++◌, length, refl, sym, ap, ap₂, arith, ◌∙◌, codes}
+use Rattle.std.proofs.Common.{chars, encode_utf8, flat_map, get_or}
 use Rattle.std.proofs.lemmas.Bool.{ne_eqb}
 use Rattle.std.proofs.lemmas.List.{append-nil}
 use Rattle.std.proofs.lemmas.Str.{inside_one}

@@ -5,6 +5,8 @@ pub mod RulePlaces
 pub mod Lines
 pub mod PathLines
 pub mod Quoting
+pub mod DotsBefore
+pub mod ShellWords
 pub mod Input
 pub mod Writes
 pub mod Pieces

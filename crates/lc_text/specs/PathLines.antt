@@ -1,23 +1,5 @@
 -- A line that names a path: a slash at its end means a directory.
-use Rattle.std.specs.Prelude.{
-  ℕ,
-  ◌-◌,
-  ◌==◌,
-  Bool,
-  false,
-  not,
-  ◌||◌,
-  ◌&&◌,
-  nat_eq,
-  nat_lt,
-  cond,
-  if◌then◌else◌,
-  List,
-  [],
-  ◌∷◌,
-  length,
-  take,
-}
+use Rattle.std.specs.Prelude.{ℕ, ◌-◌, ◌==◌, Bool, false, not, ◌||◌, ◌&&◌, nat_eq, nat_lt, cond, if◌then◌else◌, List, [], ◌∷◌, length, take}
 use Rattle.std.specs.List.{ends_with}
 use Rattle.lc_glob.specs.Bytes.{slash, dot}
 use Rattle.lc_glob.specs.Path.{is_good_path, max_path}

@@ -31,7 +31,9 @@ pub use blocks::{BLOCK_SIZE, Block};
 pub use check_fault::CheckFault;
 pub use escaping::{escape, push_escaped, push_path};
 pub use input::{MAX_INPUT, read_input};
-pub use laws::a_vector_takes_the_text;
+pub use laws::{
+    a_shell_reads_what_was_quoted, a_vector_takes_the_text, dots_before_a_path_are_dropped,
+};
 pub use lines::{PathEnd, split_path};
 pub use outcome::Outcome;
 pub use path_line::{is_bad_path, is_top, split_slash, undotted};
