@@ -1,10 +1,11 @@
 -- What is dropped at the beginning of a line.
 use Rattle.std.proofs.Common.{◌≡◌, ℕ, ◌+◌, ◌==◌, Bool, true, false, zero, suc, ◌&&◌, List, [], ◌∷◌, ◌++◌, if◌then◌else◌, refl, sym, ◌∙◌, ap}
-use Rattle.std.proofs.Common.{ap₂, flat_map, replicate, inl, inr}
+use Rattle.std.proofs.Common.{ap₂, flat_map, replicate, inl, inr, subst}
 use Rattle.std.proofs.lemmas.Bool.{eqb-true, and_parts}
 use Rattle.std.proofs.lemmas.List.{append_assoc}
 use Rattle.lc_glob.specs.Bytes.{dot, slash}
-use Rattle.lc_text.specs.DotsBefore.{dot_slashes, begins_with_slash, begins_with_dot_slash, path_after, IsAfterDots, UndottedLaw}
+use Rattle.lc_glob.specs.Path.{is_good_path}
+use Rattle.lc_text.specs.DotsBefore.{dot_slashes, begins_with_slash, begins_with_dot_slash, path_after, IsAfterDots, UndottedLaw, KeptLaw}
 use Rattle.lc_text.specs.PathLines.{after_dot, or_dot, undotted}
 
 -- what follows a `./`: slashes, more of them, and the rest
@@ -76,3 +77,18 @@ undotted_law (b ∷ c ∷ cs) = at ((b == dot) && (c == slash)) refl
           path_is = refl;
         })
     at false e = rw e (record { dots = []; rest = b ∷ c ∷ cs; line_is = refl; no_dot = e; no_slash = inl refl; path_is = refl })
+
+pub kept_law : KeptLaw
+kept_law [] good = refl
+kept_law (b ∷ []) good = refl
+kept_law (b ∷ c ∷ cs) good = at ((b == dot) && (c == slash)) refl
+  where
+    at : (q : Bool) → ((b == dot) && (c == slash)) ≡ q
+        → (if (b == dot) && (c == slash) then or_dot (after_dot cs) else b ∷ c ∷ cs) ≡ b ∷ c ∷ cs
+    at true e =
+        let both = and_parts (b == dot) (c == slash) e in
+        let dotted : is_good_path (dot ∷ slash ∷ cs) ≡ true =
+        subst (λ (y : ℕ). is_good_path (dot ∷ y ∷ cs) ≡ true) (eqb-true c slash both.1)
+        (subst (λ (x : ℕ). is_good_path (x ∷ c ∷ cs) ≡ true) (eqb-true b dot both.0) good) in
+        absurd (cc dotted)
+    at false e = rw e refl

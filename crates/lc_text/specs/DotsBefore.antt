@@ -1,6 +1,7 @@
 -- What is left of a line without any `./` at its beginning.
-use Rattle.std.specs.Prelude.{◌≡◌, ◌⊎◌, ℕ, ◌==◌, Bool, false, ◌&&◌, List, [], ◌∷◌, ◌++◌, flat_map, replicate}
+use Rattle.std.specs.Prelude.{◌≡◌, ◌⊎◌, ℕ, ◌==◌, Bool, true, false, ◌&&◌, List, [], ◌∷◌, ◌++◌, flat_map, replicate}
 use Rattle.lc_glob.specs.Bytes.{dot, slash}
+use Rattle.lc_glob.specs.Path.{is_good_path}
 use Rattle.lc_text.specs.PathLines.{or_dot, undotted}
 
 -- a dot and a slash, and so many slashes more
@@ -32,3 +33,7 @@ pub record IsAfterDots (line path : List ℕ) : Type 0 where
 
 abbrev pub UndottedLaw : Type 0
 UndottedLaw = (line : List ℕ) → IsAfterDots line (undotted line)
+
+-- the path of an entry is left as it is
+abbrev pub KeptLaw : Type 0
+KeptLaw = (path : List ℕ) → is_good_path path ≡ true → undotted path ≡ path

@@ -2,7 +2,7 @@
 
 ghost use Rattle.std.specs.Prelude.{◌≡◌, ◌++◌, ℕ, List, Vec};
 ghost use Rattle.std.specs.Global.{Global};
-ghost use Rattle.lc_text.specs.DotsBefore.{UndottedLaw};
+ghost use Rattle.lc_text.specs.DotsBefore.{KeptLaw, UndottedLaw};
 ghost use Rattle.lc_text.specs.Pieces.{WritesInPieces};
 ghost use Rattle.lc_text.specs.ShellWords.{QuotedLaw};
 ghost use Rattle.lc_text.specs.Writes.{AppendsAll, Writes};
@@ -15,8 +15,10 @@ pub fn a_vector_takes_the_text()
 {}
 
 /// A line is dots, each with one slash or more, and what [`undotted`](crate::undotted) leaves of it, which begins with no more of them.
+/// The path of an entry of a tree has none, and is left as it is.
 pub fn dots_before_a_path_are_dropped()
-    ensures { UndottedLaw }
+    ensures dropped { UndottedLaw }
+    ensures kept { KeptLaw }
 {}
 
 /// A shell reads a text that [`push_quoted`](crate::push_quoted) wrote as that text, and as one word.
