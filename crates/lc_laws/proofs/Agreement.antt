@@ -2,7 +2,7 @@
 use Rattle.std.proofs.Common.{◌≡◌, ℕ, ◌+◌, ◌≤◌, true, false, cond, List, [], length, refl, sym, ◌∙◌, ap, subst, arith, inl, inr}
 use Rattle.std.specs.List.{Contains}
 use Rattle.lc_explain.specs.Explain.{top_texts_of}
-use Rattle.lc_explain.specs.Explained.{Explanation, bad, ignored, cited, said_for, IsExplained}
+use Rattle.lc_explain.specs.Explained.{Explanation, ignored, cited, said_for, IsExplained, said_of_none}
 use Rattle.lc_explain.specs.Laws.{IsSaidKept, EntryLaw}
 use Rattle.lc_explain.specs.OpenDirs.{DirStack, MayEnter, TopTextsModel}
 use Rattle.lc_explain.specs.declared.explain_options.ExplainOptions.{ExplainOptions}
@@ -88,7 +88,7 @@ module _ (law : EntryLaw) (Enters : Entering) (s : SelectionModel) (whole : s.on
     told = λ kind entry.
         told Enters s whole top_texts x top t known asked depth r report files skipped_ones path kind entry taken_kept
         (segments_of path) [] [] top refl (omega (arith, deep)) path refl (sym (ap (λ d. path_in d path) at_top)) refl
-        (subst (λ b. cond b (x ≡ bad) (IsSaidBelow Enters s top_texts x [] top (segments_of path))) good said);
+        (subst (λ b. cond b (x ≡ said_of_none path) (IsSaidBelow Enters s top_texts x [] top (segments_of path))) good said);
   }
 
 -- where a count and an explanation are asked for alike, the one begins and leaves out as the other does

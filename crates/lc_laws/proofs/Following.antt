@@ -2,7 +2,8 @@
 use Rattle.std.proofs.Common.{◌≡◌, ℕ, Bool, true, false, cond, List, [], ◌∷◌, ◌++◌, refl, sym, ◌∙◌, ap, subst, Option, Some, None, Result}
 use Rattle.std.proofs.Common.{MatchResult}
 use Rattle.std.specs.Option.{is_none}
-use Rattle.lc_explain.specs.Explained.{Explanation, bad, faulted, below, cited, said_for, said_of, said_beside, kind_asked, is_directory}
+use Rattle.lc_explain.specs.Explained.{Explanation, faulted, below, cited, said_for, said_of, said_beside, kind_asked, is_directory}
+use Rattle.lc_explain.specs.Explained.{said_of_none}
 use Rattle.lc_explain.specs.Explained.{OnTheWay, OnEntering, IsSaid, IsExplained}
 use Rattle.lc_explain.specs.Laws.{Agrees, EntryLaw}
 use Rattle.lc_explain.specs.OpenDirs.{OpenDirModel, DirStack, open_dir, kind_in, TopTextsModel}
@@ -140,7 +141,7 @@ module _ (Enters : Entering) (s : SelectionModel) (top_texts : TopTextsModel) (x
       ∙ ap (λ p. names_of_path p ++ place) at_top)
       ∙ ap (λ l. place ++ l) named in
       let below_top : IsSaidBelow [] top (segments_of path) =
-      subst (λ b. cond b (x ≡ bad) (IsSaidBelow [] top (segments_of path))) good said in
+      subst (λ b. cond b (x ≡ said_of_none path) (IsSaidBelow [] top (segments_of path))) good said in
       let at = followed place [] top k t h.items h.inside name known leads h.listed (subst (IsSaidBelow [] top) names below_top) in
       let kind : kind_in (entries_of h.items) name ≡ Some (entry_of h.item).kind =
       subst (λ n. kind_in (entries_of h.items) n ≡ Some (entry_of h.item).kind) h.named (kind_found h.items spread h.item item) in

@@ -4,7 +4,7 @@ use Rattle.std.proofs.Common.{arith, Option, Some, None, Result, Ok, Err, length
 use Rattle.std.proofs.lemmas.Bool.{and_parts}
 use Rattle.std.specs.List.{list_all, AllByRecursion}
 use Rattle.lc_explain.specs.Explain.{top_texts_of}
-use Rattle.lc_explain.specs.Explained.{Explanation, bad, below, cited, said_for, said_beside, kind_asked, is_directory, OnTheWay}
+use Rattle.lc_explain.specs.Explained.{Explanation, below, cited, said_for, said_beside, kind_asked, is_directory, OnTheWay, said_of_none}
 use Rattle.lc_explain.specs.Explained.{OnEntering, IsSaid}
 use Rattle.lc_explain.specs.OpenDirs.{OpenDirModel, DirStack, open_dir, MayEnter, kind_in, TopTextsModel}
 use Rattle.lc_explain.specs.declared.explain_options.ExplainOptions.{ExplainOptions}
@@ -170,7 +170,7 @@ module _ (lists : List ℕ → Listings) (gives : List ℕ → Contents) (q : Ex
     FromTop E = OnEntering E (top_asked q) x (λ here. IsSaid E q.selection top_texts (here ∷ []) here (segments_of path) as_dir x)
 
     abbrev FromTopOr : Entering → Bool → Type 0
-    FromTopOr E b = cond b (x ≡ bad) (FromTop E)
+    FromTopOr E b = cond b (x ≡ said_of_none path) (FromTop E)
 
     by_path : (b : Bool) → is_bad_path path ≡ b → FromTopOr (MayEnter lists gives) b → IsSaidByAnswers q lists gives path as_dir x
     by_path true is said = record {

@@ -2,7 +2,8 @@
 use Rattle.std.proofs.Common.{◌≡◌, ℕ, Bool, true, false, cond, List, [], ◌∷◌, ◌++◌, refl, sym, ◌∙◌, subst, Option, Some, None, Result}
 use Rattle.std.proofs.Common.{Ok, Err, MatchResult}
 use Rattle.lc_explain.specs.Explain.{top_rules_of, top_texts_of}
-use Rattle.lc_explain.specs.Explained.{Explanation, bad, faulted, below, cited, said_for, said_beside, kind_asked, is_directory, OnTheWay}
+use Rattle.lc_explain.specs.Explained.{Explanation, faulted, below, cited, said_for, said_beside, kind_asked, is_directory, OnTheWay}
+use Rattle.lc_explain.specs.Explained.{said_of_none}
 use Rattle.lc_explain.specs.Explained.{OnEntering, IsSaid, IsExplained}
 use Rattle.lc_explain.specs.OpenDirs.{OpenDirModel, DirStack, MayEnter, kind_in, TopTextsModel}
 use Rattle.lc_glob.specs.Path.{segments_of}
@@ -62,9 +63,9 @@ module _ (Enters : Entering) (same_entered : (j : JobModel) (a b : Result OpenDi
   explained_once top path = at (is_bad_path path)
     where
       at : (b : Bool)
-          → cond b (x ≡ bad) (OnEntering Enters top x
+          → cond b (x ≡ said_of_none path) (OnEntering Enters top x
           (λ here. IsSaid Enters s top_texts (here ∷ []) here (segments_of path) as_dir x))
-          → cond b (y ≡ bad) (OnEntering Enters top y
+          → cond b (y ≡ said_of_none path) (OnEntering Enters top y
           (λ here. IsSaid Enters s top_texts (here ∷ []) here (segments_of path) as_dir y)) → x ≡ y
       at true e f = e ∙ sym f
       at false e f = once_entered top _ _ (λ here. said_once (segments_of path) (here ∷ []) here) e f

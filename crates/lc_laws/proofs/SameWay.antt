@@ -2,7 +2,7 @@
 use Rattle.std.proofs.Common.{◌≡◌, ℕ, Bool, true, false, cond, List, [], ◌∷◌, ◌++◌, refl, sym, ◌∙◌, ap, subst, Option, Some, None, Result}
 use Rattle.std.proofs.Common.{Ok, Err, option_map, find, bytes_eq, append_assoc, inl, inr}
 use Rattle.std.specs.Option.{is_none}
-use Rattle.lc_explain.specs.Explained.{Explanation, bad, below, cited, said_for, said_beside, kind_asked, is_directory, OnTheWay}
+use Rattle.lc_explain.specs.Explained.{Explanation, below, cited, said_for, said_beside, kind_asked, is_directory, OnTheWay, said_of_none}
 use Rattle.lc_explain.specs.Explained.{OnEntering, IsSaid, IsExplained}
 use Rattle.lc_explain.specs.OpenDirs.{OpenDirModel, DirStack, open_dir, open_dir_of, open_dir_after, kind_in, TopTextsModel}
 use Rattle.lc_glob.proofs.Naming.{has_first}
@@ -137,8 +137,8 @@ module _ (s : SelectionModel) (top_texts : TopTextsModel) (as_dir : Bool) (x : E
   pub explained_on : IsExplained Enters s top_texts top path as_dir x → IsExplained Onto s top_texts top path as_dir x
   explained_on = at (is_bad_path path)
     where
-      at : (b : Bool) → cond b (x ≡ bad) (SaidBelow Enters [] top (segments_of path))
-          → cond b (x ≡ bad) (SaidBelow Onto [] top (segments_of path))
+      at : (b : Bool) → cond b (x ≡ said_of_none path) (SaidBelow Enters [] top (segments_of path))
+          → cond b (x ≡ said_of_none path) (SaidBelow Onto [] top (segments_of path))
       at true e = e
       at false e =
           let h = has_first path in

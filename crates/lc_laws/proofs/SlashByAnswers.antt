@@ -3,7 +3,8 @@ use Rattle.std.proofs.Common.{◌≡◌, ℕ, Bool, true, false, cond, List, [],
 use Rattle.std.proofs.Common.{Ok, Err, append_assoc}
 use Rattle.std.specs.List.{Contains}
 use Rattle.lc_explain.specs.Explain.{top_texts_of}
-use Rattle.lc_explain.specs.Explained.{Explanation, bad, below, cited, said_for, said_of, said_beside, kind_asked, is_directory, OnTheWay}
+use Rattle.lc_explain.specs.Explained.{Explanation, below, cited, said_for, said_of, said_beside, kind_asked, is_directory, OnTheWay}
+use Rattle.lc_explain.specs.Explained.{said_of_none}
 use Rattle.lc_explain.specs.Explained.{OnEntering, IsSaid}
 use Rattle.lc_explain.specs.OpenDirs.{OpenDirModel, DirStack, open_dir, kind_in, TopTextsModel}
 use Rattle.lc_glob.specs.Path.{segments_of}
@@ -115,9 +116,9 @@ answers_slash_law t q path x listings entry = at (is_bad_path path)
     top = top_asked q
 
     at : (b : Bool)
-        → cond b (x ≡ bad) (OnEntering (EntersBy t) top x
+        → cond b (x ≡ said_of_none path) (OnEntering (EntersBy t) top x
         (λ here. IsSaid (EntersBy t) s (top_texts_of q) (here ∷ []) here (segments_of path) true x))
-        → cond b (x ≡ bad) (OnEntering (EntersBy t) top x
+        → cond b (x ≡ said_of_none path) (OnEntering (EntersBy t) top x
         (λ here. IsSaid (EntersBy t) s (top_texts_of q) (here ∷ []) here (segments_of path) false x))
     at true e = e
     at false said =

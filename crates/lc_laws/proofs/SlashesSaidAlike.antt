@@ -2,7 +2,8 @@
 use Rattle.std.proofs.Common.{◌≡◌, ℕ, Bool, true, false, cond, List, [], ◌∷◌, ◌++◌, sym, ◌∙◌, ap, subst, Option, Some, None, Ok, Err}
 use Rattle.std.specs.List.{Contains}
 use Rattle.lc_explain.specs.Explain.{top_rules_of, top_texts_of}
-use Rattle.lc_explain.specs.Explained.{Explanation, bad, below, cited, said_for, said_of, said_beside, kind_asked, is_directory, OnTheWay}
+use Rattle.lc_explain.specs.Explained.{Explanation, below, cited, said_for, said_of, said_beside, kind_asked, is_directory, OnTheWay}
+use Rattle.lc_explain.specs.Explained.{said_of_none}
 use Rattle.lc_explain.specs.Explained.{OnEntering, IsSaid}
 use Rattle.lc_explain.specs.OpenDirs.{OpenDirModel, DirStack, MayEnter, kind_in, TopTextsModel}
 use Rattle.lc_glob.specs.Path.{path_in, segments_of}
@@ -94,7 +95,7 @@ slash_law lists gives one q path x entry = at (is_bad_path path)
     top : JobModel
     top = top_job (top_rules_of q)
 
-    at : (b : Bool) → cond b (x ≡ bad) (IsSaidBelow lists gives one s (top_texts_of q) x true [] top (segments_of path))
-        → cond b (x ≡ bad) (IsSaidBelow lists gives one s (top_texts_of q) x false [] top (segments_of path))
+    at : (b : Bool) → cond b (x ≡ said_of_none path) (IsSaidBelow lists gives one s (top_texts_of q) x true [] top (segments_of path))
+        → cond b (x ≡ said_of_none path) (IsSaidBelow lists gives one s (top_texts_of q) x false [] top (segments_of path))
     at true e = e
     at false said = said_alike lists gives one s (top_texts_of q) x (segments_of path) [] top entry said
