@@ -1,5 +1,6 @@
 -- Patterns with a segment `.` or `..`: they match no path of an entry.
-use Rattle.std.proofs.Common.{◌≡◌, ℕ, ◌==◌, Bool, true, false, ◌&&◌, ◌||◌, List, [], ◌∷◌, ◌++◌, Option, Some, None, if◌then◌else◌, map, refl, sym, ◌∙◌, ap, subst, ◌⊎◌, inl, inr}
+use Rattle.std.proofs.Common.{◌≡◌, ℕ, ◌==◌, Bool, true, false, ◌&&◌, ◌||◌, List, [], ◌∷◌, ◌++◌, Option, Some, None, if◌then◌else◌, map}
+use Rattle.std.proofs.Common.{refl, sym, ◌∙◌, ap, subst, ◌⊎◌, inl, inr}
 use Rattle.std.specs.List.{list_any, onto_first}
 use Rattle.std.proofs.lemmas.Bool.{eqb-true, eqb-false, and_parts, and_from, or_cases, or_left, or_right, both_ways}
 use Rattle.std.proofs.lemmas.List.{append-nil, append_assoc, map-append}
@@ -8,7 +9,8 @@ use Rattle.std.proofs.lemmas.List.Splits.{slice_split-cons_yes, slice_split-cons
 use Rattle.lc_glob.specs.Bytes.{slash, dot, opening, backslash, asterisk, question_mark}
 use Rattle.lc_glob.specs.Path.{segments_of}
 use Rattle.lc_glob.specs.Patterns.{SegmentModel, plain, double_star, PatternModel, dead}
-use Rattle.lc_glob.specs.Reading.{one, byte_lexeme, put, parts, ends_empty, without_last, begins_empty, without_first, some_empty, is_double_star, segment_from, live, cut_at_front, pattern_from, pattern_of}
+use Rattle.lc_glob.specs.Reading.{one, byte_lexeme, put, parts, ends_empty, without_last, begins_empty, without_first, some_empty}
+use Rattle.lc_glob.specs.Reading.{is_double_star, segment_from, live, cut_at_front, pattern_from, pattern_of}
 use Rattle.lc_glob.specs.Tokens.{TokenModel, literal, any_byte, star, class}
 use Rattle.lc_glob.proofs.Lexemes.{lexeme_of_byte}
 use Rattle.lc_glob.proofs.Naming.{some_segment}
@@ -203,7 +205,8 @@ dot_segments anchored (p ∷ ps) e = elim (or_cases (is_dot_part p) (list_any is
       (dot_segments anchored ps h)
 ]
 
-dotted_live : (dir_only anchored : Bool) (ps : List (List TokenModel)) → list_any is_dot_part ps ≡ true → IsDotted (live dir_only anchored ps)
+dotted_live : (dir_only anchored : Bool) (ps : List (List TokenModel)) → list_any is_dot_part ps ≡ true
+    → IsDotted (live dir_only anchored ps)
 dotted_live dir_only anchored ps e = at (some_empty ps) refl
   where
     alive : PatternModel

@@ -1,5 +1,6 @@
 -- What patterns match no path of an entry: dead ones, and those with a segment `.` or `..`.
-use Rattle.std.proofs.Common.{◌≡◌, ℕ, ◌==◌, Bool, true, false, not, ◌&&◌, ◌||◌, List, [], ◌∷◌, MatchOption, refl, sym, ◌∙◌, ap, subst, inl, inr}
+use Rattle.std.proofs.Common.{◌≡◌, ℕ, ◌==◌, Bool, true, false, not, ◌&&◌, ◌||◌, List, [], ◌∷◌, MatchOption, refl, sym, ◌∙◌, ap, subst, inl}
+use Rattle.std.proofs.Common.{inr}
 use Rattle.std.specs.List.{list_all, list_any}
 use Rattle.std.proofs.lemmas.Bool.{eqb-true, and_parts, and_cases, or_cases, false_from_ne_true, not-false, not-true, both_ways}
 use Rattle.lc_glob.specs.Bytes.{dot, exclamation_mark}

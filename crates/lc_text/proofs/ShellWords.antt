@@ -19,4 +19,5 @@ quote_byte-others (b ∷ bs) none =
 -- and so do those of each other character
 pub quote_byte-char : (c : ℕ) → (c ≡ apostrophe → ⊥) → flat_map quote_byte (encode_utf8 c) ≡ encode_utf8 c
 quote_byte-char c other =
-    quote_byte-others (encode_utf8 c) (λ k l e. other (inside_one c [] (encode_utf8 c) k (sym (append-nil (encode_utf8 c))) l (omega (arith, e)) ∙ e))
+    quote_byte-others (encode_utf8 c)
+    (λ k l e. other (inside_one c [] (encode_utf8 c) k (sym (append-nil (encode_utf8 c))) l (omega (arith, e)) ∙ e))
