@@ -1,11 +1,14 @@
 -- Options of a count that go together.
-use Rattle.std.specs.Prelude.{◌&&◌, ◌||◌, Bool, true, false, not, is_some, Option, Some}
+use Rattle.std.specs.Prelude.{◌&&◌, ◌||◌, Bool, true, false, not, is_some, Option, Some, None}
 use Rattle.lc_view.specs.declared.table_options.Format.{Format}
 use Rattle.lc_view.specs.declared.table_options.Format.TheVariants.{Table, Csv, Markdown, Html}
+use Rattle.lc_view.specs.declared.table_options.Order.{Order}
+use Rattle.lc_view.specs.declared.table_options.Order.TheVariants.{Name}
 use Rattle.lc_arguments.specs.declared.count.CountRequest.{CountRequest}
 
--- a format was named in which rows have shares
+-- rows have shares in the format that was named; where none is, shares make it a table
 abbrev pub shows_shares : Option Format → Bool
+shows_shares None = true
 shows_shares (Some Table) = true
 shows_shares (Some Markdown) = true
 shows_shares _ = false
@@ -20,6 +23,11 @@ abbrev pub is_picture : Option Format → Bool
 is_picture (Some Html) = true
 is_picture _ = false
 
+-- the order was named that sorts by no number
+abbrev pub is_by_name : Option Order → Bool
+is_by_name (Some Name) = true
+is_by_name _ = false
+
 -- rows were asked for that are not all of a report's, or lists
 abbrev pub asks_for_rows : CountRequest → Bool
 asks_for_rows c =
@@ -27,9 +35,10 @@ asks_for_rows c =
     || not (c.table.by.ext && c.table.by.text && c.table.by.eol)
 
 -- shares are shown in a format that has them; not both files and what is left out are listed in one that has records of one kind; a
--- picture has no rows and no lists; and paths end with NUL where they come from a file
+-- picture has no rows and no lists, and draws a number; and paths end with NUL where they come from a file
 abbrev pub fit_together : CountRequest → Bool
 fit_together c =
     (not c.table.share || shows_shares c.table.format)
     && (not (c.table.files && c.left_out && has_one_kind c.table.format)
-    && (not (is_picture c.table.format && asks_for_rows c) && (not c.null || is_some c.only_from)))
+    && (not (is_picture c.table.format && asks_for_rows c)
+    && (not (is_picture c.table.format && is_by_name c.table.sort) && (not c.null || is_some c.only_from))))

@@ -17,8 +17,8 @@ use Rattle.clap.specs.Walk.{Row}
 use Rattle.lc_text.specs.PathLines.{is_bad_path, path_of}
 use Rattle.lc_view.specs.declared.table_options.Columns.{Columns}
 use Rattle.lc_view.specs.declared.table_options.Format.{Format}
-use Rattle.lc_view.specs.declared.table_options.SortBy.{SortBy}
-use Rattle.lc_arguments.specs.TableWords.{AreColumnsBy, IsTableBy, format_word, sort_word}
+use Rattle.lc_view.specs.declared.table_options.Order.{Order}
+use Rattle.lc_arguments.specs.TableWords.{AreColumnsBy, IsTableBy, format_word, order_word}
 use Rattle.lc_arguments.specs.declared.numbers.Numbers.{Numbers}
 use Rattle.lc_arguments.specs.declared.repeated.Repeated.{Repeated}
 use Rattle.lc_arguments.specs.declared.table.TableRequest.{TableRequest}
@@ -99,9 +99,9 @@ AnswersBy {A} Is (Err Memory) = Unit {0}
 abbrev pub AnswersFormat : Option (List ℕ) → Result (Option Format) ParseExit → Type 0
 AnswersFormat name = AnswersBy (λ (format : Option Format). option_map format_word format ≡ name)
 
--- the number of this name, if one is given
-abbrev pub AnswersSort : Option (List ℕ) → Result (Option SortBy) ParseExit → Type 0
-AnswersSort name = AnswersBy (λ (sort : Option SortBy). option_map sort_word sort ≡ name)
+-- the order of this name, if one is given
+abbrev pub AnswersSort : Option (List ℕ) → Result (Option Order) ParseExit → Type 0
+AnswersSort name = AnswersBy (λ (sort : Option Order). option_map order_word sort ≡ name)
 
 -- the columns of these names
 abbrev pub AnswersColumns : Option (List ℕ) → Option ℕ → Result Columns ParseExit → Type 0

@@ -1,10 +1,13 @@
 -- What the words ask a table to look like.
-use Rattle.std.specs.Prelude.{◌≡◌, ℕ, ◌+◌, Bool, true, false, List, length, filter, Option, option_map, unwrap_or, is_some, codes, IfSome}
+use Rattle.std.specs.Prelude.{◌≡◌, ◌||◌, ℕ, ◌+◌, Bool, true, false, cond, List, length, filter, Option, Some, None, option_map, unwrap_or}
+use Rattle.std.specs.Prelude.{is_some, codes, IfSome}
 use Rattle.std.specs.Str.{bytes_eq}
 use Rattle.lc_glob.specs.Pieces.{pieces_of}
 use Rattle.lc_view.specs.declared.table_options.Columns.{Columns}
 use Rattle.lc_view.specs.declared.table_options.Format.{Format}
 use Rattle.lc_view.specs.declared.table_options.Format.TheVariants.{Tsv, Table, Json, Csv, Markdown, Html}
+use Rattle.lc_view.specs.declared.table_options.Order.{Order}
+use Rattle.lc_view.specs.declared.table_options.Order.TheVariants.{Name, Largest}
 use Rattle.lc_view.specs.declared.table_options.TableOptions.{TableOptions}
 use Rattle.lc_view.specs.declared.table_options.SortBy.{SortBy}
 use Rattle.lc_view.specs.declared.table_options.SortBy.TheVariants.{Files, Lines, Blank, Bytes}
@@ -23,6 +26,11 @@ sort_word Files = codes "files"
 sort_word Lines = codes "lines"
 sort_word Blank = codes "blank"
 sort_word Bytes = codes "bytes"
+
+-- an order is that of the names, or by the number of this column
+abbrev pub order_word : Order → List ℕ
+order_word Name = codes "name"
+order_word (Largest number) = sort_word number
 
 abbrev pub comma : ℕ
 comma = 44
@@ -60,8 +68,38 @@ pub record AreColumnsBy (by : Option (List ℕ)) (depth : Option ℕ) (c : Colum
 pub record IsTableBy (format by : Option (List ℕ)) (depth : Option ℕ) (sort : Option (List ℕ)) (s : TableRequest) : Type 0 where
   pub format_is : option_map format_word s.format ≡ format
   pub by_is : AreColumnsBy by depth s.by
-  pub sort_is : option_map sort_word s.sort ≡ sort
+  pub sort_is : option_map order_word s.sort ≡ sort
 
--- the options of a table, which has this format if none is named
+-- the format: the one that is named; else a table where shares are asked for, and else this one
+abbrev pub format_in : Format → TableRequest → Format
+format_in other s = unwrap_or s.format (cond s.share Table other)
+
+-- a format for reading, whose rows begin with the largest
+abbrev pub is_for_reading : Format → Bool
+is_for_reading Table = true
+is_for_reading Markdown = true
+is_for_reading _ = false
+
+-- the order where none is named: by lines where only the first rows and files are asked for, or in a format for reading
+abbrev pub default_order : Format → Option ℕ → Order
+default_order format top = cond (is_some top || is_for_reading format) (Largest Lines) Name
+
+-- the number by which an order sorts; that of names sorts by none
+abbrev pub number_of : Order → Option SortBy
+number_of Name = None
+number_of (Largest number) = Some number
+
+-- the order in a format: the one that is named, or its default
+abbrev pub order_in : Format → TableRequest → Order
+order_in format s = unwrap_or s.sort (default_order format s.top)
+
+-- the options of a table, which has this format if nothing asks for another
 abbrev pub options_in : Format → TableRequest → TableOptions
-options_in other s = record { format = unwrap_or s.format other; by = s.by; sort = s.sort; top = s.top; files = s.files; share = s.share }
+options_in other s = record {
+  format = format_in other s;
+  by = s.by;
+  sort = number_of (order_in (format_in other s) s);
+  top = s.top;
+  files = s.files;
+  share = s.share;
+}

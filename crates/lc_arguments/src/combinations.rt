@@ -1,12 +1,26 @@
 //! Options of a count that do not go together.
 
 ghost use Rattle.std.specs.Prelude.{◌≡◌, is_some, not};
-ghost use Rattle.lc_arguments.specs.Combinations.{asks_for_rows, fit_together};
+ghost use Rattle.lc_arguments.specs.Combinations.{asks_for_rows, fit_together, is_by_name, shows_shares};
 
 use crate::count::CountRequest;
-use lc_view::Format;
+use lc_view::{Format, Order};
 
-/// Whether rows are asked for that are not all of a report's, or lists.
+/// Returns whether rows have shares in the named format, or in the table that shares make where none is named.
+fn shows_shares(format: Option<Format>) -> bool
+    ensures { result ≡ shows_shares format }
+{
+    matches!(format, None | Some(Format::Table | Format::Markdown))
+}
+
+/// Returns whether the order was named that sorts by no number.
+fn is_by_name(order: Option<Order>) -> bool
+    ensures { result ≡ is_by_name order }
+{
+    matches!(order, Some(Order::Name))
+}
+
+/// Returns whether rows are asked for that are not all of a report's, or lists.
 fn asks_for_rows(request: &CountRequest<'_>) -> bool
     ensures { result ≡ asks_for_rows request.now }
 {
@@ -24,7 +38,7 @@ pub(crate) fn misfit(request: &CountRequest<'_>) -> Option<&'static str>
     ensures { is_some result ≡ not (fit_together request.now) }
 {
     let format = request.table.format;
-    if request.table.share && !matches!(format, Some(Format::Table | Format::Markdown)) {
+    if request.table.share && !shows_shares(format) {
         return Some("'--share' needs '--format table' or '--format markdown'");
     }
     if request.table.files && request.left_out && matches!(format, Some(Format::Csv)) {
@@ -34,6 +48,9 @@ pub(crate) fn misfit(request: &CountRequest<'_>) -> Option<&'static str>
         return Some(
             "'--format html' draws a tree: no '--files', '--left-out', '--by <COLUMNS>' or '--top <N>'",
         );
+    }
+    if matches!(format, Some(Format::Html)) && is_by_name(request.table.sort) {
+        return Some("'--format html' draws the column of '--sort': files, lines, blank or bytes");
     }
     if request.null && request.only_from.is_none() {
         return Some("'--null' needs '--only-from <FILE>'");

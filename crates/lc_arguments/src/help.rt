@@ -31,9 +31,8 @@ Example: lc count .
 
 See also: lc count --help, lc explain --help, lc check --help, man lc";
 
-pub(crate) const ABOUT_COUNT: &str = "Count files, lines and bytes, skipping what Git would ignore";
-
-pub(crate) const AFTER_COUNT: &str = "Example: lc count --format table --by ext --sort lines .";
+See also: lc count --help, lc explain --help, lc check --help, man lc",
+};
 
 pub(crate) const AFTER_COUNT_LONG: &str =
     "Each file under DIR is counted once, unless a rule skips it: a rule in a
@@ -63,10 +62,11 @@ Exit status:
   3  no table, or a part of it; standard error shows why
 
 Examples:
-  lc count --format table --by ext --sort lines .
+  lc .
+  lc count --by ext .
   lc count --left-out .
-  lc count --files --sort lines --top 10 .
-  lc count --format table --by dir --depth 2 --share .
+  lc count --files --top 10 .
+  lc count --by dir --depth 2 --share .
   lc count --format csv --files .
   lc count -j 8 src
   lc count --exclude '*.min.js' --include '*.js' .
@@ -276,16 +276,18 @@ pub(crate) const DEPTH: OptionHelp = OptionHelp {
 
 pub(crate) const SORT: OptionHelp = OptionHelp {
     heading: WHAT_IS_PRINTED,
-    short: "Sort rows and files by files, lines, blank or bytes",
-    long: "Sort rows and the lines of --files by files, lines, blank or bytes,
-largest first",
+    short: "Sort by files, lines, blank, bytes or name",
+    long: "Sort rows and the lines of --files: by files, lines, blank or bytes,
+largest first, or by name. The default is lines in table and markdown
+and with --top, and else name",
 };
 
 pub(crate) const TOP: OptionHelp = OptionHelp {
     heading: WHAT_IS_PRINTED,
     short: "Print only the first N rows and files",
     long: "Print only the first N rows, with a row `others` for the sums of the
-rest, and the first N lines of --files",
+rest, and the first N lines of --files. Without --sort, these have the
+most lines",
 };
 
 pub(crate) const SHARE: OptionHelp = OptionHelp {

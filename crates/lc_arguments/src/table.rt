@@ -5,25 +5,26 @@ ghost use Rattle.clap.specs.Matches.{found_of};
 ghost use Rattle.clap.specs.Walk.{rows_of};
 ghost use Rattle.lc_view.specs.declared.table_options.Columns.{Columns as ColumnsModel};
 ghost use Rattle.lc_view.specs.declared.table_options.Format.{Format as FormatModel};
-ghost use Rattle.lc_view.specs.declared.table_options.SortBy.{SortBy as SortModel};
+ghost use Rattle.lc_view.specs.declared.table_options.Order.{Order as OrderModel};
 ghost use Rattle.lc_arguments.specs.Explained.{AnswersColumns, AnswersFormat, AnswersSort, AnswersTable, AnswersTableIn};
-ghost use Rattle.lc_arguments.specs.TableWords.{IsColumnsText, format_word, options_in, sort_word};
+ghost use Rattle.lc_arguments.specs.TableWords.{IsColumnsText, default_order, format_in, format_word, is_for_reading, number_of};
+ghost use Rattle.lc_arguments.specs.TableWords.{options_in, order_in, order_word};
 
 use crate::request::{ParseExit, refused, unfit};
 use clap::ArgMatches;
 use lc_glob::cut_at_first;
-use lc_view::{Columns, Format, SortBy, TableOptions};
+use lc_view::{Columns, Format, Order, SortBy, TableOptions};
 use std::alloc::Global;
 
 /// The table that a count is asked for, as by `--format table --by ext --sort lines`.
 #[derive(Clone, Copy)]
 pub struct TableRequest {
-    /// The format, if one is named.
+    /// The format, if one is named. Shares are shown in a table if none is.
     pub format: Option<Format>,
     /// The columns of `--by`: by default `ext`, `text` and `eol`.
     pub by: Columns,
-    /// The number by which rows and files are sorted, if one is named.
-    pub sort: Option<SortBy>,
+    /// The order of rows and files, if one is named.
+    pub sort: Option<Order>,
     /// The most rows, and the most files, if a limit is named.
     pub top: Option<u32>,
     /// List each counted file.
@@ -32,15 +33,60 @@ pub struct TableRequest {
     pub share: bool,
 }
 
+/// Returns whether a format is for reading, so that its rows begin with the largest.
+fn is_for_reading(format: Format) -> bool
+    ensures { result ≡ is_for_reading format }
+{
+    matches!(format, Format::Table | Format::Markdown)
+}
+
+/// Returns the order where none is named: by lines if the table shows only the first rows or is for reading.
+fn default_order(format: Format, top: Option<u32>) -> Order
+    ensures { result ≡ default_order format top }
+{
+    if top.is_some() || is_for_reading(format) {
+        Order::Largest(SortBy::Lines)
+    } else {
+        Order::Name
+    }
+}
+
+/// Returns the number by which an order sorts, if it is not that of names.
+fn number_of(order: Order) -> Option<SortBy>
+    ensures { result ≡ number_of order }
+{
+    match order {
+        Order::Name => None,
+        Order::Largest(number) => Some(number),
+    }
+}
+
 impl TableRequest {
-    /// Returns the options of the table, which has the format `other` if none is named.
+    /// Returns the format: the one that is named, else `Table` where shares are asked for, else `other`.
+    fn format_or(self, other: Format) -> Format
+        ensures { result ≡ format_in other self }
+    {
+        let default = if self.share { Format::Table } else { other };
+        self.format.unwrap_or(default)
+    }
+
+    /// Returns the order in a format.
+    fn order_in(self, format: Format) -> Order
+        ensures { result ≡ order_in format self }
+    {
+        self.sort.unwrap_or(default_order(format, self.top))
+    }
+
+    /// Returns the options of the table, which has the format `other` if none is named and no shares are asked for. Where no order is
+    /// named, rows and files are sorted by lines with `--top` and in a format for reading, and else by their names.
     pub fn options(self, other: Format) -> TableOptions
         ensures { result ≡ options_in other self }
     {
+        let format = self.format_or(other);
         TableOptions {
-            format: self.format.unwrap_or(other),
+            format,
             by: self.by,
-            sort: self.sort,
+            sort: number_of(self.order_in(format)),
             top: self.top,
             files: self.files,
             share: self.share,
@@ -62,15 +108,16 @@ fn format_named(name: &str) -> Option<Format>
     }
 }
 
-/// Returns the number of a column's name.
-fn sort_named(name: &str) -> Option<SortBy>
-    ensures { MatchOption result ((s : SortModel) → sort_word s ≢ name.entry.now) (λ s. sort_word s ≡ name.entry.now) }
+/// Returns the order of a value of `--sort`.
+fn order_named(name: &str) -> Option<Order>
+    ensures { MatchOption result ((o : OrderModel) → order_word o ≢ name.entry.now) (λ o. order_word o ≡ name.entry.now) }
 {
     match name {
-        "files" => Some(SortBy::Files),
-        "lines" => Some(SortBy::Lines),
-        "blank" => Some(SortBy::Blank),
-        "bytes" => Some(SortBy::Bytes),
+        "name" => Some(Order::Name),
+        "files" => Some(Order::Largest(SortBy::Files)),
+        "lines" => Some(Order::Largest(SortBy::Lines)),
+        "blank" => Some(Order::Largest(SortBy::Blank)),
+        "bytes" => Some(Order::Largest(SortBy::Bytes)),
         _ => None,
     }
 }
@@ -143,18 +190,18 @@ fn columns_of(alloc: Global, names: Option<&str>, depth: Option<u32>) -> Result<
 }
 
 /// Reads the value of `--sort`.
-fn sort_of(alloc: Global, name: Option<&str>) -> Result<Option<SortBy>, ParseExit>
+fn sort_of(alloc: Global, name: Option<&str>) -> Result<Option<Order>, ParseExit>
     ensures { AnswersSort (option_map (λ s. s.now) name.entry) result }
 {
     let Some(name) = name else {
         return Ok(None);
     };
-    match sort_named(name) {
+    match order_named(name) {
         None => Err(refused(
             alloc,
             "--sort <COLUMN>",
             name,
-            "\n  [possible values: files, lines, blank, bytes]",
+            "\n  [possible values: name, files, lines, blank, bytes]",
         )),
         sort => Ok(sort),
     }

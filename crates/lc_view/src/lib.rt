@@ -5,4 +5,4 @@
 
 mod table_options;
 
-pub use table_options::{Columns, Format, SortBy, TableOptions};
+pub use table_options::{Columns, Format, Order, SortBy, TableOptions};

@@ -53,6 +53,15 @@ pub enum SortBy {
     Bytes,
 }
 
+/// The order of the rows and of the files of a table, as a command line names it.
+#[derive(Debug, Clone, Copy, PartialEq, Eq)]
+pub enum Order {
+    /// By the keys of the rows, and by the paths of the files.
+    Name,
+    /// By this number, largest first.
+    Largest(SortBy),
+}
+
 /// The options of a table.
 ///
 /// ```
