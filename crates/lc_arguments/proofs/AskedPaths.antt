@@ -5,32 +5,32 @@ use Rattle.std.specs.List.{list_any, slice_index_or}
 use Rattle.std.proofs.lemmas.List.Folds.{list_any_at}
 use Rattle.std.proofs.lemmas.Simd.{map-map}
 use Rattle.clap.proofs.WalkLemmas.{list_any-map}
-use Rattle.lc_text.specs.PathLines.{is_bad_path, path_of}
 use Rattle.lc_arguments.specs.Explained.{AnswersPaths, IsRefusal}
+use Rattle.lc_arguments.specs.Words.{is_bad_part, part_of}
 use Rattle.lc_arguments.specs.declared.request.ParseExit.{ParseExit}
 use Rattle.lc_arguments.specs.declared.request.ParseExit.TheVariants.{Shown, Refused, Memory}
 
 -- the paths of lent words are those of the words
 pub paths_lent : (words : List (Bor (List ℕ)))
-    → map (λ word. path_of word.now) words ≡ map path_of (map (λ (word : Bor (List ℕ)). word.now) words)
-paths_lent words = sym (map-map path_of (λ (word : Bor (List ℕ)). word.now) words)
+    → map (λ word. part_of word.now) words ≡ map part_of (map (λ (word : Bor (List ℕ)). word.now) words)
+paths_lent words = sym (map-map part_of (λ (word : Bor (List ℕ)). word.now) words)
 
 -- and so is whether one can be no path
 pub some_bad : (words : List (Bor (List ℕ)))
-    → list_any (λ word. is_bad_path (path_of word.now)) words
-    ≡ list_any is_bad_path (map path_of (map (λ (word : Bor (List ℕ)). word.now) words))
+    → list_any (λ word. is_bad_part (part_of word.now)) words
+    ≡ list_any is_bad_part (map part_of (map (λ (word : Bor (List ℕ)). word.now) words))
 some_bad words =
-    list_any-map is_bad_path (λ (word : Bor (List ℕ)). path_of word.now) words ∙ ap (list_any is_bad_path) (paths_lent words)
+    list_any-map is_bad_part (λ (word : Bor (List ℕ)). part_of word.now) words ∙ ap (list_any is_bad_part) (paths_lent words)
 
 -- one that can be no path
 pub one_misplaced : (words : List (Bor (List ℕ))) (k : ℕ) (d : Bor (List ℕ)) → k < length words
-    → is_bad_path (path_of (slice_index_or words k d).now) ≡ true
-    → list_any is_bad_path (map path_of (map (λ (word : Bor (List ℕ)). word.now) words)) ≡ true
+    → is_bad_part (part_of (slice_index_or words k d).now) ≡ true
+    → list_any is_bad_part (map part_of (map (λ (word : Bor (List ℕ)). word.now) words)) ≡ true
 one_misplaced words k d low bad = sym (some_bad words)
-    ∙ list_any_at (λ (word : Bor (List ℕ)). is_bad_path (path_of word.now)) words k d low bad
+    ∙ list_any_at (λ (word : Bor (List ℕ)). is_bad_part (part_of word.now)) words k d low bad
 
 -- they are refused for that
-pub misplaced_for : (words : List (List ℕ)) (why : ParseExit) → IsRefusal why → list_any is_bad_path (map path_of words) ≡ true
+pub misplaced_for : (words : List (List ℕ)) (why : ParseExit) → IsRefusal why → list_any is_bad_part (map part_of words) ≡ true
     → AnswersPaths words (Err why)
 misplaced_for words (Shown text) refusal bad = refusal
 misplaced_for words (Refused text) refusal bad = bad

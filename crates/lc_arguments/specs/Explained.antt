@@ -11,10 +11,9 @@ use Rattle.std.specs.Borrow.{Bor}
 use Rattle.lc_arguments.specs.CommandLine.{count_app, check_app, explain_app, lc_app}
 use Rattle.lc_arguments.specs.Words.{IsText, IsNoRequestBy, IsCheckOf, IsCountOf, IsExplainOf, MayRefuse, MayShow}
 use Rattle.lc_arguments.specs.Words.{AskForNoCount, AskForNoExplanation, AsksNoCount, AreExclusionsOf, AreNumbersIn, IsFitCountOf}
-use Rattle.lc_arguments.specs.Words.{IsTableAt, Misvalue, texts_read, values_read}
+use Rattle.lc_arguments.specs.Words.{IsTableAt, Misvalue, is_bad_part, part_of, texts_read, values_read}
 use Rattle.lc_arguments.specs.Repeated.{are_allowed}
 use Rattle.clap.specs.Walk.{Row}
-use Rattle.lc_text.specs.PathLines.{is_bad_path, path_of}
 use Rattle.lc_view.specs.declared.table_options.Columns.{Columns}
 use Rattle.lc_view.specs.declared.table_options.Format.{Format}
 use Rattle.lc_view.specs.declared.table_options.Order.{Order}
@@ -76,12 +75,12 @@ AnswersRepeated option texts (Err Memory) = Unit {0}
 abbrev pub AnswersRepeatedIn : List Row → Repeated → Result (Vec (Bor (List ℕ))) ParseExit → Type 0
 AnswersRepeatedIn rows option result = AnswersRepeated option (values_read rows option) result
 
--- the paths of these words, in their order; or one is no path of an entry
+-- the paths of these words, in their order; or one is neither that of an entry nor the directory
 abbrev pub AnswersPaths : List (List ℕ) → Result (Vec (Bor (List ℕ))) ParseExit → Type 0
 AnswersPaths words (Ok paths) =
-    (map (λ path. path.now) paths.items ≡ map path_of words) × (list_any is_bad_path (map path_of words) ≡ false)
+    (map (λ path. path.now) paths.items ≡ map part_of words) × (list_any is_bad_part (map part_of words) ≡ false)
 AnswersPaths words (Err (Shown _)) = ⊥
-AnswersPaths words (Err (Refused _)) = list_any is_bad_path (map path_of words) ≡ true
+AnswersPaths words (Err (Refused _)) = list_any is_bad_part (map part_of words) ≡ true
 AnswersPaths words (Err Memory) = Unit {0}
 
 -- those that were read

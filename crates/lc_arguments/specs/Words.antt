@@ -29,7 +29,7 @@ use Rattle.lc_arguments.specs.declared.request.ParseExit.{ParseExit}
 use Rattle.lc_arguments.specs.declared.request.ParseExit.TheVariants.{Shown, Refused, Memory}
 use Rattle.lc_arguments.specs.declared.request.Request.{Request}
 use Rattle.lc_arguments.specs.declared.request.Request.TheVariants.{CheckJoined, Check, Count, Explain}
-use Rattle.lc_text.specs.PathLines.{is_bad_path, path_of}
+use Rattle.lc_text.specs.PathLines.{is_bad_path, is_top, path_of, undotted}
 use Rattle.lc_arguments.specs.declared.table.TableRequest.{TableRequest}
 use Rattle.lc_arguments.specs.TableWords.{IsTableBy}
 use Rattle.lc_arguments.specs.declared.check.CheckRequest.{CheckRequest}
@@ -115,17 +115,25 @@ AreValuesOf rows option values =
 abbrev pub Misvalue : List Row → Type 0
 Misvalue rows = (option : Repeated) × (are_allowed option (values_read rows option) ≡ false)
 
--- the paths that were asked for, each without one slash at its end
-abbrev pub paths_read : List Row → List (List ℕ)
-paths_read rows = map path_of (texts_read (codes "only") rows)
+-- the path that a word names: without any `./` at its beginning and one slash at its end
+abbrev pub part_of : List ℕ → List ℕ
+part_of word = path_of (undotted word)
 
--- what no entry can have as its path was asked for
+-- a path that no entry can have, nor the counted directory, which is `.`
+abbrev pub is_bad_part : List ℕ → Bool
+is_bad_part path = is_bad_path path && not (is_top path)
+
+-- the paths that were asked for
+abbrev pub paths_read : List Row → List (List ℕ)
+paths_read rows = map part_of (texts_read (codes "only") rows)
+
+-- what neither an entry nor the directory can have as its path was asked for
 abbrev pub Misplace : List Row → Type 0
-Misplace rows = list_any is_bad_path (paths_read rows) ≡ true
+Misplace rows = list_any is_bad_part (paths_read rows) ≡ true
 
 -- the paths that were asked for, in their order, each one that an entry can have
 abbrev pub ArePathsOf : List Row → List (Bor (List ℕ)) → Type 0
-ArePathsOf rows paths = (map (λ path. path.now) paths ≡ paths_read rows) × (list_any is_bad_path (paths_read rows) ≡ false)
+ArePathsOf rows paths = (map (λ path. path.now) paths ≡ paths_read rows) × (list_any is_bad_part (paths_read rows) ≡ false)
 
 -- what leaves entries out, by what was read
 pub record AreExclusionsOf (rows : List Row) (e : Exclusions) : Type 0 where

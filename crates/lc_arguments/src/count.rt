@@ -33,8 +33,8 @@ pub struct CountRequest<'w> {
     pub left_out: bool,
     /// What is skipped beside what the directory's own rules ignore.
     pub exclusions: Exclusions<'w>,
-    /// The paths to count, relative to DIR and without a slash at the end. If there are none here and in `only_from`, all of DIR is
-    /// counted.
+    /// The paths to count, relative to DIR, without `./` at the beginning and a slash at the end. `.` is all of DIR, which is also counted
+    /// if there are none here and in `only_from`.
     pub only: Vec<&'w [u8]>,
     /// The path of a file with further paths to count, as it was given. `-` is standard input.
     pub only_from: Option<&'w str>,

@@ -93,9 +93,10 @@ decides, its pattern, and the path.
   bad       no file or directory can have this path
   fault     a directory or rule file on the way could not be read
 
-A path is relative to DIR, wherever lc is started, and need not exist. A slash
-at its end means a directory. Without one, lc looks what is there; a path where
-nothing is counts as a file. The rule files are those that lc count DIR reads.
+A path is relative to DIR, wherever lc is started, and need not exist. It may
+begin with ./, as find prints it. A slash at its end means a directory. If there
+is no slash, the path is a directory where one exists, and else a file. The rule
+files are those that lc count DIR reads.
 
 Exit status:
   0  each path was answered
@@ -207,14 +208,16 @@ pub(crate) const ONLY: OptionHelp = OptionHelp {
     heading: WHICH_FILES,
     short: "Count only PATH, under the rules of all of DIR",
     long: "Count only what is at or under PATH, under the rules of all of DIR.
-PATH is relative to DIR, such as src/lib. May be repeated",
+PATH is relative to DIR, such as src/lib; . is all of DIR. May be
+repeated",
 };
 
 pub(crate) const ONLY_FROM: OptionHelp = OptionHelp {
     heading: WHICH_FILES,
     short: "Count only the paths in FILE, one a line",
     long: "Count only what is at or under the paths in FILE, as --only counts
-them. They come one a line; FILE - is standard input",
+them. They come one a line; FILE - is standard input. Paths may begin
+with ./, as find prints them",
 };
 
 pub(crate) const NULL: OptionHelp = OptionHelp {

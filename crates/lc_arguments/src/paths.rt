@@ -6,12 +6,13 @@ ghost use Rattle.clap.specs.Walk.{rows_of};
 ghost use Rattle.lc_arguments.specs.CommandLine.{texts_rule};
 ghost use Rattle.lc_arguments.specs.CountArgs.{IsArgOf};
 ghost use Rattle.lc_arguments.specs.Explained.{AnswersPaths, AnswersPathsIn, IsRefusal};
+ghost use Rattle.lc_arguments.specs.Words.{is_bad_part, part_of};
 
 use crate::arguments::texts_option;
 use crate::help;
 use crate::request::{ParseExit, refused};
 use clap::{Arg, ArgMatches};
-use lc_text::{is_bad_path, split_slash};
+use lc_text::{is_bad_path, is_top, split_slash, undotted};
 use std::alloc::Global;
 
 pub(crate) fn only<'a>(alloc: Global) -> Arg<'a>
@@ -32,14 +33,29 @@ fn misplaced(alloc: Global, word: &str) -> ParseExit
     )
 }
 
-/// Reads paths, and drops a slash at the end of each.
+/// Returns the path of a value: without any `./` at its beginning and a slash at its end.
+fn part_of(word: &str) -> &[u8]
+    ensures { result.now ≡ part_of word.now }
+{
+    let (path, _) = split_slash(undotted(word.as_bytes()));
+    path
+}
+
+/// Returns whether a path is that of no entry and not `.`, which names DIR itself.
+fn is_bad_part(path: &[u8]) -> bool
+    ensures { result ≡ is_bad_part path.now }
+{
+    is_bad_path(path) && !is_top(path)
+}
+
+/// Reads paths. A path has no `./` at its beginning and no slash at its end; DIR itself is `.`.
 fn paths_of<'w>(alloc: Global, words: &[&'w str]) -> Result<Vec<&'w [u8]>, ParseExit>
     ensures { AnswersPaths (map (λ word. word.now) words.now) result }
 {
     let mut paths = Vec::new(alloc);
     for word in words {
-        let (path, _) = split_slash(word.as_bytes());
-        if is_bad_path(path) {
+        let path = part_of(word);
+        if is_bad_part(path) {
             return Err(misplaced(alloc, word));
         }
         let Ok(()) = paths.push(path) else {
