@@ -5,7 +5,7 @@ use Rattle.std.specs.Borrow.{Bor}
 use Rattle.std.specs.List.{list_all, slice_index_or}
 use Rattle.clap.specs.Faults.{fault_of}
 use Rattle.clap.specs.Simple.{matches_of}
-use Rattle.std.specs.Prelude.{codes}
+use Rattle.std.specs.Prelude.{Some, codes, option_map, unwrap_or}
 use Rattle.clap.specs.Walk.{Row}
 use Rattle.lc_arguments.specs.Combinations.{fit_together}
 use Rattle.lc_arguments.specs.CommandLine.{count_app, explain_app}
@@ -13,7 +13,8 @@ use Rattle.lc_arguments.specs.Explained.{AnswersBy, AnswersCountIn, AnswersCount
 use Rattle.lc_arguments.specs.Explained.{AnswersRepeated, AnswersRepeatedIn, AnswersTable, AnswersTableIn}
 use Rattle.lc_arguments.specs.Explained.{AnswersPathsIn, IsRefusal}
 use Rattle.lc_arguments.specs.Repeated.{are_allowed, is_allowed}
-use Rattle.lc_arguments.specs.Words.{AreNumbersIn, AskNothing, IsCountOf, IsTableAt}
+use Rattle.lc_arguments.specs.Words.{AreNumbersIn, AskNothing, IsCountOf, IsTableAt, MayRefuse, MayShow, count_words, faults_in}
+use Rattle.lc_arguments.specs.Words.{other_faults_in}
 use Rattle.lc_arguments.specs.declared.count.CountRequest.{CountRequest}
 use Rattle.lc_arguments.specs.declared.numbers.Numbers.{Numbers}
 use Rattle.lc_arguments.specs.declared.repeated.Repeated.{Repeated}
@@ -114,13 +115,19 @@ misfit_refused words c (Shown text) fine refusal is misfit = absurd refusal
 misfit_refused words c (Refused text) fine refusal is misfit = inr (fine, inr (inr (inr (c, is, misfit))))
 misfit_refused words c Memory fine refusal is misfit = tt
 
--- words that begin with `count` ask for nothing where those after it do not
-pub no_count_of : (words more : List (List ℕ)) (why : ParseExit) → words ≡ codes "count" ∷ more
+-- words of a count fail as its words do
+pub faults_of_count : (words more : List (List ℕ)) → count_words words ≡ Some more → faults_in words ≡ fault_of count_app more
+faults_of_count words more is =
+    ap (λ (o : Option (List (List ℕ))). unwrap_or (option_map (fault_of count_app) o) (other_faults_in words)) is
+
+-- words of a count ask for nothing where its words do not
+pub no_count_of : (words more : List (List ℕ)) (why : ParseExit) → count_words words ≡ Some more
     → AnswersCountWords more (Err why) → AskNothing words why
-no_count_of words more (Shown text) is shown = subst (λ (ws : List (List ℕ)). AskNothing ws (Shown text)) (sym is) shown
-no_count_of words more (Refused text) is refused =
-    subst (λ (ws : List (List ℕ)). AskNothing ws (Refused text)) (sym is)
-    (elim refused [ inl fails ↦ inl fails | inr asks ↦ inr (inl (more, refl, asks)) ])
+no_count_of words more (Shown text) is shown = subst MayShow (sym (faults_of_count words more is)) shown
+no_count_of words more (Refused text) is refused = elim refused [
+  | inl fails ↦ inl (subst MayRefuse (sym (faults_of_count words more is)) fails)
+  | inr asks ↦ inr (inl (more, is, asks))
+]
 no_count_of words more Memory is none = tt
 
 -- words that begin with `explain` ask for nothing where those after it do not

@@ -97,17 +97,17 @@ pub no_request_of : (c : Command) (a : App) (words : List Text) (e : Error) (why
 no_request_of c a words e why is free kinds explains =
     no_request_by (fault_of a words) e why (fails_as {T = ArgMatches} c a words (Err e) is free kinds) explains
 
--- a text that was read, or nothing
-pub text_or : (rows : List Row) (f : Found) (id : Text) (o : Option (Bor Text)) (other result : Bor Text) → rows_of f ≡ rows
-    → option_map (λ s. s.now) o ≡ first_value f id → other.now ≡ [] → result ≡ unwrap_or o other
-    → result.now ≡ unwrap_or (first_of id rows) []
-text_or rows f id o other result are read empty is =
+-- a text that was read, or the default
+pub text_or : {default : Text} (rows : List Row) (f : Found) (id : Text) (o : Option (Bor Text)) (other result : Bor Text)
+    → rows_of f ≡ rows → option_map (λ s. s.now) o ≡ first_value f id → other.now ≡ default → result ≡ unwrap_or o other
+    → result.now ≡ unwrap_or (first_of id rows) default
+text_or {default} rows f id o other result are read empty is =
     go o is (read ∙ (first_value-rows f id ∙ ap (first_of id) are))
   where
     go : (o' : Option (Bor Text)) → result ≡ unwrap_or o' other → option_map (λ s. s.now) o' ≡ first_of id rows
-        → result.now ≡ unwrap_or (first_of id rows) []
-    go None e g = ap (λ (b : Bor Text). b.now) e ∙ (empty ∙ ap (λ (v : Option Text). unwrap_or v []) g)
-    go (Some t) e g = ap (λ (b : Bor Text). b.now) e ∙ ap (λ (v : Option Text). unwrap_or v []) g
+        → result.now ≡ unwrap_or (first_of id rows) default
+    go None e g = ap (λ (b : Bor Text). b.now) e ∙ (empty ∙ ap (λ (v : Option Text). unwrap_or v default) g)
+    go (Some t) e g = ap (λ (b : Bor Text). b.now) e ∙ ap (λ (v : Option Text). unwrap_or v default) g
 
 -- a text that was read is the first of its argument
 pub text_of : (rows : List Row) (f : Found) (id : Text) (o : Option (Bor Text)) → rows_of f ≡ rows

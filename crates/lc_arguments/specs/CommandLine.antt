@@ -43,6 +43,10 @@ short_rule name rule = record rule { short = Some name }
 abbrev pub word_rule : List ℕ → Rule
 word_rule name = record (new_rule name) { required = true; action = Some Set }
 
+-- a word that need not be there
+abbrev pub default_word_rule : List ℕ → List ℕ → Rule
+default_word_rule name default = record (new_rule name) { action = Some Set; defaults = default ∷ [] }
+
 -- words that need not be there
 abbrev pub words_rule : List ℕ → Rule
 words_rule name = record (new_rule name) { action = Some Append }
@@ -95,7 +99,7 @@ limit_rules =
     short_rule 106 (number_rule (codes "threads") max_threads (codes "4")) ∷ number_rule (codes "max-dirs") max_dirs (codes "65536") ∷ []
 
 abbrev pub count_rules : List Rule
-count_rules = exclusion_rules ++ path_rules ++ table_rules ++ limit_rules ++ word_rule (codes "DIR") ∷ []
+count_rules = exclusion_rules ++ path_rules ++ table_rules ++ limit_rules ++ default_word_rule (codes "DIR") (codes ".") ∷ []
 
 abbrev pub check_rules : List Rule
 check_rules = flag_rule (codes "explain") ∷ null_rule ∷ word_rule (codes "FILE") ∷ []

@@ -1,6 +1,6 @@
 -- What the words of a command line ask for.
-use Rattle.std.specs.Prelude.{◌≡◌, ◌≢◌, ◌⊎◌, ◌≤◌, ℕ, Bool, true, false, cond, List, [], ◌∷◌, pos, Some, Option, Result, Ok, Err, unwrap_or}
-use Rattle.std.specs.Prelude.{option_map, map, codes, IfSome}
+use Rattle.std.specs.Prelude.{◌≡◌, ◌≢◌, ◌⊎◌, ◌≤◌, ◌==◌, ◌&&◌, ◌||◌, not, ℕ, Bool, true, false, cond, List, [], ◌∷◌, pos, Some, None, Option}
+use Rattle.std.specs.Prelude.{Result, Ok, Err, unwrap_or, option_map, map, codes, IfSome}
 use Rattle.std.specs.Borrow.{Bor}
 use Rattle.std.specs.List.{list_any}
 use Rattle.std.specs.Str.{bytes_eq}
@@ -19,6 +19,8 @@ use Rattle.clap.specs.declared.error.kind.ErrorKind.{ErrorKind}
 use Rattle.clap.specs.declared.error.kind.ErrorKind.TheVariants.{DisplayHelp, DisplayVersion}
 use Rattle.clap.specs.declared.parser.matches.ArgMatches.{ArgMatches}
 use Rattle.clap.specs.declared.parser.matches.Found.{Found}
+use Rattle.lc_glob.specs.Bytes.{hyphen, slash}
+use Rattle.lc_glob.specs.Pieces.{is_byte}
 use Rattle.lc_arguments.specs.CommandLine.{count_app, check_app, explain_app, lc_app, max_depth, max_threads, max_dirs, max_top}
 use Rattle.lc_arguments.specs.Combinations.{fit_together}
 use Rattle.lc_arguments.specs.Repeated.{are_allowed, id_of}
@@ -131,7 +133,7 @@ paths_read rows = map part_of (texts_read (codes "only") rows)
 abbrev pub Misplace : List Row → Type 0
 Misplace rows = list_any is_bad_part (paths_read rows) ≡ true
 
--- the paths that were asked for, in their order, each one that an entry can have
+-- the paths that were asked for, in their order, each one of an entry or of the directory
 abbrev pub ArePathsOf : List Row → List (Bor (List ℕ)) → Type 0
 ArePathsOf rows paths = (map (λ path. path.now) paths ≡ paths_read rows) × (list_any is_bad_part (paths_read rows) ≡ false)
 
@@ -168,7 +170,7 @@ pub record IsCountOf (rows : List Row) (c : CountRequest) : Type 0 where
   pub table : IsTableIn rows c.table
   pub top : c.table.top ≡ number_if_given (codes "top") rows
   pub share : IsFlag (codes "share") rows c.table.share
-  pub directory : c.directory.now ≡ unwrap_or (first_of (codes "DIR") rows) []
+  pub directory : c.directory.now ≡ unwrap_or (first_of (codes "DIR") rows) (codes ".")
 
 -- the count that was asked for, whose options go together
 abbrev pub IsFitCountOf : List Row → CountRequest → Type 0
@@ -211,28 +213,55 @@ IsNoRequestBy kinds (Shown _) = MayShow kinds
 IsNoRequestBy kinds (Refused _) = MayRefuse kinds
 IsNoRequestBy kinds Memory = Unit {0}
 
--- the ways in which words fail; a command reads those after its name
-abbrev pub faults_in : List (List ℕ) → Kinds
-faults_in [] = []
-faults_in (word ∷ words) =
-    cond (bytes_eq word (codes "count")) (fault_of count_app words)
-    (cond (bytes_eq word (codes "check")) (fault_of check_app words)
-    (cond (bytes_eq word (codes "explain")) (fault_of explain_app words)
-    (fault_of lc_app (word ∷ words))))
+-- a word that begins as options do
+abbrev pub begins_with_hyphen : List ℕ → Bool
+begins_with_hyphen [] = false
+begins_with_hyphen (b ∷ bs) = b == hyphen
 
--- the words begin with no command
+-- help or the version of the program
+abbrev pub is_own_option : List ℕ → Bool
+is_own_option word =
+    bytes_eq word (codes "-h") || bytes_eq word (codes "--help") || bytes_eq word (codes "-V") || bytes_eq word (codes "--version")
+
+-- a path that can be no command: this directory, the one above it, or one with a slash
+abbrev pub is_plain_path : List ℕ → Bool
+is_plain_path word = bytes_eq word (codes ".") || bytes_eq word (codes "..") || list_any (is_byte slash) word
+
+-- a first word that asks for a count, though it does not name the command
+abbrev pub begins_count : List ℕ → Bool
+begins_count word = (begins_with_hyphen word && not (is_own_option word)) || is_plain_path word
+
+-- the words of a count, where words ask for one: those after `count`, or all where the first begins a count
+abbrev pub count_words : List (List ℕ) → Option (List (List ℕ))
+count_words [] = None
+count_words (word ∷ words) =
+    cond (bytes_eq word (codes "count")) (Some words) (cond (begins_count word) (Some (word ∷ words)) None)
+
+-- the ways in which words fail that ask for no count; a command reads those after its name
+abbrev pub other_faults_in : List (List ℕ) → Kinds
+other_faults_in [] = []
+other_faults_in (word ∷ words) =
+    cond (bytes_eq word (codes "check")) (fault_of check_app words)
+    (cond (bytes_eq word (codes "explain")) (fault_of explain_app words)
+    (fault_of lc_app (word ∷ words)))
+
+-- the ways in which words fail
+abbrev pub faults_in : List (List ℕ) → Kinds
+faults_in words = unwrap_or (option_map (fault_of count_app) (count_words words)) (other_faults_in words)
+
+-- the words ask for no count, and begin with no other command
 abbrev pub NameNoCommand : List (List ℕ) → Type 0
-NameNoCommand words = (more : List (List ℕ)) →
-    (words ≢ codes "count" ∷ more) × (words ≢ codes "check" ∷ more) × (words ≢ codes "explain" ∷ more)
+NameNoCommand words = (count_words words ≡ None) × ((more : List (List ℕ)) →
+    (words ≢ codes "check" ∷ more) × (words ≢ codes "explain" ∷ more))
 
 -- what words ask for that fail in no way
 abbrev pub Asks : List (List ℕ) → Request → Type 0
 Asks words CheckJoined = NameNoCommand words
 Asks words (Check c) = (more : List (List ℕ)) × (words ≡ codes "check" ∷ more) × IsCheckOf (matches_of check_app more) c
-Asks words (Count c) = (more : List (List ℕ)) × (words ≡ codes "count" ∷ more) × IsFitCountOf (matches_of count_app more) c
+Asks words (Count c) = (more : List (List ℕ)) × (count_words words ≡ Some more) × IsFitCountOf (matches_of count_app more) c
 Asks words (Explain c) = (more : List (List ℕ)) × (words ≡ codes "explain" ∷ more) × IsExplainOf (matches_of explain_app more) c
 
--- the words after `count` fail in no way, but ask for no count
+-- the words of a count fail in no way, but ask for no count
 abbrev pub AskForNoCount : List (List ℕ) → Type 0
 AskForNoCount words = (fault_of count_app words ≡ []) × AsksNoCount (matches_of count_app words)
 
@@ -244,7 +273,7 @@ AskForNoExplanation words = (fault_of explain_app words ≡ []) × Misvalue (mat
 abbrev pub AreRefused : List (List ℕ) → Type 0
 AreRefused words =
     MayRefuse (faults_in words)
-    ⊎ (((more : List (List ℕ)) × (words ≡ codes "count" ∷ more) × AskForNoCount more)
+    ⊎ (((more : List (List ℕ)) × (count_words words ≡ Some more) × AskForNoCount more)
     ⊎ ((more : List (List ℕ)) × (words ≡ codes "explain" ∷ more) × AskForNoExplanation more))
 
 -- why words ask for nothing; there may be no memory for any words

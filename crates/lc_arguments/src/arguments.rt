@@ -2,10 +2,11 @@
 
 ghost use Rattle.std.specs.Prelude.{◌≡◌, true, IfOk};
 ghost use Rattle.clap.specs.Walk.{Rule};
-ghost use Rattle.lc_arguments.specs.CommandLine.{flag_rule, free_number_rule, number_rule, short_rule, text_rule, texts_rule, word_rule};
+ghost use Rattle.lc_arguments.specs.CommandLine.{default_word_rule, flag_rule, free_number_rule, number_rule, short_rule, text_rule};
+ghost use Rattle.lc_arguments.specs.CommandLine.{texts_rule, word_rule};
 ghost use Rattle.lc_arguments.specs.CountArgs.{is_own_name, IsArgOf, IsBare};
 
-use crate::help::OptionHelp;
+use crate::help::{CommandHelp, OptionHelp};
 use clap::builder::ValueParser;
 use clap::{Arg, ArgAction, Command};
 use std::alloc::{AllocError, Global};
@@ -121,21 +122,35 @@ pub(crate) fn word<'a>(alloc: Global, name: &'a str, text: &'a str) -> Arg<'a>
         .help(text)
 }
 
+/// Makes an argument without a name of its own that has a default.
+pub(crate) fn default_word<'a>(
+    alloc: Global,
+    name: &'a str,
+    default: &'a str,
+    text: &'a str,
+) -> Arg<'a>
+    requires own { is_own_name name.now ≡ true }
+    ensures { IsArgOf (default_word_rule name.entry.now default.entry.now) result }
+{
+    Arg::new(alloc, name)
+        .action(ArgAction::Set)
+        .default_value(default)
+        .help(text)
+}
+
 /// Makes a command without arguments. Its own name is not among the words that it reads.
 pub(crate) fn bare<'a>(
     alloc: Global,
     name: &'a str,
-    full_name: &'a str,
-    about: &'a str,
-    after: &'a str,
-    after_long: &'a str,
+    help: CommandHelp,
 ) -> Result<Command<'a>, AllocError>
     ensures { IfOk result (IsBare name.entry.now) }
 {
     Command::new(alloc, name)
-        .about(about)
-        .after_help(after)
-        .after_long_help(after_long)
+        .about(help.about)
+        .after_help(help.after)
+        .after_long_help(help.after_long)
+        .override_usage(help.usage)
         .no_binary_name(true)
-        .bin_name(full_name)
+        .bin_name(help.full_name)
 }

@@ -3,7 +3,7 @@
 ghost use Rattle.std.specs.Prelude.{IfOk, map};
 ghost use Rattle.lc_arguments.specs.CommandLine.{check_app, check_rules};
 ghost use Rattle.lc_arguments.specs.CountArgs.{AreArgsOf, IsCommandOf};
-ghost use Rattle.lc_arguments.specs.Explained.{AnswersCheckWords};
+ghost use Rattle.lc_arguments.specs.Explained.{AnswersCheckWords, Explains};
 
 use crate::arguments::{bare, flag, with_short, word};
 use crate::request::{ParseExit, explained};
@@ -38,14 +38,7 @@ pub(crate) fn command<'a>(alloc: Global) -> Result<Command<'a>, AllocError>
     ensures { IfOk result (IsCommandOf check_app) }
 {
     let args = Vec::from_array(alloc, args(alloc))?;
-    let command = bare(
-        alloc,
-        "check",
-        "lc check",
-        help::ABOUT_CHECK,
-        help::AFTER_CHECK,
-        help::AFTER_CHECK_LONG,
-    )?;
+    let command = bare(alloc, "check", help::CHECK)?;
     command.args(args)
 }
 

@@ -8,7 +8,7 @@ ghost use Rattle.lc_arguments.specs.CountArgs.{AreArgsOf, IsCountCommand};
 ghost use Rattle.lc_arguments.specs.Explained.{AnswersCountIn, AnswersCountWords, Explains};
 
 use crate::arguments::{
-    bare, flag, free_number_option, number_option, text_option, with_short, word,
+    bare, default_word, flag, free_number_option, number_option, text_option, with_short,
 };
 use crate::combinations::misfit;
 use crate::exclusions::{Exclusions, exclusion_options};
@@ -44,7 +44,7 @@ pub struct CountRequest<'w> {
     pub one_file_system: bool,
     /// How the table is printed.
     pub table: TableRequest,
-    /// The path of DIR, as it was given. `.` is the directory that the program runs in.
+    /// The path of DIR, as it was given: `.`, the directory that the program runs in, where none is.
     pub directory: &'w str,
 }
 
@@ -129,11 +129,7 @@ fn args<'a>(alloc: Global) -> [Arg<'a>; 21]
         share,
         threads,
         max_dirs,
-        word(
-            alloc,
-            "DIR",
-            "Directory to count; it may be a symbolic link",
-        ),
+        default_word(alloc, "DIR", ".", help::COUNTED_DIR),
     ]
 }
 
@@ -142,18 +138,11 @@ pub(crate) fn command<'a>(alloc: Global) -> Result<Command<'a>, AllocError>
     ensures { IfOk result IsCountCommand }
 {
     let args = Vec::from_array(alloc, args(alloc))?;
-    let command = bare(
-        alloc,
-        "count",
-        "lc count",
-        help::ABOUT_COUNT,
-        help::AFTER_COUNT,
-        help::AFTER_COUNT_LONG,
-    )?;
+    let command = bare(alloc, "count", help::COUNT)?;
     command.args(args)
 }
 
-/// Adds to an error of clap the count that the arguments may have meant.
+/// Explains an error of clap, with the count that the arguments may have meant.
 fn explained_count<W: AsStr>(alloc: Global, error: &Error, words: &[W]) -> ParseExit
     ensures { Explains error.now result }
 {
@@ -201,7 +190,7 @@ fn request_in<'w>(
             share: matches.get_flag("share"),
             ..table
         },
-        directory: matches.get_str("DIR").unwrap_or(""),
+        directory: matches.get_str("DIR").unwrap_or("."),
     })
 }
 

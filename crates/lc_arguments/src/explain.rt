@@ -3,7 +3,7 @@
 ghost use Rattle.std.specs.Prelude.{◌≡◌, IfOk, map, codes};
 ghost use Rattle.lc_arguments.specs.CommandLine.{explain_app, explain_rules, words_rule};
 ghost use Rattle.lc_arguments.specs.CountArgs.{AreArgsOf, IsArgOf, IsCommandOf};
-ghost use Rattle.lc_arguments.specs.Explained.{AnswersExplainWords};
+ghost use Rattle.lc_arguments.specs.Explained.{AnswersExplainWords, Explains};
 
 use crate::arguments::{bare, flag, with_short, word};
 use crate::exclusions::{Exclusions, exclusion_options};
@@ -56,14 +56,7 @@ pub(crate) fn command<'a>(alloc: Global) -> Result<Command<'a>, AllocError>
     ensures { IfOk result (IsCommandOf explain_app) }
 {
     let args = Vec::from_array(alloc, args(alloc))?;
-    let command = bare(
-        alloc,
-        "explain",
-        "lc explain",
-        help::ABOUT_EXPLAIN,
-        help::AFTER_EXPLAIN,
-        help::AFTER_EXPLAIN_LONG,
-    )?;
+    let command = bare(alloc, "explain", help::EXPLAINING)?;
     command.args(args)
 }
 

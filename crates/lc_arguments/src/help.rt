@@ -9,16 +9,37 @@ macro_rules! version {
 
 pub(crate) const VERSION: &str = version!("");
 
-/// The version of the program, and the logic in which it was proved, as `rt version` prints it.
-pub(crate) const LONG_VERSION: &str = version!("\nproved in Rattle's logic dac8208d650f15bf");
+/// The version of the program, and the logic that its contracts are written for, as `rt version` prints it.
+pub(crate) const LONG_VERSION: &str = version!("\nwritten for Rattle's logic dac8208d650f15bf");
 
-pub(crate) const ABOUT: &str =
-    "Count files, lines and bytes in a source tree, skipping what .gitignore skips";
+/// Sets the help of a command.
+#[derive(Clone, Copy)]
+pub(crate) struct CommandHelp {
+    /// The command as it is typed.
+    pub(crate) full_name: &'static str,
+    /// The lines of its usage.
+    pub(crate) usage: &'static str,
+    pub(crate) about: &'static str,
+    /// The text after the options for `-h`.
+    pub(crate) after: &'static str,
+    /// The text after the options for `--help`.
+    pub(crate) after_long: &'static str,
+}
 
-pub(crate) const AFTER: &str = "Example: lc count .";
+pub(crate) const LC: CommandHelp = CommandHelp {
+    full_name: "lc",
+    usage: "lc [OPTIONS] [DIR]\n       lc <COMMAND> [OPTIONS] [ARGUMENTS]",
+    about: "Count files, lines and bytes in a source tree, skipping what .gitignore skips",
+    after: "Example: lc .",
+    after_long: "\
+The word count may be left out: lc counts if its first argument is an option of
+lc count, is . or .., or has a slash.
 
-pub(crate) const AFTER_LONG: &str =
-    "Without a command, lc reads the lines of an ignore file, a line --, and paths
+  lc .
+  lc ./src
+  lc --by ext /usr/include
+
+Without arguments, lc reads the lines of an ignore file, a line --, and paths
 from standard input, and answers each path as lc check does.
 
 Exit status:
@@ -27,19 +48,23 @@ Exit status:
   2  usage error
   3  stopped with an error; standard error shows it in one line
 
-Example: lc count .
-
-See also: lc count --help, lc explain --help, lc check --help, man lc";
+Example: lc .
 
 See also: lc count --help, lc explain --help, lc check --help, man lc",
 };
 
-pub(crate) const AFTER_COUNT_LONG: &str =
-    "Each file under DIR is counted once, unless a rule skips it: a rule in a
-.gitignore of DIR or below, in .git/info/exclude, in the file of --exclude-from,
-or of --exclude. Entries named .git, symbolic links and special files are always
-skipped. lc reads no rules above DIR, no configuration of Git and not its index:
-an ignored file is skipped even if Git tracks it.
+pub(crate) const COUNT: CommandHelp = CommandHelp {
+    full_name: "lc count",
+    usage: "lc count [OPTIONS] [DIR]",
+    about: "Count files, lines and bytes, skipping what Git would ignore",
+    after: "Example: lc count --by ext .",
+    after_long: "\
+lc counts each file under DIR, unless a rule skips it: a rule in a .gitignore of
+DIR or below, in .git/info/exclude, in the file of --exclude-from, or of
+--exclude. A file with several hard links is counted under each of its names.
+Entries named .git, symbolic links and special files are always skipped. lc
+reads no rules above DIR, no configuration of Git and not its index: an ignored
+file is skipped even if Git tracks it.
 
 Each row is for the files of one kind:
   dir    the directory, relative to DIR; only with --by dir
@@ -57,9 +82,12 @@ docs/OUTPUT.md describe each.
 
 Exit status:
   0  everything was counted
-  1  the table was written, but something could not be read: see the lines fault
+  1  the table was written, and lists what could not be read
   2  usage error
   3  no table, or a part of it; standard error shows why
+
+The word count may be left out before an option, . or .., or a path with a
+slash: lc --by ext src.
 
 Examples:
   lc .
@@ -73,15 +101,16 @@ Examples:
   lc count --only src --only doc .
   git ls-files -z | lc count --no-ignore --only-from - -0 .
   lc count --archive --exclude-from rules .
-  lc count --without linguist-vendored --without linguist-generated .";
+  lc count --without linguist-vendored --without linguist-generated .",
+};
 
-pub(crate) const ABOUT_EXPLAIN: &str =
-    "Show which rule skips or keeps a path, whether or not it exists";
-
-pub(crate) const AFTER_EXPLAIN: &str = "Example: lc explain . build/main.o";
-
-pub(crate) const AFTER_EXPLAIN_LONG: &str =
-    "Each line of output has four fields, separated by tabs: a word, the rule that
+pub(crate) const EXPLAINING: CommandHelp = CommandHelp {
+    full_name: "lc explain",
+    usage: "lc explain [OPTIONS] <DIR> [PATH]...",
+    about: "Show which rule skips or keeps a path, whether or not it exists",
+    after: "Example: lc explain . build/main.o",
+    after_long: "\
+Each line of output has four fields, separated by tabs: a word, the rule that
 decides, its pattern, and the path.
 
   ignored   the last rule that matches ignores the path
@@ -89,7 +118,8 @@ decides, its pattern, and the path.
   none      no rule matches
   below     a directory above the path is ignored, by the rule shown
   left      lc count skips the path for a reason that is no rule: git (.git),
-            other (neither file nor directory), attribute:NAME
+            other (neither file nor directory), attribute:NAME, or include (a
+            file that no --include matches)
   bad       no file or directory can have this path
   fault     a directory or rule file on the way could not be read
 
@@ -106,14 +136,17 @@ Exit status:
 
 Examples:
   lc explain . a.log build/main.o
-  git ls-files -o | lc explain .";
+  git ls-files -o | lc explain .
+  find . | lc explain .",
+};
 
-pub(crate) const ABOUT_CHECK: &str = "Match paths on standard input against the rules of one file";
-
-pub(crate) const AFTER_CHECK: &str = "Example: git ls-files | lc check .gitignore";
-
-pub(crate) const AFTER_CHECK_LONG: &str =
-    "Paths come one a line. Each line of output is a word, a tab and the path.
+pub(crate) const CHECK: CommandHelp = CommandHelp {
+    full_name: "lc check",
+    usage: "lc check [OPTIONS] <FILE>",
+    about: "Match paths on standard input against the rules of one file",
+    after: "Example: git ls-files | lc check .gitignore",
+    after_long: "\
+Paths come one a line. Each line of output is a word, a tab and the path.
 
   ignored   the last rule that matches ignores the path
   included  the last rule that matches begins with ! and keeps the path
@@ -135,7 +168,8 @@ Exit status:
 
 Examples:
   printf '%s\\n' main.c main.o build/ | lc check .gitignore
-  git ls-files | lc check --explain .gitignore";
+  git ls-files | lc check --explain .gitignore",
+};
 
 /// The heading of the options that choose files.
 const WHICH_FILES: &str = "Which files";
@@ -267,7 +301,8 @@ pub(crate) const BY: OptionHelp = OptionHelp {
     heading: WHAT_IS_PRINTED,
     short: "Sum rows by some of dir,ext,text,eol",
     long: "Sum rows by some of dir, ext, text and eol, separated by commas: --by
-ext prints one row for each extension, --by dir one for each directory",
+ext prints one row for each extension, --by dir one for each directory
+right under DIR, or as deep as --depth says",
 };
 
 pub(crate) const DEPTH: OptionHelp = OptionHelp {
@@ -297,7 +332,7 @@ pub(crate) const SHARE: OptionHelp = OptionHelp {
     heading: WHAT_IS_PRINTED,
     short: "Show each row's share, in table and markdown",
     long: "Show each row's share of the total: of the column of --sort, or of
-lines. Needs --format table or --format markdown",
+lines. The default format is then table; markdown has shares, too",
 };
 
 pub(crate) const THREADS: OptionHelp = OptionHelp {
@@ -319,3 +354,6 @@ pub(crate) const EXPLAIN: OptionHelp = OptionHelp {
     long: "Also print the rule that decides: FILE with the number of its line,
 and its pattern; - and - if no rule decides",
 };
+
+/// The help of DIR of `lc count`.
+pub(crate) const COUNTED_DIR: &str = "Directory to count; it may be a symbolic link";

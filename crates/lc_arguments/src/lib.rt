@@ -1,6 +1,7 @@
 //! The command line, which clap reads.
 //!
 //! - `request`: what the program is asked to do, or why it does nothing; arguments without a command
+//! - `first_word`: what the first argument asks for
 //! - `count`, `check`, `explain`: the options of each command; `table`: those of the table; `paths`: those of `--only`
 //! - `numbers`: the numbers of a count; `combinations`: options that do not go together
 //! - `exclusions`: what counts and explanations skip; `repeated`: options that may be given several times
@@ -17,6 +18,7 @@ mod exclusions;
 mod explain;
 mod help;
 mod limits;
+mod first_word;
 mod numbers;
 mod paths;
 mod refusals;
@@ -32,4 +34,5 @@ pub use explain::ExplainRequest;
 pub use limits::{MAX_DIRS, MAX_THREADS};
 pub use repeated::lines_text;
 pub use request::{ParseExit, Request};
+pub use first_word::count_words;
 pub use table::TableRequest;

@@ -11,6 +11,7 @@ use crate::check::CheckRequest;
 use crate::count::CountRequest;
 use crate::explain::ExplainRequest;
 use crate::refusals::{message, visible_words};
+use crate::first_word::count_words;
 use crate::{arguments, check, count, explain, help, suggestions};
 use clap::error::ErrorKind;
 use clap::{Command, Error};
@@ -24,7 +25,7 @@ pub enum Request<'w> {
     CheckJoined,
     /// Check the paths on standard input by the rules of a file, as `check .gitignore`.
     Check(CheckRequest<'w>),
-    /// Count a directory, as `count --files src`.
+    /// Count a directory, as `count --files src` or `.`.
     Count(CountRequest<'w>),
     /// Explain which rule of a directory decides each path, as `explain . a.log`.
     Explain(ExplainRequest<'w>),
@@ -44,14 +45,7 @@ pub enum ParseExit {
 fn bare<'a>(alloc: Global) -> Result<Command<'a>, AllocError>
     ensures { IfOk result (IsCommandOf bare_lc_app) }
 {
-    let command = arguments::bare(
-        alloc,
-        "lc",
-        "lc",
-        help::ABOUT,
-        help::AFTER,
-        help::AFTER_LONG,
-    )?;
+    let command = arguments::bare(alloc, "lc", help::LC)?;
     Ok(
         command
             .version(help::VERSION)
@@ -121,7 +115,7 @@ pub(crate) fn unfit(alloc: Global, why: &str) -> ParseExit
     }
 }
 
-/// Adds to an error of clap the command that the arguments may have meant.
+/// Explains an error of clap where the arguments name no command.
 fn explained_others<W: AsStr>(alloc: Global, error: &Error, words: &[W]) -> ParseExit
     ensures { Explains error.now result }
 {
@@ -146,15 +140,12 @@ fn read_others<'w, W: AsStr>(alloc: Global, words: &'w [W]) -> Result<Request<'w
     }
 }
 
-/// Reads the arguments of the program. Each command reads the arguments after its name itself, so their values are known to be in range.
+/// Reads the arguments of the program. Each command reads its own arguments, so their values are known to be in range.
 fn read_words<'w, W: AsStr>(alloc: Global, words: &'w [W]) -> Result<Request<'w>, ParseExit>
     ensures { AnswersWords (map W.text words.entry.now) result }
 {
-    let Some((first, rest)) = words.split_first() else {
-        return Ok(Request::CheckJoined);
-    };
-    if first.as_str() == "count" {
-        return match CountRequest::read(alloc, rest) {
+    if let Some(count) = count_words(words) {
+        return match CountRequest::read(alloc, count) {
             Ok(asked) => Ok(Request::Count(asked)),
             Err(no) => Err(no),
         };
@@ -174,6 +165,9 @@ fn read_words<'w, W: AsStr>(alloc: Global, words: &'w [W]) -> Result<Request<'w>
     read_others(alloc, words)
 }
 
+    let Some((first, rest)) = words.split_first() else {
+        return Ok(Request::CheckJoined);
+    };
 /// Reads refused arguments once more from escaped copies, so that the refusal quotes them as a terminal shows them. `why` quotes them as
 /// they were typed.
 fn refusal<W: AsStr>(alloc: Global, words: &[W], why: &str) -> Result<String, AllocError>

@@ -35,7 +35,10 @@ returns c =
                                 table.1.1.1.0,
                                 (
                                   table.1.1.1.1.0,
-                                  (table.1.1.1.1.1.0, (table.1.1.1.1.1.1.0, (table.1.1.1.1.1.1.1.0, (limits.0, (limits.1.0, (c.word.ensures, tt)))))),
+                                  (
+                                    table.1.1.1.1.1.0,
+                                    (table.1.1.1.1.1.1.0, (table.1.1.1.1.1.1.1.0, (limits.0, (limits.1.0, (c.default_word.ensures, tt))))),
+                                  ),
                                 ),
                               ),
                             ),

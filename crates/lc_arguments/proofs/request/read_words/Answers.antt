@@ -1,12 +1,14 @@
-use Rattle.std.proofs.Common.{map, rules}
+use Rattle.std.proofs.Common.{map, rules, sym}
 use Rattle.lc_arguments.proofs.Misnaming.{no_count_of, no_explanation_of}
 use Rattle.lc_arguments.proofs.request.read_words.Goals as goal
 
 pub returns-in-Err : goal.returns-in-Err
 returns-in-Err g c =
-    no_count_of (map g.W.AsStr.text c.args.words.now) (map g.W.AsStr.text c.in-Some.rest.now) c.in-Err.no (search rules) c.in-Err.ensures
+    no_count_of (map g.W.AsStr.text c.args.words.now) (map g.W.AsStr.text c.in-Some.count.now) c.in-Err.no (sym c.in-Some.ensures)
+    c.in-Err.ensures
 
 pub returns-in-Err-read-2 : goal.returns-in-Err-read-2
 returns-in-Err-read-2 g c =
-    no_explanation_of (map g.W.AsStr.text c.args.words.now) (map g.W.AsStr.text c.in-Some.rest.now) c.in-Err-read-2.no (search rules)
+    no_explanation_of (map g.W.AsStr.text c.args.words.now) (map g.W.AsStr.text c.in-Some-split_first.rest.now) c.in-Err-read-2.no
+    (search rules)
     c.in-Err-read-2.ensures

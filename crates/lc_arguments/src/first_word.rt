@@ -1,0 +1,56 @@
+//! What the first argument asks for: a count may leave its command out.
+
+ghost use Rattle.std.specs.Prelude.{◌≡◌, map, option_map};
+ghost use Rattle.lc_arguments.specs.Words.{begins_count, begins_with_hyphen, count_words, is_own_option, is_plain_path};
+
+use std::convert::AsStr;
+
+fn begins_with_hyphen(word: &str) -> bool
+    ensures { result ≡ begins_with_hyphen word.now }
+{
+    matches!(word.as_bytes(), [b'-', ..])
+}
+
+/// Returns whether an argument asks for help or the version of the program.
+fn is_own_option(word: &str) -> bool
+    ensures { result ≡ is_own_option word.now }
+{
+    word == "-h" || word == "--help" || word == "-V" || word == "--version"
+}
+
+/// Returns whether an argument is a path that can be no command: `.`, `..`, or one with a slash.
+fn is_plain_path(word: &str) -> bool
+    ensures { result ≡ is_plain_path word.now }
+{
+    word == "." || word == ".." || word.as_bytes().contains(&b'/')
+}
+
+/// Returns whether a first argument begins those of a count whose command is left out.
+fn begins_count(word: &str) -> bool
+    ensures { result ≡ begins_count word.now }
+{
+    (begins_with_hyphen(word) && !is_own_option(word)) || is_plain_path(word)
+}
+
+/// Returns the arguments of a count, where the arguments of the program ask for one: those after `count`, or all of them where the first
+/// is an option, `.` or `..`, or has a slash. The options `-h`, `--help`, `-V` and `--version` are those of the program.
+///
+/// ```
+/// assert!(rt; count_words(&["count", "src"]) == Some(["src"].as_slice()));
+/// assert!(rt; count_words(&["--by", "ext"]) == Some(["--by", "ext"].as_slice()));
+/// assert!(rt; count_words(&["src"]).is_none());
+/// ```
+pub fn count_words<'w, W: AsStr>(words: &'w [W]) -> Option<&'w [W]>
+    ensures { option_map (λ rest. map W.text rest.now) result ≡ count_words (map W.text words.now) }
+{
+    let Some((first, rest)) = words.split_first() else {
+        return None;
+    };
+    if first.as_str() == "count" {
+        return Some(rest);
+    }
+    if begins_count(first.as_str()) {
+        return Some(words);
+    }
+    None
+}
