@@ -6,9 +6,10 @@ ghost use Rattle.lc_arguments.specs.CountArgs.{AreArgsOf, IsCommandOf};
 ghost use Rattle.lc_arguments.specs.Explained.{AnswersCheckWords, Explains};
 
 use crate::arguments::{bare, flag, with_short, word};
+use crate::error_text::problem_of;
 use crate::request::{ParseExit, explained};
 use crate::{help, suggestions};
-use clap::{Arg, Command};
+use clap::{Arg, Command, Error};
 use std::alloc::{AllocError, Global};
 use std::convert::AsStr;
 
@@ -42,6 +43,19 @@ pub(crate) fn command<'a>(alloc: Global) -> Result<Command<'a>, AllocError>
     command.args(args)
 }
 
+/// Explains an error of clap, with the check that the arguments may have meant.
+fn explained_check(alloc: Global, error: &Error) -> ParseExit
+    ensures { Explains error.now result }
+{
+    let Ok(why) = format!(in alloc; "{error}") else {
+        return ParseExit::Memory;
+    };
+    match suggestions::check(alloc, problem_of(&why)) {
+        Ok(advice) => explained(alloc, error, help::CHECK.usage, &advice),
+        Err(AllocError) => ParseExit::Memory,
+    }
+}
+
 impl<'w> CheckRequest<'w> {
     /// Reads the arguments after `check`.
     pub(crate) fn read<W: AsStr>(
@@ -59,7 +73,7 @@ impl<'w> CheckRequest<'w> {
                 null: matches.get_flag("null"),
                 file: matches.get_str("FILE").unwrap_or(""),
             }),
-            Err(error) => Err(explained(alloc, &error, suggestions::CHECK)),
+            Err(error) => Err(explained_check(alloc, &error)),
         }
     }
 }

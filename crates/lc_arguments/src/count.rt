@@ -11,6 +11,7 @@ use crate::arguments::{
     bare, default_word, flag, free_number_option, number_option, text_option, with_short,
 };
 use crate::combinations::misfit;
+use crate::error_text::problem_of;
 use crate::exclusions::{Exclusions, exclusion_options};
 use crate::limits::{MAX_DEPTH, MAX_DIRS, MAX_THREADS, MAX_TOP};
 use crate::numbers::Numbers;
@@ -149,8 +150,8 @@ fn explained_count<W: AsStr>(alloc: Global, error: &Error, words: &[W]) -> Parse
     let Ok(why) = format!(in alloc; "{error}") else {
         return ParseExit::Memory;
     };
-    match suggestions::count(alloc, words, &why) {
-        Ok(example) => explained(alloc, error, &example),
+    match suggestions::count(alloc, words, problem_of(&why)) {
+        Ok(advice) => explained(alloc, error, help::COUNT.usage, &advice),
         Err(AllocError) => ParseExit::Memory,
     }
 }

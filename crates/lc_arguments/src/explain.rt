@@ -6,10 +6,11 @@ ghost use Rattle.lc_arguments.specs.CountArgs.{AreArgsOf, IsArgOf, IsCommandOf};
 ghost use Rattle.lc_arguments.specs.Explained.{AnswersExplainWords, Explains};
 
 use crate::arguments::{bare, flag, with_short, word};
+use crate::error_text::problem_of;
 use crate::exclusions::{Exclusions, exclusion_options};
 use crate::request::{ParseExit, explained};
 use crate::{help, suggestions};
-use clap::{Arg, ArgAction, Command};
+use clap::{Arg, ArgAction, Command, Error};
 use std::alloc::{AllocError, Global};
 use std::convert::AsStr;
 
@@ -60,6 +61,19 @@ pub(crate) fn command<'a>(alloc: Global) -> Result<Command<'a>, AllocError>
     command.args(args)
 }
 
+/// Explains an error of clap, with the explanation that the arguments may have meant.
+fn explained_explanation<W: AsStr>(alloc: Global, error: &Error, words: &[W]) -> ParseExit
+    ensures { Explains error.now result }
+{
+    let Ok(why) = format!(in alloc; "{error}") else {
+        return ParseExit::Memory;
+    };
+    match suggestions::explain(alloc, words, problem_of(&why)) {
+        Ok(advice) => explained(alloc, error, help::EXPLAINING.usage, &advice),
+        Err(AllocError) => ParseExit::Memory,
+    }
+}
+
 impl<'w> ExplainRequest<'w> {
     /// Reads the arguments after `explain`.
     pub(crate) fn read<W: AsStr>(
@@ -73,7 +87,7 @@ impl<'w> ExplainRequest<'w> {
         };
         let matches = match command.try_get_matches_from(words) {
             Ok(matches) => matches,
-            Err(error) => return Err(explained(alloc, &error, suggestions::EXPLAIN)),
+            Err(error) => return Err(explained_explanation(alloc, &error, words)),
         };
         let exclusions = match Exclusions::read(alloc, &matches) {
             Ok(exclusions) => exclusions,

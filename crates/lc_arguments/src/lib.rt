@@ -6,7 +6,8 @@
 //! - `numbers`: the numbers of a count; `combinations`: options that do not go together
 //! - `exclusions`: what counts and explanations skip; `repeated`: options that may be given several times
 //! - `arguments`: the forms of options
-//! - `refusals`: the text of a refusal, as a terminal shows it; `suggestions`: what refused arguments may have meant
+//! - `refusals`: the text of a refusal, as a terminal shows it; `error_text`: the texts of usage errors
+//! - `suggestions`: what refused arguments may have meant; `near`: names that are close to a word
 //! - `limits`: the largest values of options; `help`: the texts of help and of the version
 #![tactic(auto)]
 
@@ -14,11 +15,13 @@ mod arguments;
 mod check;
 mod combinations;
 mod count;
+mod error_text;
 mod exclusions;
 mod explain;
+mod first_word;
 mod help;
 mod limits;
-mod first_word;
+mod near;
 mod numbers;
 mod paths;
 mod refusals;
@@ -31,8 +34,8 @@ pub use check::CheckRequest;
 pub use count::CountRequest;
 pub use exclusions::Exclusions;
 pub use explain::ExplainRequest;
+pub use first_word::count_words;
 pub use limits::{MAX_DIRS, MAX_THREADS};
 pub use repeated::lines_text;
 pub use request::{ParseExit, Request};
-pub use first_word::count_words;
 pub use table::TableRequest;

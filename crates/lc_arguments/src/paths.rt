@@ -29,7 +29,7 @@ fn misplaced(alloc: Global, word: &str) -> ParseExit
         alloc,
         "--only <PATH>",
         word,
-        ": a path from DIR on is wanted, as src/lib: no '.' and no '..' in it, and at most 4096 bytes",
+        ": expected a path relative to DIR, such as src/lib",
     )
 }
 

@@ -9,9 +9,11 @@ ghost use Rattle.lc_arguments.specs.Words.{AnswersWords};
 
 use crate::check::CheckRequest;
 use crate::count::CountRequest;
+use crate::error_text::{advised, number_refused, problem_of};
 use crate::explain::ExplainRequest;
-use crate::refusals::{message, visible_words};
 use crate::first_word::count_words;
+use crate::refusals::{message, visible_words};
+use crate::suggestions::Advice;
 use crate::{arguments, check, count, explain, help, suggestions};
 use clap::error::ErrorKind;
 use clap::{Command, Error};
@@ -71,18 +73,31 @@ fn command<'a>(alloc: Global) -> Result<Command<'a>, AllocError>
     command.subcommands(subcommands)
 }
 
-/// Turns an error of clap into the end of the program. Where an argument is missing or unknown, the text names a command that works.
-pub(crate) fn explained(alloc: Global, error: &Error, example: &str) -> ParseExit
-    ensures { Explains error.now result }
-{
-    let text = match error.kind() {
-        ErrorKind::OutOfMemory => return ParseExit::Memory,
+/// Makes the text of an error of clap. Where an argument is missing or unknown, it has the usage of the command and advice.
+fn text_of(
+    alloc: Global,
+    error: &Error,
+    usage: &str,
+    advice: &Advice,
+) -> Result<String, AllocError> {
+    let text = format!(in alloc; "{error}")?;
+    match error.kind() {
         ErrorKind::MissingRequiredArgument
         | ErrorKind::InvalidSubcommand
-        | ErrorKind::UnknownArgument => format!(in alloc; "{error}\nExample: {example}\n"),
-        _ => format!(in alloc; "{error}"),
-    };
-    let Ok(text) = text else {
+        | ErrorKind::UnknownArgument => advised(alloc, problem_of(&text), usage, advice),
+        ErrorKind::ValueValidation => number_refused(alloc, &text),
+        _ => Ok(text),
+    }
+}
+
+/// Turns an error of clap into the end of the program.
+pub(crate) fn explained(alloc: Global, error: &Error, usage: &str, advice: &Advice) -> ParseExit
+    ensures { Explains error.now result }
+{
+    if matches!(error.kind(), ErrorKind::OutOfMemory) {
+        return ParseExit::Memory;
+    }
+    let Ok(text) = text_of(alloc, error, usage, advice) else {
         return ParseExit::Memory;
     };
     if error.use_stderr() {
@@ -120,10 +135,10 @@ fn explained_others<W: AsStr>(alloc: Global, error: &Error, words: &[W]) -> Pars
     ensures { Explains error.now result }
 {
     let first = words.first().map_or("", |word| word.as_str());
-    let Ok(why) = format!(in alloc; "{error}") else {
-        return ParseExit::Memory;
-    };
-    explained(alloc, error, suggestions::command(first, &why))
+    match suggestions::command(alloc, first) {
+        Ok(advice) => explained(alloc, error, help::LC.usage, &advice),
+        Err(AllocError) => ParseExit::Memory,
+    }
 }
 
 /// Reads arguments that name no command.
@@ -150,6 +165,9 @@ fn read_words<'w, W: AsStr>(alloc: Global, words: &'w [W]) -> Result<Request<'w>
             Err(no) => Err(no),
         };
     }
+    let Some((first, rest)) = words.split_first() else {
+        return Ok(Request::CheckJoined);
+    };
     if first.as_str() == "check" {
         return match CheckRequest::read(alloc, rest) {
             Ok(asked) => Ok(Request::Check(asked)),
@@ -165,9 +183,6 @@ fn read_words<'w, W: AsStr>(alloc: Global, words: &'w [W]) -> Result<Request<'w>
     read_others(alloc, words)
 }
 
-    let Some((first, rest)) = words.split_first() else {
-        return Ok(Request::CheckJoined);
-    };
 /// Reads refused arguments once more from escaped copies, so that the refusal quotes them as a terminal shows them. `why` quotes them as
 /// they were typed.
 fn refusal<W: AsStr>(alloc: Global, words: &[W], why: &str) -> Result<String, AllocError>

@@ -1,6 +1,7 @@
 //! What refused arguments may have meant. Each suggested command works wherever it is typed.
 
-use lc_text::{is_bad_path, split_slash};
+use crate::near::near_name;
+use lc_text::{is_bad_path, is_top, push_quoted, push_visible, split_slash, undotted};
 use std::alloc::{AllocError, Global};
 use std::convert::AsStr;
 
@@ -8,135 +9,326 @@ use std::convert::AsStr;
 const COUNT: &str = "lc count .";
 
 /// Explains a path, whether or not it is there.
-pub(crate) const EXPLAIN: &str = "lc explain . README.md";
+const EXPLAIN: &str = "lc explain . README.md";
 
 /// Checks paths by the ignore file that most repositories have.
-pub(crate) const CHECK: &str = "git ls-files | lc check .gitignore";
+const CHECK: &str = "git ls-files | lc check .gitignore";
 
-/// Counts by options of `lc count`. Clap quotes an option that is close to an unknown one.
+/// The options of `lc count`, each with a count by it.
 const COUNTS: &[(&str, &str)] = &[
-    ("'--by'", "lc count --by ext ."),
-    ("'--depth'", "lc count --by dir --depth 2 ."),
-    ("'--sort'", "lc count --sort lines ."),
-    ("'--top'", "lc count --sort lines --top 10 ."),
-    ("'--share'", "lc count --format table --share ."),
-    ("'--format'", "lc count --format table ."),
-    ("'--files'", "lc count --files ."),
-    ("'--left-out'", "lc count --left-out ."),
-    ("'--exclude'", "lc count --exclude '*.min.js' ."),
-    ("'--include'", "lc count --include '*.c' ."),
-    ("'--no-ignore'", "lc count --no-ignore ."),
-    ("'--one-file-system'", "lc count --one-file-system ."),
-    ("'--archive'", "lc count --archive ."),
-    ("'--without'", "lc count --without linguist-vendored ."),
-    ("'--threads'", "lc count --threads 8 ."),
-    ("'--max-dirs'", "lc count --max-dirs 1000000 ."),
+    ("--by", "lc count --by ext ."),
+    ("--depth", "lc count --by dir --depth 2 ."),
+    ("--sort", "lc count --sort bytes ."),
+    ("--top", "lc count --top 10 ."),
+    ("--share", "lc count --share ."),
+    ("--format", "lc count --format table ."),
+    ("--files", "lc count --files ."),
+    ("--left-out", "lc count --left-out ."),
+    ("--exclude", "lc count --exclude '*.min.js' ."),
+    ("--include", "lc count --include '*.c' ."),
+    ("--exclude-from", COUNT),
+    ("--only", COUNT),
+    ("--only-from", "find . | lc count --only-from - ."),
+    ("--null", "find . -print0 | lc count --only-from - -0 ."),
+    ("--no-ignore", "lc count --no-ignore ."),
+    ("--one-file-system", "lc count --one-file-system ."),
+    ("--archive", "lc count --archive ."),
+    ("--without", "lc count --without linguist-vendored ."),
+    ("--threads", "lc count --threads 8 ."),
+    ("--max-dirs", "lc count --max-dirs 1000000 ."),
 ];
 
-/// Finds the count that an unknown option may have meant: what people try because other tools have it.
-fn count_meant(word: &str) -> Option<&'static str> {
+/// The commands, each with a use of it.
+const COMMANDS: &[(&str, &str)] = &[
+    ("count", COUNT),
+    ("explain", EXPLAIN),
+    ("check", CHECK),
+    ("help", "lc --help"),
+];
+
+/// The options of `lc explain`.
+const EXPLANATIONS: &[(&str, &str)] = &[
+    ("--exclude", EXPLAIN),
+    ("--exclude-from", EXPLAIN),
+    ("--include", EXPLAIN),
+    ("--no-ignore", EXPLAIN),
+    ("--archive", EXPLAIN),
+    ("--without", EXPLAIN),
+    ("--null", EXPLAIN),
+];
+
+/// The options of `lc check`.
+const CHECKS: &[(&str, &str)] = &[("--explain", CHECK), ("--null", CHECK)];
+
+/// What a usage error says beside what is wrong.
+#[derive(Drop)]
+pub(crate) struct Advice {
+    /// What may have been meant.
+    pub(crate) tip: Option<String>,
+    /// A line with a command that works.
+    pub(crate) example: String,
+}
+
+/// Makes advice without a tip.
+fn example(alloc: Global, command: &str) -> Result<Advice, AllocError> {
+    Ok(Advice {
+        tip: None,
+        example: format!(in alloc; "Example: {command}")?,
+    })
+}
+
+/// Makes advice with a tip.
+fn with_tip(alloc: Global, tip: String, command: &str) -> Result<Advice, AllocError> {
+    Ok(Advice {
+        tip: Some(tip),
+        example: format!(in alloc; "Example: {command}")?,
+    })
+}
+
+/// Finds the command that an unknown word may have meant: what people try because other tools have it.
+fn word_meant(word: &str) -> Option<&'static str> {
     match word {
+        "-v" | "-V" | "--version" | "version" => Some("lc --version"),
         "--json" | "json" => Some("lc count --format json ."),
         "--csv" | "csv" => Some("lc count --format csv ."),
         "--markdown" | "--md" | "markdown" => Some("lc count --format markdown ."),
         "--html" | "html" => Some("lc count --format html ."),
         "--table" | "table" => Some("lc count --format table ."),
         "--tsv" | "tsv" => Some("lc count --format tsv ."),
-        "--hidden" | "--no-gitignore" | "--no-vcs-ignore" => Some("lc count --no-ignore ."),
+        "--all" | "--no-gitignore" | "--no-vcs-ignore" => Some("lc count --no-ignore ."),
         "--xdev" | "--same-file-system" => Some("lc count --one-file-system ."),
         "--dir" | "--dirs" | "--by-dir" => Some("lc count --by dir ."),
+        "--max-depth" => Some("lc count --by dir --depth 2 ."),
+        "--by-ext" => Some("lc count --by ext ."),
+        "--text" => Some("lc count --by ext,text ."),
         "--by-file" | "-f" => Some("lc count --files ."),
         _ => None,
     }
+}
+
+/// Finds the command that an unknown option may have meant.
+fn option_meant(option: &str) -> Option<&'static str> {
+    if option.starts_with('-') {
+        word_meant(option)
+    } else {
+        None
+    }
+}
+
+fn is_format_option(word: &str) -> bool {
+    matches!(word, "-f" | "-o" | "--output")
+}
+
+fn is_format(word: &str) -> bool {
+    matches!(word, "tsv" | "table" | "json" | "csv" | "markdown" | "html")
 }
 
 fn is_extension_option(word: &str) -> bool {
     matches!(word, "-e" | "--ext" | "--extension" | "-t" | "--type")
 }
 
-/// Finds the extension of the files that an option of other tools would choose, as in `-e py`.
-fn extension_meant<W: AsStr>(words: &[W]) -> Option<&str> {
+fn is_extension(word: &str) -> bool {
+    !word.is_empty() && word.bytes().all(|byte| byte.is_ascii_alphanumeric())
+}
+
+/// Finds the count by an option of other tools and the argument after it, such as `-e py` or `-f json`.
+fn pair_meant<W: AsStr>(alloc: Global, words: &[W]) -> Result<Option<String>, AllocError> {
     for pair in words.windows(2) {
-        if let [option, extension] = pair {
-            let extension = extension.as_str();
-            let is_plain = extension.bytes().all(|byte| byte.is_ascii_alphanumeric());
-            if is_extension_option(option.as_str()) && is_plain && !extension.is_empty() {
-                return Some(extension);
+        if let [option, value] = pair {
+            let value = value.as_str();
+            if is_extension_option(option.as_str()) && is_extension(value) {
+                return Ok(Some(format!(in alloc; "lc count --include '*.{value}' .")?));
+            }
+            if is_format_option(option.as_str()) && is_format(value) {
+                return Ok(Some(format!(in alloc; "lc count --format {value} .")?));
             }
         }
     }
-    None
+    Ok(None)
 }
 
-/// Finds the count by an option that clap's text quotes.
-fn count_quoted(why: &str) -> Option<&'static str> {
-    for (option, example) in COUNTS {
-        if why.contains(*option) {
-            return Some(*example);
-        }
+/// Returns whether a terminal shows an argument as it is, so that it can be typed again.
+fn is_shown_as_typed(alloc: Global, word: &str) -> Result<bool, AllocError> {
+    let mut shown = String::new(alloc);
+    push_visible(&mut shown, word.as_bytes())?;
+    Ok(shown.as_str() == word)
+}
+
+/// Returns whether an argument can be a path of `--only` other than DIR itself.
+fn is_part(alloc: Global, word: &str) -> Result<bool, AllocError> {
+    let (path, _) = split_slash(undotted(word.as_bytes()));
+    if word.starts_with('-') || is_top(path) || is_bad_path(path) {
+        return Ok(false);
     }
-    None
+    is_shown_as_typed(alloc, word)
 }
 
-/// Returns whether an argument can be a path of `--only`, and a shell takes it as it is.
-fn is_part(word: &str) -> bool {
-    let is_plain = |byte: u8| byte.is_ascii_alphanumeric()
-        || matches!(byte, b'.' | b'_' | b'-' | b'/');
-    let (path, _) = split_slash(word.as_bytes());
-    !word.starts_with('-') && word.bytes().all(is_plain) && !is_bad_path(path)
-}
-
-fn are_parts<W: AsStr>(words: &[W]) -> bool {
+fn are_parts<W: AsStr>(alloc: Global, words: &[W]) -> Result<bool, AllocError> {
     for word in words {
-        if !is_part(word.as_str()) {
-            return false;
+        if !is_part(alloc, word.as_str())? {
+            return Ok(false);
         }
     }
-    words.len() > 1
+    Ok(words.len() > 1)
 }
 
-/// Suggests a count of several parts of this directory.
+/// Makes a count of several parts of this directory.
 fn count_of_parts<W: AsStr>(alloc: Global, words: &[W]) -> Result<String, AllocError> {
     let mut text = String::from_str(alloc, "lc count")?;
     for word in words {
-        let word = word.as_str();
-        write!(text, " --only {word}")?;
+        text.push_str(" --only ")?;
+        push_quoted(&mut text, word.as_str())?;
     }
     text.push_str(" .")?;
     Ok(text)
 }
 
-/// Finds the count that arguments after `count` may have meant. `why` is clap's text, which quotes a similar option.
-///
-/// ```
-/// assert!(rt; count(rt.alloc(), &["src", "doc"], "")?.as_str() == "lc count --only src --only doc .");
-/// assert!(rt; count(rt.alloc(), &["--json", "."], "")?.as_str() == "lc count --format json .");
-/// ```
-pub(crate) fn count<W: AsStr>(alloc: Global, words: &[W], why: &str) -> Result<String, AllocError> {
-    for word in words {
-        if let Some(meant) = count_meant(word.as_str()) {
-            return String::from_str(alloc, meant);
-        }
+/// Returns what clap quotes of the arguments that it refuses.
+fn quoted(problem: &str) -> &str {
+    let Some((_, rest)) = problem.split_once('\'') else {
+        return "";
+    };
+    match rest.rsplit_once('\'') {
+        Some((quoted, _)) => quoted,
+        None => "",
     }
-    if let Some(extension) = extension_meant(words) {
-        return format!(in alloc; "lc count --include '*.{extension}' .");
-    }
-    if are_parts(words) {
-        return count_of_parts(alloc, words);
-    }
-    String::from_str(alloc, count_quoted(why).unwrap_or(COUNT))
 }
 
-/// Finds the command that a first argument may have meant if it is no command. `why` is clap's text, which quotes a similar command.
-pub(crate) fn command(word: &str, why: &str) -> &'static str {
-    if matches!(word, "version" | "-v") {
-        "lc --version"
-    } else if why.contains("'explain'") {
-        EXPLAIN
-    } else if why.contains("'check'") {
-        CHECK
-    } else {
-        let quoted = count_quoted(why);
-        count_meant(word).or(quoted).unwrap_or(COUNT)
+/// Makes the advice for an unknown name that is close to a known one.
+fn near(
+    alloc: Global,
+    word: &str,
+    kind: &str,
+    known: &'static [(&'static str, &'static str)],
+) -> Result<Option<Advice>, AllocError> {
+    let Some((name, meant)) = near_name(alloc, word, known)? else {
+        return Ok(None);
+    };
+    let tip = format!(in alloc; "a similar {kind} exists: '{name}'")?;
+    Ok(Some(with_tip(alloc, tip, meant)?))
+}
+
+/// Makes the advice for an unknown argument: the option that is close if it is a long option, or else this command.
+fn option_or(
+    alloc: Global,
+    problem: &str,
+    options: &'static [(&'static str, &'static str)],
+    command: &str,
+) -> Result<Advice, AllocError> {
+    let unknown = quoted(problem);
+    if !unknown.starts_with("--") {
+        return example(alloc, command);
     }
+    match near(alloc, unknown, "argument", options)? {
+        Some(advice) => Ok(advice),
+        None => example(alloc, command),
+    }
+}
+
+/// Returns what the program does without an unknown option, if that is what the option may have meant.
+fn needless(option: &str) -> Option<&'static str> {
+    match option {
+        "--hidden" => Some("names that begin with a dot are counted without an option"),
+        "--recursive" | "-r" | "-R" => Some(
+            "all directories under DIR are counted without an option",
+        ),
+        _ => None,
+    }
+}
+
+/// Finds the count that refused arguments of `lc count` may have meant. `problem` is what clap says is wrong.
+///
+/// ```
+/// let problem = "error: unexpected argument '--json' found";
+/// assert!(rt; count(rt.alloc(), &["--json", "."], problem)?.example.as_str() == "Example: lc count --format json .");
+/// ```
+pub(crate) fn count<W: AsStr>(
+    alloc: Global,
+    words: &[W],
+    problem: &str,
+) -> Result<Advice, AllocError> {
+    if let Some(pair) = pair_meant(alloc, words)? {
+        return example(alloc, &pair);
+    }
+    if let Some(meant) = option_meant(quoted(problem)) {
+        return example(alloc, meant);
+    }
+    if let Some(tip) = needless(quoted(problem)) {
+        return with_tip(alloc, String::from_str(alloc, tip)?, COUNT);
+    }
+    if are_parts(alloc, words)? {
+        let parts = count_of_parts(alloc, words)?;
+        return example(alloc, &parts);
+    }
+    option_or(alloc, problem, COUNTS, COUNT)
+}
+
+/// Makes the advice for a first argument that is no command, nor close to one.
+fn count_of(alloc: Global, word: &str) -> Result<Advice, AllocError> {
+    if word.is_empty() || !is_shown_as_typed(alloc, word)? {
+        return example(alloc, COUNT);
+    }
+    let mut text = String::from_str(alloc, "To count a directory: lc count ")?;
+    push_quoted(&mut text, word)?;
+    Ok(Advice {
+        tip: None,
+        example: text,
+    })
+}
+
+/// Finds the command that may have been meant by a first argument that is none.
+pub(crate) fn command(alloc: Global, first: &str) -> Result<Advice, AllocError> {
+    if first == "help" {
+        return example(alloc, "lc help count");
+    }
+    if let Some(meant) = word_meant(first) {
+        return example(alloc, meant);
+    }
+    match near(alloc, first, "command", COMMANDS)? {
+        Some(advice) => Ok(advice),
+        None => count_of(alloc, first),
+    }
+}
+
+/// Returns the name in help of the value of an option of `lc explain` that takes the next argument.
+fn value_name(option: &str) -> Option<&'static str> {
+    match option {
+        "--exclude" | "--include" => Some("PATTERN"),
+        "--exclude-from" => Some("FILE"),
+        "--without" => Some("ATTR[=VALUE]"),
+        _ => None,
+    }
+}
+
+/// Says which argument was read as the value of an option, if one was. Of several it names the last.
+fn value_taken<W: AsStr>(alloc: Global, words: &[W]) -> Result<Option<String>, AllocError> {
+    let mut taken = None;
+    for pair in words.windows(2) {
+        if let [option, value] = pair {
+            let (option, value) = (option.as_str(), value.as_str());
+            if let Some(name) = value_name(option) {
+                taken = Some(format!(in alloc; "'{value}' is the {name} of '{option}'")?);
+            }
+        }
+    }
+    Ok(taken)
+}
+
+/// Finds the explanation that refused arguments of `lc explain` may have meant. `problem` is what clap says is wrong.
+pub(crate) fn explain<W: AsStr>(
+    alloc: Global,
+    words: &[W],
+    problem: &str,
+) -> Result<Advice, AllocError> {
+    if problem.starts_with("error: the following required") {
+        if let Some(tip) = value_taken(alloc, words)? {
+            return with_tip(alloc, tip, EXPLAIN);
+        }
+    }
+    option_or(alloc, problem, EXPLANATIONS, EXPLAIN)
+}
+
+/// Finds the check that refused arguments of `lc check` may have meant. `problem` is what clap says is wrong.
+pub(crate) fn check(alloc: Global, problem: &str) -> Result<Advice, AllocError> {
+    option_or(alloc, problem, CHECKS, CHECK)
 }

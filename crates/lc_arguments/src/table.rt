@@ -180,7 +180,7 @@ fn columns_of(alloc: Global, names: Option<&str>, depth: Option<u32>) -> Result<
             alloc,
             "--by <COLUMNS>",
             names,
-            ": some of dir, ext, text, eol are wanted, each once, with commas between",
+            ": choose from dir, ext, text and eol, each once, separated by commas",
         ));
     };
     if depth.is_some() && columns.dir.is_none() {

@@ -2,8 +2,9 @@
 
 use lc_arguments::{
     CheckRequest, CountRequest, Exclusions, ExplainRequest, ParseExit, Request, TableRequest,
+    count_words,
 };
-use lc_view::Columns;
+use lc_view::{Columns, Format, SortBy};
 use std::alloc::{AllocError, Global};
 use std::process::Abort;
 use std::test::Fail;
@@ -26,11 +27,11 @@ const COUNTS: &[Case] = &[
     ),
     (
         "count --format table --by eol,ext --sort bytes .",
-        "count .: 4 threads, 65536 directories, Table by ext eol sorted by Bytes",
+        "count .: 4 threads, 65536 directories, Table by ext eol sorted by Largest(Bytes)",
     ),
     (
         "count --files --sort lines --top 10 .",
-        "count .: 4 threads, 65536 directories, no format by ext text eol sorted by Lines, first 10, files",
+        "count .: 4 threads, 65536 directories, no format by ext text eol sorted by Largest(Lines), first 10, files",
     ),
     (
         "count --exclude-from rules --without a --without=b=1 --only src/ --only c .",
@@ -54,17 +55,64 @@ const COUNTS: &[Case] = &[
     ),
     (
         "count --format html --sort bytes .",
-        "count .: 4 threads, 65536 directories, Html by ext text eol sorted by Bytes",
+        "count .: 4 threads, 65536 directories, Html by ext text eol sorted by Largest(Bytes)",
     ),
     (
         "count --depth 256 --by dir --format csv .",
         "count .: 4 threads, 65536 directories, Csv by dir to 256",
     ),
+    (
+        "count --sort name .",
+        "count .: 4 threads, 65536 directories, no format by ext text eol sorted by Name",
+    ),
+    (
+        "count --share .",
+        "count .: 4 threads, 65536 directories, no format by ext text eol, shares",
+    ),
+    (
+        "count --only ./src/ --only .//a --only . --only ./ .",
+        "count .: 4 threads, 65536 directories, no format by ext text eol, only src, only a, only ., only .",
+    ),
+];
+
+/// Words of a count that leave the command or DIR out.
+const SHORT_COUNTS: &[Case] = &[
+    (
+        "count",
+        "count .: 4 threads, 65536 directories, no format by ext text eol",
+    ),
+    (
+        ".",
+        "count .: 4 threads, 65536 directories, no format by ext text eol",
+    ),
+    (
+        "..",
+        "count ..: 4 threads, 65536 directories, no format by ext text eol",
+    ),
+    (
+        "./src",
+        "count ./src: 4 threads, 65536 directories, no format by ext text eol",
+    ),
+    (
+        "--by ext /usr/include",
+        "count /usr/include: 4 threads, 65536 directories, no format by ext",
+    ),
+    (
+        "--by ext",
+        "count .: 4 threads, 65536 directories, no format by ext",
+    ),
+    (
+        "-x",
+        "count .: 4 threads, 65536 directories, no format by ext text eol, one file system",
+    ),
+    (
+        "-- src",
+        "count src: 4 threads, 65536 directories, no format by ext text eol",
+    ),
 ];
 
 const OTHERS: &[Case] = &[
     ("", "check joined"),
-    ("--", "check joined"),
     ("check .gitignore", "check .gitignore"),
     ("check --explain a", "check a, explained"),
     ("check -0 a", "check a, ended by NUL"),
@@ -85,19 +133,19 @@ const EXITS: &[Case] = &[
     ("-h", "shown: Count files, lines and bytes in a source tree"),
     (
         "count --threads 17 .",
-        "refused: error: invalid value '17' for '--threads <N>'",
+        "refused: error: invalid value for '--threads <N>': '17' is no number from 1 to 16\n\nFor more",
     ),
     (
         "count --top 0 .",
-        "refused: error: invalid value '0' for '--top <N>'",
+        "refused: error: invalid value for '--top <N>': '0' is no number from 1 to 4294967295\n",
     ),
     (
         "count --max-dirs 0 .",
-        "refused: error: invalid value '0' for '--max-dirs <N>'",
+        "refused: error: invalid value for '--max-dirs <N>': '0' is no number from 1 to 1048576\n",
     ),
     (
         "count --by ext,ext .",
-        "refused: error: invalid value 'ext,ext' for '--by <COLUMNS>'",
+        "refused: error: invalid value 'ext,ext' for '--by <COLUMNS>': choose from dir, ext, text and eol, each once, separated by commas\n",
     ),
     (
         "count --without=-x .",
@@ -117,7 +165,7 @@ const EXITS: &[Case] = &[
     ),
     (
         "count --by dir --depth 257 .",
-        "refused: error: invalid value '257' for '--depth <N>'",
+        "refused: error: invalid value for '--depth <N>': '257' is no number from 1 to 256\n",
     ),
     (
         "count --depth 2 .",
@@ -128,8 +176,32 @@ const EXITS: &[Case] = &[
         "refused: error: '--share' needs '--format table' or '--format markdown'",
     ),
     (
-        "count --share .",
-        "refused: error: '--share' needs '--format table' or '--format markdown'",
+        "--threads x",
+        "refused: error: invalid value for '--threads <N>': 'x' is no number from 1 to 16\n",
+    ),
+    (
+        "count --threads= .",
+        "refused: error: invalid value for '--threads <N>': '' is no number from 1 to 16\n",
+    ),
+    (
+        "count --format html --sort name .",
+        "refused: error: '--format html' draws the column of '--sort': files, lines, blank or bytes\n",
+    ),
+    (
+        "count --sort names .",
+        "refused: error: invalid value 'names' for '--sort <COLUMN>'\n  [possible values: name, files, lines, blank, bytes]",
+    ),
+    (
+        "count --only= .",
+        "refused: error: invalid value '' for '--only <PATH>': expected a path relative to DIR, such as src/lib\n",
+    ),
+    (
+        "count --only / .",
+        "refused: error: invalid value '/' for '--only <PATH>': expected a path relative to DIR, such as src/lib\n",
+    ),
+    (
+        "count --only ./../a .",
+        "refused: error: invalid value './../a' for '--only <PATH>'",
     ),
     (
         "count --files --left-out --format csv .",
@@ -152,11 +224,42 @@ const EXITS: &[Case] = &[
         "refused: error: invalid value '/src' for '--only <PATH>'",
     ),
     (
-        "count",
-        "refused: error: the following required arguments were not provided",
+        "explain --exclude .",
+        "refused: error: the following required arguments were not provided:\n  <DIR>\n\n  tip: '.' is the PATTERN of '--exclude'\n\nUsage: ",
+    ),
+    (
+        "explain --without a --include b",
+        "refused: error: the following required arguments were not provided:\n  <DIR>\n\n  tip: 'b' is the PATTERN of '--include'\n",
+    ),
+    (
+        "count --thread 8 .",
+        "refused: error: unexpected argument '--thread' found\n\n  tip: a similar argument exists: '--threads'\n\nUsage: ",
+    ),
+    (
+        "count . file",
+        "refused: error: unexpected argument 'file' found\n\nUsage: lc count [OPTIONS] [DIR]\n",
+    ),
+    (
+        "count --text .",
+        "refused: error: unexpected argument '--text' found\n\nUsage: lc count [OPTIONS] [DIR]\n\nFor more",
+    ),
+    (
+        "--json",
+        "refused: error: unexpected argument '--json' found\n\nUsage: lc count [OPTIONS] [DIR]\n\nFor more",
+    ),
+    (
+        "count --include-from a .",
+        "refused: error: unexpected argument '--include-from' found\n\nUsage: ",
+    ),
+    (
+        "count --hidden .",
+        "refused: error: unexpected argument '--hidden' found\n\n  tip: names that begin with a dot are counted without an option\n\n",
+    ),
+    (
+        "cuont .",
+        "refused: error: unrecognized subcommand 'cuont'\n\n  tip: a similar command exists: 'count'\n\nUsage: lc [OPTIONS] [DIR]",
     ),
     ("count a b", "refused: error: unexpected argument 'b' found"),
-    ("cuont .", "refused: error: unrecognized subcommand 'cuont'"),
     (
         "a\u{1b}",
         "refused: error: unrecognized subcommand 'a\\x1b'",
@@ -165,22 +268,44 @@ const EXITS: &[Case] = &[
 
 /// Refused words, and the command that they may have meant.
 const MEANT: &[Case] = &[
-    ("count", "lc count ."),
     ("count a b", "lc count --only a --only b ."),
+    ("count a+b it's", "lc count --only a+b --only 'it'\\''s' ."),
+    ("count a\u{1b} b", "lc count ."),
+    ("count . b", "lc count ."),
     ("count --json .", "lc count --format json ."),
     ("count . --csv", "lc count --format csv ."),
     ("count -e py .", "lc count --include '*.py' ."),
     ("count --ext rs src", "lc count --include '*.rs' ."),
     ("count --thread 8 .", "lc count --threads 8 ."),
-    ("count --sorted lines .", "lc count --sort lines ."),
-    ("count --hidden .", "lc count --no-ignore ."),
+    ("count --sorted lines .", "lc count --sort bytes ."),
+    ("count --hidden .", "lc count ."),
+    ("count --all .", "lc count --no-ignore ."),
+    ("count --text .", "lc count --by ext,text ."),
+    ("count -f json .", "lc count --format json ."),
+    ("-e rs .", "lc count --include '*.rs' ."),
+    ("--json", "lc count --format json ."),
+    ("count --share --cvs .", "lc count ."),
     ("count --xdev .", "lc count --one-file-system ."),
     ("cuont .", "lc count ."),
     ("chekc .", "git ls-files | lc check .gitignore"),
     ("explian .", "lc explain . README.md"),
     ("version", "lc --version"),
-    ("--by ext .", "lc count --by ext ."),
+    ("-v", "lc --version"),
+    ("count --version", "lc --version"),
+    ("count --json=x .", "lc count --format json ."),
+    ("count src json", "lc count --only src --only json ."),
+    ("json", "lc count --format json ."),
+    ("help src", "lc help count"),
+    ("a\u{1b}", "lc count ."),
+    ("a\\b", "lc count ."),
     ("explain --files .", "lc explain . README.md"),
+];
+
+/// Words whose first is no command, and the count that they may have meant.
+const DIRECTORIES: &[Case] = &[
+    ("src", "lc count src"),
+    ("contrib", "lc count contrib"),
+    ("it's", "lc count 'it'\\''s'"),
 ];
 
 fn push_exclusions(text: &mut String, exclusions: &Exclusions) -> Result<(), AllocError> {
@@ -338,10 +463,15 @@ fn check_all(rt: &impl Abort, alloc: Global, cases: &[Case]) -> Result<(), Alloc
     Ok(())
 }
 
-/// Checks the command that a refusal names, and that this command is not refused itself.
-fn check_meant(rt: &impl Abort, alloc: Global, (line, wanted): &Case) -> Result<(), AllocError> {
+/// Checks the command that a refusal names after `label`, and that this command is not refused itself.
+fn check_meant(
+    rt: &impl Abort,
+    alloc: Global,
+    label: &str,
+    (line, wanted): &Case,
+) -> Result<(), AllocError> {
     let found = text_of(alloc, line)?;
-    let end = format!(in alloc; "\nExample: {wanted}\n")?;
+    let end = format!(in alloc; "\n{label}: {wanted}\n")?;
     assert!(rt;
         found.starts_with("refused: ") && found.ends_with(end.as_str()),
         "{line}: {found}"
@@ -356,6 +486,7 @@ fn check_meant(rt: &impl Abort, alloc: Global, (line, wanted): &Case) -> Result<
 #[test]
 fn words_and_requests(rt: HostRuntime) -> Result<(), Fail> {
     check_all(&rt, rt.alloc(), COUNTS)?;
+    check_all(&rt, rt.alloc(), SHORT_COUNTS)?;
     check_all(&rt, rt.alloc(), OTHERS)?;
     check_all(&rt, rt.alloc(), EXITS)?;
     Ok(())
@@ -364,7 +495,66 @@ fn words_and_requests(rt: HostRuntime) -> Result<(), Fail> {
 #[test]
 fn refused_words_and_commands_that_work(rt: HostRuntime) -> Result<(), Fail> {
     for case in MEANT {
-        check_meant(&rt, rt.alloc(), case)?;
+        check_meant(&rt, rt.alloc(), "Example", case)?;
+    }
+    for case in DIRECTORIES {
+        check_meant(&rt, rt.alloc(), "To count a directory", case)?;
+    }
+    Ok(())
+}
+
+/// Returns the number by which a table with these words is sorted, in a format.
+fn sorted_by(rt: &impl Abort, alloc: Global, line: &str, format: Format) -> Option<SortBy> {
+    let mut words = Vec::new(alloc);
+    for word in line.split_ascii_whitespace() {
+        assert!(rt; words.push(word).is_ok());
+    }
+    match Request::read(alloc, words.as_slice()) {
+        Ok(Request::Count(request)) => request.table.options(format).sort,
+        _ => None,
+    }
+}
+
+#[test]
+fn orders_of_formats(rt: HostRuntime) -> Result<(), Fail> {
+    let lines = Some(SortBy::Lines);
+    for (line, format, wanted) in [
+        ("count", Format::Tsv, None),
+        ("count", Format::Table, lines),
+        ("count --top 3", Format::Tsv, lines),
+        ("count --format markdown", Format::Tsv, lines),
+        ("count --format json", Format::Table, None),
+        ("count --share", Format::Tsv, lines),
+        ("count --sort name", Format::Table, None),
+        ("count --sort name --top 3", Format::Csv, None),
+        ("count --sort bytes", Format::Table, Some(SortBy::Bytes)),
+    ] {
+        let found = sorted_by(&rt, rt.alloc(), line, format);
+        assert!(rt; found == wanted, "{line}, {format:?}: {found:?}");
+    }
+    Ok(())
+}
+
+#[test]
+fn words_of_counts(rt: HostRuntime) -> Result<(), Fail> {
+    let words = ["count", "src"];
+    assert!(rt; count_words(&words).is_some_and(|rest| rest.len() == 1));
+    for word in [".", "..", "./src", "/", "-x", "--", "--by=ext", "-hV"] {
+        assert!(rt; count_words(&[word]).is_some(), "{word}");
+    }
+    for word in [
+        "",
+        "src",
+        "...",
+        "check",
+        "explain",
+        "help",
+        "-h",
+        "--help",
+        "-V",
+        "--version",
+    ] {
+        assert!(rt; count_words(&[word]).is_none(), "{word}");
     }
     Ok(())
 }

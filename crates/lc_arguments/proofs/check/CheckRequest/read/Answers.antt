@@ -26,5 +26,5 @@ returns-in-Ok-try_get_matches_from g c =
 
 pub returns-in-Err : goal.returns-in-Err
 returns-in-Err g c =
-    no_request_of c.in-Ok.command check_app (map g.W.AsStr.text c.args.words.now) c.in-Err.error c.explained.result c.in-Ok.ensures.0
-    check_is_free c.in-Err.ensures.kinds c.explained.ensures
+    no_request_of c.in-Ok.command check_app (map g.W.AsStr.text c.args.words.now) c.in-Err.error c.explained_check.result c.in-Ok.ensures.0
+    check_is_free c.in-Err.ensures.kinds c.explained_check.ensures

@@ -13,9 +13,9 @@ use Rattle.lc_arguments.proofs.explain.ExplainRequest.read.Goals as goal
 
 pub returns-in-Err : goal.returns-in-Err
 returns-in-Err g c =
-    no_explanation_by (map g.W.AsStr.text c.args.words.now) c.explained.result
-    (no_request_of c.in-Ok.command explain_app (map g.W.AsStr.text c.args.words.now) c.in-Err.error c.explained.result c.in-Ok.ensures.0
-    explain_is_free c.in-Err.ensures.kinds c.explained.ensures)
+    no_explanation_by (map g.W.AsStr.text c.args.words.now) c.explained_explanation.result
+    (no_request_of c.in-Ok.command explain_app (map g.W.AsStr.text c.args.words.now) c.in-Err.error c.explained_explanation.result
+    c.in-Ok.ensures.0 explain_is_free c.in-Err.ensures.kinds c.explained_explanation.ensures)
 
 pub returns-in-Err-read : goal.returns-in-Err-read
 returns-in-Err-read g c =
