@@ -435,12 +435,18 @@ fn answer_text(
     }
 }
 
-/// Reads words that are parted by spaces, and returns what they ask for, or what is said of them.
-fn text_of(alloc: Global, line: &str) -> Result<String, AllocError> {
+/// Returns words that are parted by spaces.
+fn words_of(alloc: Global, line: &str) -> Result<Vec<&str>, AllocError> {
     let mut words = Vec::new(alloc);
     for word in line.split_ascii_whitespace() {
         words.push(word)?;
     }
+    Ok(words)
+}
+
+/// Reads words that are parted by spaces, and returns what they ask for, or what is said of them.
+fn text_of(alloc: Global, line: &str) -> Result<String, AllocError> {
+    let words = words_of(alloc, line)?;
     answer_text(alloc, Request::read(alloc, words.as_slice()))
 }
 
@@ -504,14 +510,12 @@ fn refused_words_and_commands_that_work(rt: HostRuntime) -> Result<(), Fail> {
 }
 
 /// Returns the number by which a table with these words is sorted, in a format.
-fn sorted_by(rt: &impl Abort, alloc: Global, line: &str, format: Format) -> Option<SortBy> {
-    let mut words = Vec::new(alloc);
-    for word in line.split_ascii_whitespace() {
-        assert!(rt; words.push(word).is_ok());
-    }
+fn sorted_by(alloc: Global, line: &str, format: Format) -> Result<Option<SortBy>, AllocError> {
+    let words = words_of(alloc, line)?;
     match Request::read(alloc, words.as_slice()) {
-        Ok(Request::Count(request)) => request.table.options(format).sort,
-        _ => None,
+        Ok(Request::Count(request)) => Ok(request.table.options(format).sort),
+        Err(ParseExit::Memory) => Err(AllocError),
+        _ => Ok(None),
     }
 }
 
@@ -529,7 +533,7 @@ fn orders_of_formats(rt: HostRuntime) -> Result<(), Fail> {
         ("count --sort name --top 3", Format::Csv, None),
         ("count --sort bytes", Format::Table, Some(SortBy::Bytes)),
     ] {
-        let found = sorted_by(&rt, rt.alloc(), line, format);
+        let found = sorted_by(rt.alloc(), line, format)?;
         assert!(rt; found == wanted, "{line}, {format:?}: {found:?}");
     }
     Ok(())
