@@ -11,8 +11,8 @@ fn bare(name: &str) -> &str {
     name.trim_start_matches('-')
 }
 
-/// Returns whether a name is so close to a word that it was probably meant: at most a third of the longer one is edited, and more than one
-/// edit leaves the first letter. So `sorted` is near `sort`, but `include-from` is not near `exclude-from`.
+/// Returns whether a name is so close to a word that it was probably meant: at most a third of the longer one is edited, and if that takes
+/// several edits, both begin with the same letter. So `sorted` is near `sort`, but `include-from` is not near `exclude-from`.
 fn is_near(word: &str, name: &str, edits: usize) -> bool {
     let longer = word.len().max(name.len());
     let begins_alike = word.as_bytes().first() == name.as_bytes().first();
