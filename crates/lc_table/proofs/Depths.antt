@@ -18,16 +18,19 @@ use Rattle.lc_level.specs.Level.{Reason, named_git, by_rule, by_attribute, not_i
 use Rattle.lc_text.specs.RulePlaces.{rule_file}
 use Rattle.lc_view.specs.declared.table_options.Columns.{Columns}
 use Rattle.lc_view.specs.declared.table_options.TableOptions.{TableOptions}
+use Rattle.lc_walk.specs.Extension.{extension_of}
 use Rattle.lc_walk.specs.ReportLines.{FileLineModel, SkippedLineModel}
 use Rattle.lc_walk.specs.declared.report.Report.{Report}
 use Rattle.lc_walk.specs.declared.tally.sums.Sums.{Sums}
 use Rattle.lc_rows.specs.Classes.{binary_sums, text_sums}
+use Rattle.lc_rows.specs.Directories.{directory_of, name_of}
 use Rattle.lc_rows.specs.RowKeys.{ShownRowModel}
 use Rattle.lc_rows.specs.Views.{ViewModel}
 use Rattle.lc_table.specs.JsonText.{Member, items_with, members_with, array_with, integer, bytes_member, extension_member}
 use Rattle.lc_table.specs.JsonText.{text_value, if_kept, key_members, sums_members, row_value, file_value, fault_value}
 use Rattle.lc_table.specs.JsonText.{entries_member, files_member, skipped_member, skipped_value, reason_members, report_value, IsDocument}
 use Rattle.lc_table.specs.DirectoryWords.{directory_name}
+use Rattle.lc_table.specs.JsonText.{file_count_members, file_directory_members, file_path_members}
 use Rattle.lc_table.specs.JsonText.{directory_member, list_members, number_members, others_members, sums_member}
 use Rattle.lc_table.specs.TsvText.{eol_word}
 
@@ -84,10 +87,25 @@ row_within by r =
     (bytes_within (codes "dir") (codes "dir_bytes") (directory_name (unwrap_or r.directory [])))) rest in
     omega arith
 
-file_within : (f : FileLineModel) → depth (file_value f) ≤ 2
-file_within f =
-    let path = bytes_within (codes "path") (codes "path_bytes") f.path in
-    let state = text_within f.text in
+file_directory_within : (d : Option ℕ) (path : List ℕ) → members_depth (members_with (file_directory_members d path)) ≤ 1
+file_directory_within None path = omega arith
+file_directory_within (Some n) path =
+    let directory = bytes_within (codes "dir") (codes "dir_bytes") (directory_name (directory_of n path)) in omega arith
+
+file_path_within : (by : Columns) (path : List ℕ) → members_depth (members_with (file_path_members by path)) ≤ 1
+file_path_within by path =
+    let extension = extension_member (extension_of (name_of path)) in
+    let own = bytes_within (codes "path") (codes "path_bytes") path in
+    let last = extension_within (extension_of (name_of path)) in
+    let more = both_within 1 (file_directory_members by.dir path) (extension ∷ []) (file_directory_within by.dir path) (omega arith) in
+    omega arith
+
+file_count_within : (f : FileLineModel) → members_depth (members_with (file_count_members f)) ≤ 1
+file_count_within f = let state = text_within f.text in omega arith
+
+file_within : (by : Columns) (f : FileLineModel) → depth (file_value by f) ≤ 2
+file_within by f =
+    let all = both_within 1 (file_path_members by f.path) (file_count_members f) (file_path_within by f.path) (file_count_within f) in
     omega arith
 
 fault_within : (f : FaultLineModel) → depth (fault_value f) ≤ 2
@@ -116,15 +134,15 @@ report_within : (options : TableOptions) (r : Report) (v : ViewModel) → depth 
 report_within options r v =
     let faults : Member = (codes "faults", array_with (map fault_value r.faults.items)) in
     let entries = if_kept r.lists.left_out (entries_member r) in
-    let files = if_kept options.files (files_member v.files) in
+    let files = if_kept options.files (files_member options.by v.files) in
     let skipped = if_kept r.lists.left_out (skipped_member r) in
     let each_row = items_within (row_value options.by) 2 (row_within options.by) v.rows in
-    let each_file = items_within file_value 2 file_within v.files in
+    let each_file = items_within (file_value options.by) 2 (file_within options.by) v.files in
     let each_skipped = items_within skipped_value 2 skipped_within r.skipped.items in
     let each_fault = items_within fault_value 2 fault_within r.faults.items in
     let last : members_depth (members_with (faults ∷ [])) ≤ 3 = omega arith in
     let with_skipped = both_within 3 skipped (faults ∷ []) (kept_within 3 r.lists.left_out (skipped_member r) (omega arith)) last in
-    let listed = kept_within 3 options.files (files_member v.files) (omega arith) in
+    let listed = kept_within 3 options.files (files_member options.by v.files) (omega arith) in
     let lists = both_within 3 files (skipped ++ faults ∷ []) listed with_skipped in
     let kept = kept_within 3 r.lists.left_out (entries_member r) (omega arith) in
     let members = sums_member (codes "total") r.totals ∷ sums_member (codes "text") (text_sums r.rows.items)

@@ -94,11 +94,26 @@ lists_tokens text ms ns e =
     rw (flat_map-append member_tokens ms (ns ++ e ∷ []), flat_map-append member_tokens ns (e ∷ []))
     (simp (append_assoc, append-nil))
 
+-- a member, a list of members and a last one, appended in turn
+pub path_tokens : (text : List Token) (a : Member) (ms : List Member) (e : Member)
+    → ((text ++ member_tokens a) ++ members_tokens_of ms) ++ member_tokens e ≡ text ++ members_tokens_of (a ∷ (ms ++ e ∷ []))
+path_tokens text a ms e = rw (flat_map-append member_tokens ms (e ∷ [])) (simp (append_assoc, append-nil))
+
+two_in_turn : {A : Type 0} (t b x y e : List A) → (((t ++ b) ++ x) ++ y) ++ e ≡ t ++ (b ++ (x ++ (y ++ e)))
+two_in_turn t b x y e = simp append_assoc
+
+-- an object of two lists of members, appended in turn
+pub two_tokens : (text : List Token) (xs ys : List Member)
+    → (((text ++ begin_object ∷ []) ++ members_tokens_of xs) ++ members_tokens_of ys) ++ end_object ∷ []
+    ≡ text ++ json_tokens (object_with (xs ++ ys))
+two_tokens text xs ys =
+    two_in_turn text (begin_object ∷ []) (members_tokens_of xs) (members_tokens_of ys) (end_object ∷ [])
+    ∙ ap (λ (ts : List Token). text ++ ts) (sym (both_tokens xs ys))
+
+-- five lists of a list of lists
+pub five_in_turn : {A : Type 0} (t a b c d e : List A) → ((((t ++ a) ++ b) ++ c) ++ d) ++ e ≡ t ++ (a ++ (b ++ (c ++ (d ++ (e ++ [])))))
+five_in_turn t a b c d e = simp (append_assoc, append-nil)
+
 -- lists that were appended in turn
 pub in_turn_3 : {A : Type 0} (a b c d : List A) → ((a ++ b) ++ c) ++ d ≡ a ++ (b ++ (c ++ d))
 in_turn_3 a b c d = simp append_assoc
-
--- eight of them
-pub in_turn_8 : {A : Type 0} (a b c d e f g h i : List A)
-    → (((((((a ++ b) ++ c) ++ d) ++ e) ++ f) ++ g) ++ h) ++ i ≡ a ++ (b ++ (c ++ (d ++ (e ++ (f ++ (g ++ (h ++ i)))))))
-in_turn_8 a b c d e f g h i = simp append_assoc

@@ -13,8 +13,10 @@ use Rattle.lc_level.specs.FaultWords.{fault_word}
 use Rattle.lc_view.specs.declared.table_options.Columns.{Columns}
 use Rattle.lc_view.specs.declared.table_options.TableOptions.{TableOptions}
 use Rattle.lc_rows.specs.Classes.{binary_sums, text_sums}
+use Rattle.lc_rows.specs.Directories.{directory_of, name_of}
 use Rattle.lc_rows.specs.RowKeys.{ShownRowModel}
 use Rattle.lc_rows.specs.Views.{ViewModel}
+use Rattle.lc_walk.specs.Extension.{extension_of}
 use Rattle.lc_walk.specs.Key.{Key}
 use Rattle.lc_walk.specs.ReportLines.{FileLineModel, SkippedLineModel}
 use Rattle.lc_walk.specs.declared.report.Report.{Report}
@@ -84,10 +86,22 @@ abbrev pub row_value : Columns → ShownRowModel → Json
 row_value by r =
     object_with (if_kept (is_some by.dir) (directory_member (unwrap_or r.directory [])) ++ (key_members by r.key ++ sums_members r.sums))
 
-abbrev pub file_value : FileLineModel → Json
-file_value f =
-    object_with (path_member f.path ∷ (codes "text", text_value f.text) ∷ (codes "eol", string (eol_word f.count.eol))
-    ∷ (codes "lines", integer f.count.lines) ∷ (codes "blank", integer f.count.blank) ∷ (codes "bytes", integer f.count.bytes) ∷ [])
+-- a file, with its directory where rows are by directory
+abbrev pub file_directory_members : Option ℕ → List ℕ → List Member
+file_directory_members None path = []
+file_directory_members (Some n) path = directory_member (directory_of n path) ∷ []
+
+abbrev pub file_path_members : Columns → List ℕ → List Member
+file_path_members by path =
+    path_member path ∷ (file_directory_members by.dir path ++ extension_member (extension_of (name_of path)) ∷ [])
+
+abbrev pub file_count_members : FileLineModel → List Member
+file_count_members f =
+    (codes "text", text_value f.text) ∷ (codes "eol", string (eol_word f.count.eol)) ∷ (codes "lines", integer f.count.lines)
+    ∷ (codes "blank", integer f.count.blank) ∷ (codes "bytes", integer f.count.bytes) ∷ []
+
+abbrev pub file_value : Columns → FileLineModel → Json
+file_value by f = object_with (file_path_members by f.path ++ file_count_members f)
 
 abbrev pub fault_value : FaultLineModel → Json
 fault_value f = object_with ((codes "word", string (fault_word f.word)) ∷ path_member f.path ∷ [])
@@ -110,8 +124,8 @@ skipped_value l =
 abbrev pub entries_member : Report → Member
 entries_member r = (codes "entries", integer r.entries)
 
-abbrev pub files_member : List FileLineModel → Member
-files_member fs = (codes "files", array_with (map file_value fs))
+abbrev pub files_member : Columns → List FileLineModel → Member
+files_member by fs = (codes "files", array_with (map (file_value by) fs))
 
 abbrev pub skipped_member : Report → Member
 skipped_member r = (codes "left", array_with (map skipped_value r.skipped.items))
@@ -135,7 +149,7 @@ number_members r others =
 -- and those that list
 abbrev pub list_members : TableOptions → Report → List FileLineModel → List Member
 list_members options r files =
-    if_kept options.files (files_member files) ++ (if_kept r.lists.left_out (skipped_member r)
+    if_kept options.files (files_member options.by files) ++ (if_kept r.lists.left_out (skipped_member r)
     ++ (codes "faults", array_with (map fault_value r.faults.items)) ∷ [])
 
 -- the value of a report, with this view of its rows and files

@@ -2,7 +2,6 @@
 
 ghost use Rattle.std.specs.Prelude.{◌≡◌, [], ◌∷◌, ◌++◌, IfOk, OnOk, option_map};
 ghost use Rattle.std.specs.List.{flat_map};
-ghost use Rattle.lc_rows.specs.Directories.{name_of};
 ghost use Rattle.lc_rows.specs.Views.{view_model};
 ghost use Rattle.lc_table.specs.CsvFields.{extension_field, field_if, file_directory, file_fields, file_headings, reason_fields};
 ghost use Rattle.lc_table.specs.CsvFields.{row_fields, row_headings, skipped_fields, skipped_headings, text_field};
@@ -10,6 +9,7 @@ ghost use Rattle.lc_table.specs.CsvText.{csv_records, csv_text_of, file_records,
 ghost use Rattle.lc_table.specs.TsvText.{sums_fields};
 
 use crate::csv_text::{CsvText, Fields};
+use crate::file_columns::file_extension;
 use crate::words::{directory_name, eol_word, kind_word, reason_word, text_word};
 use lc_census::Count;
 use lc_level::Reason;
@@ -17,18 +17,8 @@ use lc_rows::{ShownRow, View, directory_at};
 use lc_rules::TextState;
 use lc_text::{source_directory, source_name};
 use lc_view::{Columns, TableOptions};
-use lc_walk::{FileLine, Report, SkippedLine, Sums, extension};
-use memchr::memrchr;
+use lc_walk::{FileLine, Report, SkippedLine, Sums};
 use std::alloc::{AllocError, Global};
-
-fn name_of(path: &[u8]) -> &[u8]
-    ensures { result.now ≡ name_of path.now }
-{
-    match memrchr(b'/', path) {
-        None => path,
-        Some(slash) => &path[slash + 1..],
-    }
-}
 
 fn text_field(state: TextState) -> &'static str
     ensures { result.now ≡ text_field state }
@@ -134,7 +124,7 @@ fn set_file(fields: &mut Fields, by: Columns, file: &FileLine) -> Result<(), All
     fields.clear();
     fields.push(&file.path)?;
     push_file_directory(fields, by, &file.path)?;
-    push_extension(fields, extension(name_of(&file.path)))?;
+    push_extension(fields, file_extension(&file.path))?;
     fields.push(text_field(file.text).as_bytes())?;
     fields.push(eol_word(eol).as_bytes())?;
     fields.push_number(u128::from(lines))?;

@@ -5,7 +5,7 @@ ghost use Rattle.json.specs.Json.{string};
 ghost use Rattle.json.specs.Tree.{json_tokens};
 ghost use Rattle.lc_table.specs.TsvText.{eol_word};
 ghost use Rattle.lc_table.specs.JsonText.{array_with, object_with, directory_member, extension_member, if_kept, text_value};
-ghost use Rattle.lc_table.specs.JsonText.{key_members, sums_members};
+ghost use Rattle.lc_table.specs.JsonText.{file_count_members, file_directory_members, file_path_members, key_members, sums_members};
 ghost use Rattle.lc_table.specs.JsonText.{row_value, file_value, fault_value, entries_member, files_member, skipped_member};
 ghost use Rattle.lc_table.specs.JsonText.{list_members, number_members, others_members, sums_member};
 ghost use Rattle.lc_table.specs.JsonText.{json_text_of, report_value, IsDocument};
@@ -13,11 +13,12 @@ ghost use Rattle.lc_table.specs.JsonTokens.{member_tokens, members_tokens_of};
 ghost use Rattle.lc_rows.specs.Classes.{binary_sums, text_sums};
 ghost use Rattle.lc_rows.specs.Views.{view_model};
 
+use crate::file_columns::file_extension;
 use crate::json_skipped::write_skipped_list;
 use crate::json_text::JsonText;
 use crate::words::{directory_name, eol_word, text_word};
 use lc_census::Eol;
-use lc_rows::{ClassSums, ShownRow, View};
+use lc_rows::{ClassSums, ShownRow, View, directory_at};
 use lc_rules::TextState;
 use lc_view::{Columns, TableOptions};
 use lc_walk::{FaultLine, FileLine, Report, Sums, TallyRow};
@@ -123,11 +124,10 @@ fn write_key(
     Ok(())
 }
 
-fn write_directory(text: &mut JsonText, row: &ShownRow<'_>) -> Result<(), AllocError>
-    ensures { OnOk result (text.new ≡ text.old ++ member_tokens (directory_member (unwrap_or row.now.directory []))) }
+fn write_directory(text: &mut JsonText, path: &[u8]) -> Result<(), AllocError>
+    ensures { OnOk result (text.new ≡ text.old ++ member_tokens (directory_member path.now)) }
 {
-    let directory = directory_name(row.directory.unwrap_or(&[]));
-    text.bytes_member("dir", "dir_bytes", directory)
+    text.bytes_member("dir", "dir_bytes", directory_name(path))
 }
 
 fn write_kept_directory(
@@ -139,7 +139,7 @@ fn write_kept_directory(
         ≡ text.old ++ members_tokens_of (if_kept (is_some by.dir) (directory_member (unwrap_or row.now.directory [])))) }
 {
     if by.dir.is_some() {
-        write_directory(text, row)?;
+        write_directory(text, row.directory.unwrap_or(&[]))?;
     }
     Ok(())
 }
@@ -160,16 +160,52 @@ fn write_row(
     Ok(())
 }
 
-fn write_file(text: &mut JsonText, file: &FileLine) -> Result<(), AllocError>
-    ensures { OnOk result (text.new ≡ text.old ++ json_tokens (file_value file.now)) }
+fn write_file_directory(text: &mut JsonText, by: Columns, path: &[u8]) -> Result<(), AllocError>
+    ensures { OnOk result (text.new ≡ text.old ++ members_tokens_of (file_directory_members by.dir path.now)) }
 {
-    text.begin_object()?;
-    text.bytes_member("path", "path_bytes", &file.path)?;
+    match by.dir {
+        None => Ok(()),
+        Some(depth) => write_directory(text, directory_at(depth, path)),
+    }
+}
+
+/// Writes the members of a file that come from its path.
+fn write_file_path(
+    text: &mut JsonText,
+    dotted: &mut Vec<u8>,
+    by: Columns,
+    path: &[u8],
+) -> Result<(), AllocError>
+    ensures { OnOk result (text.new ≡ text.old ++ members_tokens_of (file_path_members by path.now)) }
+{
+    text.bytes_member("path", "path_bytes", path)?;
+    write_file_directory(text, by, path)?;
+    write_extension(text, dotted, file_extension(path))?;
+    Ok(())
+}
+
+fn write_file_count(text: &mut JsonText, file: &FileLine) -> Result<(), AllocError>
+    ensures { OnOk result (text.new ≡ text.old ++ members_tokens_of (file_count_members file.now)) }
+{
     write_text_state(text, file.text)?;
     text.string_member("eol", eol_word(file.count.eol))?;
     text.integer_member("lines", u128::from(file.count.lines))?;
     text.integer_member("blank", u128::from(file.count.blank))?;
     text.integer_member("bytes", u128::from(file.count.bytes))?;
+    Ok(())
+}
+
+fn write_file(
+    text: &mut JsonText,
+    dotted: &mut Vec<u8>,
+    by: Columns,
+    file: &FileLine,
+) -> Result<(), AllocError>
+    ensures { OnOk result (text.new ≡ text.old ++ json_tokens (file_value by file.now)) }
+{
+    text.begin_object()?;
+    write_file_path(text, dotted, by, &file.path)?;
+    write_file_count(text, file)?;
     text.end_object()?;
     Ok(())
 }
@@ -201,22 +237,34 @@ fn write_rows(
     Ok(())
 }
 
-fn write_file_list(text: &mut JsonText, files: &[FileLine]) -> Result<(), AllocError>
-    ensures { OnOk result (text.new ≡ text.old ++ member_tokens (codes "files", array_with (map file_value files.now))) }
+fn write_file_list(
+    text: &mut JsonText,
+    alloc: Global,
+    by: Columns,
+    files: &[FileLine],
+) -> Result<(), AllocError>
+    ensures { OnOk result (text.new ≡ text.old ++ member_tokens (files_member by files.now)) }
 {
     text.begin_list("files")?;
+    let mut dotted = Vec::new(alloc);
     for file in files {
-        write_file(text, file)?;
+        write_file(text, &mut dotted, by, file)?;
     }
     text.end_array()?;
     Ok(())
 }
 
-fn write_files(text: &mut JsonText, kept: bool, files: &[FileLine]) -> Result<(), AllocError>
-    ensures { OnOk result (text.new ≡ text.old ++ members_tokens_of (if_kept kept (files_member files.now))) }
+fn write_files(
+    text: &mut JsonText,
+    alloc: Global,
+    options: &TableOptions,
+    files: &[FileLine],
+) -> Result<(), AllocError>
+    ensures { OnOk result (text.new ≡ text.old
+        ++ members_tokens_of (if_kept options.now.files (files_member options.now.by files.now))) }
 {
-    if kept {
-        write_file_list(text, files)?;
+    if options.files {
+        write_file_list(text, alloc, options.by, files)?;
     }
     Ok(())
 }
@@ -303,7 +351,7 @@ fn write_lists(
 ) -> Result<(), AllocError>
     ensures { OnOk result (text.new ≡ text.old ++ members_tokens_of (list_members options.now report.now files.now)) }
 {
-    write_files(text, options.files, files)?;
+    write_files(text, alloc, options, files)?;
     write_skipped(text, report, alloc)?;
     write_faults(text, &report.faults)?;
     Ok(())

@@ -3,6 +3,7 @@
 //! - `words`: the words in the columns of a table; `tsv`: its text with tabs
 //! - `json_report`: its text as JSON, with `json_skipped`, by `json_text`: one that is written token by token
 //! - `csv_table`: its text as CSV, by `csv_text`: one that is written record by record
+//! - `file_columns`: the columns of a file that come from its path
 //! - `screen`: its text in columns for reading, by `listing`, `summary`, `columns` and `cells`
 //! - `row_columns`, `row_cells`: the columns and the lines of a summary; `shares`: shares of a total, and bars
 //! - `markdown`: its text as Markdown, by `markdown_line` and `markdown_text`
@@ -15,6 +16,7 @@ mod cells;
 mod columns;
 mod csv_table;
 mod csv_text;
+mod file_columns;
 mod json_report;
 mod json_skipped;
 mod json_text;

@@ -177,7 +177,7 @@ const JSON: &[Case] = &[Case {
              \"total\":{\"files\":5,\"lines\":18,\"blank\":5,\"bytes\":109},\
              \"text\":{\"files\":5,\"lines\":18,\"blank\":5,\"bytes\":109},\
              \"binary\":{\"files\":0,\"lines\":0,\"blank\":0,\"bytes\":0},\"directories\":1,\
-             \"files\":[{\"path\":\"b.c\",\"text\":\"set\",\"eol\":\"lf\",\"lines\":7,\"blank\":0,\
+             \"files\":[{\"path\":\"b.c\",\"ext\":\".c\",\"text\":\"set\",\"eol\":\"lf\",\"lines\":7,\"blank\":0,\
              \"bytes\":50}],\"faults\":[]}\n",
     ..ALL
 }];

@@ -174,9 +174,74 @@ const NO_TEXT: &[Case] = &[Case {
     ..TREE
 }];
 
+/// The files of JSON, with their directories.
+const JSON_FILES: &[Case] = &[
+    Case {
+        name: "files_as_json_by_one_directory",
+        options: TableOptions {
+            format: Format::Json,
+            files: true,
+            ..BY_DIR
+        },
+        lines: b"{\"rows\":[{\"dir\":\".\",\"files\":1,\"lines\":4,\"blank\":1,\"bytes\":9},{\"dir\":\"a|b\",\"files\":1,\"lines\":3,\
+                 \"blank\":3,\"bytes\":20},{\"dir\":\"src\",\"files\":3,\"lines\":11,\"blank\":1,\"bytes\":80}],\
+                 \"total\":{\"files\":5,\"lines\":18,\"blank\":5,\"bytes\":109},\"text\":{\"files\":5,\"lines\":18,\"blank\":5,\
+                 \"bytes\":109},\"binary\":{\"files\":0,\"lines\":0,\"blank\":0,\"bytes\":0},\"directories\":5,\
+                 \"files\":[{\"path\":\"Makefile\",\"dir\":\".\",\"ext\":null,\"text\":null,\"eol\":\"lf\",\"lines\":4,\"blank\":1,\
+                 \"bytes\":9},{\"path\":\"a|b/x.c\",\"dir\":\"a|b\",\"ext\":\".c\",\"text\":\"set\",\"eol\":\"lf\",\"lines\":3,\
+                 \"blank\":3,\"bytes\":20},{\"path\":\"src/a.c\",\"dir\":\"src\",\"ext\":\".c\",\"text\":\"set\",\"eol\":\"crlf\",\
+                 \"lines\":7,\"blank\":0,\"bytes\":50},{\"path\":\"src/x/b.h\",\"dir\":\"src\",\"ext\":\".h\",\"text\":\"set\",\
+                 \"eol\":\"lf\",\"lines\":1,\"blank\":0,\"bytes\":15},{\"path\":\"src/x/y/c\",\"dir\":\"src\",\"ext\":null,\
+                 \"text\":null,\"eol\":\"lf\",\"lines\":3,\"blank\":1,\"bytes\":15}],\"faults\":[]}\n",
+        ..TREE
+    },
+    Case {
+        name: "files_as_json_by_two_directories",
+        options: TableOptions {
+            format: Format::Json,
+            files: true,
+            sort: None,
+            top: None,
+            ..BY_TWO
+        },
+        lines: b"{\"rows\":[{\"dir\":\".\",\"ext\":null,\"files\":1,\"lines\":4,\"blank\":1,\"bytes\":9},{\"dir\":\"a|b\",\
+                 \"ext\":\".c\",\"files\":1,\"lines\":3,\"blank\":3,\"bytes\":20},{\"dir\":\"src\",\"ext\":\".c\",\"files\":1,\
+                 \"lines\":7,\"blank\":0,\"bytes\":50},{\"dir\":\"src/x\",\"ext\":null,\"files\":1,\"lines\":3,\"blank\":1,\
+                 \"bytes\":15},{\"dir\":\"src/x\",\"ext\":\".h\",\"files\":1,\"lines\":1,\"blank\":0,\"bytes\":15}],\
+                 \"total\":{\"files\":5,\"lines\":18,\"blank\":5,\"bytes\":109},\"text\":{\"files\":5,\"lines\":18,\"blank\":5,\
+                 \"bytes\":109},\"binary\":{\"files\":0,\"lines\":0,\"blank\":0,\"bytes\":0},\"directories\":5,\
+                 \"files\":[{\"path\":\"Makefile\",\"dir\":\".\",\"ext\":null,\"text\":null,\"eol\":\"lf\",\"lines\":4,\"blank\":1,\
+                 \"bytes\":9},{\"path\":\"a|b/x.c\",\"dir\":\"a|b\",\"ext\":\".c\",\"text\":\"set\",\"eol\":\"lf\",\"lines\":3,\
+                 \"blank\":3,\"bytes\":20},{\"path\":\"src/a.c\",\"dir\":\"src\",\"ext\":\".c\",\"text\":\"set\",\"eol\":\"crlf\",\
+                 \"lines\":7,\"blank\":0,\"bytes\":50},{\"path\":\"src/x/b.h\",\"dir\":\"src/x\",\"ext\":\".h\",\"text\":\"set\",\
+                 \"eol\":\"lf\",\"lines\":1,\"blank\":0,\"bytes\":15},{\"path\":\"src/x/y/c\",\"dir\":\"src/x\",\"ext\":null,\
+                 \"text\":null,\"eol\":\"lf\",\"lines\":3,\"blank\":1,\"bytes\":15}],\"faults\":[]}\n",
+        ..TREE
+    },
+    Case {
+        name: "files_as_json_that_are_no_text",
+        options: TableOptions {
+            format: Format::Json,
+            files: true,
+            ..BY_DIR
+        },
+        rows: &[(Some(b"\xfe"), NONE, Eol::Lf, [1, 1, 0, 2])],
+        totals: [1, 1, 0, 2],
+        directories: 2,
+        files: &[(b"\xff/a.\xfe", NONE, Eol::Lf, [1, 0, 2])],
+        lines: b"{\"rows\":[{\"dir_bytes\":[255],\"files\":1,\"lines\":1,\"blank\":0,\"bytes\":2}],\"total\":{\"files\":1,\"lines\":1,\
+                 \"blank\":0,\"bytes\":2},\"text\":{\"files\":1,\"lines\":1,\"blank\":0,\"bytes\":2},\"binary\":{\"files\":0,\
+                 \"lines\":0,\"blank\":0,\"bytes\":0},\"directories\":2,\"files\":[{\"path_bytes\":[255,47,97,46,254],\
+                 \"dir_bytes\":[255],\"ext_bytes\":[46,254],\"text\":null,\"eol\":\"lf\",\"lines\":1,\"blank\":0,\"bytes\":2}],\
+                 \"faults\":[]}\n",
+        ..TREE
+    },
+];
+
 #[test]
 fn rows_by_directory(rt: HostRuntime) -> Result<(), Fail> {
     compare_as_asked(&rt, HEADER, TABS)?;
     compare_as_asked(&rt, b"", OTHER_FORMATS)?;
-    compare_as_asked(&rt, b"", NO_TEXT)
+    compare_as_asked(&rt, b"", NO_TEXT)?;
+    compare_as_asked(&rt, b"", JSON_FILES)
 }

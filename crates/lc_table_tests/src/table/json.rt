@@ -32,8 +32,8 @@ const SMALL: Case = Case {
              \"lines\":3,\"blank\":1,\"bytes\":16}],\"total\":{\"files\":2,\"lines\":4,\"blank\":1,\
              \"bytes\":22},\"text\":{\"files\":2,\"lines\":4,\"blank\":1,\"bytes\":22},\
              \"binary\":{\"files\":0,\"lines\":0,\"blank\":0,\"bytes\":0},\"directories\":1,\
-             \"files\":[{\"path\":\"a\\\"\\\\\\n\",\"text\":null,\
-             \"eol\":\"none\",\"lines\":1,\"blank\":0,\"bytes\":6},{\"path\":\"main.c\",\"text\":\"set\",\
+             \"files\":[{\"path\":\"a\\\"\\\\\\n\",\"ext\":null,\"text\":null,\
+             \"eol\":\"none\",\"lines\":1,\"blank\":0,\"bytes\":6},{\"path\":\"main.c\",\"ext\":\".c\",\"text\":\"set\",\
              \"eol\":\"lf\",\"lines\":3,\"blank\":1,\"bytes\":16}],\"faults\":[{\"word\":\"read\",\
              \"path\":\"\"},{\"word\":\"name\",\"path\":\"d\"}]}\n",
 };
@@ -50,7 +50,7 @@ const NO_TEXT: Case = Case {
              \"lines\":0,\"blank\":0,\"bytes\":0}],\"total\":{\"files\":1,\"lines\":0,\"blank\":0,\
              \"bytes\":18446744073709551615},\"text\":{\"files\":0,\"lines\":0,\"blank\":0,\"bytes\":0},\
              \"binary\":{\"files\":1,\"lines\":0,\"blank\":0,\"bytes\":0},\"directories\":1,\"files\":[{\"path_bytes\":[98,\
-             46,255],\"text\":\"auto\",\"eol\":\"nul\",\"lines\":0,\"blank\":0,\"bytes\":0}],\
+             46,255],\"ext_bytes\":[46,255],\"text\":\"auto\",\"eol\":\"nul\",\"lines\":0,\"blank\":0,\"bytes\":0}],\
              \"faults\":[]}\n",
 };
 

@@ -7,6 +7,6 @@ pub returns : goal.returns
 returns c =
     let report = c.args.report.now in
     rw (c.in_ok-write_faults.ensures, c.in_ok-write_skipped.ensures, c.in_ok-write_files.ensures, c.deref.ensures.value)
-    (lists_tokens c.args.text.now (if_kept c.args.options.now.files (files_member c.args.files.now))
+    (lists_tokens c.args.text.now (if_kept c.args.options.now.files (files_member c.args.options.now.by c.args.files.now))
     (if_kept report.lists.left_out (skipped_member report))
     (codes "faults", array_with (map fault_value report.faults.items)))

@@ -1,5 +1,5 @@
 use Rattle.lc_rows.proofs.PathCuts.{name_at, whole_name}
-use Rattle.lc_table.proofs.csv_table.name_of.Goals as goal
+use Rattle.lc_table.proofs.file_columns.name_of.Goals as goal
 
 pub returns-in-None : goal.returns-in-None
 returns-in-None c = whole_name c.args.path.now c.in-None.ensures
