@@ -1,4 +1,4 @@
-use Rattle.std.proofs.Common.{List, ℕ, ◌++◌, map, codes, ap, ◌∙◌}
+use Rattle.std.proofs.Common.{List, ◌++◌, map, codes, ap, ◌∙◌}
 use Rattle.lc_level.specs.FaultLines.{FaultLineModel}
 use Rattle.lc_rows.specs.Views.{view_model}
 use Rattle.lc_walk.specs.ReportLines.{SkippedLineModel}

@@ -1,4 +1,4 @@
-use Rattle.std.proofs.Common.{List, ℕ, ◌++◌, map, ap, ◌∙◌}
+use Rattle.std.proofs.Common.{List, ◌++◌, map, ap, ◌∙◌}
 use Rattle.lc_rows.specs.declared.classes.AllSums.{AllSums}
 use Rattle.lc_table.specs.CellTexts.{cells_of}
 use Rattle.lc_table.specs.Columns.{CellModel}
