@@ -6,7 +6,8 @@ use Rattle.std.specs.Str.{IsUtf8}
 use Rattle.std.proofs.lemmas.List.Elements.{All-cons, All-head, All-nil, All-tail, All-weaker}
 use Rattle.std.proofs.lemmas.List.{length-map}
 use Rattle.std.proofs.lemmas.Str.{IsUtf8-append, IsUtf8-nil}
-use Rattle.lc_table.specs.Columns.{CellModel, cell_widths, cells_from, gap, line_in, spaces, text_at}
+use Rattle.lc_table.specs.Blanks.{padded_from, padded_line}
+use Rattle.lc_table.specs.Columns.{CellModel, cell_widths, gap, spaces, text_at}
 use Rattle.lc_table.specs.Columns.{width_at, width_of, wider, widened, widths_of}
 use Rattle.lc_table.specs.declared.cells.Side.{Side}
 use Rattle.lc_table.specs.declared.cells.Side.TheVariants.{Left, Right, End}
@@ -78,7 +79,7 @@ span [] ws = 0
 span (s ∷ ss) [] = 0
 span (s ∷ ss) (w ∷ ws) = side_width s w + (gap_width ss + span ss ws)
 
-later_columns : (i j w : ℕ) (ws : List ℕ) (cells : List CellModel) → j ≡ suc i → cells_from j (w ∷ ws) cells ≡ cells_from i ws cells
+later_columns : (i j w : ℕ) (ws : List ℕ) (cells : List CellModel) → j ≡ suc i → padded_from j (w ∷ ws) cells ≡ padded_from i ws cells
 later_columns i j w ws [] next = refl
 later_columns i j w ws (c ∷ cs) next =
     ap₂ (λ v l. text_at c.side v c.text ++ (gap cs ++ l)) (ap (slice_index (w ∷ ws)) next)
@@ -99,14 +100,14 @@ layout_rest Right ss e = e
 layout_rest End [] e = refl
 layout_rest End (s ∷ ss) e = absurd (cc)
 
--- a line is what stands in columns, its open end and a line feed
+-- a padded line is what stands in columns, its open end and a line feed
 pub line_parted : (ws : List ℕ) (cells : List CellModel) → Fit ws cells → is_layout (sides cells) ≡ true
-    → line_in ws cells ≡ front ws cells ++ (end_of cells ++ codes "\n")
+    → padded_line ws cells ≡ front ws cells ++ (end_of cells ++ codes "\n")
 line_parted [] [] fits layout = refl
 line_parted [] (c ∷ cs) fits layout = absurd fits
 line_parted (w ∷ ws) [] fits layout = refl
 line_parted (w ∷ ws) (c ∷ cs) fits layout =
-    parted c.side w c.text ws cs (cells_from 1 (w ∷ ws) cs) layout
+    parted c.side w c.text ws cs (padded_from 1 (w ∷ ws) cs) layout
     (later_columns 0 1 w ws cs refl ∙ line_parted ws cs fits.1 (layout_rest c.side (sides cs) layout)) fits.1
 
 -- ---- how wide what stands in columns is

@@ -6,7 +6,10 @@ pub mod Tokens
 pub mod Widened
 pub mod Commas
 pub mod Counted
+pub mod BlankEnds
 pub mod EvenLines
+pub mod PrintedLines
+pub mod LastCells
 pub mod EvenParts
 pub mod LinesApart
 pub mod OneLine
@@ -19,5 +22,6 @@ pub mod SoundCells
 pub mod Bars
 pub mod SummaryWidth
 pub mod WidthLawProofs
+pub mod LineEndProofs
 pub mod ShareLawProofs
 pub mod FormatLawProofs

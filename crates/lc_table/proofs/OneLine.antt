@@ -172,7 +172,7 @@ unfolding digits
 decimal_digits n = digits_all 64 n [] refl
 
 -- digits and commas
-abbrev is_numeral : ℕ → Bool
+abbrev pub is_numeral : ℕ → Bool
 is_numeral d = is_digit d || (d == 44)
 
 numeral_commas : (ds : List ℕ) → list_all is_digit ds ≡ true → list_all is_numeral (with_commas ds) ≡ true
@@ -194,10 +194,14 @@ one_line_numeral (d ∷ ds) e =
     let rest = one_line_numeral ds parts.1 in
     (and_from _ _ here.0 rest.0, and_from _ _ here.1 rest.1)
 
+-- a number has digits and commas
+pub numerals : (n : ℕ) → list_all is_numeral (with_commas (decimal n)) ≡ true
+numerals n = numeral_commas (decimal n) (decimal_digits n)
+
 -- a number is in one line, and UTF-8
 pub one_line-number : (n : ℕ) → (is_one_line (with_commas (decimal n)) ≡ true) × IsUtf8 (with_commas (decimal n))
 one_line-number n =
-    let both = one_line_numeral (with_commas (decimal n)) (numeral_commas (decimal n) (decimal_digits n)) in
+    let both = one_line_numeral (with_commas (decimal n)) (numerals n) in
     (both.0, IsUtf8-are_ascii (with_commas (decimal n)) both.1)
 
 -- a number stands on one line, in UTF-8

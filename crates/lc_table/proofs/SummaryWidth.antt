@@ -1,41 +1,42 @@
 -- How wide the lines of a summary are.
 use Rattle.std.proofs.Common.{◌≡◌, ℕ, Bool, true, false, ◌||◌, if◌then◌else◌, is_some, unwrap_or, List, []}
-use Rattle.std.proofs.Common.{◌∷◌, ◌++◌, map, codes, replicate, refl, sym}
-use Rattle.std.proofs.Common.{ap, ap₂, ◌∙◌, append-nil, append_assoc, subst, Option, Some, None}
+use Rattle.std.proofs.Common.{◌∷◌, ◌++◌, length, get_or, map, codes, replicate, refl, sym}
+use Rattle.std.proofs.Common.{ap, ap₂, ◌∙◌, append_assoc, Option, Some, None}
 use Rattle.std.specs.List.{All}
-use Rattle.std.specs.Option.{IfSome}
 use Rattle.std.proofs.lemmas.List.{map-append}
-use Rattle.std.proofs.lemmas.List.Elements.{All-append, All-cons, All-head, All-map, All-nil, All-same, All-tail, All-weaker}
+use Rattle.std.proofs.lemmas.List.Elements.{All-append, All-cons, All-head, All-map, All-nil, All-tail, All-weaker}
 use Rattle.lc_text.specs.Visible.{visible_path}
 use Rattle.lc_view.specs.declared.table_options.Columns.{Columns}
 use Rattle.lc_rows.specs.RowKeys.{ShownRowModel}
-use Rattle.lc_text.specs.Lines.{input_lines_of}
+use Rattle.lc_rows.specs.Views.{ViewModel}
 use Rattle.lc_walk.specs.declared.report.Report.{Report}
 use Rattle.lc_walk.specs.declared.tally.sums.Sums.{Sums}
+use Rattle.lc_table.specs.Blanks.{ends_in_blank}
+use Rattle.lc_table.specs.PaddedText.{padded_rows, padded_summary}
 use Rattle.lc_table.specs.CellWords.{visible_extension}
-use Rattle.lc_table.specs.Columns.{CellModel, word, number, width_of, widths_of, line_in, rule_in}
+use Rattle.lc_table.specs.Columns.{CellModel, before_shown, is_shown, shown_cells, word, number, widths_of}
 use Rattle.lc_rows.specs.ShownRows.{number_in}
 use Rattle.lc_table.specs.Shares.{rounded_parts, share_word}
 use Rattle.lc_table.specs.RowShares.{bar_cells, no_bar, row_shares, share_headings, sums_shares}
-use Rattle.lc_table.specs.ScreenText.{cell_if, key_cells, name_cells, number_headings, sums_cells, row_headings, unless}
+use Rattle.lc_table.specs.ScreenText.{cell_if, integer, key_cells, name_cells, number_headings, sums_cells, row_headings, unless}
 use Rattle.lc_table.specs.ScreenText.{row_cells, sums_line, class_lines, others_lines, sums_lines, view_lines}
 use Rattle.lc_rows.specs.Classes.{all_sums}
-use Rattle.lc_table.specs.ScreenText.{rows_in_columns}
+use Rattle.lc_table.specs.ScreenText.{rows_in_columns, summary}
 use Rattle.lc_table.specs.TsvText.{eol_word, text_word}
-use Rattle.lc_table.specs.WidthLaws.{AreAsWide, AreBytes, SummaryWidthLaw}
+use Rattle.lc_table.specs.WidthLaws.{AreBytes, HasByteNames, SummaryWidthLaw}
 use Rattle.lc_table.specs.declared.cells.Side.{Side}
 use Rattle.lc_table.specs.declared.row_columns.RowColumns.{RowColumns}
 use Rattle.lc_table.specs.declared.row_columns.Shares.{Shares}
 use Rattle.lc_table.specs.declared.cells.Side.TheVariants.{Left, Right}
 use Rattle.lc_rows.specs.declared.classes.ClassSums.{ClassSums}
 use Rattle.lc_table.proofs.Bars.{one_line-bar, one_line-share, utf8-bar, utf8-share}
+use Rattle.lc_table.proofs.BlankEnds.{ends_bar, ends_number, ends_share, shown_number}
 use Rattle.lc_table.proofs.EvenLines.{Fit, IsSound, sound-append, span}
-use Rattle.lc_table.proofs.EvenParts.{IsLike, has_no_end, layout_from, like_fit, lined_lines, rule_is, shown, wide_lines}
-use Rattle.lc_table.proofs.LinesApart.{IsLined, lined-append, lined-one, input_lines_of-lined}
+use Rattle.lc_table.proofs.EvenParts.{IsEven, IsLike, are_even, even-append, even_line, even_lines, even_rule, like_fit, shown}
 use Rattle.lc_table.proofs.OneLine.{one_line-number}
+use Rattle.lc_table.proofs.PrintedLines.{EndsBare, has_no_end}
 use Rattle.lc_table.proofs.SoundCells.{ascii, sound_bytes, sound_eol, sound_extension}
 use Rattle.lc_table.proofs.SoundCells.{sound_text}
-use Rattle.lc_table.proofs.Spacing.{width_of-hyphens, one_line_hyphens}
 
 abbrev side_if : Bool → List Side
 side_if b = if b then Left ∷ [] else []
@@ -162,10 +163,7 @@ sound_directory : (path : List ℕ) → AreBytes path → IsSound Left (visible_
 sound_directory [] small = ascii (codes ".") refl refl
 sound_directory (b ∷ bs) small = sound_bytes (b ∷ bs) small
 
-abbrev HasBytes : ShownRowModel → Type 0
-HasBytes r = AreBytes (unwrap_or r.directory []) × IfSome r.key.extension AreBytes
-
-like_row : (c : RowColumns) (r : ShownRowModel) → HasBytes r → IsLike (row_sides c) (row_cells c r)
+like_row : (c : RowColumns) (r : ShownRowModel) → HasByteNames r → IsLike (row_sides c) (row_cells c r)
 like_row c r small =
     like_append (key_sides c.by) (number_sides c.shares)
     (key_cells c.by (word (visible_path (unwrap_or r.directory []))) (word (visible_extension r.key.extension))
@@ -213,47 +211,34 @@ module _ {X : Type 0} (P : X → Type 0) where
   All-back [] ys all = all
   All-back (x ∷ xs) ys all = All-back xs ys (All-tail P x (xs ++ ys) all)
 
--- lines that are alike, some with a rule between
-rows_even : (ss : List Side) (headings : List CellModel) (rows sums : List (List CellModel)) → has_no_end ss ≡ true
-    → All (IsLike ss) (headings ∷ (rows ++ sums))
-    → AreAsWide (input_lines_of (rows_in_columns (widths_of (headings ∷ (rows ++ sums))) headings rows sums))
-rows_even ss headings rows sums closed like =
-    let ws = widths_of (headings ∷ (rows ++ sums)) in
-    let fits = like_fit ss headings (rows ++ sums) like in
-    let layout = layout_from ss closed in
+-- ---- lines that are alike, some with a rule between
+
+abbrev even_rows_lines : List Side → List ℕ → List CellModel → List (List CellModel) → List (List CellModel) → List (List ℕ)
+even_rows_lines ss ws headings rows sums =
+    (shown ws headings ∷ []) ++ (replicate (span ss ws) 45 ∷ []) ++ map (shown ws) rows ++ (replicate (span ss ws) 45 ∷ [])
+    ++ map (shown ws) sums
+
+rows_even : (ss : List Side) (headings : List CellModel) (rows sums : List (List CellModel)) (ws : List ℕ) → has_no_end ss ≡ true
+    → All (Fit ws) (headings ∷ (rows ++ sums)) → length ws ≡ length ss → All (IsLike ss) (headings ∷ (rows ++ sums))
+    → All EndsBare (headings ∷ (rows ++ sums))
+    → IsEven (span ss ws) (even_rows_lines ss ws headings rows sums) (padded_rows ws headings rows sums)
+    (rows_in_columns ws headings rows sums)
+rows_even ss headings rows sums ws closed fits long like bare =
     let n = span ss ws in
-    let W : List ℕ → Type 0 = λ line. width_of line ≡ n in
     let L = IsLike ss in
     let F = Fit ws in
-    let rest_like = All-tail L headings (rows ++ sums) like in
-    let rest_fits = All-tail F headings (rows ++ sums) fits.0 in
-    let head_like : All L (headings ∷ []) = All-cons L headings [] (All-head L headings (rows ++ sums) like) (All-nil L) in
-    let head_fits : All F (headings ∷ []) = All-cons F headings [] (All-head F headings (rows ++ sums) fits.0) (All-nil F) in
-    let hyphens = replicate n 45 in
-    let rule : IsLined (hyphens ∷ []) (rule_in ws) =
-    subst (IsLined (hyphens ∷ [])) (sym (rule_is ss ws closed fits.1)) (lined-one hyphens (one_line_hyphens n)) in
-    let wide_rule : All W (hyphens ∷ []) = All-cons W hyphens [] (width_of-hyphens n) (All-nil W) in
-    let rows_like = All-front L rows sums rest_like in
-    let rows_fits = All-front F rows sums rest_fits in
-    let sums_like = All-back L rows sums rest_like in
-    let sums_fits = All-back F rows sums rest_fits in
-    let top = subst (IsLined (shown ws headings ∷ [])) (append-nil (line_in ws headings))
-    (lined_lines ss ws (headings ∷ []) layout head_fits head_like) in
-    let lined_rows = lined_lines ss ws rows layout rows_fits rows_like in
-    let lined_sums = lined_lines ss ws sums layout sums_fits sums_like in
-    let lines = (shown ws headings ∷ []) ++ (hyphens ∷ []) ++ map (shown ws) rows ++ (hyphens ∷ []) ++ map (shown ws) sums in
-    let lined : IsLined lines (rows_in_columns ws headings rows sums) =
-    lined-append _ _ _ _ (lined-append _ _ _ _ (lined-append _ _ _ _ (lined-append _ _ _ _ top rule) lined_rows) rule) lined_sums in
-    let heads = map (shown ws) (headings ∷ []) in
-    let middle = map (shown ws) rows in
-    let last = map (shown ws) sums in
-    let wide : All W lines =
-    All-append W (heads ++ (hyphens ∷ []) ++ middle ++ (hyphens ∷ [])) last
-    (All-append W (heads ++ (hyphens ∷ []) ++ middle) (hyphens ∷ [])
-    (All-append W (heads ++ (hyphens ∷ [])) middle
-    (All-append W heads (hyphens ∷ []) (wide_lines ss ws (headings ∷ []) closed head_fits head_like) wide_rule)
-    (wide_lines ss ws rows closed rows_fits rows_like)) wide_rule) (wide_lines ss ws sums closed sums_fits sums_like) in
-    (n, All-same W _ lines (input_lines_of-lined lines _ lined) wide)
+    let rest = rows ++ sums in
+    let rest_fits = All-tail F headings rest fits in
+    let rest_like = All-tail L headings rest like in
+    let rest_bare = All-tail EndsBare headings rest bare in
+    let rule = even_rule ss ws closed long in
+    let top = even_line ss ws headings closed (All-head F headings rest fits) (All-head L headings rest like)
+    (All-head EndsBare headings rest bare) in
+    let middle = even_lines ss ws rows closed (All-front F rows sums rest_fits) (All-front L rows sums rest_like)
+    (All-front EndsBare rows sums rest_bare) in
+    let last = even_lines ss ws sums closed (All-back F rows sums rest_fits) (All-back L rows sums rest_like)
+    (All-back EndsBare rows sums rest_bare) in
+    even-append n _ _ _ _ _ _ (even-append n _ _ _ _ _ _ (even-append n _ _ _ _ _ _ (even-append n _ _ _ _ _ _ top rule) middle) rule) last
 
 like_others : (c : RowColumns) (o : Option Sums) → All (IsLike (row_sides c)) (others_lines c o)
 like_others c None = All-nil (IsLike (row_sides c))
@@ -261,12 +246,126 @@ like_others c (Some s) =
     All-cons (IsLike (row_sides c)) (sums_line c (codes "others") s) []
     (like_sums_line c (codes "others") s (ascii (codes "others") refl refl)) (All-nil (IsLike (row_sides c)))
 
+-- ---- the ends of the lines
+
+abbrev AreBare : List CellModel → Type 0
+AreBare [] = Unit {0}
+AreBare (c ∷ cs) = (ends_in_blank c.text ≡ false) × AreBare cs
+
+bare_ends : (cells : List CellModel) → AreBare cells → EndsBare cells
+bare_ends [] bare = tt
+bare_ends (c ∷ cs) bare = ((λ none. bare.0), bare_ends cs bare.1)
+
+later_none : (c : CellModel) (later : List CellModel) → before_shown c later ≡ [] → later ≡ []
+later_none c [] none = refl
+later_none c (d ∷ ds) none = absurd (cc)
+
+shown_rest : (ks ns : List CellModel) → shown_cells (ks ++ ns) ≡ [] → shown_cells ns ≡ []
+shown_rest [] ns none = none
+shown_rest (k ∷ ks) ns none = shown_rest ks ns (later_none k (shown_cells (ks ++ ns)) none)
+
+some_shown : (c : CellModel) (later : List CellModel) → is_shown c.side c.text ≡ true → before_shown c later ≡ [] → ⊥
+some_shown c [] is none =
+    let one : c ∷ [] ≡ [] = sym (ap (λ b. if b then c ∷ [] else []) is) ∙ none in absurd (cc)
+some_shown c (d ∷ ds) is none = absurd (cc)
+
+-- names before numbers
+bare_behind : (ks : List CellModel) (c : CellModel) (cs : List CellModel) → is_shown c.side c.text ≡ true → AreBare (c ∷ cs)
+    → EndsBare (ks ++ (c ∷ cs))
+bare_behind [] c cs is bare = bare_ends (c ∷ cs) bare
+bare_behind (k ∷ ks) c cs is bare =
+    ((λ none. absurd (some_shown c (shown_cells cs) is (shown_rest ks (c ∷ cs) none))), bare_behind ks c cs is bare)
+
+bare_bar : (largest : Option ℕ) (n : ℕ) → AreBare (bar_cells largest n)
+bare_bar None n = tt
+bare_bar (Some most) n = (ends_bar (rounded_parts 160 n most), tt)
+
+bare_no_bar : (largest : Option ℕ) → AreBare (no_bar largest)
+bare_no_bar None = tt
+bare_no_bar (Some most) = (refl, tt)
+
+bare_share_headings : (q : Option Shares) → AreBare (share_headings q)
+bare_share_headings None = tt
+bare_share_headings (Some q) = (refl, bare_no_bar q.largest)
+
+bare_row_shares : (q : Option Shares) (s : Sums) → AreBare (row_shares q s)
+bare_row_shares None s = tt
+bare_row_shares (Some q) s =
+    (ends_share (rounded_parts 1000 (number_in q.number s) q.total), bare_bar q.largest (number_in q.number s))
+
+bare_sums_shares : (q : Option Shares) (s : Sums) → AreBare (sums_shares q s)
+bare_sums_shares None s = tt
+bare_sums_shares (Some q) s = (ends_share (rounded_parts 1000 (number_in q.number s) q.total), bare_no_bar q.largest)
+
+bare_numbers : (ks : List CellModel) (s : Sums) (more : List CellModel) → AreBare more → EndsBare (ks ++ (sums_cells s ++ more))
+bare_numbers ks s more bare =
+    bare_behind ks (integer s.files) (integer s.lines ∷ integer s.blank ∷ integer s.bytes ∷ more) (shown_number s.files)
+    (ends_number s.files, (ends_number s.lines, (ends_number s.blank, (ends_number s.bytes, bare))))
+
+bare_headings : (c : RowColumns) → EndsBare (row_headings c)
+bare_headings c =
+    bare_behind (key_cells c.by (word (codes "dir")) (word (codes "ext")) (word (codes "text")) (word (codes "eol")))
+    (number (codes "files"))
+    (number (codes "lines") ∷ number (codes "blank") ∷ number (codes "bytes") ∷ share_headings c.shares) refl
+    (refl, (refl, (refl, (refl, bare_share_headings c.shares))))
+
+bare_row : (c : RowColumns) (r : ShownRowModel) → EndsBare (row_cells c r)
+bare_row c r =
+    bare_numbers (key_cells c.by (word (visible_path (unwrap_or r.directory []))) (word (visible_extension r.key.extension))
+    (word (text_word r.key.text)) (word (eol_word r.key.eol))) r.sums (row_shares c.shares r.sums) (bare_row_shares c.shares r.sums)
+
+bare_sums_line : (c : RowColumns) (name : List ℕ) (s : Sums) → EndsBare (sums_line c name s)
+bare_sums_line c name s = bare_numbers (name_cells c.by name) s (sums_shares c.shares s) (bare_sums_shares c.shares s)
+
+bare_others : (c : RowColumns) (o : Option Sums) → All EndsBare (others_lines c o)
+bare_others c None = All-nil EndsBare
+bare_others c (Some s) =
+    All-cons EndsBare (sums_line c (codes "others") s) [] (bare_sums_line c (codes "others") s) (All-nil EndsBare)
+
+bare_classes : (c : RowColumns) (o : Option ClassSums) → All EndsBare (class_lines c o)
+bare_classes c None = All-nil EndsBare
+bare_classes c (Some s) =
+    All-cons EndsBare (sums_line c (codes "text") s.text) (sums_line c (codes "binary") s.binary ∷ [])
+    (bare_sums_line c (codes "text") s.text)
+    (All-cons EndsBare (sums_line c (codes "binary") s.binary) [] (bare_sums_line c (codes "binary") s.binary) (All-nil EndsBare))
+
+bare_summary : (c : RowColumns) (r : Report) (v : ViewModel)
+    → All EndsBare (row_headings c ∷ (view_lines c v ++ sums_lines c (all_sums r)))
+bare_summary c r v =
+    let s = all_sums r in
+    All-cons EndsBare (row_headings c) (view_lines c v ++ sums_lines c s) (bare_headings c)
+    (All-append EndsBare (view_lines c v) (sums_lines c s)
+    (All-append EndsBare (map (row_cells c) v.rows) (others_lines c v.others)
+    (All-map EndsBare (row_cells c) v.rows (λ k d below. bare_row c (get_or v.rows k d))) (bare_others c v.others))
+    (All-cons EndsBare (sums_line c (codes "total") s.total) (class_lines c s.classes) (bare_sums_line c (codes "total") s.total)
+    (bare_classes c s.classes)))
+
+-- ---- the whole summary
+
+abbrev summary_widths : RowColumns → Report → ViewModel → List ℕ
+summary_widths c r v = widths_of (row_headings c ∷ (view_lines c v ++ sums_lines c (all_sums r)))
+
+abbrev pub summary_lines : RowColumns → Report → ViewModel → List (List ℕ)
+summary_lines c r v =
+    even_rows_lines (row_sides c) (summary_widths c r v) (row_headings c) (view_lines c v) (sums_lines c (all_sums r))
+
+abbrev pub summary_span : RowColumns → Report → ViewModel → ℕ
+summary_span c r v = span (row_sides c) (summary_widths c r v)
+
+pub even_summary : (c : RowColumns) (r : Report) (v : ViewModel) → All HasByteNames v.rows
+    → IsEven (summary_span c r v) (summary_lines c r v) (padded_summary c r v) (summary c r v)
+even_summary c r v small =
+    let L = IsLike (row_sides c) in
+    let rest = view_lines c v ++ sums_lines c (all_sums r) in
+    let rows = All-map L (row_cells c) v.rows (All-weaker HasByteNames (λ row. L (row_cells c row)) (like_row c) v.rows small) in
+    let seen = All-append L (map (row_cells c) v.rows) (others_lines c v.others) rows (like_others c v.others) in
+    let like = All-cons L (row_headings c) rest (like_headings c)
+    (All-append L (view_lines c v) (sums_lines c (all_sums r)) seen (like_all_sums c r)) in
+    let fits = like_fit (row_sides c) (row_headings c) rest like in
+    rows_even (row_sides c) (row_headings c) (view_lines c v) (sums_lines c (all_sums r)) (summary_widths c r v) (closed_row c)
+    fits.0 fits.1 like (bare_summary c r v)
+
 -- the lines of rows and sums
 pub summary_law : SummaryWidthLaw
 summary_law c r v small =
-    let L = IsLike (row_sides c) in
-    let rows = All-map L (row_cells c) v.rows (All-weaker HasBytes (λ row. L (row_cells c row)) (like_row c) v.rows small) in
-    let shown = All-append L (map (row_cells c) v.rows) (others_lines c v.others) rows (like_others c v.others) in
-    rows_even (row_sides c) (row_headings c) (view_lines c v) (sums_lines c (all_sums r)) (closed_row c)
-    (All-cons L (row_headings c) (view_lines c v ++ sums_lines c (all_sums r)) (like_headings c)
-    (All-append L (view_lines c v) (sums_lines c (all_sums r)) shown (like_all_sums c r)))
+    are_even (summary_span c r v) (summary_lines c r v) (padded_summary c r v) (summary c r v) (even_summary c r v small)

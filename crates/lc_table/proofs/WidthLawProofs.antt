@@ -3,32 +3,37 @@ use Rattle.std.proofs.Common.{◌≡◌, ℕ, Bool, true, false, if◌then◌els
 use Rattle.std.proofs.Common.{◌∷◌, map, codes, refl}
 use Rattle.std.proofs.Common.{append-nil}
 use Rattle.std.specs.List.{All}
-use Rattle.std.proofs.lemmas.List.Elements.{All-cons, All-map, All-nil, All-same, All-weaker}
+use Rattle.std.proofs.lemmas.List.Elements.{All-cons, All-map, All-nil, All-weaker}
 use Rattle.lc_level.specs.FaultLines.{FaultLineModel}
-use Rattle.lc_rules.specs.Verdicts.{below}
 use Rattle.lc_text.specs.Visible.{visible_bytes, visible_path}
 use Rattle.lc_walk.specs.ReportLines.{FileLineModel, SkippedLineModel}
-use Rattle.lc_table.specs.Columns.{word, width_of, widths_of, lines_in}
+use Rattle.lc_walk.specs.declared.report.Report.{Report}
+use Rattle.lc_table.specs.Blanks.{ends_in_blank}
+use Rattle.lc_table.specs.PaddedText.{padded_counts}
+use Rattle.lc_table.specs.Columns.{widths_of}
 use Rattle.lc_table.specs.SkippedWords.{skipped_end, skipped_path}
-use Rattle.lc_table.specs.ScreenText.{count_cells, file_headings, file_cells}
+use Rattle.lc_table.specs.ScreenText.{count_cells, count_lines, counts, file_headings, file_cells}
 use Rattle.lc_table.specs.ScreenText.{skipped_headings, skipped_cells, fault_headings, fault_cells}
 use Rattle.lc_table.specs.WidthLaws.{AreBytes, HasByteName, CountsWidthLaw}
 use Rattle.lc_table.specs.WidthLaws.{FilesWidthLaw, SkippedWidthLaw, FaultsWidthLaw}
+use Rattle.lc_table.specs.declared.cells.Side.{Side}
 use Rattle.lc_table.specs.declared.cells.Side.TheVariants.{Left, Right, End}
+use Rattle.lc_table.proofs.BlankEnds.{ends_number}
 use Rattle.lc_table.proofs.EvenLines.{IsSound, span}
-use Rattle.lc_table.proofs.EvenParts.{IsLike, like_fit, lined_lines, listing_aligned, shown, wide_lines}
-use Rattle.lc_table.proofs.LinesApart.{input_lines_of-lined}
+use Rattle.lc_table.proofs.EvenParts.{IsEven, IsLike, are_even, even_lines, like_fit, listing_aligned, shown}
 use Rattle.lc_table.proofs.OneLine.{one_line-append, one_line-number, one_line-visible}
+use Rattle.lc_table.proofs.PrintedLines.{EndsBare}
 use Rattle.lc_table.proofs.SoundCells.{ascii, one_line_path, one_line_skipped_end, sound_eol, sound_fault}
 use Rattle.lc_table.proofs.SoundCells.{sound_place, sound_reason, sound_text}
 
 -- ---- what is listed
 
--- the lines of files
-pub files_law : FilesWidthLaw
-files_law fs =
-    let ss = Left ∷ Left ∷ Right ∷ Right ∷ Right ∷ End ∷ [] in
-    let like : (f : FileLineModel) → IsLike ss (file_cells f) = λ f. (
+abbrev pub file_sides : List Side
+file_sides = Left ∷ Left ∷ Right ∷ Right ∷ Right ∷ End ∷ []
+
+pub like_files : (fs : List FileLineModel) → All (IsLike file_sides) (file_headings ∷ map file_cells fs)
+like_files fs =
+    let like : (f : FileLineModel) → IsLike file_sides (file_cells f) = λ f. (
       refl,
       (
         sound_text f.text,
@@ -44,9 +49,7 @@ files_law fs =
         ),
       ),
     ) in
-    listing_aligned file_cells (λ f. visible_path f.path) (λ f. append-nil (visible_path f.path))
-    ss file_headings (codes "file") refl refl fs
-    (All-cons (IsLike ss) file_headings (map file_cells fs) (
+    All-cons (IsLike file_sides) file_headings (map file_cells fs) (
       refl,
       (
         ascii (codes "text") refl refl,
@@ -59,24 +62,40 @@ files_law fs =
         ),
       ),
     )
-    (All-map (IsLike ss) file_cells fs (λ k d below. like _)))
+    (All-map (IsLike file_sides) file_cells fs (λ k d below. like _))
+
+-- the lines of files
+pub files_law : FilesWidthLaw
+files_law fs =
+    listing_aligned file_cells (λ f. visible_path f.path) (λ f. append-nil (visible_path f.path))
+    file_sides file_headings (codes "file") refl refl fs (like_files fs)
+
+abbrev pub fault_sides : List Side
+fault_sides = Left ∷ End ∷ []
+
+pub like_faults : (fs : List FaultLineModel) → All (IsLike fault_sides) (fault_headings ∷ map fault_cells fs)
+like_faults fs =
+    let like : (f : FaultLineModel) → IsLike fault_sides (fault_cells f) = λ f. (refl, (sound_fault f.word, (one_line_path f.path, tt))) in
+    All-cons (IsLike fault_sides) fault_headings (map fault_cells fs) (refl, (ascii (codes "fault") refl refl, (refl, tt)))
+    (All-map (IsLike fault_sides) fault_cells fs (λ k d below. like _))
 
 -- the lines of faults
 pub faults_law : FaultsWidthLaw
 faults_law fs =
-    let ss = Left ∷ End ∷ [] in
-    let like : (f : FaultLineModel) → IsLike ss (fault_cells f) = λ f. (refl, (sound_fault f.word, (one_line_path f.path, tt))) in
     listing_aligned fault_cells (λ f. visible_path f.path) (λ f. append-nil (visible_path f.path))
-    ss fault_headings (codes "path") refl refl fs
-    (All-cons (IsLike ss) fault_headings (map fault_cells fs) (refl, (ascii (codes "fault") refl refl, (refl, tt)))
-    (All-map (IsLike ss) fault_cells fs (λ k d below. like _)))
+    fault_sides fault_headings (codes "path") refl refl fs (like_faults fs)
 
--- the lines of entries left out
-pub skipped_law : SkippedWidthLaw
-skipped_law ls small =
-    let ss = Left ∷ Left ∷ End ∷ [] in
-    let P : SkippedLineModel → Type 0 = λ l. AreBytes l.path × HasByteName l.reason in
-    let like : (l : SkippedLineModel) → P l → IsLike ss (skipped_cells l) = λ l own. (
+abbrev pub skipped_sides : List Side
+skipped_sides = Left ∷ Left ∷ End ∷ []
+
+abbrev pub HasSkippedBytes : SkippedLineModel → Type 0
+HasSkippedBytes l = AreBytes l.path × HasByteName l.reason
+
+pub like_skipped : (ls : List SkippedLineModel) → All HasSkippedBytes ls
+    → All (IsLike skipped_sides) (skipped_headings ∷ map skipped_cells ls)
+like_skipped ls small =
+    let ss = skipped_sides in
+    let like : (l : SkippedLineModel) → HasSkippedBytes l → IsLike ss (skipped_cells l) = λ l own. (
       refl,
       (
         sound_reason l.reason,
@@ -90,11 +109,15 @@ skipped_law ls small =
         ),
       ),
     ) in
-    listing_aligned skipped_cells (skipped_path visible_bytes) (λ l. append-nil (skipped_path visible_bytes l))
-    ss skipped_headings (codes "path") refl refl ls
-    (All-cons (IsLike ss) skipped_headings (map skipped_cells ls)
+    All-cons (IsLike ss) skipped_headings (map skipped_cells ls)
     (refl, (ascii (codes "left out") refl refl, (ascii (codes "by") refl refl, (refl, tt))))
-    (All-map (IsLike ss) skipped_cells ls (All-weaker P (λ l. IsLike ss (skipped_cells l)) like ls small)))
+    (All-map (IsLike ss) skipped_cells ls (All-weaker HasSkippedBytes (λ l. IsLike ss (skipped_cells l)) like ls small))
+
+-- the lines of entries left out
+pub skipped_law : SkippedWidthLaw
+skipped_law ls small =
+    listing_aligned skipped_cells (skipped_path visible_bytes) (λ l. append-nil (skipped_path visible_bytes l))
+    skipped_sides skipped_headings (codes "path") refl refl ls (like_skipped ls small)
 
 -- ---- the numbers of directories and entries
 
@@ -107,19 +130,30 @@ like_more true n =
     All-cons P (count_cells (codes "entries") n) [] (like_count (codes "entries") n (ascii (codes "entries") refl refl)) (All-nil P)
 like_more false n = All-nil (IsLike (Left ∷ Right ∷ []))
 
+bare_count : (name : List ℕ) (n : ℕ) → ends_in_blank name ≡ false → EndsBare (count_cells name n)
+bare_count name n own = ((λ none. own), ((λ none. ends_number n), tt))
+
+bare_more : (b : Bool) (n : ℕ) → All EndsBare (if b then count_cells (codes "entries") n ∷ [] else [])
+bare_more true n =
+    All-cons EndsBare (count_cells (codes "entries") n) [] (bare_count (codes "entries") n refl) (All-nil EndsBare)
+bare_more false n = All-nil EndsBare
+
+abbrev pub count_sides : List Side
+count_sides = Left ∷ Right ∷ []
+
+pub even_counts : (r : Report)
+    → IsEven (span count_sides (widths_of (count_lines r))) (map (shown (widths_of (count_lines r))) (count_lines r))
+    (padded_counts r) (counts r)
+even_counts r =
+    let first = count_cells (codes "directories") r.directories in
+    let more = if r.lists.left_out then count_cells (codes "entries") r.entries ∷ [] else [] in
+    let like = All-cons (IsLike count_sides) first more
+    (like_count (codes "directories") r.directories (ascii (codes "directories") refl refl)) (like_more r.lists.left_out r.entries) in
+    even_lines count_sides (widths_of (first ∷ more)) (first ∷ more) refl (like_fit count_sides first more like).0 like
+    (All-cons EndsBare first more (bare_count (codes "directories") r.directories refl) (bare_more r.lists.left_out r.entries))
+
 -- the lines of directories and entries
 pub counts_law : CountsWidthLaw
 counts_law r =
-    let ss = Left ∷ Right ∷ [] in
-    let first = count_cells (codes "directories") r.directories in
-    let more = if r.lists.left_out then count_cells (codes "entries") r.entries ∷ [] else [] in
-    let like = All-cons (IsLike ss) first more (like_count (codes "directories") r.directories (ascii (codes "directories") refl refl))
-    (like_more r.lists.left_out r.entries) in
-    let ws = widths_of (first ∷ more) in
-    let fits = (like_fit ss first more like).0 in (
-      span ss ws,
-      All-same (λ line. width_of line ≡ span ss ws) _ (map (shown ws) (first ∷ more))
-          (input_lines_of-lined (map (shown ws) (first ∷ more)) (lines_in ws (first ∷ more))
-          (lined_lines ss ws (first ∷ more) refl fits like))
-          (wide_lines ss ws (first ∷ more) refl fits like),
-    )
+    let ws = widths_of (count_lines r) in
+    are_even (span count_sides ws) (map (shown ws) (count_lines r)) (padded_counts r) (counts r) (even_counts r)

@@ -5,11 +5,13 @@ pub mod TsvColumns
 pub mod CsvFields
 pub mod CsvText
 pub mod Columns
+pub mod Blanks
 pub mod CellWords
 pub mod Shares
 pub mod RowShares
 pub mod ScreenText
 pub mod CellTexts
+pub mod PaddedText
 pub mod Widening
 pub mod MarkdownCells
 pub mod MarkdownText

@@ -2,7 +2,7 @@
 
 ghost use Rattle.std.specs.Prelude.{◌≡◌, ◌<◌, ◌++◌, IsAscii, IfOk, OnOk, decimal, option_map, replicate, string_bytes};
 ghost use Rattle.lc_table.specs.CellWords.{comma, visible_extension, with_commas};
-ghost use Rattle.lc_table.specs.Columns.{ending, number, text_at, width_at, width_of, word};
+ghost use Rattle.lc_table.specs.Columns.{blanks_before, ending, is_shown, number, text_before, width_at, width_of, word};
 ghost use Rattle.lc_table.specs.CellTexts.{cell_model, cells_of, shown_text};
 ghost use Rattle.lc_table.specs.Shares.{bar, share_word};
 ghost use Rattle.lc_table.specs.SkippedWords.{skipped_path, reason_place};
@@ -170,6 +170,17 @@ pub(crate) fn push_copies(text: &mut String, c: char, count: usize) -> Result<()
     Ok(())
 }
 
+/// Appends so many blanks before other cells; at the end of a line none.
+fn push_blanks(text: &mut String, count: usize, others: &[Cell<'_>]) -> Result<(), AllocError>
+    ensures { OnOk result (string_bytes text.new ≡ string_bytes text.old ++ blanks_before (cells_of others.now) count) }
+{
+    if others.is_empty() {
+        Ok(())
+    } else {
+        push_copies(text, ' ', count)
+    }
+}
+
 impl Shown<'_> {
     fn push(&self, text: &mut String) -> Result<(), AllocError>
         ensures { OnOk result (string_bytes text.new ≡ string_bytes text.old ++ shown_text self.now) }
@@ -332,22 +343,36 @@ impl<'a> Cell<'a> {
         }
     }
 
-    /// Appends it as it is shown in a column of this width.
-    pub(crate) fn push_in(
+    /// Returns whether it shows something: it has a text, or is the end of its line.
+    pub(crate) fn is_shown(&self, made: &mut String) -> Result<bool, AllocError>
+        ensures { IfOk result (λ shown. shown ≡ is_shown (cell_model self.now).side (cell_model self.now).text) }
+    {
+        match self.side {
+            Side::End => Ok(true),
+            Side::Left | Side::Right => {
+                self.shown.make(made)?;
+                Ok(!made.as_str().is_empty())
+            }
+        }
+    }
+
+    /// Appends it as it is shown in a column of this width before other cells. No blanks follow the last cell of a line.
+    pub(crate) fn push_before(
         &self,
+        others: &[Cell<'_>],
         width: usize,
         text: &mut String,
         made: &mut String,
     ) -> Result<(), AllocError>
         ensures { OnOk result (string_bytes text.new ≡ string_bytes text.old
-            ++ text_at (cell_model self.now).side width (cell_model self.now).text) }
+            ++ text_before (cells_of others.now) (cell_model self.now).side width (cell_model self.now).text) }
     {
         match self.side {
             Side::End => self.shown.push(text),
             Side::Left => {
                 let own = self.shown.make_wide(made)?;
                 text.push_str(made.as_str())?;
-                push_copies(text, ' ', width.saturating_sub(own))
+                push_blanks(text, width.saturating_sub(own), others)
             }
             Side::Right => {
                 let own = self.shown.make_wide(made)?;

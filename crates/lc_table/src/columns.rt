@@ -1,8 +1,8 @@
 //! Columns as wide as their widest cell.
 
-ghost use Rattle.std.specs.Prelude.{◌≡◌, ◌≤◌, ◌++◌, [], length, slice_index, OnOk, string_bytes};
+ghost use Rattle.std.specs.Prelude.{◌≡◌, ◌≤◌, ◌++◌, [], length, slice_index, IfOk, OnOk, string_bytes};
 ghost use Rattle.lc_table.specs.CellTexts.{cells_of};
-ghost use Rattle.lc_table.specs.Columns.{cell_widths, gap, line_in, rule_gap, rule_in, wider};
+ghost use Rattle.lc_table.specs.Columns.{cell_widths, gap, line_in, rule_gap, rule_in, shown_cells, wider};
 ghost use Rattle.lc_table.specs.Widening.{with_width};
 
 use crate::cells::{Cell, push_copies};
@@ -21,6 +21,23 @@ impl Model for Widths {
     ghost Value = { List ℕ };
 
     ghost view = { λ w. w.of_columns.items };
+}
+
+/// Returns the cells of a line up to the last that is shown.
+fn shown_cells<'c, 'a>(
+    cells: &'c [Cell<'a>],
+    made: &mut String,
+) -> Result<&'c [Cell<'a>], AllocError>
+    ensures { IfOk result (λ shown. cells_of shown.now ≡ shown_cells (cells_of cells.now)) }
+{
+    let mut count = cells.len();
+    'count: while count > 0 {
+        if cells[count - 1].is_shown(made)? {
+            return Ok(&cells[..count]);
+        }
+        count -= 1;
+    }
+    Ok(&[])
 }
 
 fn push_gap(text: &mut String, others: &[Cell<'_>]) -> Result<(), AllocError>
@@ -84,6 +101,7 @@ impl Widths {
         self.of_columns.get(column).copied().unwrap_or(0)
     }
 
+    /// Appends a line of these cells, which ends after its last text.
     pub(crate) fn push_line(
         &self,
         cells: &[Cell<'_>],
@@ -92,9 +110,11 @@ impl Widths {
     ) -> Result<(), AllocError>
         ensures { OnOk result (string_bytes text.new ≡ string_bytes text.old ++ line_in self.now (cells_of cells.now)) }
     {
-        for (column, cell) in cells.iter().enumerate() {
-            cell.push_in(self.width(column), text, made)?;
-            push_gap(text, &cells[column + 1..])?;
+        let shown = shown_cells(cells, made)?;
+        for (column, cell) in shown.iter().enumerate() {
+            let others = &shown[column + 1..];
+            cell.push_before(others, self.width(column), text, made)?;
+            push_gap(text, others)?;
         }
         text.push_str("\n")
     }

@@ -3,20 +3,26 @@
 ghost use Rattle.lc_table.specs.FormatLaws.{EscapedLaw, RecordsLaw, UnescapedLaw};
 ghost use Rattle.lc_table.specs.ScreenLaws.{CommasLaw};
 ghost use Rattle.lc_table.specs.ShareLaws.{BarLengthLaw, NearestLaw, RowBarsLaw, RowSharesLaw, WholeLaw};
-ghost use Rattle.lc_table.specs.WidthLaws.{CountsWidthLaw, FaultsWidthLaw, FilesWidthLaw, SkippedWidthLaw, SummaryWidthLaw};
+ghost use Rattle.lc_table.specs.WidthLaws.{CountsWidthLaw, FaultsWidthLaw, FilesWidthLaw, LineEndsLaw, SkippedWidthLaw, SummaryWidthLaw};
 
 /// In a table for reading a number without its commas reads back as that number.
 pub fn numbers_with_commas_read_back()
     ensures { CommasLaw }
 {}
 
-/// In a table for reading the lines of a part are equally wide; where a path comes last, what is before it is.
+/// In a table for reading the lines of a part are padded to one width, and printed without the blanks at their ends. Where a path comes
+/// last, what is before it is equally wide.
 pub fn lines_of_a_part_are_as_wide()
     ensures summary { SummaryWidthLaw }
     ensures counts { CountsWidthLaw }
     ensures files { FilesWidthLaw }
     ensures skipped { SkippedWidthLaw }
     ensures faults { FaultsWidthLaw }
+{}
+
+/// In a table for reading no line ends with a blank, unless a listed path does.
+pub fn lines_end_without_blanks()
+    ensures { LineEndsLaw }
 {}
 
 /// Shares are of the total over all rows, rounded half up. No row has more than 100.0 per cent, and the total has 100.0.

@@ -38,8 +38,9 @@ mod writing;
 
 pub use cells::push_number;
 pub use laws::{
-    bars_are_within_the_longest, csv_reads_back, lines_of_a_part_are_as_wide,
-    markdown_has_no_markup_of_names, numbers_with_commas_read_back, shares_are_of_the_total,
+    bars_are_within_the_longest, csv_reads_back, lines_end_without_blanks,
+    lines_of_a_part_are_as_wide, markdown_has_no_markup_of_names, numbers_with_commas_read_back,
+    shares_are_of_the_total,
 };
 pub use running::{RunFault, run};
 pub use text::table_text;

@@ -28,17 +28,17 @@ const SIXTEENTHS: Case = Case {
     directories: 1,
     files: &[],
     faults: &[],
-    lines: b"ext    text  eol  files  lines  blank  bytes   share                      \n\
+    lines: b"ext    text  eol  files  lines  blank  bytes   share\n\
              --------------------------------------------------------------------------\n\
-             -      -     lf       1      1      0      0    6.3%  \xe2\x96\x88\xe2\x96\x88\xe2\x96\x8c                 \n\
+             -      -     lf       1      1      0      0    6.3%  \xe2\x96\x88\xe2\x96\x88\xe2\x96\x8c\n\
              .c     set   lf       2      7      0      0   43.8%  \xe2\x96\x88\xe2\x96\x88\xe2\x96\x88\xe2\x96\x88\xe2\x96\x88\
              \xe2\x96\x88\xe2\x96\x88\xe2\x96\x88\xe2\x96\x88\xe2\x96\x88\xe2\x96\x88\xe2\x96\x88\xe2\x96\x88\xe2\x96\x88\xe2\
-             \x96\x88\xe2\x96\x88\xe2\x96\x88\xe2\x96\x8c  \n\
+             \x96\x88\xe2\x96\x88\xe2\x96\x88\xe2\x96\x8c\n\
              .h     set   lf       1      8      0      0   50.0%  \xe2\x96\x88\xe2\x96\x88\xe2\x96\x88\xe2\x96\x88\xe2\x96\x88\
              \xe2\x96\x88\xe2\x96\x88\xe2\x96\x88\xe2\x96\x88\xe2\x96\x88\xe2\x96\x88\xe2\x96\x88\xe2\x96\x88\xe2\x96\x88\xe2\
              \x96\x88\xe2\x96\x88\xe2\x96\x88\xe2\x96\x88\xe2\x96\x88\xe2\x96\x88\n\
              --------------------------------------------------------------------------\n\
-             total                 4     16      0      0  100.0%                      \n\
+             total                 4     16      0      0  100.0%\n\
              \n\
              directories  1\n",
 };
@@ -59,16 +59,16 @@ const CLASSES: Case = Case {
         (Some(b"png"), TextState::Unset, Eol::Nul, [3, 1, 0, 5]),
     ],
     totals: [20_003, 8, 0, 14],
-    lines: b"ext     text  eol   files  lines  blank  bytes   share                      \n\
+    lines: b"ext     text  eol   files  lines  blank  bytes   share\n\
              ----------------------------------------------------------------------------\n\
              .c      set   lf   20,000      7      0      9  100.0%  \xe2\x96\x88\xe2\x96\x88\xe2\x96\x88\xe2\x96\x88\xe2\x96\
              \x88\xe2\x96\x88\xe2\x96\x88\xe2\x96\x88\xe2\x96\x88\xe2\x96\x88\xe2\x96\x88\xe2\x96\x88\xe2\x96\x88\xe2\x96\x88\
              \xe2\x96\x88\xe2\x96\x88\xe2\x96\x88\xe2\x96\x88\xe2\x96\x88\xe2\x96\x88\n\
-             others                  3      1      0      5    0.0%                      \n\
+             others                  3      1      0      5    0.0%\n\
              ----------------------------------------------------------------------------\n\
-             total              20,003      8      0     14  100.0%                      \n\
-             text               20,000      7      0      9  100.0%                      \n\
-             binary                  3      1      0      5    0.0%                      \n\
+             total              20,003      8      0     14  100.0%\n\
+             text               20,000      7      0      9  100.0%\n\
+             binary                  3      1      0      5    0.0%\n\
              \n\
              directories  1\n",
     ..SIXTEENTHS
@@ -87,13 +87,13 @@ const CASES: &[Case] = &[
             (Some(b"c"), TextState::Set, Eol::Lf, [2, 7, 0, 0]),
             (Some(b"h"), TextState::Set, Eol::Lf, [1, 8, 0, 0]),
         ],
-        lines: b"ext    text  eol  files  lines  blank  bytes  share  \n\
+        lines: b"ext    text  eol  files  lines  blank  bytes  share\n\
                  -----------------------------------------------------\n\
-                 -      -     lf       1      1      0      0   0.0%  \n\
-                 .c     set   lf       2      7      0      0   0.0%  \n\
-                 .h     set   lf       1      8      0      0   0.0%  \n\
+                 -      -     lf       1      1      0      0   0.0%\n\
+                 .c     set   lf       2      7      0      0   0.0%\n\
+                 .h     set   lf       1      8      0      0   0.0%\n\
                  -----------------------------------------------------\n\
-                 total                 4     16      0      0   0.0%  \n\
+                 total                 4     16      0      0   0.0%\n\
                  \n\
                  directories  1\n",
         ..SIXTEENTHS
@@ -102,16 +102,16 @@ const CASES: &[Case] = &[
     Case {
         name: "a_bar_of_no_eighth",
         options: BY_FILES,
-        lines: b"ext     text   eol   files  lines  blank  bytes   share                      \n\
+        lines: b"ext     text   eol   files  lines  blank  bytes   share\n\
                  -----------------------------------------------------------------------------\n\
                  .c      set    lf   20,000      7      0      9  100.0%  \xe2\x96\x88\xe2\x96\x88\xe2\x96\x88\xe2\x96\x88\xe2\x96\
                  \x88\xe2\x96\x88\xe2\x96\x88\xe2\x96\x88\xe2\x96\x88\xe2\x96\x88\xe2\x96\x88\xe2\x96\x88\xe2\x96\x88\xe2\x96\x88\
                  \xe2\x96\x88\xe2\x96\x88\xe2\x96\x88\xe2\x96\x88\xe2\x96\x88\xe2\x96\x88\n\
-                 .png    unset  nul       3      1      0      5    0.0%                      \n\
+                 .png    unset  nul       3      1      0      5    0.0%\n\
                  -----------------------------------------------------------------------------\n\
-                 total               20,003      8      0     14  100.0%                      \n\
-                 text                20,000      7      0      9  100.0%                      \n\
-                 binary                   3      1      0      5    0.0%                      \n\
+                 total               20,003      8      0     14  100.0%\n\
+                 text                20,000      7      0      9  100.0%\n\
+                 binary                   3      1      0      5    0.0%\n\
                  \n\
                  directories  1\n",
         ..CLASSES
@@ -119,10 +119,10 @@ const CASES: &[Case] = &[
     Case {
         name: "no_rows",
         options: SHARES,
-        lines: b"ext    text  eol  files  lines  blank  bytes  share  \n\
+        lines: b"ext    text  eol  files  lines  blank  bytes  share\n\
                  -----------------------------------------------------\n\
                  -----------------------------------------------------\n\
-                 total                 0      0      0      0   0.0%  \n\
+                 total                 0      0      0      0   0.0%\n\
                  \n\
                  directories  1\n",
         ..EMPTY
