@@ -1,14 +1,14 @@
-# lc: see README.md. `make run` shows it at work, `make test` is the gate.
+# lc: see README.md. `make run` shows it at work, `make test` proves and tests everything.
 
 PREFIX ?= /usr/local
-# the oldest processor that lc is to run on, as x86-64-v3: that of the last build, and at first x86-64-v2
+# the oldest processor that lc is to run on, such as x86-64-v3: that of the last build, and at first x86-64-v2
 CPU ?= $(or $(shell cat crates/lc/out/cpu 2> /dev/null),x86-64-v2)
 SHELL := /bin/bash
 
 .PHONY: run test test-memory test-program test-git test-faults test-fuzz test-edits test-memcheck test-picture install uninstall dist deb clean rt FORCE
 
 lc: $(shell find crates -name out -prune -o -type f -print 2>/dev/null) crates.txt tools/build crates/lc/out/cpu | rt
-	@echo "make: proves lc and all that it stands on, then builds it for $(CPU): up to forty minutes the first time, seconds after an edit"
+	@echo "make: proves lc and the crates below it, then builds it for $(CPU): 25 minutes on 4 cores the first time, then what has changed"
 	@tools/build $(CPU)
 	@echo "make: ./lc is ready; it may be copied anywhere"
 
@@ -17,12 +17,14 @@ crates/lc/out/cpu: FORCE
 	@mkdir -p $(@D)
 	@[ "$$(cat $@ 2> /dev/null)" = $(CPU) ] || echo $(CPU) > $@
 
-# the main job on real input: the files and lines of this repository. On a new clone a build without proof shows it in a minute or two
+# the main job on real input: the files and lines of this repository by extension, or what ARGS asks for in the folder that make was
+# started in, as `make run ARGS='count --by dir --share ../linux'`. Without ./lc a build without proof shows it in a minute or two
 run: rt
-	@tools/build --look count $(CURDIR)
+	@tools/build --look "$(or $(PWD),$(CURDIR))" $(or $(ARGS),count --format table --by ext $(CURDIR))
 
 # rt alone would run fewer checks side by side, since it counts a check's memory for more than it takes
 test: rt
+	@echo "make: proves every crate from nothing, tries the mutants and runs the tests: an hour on 4 cores"
 	RT_JOBS=$${RT_JOBS:-$$(tools/build --cores)} rt ci
 
 # each allocation of the tests fails in turn; every public call that takes memory has a test
@@ -68,6 +70,8 @@ test-memcheck: lc
 
 # these take ./lc as it is, and make it only where there is none
 install: $(if $(wildcard lc),,lc)
+	@[ ! -d crates ] || [ -z "$$(find crates crates.txt -name out -prune -o -type f -newer lc -print -quit)" ] || \
+	  echo "make: ./lc is older than a source; \`make lc\` builds it anew" >&2
 	install -D -m 755 lc $(DESTDIR)$(PREFIX)/bin/lc
 	install -D -m 644 man/lc.1 $(DESTDIR)$(PREFIX)/share/man/man1/lc.1
 	install -D -m 644 completions/lc.bash $(DESTDIR)$(PREFIX)/share/bash-completion/completions/lc
