@@ -1,14 +1,15 @@
 //! The directories and files of the host.
 
+use crate::host_repository::repository_above;
 use crate::progress::Progress;
+use crate::unread::{why_unlisted, why_unread};
 use crate::watched_tree::WatchedTree;
 use lc_census::StdSource;
-use lc_program::System;
+use lc_program::{Repository, System, UnreadReason};
 use lc_tree::{FileSystems, ReadFault, SysTree};
 use std::alloc::{AllocError, Global};
 use std::fs;
 use std::io::ErrorKind;
-use std::path::Path;
 use std::rt::Files;
 use std::time::Clock;
 
@@ -35,6 +36,10 @@ where
 
     ghost holds = { λ s name. AnyContents };
 
+    ghost unlists = { λ s directory answer. Unit {0} };
+
+    ghost unreads = { λ s name answer. Unit {0} };
+
     ghost lies = { λ s directory answer. Unit {0} };
 
     fn tree(
@@ -59,26 +64,15 @@ where
         }
     }
 
-    fn lies_in_repository(&self, alloc: Global, directory: &str) -> bool {
-        let Ok(path) = fs::canonicalize(self.rt, directory) else {
-            return false;
-        };
-        if has_git(self.rt, alloc, path.as_path()) {
-            return false;
-        }
-        for above in path.ancestors().skip(1) {
-            if has_git(self.rt, alloc, above) {
-                return true;
-            }
-        }
-        false
+    fn why_unlisted(&self, alloc: Global, directory: &str) -> Option<UnreadReason> {
+        why_unlisted(self.rt, alloc, directory)
     }
-}
 
-/// Returns whether a directory has an entry `.git`. It has none if the system can't say.
-fn has_git<R: Files + AllocGlobal>(rt: &R, alloc: Global, directory: Path<'_>) -> bool {
-    match directory.join(alloc, ".git") {
-        Ok(git) => fs::symlink_metadata(rt, git.as_path()).is_ok(),
-        Err(AllocError) => false,
+    fn why_unread(&self, _alloc: Global, name: &str) -> Option<UnreadReason> {
+        why_unread(self.rt, name)
+    }
+
+    fn repository_above(&self, alloc: Global, directory: &str) -> Option<Repository> {
+        repository_above(self.rt, alloc, directory)
     }
 }

@@ -1,32 +1,44 @@
 //! The program `lc` counts the files and lines of a directory, skips what Git would ignore, and tells which rule decides a path.
 //!
-//! `lc_program` has all of it but what is here: its arguments, its streams, in `host_system` the directories and files of the host, and the
-//! line that a long count shows on a terminal: `progress`, `watched_tree` and `watched_sink`.
+//! `lc_program` has all of it but what is here: its arguments, its streams, the directories and files of the host in `host_system`, with
+//! `unread` and `host_repository`, and the line that a long count shows on a terminal: `progress`, `watched_tree` and `watched_sink`.
 #![tactic(auto)]
 
+mod host_repository;
 mod host_system;
 mod progress;
+mod unread;
 mod watched_sink;
 mod watched_tree;
 
 use host_system::HostSystem;
+use lc_arguments::count_words;
 use lc_census::StdSource;
 use lc_program::{Cause, Streams, Terminals, give_up, misuse, program};
 use lc_text::StdSink;
 use progress::Progress;
 use std::alloc::AllocError;
 use std::env;
+use std::env::Env;
 use std::io::{ErrorKind, IsTerminal};
 use std::process::ExitCode;
 use watched_sink::WatchedSink;
+
+/// Returns whether the terminal can't rewrite a line, which `TERM` says.
+fn is_dumb<R: Env + AllocGlobal>(rt: &R) -> bool {
+    match env::var(rt, "TERM") {
+        Ok(name) => name.as_str() == "dumb",
+        Err(_) => false,
+    }
+}
 
 fn main(rt: HostRuntime) -> ExitCode {
     let mut err = StdSink(rt.stderr());
     let words = match env::args(&rt) {
         Ok(words) => words,
-        // A word that is not text names nothing that the program could be asked for.
+        // An argument that is not text names nothing that the program could be asked for.
         Err(fault) if fault.kind() == ErrorKind::InvalidData => {
-            let ending = misuse("lc: a word is not UTF-8\n", &mut err);
+            let ending = misuse("lc: an argument is not UTF-8\n", &mut err);
             return ExitCode::from(ending.status());
         }
         Err(_) => {
@@ -44,8 +56,7 @@ fn main(rt: HostRuntime) -> ExitCode {
         output: rt.stdout().is_terminal(),
         error: rt.stderr().is_terminal(),
     };
-    let is_count = words.first().is_some_and(|word| word.as_str() == "count");
-    let progress = if is_count && terminals.error {
+    let progress = if count_words(&words).is_some() && terminals.error && !is_dumb(&rt) {
         Progress::new(&rt, rt.alloc(), rt.stderr())
     } else {
         None

@@ -1,5 +1,7 @@
+mod CountsShown
 mod Loading
 mod PathsListed
+mod PathsWanted
 mod RulesLoaded
 mod SlicesRead
 mod Told

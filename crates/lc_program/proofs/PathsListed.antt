@@ -11,10 +11,9 @@ use Rattle.lc_census.specs.Reads.{Answer, at_end, at_failure, at_neither}
 use Rattle.lc_census.specs.declared.whole.WholeFault.{WholeFault}
 use Rattle.lc_census.specs.declared.whole.WholeFault.TheVariants.{Read, TooLong, Memory}
 use Rattle.lc_text.specs.Lines.{input_paths_of}
-use Rattle.lc_text.specs.PathLines.{is_bad_path, path_of}
 use Rattle.lc_text.specs.declared.lines.PathEnd.{PathEnd}
 use Rattle.lc_tree.specs.Trees.{Contents, GivesOnly}
-use Rattle.lc_program.specs.PathLists.{LoadsList, ReadsList, max_list}
+use Rattle.lc_program.specs.PathLists.{LoadsList, ReadsList, is_bad_listed, listed_path, max_list}
 
 -- what reading an opened list answered is what loading it answers
 module _ {F : Type 0} (may_give : F → ℕ → Answer → F → Type 0) (gives : Contents) (file read : F)
@@ -39,8 +38,8 @@ module _ {F : Type 0} (may_give : F → ℕ → Answer → F → Type 0) (gives 
 pub record IsListedTo (end : PathEnd) (list rest : List ℕ) (paths : List (Bor (List ℕ))) : Type 0 where
   pub before : List (List ℕ)
   pub are : input_paths_of end list ≡ before ++ input_paths_of end rest
-  pub fine : list_any is_bad_path (map path_of before) ≡ false
-  pub paths_are : map (λ path. path.now) paths ≡ map path_of before
+  pub fine : list_any is_bad_listed (map listed_path before) ≡ false
+  pub paths_are : map (λ path. path.now) paths ≡ map listed_path before
 
 list_any_more : (bad : List ℕ → Bool) (xs : List (List ℕ)) (x : List ℕ) → list_any bad xs ≡ false → bad x ≡ false
     → list_any bad (xs ++ x ∷ []) ≡ false
@@ -51,13 +50,13 @@ list_any_more bad (y ∷ ys) x none fine =
 
 -- one path more
 pub listed_next : (end : PathEnd) (list rest line others : List ℕ) (paths : List (Bor (List ℕ))) (path : Bor (List ℕ))
-    → IsListedTo end list rest paths → input_paths_of end rest ≡ line ∷ input_paths_of end others → path.now ≡ path_of line
-    → is_bad_path path.now ≡ false → IsListedTo end list others (paths ++ path ∷ [])
+    → IsListedTo end list rest paths → input_paths_of end rest ≡ line ∷ input_paths_of end others → path.now ≡ listed_path line
+    → is_bad_listed path.now ≡ false → IsListedTo end list others (paths ++ path ∷ [])
 listed_next end list rest line others paths path to next is fine = record {
   before = to.before ++ line ∷ [];
   are = to.are ∙ (ap (λ more. to.before ++ more) next ∙ sym (append_assoc to.before (line ∷ []) (input_paths_of end others)));
-  fine = ap (list_any is_bad_path) (map-append path_of to.before (line ∷ []))
-      ∙ list_any_more is_bad_path (map path_of to.before) (path_of line) to.fine (ap is_bad_path (sym is) ∙ fine);
+  fine = ap (list_any is_bad_listed) (map-append listed_path to.before (line ∷ []))
+      ∙ list_any_more is_bad_listed (map listed_path to.before) (listed_path line) to.fine (ap is_bad_listed (sym is) ∙ fine);
   paths_are = map-append (λ (p : Bor (List ℕ)). p.now) paths (path ∷ [])
-      ∙ (ap₂ (λ a b. a ++ b ∷ []) to.paths_are is ∙ sym (map-append path_of to.before (line ∷ [])));
+      ∙ (ap₂ (λ a b. a ++ b ∷ []) to.paths_are is ∙ sym (map-append listed_path to.before (line ∷ [])));
 }

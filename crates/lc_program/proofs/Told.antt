@@ -1,13 +1,14 @@
 -- What was told on standard error.
-use Rattle.std.proofs.Common.{◌≡◌, ◌≢◌, ◌==◌, ℕ, false, List, [], ◌∷◌, length, Result, Ok, Err, inl, inr, refl}
+use Rattle.std.proofs.Common.{◌≡◌, ◌≢◌, ◌==◌, ◌∙◌, ℕ, false, List, [], ◌∷◌, length, Option, Result, Ok, Err, inl, inr, refl, subst}
 use Rattle.lc_census.specs.declared.source.Failed.{Failed}
 use Rattle.lc_level.specs.FaultLines.{FaultLineModel}
 use Rattle.lc_text.specs.Writes.{AnswersPrint}
 use Rattle.lc_text.specs.declared.printing.PrintFault.{PrintFault}
 use Rattle.lc_text.specs.declared.printing.PrintFault.TheVariants.{Memory, Write}
 use Rattle.lc_view.specs.declared.table_options.Format.{Format}
-use Rattle.lc_program.specs.Faults.{TellsFaults, fault_lines}
+use Rattle.lc_program.specs.Faults.{AreFaultLines, TellsFaults}
 use Rattle.lc_program.specs.Tellings.{Tells}
+use Rattle.lc_program.specs.declared.unread_reason.UnreadReason.{UnreadReason}
 
 module _ {E : Type 0} (may_take : E → List ℕ → Result ℕ Failed → E → Type 0) where
   -- a text that was printed, or not whole, was told
@@ -17,8 +18,16 @@ module _ {E : Type 0} (may_take : E → List ℕ → Result ℕ Failed → E →
   printed err text (Err Write) told answers other = inr answers
   printed err text (Err Memory) told answers other = absurd (other refl)
 
+  -- so was a text that was made
+  pub made_and_printed : (err : E) (made bytes text : List ℕ) (answer : Result (Unit {0}) PrintFault) (told : E) → bytes ≡ made
+      → made ≡ text → AnswersPrint may_take err bytes answer told → answer ≢ Err Memory → Tells may_take err text told
+  made_and_printed err made bytes text answer told same is answers other =
+      subst (λ (t : List ℕ). Tells may_take err t told) (same ∙ is) (printed err bytes answer told answers other)
+
   -- and so was what could not be read, where there is such a thing
-  pub faults_told : (directory : List ℕ) (format : Format) (faults : List FaultLineModel) (err told : E) → (length faults == 0) ≡ false
-      → Tells may_take err (fault_lines directory format faults) told → TellsFaults may_take directory format faults err told
-  faults_told directory format [] err told some tells = absurd (cc)
-  faults_told directory format (f ∷ fs) err told some tells = inl tells
+  pub faults_told : (may_unlist : List ℕ → Option UnreadReason → Type 0) (directory : List ℕ) (format : Format)
+      (faults : List FaultLineModel) (text : List ℕ) (err told : E) → (length faults == 0) ≡ false
+      → AreFaultLines may_unlist directory format faults text → Tells may_take err text told
+      → TellsFaults may_take may_unlist directory format faults err told
+  faults_told may_unlist directory format [] text err told some are tells = absurd (cc)
+  faults_told may_unlist directory format (f ∷ fs) text err told some are tells = inl (text, are, tells)

@@ -1,7 +1,5 @@
 -- Why the program gives up, and the line that says so.
-use Rattle.std.specs.Prelude.{ℕ, List, ◌++◌, codes, decimal, string_bytes}
-use Rattle.lc_census.specs.declared.whole.WholeFault.{WholeFault}
-use Rattle.lc_census.specs.declared.whole.WholeFault.TheVariants as whole
+use Rattle.std.specs.Prelude.{ℕ, List, ◌++◌, Option, codes, decimal, string_bytes}
 use Rattle.lc_text.specs.Visible.{visible_bytes}
 use Rattle.lc_walk.specs.declared.walk_fault.WalkFault.TheVariants as walk
 use Rattle.lc_text.specs.declared.check_fault.CheckFault.{CheckFault}
@@ -12,9 +10,15 @@ use Rattle.lc_level.specs.declared.rule_text.RulesFileFault.{RulesFileFault}
 use Rattle.lc_level.specs.declared.rule_text.RulesFileFault.TheVariants as rules
 use Rattle.lc_table.specs.declared.running.RunFault.{RunFault}
 use Rattle.lc_table.specs.declared.running.RunFault.TheVariants as run
+use Rattle.lc_program.specs.Reasons.{reason_given}
 use Rattle.lc_program.specs.declared.cause.Cause.{Cause}
 use Rattle.lc_program.specs.declared.cause.Cause.TheVariants.{Memory, TooManyDirs, TooDeep, Torn, Mismatch, UnreadRules, RulesTooLong}
 use Rattle.lc_program.specs.declared.cause.Cause.TheVariants.{UnreadPaths, PathsTooLong, BadPaths, UnreadInput, InputTooLong, Unwritten}
+use Rattle.lc_program.specs.declared.unread_reason.UnreadReason.{UnreadReason}
+
+-- the list of paths could not be read, for this reason
+abbrev pub unread_paths_line : Option UnreadReason → List ℕ
+unread_paths_line why = codes "lc: cannot read paths" ++ reason_given why ++ codes "\n"
 
 abbrev pub cause_line : Cause → List ℕ
 cause_line Memory = codes "lc: out of memory\n"
@@ -24,7 +28,7 @@ cause_line (Torn n) = codes "lc: internal: directory " ++ decimal n ++ codes " t
 cause_line (Mismatch w) = codes "lc: internal: worker " ++ decimal w ++ codes " mismatch\n"
 cause_line UnreadRules = codes "lc: cannot read rules\n"
 cause_line RulesTooLong = codes "lc: rules too long\n"
-cause_line UnreadPaths = codes "lc: cannot read paths\n"
+cause_line (UnreadPaths why) = unread_paths_line why
 cause_line PathsTooLong = codes "lc: paths too long\n"
 cause_line (BadPaths line) = string_bytes line
 cause_line UnreadInput = codes "lc: cannot read input\n"
@@ -50,12 +54,6 @@ bad_path_line name path = codes "lc: bad path in " ++ visible_bytes name ++ code
 -- it has no path
 abbrev pub no_path_line : List ℕ → List ℕ
 no_path_line name = codes "lc: no path in " ++ visible_bytes name ++ codes "\n"
-
--- a list of paths that was not read whole
-abbrev pub list_cause : WholeFault → Cause
-list_cause whole.Read = UnreadPaths
-list_cause whole.TooLong = PathsTooLong
-list_cause whole.Memory = Memory
 
 -- a check of an input, or its explanation, that stopped
 abbrev pub check_cause : CheckFault → Cause

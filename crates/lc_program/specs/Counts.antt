@@ -8,7 +8,6 @@ use Rattle.lc_arguments.specs.TableWords.{options_in}
 use Rattle.lc_arguments.specs.declared.count.CountRequest.{CountRequest}
 use Rattle.lc_census.specs.Reads.{Answer}
 use Rattle.lc_census.specs.declared.source.Failed.{Failed}
-use Rattle.lc_census.specs.declared.whole.WholeFault.{WholeFault}
 use Rattle.lc_level.specs.FaultLines.{FaultLineModel}
 use Rattle.lc_level.specs.RuleReads.{shared}
 use Rattle.lc_rules.specs.IgnoreRules.{rules_of}
@@ -19,8 +18,7 @@ use Rattle.lc_tree.specs.declared.file_systems.FileSystems.TheVariants.{All, One
 use Rattle.lc_view.specs.declared.table_options.Format.{Format}
 use Rattle.lc_walk.specs.Walks.{Walks}
 use Rattle.lc_walk.specs.declared.options.Options.{Options}
-use Rattle.lc_program.specs.Causes.{list_cause}
-use Rattle.lc_program.specs.PathLists.{AnswersList, AnswersWanted}
+use Rattle.lc_program.specs.PathLists.{AnswersWanted, GivesList}
 use Rattle.lc_program.specs.Replies.{IsRunReply, Reply}
 use Rattle.lc_program.specs.Rules.{AreRulesOf, LacksRules}
 use Rattle.lc_program.specs.Styles.{end_for}
@@ -52,9 +50,9 @@ module _ (may : SystemMay) {I O : Type 0} (may_give : I → ℕ → Answer → I
   -- the paths that the words ask for, with those of the list that they name, or why there are none
   abbrev pub AnswersPathsOf : I → Result (Vec (Bor (List ℕ)) Global) Cause → I → Type 0
   AnswersPathsOf input answer read =
-      ((list : Vec ℕ Global) × AnswersList may_give may.hold c.only_from input (Ok list) read
+      ((list : Vec ℕ Global) × GivesList may_give may.hold may.unread c.only_from input (Ok list) read
       × AnswersWanted (map (λ path. path.now) c.only.items) c.only_from (end_for c.null) list.items answer)
-      ⊎ ((fault : WholeFault) × AnswersList may_give may.hold c.only_from input (Err fault) read × (answer ≡ Err (list_cause fault)))
+      ⊎ ((cause : Cause) × GivesList may_give may.hold may.unread c.only_from input (Err cause) read × (answer ≡ Err cause))
 
   -- a run over the tree of the directory that the words name, by what they ask; the table has this format if they name none
   abbrev pub Runs : I → O → Reply → I → O → Type 0

@@ -1,6 +1,6 @@
 -- The list of paths that words name, in a file or on the input.
-use Rattle.std.specs.Prelude.{◌≡◌, ◌≢◌, ◌⊎◌, ◌≤◌, ◌+◌, ℕ, true, false, List, [], ◌∷◌, ◌++◌, map, length, Option, Some, None}
-use Rattle.std.specs.Prelude.{Result, Ok, Err, Vec, codes, string_bytes}
+use Rattle.std.specs.Prelude.{◌≡◌, ◌≢◌, ◌⊎◌, ◌≤◌, ◌+◌, ◌&&◌, ℕ, Bool, true, false, not, cond, List, [], ◌∷◌, ◌++◌, map, length}
+use Rattle.std.specs.Prelude.{Option, Some, None, Result, Ok, Err, Vec, codes, string_bytes}
 use Rattle.std.specs.Borrow.{Bor}
 use Rattle.std.specs.Global.{Global}
 use Rattle.std.specs.List.{concat, list_any}
@@ -9,12 +9,13 @@ use Rattle.lc_census.specs.Whole.{AnswersWhole}
 use Rattle.lc_census.specs.declared.whole.WholeFault.{WholeFault}
 use Rattle.lc_census.specs.declared.whole.WholeFault.TheVariants.{Read, TooLong, Memory}
 use Rattle.lc_text.specs.Lines.{input_paths_of}
-use Rattle.lc_text.specs.PathLines.{is_bad_path, path_of}
+use Rattle.lc_text.specs.PathLines.{is_bad_path, is_top, path_of, undotted}
 use Rattle.lc_text.specs.declared.lines.PathEnd.{PathEnd}
 use Rattle.lc_tree.specs.Trees.{Contents}
 use Rattle.lc_program.specs.Causes.{bad_path_line, no_path_line}
 use Rattle.lc_program.specs.declared.cause.Cause.{Cause}
 use Rattle.lc_program.specs.declared.cause.Cause.TheVariants as cause
+use Rattle.lc_program.specs.declared.unread_reason.UnreadReason.{UnreadReason}
 
 -- the most bytes of a list
 abbrev pub max_list : ℕ
@@ -48,22 +49,48 @@ module _ {I : Type 0} (may_give : I → ℕ → Answer → I → Type 0) (holds 
   AnswersList None input (Err fault) read = ⊥
   AnswersList (Some name) input answer read = ReadsNamed name.now input answer read
 
--- the paths of a list, in its order, each without one slash at its end
+-- why there is no list. The input has no reason; for a file that could not be read it is what the system may say
+module _ (may_unread : List ℕ → Option UnreadReason → Type 0) where
+  abbrev pub IsListCause : Option (Bor (List ℕ)) → WholeFault → Cause → Type 0
+  IsListCause name TooLong why = why ≡ cause.PathsTooLong
+  IsListCause name Memory why = why ≡ cause.Memory
+  IsListCause None Read why = why ≡ cause.UnreadPaths None
+  IsListCause (Some name) Read why =
+      ((name.now ≡ codes "-") × (why ≡ cause.UnreadPaths None))
+      ⊎ ((name.now ≢ codes "-") × ((reason : Option UnreadReason) × may_unread name.now reason × (why ≡ cause.UnreadPaths reason)))
+
+module _ {I : Type 0} (may_give : I → ℕ → Answer → I → Type 0) (holds : List ℕ → Contents)
+    (may_unread : List ℕ → Option UnreadReason → Type 0) where
+  -- the list that the words name, or why there is none
+  abbrev pub GivesList : Option (Bor (List ℕ)) → I → Result (Vec ℕ Global) Cause → I → Type 0
+  GivesList name input (Ok bytes) read = AnswersList may_give holds name input (Ok bytes) read
+  GivesList name input (Err why) read =
+      (fault : WholeFault) × AnswersList may_give holds name input (Err fault) read × IsListCause may_unread name fault why
+
+-- the path of a line: without any `./` at its beginning and without one slash at its end
+abbrev pub listed_path : List ℕ → List ℕ
+listed_path line = path_of (undotted line)
+
+-- the paths of a list, in its order
 abbrev pub paths_listed : PathEnd → List ℕ → List (List ℕ)
-paths_listed end list = map path_of (input_paths_of end list)
+paths_listed end list = map listed_path (input_paths_of end list)
+
+-- neither the directory itself nor a path that an entry can have
+abbrev pub is_bad_listed : List ℕ → Bool
+is_bad_listed path = not (is_top path) && is_bad_path path
 
 -- a list has no path, or its first one that no entry can have
 pub record IsFirstBad (end : PathEnd) (list path : List ℕ) : Type 0 where
   pub before : List (List ℕ)
   pub after : List (List ℕ)
   pub are : input_paths_of end list ≡ before ++ path ∷ after
-  pub fine : list_any is_bad_path (map path_of before) ≡ false
-  pub bad : is_bad_path (path_of path) ≡ true
+  pub fine : list_any is_bad_listed (map listed_path before) ≡ false
+  pub bad : is_bad_listed (listed_path path) ≡ true
 
 -- the paths of the list of this name; or it has none, or one that no entry can have
 abbrev pub AnswersListed : List ℕ → PathEnd → List ℕ → Result (Vec (Bor (List ℕ)) Global) Cause → Type 0
 AnswersListed name end list (Ok paths) =
-    (map (λ path. path.now) paths.items ≡ paths_listed end list) × (list_any is_bad_path (paths_listed end list) ≡ false)
+    (map (λ path. path.now) paths.items ≡ paths_listed end list) × (list_any is_bad_listed (paths_listed end list) ≡ false)
     × (paths_listed end list ≢ [])
 AnswersListed name end list (Err (cause.BadPaths line)) =
     ((path : List ℕ) × IsFirstBad end list path × (string_bytes line ≡ bad_path_line name path))
@@ -72,10 +99,21 @@ AnswersListed name end list (Err cause.Memory) = Unit {0}
 AnswersListed name end list (Err _) = ⊥
 
 -- the paths of the words, and then those of the list that they name
-abbrev pub AnswersWanted : List (List ℕ) → Option (Bor (List ℕ)) → PathEnd → List ℕ → Result (Vec (Bor (List ℕ)) Global) Cause → Type 0
-AnswersWanted only None end list (Ok paths) = map (λ path. path.now) paths.items ≡ only
-AnswersWanted only (Some name) end list (Ok paths) =
-    (map (λ path. path.now) paths.items ≡ only ++ paths_listed end list) × (list_any is_bad_path (paths_listed end list) ≡ false)
+abbrev pub AnswersNamed : List (List ℕ) → Option (Bor (List ℕ)) → PathEnd → List ℕ → Result (Vec (Bor (List ℕ)) Global) Cause → Type 0
+AnswersNamed only None end list (Ok paths) = map (λ path. path.now) paths.items ≡ only
+AnswersNamed only (Some name) end list (Ok paths) =
+    (map (λ path. path.now) paths.items ≡ only ++ paths_listed end list) × (list_any is_bad_listed (paths_listed end list) ≡ false)
     × (paths_listed end list ≢ [])
-AnswersWanted only None end list (Err why) = why ≡ cause.Memory
-AnswersWanted only (Some name) end list (Err why) = AnswersListed name.now end list (Err why)
+AnswersNamed only None end list (Err why) = why ≡ cause.Memory
+AnswersNamed only (Some name) end list (Err why) = AnswersListed name.now end list (Err why)
+
+-- paths of which one is the directory itself ask for all of it, as no paths do
+abbrev pub asked_for : List (List ℕ) → List (List ℕ)
+asked_for paths = cond (list_any is_top paths) [] paths
+
+-- what those paths ask for
+abbrev pub AnswersWanted : List (List ℕ) → Option (Bor (List ℕ)) → PathEnd → List ℕ → Result (Vec (Bor (List ℕ)) Global) Cause → Type 0
+AnswersWanted only name end list (Ok paths) =
+    (named : Vec (Bor (List ℕ)) Global) × AnswersNamed only name end list (Ok named)
+    × (map (λ path. path.now) paths.items ≡ asked_for (map (λ path. path.now) named.items))
+AnswersWanted only name end list (Err why) = AnswersNamed only name end list (Err why)

@@ -1,29 +1,34 @@
 -- How the program ends on words, by what it read, wrote and told.
-use Rattle.std.specs.Prelude.{◌≡◌, ◌⊎◌, ℕ, Bool, true, false, List, [], Result, Ok, Err, codes, string_bytes}
+use Rattle.std.specs.Prelude.{◌≡◌, ◌⊎◌, ℕ, Bool, List, [], Option, Result, Ok, Err, string_bytes}
 use Rattle.lc_census.specs.declared.source.Failed.{Failed}
 use Rattle.lc_census.specs.Reads.{Answer}
 use Rattle.lc_program.specs.Causes.{HasNumber, cause_line}
 use Rattle.lc_program.specs.Faults.{TellsFaults}
+use Rattle.lc_program.specs.Hints.{Hints}
 use Rattle.lc_program.specs.Introductions.{Introduces}
 use Rattle.lc_program.specs.Replies.{Reply, outcome_of}
 use Rattle.lc_program.specs.Requests.{AnswersRequest}
 use Rattle.lc_program.specs.Styles.{format_for}
 use Rattle.lc_program.specs.Systems.{SystemMay}
 use Rattle.lc_program.specs.Tellings.{Tells}
+use Rattle.lc_program.specs.Unlisted.{TellsUnlisted}
+use Rattle.lc_program.specs.Unmatched.{unmatched_in}
 use Rattle.lc_arguments.specs.Refusals.{IsMessage}
 use Rattle.lc_arguments.specs.TableWords.{options_in}
 use Rattle.lc_arguments.specs.Words.{AreRefused, Asks, MayShow, faults_in}
 use Rattle.lc_text.specs.Writes.{Writes, StopsWriting}
 use Rattle.lc_arguments.specs.declared.request.Request.{Request}
-use Rattle.lc_arguments.specs.declared.request.Request.TheVariants.{CheckJoined, Check, Count, Explain}
+use Rattle.lc_arguments.specs.declared.request.Request.TheVariants.{Count, Explain}
 use Rattle.lc_program.specs.declared.answered.Answered.{Answered}
-use Rattle.lc_program.specs.declared.answered.Answered.TheVariants.{Counted}
+use Rattle.lc_program.specs.declared.answered.Answered.TheVariants.{Counted, Explained}
 use Rattle.lc_program.specs.declared.cause.Cause.{Cause}
 use Rattle.lc_program.specs.declared.cause.Cause.TheVariants.{Memory, Unwritten}
 use Rattle.lc_program.specs.declared.ending.Ending.{Ending}
 use Rattle.lc_program.specs.declared.ending.Ending.TheVariants.{Done, SomeFaults, Misused, GaveUp}
+use Rattle.lc_program.specs.declared.repository.Repository.{Repository}
 use Rattle.lc_program.specs.declared.streams.Streams.{Streams}
 use Rattle.lc_program.specs.declared.streams.Terminals.{Terminals}
+use Rattle.lc_program.specs.declared.unread_reason.UnreadReason.{UnreadReason}
 use Rattle.lc_text.specs.declared.outcome.Outcome.{Outcome}
 use Rattle.lc_text.specs.declared.outcome.Outcome.TheVariants as outcome
 use Rattle.lc_view.specs.declared.table_options.Format.{Format}
@@ -34,41 +39,35 @@ status_of SomeFaults = 1
 status_of Misused = 2
 status_of (GaveUp _) = 3
 
--- that rules above a directory were not read
-abbrev pub hint : List ℕ
-hint = codes "lc: rules above this directory were not read; lc count --only PATH TOP counts PATH of the repository TOP by all of them\n"
-
 module _ {E : Type 0} (may_take : E → List ℕ → Result ℕ Failed → E → Type 0) where
-  -- after a count, where this is seen: that rules above its directory were not read, where this directory may be said to lie in a
-  -- repository, and nothing where it may be said not to; else nothing
-  abbrev pub Hints : (List ℕ → Bool → Type 0) → Bool → Request → E → E → Type 0
-  Hints may_lie true (Count c) err told =
-      (may_lie c.directory.now true × Tells may_take err hint told) ⊎ (may_lie c.directory.now false × (told ≡ err))
-  Hints may_lie false (Count c) err told = told ≡ err
-  Hints may_lie stderr_is_terminal CheckJoined err told = told ≡ err
-  Hints may_lie stderr_is_terminal (Check c) err told = told ≡ err
-  Hints may_lie stderr_is_terminal (Explain c) err told = told ≡ err
-
   -- the line of the cause; in place of one with a number perhaps that of want of memory
   abbrev pub TellsCause : E → Cause → E → Type 0
   TellsCause err cause told = Tells may_take err (cause_line cause) told ⊎ (HasNumber cause × Tells may_take err (cause_line Memory) told)
 
-  -- after a count it is told what it could not read; its table has this format if the words name none
-  abbrev pub TellsUnread : Format → Request → Answered → E → E → Type 0
-  TellsUnread other (Count c) (Counted faults unnamed) err told =
-      TellsFaults may_take c.directory.now (options_in other c.table).format faults.items err told
-  TellsUnread other request answered err told = told ≡ err
+  -- after a count it is told what it could not read; its table has this format if the words name none. After an explanation that names a
+  -- fault it is told that its directory could not be listed, where the system may say so
+  abbrev pub TellsUnread : (List ℕ → Option UnreadReason → Type 0) → Format → Request → Answered → E → E → Type 0
+  TellsUnread may_unlist other (Count c) (Counted faults unnamed) err told =
+      TellsFaults may_take may_unlist c.directory.now (options_in other c.table).format faults.items err told
+  TellsUnread may_unlist other (Explain c) (Explained outcome.SomeFaults) err told =
+      TellsUnlisted may_take may_unlist c.directory.now err told
+  TellsUnread may_unlist other request answered err told = told ≡ err
 
   -- and which attributes no attribute file names
   abbrev pub TellsUnnamed : Answered → E → E → Type 0
   TellsUnnamed (Counted faults unnamed) err told = Tells may_take err (string_bytes unnamed) told
   TellsUnnamed answered err told = told ≡ err
 
-  -- what could not be read is told, which attributes are not named, and perhaps a hint
-  abbrev pub Comments : (List ℕ → Bool → Type 0) → Terminals → Request → Answered → E → E → Type 0
-  Comments may_lie terminals request answered err told =
-      (unread : E) × TellsUnread (format_for terminals.output) request answered err unread
-      × ((unnamed : E) × TellsUnnamed answered unread unnamed × Hints may_lie terminals.error request unnamed told)
+  -- what could not be read is told, and which attributes are not named
+  abbrev pub Comments : (List ℕ → Option UnreadReason → Type 0) → Terminals → Request → Answered → E → E → Type 0
+  Comments may_unlist terminals request answered err told =
+      (unread : E) × TellsUnread may_unlist (format_for terminals.output) request answered err unread
+      × TellsUnnamed answered unread told
+
+  -- these lines about patterns are told, and perhaps a hint
+  abbrev pub Advises : (List ℕ → Option Repository → Type 0) → Bool → Request → List ℕ → E → E → Type 0
+  Advises may_lie stderr_is_terminal request lines err told =
+      (patterns : E) × Tells may_take err lines patterns × Hints may_take may_lie stderr_is_terminal request patterns told
 
 -- a text was written, as help is; or it was not, or not whole
 abbrev pub EndsShown : {O E : Type 0} → (O → List ℕ → Result ℕ Failed → O → Type 0) → (E → List ℕ → Result ℕ Failed → E → Type 0)
@@ -98,11 +97,13 @@ module _ {I O E : Type 0} (system : SystemMay) (may : StreamsMay I O E) (words :
     pub introduces : Introduces may.tell terminals.input request before.err said
     pub answers : AnswersRequest system may.give may.take terminals.output request before.input before.out reply after.input after.out
 
-  -- it was answered so, and then it was told what could not be read, and perhaps a hint
+  -- it was answered so, and then it was told what could not be read, which patterns can match nothing, and perhaps a hint
   abbrev pub EndsAnswered : Streams I O E → Outcome → Streams I O E → Type 0
   EndsAnswered before result after =
       (request : Request) × (answered : Answered) × (said : E) × Replies before request (Ok answered) after said
-      × (outcome_of answered ≡ result) × Comments may.tell system.lie terminals request answered said after.err
+      × (outcome_of answered ≡ result)
+      × ((commented : E) × Comments may.tell system.unlist terminals request answered said commented
+      × Advises may.tell system.lie terminals.error request (unmatched_in request) commented after.err)
 
   -- the program gave up on it for this cause
   abbrev pub GivesUp : Streams I O E → Cause → Streams I O E → Type 0
@@ -124,7 +125,7 @@ module _ {I O E : Type 0} (system : SystemMay) (may : StreamsMay I O E) (words :
   Ends before Misused after =
       AreRefused words × (after.input ≡ before.input) × (after.out ≡ before.out)
       × ((why : List ℕ) × IsMessage why × Tells may.tell before.err why after.err)
-  -- a request was given up for this cause, or a text was not shown, or there was no memory to read the words
+  -- a request was given up for this cause, or a text was not shown, or there was no memory to read the words and their patterns
   Ends before (GaveUp cause) after =
       GivesUp before cause after
       ⊎ (Shows before (GaveUp cause) after

@@ -1,17 +1,23 @@
 -- What a system may answer of the names on a command line.
-use Rattle.std.specs.Prelude.{ℕ, Bool, List}
+use Rattle.std.specs.Prelude.{ℕ, List, Option}
 use Rattle.lc_tree.specs.Trees.{Listings, Contents}
 use Rattle.lc_tree.specs.declared.file_systems.FileSystems.{FileSystems}
+use Rattle.lc_program.specs.declared.repository.Repository.{Repository}
+use Rattle.lc_program.specs.declared.unread_reason.UnreadReason.{UnreadReason}
 
 -- of the directory with each name, where all file systems or its own alone are entered, what listing each of its paths may answer and
--- what reads of the file there may give; what reads of the file with each name may give; and whether it may be said that the directory
--- with a name lies in a repository, below its top
+-- what reads of the file there may give; what reads of the file with each name may give; why the directory and why the file with each
+-- name can't be read; and in which repository the directory with each name lies, below its top
 pub record SystemMay : Type 1 where
   pub list : List ℕ → FileSystems → List ℕ → Listings
   pub give : List ℕ → FileSystems → List ℕ → Contents
   pub hold : List ℕ → Contents
-  pub lie : List ℕ → Bool → Type 0
+  pub unlist : List ℕ → Option UnreadReason → Type 0
+  pub unread : List ℕ → Option UnreadReason → Type 0
+  pub lie : List ℕ → Option Repository → Type 0
 
 abbrev pub system_may : (List ℕ → FileSystems → List ℕ → Listings) → (List ℕ → FileSystems → List ℕ → Contents) → (List ℕ → Contents)
-    → (List ℕ → Bool → Type 0) → SystemMay
-system_may list give hold lie = record { list = list; give = give; hold = hold; lie = lie }
+    → (List ℕ → Option UnreadReason → Type 0) → (List ℕ → Option UnreadReason → Type 0) → (List ℕ → Option Repository → Type 0)
+    → SystemMay
+system_may list give hold unlist unread lie =
+    record { list = list; give = give; hold = hold; unlist = unlist; unread = unread; lie = lie }

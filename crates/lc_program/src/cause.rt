@@ -2,10 +2,10 @@
 
 ghost use Rattle.std.specs.Prelude.{◌≡◌, IfOk, IsErr};
 ghost use Rattle.std.specs.Cow.{cow_str_bytes};
-ghost use Rattle.lc_program.specs.Causes.{HasNumber, cause_line, check_cause, list_cause, print_cause, rules_cause, run_cause};
+ghost use Rattle.lc_program.specs.Causes.{HasNumber, cause_line, check_cause, print_cause, rules_cause, run_cause, unread_paths_line};
 ghost use Rattle.lc_program.specs.declared.cause.Cause.TheVariants.{Memory};
 
-use lc_census::WholeFault;
+use crate::unread_reason::UnreadReason;
 use lc_level::RulesFileFault;
 use lc_table::RunFault;
 use lc_text::{CheckFault, PrintFault};
@@ -30,8 +30,8 @@ pub enum Cause {
     UnreadRules,
     /// The rules have too many bytes.
     RulesTooLong,
-    /// The list of paths that the command line names could not be read.
-    UnreadPaths,
+    /// The list of paths that the command line names could not be read, for this reason if the system gives one.
+    UnreadPaths(Option<UnreadReason>),
     /// The list of paths has too many bytes.
     PathsTooLong,
     /// The list of paths has none, or one that no entry can have. The line tells which.
@@ -42,6 +42,21 @@ pub enum Cause {
     InputTooLong,
     /// The answer could not be written.
     Unwritten,
+}
+
+/// Returns the line about a list of paths that could not be read.
+fn unread_paths_line(why: Option<UnreadReason>) -> &'static str
+    ensures { result.now ≡ unread_paths_line why }
+{
+    match why {
+        None | Some(UnreadReason::Other) => "lc: cannot read paths\n",
+        Some(UnreadReason::Missing) => "lc: cannot read paths: no such file or directory\n",
+        Some(UnreadReason::Denied) => "lc: cannot read paths: permission denied\n",
+        Some(UnreadReason::IsDirectory) => "lc: cannot read paths: is a directory\n",
+        Some(UnreadReason::IsFile | UnreadReason::NotDirectory) => {
+            "lc: cannot read paths: not a directory\n"
+        }
+    }
 }
 
 impl Cause {
@@ -64,7 +79,7 @@ impl Cause {
             }
             Cause::UnreadRules => "lc: cannot read rules\n",
             Cause::RulesTooLong => "lc: rules too long\n",
-            Cause::UnreadPaths => "lc: cannot read paths\n",
+            Cause::UnreadPaths(why) => unread_paths_line(*why),
             Cause::PathsTooLong => "lc: paths too long\n",
             Cause::BadPaths(line) => line.as_str(),
             Cause::UnreadInput => "lc: cannot read input\n",
@@ -99,18 +114,6 @@ impl From<RulesFileFault> for Cause {
             RulesFileFault::Read => Cause::UnreadRules,
             RulesFileFault::TooLong => Cause::RulesTooLong,
             RulesFileFault::Memory => Cause::Memory,
-        }
-    }
-}
-
-impl From<WholeFault> for Cause {
-    ghost from_gives = { λ list cause. cause ≡ list_cause list };
-
-    fn from(fault: WholeFault) -> Cause {
-        match fault {
-            WholeFault::Read => Cause::UnreadPaths,
-            WholeFault::TooLong => Cause::PathsTooLong,
-            WholeFault::Memory => Cause::Memory,
         }
     }
 }

@@ -89,7 +89,8 @@ pub(crate) fn count<R: Threads + Wait + Sync + AllocGlobal, Y: System, S: Source
 ) -> Result<Answered, Cause>
     requires limits { IsCountWithinLimits asked.now }
     ensures { AnswersCount (system_may (λ dir entered. Y.Tree.lists (Y.tree system.now dir entered))
-        (λ dir entered. Y.Tree.gives (Y.tree system.now dir entered)) (Y.holds system.now) (Y.lies system.now))
+        (λ dir entered. Y.Tree.gives (Y.tree system.now dir entered)) (Y.holds system.now)
+        (Y.unlists system.now) (Y.unreads system.now) (Y.lies system.now))
         S.may_give O.may_take format asked.now input.old out.old result input.new out.new }
 {
     let rules = AskedRules::read(rt.alloc(), system, &asked.exclusions)?;

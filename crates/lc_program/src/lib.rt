@@ -1,10 +1,12 @@
 //! The program `lc` without its host: it does what a command line asks for in a system, and writes to streams.
 //!
-//! - `system`: the directories and files that a command line names; `streams`: the streams, and which of them are terminals
+//! - `system`: the directories and files that a command line names, with `unread_reason`: why one could not be read, and `repository`: the
+//!   one above a directory; `streams`: the streams, and which of them are terminals
 //! - `running`: the program; `answering`: the answer to each request, by `checking`, `counting` and `explaining`; `answered`: the answers
 //! - `asked_rules`: the rules that a command line names, by `rules_file`: those of a file; `path_list`: the paths in a file
 //! - `ending`: how the program ends; `cause`: why it gives up
-//! - `telling`: help, the version, and the lines on standard error, with `introducing`, `faults` and `unnamed`
+//! - `telling`: help, the version, and the lines on standard error, with `introducing`, `faults`, `unlisted`, `unnamed`, `unmatched`
+//!   and `hints`; `commands`: the commands that lines show
 #![tactic(auto)]
 
 mod answered;
@@ -12,22 +14,30 @@ mod answering;
 mod asked_rules;
 mod cause;
 mod checking;
+mod commands;
 mod counting;
 mod ending;
 mod explaining;
 mod faults;
+mod hints;
 mod introducing;
 mod path_list;
+mod repository;
 mod rules_file;
 mod running;
 mod streams;
 mod system;
 mod telling;
+mod unlisted;
+mod unmatched;
 mod unnamed;
+mod unread_reason;
 
 pub use cause::Cause;
 pub use ending::Ending;
+pub use repository::Repository;
 pub use running::program;
 pub use streams::{Streams, Terminals};
 pub use system::System;
 pub use telling::{give_up, misuse};
+pub use unread_reason::UnreadReason;

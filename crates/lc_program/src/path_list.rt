@@ -1,13 +1,16 @@
 //! The paths that the file of `--only-from` lists.
 
-ghost use Rattle.std.specs.Prelude.{◌≡◌, map, string_bytes, IfOk};
+ghost use Rattle.std.specs.Prelude.{◌≡◌, ℕ, List, map, string_bytes, IfOk};
+ghost use Rattle.std.specs.Borrow.{Bor};
+ghost use Rattle.std.specs.List.{list_any};
+ghost use Rattle.lc_text.specs.PathLines.{is_top};
 ghost use Rattle.lc_program.specs.Causes.{bad_path_line, no_path_line};
-ghost use Rattle.lc_program.specs.PathLists.{AnswersList, AnswersListed, AnswersWanted, LoadsList, ReadsList};
+ghost use Rattle.lc_program.specs.PathLists.{AnswersList, AnswersListed, AnswersNamed, AnswersWanted, GivesList, IsListCause, LoadsList, ReadsList, is_bad_listed};
 
 use crate::cause::Cause;
 use crate::system::System;
 use lc_census::{Source, WholeFault, new_buffer, read_whole};
-use lc_text::{PathEnd, is_bad_path, push_visible, split_path, split_slash};
+use lc_text::{PathEnd, is_bad_path, is_top, push_visible, split_path, split_slash, undotted};
 use lc_tree::ReadFault;
 use std::alloc::{AllocError, Global};
 
@@ -41,7 +44,7 @@ fn list_in_file<Y: System>(alloc: Global, system: &Y, name: &str) -> Result<Vec<
 }
 
 /// Reads the list of paths that a command line names: that of a file, or `-` for the one of the input.
-pub(crate) fn list_of<Y: System, S: Source>(
+fn named_list<Y: System, S: Source>(
     alloc: Global,
     system: &Y,
     file: Option<&str>,
@@ -53,6 +56,35 @@ pub(crate) fn list_of<Y: System, S: Source>(
         None => Ok(Vec::new(alloc)),
         Some("-") => read_list(alloc, input),
         Some(name) => list_in_file(alloc, system, name),
+    }
+}
+
+/// Returns why there is no list.
+fn list_cause<Y: System>(alloc: Global, system: &Y, file: Option<&str>, fault: WholeFault) -> Cause
+    ensures { IsListCause (Y.unreads system.now) file.entry fault result }
+{
+    match fault {
+        WholeFault::Read => match file {
+            None | Some("-") => Cause::UnreadPaths(None),
+            Some(name) => Cause::UnreadPaths(system.why_unread(alloc, name)),
+        },
+        WholeFault::TooLong => Cause::PathsTooLong,
+        WholeFault::Memory => Cause::Memory,
+    }
+}
+
+/// Reads the list of paths that a command line names, or returns why there is none.
+pub(crate) fn list_of<Y: System, S: Source>(
+    alloc: Global,
+    system: &Y,
+    file: Option<&str>,
+    input: &mut S,
+) -> Result<Vec<u8>, Cause>
+    ensures { GivesList S.may_give (Y.holds system.now) (Y.unreads system.now) file.entry input.old result input.new }
+{
+    match named_list(alloc, system, file, input) {
+        Ok(list) => Ok(list),
+        Err(fault) => Err(list_cause(alloc, system, file, fault)),
     }
 }
 
@@ -76,7 +108,14 @@ fn no_path_line(alloc: Global, file: &str) -> Result<String, AllocError>
     Ok(line)
 }
 
-/// Reads the paths of a list, and drops a slash at the end of each.
+/// Returns whether a path of a list is neither the directory itself nor a path that an entry can have.
+fn is_bad_listed(path: &[u8]) -> bool
+    ensures { result ≡ is_bad_listed path.now }
+{
+    !is_top(path) && is_bad_path(path)
+}
+
+/// Reads the paths of a list, and drops any `./` at the beginning of each and a slash at its end.
 fn paths_of<'l>(
     alloc: Global,
     file: &str,
@@ -89,8 +128,8 @@ fn paths_of<'l>(
     let mut rest = list;
     'paths: while !rest.is_empty() {
         let (line, others) = split_path(end, rest);
-        let (path, _) = split_slash(line);
-        if is_bad_path(path) {
+        let (path, _) = split_slash(undotted(line));
+        if is_bad_listed(path) {
             return Err(Cause::BadPaths(bad_path_line(alloc, file, line)?));
         }
         paths.push(path)?;
@@ -103,6 +142,36 @@ fn paths_of<'l>(
 }
 
 /// Joins the paths of the command line with those of the list that it names.
+fn named_paths<'w: 'l, 'l>(
+    alloc: Global,
+    only: &[&'w [u8]],
+    file: Option<&str>,
+    end: PathEnd,
+    list: &'l [u8],
+) -> Result<Vec<&'l [u8]>, Cause>
+    ensures { AnswersNamed (map (λ path. path.now) only.now) file.entry end list.now result }
+{
+    let mut named = Vec::new(alloc);
+    for path in only {
+        named.push(*path)?;
+    }
+    let Some(file) = file else {
+        return Ok(named);
+    };
+    let listed = paths_of(alloc, file, end, list)?;
+    named.extend_from_slice(&listed)?;
+    Ok(named)
+}
+
+/// Returns whether one of these paths is the directory itself.
+fn has_top(paths: &[&[u8]]) -> bool
+    ensures { result ≡ list_any (λ (path : Bor (List ℕ)). is_top path.now) paths.now }
+{
+    paths.iter().any(|path| is_top(path))
+}
+
+/// Returns the paths to count, of the command line and of the list that it names. Where one of them is the directory itself, there are
+/// none, since all of it is counted.
 pub(crate) fn wanted_paths<'w: 'l, 'l>(
     alloc: Global,
     only: &[&'w [u8]],
@@ -112,14 +181,9 @@ pub(crate) fn wanted_paths<'w: 'l, 'l>(
 ) -> Result<Vec<&'l [u8]>, Cause>
     ensures { AnswersWanted (map (λ path. path.now) only.now) file.entry end list.now result }
 {
-    let mut wanted = Vec::new(alloc);
-    for path in only {
-        wanted.push(*path)?;
+    let paths = named_paths(alloc, only, file, end, list)?;
+    if has_top(&paths) {
+        return Ok(Vec::new(alloc));
     }
-    let Some(file) = file else {
-        return Ok(wanted);
-    };
-    let listed = paths_of(alloc, file, end, list)?;
-    wanted.extend_from_slice(&listed)?;
-    Ok(wanted)
+    Ok(paths)
 }

@@ -1,7 +1,7 @@
 //! The program: it does what its arguments ask for in a system, and writes to its streams.
 
 ghost use Rattle.std.specs.Prelude.{◌≡◌, map};
-ghost use Rattle.lc_program.specs.Program.{Comments, Ends, TellsUnread, status_of, streams_may};
+ghost use Rattle.lc_program.specs.Program.{Advises, Comments, Ends, TellsUnread, status_of, streams_may};
 ghost use Rattle.lc_program.specs.Systems.{system_may};
 ghost use Rattle.lc_program.specs.declared.ending.Ending.{Ending};
 
@@ -10,37 +10,47 @@ use crate::answering::answer;
 use crate::cause::Cause;
 use crate::ending::Ending;
 use crate::faults::tell_faults;
+use crate::hints::hint;
 use crate::introducing::introduce;
 use crate::streams::{Streams, Terminals};
 use crate::system::System;
-use crate::telling::{give_up, hint, misuse, show};
+use crate::telling::{give_up, misuse, show};
+use crate::unlisted::tell_unlisted;
+use crate::unmatched::unmatched_in;
 use crate::unnamed::tell_unnamed;
 use lc_arguments::{ParseExit, Request};
 use lc_census::Source;
-use lc_text::{Outcome, Sink};
+use lc_text::{Outcome, Sink, print};
 use lc_view::Format;
 use std::alloc::Global;
 use std::convert::AsStr;
 use std::sync::Wait;
 use std::thread::Threads;
 
-/// Tells what a count could not read. Its table has this format if the command line names none.
-fn tell_unread<E: Sink>(
+/// Tells what a count or an explanation could not read. A count's table has this format if the command line names none.
+fn tell_unread<Y: System, E: Sink>(
     alloc: Global,
+    system: &Y,
     request: &Request<'_>,
     answered: &Answered,
     format: Format,
     err: &mut E,
 )
-    ensures { TellsUnread E.may_take format request.now answered.now err.old err.new }
+    ensures { TellsUnread E.may_take (Y.unlists system.now) format request.now answered.now err.old err.new }
 {
-    if let (Request::Count(asked), Answered::Counted(faults, _)) = (request, answered) {
-        let options = asked.table.options(format);
-        tell_faults(alloc, asked.directory, options.format, faults, err);
+    match (request, answered) {
+        (Request::Count(asked), Answered::Counted(faults, _)) => {
+            let options = asked.table.options(format);
+            tell_faults(alloc, system, asked.directory, options.format, faults, err);
+        }
+        (Request::Explain(asked), Answered::Explained(Outcome::SomeFaults)) => {
+            tell_unlisted(alloc, system, asked.directory, err);
+        }
+        _ => {}
     }
 }
 
-/// Tells what a count could not read and which attributes no attribute file names, and the hint that a request gets.
+/// Tells what could not be read and which attributes no attribute file names.
 fn comment<Y: System, E: Sink>(
     alloc: Global,
     system: &Y,
@@ -49,11 +59,26 @@ fn comment<Y: System, E: Sink>(
     terminals: Terminals,
     err: &mut E,
 )
-    ensures { Comments E.may_take (Y.lies system.now) terminals request.now answered.now err.old err.new }
+    ensures { Comments E.may_take (Y.unlists system.now) terminals request.now answered.now err.old err.new }
 {
-    tell_unread(alloc, request, answered, terminals.format(), err);
+    tell_unread(alloc, system, request, answered, terminals.format(), err);
     tell_unnamed(answered, err);
-    hint(alloc, system, request, terminals.error, err);
+}
+
+/// Tells these lines about patterns, and the hint that a request gets.
+fn advise<Y: System, E: Sink>(
+    alloc: Global,
+    system: &Y,
+    request: &Request<'_>,
+    lines: &str,
+    stderr_is_terminal: bool,
+    err: &mut E,
+)
+    ensures { Advises E.may_take (Y.lies system.now) stderr_is_terminal request.now lines.now err.old err.new }
+{
+    // Nothing rests on these lines, so one that can't be written changes nothing.
+    let _ = print(err, lines.as_bytes());
+    hint(alloc, system, request, stderr_is_terminal, err);
 }
 
 /// Runs the program, and returns how it ended.
@@ -65,7 +90,8 @@ fn end_of<R: Threads + Wait + Sync + AllocGlobal, Y: System, W: AsStr, S: Source
     streams: &mut Streams<S, O, E>,
 ) -> Ending
     ensures { Ends (system_may (λ dir entered. Y.Tree.lists (Y.tree system.now dir entered))
-        (λ dir entered. Y.Tree.gives (Y.tree system.now dir entered)) (Y.holds system.now) (Y.lies system.now))
+        (λ dir entered. Y.Tree.gives (Y.tree system.now dir entered)) (Y.holds system.now)
+        (Y.unlists system.now) (Y.unreads system.now) (Y.lies system.now))
         (streams_may S.may_give O.may_take E.may_take) (map W.text words.now) terminals streams.old result streams.new }
 {
     let Streams { input, out, err } = streams;
@@ -75,12 +101,23 @@ fn end_of<R: Threads + Wait + Sync + AllocGlobal, Y: System, W: AsStr, S: Source
         Err(ParseExit::Refused(why)) => return misuse(&why, err),
         Err(ParseExit::Memory) => return give_up(rt.alloc(), Cause::Memory, err),
     };
+    let Ok(unmatched) = unmatched_in(rt.alloc(), &request) else {
+        return give_up(rt.alloc(), Cause::Memory, err);
+    };
     introduce(&request, terminals.input, err);
     let answered = match answer(rt, system, &request, terminals, input, out) {
         Ok(answered) => answered,
         Err(cause) => return give_up(rt.alloc(), cause, err),
     };
     comment(rt.alloc(), system, &request, &answered, terminals, err);
+    advise(
+        rt.alloc(),
+        system,
+        &request,
+        &unmatched,
+        terminals.error,
+        err,
+    );
     match answered.outcome() {
         Outcome::Clean => Ending::Done,
         Outcome::SomeFaults => Ending::SomeFaults,
@@ -99,7 +136,8 @@ fn end_of<R: Threads + Wait + Sync + AllocGlobal, Y: System, W: AsStr, S: Source
 ///
 /// If standard input is a terminal and is read, a line says so first. If standard output is a terminal, checks and explanations print
 /// paths and patterns so that it shows them safely, and a table for which no format is named is printed in columns. If standard error is a
-/// terminal, a hint may follow the table of a count. What a count could not read is told on `err` too.
+/// terminal, a hint may follow the table of a count. What a count could not read is told on `err` too, and why a directory could not be,
+/// and which patterns of the arguments can match nothing.
 pub fn program<
     R: Threads + Wait + Sync + AllocGlobal,
     Y: System,
@@ -110,7 +148,8 @@ pub fn program<
 >(rt: &R, system: &Y, words: &[W], terminals: Terminals, streams: &mut Streams<S, O, E>) -> u8
     ensures { (ending : Ending) × (result ≡ status_of ending)
         × Ends (system_may (λ dir entered. Y.Tree.lists (Y.tree system.now dir entered))
-        (λ dir entered. Y.Tree.gives (Y.tree system.now dir entered)) (Y.holds system.now) (Y.lies system.now))
+        (λ dir entered. Y.Tree.gives (Y.tree system.now dir entered)) (Y.holds system.now)
+        (Y.unlists system.now) (Y.unreads system.now) (Y.lies system.now))
         (streams_may S.may_give O.may_take E.may_take) (map W.text words.now) terminals streams.old ending streams.new }
 {
     end_of(rt, system, words, terminals, streams).status()

@@ -2,13 +2,11 @@
 
 ghost use Rattle.std.specs.Prelude.{◌≡◌};
 ghost use Rattle.lc_program.specs.Tellings.{Tells};
-ghost use Rattle.lc_program.specs.Program.{TellsCause, Hints, EndsShown};
+ghost use Rattle.lc_program.specs.Program.{TellsCause, EndsShown};
 ghost use Rattle.lc_program.specs.declared.ending.Ending.TheVariants as ending;
 
 use crate::cause::Cause;
 use crate::ending::Ending;
-use crate::system::System;
-use lc_arguments::Request;
 use lc_text::{Sink, print};
 use std::alloc::{AllocError, Global};
 
@@ -32,27 +30,6 @@ pub fn give_up<E: Sink>(alloc: Global, cause: Cause, err: &mut E) -> Ending
         Err(AllocError) => print(err, b"lc: out of memory\n"),
     };
     Ending::GaveUp(cause)
-}
-
-/// Hints that rules above the counted directory were not read, if it lies in a repository below its top. Only a terminal gets the hint.
-pub(crate) fn hint<Y: System, E: Sink>(
-    alloc: Global,
-    system: &Y,
-    request: &Request<'_>,
-    stderr_is_terminal: bool,
-    err: &mut E,
-)
-    ensures { Hints E.may_take (Y.lies system.now) stderr_is_terminal request.now err.old err.new }
-{
-    let Request::Count(asked) = request else {
-        return;
-    };
-    if stderr_is_terminal && system.lies_in_repository(alloc, asked.directory) {
-        let _ = print(
-            err,
-            b"lc: rules above this directory were not read; lc count --only PATH TOP counts PATH of the repository TOP by all of them\n",
-        );
-    }
 }
 
 /// Writes help or the version.

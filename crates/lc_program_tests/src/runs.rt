@@ -8,3 +8,4 @@ mod endings;
 mod explanations;
 mod hints;
 mod mem_system;
+mod reasons;

@@ -1,7 +1,7 @@
 //! Runs of the program over systems of memory.
 
 use crate::runs::mem_system::MemSystem;
-use lc_program::{Streams, Terminals, program};
+use lc_program::{Streams, Terminals, UnreadReason, program};
 use lc_text::trials::{Narrow, WhenFull};
 use lc_tree::{Node, Sketch};
 use std::alloc::{AllocError, Global};
@@ -24,7 +24,8 @@ pub(super) struct Case<'a> {
     pub(super) words: &'a [&'a str],
     pub(super) input: &'a [u8],
     pub(super) terminals: Terminals,
-    pub(super) is_repository: bool,
+    pub(super) why: Option<UnreadReason>,
+    pub(super) above: Option<(&'static str, &'static str)>,
     /// How the run ends.
     pub(super) status: u8,
     pub(super) out: &'a [u8],
@@ -46,7 +47,8 @@ pub(super) const EMPTY: Case<'static> = Case {
     words: &[],
     input: b"",
     terminals: NO_TERMINALS,
-    is_repository: false,
+    why: None,
+    above: None,
     status: 0,
     out: b"",
     err: b"",
@@ -69,11 +71,14 @@ fn writer_of(alloc: Global, text: &[u8]) -> Result<Narrow, AllocError> {
     Narrow::new(alloc, 4_096, text.len().saturating_add(64), WhenFull::Fails)
 }
 
-/// Whether this is told where memory is refused, in place of what is wanted or after some of it.
+/// Whether this is told where memory is refused, in place of some of what is wanted or after it.
 fn is_refusal(told: &[u8], wanted: &[u8]) -> bool {
     told.ends_with(b"lc: out of memory\n")
-        || told.ends_with(b"lc: some paths could not be read\n")
-        || (told.is_empty() && !wanted.is_empty())
+        // Lines about patterns may follow it.
+        || told.starts_with(b"lc: some paths could not be read\n")
+        || told.ends_with(b"lc: rules above this directory were not read\n")
+        // A system without memory may know of no repository, so the hint is missing.
+        || (told.len() < wanted.len() && wanted.starts_with(told))
 }
 
 /// Whether a run in a system ends so.
@@ -113,7 +118,8 @@ fn is_so<R: Threads + Wait + Sync + AllocGlobal>(
         bounded: &bounded,
         absent: &Node::Closed,
         files: &files,
-        is_repository: case.is_repository,
+        why: case.why,
+        above: case.above,
     };
     ends_so(rt, &system, words, case)
 }

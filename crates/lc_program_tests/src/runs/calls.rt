@@ -2,8 +2,9 @@
 
 use crate::runs::mem_system::MemSystem;
 use lc_census::Source;
-use lc_program::{Cause, System, give_up, misuse};
+use lc_program::{Cause, Repository, System, UnreadReason, give_up, misuse};
 use lc_tree::{FileSystems, Node, Sketch, Tree};
+use std::alloc::AllocError;
 use std::test::Fail;
 
 const TOP: Sketch<'static> = Sketch::Dir(&[(b"a", Sketch::File(b"x"))]);
@@ -24,7 +25,8 @@ fn names_of_a_system(rt: HostRuntime) -> Result<(), Fail> {
         bounded: &[],
         absent: &Node::Closed,
         files: &directories[0].1,
-        is_repository: true,
+        why: Some(UnreadReason::Missing),
+        above: Some(("..", "top")),
     };
     let tree = system.tree(rt.alloc(), "top", FileSystems::All)?;
     let listing = tree.list(rt.alloc(), b"")?;
@@ -32,7 +34,27 @@ fn names_of_a_system(rt: HostRuntime) -> Result<(), Fail> {
     let file = system.open_file(rt.alloc(), "a")?;
     let mut buffer = [0; 4];
     assert!(rt; first(file, &mut buffer) == 1 && buffer[0] == b'x');
-    assert!(rt; system.lies_in_repository(rt.alloc(), "top"));
+    Ok(())
+}
+
+#[test]
+fn answers_of_a_system(rt: HostRuntime) -> Result<(), Fail> {
+    let system = MemSystem {
+        directories: &[],
+        bounded: &[],
+        absent: &Node::Closed,
+        files: &Node::Closed,
+        why: Some(UnreadReason::Missing),
+        above: Some(("..", "top")),
+    };
+    let why = system.why_unlisted(rt.alloc(), "top");
+    assert!(rt; matches!(why, Some(UnreadReason::Missing)));
+    let why = system.why_unread(rt.alloc(), "list");
+    assert!(rt; matches!(why, Some(UnreadReason::Missing)));
+    let Some(Repository { top, path }) = system.repository_above(rt.alloc(), "top") else {
+        return Err(AllocError.into());
+    };
+    assert!(rt; top.as_str() == ".." && path.as_str() == "top");
     Ok(())
 }
 

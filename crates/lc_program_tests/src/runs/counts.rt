@@ -149,6 +149,37 @@ const CASES: &[Case<'static>] = &[
         ..WORKED
     },
     Case {
+        name: "directories_that_are_not_read_in_json",
+        top: Sketch::Dir(&[SHUT, (b"a", Sketch::Closed)]),
+        words: &["count", "--by", "ext", "--format", "json", "top"],
+        status: 1,
+        out: b"{\"rows\":[],\"total\":{\"files\":0,\"lines\":0,\"blank\":0,\"bytes\":0},\
+               \"text\":{\"files\":0,\"lines\":0,\"blank\":0,\"bytes\":0},\
+               \"binary\":{\"files\":0,\"lines\":0,\"blank\":0,\"bytes\":0},\"directories\":1,\
+               \"faults\":[{\"word\":\"read\",\"path\":\"a\"},{\"word\":\"read\",\"path\":\"shut\"}]}\n",
+        err: b"lc: 2 paths could not be read: see faults\n",
+        ..WORKED
+    },
+    Case {
+        name: "a_directory_that_is_not_read_in_markdown",
+        top: Sketch::Dir(&[SHUT]),
+        words: &["count", "--by", "ext", "--format", "markdown", "top"],
+        status: 1,
+        out: b"| ext | files | lines | blank | bytes |\n\
+               | --- | ---: | ---: | ---: | ---: |\n\
+               | **total** | **0** | **0** | **0** | **0** |\n\
+               \n\
+               | directories |\n\
+               | ---: |\n\
+               | 1 |\n\
+               \n\
+               | fault | path |\n\
+               | --- | --- |\n\
+               | read | shut |\n",
+        err: b"lc: 1 path could not be read: see the list of faults\n",
+        ..WORKED
+    },
+    Case {
         name: "directories_that_are_not_read_in_csv",
         top: Sketch::Dir(&[SHUT, SRC, (b"a\x1b", Sketch::Closed)]),
         words: &["count", "--by", "ext", "--format", "csv", "top"],
@@ -240,9 +271,32 @@ const CASES: &[Case<'static>] = &[
     Case {
         name: "a_path_of_the_input_that_no_entry_has",
         words: &["count", "--only-from=-", "top"],
-        input: b"src\n./keep.log\n",
+        input: b"src\n./../keep.log\n",
         status: 3,
-        err: b"lc: bad path in -: ./keep.log\n",
+        err: b"lc: bad path in -: ./../keep.log\n",
+        ..WORKED
+    },
+    Case {
+        name: "paths_of_the_input_that_begin_with_a_dot",
+        words: &["count", "--only-from", "-", "--by", "ext", "top"],
+        input: b"./keep.log\n.//././src/\n",
+        out: b"ext\ttext\teol\tfiles\tlines\tblank\tbytes\n\
+               .c\t*\t*\t1\t1\t0\t8\n\
+               .log\t*\t*\t1\t1\t0\t2\n\
+               total\t*\t*\t2\t2\t0\t10\n\
+               directories\t3\n",
+        ..WORKED
+    },
+    Case {
+        name: "all_of_the_directory_among_paths_of_the_input",
+        words: &["count", "--only-from", "-", "--only", "src", "top"],
+        input: b"keep.log\n./\n",
+        out: b"ext\ttext\teol\tfiles\tlines\tblank\tbytes\n\
+               -\t-\tlf\t1\t3\t0\t24\n\
+               .c\t-\tcrlf\t1\t1\t0\t8\n\
+               .log\t-\tlf\t1\t1\t0\t2\n\
+               total\t*\t*\t3\t5\t0\t34\n\
+               directories\t3\n",
         ..WORKED
     },
     Case {

@@ -13,15 +13,15 @@ const CASES: &[Case<'static>] = &[
         words: &["count", "--threads", "17", "top"],
         input: b"not read\n",
         status: 2,
-        err: b"error: invalid value '17' for '--threads <N>': 17 is not in 1..=16\n\nFor more information, try '--help'.\n",
+        err: b"error: invalid value for '--threads <N>': '17' is no number from 1 to 16\n\nFor more information, try '--help'.\n",
         ..EMPTY
     },
     Case {
         name: "a_path_that_no_entry_has",
         words: &["count", "top", "--only", "/src"],
         status: 2,
-        err: b"error: invalid value '/src' for '--only <PATH>': a path from DIR on is wanted, as src/lib: no '.' and no '..' in it, \
-               and at most 4096 bytes\n\nFor more information, try '--help'.\n",
+        err: b"error: invalid value '/src' for '--only <PATH>': expected a path relative to DIR, such as src/lib\n\n\
+               For more information, try '--help'.\n",
         ..EMPTY
     },
 ];
@@ -38,7 +38,8 @@ fn the_version_is_shown(rt: HostRuntime) -> Result<(), Fail> {
         bounded: &[],
         absent: &Node::Closed,
         files: &Node::Closed,
-        is_repository: false,
+        why: None,
+        above: None,
     };
     let mut streams = Streams {
         input: b"not read".as_slice(),

@@ -1,7 +1,7 @@
 //! Explanations of paths.
 
 use crate::runs::asking::{Case, EMPTY, compare_all};
-use lc_program::Terminals;
+use lc_program::{Terminals, UnreadReason};
 use lc_tree::Sketch;
 use std::test::Fail;
 
@@ -66,6 +66,31 @@ const CASES: &[Case<'static>] = &[
         words: &["explain", "absent", "a"],
         status: 1,
         out: b"fault\tread\t-\t.\n",
+        ..WORKED
+    },
+    Case {
+        name: "why_a_directory_is_not_read",
+        words: &["explain", "absent", "a"],
+        why: Some(UnreadReason::Missing),
+        status: 1,
+        out: b"fault\tread\t-\t.\n",
+        err: b"lc: cannot read absent: no such file or directory\n",
+        ..WORKED
+    },
+    Case {
+        name: "a_file_is_not_read_as_a_directory",
+        words: &["explain", "src/m.c", "a"],
+        why: Some(UnreadReason::IsFile),
+        status: 1,
+        out: b"fault\tread\t-\t.\n",
+        err: b"lc: cannot read src/m.c: not a directory\n",
+        ..WORKED
+    },
+    Case {
+        name: "a_directory_that_is_read",
+        words: &["explain", "top", "src/m.c"],
+        why: Some(UnreadReason::Missing),
+        out: b"none\t-\t-\tsrc/m.c\n",
         ..WORKED
     },
     Case {

@@ -1,7 +1,7 @@
 //! What is told beside an answer, and what a terminal changes.
 
 use crate::runs::asking::{Case, EMPTY, NO_TERMINALS, compare_all};
-use lc_program::Terminals;
+use lc_program::{Terminals, UnreadReason};
 use lc_tree::Sketch;
 use std::test::Fail;
 
@@ -42,6 +42,27 @@ const NAMED: Case<'static> = Case {
            total\t*\t*\t1\t1\t0\t6\n\
            directories\t1\n",
     err: b"lc: no attribute file names a\nlc: no attribute file names c\n",
+    ..EMPTY
+};
+
+/// Patterns that can match nothing, and others.
+const UNMATCHED: Case<'static> = Case {
+    name: "patterns_that_can_match_nothing",
+    words: &[
+        "count",
+        "--include",
+        "*.x",
+        "--include",
+        "./other.x",
+        "--exclude",
+        "[",
+        "--exclude=b",
+        "--exclude=#\x1b",
+        "other",
+    ],
+    out: TABLE,
+    err: b"lc: pattern '[' can match nothing\nlc: pattern '#\\x1b' can match nothing\n\
+           lc: pattern './other.x' can match nothing\n",
     ..EMPTY
 };
 
@@ -135,21 +156,63 @@ const TYPED_CASES: &[Case<'static>] = &[
 const CASES: &[Case<'static>] = &[
     UNTOLD,
     NAMED,
+    UNMATCHED,
+    Case {
+        name: "a_pattern_that_can_match_nothing_and_what_is_not_read",
+        words: &["explain", "--exclude", "../b", "absent", "a"],
+        why: Some(UnreadReason::Denied),
+        status: 1,
+        out: b"fault\tread\t-\t.\n",
+        err: b"lc: cannot read absent: permission denied\nlc: pattern '../b' can match nothing\n",
+        ..EMPTY
+    },
+    Case {
+        name: "a_pattern_that_can_match_nothing_and_a_hint",
+        words: &["count", "--exclude=", "other"],
+        above: Some(("..", "docs")),
+        err: b"lc: pattern '' can match nothing\n\
+               lc: rules above docs were not read; lc count --only docs .. reads them\n",
+        ..UNTOLD
+    },
     Case {
         name: "inside_of_a_repository",
-        is_repository: true,
-        err: b"lc: rules above this directory were not read; lc count --only PATH TOP counts PATH of the repository TOP by all of them\n",
+        above: Some(("../repo", "docs")),
+        err: b"lc: rules above docs were not read; lc count --only docs ../repo reads them\n",
+        ..UNTOLD
+    },
+    Case {
+        name: "a_command_that_is_quoted",
+        above: Some(("..", "it's")),
+        err: b"lc: rules above it's were not read; lc count --only 'it'\\''s' .. reads them\n",
+        ..UNTOLD
+    },
+    Case {
+        name: "a_path_that_is_escaped",
+        above: Some(("..", "a\nb")),
+        err: b"lc: rules above other were not read\n",
+        ..UNTOLD
+    },
+    Case {
+        name: "a_top_that_is_escaped",
+        above: Some(("a\\b", "docs")),
+        err: b"lc: rules above other were not read\n",
+        ..UNTOLD
+    },
+    Case {
+        name: "a_path_like_an_option",
+        above: Some(("..", "-x")),
+        err: b"lc: rules above other were not read\n",
         ..UNTOLD
     },
     Case {
         name: "without_a_terminal",
-        is_repository: true,
+        above: Some(("..", "docs")),
         terminals: NO_TERMINALS,
         ..UNTOLD
     },
     Case {
         name: "after_an_explanation",
-        is_repository: true,
+        above: Some(("..", "docs")),
         words: &["explain", "other", "a"],
         out: b"none\t-\t-\ta\n",
         ..UNTOLD

@@ -2,7 +2,7 @@
 
 ghost use Rattle.std.specs.Prelude.{◌≡◌};
 
-use lc_program::System;
+use lc_program::{Repository, System, UnreadReason};
 use lc_tree::{FileSystems, MemFile, MemTree, Node, ReadFault, Tree};
 use std::alloc::{AllocError, Global};
 
@@ -17,8 +17,10 @@ pub(super) struct MemSystem<'a> {
     pub(super) absent: &'a Node,
     /// The directory that has the files that a command line names.
     pub(super) files: &'a Node,
-    /// Whether each directory lies in a repository, below its top.
-    pub(super) is_repository: bool,
+    /// Why no directory and no file can be read.
+    pub(super) why: Option<UnreadReason>,
+    /// The repository in which each directory lies: its top, and the directory's path in it.
+    pub(super) above: Option<(&'static str, &'static str)>,
 }
 
 impl<'a> System for MemSystem<'a> {
@@ -37,7 +39,11 @@ impl<'a> System for MemSystem<'a> {
 
     ghost holds = { λ s name. mem_gives s.files.now name };
 
-    ghost lies = { λ s name answer. answer ≡ s.is_repository };
+    ghost unlists = { λ s name answer. answer ≡ s.why };
+
+    ghost unreads = { λ s name answer. answer ≡ s.why };
+
+    ghost lies = { λ s name answer. Unit {0} };
 
     /// Takes no memory.
     fn tree(
@@ -61,7 +67,18 @@ impl<'a> System for MemSystem<'a> {
         MemTree::new(self.files).open_file(alloc, name.as_bytes())
     }
 
-    fn lies_in_repository(&self, _alloc: Global, _directory: &str) -> bool {
-        self.is_repository
+    fn why_unlisted(&self, _alloc: Global, _directory: &str) -> Option<UnreadReason> {
+        self.why
+    }
+
+    fn why_unread(&self, _alloc: Global, _name: &str) -> Option<UnreadReason> {
+        self.why
+    }
+
+    fn repository_above(&self, alloc: Global, _directory: &str) -> Option<Repository> {
+        let (top, path) = self.above?;
+        let top = String::from_str(alloc, top).ok()?;
+        let path = String::from_str(alloc, path).ok()?;
+        Some(Repository { top, path })
     }
 }

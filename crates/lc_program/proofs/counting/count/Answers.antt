@@ -1,6 +1,5 @@
 use Rattle.std.proofs.Common.{inl, inr, refl}
 use Rattle.lc_program.proofs.Loading.{given_up, run_counted, run_replied}
-use Rattle.lc_program.specs.Causes.{list_cause}
 use Rattle.lc_program.specs.declared.cause.Cause.TheVariants.{Memory}
 use Rattle.lc_program.proofs.counting.count.Goals as goal
 
@@ -42,12 +41,12 @@ returns-in_err-named g c =
 
 pub returns-in_err-list : goal.returns-in_err-list
 returns-in_err-list g c =
-    let fault = c.in_err-list.field-0.0 in
+    let cause = c.in_err-list.field-0.0 in
     inr (
-      list_cause fault,
-      given_up c.from_residual-in_err-list.result (list_cause fault) c.from_residual-in_err-list.ensures.1,
+      cause,
+      given_up c.from_residual-in_err-list.result cause c.from_residual-in_err-list.ensures.1,
       refl,
-      inr (inr (fault, c.in_err-list.ensures, refl)),
+      inr (inr (cause, c.in_err-list.ensures, refl)),
     )
 
 pub returns-in_err-wanted : goal.returns-in_err-wanted

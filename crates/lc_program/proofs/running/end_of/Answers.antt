@@ -1,5 +1,6 @@
-use Rattle.std.proofs.Common.{◌∙◌, inl, refl, string_bytes, subst, sym}
+use Rattle.std.proofs.Common.{◌∙◌, ℕ, List, inl, inr, refl, string_bytes, subst, sym}
 use Rattle.lc_arguments.specs.Refusals.{IsMessage}
+use Rattle.lc_program.specs.Program.{Advises}
 use Rattle.lc_program.proofs.running.end_of.Goals as goal
 
 pub returns-in-Err : goal.returns-in-Err
@@ -16,6 +17,10 @@ returns-in-Err g c =
       },
       c.give_up-in-Err.ensures.told,
     ))
+
+pub returns-in_default : goal.returns-in_default
+returns-in_default g c =
+    rw c.give_up-in_default.ensures.ending (inr (inr (refl, refl, refl, c.give_up-in_default.ensures.told)))
 
 pub returns-in-Err-Refused : goal.returns-in-Err-Refused
 returns-in-Err-Refused g c =
@@ -45,7 +50,15 @@ returns-in-Clean g c =
         answers = c.in-Ok-answer.ensures;
       },
       sym c.outcome.ensures ∙ c.in-Clean.is,
-      c.comment.ensures,
+      (
+        c.comment.new.err,
+        c.comment.ensures,
+        subst
+            (λ (lines : List ℕ). Advises g.E.Sink.may_take (g.Y.System.lies c.args.system.now) c.args.terminals.error c.in-Ok.request lines
+            c.comment.new.err c.advise.new.err)
+            (c.deref-2.ensures ∙ c.in-Ok-unmatched_in.ensures)
+            c.advise.ensures,
+      ),
     )
 
 pub returns : goal.returns
@@ -60,5 +73,13 @@ returns g c = (
     answers = c.in-Ok-answer.ensures;
   },
   sym c.outcome.ensures ∙ c.in-SomeFaults.is,
-  c.comment.ensures,
+  (
+    c.comment.new.err,
+    c.comment.ensures,
+    subst
+        (λ (lines : List ℕ). Advises g.E.Sink.may_take (g.Y.System.lies c.args.system.now) c.args.terminals.error c.in-Ok.request lines
+        c.comment.new.err c.advise.new.err)
+        (c.deref-2.ensures ∙ c.in-Ok-unmatched_in.ensures)
+        c.advise.ensures,
+  ),
 )

@@ -1,0 +1,69 @@
+//! Why a path of the host could not be read.
+
+use lc_program::UnreadReason;
+use std::alloc::{AllocError, Global};
+use std::fs;
+use std::io::ErrorKind;
+use std::rt::Files;
+
+/// Returns the reason that the host's error stands for.
+fn reason_of(kind: ErrorKind) -> UnreadReason {
+    match kind {
+        ErrorKind::NotFound => UnreadReason::Missing,
+        ErrorKind::PermissionDenied => UnreadReason::Denied,
+        ErrorKind::NotADirectory => UnreadReason::NotDirectory,
+        ErrorKind::IsADirectory => UnreadReason::IsDirectory,
+        _ => UnreadReason::Other,
+    }
+}
+
+/// Returns the path of a directory with a slash at its end, by which a link to it is followed, as a count follows it.
+fn with_slash(alloc: Global, directory: &str) -> Result<String, AllocError> {
+    let mut path = String::from_str(alloc, directory)?;
+    path.push('/')?;
+    Ok(path)
+}
+
+/// Returns whether a path is that of a file. A link to a file is none, since a count skips links.
+fn is_file(rt: &impl Files, path: &str) -> bool {
+    match fs::symlink_metadata(rt, path) {
+        Ok(metadata) => metadata.is_file(),
+        Err(_) => false,
+    }
+}
+
+/// Returns why a directory can't be listed, by opening it.
+pub(crate) fn why_unlisted<R: Files>(
+    rt: &R,
+    alloc: Global,
+    directory: &str,
+) -> Option<UnreadReason> {
+    // With a slash the empty path, which names nothing, would be the root.
+    if directory.is_empty() {
+        return Some(UnreadReason::Missing);
+    }
+    let path = with_slash(alloc, directory).ok()?;
+    match rt.open_dir(path.as_str()) {
+        Ok(_) => None,
+        Err(_) if is_file(rt, directory) => Some(UnreadReason::IsFile),
+        Err(error) => Some(reason_of(error.kind())),
+    }
+}
+
+/// Returns why a file can't be read. A file alone is opened: to open a pipe may wait.
+pub(crate) fn why_unread<R: Files>(rt: &R, name: &str) -> Option<UnreadReason> {
+    let metadata = match fs::metadata(rt, name) {
+        Ok(metadata) => metadata,
+        Err(error) => return Some(reason_of(error.kind())),
+    };
+    if metadata.is_dir() {
+        return Some(UnreadReason::IsDirectory);
+    }
+    if !metadata.is_file() {
+        return None;
+    }
+    match fs::open(rt, name) {
+        Ok(_) => None,
+        Err(error) => Some(reason_of(error.kind())),
+    }
+}

@@ -1,5 +1,0 @@
-use Rattle.std.proofs.Common.{◌≡◌, map, take}
-use Rattle.lc_program.proofs.path_list.wanted_paths.Given as goal
-
-abbrev pub invariant-loop-path : goal.invariant-loop-path
-invariant-loop-path l = map (λ path. path.now) l.wanted.items ≡ map (λ path. path.now) (take l.path-index l.only)

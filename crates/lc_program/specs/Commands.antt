@@ -1,0 +1,33 @@
+-- The commands that lines on standard error show, which can be typed as they are shown.
+use Rattle.std.specs.Prelude.{◌&&◌, ℕ, Bool, not, cond, nat_eq, List, [], ◌∷◌, ◌++◌, Option, Some, None, bytes_eq, codes}
+use Rattle.std.specs.List.{starts_with}
+use Rattle.std.specs.Path.{path_file_name, path_parent}
+use Rattle.lc_glob.specs.Lists.{is_empty}
+use Rattle.lc_text.specs.Quoting.{quoted}
+use Rattle.lc_text.specs.Visible.{visible_bytes}
+
+-- whether a path can be typed as a terminal shows it, and is not read as an option
+abbrev pub is_typed : List ℕ → Bool
+is_typed path = not (is_empty path) && not (starts_with nat_eq path (codes "-")) && bytes_eq (visible_bytes path) path
+
+-- the count of one path of a directory, by the rules of all of the directory
+abbrev pub count_of : List ℕ → List ℕ → List ℕ
+count_of path directory = codes "lc count --only " ++ quoted path ++ codes " " ++ quoted directory
+
+-- the directory that a program runs in is a dot
+abbrev pub or_here : List ℕ → List ℕ
+or_here [] = codes "."
+or_here (b ∷ bs) = b ∷ bs
+
+-- the count of a file with this name in this directory, where it can be typed
+abbrev pub count_of_file : List ℕ → List ℕ → List ℕ
+count_of_file name directory =
+    cond (is_typed name && is_typed directory) (codes ": " ++ count_of name directory ++ codes " counts one file") []
+
+abbrev pub file_count_in : Option (List ℕ) → Option (List ℕ) → List ℕ
+file_count_in (Some name) (Some directory) = count_of_file name (or_here directory)
+file_count_in name directory = []
+
+-- the count of the file at a path
+abbrev pub file_count : List ℕ → List ℕ
+file_count path = file_count_in (path_file_name path) (path_parent path)

@@ -1,0 +1,37 @@
+-- Why a path could not be read, as lines on standard error say it.
+use Rattle.std.specs.Prelude.{ℕ, List, [], ◌++◌, Option, Some, None, codes}
+use Rattle.lc_text.specs.Visible.{visible_bytes}
+use Rattle.lc_program.specs.Commands.{file_count}
+use Rattle.lc_program.specs.declared.unread_reason.UnreadReason.{UnreadReason}
+use Rattle.lc_program.specs.declared.unread_reason.UnreadReason.TheVariants.{Missing, Denied, IsDirectory, IsFile, NotDirectory, Other}
+
+-- a reason after the name
+abbrev pub reason_text : UnreadReason → List ℕ
+reason_text Missing = codes ": no such file or directory"
+reason_text Denied = codes ": permission denied"
+reason_text IsDirectory = codes ": is a directory"
+reason_text IsFile = codes ": not a directory"
+reason_text NotDirectory = codes ": not a directory"
+reason_text Other = []
+
+-- nothing where the system gives no reason
+abbrev pub reason_given : Option UnreadReason → List ℕ
+reason_given None = []
+reason_given (Some why) = reason_text why
+
+-- this path could not be read, for this reason
+abbrev pub unread_for : List ℕ → Option UnreadReason → List ℕ
+unread_for path why = codes "lc: cannot read " ++ visible_bytes path ++ reason_given why
+
+-- the directory of an explanation could not be read
+abbrev pub unexplained_line : List ℕ → Option UnreadReason → List ℕ
+unexplained_line directory why = unread_for directory why ++ codes "\n"
+
+-- what a count of this file would be, where a file is given in place of a directory
+abbrev pub count_instead : List ℕ → Option UnreadReason → List ℕ
+count_instead path (Some IsFile) = file_count path
+count_instead path why = []
+
+-- the directory of a count could not be read
+abbrev pub uncounted_line : List ℕ → Option UnreadReason → List ℕ
+uncounted_line directory why = unread_for directory why ++ count_instead directory why ++ codes "\n"

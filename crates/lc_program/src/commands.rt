@@ -1,0 +1,61 @@
+//! The commands that lines on standard error show.
+
+ghost use Rattle.std.specs.Prelude.{◌≡◌, ◌++◌, string_bytes, IfOk, OnOk};
+ghost use Rattle.lc_program.specs.Commands.{count_of, count_of_file, file_count, is_typed, or_here};
+
+use lc_text::{push_quoted, push_visible};
+use std::alloc::{AllocError, Global};
+use std::path::Path;
+
+/// Returns whether a path can be typed as a terminal shows it, and is not read as an option.
+pub(crate) fn is_typed(alloc: Global, path: &str) -> Result<bool, AllocError>
+    ensures { IfOk result (λ typed. typed ≡ is_typed path.now) }
+{
+    if path.is_empty() || path.as_bytes().starts_with(b"-") {
+        return Ok(false);
+    }
+    let mut shown = String::new(alloc);
+    push_visible(&mut shown, path.as_bytes())?;
+    Ok(shown.as_bytes() == path.as_bytes())
+}
+
+/// Appends the count of one path of a directory, by the rules of all of the directory.
+pub(crate) fn push_count(text: &mut String, path: &str, directory: &str) -> Result<(), AllocError>
+    ensures { OnOk result (string_bytes text.new ≡ string_bytes text.old ++ count_of path.now directory.now) }
+{
+    text.push_str("lc count --only ")?;
+    push_quoted(text, path)?;
+    text.push_str(" ")?;
+    push_quoted(text, directory)
+}
+
+/// Returns a directory, or a dot for the one that the program runs in.
+fn or_here(directory: &str) -> &str
+    ensures { result.now ≡ or_here directory.now }
+{
+    if directory.is_empty() { "." } else { directory }
+}
+
+/// Makes the count of a file with this name in this directory. It is empty where that can't be typed.
+fn count_of_file(alloc: Global, name: &str, directory: &str) -> Result<String, AllocError>
+    ensures { IfOk result (λ text. string_bytes text ≡ count_of_file name.now directory.now) }
+{
+    let mut text = String::new(alloc);
+    if is_typed(alloc, name)? && is_typed(alloc, directory)? {
+        text.push_str(": ")?;
+        push_count(&mut text, name, directory)?;
+        text.push_str(" counts one file")?;
+    }
+    Ok(text)
+}
+
+/// Makes the count of the file at a path, as it follows why the path can't be read as a directory. It is empty where that can't be typed.
+pub(crate) fn file_count(alloc: Global, path: &str) -> Result<String, AllocError>
+    ensures { IfOk result (λ text. string_bytes text ≡ file_count path.now) }
+{
+    let path = Path::new(path);
+    match (path.file_name(), path.parent()) {
+        (Some(name), Some(directory)) => count_of_file(alloc, name, or_here(directory.as_str())),
+        _ => Ok(String::new(alloc)),
+    }
+}

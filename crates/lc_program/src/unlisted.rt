@@ -1,0 +1,88 @@
+//! The lines on standard error about a directory that could not be read, and why.
+
+ghost use Rattle.std.specs.Prelude.{◌≡◌, string_bytes, IfOk};
+ghost use Rattle.lc_program.specs.Reasons.{count_instead, reason_given, uncounted_line, unexplained_line};
+ghost use Rattle.lc_program.specs.Unlisted.{TellsUnlisted, TellsWhy};
+
+use crate::commands::file_count;
+use crate::system::System;
+use crate::unread_reason::UnreadReason;
+use lc_text::{Sink, print, push_visible};
+use std::alloc::{AllocError, Global};
+
+fn reason_given(why: Option<UnreadReason>) -> &'static str
+    ensures { result.now ≡ reason_given why }
+{
+    match why {
+        None => "",
+        Some(why) => why.text(),
+    }
+}
+
+/// Makes the count of a file that is given in place of a directory, as it follows the reason. It is empty for any other reason.
+fn count_instead(alloc: Global, path: &str, why: Option<UnreadReason>) -> Result<String, AllocError>
+    ensures { IfOk result (λ text. string_bytes text ≡ count_instead path.now why) }
+{
+    match why {
+        Some(UnreadReason::IsFile) => file_count(alloc, path),
+        _ => Ok(String::new(alloc)),
+    }
+}
+
+/// Makes the line about the directory of a count that could not be read.
+pub(crate) fn uncounted_line(
+    alloc: Global,
+    directory: &str,
+    why: Option<UnreadReason>,
+) -> Result<String, AllocError>
+    ensures { IfOk result (λ text. string_bytes text ≡ uncounted_line directory.now why) }
+{
+    let instead = count_instead(alloc, directory, why)?;
+    let mut text = String::from_str(alloc, "lc: cannot read ")?;
+    push_visible(&mut text, directory.as_bytes())?;
+    text.push_str(reason_given(why))?;
+    text.push_str(&instead)?;
+    text.push_str("\n")?;
+    Ok(text)
+}
+
+/// Makes the line about the directory of an explanation that could not be read.
+fn unexplained_line(
+    alloc: Global,
+    directory: &str,
+    why: Option<UnreadReason>,
+) -> Result<String, AllocError>
+    ensures { IfOk result (λ text. string_bytes text ≡ unexplained_line directory.now why) }
+{
+    let mut text = String::from_str(alloc, "lc: cannot read ")?;
+    push_visible(&mut text, directory.as_bytes())?;
+    text.push_str(reason_given(why))?;
+    text.push_str("\n")?;
+    Ok(text)
+}
+
+fn tell_why<E: Sink>(alloc: Global, directory: &str, why: Option<UnreadReason>, err: &mut E)
+    ensures { TellsWhy E.may_take directory.now why err.old err.new }
+{
+    let Some(_reason) = why else {
+        return;
+    };
+    // The answer says it too, so a line that can't be written changes nothing.
+    let _ = match unexplained_line(alloc, directory, why) {
+        Ok(text) => print(err, text.as_bytes()),
+        Err(AllocError) => print(err, b"lc: some paths could not be read\n"),
+    };
+}
+
+/// Tells why the directory of an explanation could not be read, if the system says that it could not be.
+pub(crate) fn tell_unlisted<Y: System, E: Sink>(
+    alloc: Global,
+    system: &Y,
+    directory: &str,
+    err: &mut E,
+)
+    ensures { TellsUnlisted E.may_take (Y.unlists system.now) directory.now err.old err.new }
+{
+    let why = system.why_unlisted(alloc, directory);
+    tell_why(alloc, directory, why, err);
+}

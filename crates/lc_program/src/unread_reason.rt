@@ -1,0 +1,36 @@
+//! Why a directory or a file could not be read.
+
+ghost use Rattle.std.specs.Prelude.{◌≡◌};
+ghost use Rattle.lc_program.specs.Reasons.{reason_text};
+
+/// Why a directory or a file could not be read.
+#[derive(Clone, Copy)]
+pub enum UnreadReason {
+    /// Nothing has this name.
+    Missing,
+    /// The system does not permit it.
+    Denied,
+    /// It is a directory, where a file is wanted.
+    IsDirectory,
+    /// It is a file, where a directory is wanted.
+    IsFile,
+    /// It is neither a directory nor a file, or what its path goes through is no directory.
+    NotDirectory,
+    /// The program has no words for the reason.
+    Other,
+}
+
+impl UnreadReason {
+    /// Returns the reason as it follows the name.
+    pub(crate) fn text(self) -> &'static str
+        ensures { result.now ≡ reason_text self }
+    {
+        match self {
+            UnreadReason::Missing => ": no such file or directory",
+            UnreadReason::Denied => ": permission denied",
+            UnreadReason::IsDirectory => ": is a directory",
+            UnreadReason::IsFile | UnreadReason::NotDirectory => ": not a directory",
+            UnreadReason::Other => "",
+        }
+    }
+}
