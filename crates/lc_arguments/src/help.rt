@@ -294,7 +294,8 @@ pub(crate) const FORMAT: OptionHelp = OptionHelp {
 a terminal; tsv separates fields by tabs and is the default
 elsewhere; json is for programs; csv has one kind of record and no
 totals, for databases and spreadsheets; markdown is for a page on
-GitHub; html is a page for a browser that draws each directory",
+GitHub; html is a page for a browser with a box for each directory
+that has a thousandth of the lines or more",
 };
 
 pub(crate) const BY: OptionHelp = OptionHelp {
