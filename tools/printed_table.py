@@ -1,6 +1,7 @@
 """What docs/OUTPUT.md says of a table that `lc count --files` printed, and of what standard error then has."""
 
 WORDS = {b"read", b"name", b"twice", b"many", b"long", b"endless"}
+REASONS = [b"", b": no such file or directory", b": permission denied"]
 
 
 def rows_of(text):
@@ -11,8 +12,20 @@ def sums(rows, columns):
     return [sum(int(row[column]) for row in rows) for column in columns]
 
 
+def lines_about(directory):
+    """The lines on standard error about a directory of this name that can't be read."""
+    return [b"lc: cannot read " + directory + reason + b"\n" for reason in REASONS]
+
+
+def may_tell(err, text, directory):
+    """Whether standard error may have this after this table of the directory of this name."""
+    told = told_by(text, directory)
+    return err == told or told == lines_about(directory)[0] and err in lines_about(directory)
+
+
 def told_by(text, directory):
-    """What standard error has after this table of the directory of this name, which holds nothing that is escaped."""
+    """What standard error has after this table of the directory of this name, which holds nothing that is escaped. If the directory could
+    not be read, but can be read when the reason is asked for, the line has no reason."""
     faults = [row for row in rows_of(text) if row[0] == b"fault"]
     if not faults:
         return b""

@@ -373,6 +373,12 @@ class Tree:
         return (b"other", b"-") if is_other else None, rule
 
 
+def undotted(line):
+    """A line without `./` at its beginning, as often as it is there; `.` if nothing else is left."""
+    rest = re.sub(rb"^(?:\./+)+", b"", line)
+    return rest or line[:1]
+
+
 class Explained(Tree):
     """What `lc explain` says of paths."""
 
@@ -387,13 +393,16 @@ class Explained(Tree):
 
     def line(self, line):
         """What is printed of a line of paths."""
-        path = line[:-1] if line.endswith(b"/") else line
+        asked = undotted(line)
+        path = asked[:-1] if asked.endswith(b"/") else asked
         names = path.split(b"/")
-        if len(path) > 4096 or b"\0" in path or any(it in (b"", b".", b"..") for it in names):
+        if path == b".":
+            found = [b"none", b"-", b"-"]
+        elif len(path) > 4096 or b"\0" in path or any(it in (b"", b".", b"..") for it in names):
             found = [b"bad", b"-", b"-"]
         else:
             try:
-                found = self.found(names, line.endswith(b"/"))
+                found = self.found(names, asked.endswith(b"/"))
             except Fault as fault:
                 return b"\t".join([b"fault", b"read", b"-", escaped(fault.args[0])]) + b"\n"
         return b"\t".join([*found, escaped(line)]) + b"\n"
