@@ -27,7 +27,7 @@ test: rt
 	@echo "make: proves every crate from nothing, tries the mutants and runs the tests: an hour on 4 cores"
 	RT_JOBS=$${RT_JOBS:-$$(tools/build --cores)} rt ci
 
-# each allocation of the tests fails in turn; every public call that takes memory has a test
+# up to 400 allocations of each test fail in turn; every public call that takes memory has a test
 test-memory: rt
 	tools/refused-calls
 	tools/test-memory
