@@ -6,7 +6,7 @@ use std::fs;
 use std::io::ErrorKind;
 use std::rt::Files;
 
-/// Returns the reason that the host's error stands for.
+/// Returns the reason that an error of the host gives.
 fn reason_of(kind: ErrorKind) -> UnreadReason {
     match kind {
         ErrorKind::NotFound => UnreadReason::Missing,

@@ -67,7 +67,7 @@ fn is_top_unread(faults: &[FaultLine]) -> bool
     faults.iter().any(|fault| fault.path.is_empty())
 }
 
-/// Makes the lines by which a count in a format tells of paths below its directory.
+/// Makes the lines about the paths below the counted directory that could not be read.
 fn lines_by(alloc: Global, format: Format, faults: &[FaultLine]) -> Result<String, AllocError>
     ensures { IfOk result (λ text. string_bytes text ≡ lines_by format faults.now) }
 {

@@ -71,7 +71,7 @@ fn writer_of(alloc: Global, text: &[u8]) -> Result<Narrow, AllocError> {
     Narrow::new(alloc, 4_096, text.len().saturating_add(64), WhenFull::Fails)
 }
 
-/// Whether this is told where memory is refused, in place of some of what is wanted or after it.
+/// Returns whether standard error shows that an allocation failed: a part of what is wanted is missing, or another line is in its place.
 fn is_refusal(told: &[u8], wanted: &[u8]) -> bool {
     told.ends_with(b"lc: out of memory\n")
         // Lines about patterns may follow it.
