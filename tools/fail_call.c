@@ -2,21 +2,7 @@
    FAILING_ERRNO, and where FAILING_ON is set all later ones too; a write with no error takes nothing. With SHORT set, reads and writes
    take a byte at most. The file that COUNT_FILE names then has how often each function was called, as longs in the order of `names`, and
    the path of the first call that failed, ended by a NUL. For tools/test-faults. */
-#define _GNU_SOURCE
-#include <dirent.h>
-#include <dlfcn.h>
-#include <errno.h>
-#include <fcntl.h>
-#include <pthread.h>
-#include <stdarg.h>
-#include <stdatomic.h>
-#include <stdio.h>
-#include <stdlib.h>
-#include <string.h>
-#include <sys/mman.h>
-#include <sys/stat.h>
-#include <sys/types.h>
-#include <unistd.h>
+#include "libc.h"
 
 enum { OPEN, OPENAT, GETDENTS, STATX, READ, WRITE, CLOSE, ISATTY, PTHREAD_CREATE, ALLOCATION, FUNCTIONS };
 static const char *names[FUNCTIONS] = {"open",  "openat", "getdents64", "statx",          "read",

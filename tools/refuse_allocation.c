@@ -1,13 +1,6 @@
 /* Loaded before a program: makes the allocation whose number REFUSED_ALLOCATION gives fail, the first being 1, and keeps their
    number in the file that COUNT_FILE names, as a long. For tools/test-memory. */
-#define _GNU_SOURCE
-#include <dlfcn.h>
-#include <errno.h>
-#include <fcntl.h>
-#include <stdatomic.h>
-#include <stdlib.h>
-#include <sys/mman.h>
-#include <unistd.h>
+#include "libc.h"
 
 static void *(*real_malloc)(size_t);
 static void *(*real_realloc)(void *, size_t);
