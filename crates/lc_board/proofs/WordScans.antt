@@ -9,7 +9,7 @@ use Rattle.lc_board.specs.State.{Status, Absent, Open, status}
 use Rattle.lc_board.specs.LegalHistory.{IsLegal}
 use Rattle.lc_board.specs.Holding.{holding}
 use Rattle.lc_board.specs.Growth.{GoesOn, rank}
-use Rattle.lc_board.specs.WordSteps.{EndsAt, IsFair, AddsEvent, ExtendsFairly, Extends}
+use Rattle.lc_board.specs.WordSteps.{IsFair, AddsEvent, ExtendsFairly, Extends}
 use Rattle.lc_board.specs.WordSteps.{OthersHeld, Waits, SomeHolds, Finds, HasLooked, low_after}
 use Rattle.lc_board.specs.WordSteps.{is_last_word, last_look, larger}
 use Rattle.lc_board.specs.WordCode.{is_absent, is_open, has_ended, is_busy}
@@ -22,7 +22,7 @@ use Rattle.lc_board.specs.declared.event.Event.TheVariants.{Post, Claim, Over}
 use Rattle.lc_board.specs.declared.words.coding.Word.{Word}
 use Rattle.lc_board.specs.declared.words.coding.Word.TheVariants as word
 use Rattle.lc_board.specs.declared.words.view.View.{View}
-use Rattle.lc_board.proofs.Growths.{rank_from, whole, goes_trans, rank_zero, legal_before}
+use Rattle.lc_board.proofs.Growths.{rank_from, whole, goes_trans, rank_zero}
 use Rattle.lc_board.proofs.WordCodes.{absent_is, open_is}
 use Rattle.lc_board.proofs.WordMarks.{stays_taken}
 
