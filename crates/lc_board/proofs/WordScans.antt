@@ -3,28 +3,26 @@ use Rattle.std.proofs.Common.{◌≡◌, ◌≢◌, ℕ, ◌+◌, ◌<◌, ◌�
 use Rattle.std.proofs.Common.{⊎_elim, Option, Some, None, arith}
 use mathlib.Core.Logic.{dite}
 use native.Mathlib.Decide.{ℕ_discrete, dec_le}
-use Rattle.std.specs.Prelude.{MatchBool, IfSome, IfNone, Result, Ok, Err}
+use Rattle.std.specs.Prelude.{MatchBool, IfSome, Result, Ok, Err, cond}
 use Rattle.std.proofs.lemmas.Bool.Decides.{nat_tests}
 use Rattle.lc_board.specs.State.{Status, Absent, Open, status}
 use Rattle.lc_board.specs.LegalHistory.{IsLegal}
 use Rattle.lc_board.specs.Holding.{holding}
 use Rattle.lc_board.specs.Growth.{GoesOn, rank}
-use Rattle.lc_board.specs.WordSteps.{EndsAt, IsFair, AddsEvent, ExtendsFairly, Extends}
+use Rattle.lc_board.specs.WordSteps.{IsFair, AddsEvent, ExtendsFairly, Extends}
 use Rattle.lc_board.specs.WordSteps.{OthersHeld, Waits, SomeHolds, Finds, HasLooked, low_after}
-use Rattle.lc_board.specs.WordSteps.{is_last_word, last_look}
+use Rattle.lc_board.specs.WordSteps.{is_last_word, last_look, larger}
 use Rattle.lc_board.specs.WordCode.{is_absent, is_open, has_ended, is_busy}
-use Rattle.lc_board.specs.WordMarks.{AnswersLow, HasPassed}
-use Rattle.lc_board.specs.WordsBoard.{AnswersWordsClaim, IsSamePass, TriesClaim, known}
+use Rattle.lc_board.specs.WordPass.{AreTaken}
+use Rattle.lc_board.specs.WordsBoard.{IsSamePass, TriesClaim, known}
 use Rattle.lc_board.specs.declared.words.Words.{Words}
 use Rattle.lc_board.specs.declared.words.pass.WordsPass.{WordsPass}
-use Rattle.lc_board.specs.declared.answers.Claim.{Claim as Answer}
-use Rattle.lc_board.specs.declared.answers.Claim.TheVariants as answer
 use Rattle.lc_board.specs.declared.event.Event.{Event}
 use Rattle.lc_board.specs.declared.event.Event.TheVariants.{Post, Claim, Over}
 use Rattle.lc_board.specs.declared.words.coding.Word.{Word}
 use Rattle.lc_board.specs.declared.words.coding.Word.TheVariants as word
 use Rattle.lc_board.specs.declared.words.view.View.{View}
-use Rattle.lc_board.proofs.Growths.{rank_from, whole, goes_trans, rank_zero, legal_before}
+use Rattle.lc_board.proofs.Growths.{rank_from, whole, goes_trans, rank_zero}
 use Rattle.lc_board.proofs.WordCodes.{absent_is, open_is}
 use Rattle.lc_board.proofs.WordMarks.{stays_taken}
 
@@ -41,19 +39,17 @@ last_yes cap i low x e h = grind (arith, nat_tests)
 low_open : (cap i low : ℕ) → low_after cap i low word.Open ≡ low
 low_open cap i low = grind (arith, nat_tests)
 
+low_still : (cap i low : ℕ) (x : Word) → has_ended x ≡ false → low_after cap i low x ≡ low
+low_still cap i low x h = grind (arith, nat_tests)
+
+low_above : (cap i low : ℕ) (x : Word) → low < i → low_after cap i low x ≡ low
+low_above cap i low x h = grind (arith, nat_tests)
+
 low_next : (cap i low : ℕ) (x : Word) → low ≡ i → has_ended x ≡ true → i + 1 < cap → low_after cap i low x ≡ i + 1
 low_next cap i low x e ends more = grind (arith, nat_tests)
 
--- a look that is not at the last word is not the last look
-pub not_last : (cap i low : ℕ) (x : Word) → (low ≡ i → is_last_word cap i x ≡ false) → last_look cap i low x ≡ false
-not_last cap i low x other = dite (ℕ_discrete low i) (λ e. last_not cap i low x (other e)) (λ ne. last_no cap i low x ne)
-
 absent_last : (cap i : ℕ) (x : Word) → is_last_word cap i x ≡ false → is_absent x ≡ false
 absent_last cap i x h = grind (arith, nat_tests)
-
--- an absent word is the last
-pub absent_is_last : (cap i : ℕ) (x : Word) → is_absent x ≡ true → is_last_word cap i x ≡ false → ⊥
-absent_is_last cap i x a b = let c = absent_last cap i x b in let d = sym a ∙ c in absurd cc
 
 ended_last : (cap i : ℕ) (x : Word) → is_last_word cap i x ≡ false → has_ended x ≡ true → i < cap → i + 1 < cap
 ended_last cap i x h e l = grind (arith, nat_tests)
@@ -75,25 +71,22 @@ ended_else word.Faulted a b c = refl
 ended_else (word.Drawn w) a b c = absurd cc
 ended_else (word.Claimed w) a b c = absurd cc
 
-or_left : (a b : Bool) → (a || b) ≡ true → b ≡ false → a ≡ true
-or_left true b e n = refl
-or_left false true e n = absurd cc
-or_left false false e n = absurd cc
+busy_goes_on : (x : Word) → is_busy x ≡ true → has_ended x ≡ false
+busy_goes_on word.Absent e = absurd cc
+busy_goes_on word.Open e = absurd cc
+busy_goes_on word.Returned e = absurd cc
+busy_goes_on word.Faulted e = absurd cc
+busy_goes_on (word.Drawn w) e = refl
+busy_goes_on (word.Claimed w) e = refl
+
+below_larger : (a b k : ℕ) → k < larger a b → (k < a) ⊎ (k < b)
+below_larger a b k h = grind (arith, nat_tests)
+
+left_larger : (a b k : ℕ) → k < a → k < larger a b
+left_larger a b k h = grind (arith, nat_tests)
 
 rank_two : (m : Status) → 2 ≤ rank m → m ≢ Open
 rank_two m h e = let x = ap rank e in omega arith
-
--- what an answer says where it is Later for who met somebody busy, and else none
-pub some_later : {J : Type 0} (b : Bool) (x : Option (Answer J)) (P : Answer J → Type 0)
-    → MatchBool b (x ≡ Some answer.Later) (x ≡ None) → (b ≡ true → P answer.Later) → IfSome x P
-some_later true x P e y = subst (λ z. IfSome z P) (sym e) (y refl)
-some_later false x P e y = subst (λ z. IfSome z P) (sym e) tt
-
--- a claim that goes on has no answer yet
-pub none_later : {J : Type 0} (b : Bool) (x : Option (Answer J)) (P : Type 0) → MatchBool b (x ≡ Some answer.Later) (x ≡ None) → P
-    → IfNone x P
-none_later true x P e y = subst (λ z. IfNone z P) (sym e) tt
-none_later false x P e y = subst (λ z. IfNone z P) (sym e) y
 
 module _ {J R : Type 0} where
   -- seeing more before an event adds it all the same
@@ -116,14 +109,17 @@ module _ {J R : Type 0} where
   pub sees_self : (v : View J R) → Extends v v
   sees_self v = (whole v.seen, refl)
 
-  -- what a claim that has gone up to i knows, where v is the view at the start
-  pub record IsScan (cap start i : ℕ) (busy : Bool) (v w : View J R) : Type 0 where
-    pub sees : Extends v w
-    pub fair : start < i → IsFair cap w
-    pub below : (k : ℕ) → k < start → 2 ≤ rank (status w.seen k)
-    pub past : (k : ℕ) → start ≤ k → k < i → (status v.seen k ≡ Absent) ⊎ (2 ≤ rank (status w.seen k))
-    pub others : busy ≡ true → OthersHeld v w × (start < i)
-    pub far : start < i → (k : ℕ) → cap ≤ k → status v.seen k ≡ Absent
+  -- what a claim that has met somebody busy knows before it visits i, where v is the view at its start
+  pub record HasMet (cap i : ℕ) (v w : View J R) : Type 0 where
+    pub fair : IsFair cap w
+    pub far : (k : ℕ) → cap ≤ k → status v.seen k ≡ Absent
+    pub past : (k : ℕ) → k < i → (status v.seen k ≡ Absent) ⊎ (2 ≤ rank (status w.seen k))
+    pub others : OthersHeld v w
+    pub above : w.low < i
+
+  -- what a claim knows before it visits i: until it meets somebody busy, it goes up with the low mark
+  abbrev pub IsScan : ℕ → ℕ → Bool → View J R → View J R → Type 0
+  IsScan cap i busy v w = Extends v w × MatchBool busy (HasMet cap i v w) (w.low ≡ i)
 
   looks_of : (cap i : ℕ) (x : Word) (v w : View J R) → HasLooked cap i x v w → last_look cap i v.low x ≡ false → ExtendsFairly cap v w
   looks_of cap i x v w m is = subst (λ b. MatchBool b (AddsEvent cap v (Over v.worker) w) (ExtendsFairly cap v w)) is m.7
@@ -145,67 +141,29 @@ module _ {J R : Type 0} where
   others_on : (cap : ℕ) (v u w : View J R) → OthersHeld v u → GoesOn w.seen u.seen → w.worker ≡ u.worker → OthersHeld v w
   others_on cap v u w o s e = (o.0, o.1, o.2, o.3, goes_trans w.seen u.seen o.0 s o.4, (λ x. o.5 (x ∙ e)), o.6)
 
-  -- a claim begins at a mark below which all is taken
-  pub scan_begin : (cap i : ℕ) (v : View J R) → ((k : ℕ) → k < i → 2 ≤ rank (status v.seen k)) → IsScan cap i i false v v
-  scan_begin cap i v used = record {
-    sees = sees_self v;
-    fair = λ l. absurd (omega arith);
-    below = used;
-    past = λ k a b. absurd (omega arith);
-    others = λ x. absurd cc;
-    far = λ l. absurd (omega arith);
+  -- what was met stays so over a look at the next number
+  met_kept : (cap i : ℕ) (x : Word) (v u w : View J R) → HasMet cap i v u → HasLooked cap i x u w → ExtendsFairly cap u w → HasMet cap i v w
+  met_kept cap i x v u w met m l = record {
+    fair = l.2;
+    far = met.far;
+    past = λ k a. passed cap v u w k l (met.past k a);
+    others = others_on cap v u w met.others l.0 m.0.3;
+    above = let a = met.above in let low = m.3 ∙ low_above cap i u.low x a in omega arith;
   }
 
-  -- it is over
-  pub scan_over : (cap start i : ℕ) (x : Word) (busy : Bool) (v u w : View J R) → u.worker ≡ v.worker → IsScan cap start i busy v u
-      → u.low ≡ i → HasLooked cap i x u w → is_last_word cap i x ≡ true → AddsEvent cap v (Over v.worker) w
-  scan_over cap start i x busy v u w who s low m last =
-      subst (λ z. AddsEvent cap v (Over z) w) who (sees_adds cap v u w (Over u.worker) s.sees
-      (over_of cap i x u w m (last_yes cap i u.low x low last)))
+  -- a look at a number above the low mark is not the last
+  above_looks : (cap i : ℕ) (x : Word) (v u w : View J R) → HasMet cap i v u → HasLooked cap i x u w → ExtendsFairly cap u w
+  above_looks cap i x v u w met m = looks_of cap i x u w m (last_no cap i u.low x (λ e. let a = met.above in absurd (omega arith)))
 
-  -- all that had been seen posted is passed, where the rest is absent
-  all_passed : (cap start i : ℕ) (v w : View J R) → Extends v w → ((k : ℕ) → k < start → 2 ≤ rank (status w.seen k))
-      → ((k : ℕ) → start ≤ k → k < i → (status v.seen k ≡ Absent) ⊎ (2 ≤ rank (status w.seen k)))
-      → ((k : ℕ) → i ≤ k → k < cap → status v.seen k ≡ Absent) → HasPassed cap v w
-  all_passed cap start i v w sees below past rest = (
-    sees,
-    λ k near there. dite (dec_le i k) (λ far. absurd (there (rest k far near)))
-        (λ low. dite (dec_le start k) (λ a. ⊎_elim (λ (e : status v.seen k ≡ Absent). absurd (there e))
-        (λ (e : 2 ≤ rank (status w.seen k)). e) (past k a (omega arith)))
-        (λ b. below k (omega arith))),
+  -- what has been visited answers Later where no number after it had been seen posted
+  waits : (cap i : ℕ) (v w : View J R) → Extends v w → HasMet cap i v w → ((k : ℕ) → i ≤ k → status v.seen k ≡ Absent) → Waits cap v w
+  waits cap i v w s met rest = (
+    (s.0, s.1, met.fair),
+    (λ k there. dite (dec_le i k) (λ x. absurd (there (rest k x)))
+        (λ x. ⊎_elim (λ (e : status v.seen k ≡ Absent). absurd (there e))
+        (λ (e : 2 ≤ rank (status w.seen k)). rank_two (status w.seen k) e) (met.past k (omega arith)))),
+    met.others,
   )
-
-  waits : (cap : ℕ) (v w : View J R) → HasPassed cap v w → IsFair cap w → ((k : ℕ) → cap ≤ k → status v.seen k ≡ Absent)
-      → OthersHeld v w → Waits cap v w
-  waits cap v w p f far o = (
-    (p.0.0, p.0.1, f),
-    (λ k there. dite (dec_le cap k) (λ x. absurd (there (far k x))) (λ x. rank_two (status w.seen k) (p.1 k (omega arith) there))),
-    o,
-  )
-
-  -- one more look, by which nothing was claimed and nothing is over
-  scan_moved : (cap start i : ℕ) (x : Word) (busy : Bool) (v u w : View J R) → IsScan cap start i busy v u → HasLooked cap i x u w
-      → ExtendsFairly cap u w → Extends v w × ((k : ℕ) → k < start → 2 ≤ rank (status w.seen k))
-      × ((k : ℕ) → start ≤ k → k < i → (status v.seen k ≡ Absent) ⊎ (2 ≤ rank (status w.seen k)))
-      × ((k : ℕ) → cap ≤ k → status v.seen k ≡ Absent)
-  scan_moved cap start i x busy v u w s m l = let sees = sees_trans v u w s.sees (l.0, l.1) in (
-    sees,
-    (λ k a. stays_taken cap u w k l.0 l.2 (s.below k a)),
-    (λ k a b. passed cap v u w k l (s.past k a b)),
-    (λ k f. was_absent cap w.workers v w k l.2.0 sees.0 (m.5 k f)),
-  )
-
-  -- this word is absent
-  scan_absent : (cap start i : ℕ) (busy : Bool) (v u w : View J R) → IsScan cap start i busy v u → HasLooked cap i word.Absent u w
-      → u.low ≢ i → HasPassed cap v w × IsFair cap w × ((k : ℕ) → cap ≤ k → status v.seen k ≡ Absent) × (busy ≡ true → OthersHeld v w)
-  scan_absent cap start i busy v u w s m low = let l = looks_of cap i word.Absent u w m (last_no cap i u.low word.Absent low) in
-      let t = scan_moved cap start i word.Absent busy v u w s m l in
-      let sees = t.0 in (
-        all_passed cap start i v w sees t.1 t.2 (λ k far near. was_absent cap w.workers v w k l.2.0 sees.0 (m.6 k far)),
-        l.2,
-        t.3,
-        (λ on. others_on cap v u w (s.others on).0 l.0 m.0.3),
-      )
 
   -- a number that was found neither absent nor open is drawn, claimed or ended
   found_passed : (i : ℕ) (x : Word) (w : View J R) → Finds i x w → is_absent x ≡ false → is_open x ≡ false
@@ -229,111 +187,121 @@ module _ {J R : Type 0} where
   others_held : (v w : View J R) → Extends v w → holding v.mine ≡ None → SomeHolds w → OthersHeld v w
   others_held v w sees free o = (w.seen, o.0, o.1, sees.0, whole w.seen, o.3 (ap holding sees.1 ∙ free), o.2)
 
-  -- the next word
-  pub scan_next : (cap start i : ℕ) (x : Word) (busy busy' : Bool) (v u w : View J R) → start ≤ i → IsScan cap start i busy v u
-      → HasLooked cap i x u w → last_look cap i u.low x ≡ false → holding v.mine ≡ None
-      → is_absent x ≡ false → is_open x ≡ false → busy' ≡ (busy || is_busy x) → IsScan cap start (i + 1) busy' v w
-  scan_next cap start i x busy busy' v u w from s m goes free some_word not_open both =
-      let l = looks_of cap i x u w m goes in let t = scan_moved cap start i x busy v u w s m l in let sees = t.0 in record {
-        sees = sees;
-        fair = λ _. l.2;
-        below = t.1;
-        past = λ k a b. dite (ℕ_discrete k i)
-            (λ is. subst (λ z. (status v.seen z ≡ Absent) ⊎ (2 ≤ rank (status w.seen z))) (sym is)
-            (⊎_elim (λ (e : status w.seen i ≡ Absent). inl (was_absent cap w.workers v w i l.2.0 sees.0 e))
-            (λ (e : 2 ≤ rank (status w.seen i)). inr e) (found_passed i x w m.6 some_word not_open)))
-            (λ ne. t.2 k a (omega arith));
-        others = λ on. (
-          elim (is_busy x) as (λ b. is_busy x ≡ b → OthersHeld v w) [
-            | true ↦ (λ e. others_held v w sees free (found_busy i x w m.6 e))
-            | false ↦
-                (λ e. others_on cap v u w (s.others (or_left busy (is_busy x) (sym both ∙ on) e)).0 l.0 m.0.3)
-          ] refl,
-          omega arith,
-        );
-        far = λ _. t.3;
-      }
-
-  -- an absent word ends a claim that found another's with Later
-  pub later_absent : (cap start i : ℕ) (x : Word) (busy : Bool) (v u w : View J R) → IsScan cap start i busy v u → HasLooked cap i x u w
-      → is_absent x ≡ true → u.low ≢ i → busy ≡ true → Waits cap v w
-  later_absent cap start i x busy v u w s m is low on = let a = scan_absent cap start i busy v u w s
-      (subst (λ z. HasLooked cap i z u w) (absent_is x is) m) low in waits cap v w a.0 a.1 a.2 (a.3 on)
-
-  -- or it has passed all there are
-  pub passed_absent : (cap start i : ℕ) (x : Word) (busy : Bool) (v u w : View J R) → IsScan cap start i busy v u → HasLooked cap i x u w
-      → is_absent x ≡ true → u.low ≢ i → HasPassed cap v w
-  passed_absent cap start i x busy v u w s m is low =
-      (scan_absent cap start i busy v u w s (subst (λ z. HasLooked cap i z u w) (absent_is x is) m) low).0
-
-  -- the end of the row
-  pub passed_end : (cap start i : ℕ) (busy : Bool) (v w : View J R) → IsScan cap start i busy v w → cap ≤ i → HasPassed cap v w
-  passed_end cap start i busy v w s is = all_passed cap start i v w s.sees s.below s.past (λ k a b. absurd (omega arith))
-
-  -- the end of the words does the same
-  pub later_end : (cap start i : ℕ) (busy : Bool) (v w : View J R) → IsScan cap start i busy v w → cap ≤ i → busy ≡ true → Waits cap v w
-  later_end cap start i busy v w s is on = let o = s.others on in waits cap v w (passed_end cap start i busy v w s is) (s.fair o.1)
-      (s.far o.1) o.0
-
-  -- another is busy with the lowest number that has not ended
-  pub low_busy : (cap i : ℕ) (x : Word) (v u w : View J R) → Extends v u → HasLooked cap i x u w → holding v.mine ≡ None → is_busy x ≡ true
-      → ExtendsFairly cap v w × OthersHeld v w × EndsAt cap w
-  low_busy cap i x v u w s m free busy = let l = looks_of cap i x u w m (last_not cap i u.low x (busy_last cap i x busy)) in
-      let sees = sees_trans v u w s (l.0, l.1) in (
-        (sees.0, sees.1, l.2),
-        others_held v w sees free (found_busy i x w m.6 busy),
-        m.5,
-      )
+  -- a number that was so found had not been seen posted, or will never be open again
+  found_before : (cap i : ℕ) (x : Word) (v w : View J R) → Extends v w → IsFair cap w → Finds i x w → is_absent x ≡ false → is_open x ≡ false
+      → (status v.seen i ≡ Absent) ⊎ (2 ≤ rank (status w.seen i))
+  found_before cap i x v w sees fair m some_word not_open =
+      ⊎_elim (λ (e : status w.seen i ≡ Absent). inl (was_absent cap w.workers v w i fair.0 sees.0 e))
+      (λ (e : 2 ≤ rank (status w.seen i)). inr e) (found_passed i x w m some_word not_open)
 
   -- the last look at the low mark finds the board over
-  pub low_over : (cap i : ℕ) (x : Word) (v u w : View J R) → u.worker ≡ v.worker → Extends v u → HasLooked cap i x u w → u.low ≡ i
+  low_over : (cap i : ℕ) (x : Word) (v u w : View J R) → u.worker ≡ v.worker → Extends v u → HasLooked cap i x u w → u.low ≡ i
       → is_last_word cap i x ≡ true → AddsEvent cap v (Over v.worker) w
   low_over cap i x v u w who s m low last = subst (λ z. AddsEvent cap v (Over z) w) who
       (sees_adds cap v u w (Over u.worker) s (over_of cap i x u w m (last_yes cap i u.low x low last)))
 
   -- another look moves the low mark
-  pub low_on : (cap i : ℕ) (x : Word) (v u w : View J R) → Extends v u → HasLooked cap i x u w → is_last_word cap i x ≡ false
+  low_on : (cap i : ℕ) (x : Word) (v u w : View J R) → Extends v u → HasLooked cap i x u w → is_last_word cap i x ≡ false
       → is_open x ≡ false → is_busy x ≡ false → i < cap → u.low ≡ i → Extends v w × (w.low ≡ i + 1)
   low_on cap i x v u w s m more not_open still near low =
       let l = looks_of cap i x u w m (last_not cap i u.low x more) in let ends = ended_else x (absent_last cap i x more) not_open still in
       (sees_trans v u w s (l.0, l.1), m.3 ∙ low_next cap i u.low x low ends (ended_last cap i x more ends near))
 
-  -- all that was posted has been passed, and what is below decides
-  pub answer_low : (cap : ℕ) (v u w : View J R) (h : Option ℕ) (a : Answer J) → u.worker ≡ v.worker → HasPassed cap v u
-      → AnswersLow cap u w h a → AnswersWordsClaim cap v w h a
-  answer_low cap v u w h (answer.Got i j) who p x =
-      (x.0, subst (λ z. AddsEvent cap v (Claim z i j) w) who (sees_adds cap v u w (Claim u.worker i j) p.0 x.1))
-  answer_low cap v u w h answer.Later who p x = let l = x.1 in let o = x.2 in let sees = sees_trans v u w p.0 (l.0, l.1) in (
-    x.0,
-    waits cap v w (sees, λ k near there. stays_taken cap u w k l.0 l.2 (p.1 k near there)) l.2
-        (λ k far. was_absent cap w.workers v w k l.2.0 sees.0 (x.3 k far))
-        (o.0, o.1, o.2, goes_trans o.0 u.seen v.seen o.3 p.0.0, o.4, o.5, o.6),
-  )
-  answer_low cap v u w h answer.Over who p x =
-      (x.0, subst (λ z. AddsEvent cap v (Over z) w) who (sees_adds cap v u w (Over u.worker) p.0 x.1))
-  answer_low cap v u w h answer.Memory who p x = x
+  -- a busy number at the low mark is the first that is met
+  met_first : (cap i : ℕ) (x : Word) (v u w : View J R) → Extends v u → HasLooked cap i x u w → u.low ≡ i → holding v.mine ≡ None
+      → is_busy x ≡ true → is_absent x ≡ false → is_open x ≡ false → Extends v w × HasMet cap (i + 1) v w
+  met_first cap i x v u w s m low free busy some_word not_open =
+      let l = looks_of cap i x u w m (last_not cap i u.low x (busy_last cap i x busy)) in
+      let sees = sees_trans v u w s (l.0, l.1) in
+      let mark : w.low ≡ i = m.3 ∙ (low_still cap i u.low x (busy_goes_on x busy) ∙ low) in (
+        sees,
+        record {
+          fair = l.2;
+          far = λ k f. was_absent cap w.workers v w k l.2.0 sees.0 (m.5 k f);
+          past = λ k a. dite (ℕ_discrete k i)
+              (λ is. subst (λ z. (status v.seen z ≡ Absent) ⊎ (2 ≤ rank (status w.seen z))) (sym is)
+              (found_before cap i x v w sees l.2 m.6 some_word not_open))
+              (λ ne. inr (let e = m.4 k (omega arith) in omega arith));
+          others = others_held v w sees free (found_busy i x w m.6 busy);
+          above = omega arith;
+        },
+      )
 
-  -- an answer stays one where more had been seen before
-  pub sees_answers : (cap : ℕ) (v u w : View J R) (h : Option ℕ) (a : Answer J) → u.worker ≡ v.worker → Extends v u
-      → AnswersWordsClaim cap u w h a → AnswersWordsClaim cap v w h a
-  sees_answers cap v u w h (answer.Got i j) who s x =
-      (x.0, subst (λ z. AddsEvent cap v (Claim z i j) w) who (sees_adds cap v u w (Claim u.worker i j) s x.1))
-  sees_answers cap v u w h answer.Later who s x = let l = x.1.0 in let o = x.1.2 in let sees = sees_trans v u w s (l.0, l.1) in (
-    x.0,
-    (
-      (sees.0, sees.1, l.2),
-      (λ k there. x.1.1 k (λ e. there (was_absent cap w.workers v u k (legal_before cap w.workers w.seen u.seen l.2.0 l.0) s.0 e))),
-      (o.0, o.1, o.2, goes_trans o.0 u.seen v.seen o.3 s.0, o.4, o.5, o.6),
-    ),
-  )
-  sees_answers cap v u w h answer.Over who s x =
-      (x.0, subst (λ z. AddsEvent cap v (Over z) w) who (sees_adds cap v u w (Over u.worker) s x.1))
-  sees_answers cap v u w h answer.Memory who s x = x
+  -- a number that is not open is one more that is passed
+  met_next : (cap i : ℕ) (x : Word) (v u w : View J R) → Extends v u → HasMet cap i v u → HasLooked cap i x u w
+      → is_absent x ≡ false → is_open x ≡ false → Extends v w × HasMet cap (i + 1) v w
+  met_next cap i x v u w s met m some_word not_open =
+      let l = above_looks cap i x v u w met m in let sees = sees_trans v u w s (l.0, l.1) in let kept = met_kept cap i x v u w met m l in (
+        sees,
+        record {
+          fair = kept.fair;
+          far = kept.far;
+          past = λ k a. dite (ℕ_discrete k i)
+              (λ is. subst (λ z. (status v.seen z ≡ Absent) ⊎ (2 ≤ rank (status w.seen z))) (sym is)
+              (found_before cap i x v w sees l.2 m.6 some_word not_open))
+              (λ ne. kept.past k (omega arith));
+          others = kept.others;
+          above = let a = kept.above in omega arith;
+        },
+      )
 
-  -- a look at a number above the low mark sees on
-  pub sees_above : (cap i : ℕ) (x : Word) (v u w : View J R) → Extends v u → HasLooked cap i x u w → u.low < i → Extends v w
-  sees_above cap i x v u w s m above = let l = looks_of cap i x u w m (last_no cap i u.low x (λ e. absurd (omega arith))) in
-      sees_trans v u w s (l.0, l.1)
+  -- what is taken below a mark needs no look
+  met_to : (cap i taken : ℕ) (v w : View J R) → HasMet cap i v w → AreTaken taken w.seen → HasMet cap (larger i taken) v w
+  met_to cap i taken v w met marked = record {
+    fair = met.fair;
+    far = met.far;
+    past = λ k a. ⊎_elim (λ (l : k < i). met.past k l) (λ (l : k < taken). inr (marked k l)) (below_larger i taken k a);
+    others = met.others;
+    above = left_larger i taken w.low met.above;
+  }
+
+  scan_to : (cap i next taken : ℕ) (busy : Bool) (v w : View J R) → Extends v w × MatchBool busy (HasMet cap i v w) (w.low ≡ i)
+      → AreTaken taken w.seen → next ≡ cond busy (larger i taken) i → IsScan cap next busy v w
+  scan_to cap i next taken true v w s marked is = (s.0, subst (λ z. HasMet cap z v w) (sym is) (met_to cap i taken v w s.1 marked))
+  scan_to cap i next taken false v w s marked is = (s.0, s.1 ∙ sym is)
+
+  -- a visit that claims nothing, of a number that is not the last
+  scan_on : (cap i : ℕ) (x : Word) (busy meets : Bool) (v u w : View J R) → is_busy x ≡ meets → IsScan cap i busy v u → HasLooked cap i x u w
+      → (busy ≡ false → is_last_word cap i x ≡ false) → i < cap → holding v.mine ≡ None → is_absent x ≡ false → is_open x ≡ false
+      → IsScan cap (i + 1) (busy || meets) v w
+  scan_on cap i x true meets v u w is s m more near free some_word not_open = met_next cap i x v u w s.0 s.1 m some_word not_open
+  scan_on cap i x false true v u w is s m more near free some_word not_open =
+      met_first cap i x v u w s.0 m s.1 free is some_word not_open
+  scan_on cap i x false false v u w is s m more near free some_word not_open =
+      low_on cap i x v u w s.0 m (more refl) not_open is near s.1
+
+  -- the next number
+  pub scan_next : (cap i next taken : ℕ) (x : Word) (busy busy' : Bool) (v u w : View J R) → IsScan cap i busy v u → HasLooked cap i x u w
+      → (busy ≡ false → is_last_word cap i x ≡ false) → i < cap → holding v.mine ≡ None → is_absent x ≡ false → is_open x ≡ false
+      → busy' ≡ (busy || is_busy x) → AreTaken taken w.seen → next ≡ cond busy' (larger (i + 1) taken) (i + 1) → IsScan cap next busy' v w
+  scan_next cap i next taken x busy busy' v u w s m more near free some_word not_open both marked is =
+      scan_to cap (i + 1) next taken busy' v w
+      (subst (λ b. IsScan cap (i + 1) b v w) (sym both)
+      (scan_on cap i x busy (is_busy x) v u w refl s m more near free some_word not_open)) marked is
+
+  -- a claim begins at the low mark
+  pub scan_begin : (cap i : ℕ) (v : View J R) → v.low ≡ i → IsScan cap i false v v
+  scan_begin cap i v low = (sees_self v, low)
+
+  -- a claim that has met nobody finds the board over at the last word
+  pub scan_over : (cap i : ℕ) (x : Word) (busy : Bool) (v u w : View J R) → u.worker ≡ v.worker → busy ≡ false → IsScan cap i busy v u
+      → HasLooked cap i x u w → is_last_word cap i x ≡ true → AddsEvent cap v (Over v.worker) w
+  scan_over cap i x true v u w who is s m last = absurd cc
+  scan_over cap i x false v u w who is s m last = low_over cap i x v u w who s.0 m s.1 last
+
+  -- an absent word ends one that has met somebody
+  pub later_absent : (cap i : ℕ) (x : Word) (busy : Bool) (v u w : View J R) → IsScan cap i busy v u → HasLooked cap i x u w
+      → (busy ≡ false → is_last_word cap i x ≡ false) → is_absent x ≡ true → Waits cap v w
+  later_absent cap i x false v u w s m more is = let some_word = absent_last cap i x (more refl) in absurd cc
+  later_absent cap i x true v u w s m more is =
+      let l = above_looks cap i x v u w s.1 m in let sees = sees_trans v u w s.0 (l.0, l.1) in
+      let here = subst (λ z. Finds i z w) (absent_is x is) m.6 in
+      waits cap i v w sees (met_kept cap i x v u w s.1 m l) (λ k far. was_absent cap w.workers v w k l.2.0 sees.0 (here k far))
+
+  -- so does the end of the words
+  pub later_end : (cap i : ℕ) (busy : Bool) (v w : View J R) → IsScan cap i busy v w → cap ≤ i → w.low < cap → Waits cap v w
+  later_end cap i false v w s far low = let mark = s.1 in absurd (omega arith)
+  later_end cap i true v w s far low = waits cap i v w s.0 s.1 (λ k a. s.1.far k (omega arith))
 
   post_to : (cap i worker worker' : ℕ) (o : Option ℕ) (job job' : J) (v u w : View J R) → worker' ≡ worker → job' ≡ job → Extends v u
       → IfSome o (λ p. AddsEvent cap u (Post worker' p i job') w) → IfSome o (λ p. AddsEvent cap v (Post worker p i job) w)

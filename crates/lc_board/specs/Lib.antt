@@ -25,7 +25,6 @@ pub mod Growth
 pub mod WordCode
 pub mod WordRow
 pub mod WordSteps
-pub mod WordMarks
 pub mod WordPass
 pub mod WordsBoard
 pub mod WordClose

@@ -16,7 +16,6 @@ pub(crate) mod coding;
 mod drawing;
 pub mod pass;
 mod posts;
-pub(crate) mod recent;
 pub mod rule;
 mod shared;
 mod start;

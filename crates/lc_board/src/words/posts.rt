@@ -46,7 +46,6 @@ impl<J, R> Words<J, R> {
         }
         self.fill(&mut pass.seat, number, Slot::Job(job));
         self.open_drawn(&mut pass.seat, number);
-        pass.recent.note(number, pass.posted == 0);
         pass.posted += 1;
         Ok(number)
     }

@@ -10,7 +10,6 @@ ghost use Rattle.lc_board.specs.Limits.{capacity_limit, workers_limit};
 use crate::words::Words;
 use crate::words::coding::{ABSENT, OPEN};
 use crate::words::pass::WordsPass;
-use crate::words::recent::Recent;
 use crate::words::rule::{BoardSetup, Deal};
 use crate::words::view::Slot;
 use atomic_table::Table;
@@ -73,7 +72,6 @@ impl<J: Drop, R: Drop> Words<J, R> {
                     front: 1,
                     low: 0,
                     taken: 0,
-                    recent: Recent::new(),
                     full: false,
                 };
                 Ok((
@@ -110,7 +108,6 @@ impl<J, R> Words<J, R> {
             front: pass.front,
             low: 0,
             taken: 0,
-            recent: Recent::new(),
             full: false,
         }
     }

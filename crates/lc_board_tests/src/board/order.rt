@@ -10,24 +10,26 @@ use std::process::Abort;
 use std::sync::Wait;
 use std::test::Fail;
 
-/// A worker claims what it posted last, and one that has posted nothing the lowest open number.
-const LAST_POSTED_FIRST: &[(Call, Told)] = &[
+/// A worker claims the lowest open number, whoever posted it, and goes past what the other holds.
+const LOWEST_FIRST: &[(Call, Told)] = &[
     (Call::Claim(0), Told::Got(0, ROOT)),
+    (Call::Claim(1), Told::Later),
     (Call::Post(0, 1), Told::Posted(1)),
     (Call::Post(0, 2), Told::Posted(2)),
     (Call::Post(0, 3), Told::Posted(3)),
-    (Call::Give(0, 0), Told::Done),
-    (Call::Claim(0), Told::Got(3, 3)),
-    (Call::Post(0, 4), Told::Posted(4)),
-    (Call::Post(0, 5), Told::Posted(5)),
-    (Call::Give(0, 3), Told::Done),
     (Call::Claim(1), Told::Got(1, 1)),
-    (Call::Give(1, 1), Told::Done),
-    (Call::Claim(0), Told::Got(5, 5)),
-    (Call::Give(0, 5), Told::Done),
-    (Call::Claim(0), Told::Got(4, 4)),
-    (Call::Give(0, 4), Told::Done),
+    (Call::Post(1, 4), Told::Posted(4)),
+    (Call::Give(0, 0), Told::Done),
     (Call::Claim(0), Told::Got(2, 2)),
+    (Call::Give(1, 1), Told::Done),
+    (Call::Claim(1), Told::Got(3, 3)),
+    (Call::Post(1, 5), Told::Posted(5)),
+    (Call::Give(1, 3), Told::Done),
+    (Call::Claim(1), Told::Got(4, 4)),
+    (Call::Give(1, 4), Told::Done),
+    (Call::Claim(1), Told::Got(5, 5)),
+    (Call::Give(1, 5), Told::Done),
+    (Call::Claim(1), Told::Later),
     (Call::Give(0, 2), Told::Done),
     (Call::Claim(0), Told::Over),
     (Call::Claim(1), Told::Over),
@@ -56,69 +58,8 @@ fn claims_so<R: Wait + Abort>(
 }
 
 #[test]
-fn what_was_posted_last_is_claimed_first(rt: HostRuntime) -> Result<(), Fail> {
-    claims_so(&rt, rt.alloc(), 6, LAST_POSTED_FIRST)?;
-    Ok(())
-}
-
-/// How many spans of numbers a pass keeps that it posted.
-const SPANS: u32 = 32;
-
-/// How many numbers the script of `span_more` uses: each of the spans has two, and the other worker posts two.
-const SPREAD: u32 = 4 + 2 * (SPANS + 1);
-
-/// Number 3 is the other worker's.
-const BEFORE_SPANS: &[(Call, Told)] = &[
-    (Call::Claim(0), Told::Got(0, ROOT)),
-    (Call::Post(0, 1), Told::Posted(1)),
-    (Call::Give(0, 0), Told::Done),
-    (Call::Claim(1), Told::Got(1, 1)),
-    (Call::Post(1, 2), Told::Posted(2)),
-    (Call::Post(1, 3), Told::Posted(3)),
-    (Call::Give(1, 1), Told::Done),
-    (Call::Claim(0), Told::Got(2, 2)),
-];
-
-/// Of each two posts the first is left open, and begins a span of its own.
-fn span_more(alloc: Global) -> Result<Vec<(Call, Told)>, AllocError> {
-    let mut script = Vec::new(alloc);
-    script.extend_from_slice(BEFORE_SPANS)?;
-    let mut held = 2;
-    for span in 0..=SPANS {
-        let left = 4 + 2 * span;
-        let next = left + 1;
-        script.extend_from_slice(&[
-            (Call::Post(0, left), Told::Posted(left)),
-            (Call::Post(0, next), Told::Posted(next)),
-            (Call::Give(0, held), Told::Done),
-            (Call::Claim(0), Told::Got(next, next)),
-        ])?;
-        held = next;
-    }
-    script.push((Call::Give(0, held), Told::Done))?;
-    Ok(script)
-}
-
-/// The spans are claimed from the highest on, but for the lowest: it gave way, so number 3 comes before its number.
-fn claim_down(script: &mut Vec<(Call, Told)>) -> Result<(), AllocError> {
-    for span in (1..=SPANS).rev() {
-        let left = 4 + 2 * span;
-        script.push((Call::Claim(0), Told::Got(left, left)))?;
-        script.push((Call::Give(0, left), Told::Done))?;
-    }
-    for number in 3..=4u32 {
-        script.push((Call::Claim(0), Told::Got(number, number)))?;
-        script.push((Call::Give(0, number), Told::Done))?;
-    }
-    script.push((Call::Claim(0), Told::Over))?;
-    Ok(())
-}
-
-#[test]
-fn the_lowest_span_gives_way(rt: HostRuntime) -> Result<(), Fail> {
-    let mut script = span_more(rt.alloc())?;
-    claim_down(&mut script)?;
-    claims_so(&rt, rt.alloc(), SPREAD, &script)?;
+fn the_lowest_open_number_is_claimed_first(rt: HostRuntime) -> Result<(), Fail> {
+    claims_so(&rt, rt.alloc(), 6, LOWEST_FIRST)?;
     Ok(())
 }
 

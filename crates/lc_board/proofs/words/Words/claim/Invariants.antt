@@ -1,14 +1,13 @@
-use Rattle.std.proofs.Common.{◌≡◌, ◌-◌, ◌≤◌, None}
-use Rattle.lc_board.proofs.WordScans.{IsScan}
+use Rattle.std.proofs.Common.{◌≡◌, ◌-◌, None}
 use Rattle.lc_board.specs.WordsBoard.{IsSamePass}
-use Rattle.lc_board.proofs.words.Words.seek.Given as goal
+use Rattle.lc_board.proofs.WordScans.{IsScan}
+use Rattle.lc_board.proofs.words.Words.claim.Given as goal
 
 abbrev pub invariant-loop-number : goal.invariant-loop-number
 invariant-loop-number g l = record {
   same : IsSamePass l.initial.pass l.pass;
   holding : l.pass.holding ≡ None;
-  from : l.initial.pass.taken ≤ l.number;
-  scan : IsScan l.self.capacity l.initial.pass.taken l.number l.busy l.initial.pass.seat.me.0 l.pass.seat.me.0;
+  scan : IsScan l.self.capacity l.number l.busy l.initial.pass.seat.me.0 l.pass.seat.me.0;
 }
 
 abbrev pub decreases-loop-number : goal.decreases-loop-number
