@@ -48,6 +48,7 @@ where
 
     ghost use Rattle.lc_tree.specs.MemTrees.{nothing};
     ghost use Rattle.lc_tree.specs.SysTrees.{AnyListing, AnyContents};
+    ghost use Rattle.lc_tree.specs.Trees.{unread};
 
     ghost lists = { λ t path. AnyListing };
 
@@ -76,6 +77,8 @@ where
         self.note_file();
         self.tree.open_file(alloc, path)
     }
+
+    ghost some_listing = { λ t path. (unread, tt, tt) };
 
     ghost some_content = { λ t path. (nothing, λ pieces stop given. tt) };
 }

@@ -31,6 +31,7 @@ pub mod RuleParsing
 pub mod Searching
 pub mod SeenPaths
 pub mod Selecting
+pub mod SomeAnswers
 pub mod SomeReads
 pub mod WellFormed
 pub mod MatchedParents

@@ -1,8 +1,12 @@
--- The contents of files of a tree of which one call may fail: the proof of the law of a tree, which is read from here.
-use Rattle.std.proofs.Common.{ℕ, List, [], ◌∷◌, inl}
+-- The listings and the contents of files of a tree of which one call may fail: the proof of the laws of a tree, which is read from here.
+use Rattle.std.proofs.Common.{ℕ, List, [], ◌∷◌, inl, inr, refl}
 use Rattle.lc_census.specs.Reads.{Stop, at_end, at_failure, at_neither}
-use Rattle.lc_tree.specs.FailingTrees.{GivesOrFails}
-use Rattle.lc_tree.specs.Trees.{Contents, Content, MayHold}
+use Rattle.lc_tree.specs.FailingTrees.{GivesOrFails, ListsOrFails}
+use Rattle.lc_tree.specs.Trees.{Listings, Contents, Content, MayHold, TellsSome, unread}
+
+-- a listing may fail
+pub fails_to_list : (lists : Listings) → TellsSome (ListsOrFails lists)
+fails_to_list lists = (unread, tt, inr refl)
 
 -- what reads of a file give may be given where one of them may fail
 or_fails : (gives : Contents) (pieces : List (List ℕ)) (stop : Stop) → gives pieces stop → GivesOrFails gives pieces stop

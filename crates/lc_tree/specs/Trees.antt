@@ -26,6 +26,24 @@ Lists may (Err fault.Twice) = may (Err fault.Twice)
 Lists may (Err fault.TooMany) = may (Err fault.TooMany)
 Lists may (Err fault.Memory) = Unit {0}
 
+-- an answer to a listing is no failed allocation, and its entries are a listing
+abbrev pub IsTold : Result (List EntryModel) ReadFault → Type 0
+IsTold (Ok entries) = IsListing entries
+IsTold (Err fault.Failed) = Unit {0}
+IsTold (Err fault.Unnamed) = Unit {0}
+IsTold (Err fault.BadName) = Unit {0}
+IsTold (Err fault.Twice) = Unit {0}
+IsTold (Err fault.TooMany) = Unit {0}
+IsTold (Err fault.Memory) = ⊥
+
+-- some such answer may come
+abbrev pub TellsSome : Listings → Type 0
+TellsSome may = (answer : Result (List EntryModel) ReadFault) × IsTold answer × may answer
+
+-- the answer of a directory that can't be read
+abbrev pub unread : Result (List EntryModel) ReadFault
+unread = Err fault.Failed
+
 -- any listing and any fault may come
 abbrev pub AllowsAny : Listings → Type 0
 AllowsAny may = ((entries : List EntryModel) → IsListing entries → may (Ok entries)) × ((found : ReadFault) → may (Err found))

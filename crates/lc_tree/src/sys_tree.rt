@@ -104,6 +104,7 @@ where
 
     ghost use Rattle.lc_tree.specs.MemTrees.{nothing};
     ghost use Rattle.lc_tree.specs.SysTrees.{AnyListing, AnyContents};
+    ghost use Rattle.lc_tree.specs.Trees.{unread};
 
     ghost lists = { λ t path. AnyListing };
 
@@ -151,6 +152,8 @@ where
             Err(_) => Err(ReadFault::Failed),
         }
     }
+
+    ghost some_listing = { λ t path. (unread, tt, tt) };
 
     ghost some_content = { λ t path. (nothing, λ pieces stop given. tt) };
 }

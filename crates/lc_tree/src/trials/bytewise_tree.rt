@@ -32,5 +32,7 @@ impl<T: Tree> Tree for BytewiseTree<T> {
         }
     }
 
+    ghost some_listing = { λ t path. T.some_listing t.0 path };
+
     ghost some_content = { λ t path. T.some_content t.0 path };
 }
