@@ -80,5 +80,5 @@ where
 
     ghost some_listing = { λ t path. (unread, tt, tt) };
 
-    ghost some_content = { λ t path. (nothing, λ pieces stop given. tt) };
+    ghost some_content = { λ t path. (nothing, λ rooms pieces stop given. tt) };
 }

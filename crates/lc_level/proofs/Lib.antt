@@ -26,7 +26,6 @@ pub mod PassedOn
 pub mod PathOrder
 pub mod ReadOnce
 pub mod PathNames
-pub mod Rooms
 pub mod RuleParsing
 pub mod Searching
 pub mod SeenPaths

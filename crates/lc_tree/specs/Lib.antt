@@ -1,4 +1,5 @@
 pub mod ByteOrder
+pub mod BytewiseContents
 pub mod FailingContents
 pub mod FailingTrees
 pub mod Kinds

@@ -92,5 +92,5 @@ impl<'a> Tree for MemTree<'a> {
 
     ghost some_listing = { λ t path. tells_some (node_at t path) };
 
-    ghost some_content = { λ t path. (content_of (node_at t path), λ pieces stop given. given) };
+    ghost some_content = { λ t path. (content_of (node_at t path), λ rooms pieces stop given. given) };
 }

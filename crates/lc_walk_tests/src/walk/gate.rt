@@ -59,7 +59,7 @@ impl<'a> Tree for Gate<'a> {
 
     ghost some_listing = { λ t path. (unread, tt, tt) };
 
-    ghost some_content = { λ t path. (content_of (node_at t.tree path), λ pieces stop given. given) };
+    ghost some_content = { λ t path. (content_of (node_at t.tree path), λ rooms pieces stop given. given) };
 }
 
 const TWO: &str = "a/{ f } b/{ f }";
