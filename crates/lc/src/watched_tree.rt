@@ -48,6 +48,7 @@ where
 
     ghost use Rattle.lc_tree.specs.MemTrees.{nothing};
     ghost use Rattle.lc_tree.specs.SysTrees.{AnyListing, AnyContents};
+    ghost use Rattle.lc_tree.specs.Trees.{unread};
 
     ghost lists = { λ t path. AnyListing };
 
@@ -77,5 +78,7 @@ where
         self.tree.open_file(alloc, path)
     }
 
-    ghost some_content = { λ t path. (nothing, λ pieces stop given. tt) };
+    ghost some_listing = { λ t path. (unread, tt, tt) };
+
+    ghost some_content = { λ t path. (nothing, λ rooms pieces stop given. tt) };
 }

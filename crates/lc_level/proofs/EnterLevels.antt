@@ -40,7 +40,7 @@ and_then_err : {A B : Type 0} (r : Result A FaultLineModel) (f : FaultLineModel)
     → and_then r next ≡ Err f
 and_then_err r f next e = ap (λ s. and_then s next) e
 
-no_entries : IsListing []
+pub no_entries : IsListing []
 unfolding IsStrictlySortedBy
 no_entries = record { good = refl; order = tt; few = omega arith }
 

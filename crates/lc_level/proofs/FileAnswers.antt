@@ -1,5 +1,5 @@
 -- What a file of memory gives is as its values say.
-use Rattle.std.proofs.Common.{◌≡◌, ℕ, ◌<◌, Bool, true, false, cond, nat_lt, List, [], ◌∷◌, length, map, Result, Ok, Err, refl, sym, ◌∙◌}
+use Rattle.std.proofs.Common.{◌≡◌, ℕ, ◌<◌, Bool, true, false, cond, nat_lt, List, length, Some, Result, Ok, Err, refl, sym, ◌∙◌}
 use Rattle.std.proofs.Common.{ap, subst, arith, length-append}
 use Rattle.std.specs.List.{concat}
 use Rattle.std.proofs.lemmas.Bool.{lt-ltb, le-ltb}
@@ -8,33 +8,21 @@ use Rattle.lc_census.specs.TheCutting.{cut}
 use Rattle.lc_census.proofs.OneCutting.{cut_is}
 use Rattle.lc_level.specs.FileAnswers.{census, counted, read_as_rules}
 use Rattle.lc_level.specs.FileReads.{MayCount, MayReadRules}
-use Rattle.lc_level.proofs.SomeReads.{held_rules}
-use Rattle.lc_tree.specs.Trees.{Content, AreSome, GivesContent}
+use Rattle.lc_level.proofs.SomeReads.{one_piece, is_some, joined, filled, held_rules}
+use Rattle.lc_tree.specs.Trees.{Content, GivesContent}
 use Rattle.lc_level.specs.declared.fault_word.FaultWord.{FaultWord}
 use Rattle.lc_level.specs.declared.fault_word.FaultWord.TheVariants.{Read, Name, Twice, Many, Long, Endless, Absent}
-
--- the bytes in pieces of one byte each
-abbrev one_by_one : List ℕ → List (List ℕ)
-one_by_one bytes = map (λ b. b ∷ []) bytes
-
-are_some : (bytes : List ℕ) → AreSome (one_by_one bytes)
-are_some [] = tt
-are_some (b ∷ bs) = (λ (e : b ∷ [] ≡ []). cc, are_some bs)
-
-joined : (bytes : List ℕ) → concat (one_by_one bytes) ≡ bytes
-joined [] = refl
-joined (b ∷ bs) = ap (λ l. b ∷ l) (joined bs)
 
 -- it may be counted so
 pub may_count : (c : Content) → MayCount (GivesContent c) (counted c)
 may_count c = at c.fails refl
   where
     at : (fails : Bool) → c.fails ≡ fails → MayCount (GivesContent c) (cond fails (Err Read) (Ok (census c.bytes)))
-    at true e = (one_by_one c.bytes, (are_some c.bytes, joined c.bytes, e))
+    at true e = (one_piece c.bytes, (is_some c.bytes, joined c.bytes, e, filled (Some 65536) c.bytes))
     at false e =
         let is : IsCensus c.bytes (census c.bytes) = (cut c.bytes, cut_is c.bytes, refl) in (
-          one_by_one c.bytes,
-          (are_some c.bytes, joined c.bytes, e),
+          one_piece c.bytes,
+          (is_some c.bytes, joined c.bytes, e, filled (Some 65536) c.bytes),
           subst (λ (l : List ℕ). IsCensus l (census c.bytes))
               (sym (joined c.bytes)) is,
         )

@@ -26,11 +26,11 @@ pub mod PassedOn
 pub mod PathOrder
 pub mod ReadOnce
 pub mod PathNames
-pub mod Rooms
 pub mod RuleParsing
 pub mod Searching
 pub mod SeenPaths
 pub mod Selecting
+pub mod SomeAnswers
 pub mod SomeReads
 pub mod WellFormed
 pub mod MatchedParents

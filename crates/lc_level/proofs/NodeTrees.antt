@@ -29,7 +29,7 @@ use Rattle.lc_tree.specs.declared.node.Node.TheOpen.{Node-F}
 use Rattle.lc_tree.specs.declared.read_fault.ReadFault.{ReadFault}
 use Rattle.lc_tree.specs.declared.read_fault.ReadFault.TheVariants.{Failed, Unnamed, BadName, Twice, TooMany, Memory}
 use Rattle.lc_level.proofs.FileAnswers.{may_count, may_read_rules}
-use Rattle.lc_tree.proofs.Listed.{ItemsFor, listed_is, all_listed}
+use Rattle.lc_tree.specs.ListedAnswers.{ItemsFor, listed_is, all_listed}
 use Rattle.lc_tree.proofs.NodesIn.{node_in, each_found}
 
 -- ---- the items of a directory are its entries

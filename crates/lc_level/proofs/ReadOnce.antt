@@ -1,27 +1,31 @@
 -- A file of memory is counted, and read as rules, in one way.
 use Rattle.std.proofs.Common.{◌≡◌, ℕ, ◌<◌, ◌≤◌, ◌^◌, List, [], ◌∷◌, ◌++◌, length, Result, Ok, Err, refl, sym, ◌∙◌, ap}
-use Rattle.std.proofs.Common.{subst, arith, length-append}
+use Rattle.std.proofs.Common.{◌+◌, ◌*◌, Some, subst, arith, length-append}
 use Rattle.std.specs.List.{concat}
 use Rattle.lc_census.specs.Census.{IsCensus, count_of}
 use Rattle.lc_census.specs.Cutting.{HasOneCutting}
 use Rattle.lc_census.specs.declared.line_count.Count.{Count}
 use Rattle.lc_level.specs.FileReads.{MayCount, MayReadRules}
-use Rattle.lc_tree.specs.Trees.{Content, AreSome, GivesContent}
+use Rattle.lc_tree.specs.Trees.{Content, AreSome, FillRooms, GivesContent}
 use Rattle.lc_level.specs.declared.fault_word.FaultWord.{FaultWord}
 use Rattle.lc_level.specs.declared.fault_word.FaultWord.TheVariants.{Read, Name, Twice, Many, Long, Endless, Absent}
 use Rattle.lc_tree.proofs.OneAnswer.{both}
 
--- pieces with some byte each are no more than their bytes
-few_pieces : (pieces : List (List ℕ)) → AreSome pieces → length pieces ≤ length (concat pieces)
-few_pieces [] some = omega arith
-few_pieces ([] ∷ pieces) some = absurd (some.0 refl)
-few_pieces ((b ∷ piece) ∷ pieces) some = omega (arith, few_pieces pieces some.1, length-append piece (concat pieces))
+-- pieces of which each but the last fills a buffer of 65,536 bytes have about as many times that
+few_pieces : (pieces : List (List ℕ)) → AreSome pieces → FillRooms (Some 65536) pieces
+    → length pieces * 65536 ≤ length (concat pieces) + 65535
+few_pieces [] some fill = omega arith
+few_pieces ([] ∷ []) some fill = absurd (some.0 refl)
+few_pieces ((b ∷ piece) ∷ []) some fill = omega (arith, length-append piece [])
+few_pieces (piece ∷ next ∷ pieces) some fill =
+    omega (arith, few_pieces (next ∷ pieces) some.1 fill.1, fill.0, length-append piece (concat (next ∷ pieces)))
 
 within : (pieces : List (List ℕ)) (rest bytes : List ℕ) → concat pieces ++ rest ≡ bytes → length (concat pieces) ≤ length bytes
 within pieces rest bytes is = omega (arith, length-append (concat pieces) rest, ap length is)
 
-not_endless : (c : Content) → length c.bytes < 2 ^ 32 → MayCount (GivesContent c) (Err Endless) → ⊥
-not_endless c short m = omega (arith, few_pieces m.0 m.1.0, within m.0 m.1.1.0 c.bytes m.1.1.1, m.2)
+-- 2^32 such pieces have over 2^47 bytes
+not_endless : (c : Content) → length c.bytes < 2 ^ 47 → MayCount (GivesContent c) (Err Endless) → ⊥
+not_endless c short m = omega (arith, few_pieces m.0 m.1.0 m.1.2, within m.0 m.1.1.0 c.bytes m.1.1.1, m.2)
 
 one_count : (bytes : List ℕ) (a b : Count) → HasOneCutting bytes → IsCensus bytes a → IsCensus bytes b → a ≡ b
 one_count bytes a b one p q = p.2 ∙ (ap (count_of bytes) (one.2 p.0 p.1 ∙ sym (one.2 q.0 q.1)) ∙ sym q.2)
@@ -30,8 +34,8 @@ census_of : (c : Content) (pieces : List (List ℕ)) (count : Count) → concat 
     → IsCensus c.bytes count
 census_of c pieces count is census = subst (λ (l : List ℕ). IsCensus l count) is census
 
--- contents of under 4 GiB are counted in one way
-pub counts_once : (c : Content) (a b : Result Count FaultWord) → length c.bytes < 2 ^ 32 → ((bytes : List ℕ) → HasOneCutting bytes)
+-- contents of under 2^47 bytes are counted in one way
+pub counts_once : (c : Content) (a b : Result Count FaultWord) → length c.bytes < 2 ^ 47 → ((bytes : List ℕ) → HasOneCutting bytes)
     → MayCount (GivesContent c) a → MayCount (GivesContent c) b → a ≡ b
 counts_once c (Err Name) b short one p q = absurd p
 counts_once c (Err Twice) b short one p q = absurd p

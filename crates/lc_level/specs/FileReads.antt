@@ -1,7 +1,8 @@
 -- What an open and a reading of one file answers.
-use Rattle.std.specs.Prelude.{◌≡◌, ℕ, ◌≤◌, ◌<◌, ◌+◌, ◌^◌, List, length, Result, Ok, Err}
+use Rattle.std.specs.Prelude.{◌≡◌, ℕ, ◌≤◌, ◌<◌, ◌+◌, ◌^◌, List, length, None, Some, Result, Ok, Err}
 use Rattle.std.specs.List.{concat}
 use Rattle.lc_census.specs.Census.{IsCensus}
+use Rattle.lc_census.specs.Limits.{buffer_len}
 use Rattle.lc_census.specs.Reads.{at_end, at_failure, at_neither}
 use Rattle.lc_census.specs.declared.line_count.Count.{Count}
 use Rattle.lc_rules.specs.Limits.{max_rule_bytes}
@@ -20,11 +21,11 @@ IsAnswer may view (Ok x) = may (Ok (view x))
 IsAnswer may view (Err (content_fault.Fault word)) = may (Err word)
 IsAnswer may view (Err content_fault.Memory) = Unit {0}
 
--- what counting a file of these contents may give: its census, a failed read, or no end within 2^32 reads
+-- what counting a file of these contents may give, by reads of up to 65,536 bytes: its census, a failed read, or no end within 2^32 reads
 abbrev pub MayCount : Contents → Result Count FaultWord → Type 0
-MayCount gives (Ok count) = (pieces : List (List ℕ)) × gives pieces at_end × IsCensus (concat pieces) count
-MayCount gives (Err word.Read) = (pieces : List (List ℕ)) × gives pieces at_failure
-MayCount gives (Err word.Endless) = (pieces : List (List ℕ)) × gives pieces at_neither × (length pieces ≡ 2 ^ 32)
+MayCount gives (Ok count) = (pieces : List (List ℕ)) × gives (Some buffer_len) pieces at_end × IsCensus (concat pieces) count
+MayCount gives (Err word.Read) = (pieces : List (List ℕ)) × gives (Some buffer_len) pieces at_failure
+MayCount gives (Err word.Endless) = (pieces : List (List ℕ)) × gives (Some buffer_len) pieces at_neither × (length pieces ≡ 2 ^ 32)
 MayCount gives (Err word.Name) = ⊥
 MayCount gives (Err word.Twice) = ⊥
 MayCount gives (Err word.Many) = ⊥
@@ -33,19 +34,21 @@ MayCount gives (Err word.Absent) = ⊥
 
 -- what reading it as rules may give: its bytes, a failed read before they are too many, or one byte more than a rule file may have
 abbrev pub MayReadRules : Contents → Result (List ℕ) FaultWord → Type 0
-MayReadRules gives (Ok bytes) = (pieces : List (List ℕ)) × gives pieces at_end × (concat pieces ≡ bytes) × (length bytes ≤ max_rule_bytes)
-MayReadRules gives (Err word.Read) = (pieces : List (List ℕ)) × gives pieces at_failure × (length (concat pieces) ≤ max_rule_bytes)
-MayReadRules gives (Err word.Long) = (pieces : List (List ℕ)) × gives pieces at_neither × (length (concat pieces) ≡ max_rule_bytes + 1)
+MayReadRules gives (Ok bytes) =
+    (pieces : List (List ℕ)) × gives None pieces at_end × (concat pieces ≡ bytes) × (length bytes ≤ max_rule_bytes)
+MayReadRules gives (Err word.Read) = (pieces : List (List ℕ)) × gives None pieces at_failure × (length (concat pieces) ≤ max_rule_bytes)
+MayReadRules gives (Err word.Long) =
+    (pieces : List (List ℕ)) × gives None pieces at_neither × (length (concat pieces) ≡ max_rule_bytes + 1)
 MayReadRules gives (Err word.Endless) = ⊥
 MayReadRules gives (Err word.Name) = ⊥
 MayReadRules gives (Err word.Twice) = ⊥
 MayReadRules gives (Err word.Many) = ⊥
 MayReadRules gives (Err word.Absent) = ⊥
 
--- a file of memory of under 2^32 bytes, which as many reads can't leave unfinished, is counted in one way
+-- a file of memory of under 2^47 bytes, which 2^32 reads of 65,536 bytes can't leave unfinished, is counted in one way
 abbrev pub CountsOnce : Type 0
 CountsOnce =
-    (top : Node) (path : List ℕ) (a b : Result Count FaultWord) → length (content_at top path).bytes < 2 ^ 32
+    (top : Node) (path : List ℕ) (a b : Result Count FaultWord) → length (content_at top path).bytes < 2 ^ 47
     → MayCount (mem_gives top path) a → MayCount (mem_gives top path) b → a ≡ b
 
 -- a file of memory is read as rules in one way

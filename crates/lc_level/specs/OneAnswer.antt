@@ -31,22 +31,22 @@ module _ (lists : List ℕ → Listings) (gives : List ℕ → Contents) where
       GivesOne → (s : SelectionModel) (j : JobModel) (a b : Answers) → MayAnswer lists gives j.path a → MayAnswer lists gives j.path b
       → level s j a ≡ level s j b
 
--- each file of a tree of memory has under 2^32 bytes
-abbrev pub HasShortFiles : Node → Type 0
-HasShortFiles top = (path : List ℕ) → length (content_at top path).bytes < 2 ^ 32
+-- each file of a tree of memory has under 2^47 bytes, the address space of a program on x86-64
+abbrev pub FitsMemory : Node → Type 0
+FitsMemory top = (path : List ℕ) → length (content_at top path).bytes < 2 ^ 47
 
 -- such a tree has one level for each directory
 abbrev pub MemoryLaw : Type 0
-MemoryLaw = (top : Node) → HasShortFiles top → GivesOne (mem_lists top) (mem_gives top)
+MemoryLaw = (top : Node) → FitsMemory top → GivesOne (mem_lists top) (mem_gives top)
 
 -- the tree that a node stands for: its answers are some that a tree of memory may give
 abbrev pub NodeAnswersLaw : Type 0
 NodeAnswersLaw = (top : Node) (path : List ℕ) → MayAnswer (mem_lists top) (mem_gives top) path (tree_of_node top (names_of_path path))
 
--- no others give another level, where each file has under 2^32 bytes
+-- no others give another level
 abbrev pub NodeLevelsLaw : Type 0
 NodeLevelsLaw =
-    (top : Node) → HasShortFiles top → (s : SelectionModel) (j : JobModel) (a : Answers)
+    (top : Node) → FitsMemory top → (s : SelectionModel) (j : JobModel) (a : Answers)
     → MayAnswer (mem_lists top) (mem_gives top) j.path a
     → level s j a ≡ level s j (tree_of_node top (names_of_path j.path))
 

@@ -11,10 +11,9 @@ use lc_rules::MAX_RULE_BYTES;
 use lc_tree::{ReadFault, Tree};
 
 impl<T: Tree> LevelReader<'_, T> {
-    /// Counts the file at a path by reads into the lent buffer.
+    /// Counts the file at a path by reads into the lent buffer, which has `BUFFER_LEN` bytes.
     pub(crate) fn count_file(&self, path: &[u8], buffer: &mut [u8]) -> Result<Count, ContentFault>
-        requires some { 0 < length buffer.old }
-        requires room { length buffer.old ≤ buffer_len }
+        requires { length buffer.old ≡ buffer_len }
         ensures { IsAnswer (MayCount (T.gives self.now.tree.now path.now)) (λ count. count) result }
     {
         let mut file = match self.tree.open_file(self.alloc, path) {

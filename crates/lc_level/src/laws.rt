@@ -28,7 +28,7 @@ pub fn one_answer_is_one_level<T: Tree>(tree: &T)
     let _tree = tree;
 }
 
-/// A file of a tree of memory is read as rules in one way, and counted in one way where it has under 2^32 bytes.
+/// A file of a tree of memory is read as rules in one way, and counted in one way where it has under 2^47 bytes.
 pub fn files_of_memory_are_read_once()
     ensures counts { CountsOnce }
     ensures rules { ReadsRulesOnce }
@@ -36,7 +36,7 @@ pub fn files_of_memory_are_read_once()
     bytes_have_one_cutting();
 }
 
-/// A tree of memory answers each question in one way, where each of its files has under 4 GiB.
+/// A tree of memory answers each question in one way, where each of its files has under 2^47 bytes.
 pub fn trees_of_memory_give_one()
     ensures { MemoryLaw }
 {
@@ -45,7 +45,7 @@ pub fn trees_of_memory_give_one()
 }
 
 /// A node of memory is one tree, given as a value: its answers are some that a tree of memory may give, and where each
-/// file has under 4 GiB no others give another level.
+/// file has under 2^47 bytes no others give another level.
 pub fn a_node_is_one_tree()
     ensures answers { NodeAnswersLaw }
     ensures levels { NodeLevelsLaw }

@@ -1,5 +1,5 @@
 -- The paths of a list, one after another.
-use Rattle.std.proofs.Common.{◌≡◌, ◌≤◌, ◌+◌, ◌∙◌, ◌++◌, ℕ, false, List, [], ◌∷◌, length, map, Result, Ok, Err, ap, sym, subst}
+use Rattle.std.proofs.Common.{◌≡◌, ◌≤◌, ◌+◌, ◌∙◌, ◌++◌, ℕ, false, List, [], ◌∷◌, length, map, None, Result, Ok, Err, ap, sym, subst}
 use Rattle.std.proofs.Common.{◌||◌, Bool, ap₂, append_assoc}
 use Rattle.std.proofs.lemmas.Bool.{or_parts}
 use Rattle.std.proofs.lemmas.List.{map-append}
@@ -19,17 +19,17 @@ use Rattle.lc_program.specs.PathLists.{LoadsList, ReadsList, is_bad_listed, list
 module _ {F : Type 0} (may_give : F → ℕ → Answer → F → Type 0) (gives : Contents) (file read : F)
     (only : GivesOnly may_give gives file) where
   pub loads_list : (answer : Result (Vec ℕ Global) WholeFault) → ReadsList may_give file answer read → LoadsList gives answer
-  loads_list (Ok bytes) reads = (reads.1.pieces, only reads.1.pieces at_end read reads.1.reads, reads.1.joined, reads.0)
+  loads_list (Ok bytes) reads = (reads.1.pieces, only None reads.1.pieces at_end read reads.1.reads, reads.1.joined, reads.0)
   loads_list (Err Read) reads =
       let given = reads.1.1 in (
         given.pieces,
-        only given.pieces at_failure read given.reads,
+        only None given.pieces at_failure read given.reads,
         subst (λ (bytes : List ℕ). length bytes ≤ max_list) (sym given.joined) reads.1.0,
       )
   loads_list (Err TooLong) reads =
       let given = reads.1.1 in (
         given.pieces,
-        only given.pieces at_neither read given.reads,
+        only None given.pieces at_neither read given.reads,
         subst (λ (bytes : List ℕ). length bytes ≡ max_list + 1) (sym given.joined) reads.1.0,
       )
   loads_list (Err Memory) reads = tt

@@ -1,5 +1,5 @@
 -- A file of rules that was opened.
-use Rattle.std.proofs.Common.{◌≡◌, ◌≤◌, ◌+◌, ℕ, List, length, Result, Ok, Err, subst, sym}
+use Rattle.std.proofs.Common.{◌≡◌, ◌≤◌, ◌+◌, ℕ, List, length, None, Result, Ok, Err, subst, sym}
 use Rattle.lc_census.specs.Reads.{Answer, at_end, at_failure, at_neither}
 use Rattle.lc_level.specs.RuleTextReads.{ReadsRuleText}
 use Rattle.lc_rules.specs.Limits.{max_rule_bytes}
@@ -12,17 +12,17 @@ use Rattle.lc_program.specs.Rules.{LoadsFile}
 module _ {F : Type 0} (may_give : F → ℕ → Answer → F → Type 0) (gives : Contents) (file read : F)
     (only : GivesOnly may_give gives file) where
   pub loads_file : (answer : Result (List ℕ) RulesFileFault) → ReadsRuleText may_give file answer read → LoadsFile gives answer
-  loads_file (Ok bytes) reads = (reads.1.pieces, only reads.1.pieces at_end read reads.1.reads, reads.1.joined, reads.0)
+  loads_file (Ok bytes) reads = (reads.1.pieces, only None reads.1.pieces at_end read reads.1.reads, reads.1.joined, reads.0)
   loads_file (Err fault.Read) reads =
       let given = reads.1.1 in (
         given.pieces,
-        only given.pieces at_failure read given.reads,
+        only None given.pieces at_failure read given.reads,
         subst (λ (bytes : List ℕ). length bytes ≤ max_rule_bytes) (sym given.joined) reads.1.0,
       )
   loads_file (Err fault.TooLong) reads =
       let given = reads.1.1 in (
         given.pieces,
-        only given.pieces at_neither read given.reads,
+        only None given.pieces at_neither read given.reads,
         subst (λ (bytes : List ℕ). length bytes ≡ max_rule_bytes + 1) (sym given.joined) reads.1.0,
       )
   loads_file (Err fault.Memory) reads = tt

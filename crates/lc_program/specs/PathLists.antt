@@ -31,9 +31,9 @@ ReadsList may_give old (Err Memory) new = Unit {0}
 -- the list in a file of which these reads may come
 abbrev pub LoadsList : Contents → Result (Vec ℕ Global) WholeFault → Type 0
 LoadsList gives (Ok bytes) =
-    (pieces : List (List ℕ)) × gives pieces at_end × (concat pieces ≡ bytes.items) × (length bytes.items ≤ max_list)
-LoadsList gives (Err Read) = (pieces : List (List ℕ)) × gives pieces at_failure × (length (concat pieces) ≤ max_list)
-LoadsList gives (Err TooLong) = (pieces : List (List ℕ)) × gives pieces at_neither × (length (concat pieces) ≡ max_list + 1)
+    (pieces : List (List ℕ)) × gives None pieces at_end × (concat pieces ≡ bytes.items) × (length bytes.items ≤ max_list)
+LoadsList gives (Err Read) = (pieces : List (List ℕ)) × gives None pieces at_failure × (length (concat pieces) ≤ max_list)
+LoadsList gives (Err TooLong) = (pieces : List (List ℕ)) × gives None pieces at_neither × (length (concat pieces) ≡ max_list + 1)
 LoadsList gives (Err Memory) = Unit {0}
 
 module _ {I : Type 0} (may_give : I → ℕ → Answer → I → Type 0) (holds : List ℕ → Contents) where

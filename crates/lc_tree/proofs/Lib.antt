@@ -1,7 +1,5 @@
 pub mod Contents
-pub mod Entries
 mod Joining
-pub mod Listed
 pub mod NodesIn
 pub mod OneAnswer
 pub mod OneOrder

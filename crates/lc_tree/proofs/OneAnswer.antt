@@ -7,7 +7,7 @@ use Rattle.lc_tree.specs.declared.read_fault.ReadFault.{ReadFault}
 use Rattle.lc_tree.specs.declared.read_fault.ReadFault.TheVariants.{Failed, Unnamed, BadName, Twice, TooMany, Memory}
 use Rattle.lc_tree.specs.declared.node.Node.{Node, out-Node}
 use Rattle.lc_tree.specs.declared.node.Node.TheOpen.{Node-F}
-use Rattle.lc_tree.proofs.Entries.{good_names_moved, distinct_from_sorted}
+use Rattle.lc_tree.specs.MovedEntries.{good_names_moved, distinct_from_sorted}
 use Rattle.lc_tree.proofs.OneOrder.{one_order}
 
 one_listing : (es a b : List EntryModel) → IsListingOf es a → IsListingOf es b → a ≡ b

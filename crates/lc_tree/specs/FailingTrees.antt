@@ -15,7 +15,7 @@ ListsOrFails lists answer = lists answer ⊎ (answer ≡ Err Failed)
 
 -- the reads of a file give what the tree's do, or fail at once or after some of its pieces
 abbrev pub GivesOrFails : Contents → Contents
-GivesOrFails gives pieces at_end = gives pieces at_end
-GivesOrFails gives pieces at_neither = gives pieces at_neither
-GivesOrFails gives [] at_failure = Unit {0}
-GivesOrFails gives (piece ∷ pieces) at_failure = gives (piece ∷ pieces) at_failure ⊎ gives (piece ∷ pieces) at_neither
+GivesOrFails gives rooms pieces at_end = gives rooms pieces at_end
+GivesOrFails gives rooms pieces at_neither = gives rooms pieces at_neither
+GivesOrFails gives rooms [] at_failure = Unit {0}
+GivesOrFails gives rooms (piece ∷ pieces) at_failure = gives rooms (piece ∷ pieces) at_failure ⊎ gives rooms (piece ∷ pieces) at_neither

@@ -1,10 +1,14 @@
 pub mod ByteOrder
+pub mod BytewiseContents
 pub mod FailingContents
 pub mod FailingTrees
 pub mod Kinds
 pub mod Listed
+pub mod ListedAnswers
 pub mod Listing
+pub mod MemListings
 pub mod MemTrees
+pub mod MovedEntries
 pub mod Nodes
 pub mod OneAnswer
 pub mod Parts

@@ -12,7 +12,7 @@ AnyListing (Err fault) = Unit {0}
 
 -- the reads of a file may give anything
 abbrev pub AnyContents : Contents
-AnyContents pieces stop = Unit {0}
+AnyContents rooms pieces stop = Unit {0}
 
 -- nothing but what may refuse a file
 abbrev pub IsFaultOfOpening : ReadFault → Type 0

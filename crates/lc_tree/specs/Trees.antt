@@ -1,9 +1,9 @@
 -- What the calls of a tree answer.
-use Rattle.std.specs.Prelude.{◌≡◌, ◌≢◌, ◌⊎◌, ℕ, Bool, List, [], ◌∷◌, ◌++◌, map, Vec, Result, Ok, Err, Option, None, Some, MatchResult}
+use Rattle.std.specs.Prelude.{◌≡◌, ◌≢◌, ◌⊎◌, ℕ, Bool, List, [], ◌∷◌, ◌++◌, length, map, Vec, Result, Ok, Err, Option, None, Some, MatchResult}
 use Rattle.std.specs.Prelude.{IsTrue, IsFalse}
 use Rattle.std.specs.Global.{Global}
 use Rattle.std.specs.List.{concat, AllByRecursion}
-use Rattle.lc_census.specs.Reads.{Answer, AnyRoom, Stop, at_end, at_failure, at_neither, Reads}
+use Rattle.lc_census.specs.Reads.{Answer, AnyRoom, RoomOf, Stop, at_end, at_failure, at_neither, Reads}
 use Rattle.lc_tree.specs.Listing.{EntryModel, IsListing, names}
 use Rattle.lc_tree.specs.declared.read_fault.ReadFault.{ReadFault}
 use Rattle.lc_tree.specs.declared.read_fault.ReadFault.TheVariants as fault
@@ -12,9 +12,17 @@ use Rattle.lc_tree.specs.declared.read_fault.ReadFault.TheVariants as fault
 abbrev pub Listings : Type 1
 Listings = Result (List EntryModel) ReadFault → Type 0
 
--- what the reads of an opened file may give: pieces in turn, and how they stop
+-- how long the buffers of some reads are: of any lengths, or all of this one
+abbrev pub Rooms : Type 0
+Rooms = Option ℕ
+
+abbrev pub IsRoom : Rooms → ℕ → Type 0
+IsRoom None = AnyRoom
+IsRoom (Some size) = RoomOf size
+
+-- what the reads of an opened file into such buffers may give: pieces in turn, and how they stop
 abbrev pub Contents : Type 1
-Contents = List (List ℕ) → Stop → Type 0
+Contents = Rooms → List (List ℕ) → Stop → Type 0
 
 -- the answer to a listing is one of these, or an allocation failed
 abbrev pub Lists : Listings → Result (List EntryModel) ReadFault → Type 0
@@ -25,6 +33,24 @@ Lists may (Err fault.BadName) = may (Err fault.BadName)
 Lists may (Err fault.Twice) = may (Err fault.Twice)
 Lists may (Err fault.TooMany) = may (Err fault.TooMany)
 Lists may (Err fault.Memory) = Unit {0}
+
+-- an answer to a listing is no failed allocation, and its entries are a listing
+abbrev pub IsTold : Result (List EntryModel) ReadFault → Type 0
+IsTold (Ok entries) = IsListing entries
+IsTold (Err fault.Failed) = Unit {0}
+IsTold (Err fault.Unnamed) = Unit {0}
+IsTold (Err fault.BadName) = Unit {0}
+IsTold (Err fault.Twice) = Unit {0}
+IsTold (Err fault.TooMany) = Unit {0}
+IsTold (Err fault.Memory) = ⊥
+
+-- some such answer may come
+abbrev pub TellsSome : Listings → Type 0
+TellsSome may = (answer : Result (List EntryModel) ReadFault) × IsTold answer × may answer
+
+-- the answer of a directory that can't be read
+abbrev pub unread : Result (List EntryModel) ReadFault
+unread = Err fault.Failed
 
 -- any listing and any fault may come
 abbrev pub AllowsAny : Listings → Type 0
@@ -48,12 +74,12 @@ AreOf es asked = AreSomeOf (names es) (map (λ (n : Vec ℕ Global). n.items) as
 
 -- whatever reads of a file give is one of these
 abbrev pub GivesOnly : {F : Type 0} → (F → ℕ → Answer → F → Type 0) → Contents → F → Type 0
-GivesOnly {F} may_give gives file = (pieces : List (List ℕ)) (stop : Stop) (left : F)
-    → Reads may_give AnyRoom file pieces stop left → gives pieces stop
+GivesOnly {F} may_give gives file = (rooms : Rooms) (pieces : List (List ℕ)) (stop : Stop) (left : F)
+    → Reads may_give (IsRoom rooms) file pieces stop left → gives rooms pieces stop
 
 -- a file that can't be opened is one whose first read fails; no other fault comes but a failed allocation
 abbrev pub IsOpenFault : Contents → ReadFault → Type 0
-IsOpenFault gives fault.Failed = gives [] at_failure
+IsOpenFault gives fault.Failed = (rooms : Rooms) → gives rooms [] at_failure
 IsOpenFault gives fault.Unnamed = ⊥
 IsOpenFault gives fault.BadName = ⊥
 IsOpenFault gives fault.Twice = ⊥
@@ -73,12 +99,22 @@ pub record Content : Type 0 where
 abbrev pub AreSome : List (List ℕ) → Type 0
 AreSome pieces = AllByRecursion (λ piece. piece ≢ []) pieces
 
--- what reads give of these bytes: all of them in pieces, none empty, and then how they stop; or a part
+-- each of the pieces but the last is as long as the buffers
+abbrev pub FillRooms : Rooms → List (List ℕ) → Type 0
+FillRooms rooms [] = Unit {0}
+FillRooms rooms (piece ∷ []) = Unit {0}
+FillRooms rooms (piece ∷ next ∷ pieces) = IsRoom rooms (length piece) × FillRooms rooms (next ∷ pieces)
+
+-- what reads give of these bytes: all of them in pieces, none empty, as much as the buffers hold, and then how they stop; or a part
 abbrev pub GivesContent : Content → Contents
-GivesContent content pieces at_end = AreSome pieces × (concat pieces ≡ content.bytes) × IsFalse content.fails
-GivesContent content pieces at_failure = AreSome pieces × (concat pieces ≡ content.bytes) × IsTrue content.fails
-GivesContent content pieces at_neither = AreSome pieces × ((rest : List ℕ) × (concat pieces ++ rest ≡ content.bytes))
+GivesContent content rooms pieces at_end =
+    AreSome pieces × (concat pieces ≡ content.bytes) × IsFalse content.fails × FillRooms rooms pieces
+GivesContent content rooms pieces at_failure =
+    AreSome pieces × (concat pieces ≡ content.bytes) × IsTrue content.fails × FillRooms rooms pieces
+GivesContent content rooms pieces at_neither =
+    AreSome pieces × ((rest : List ℕ) × (concat pieces ++ rest ≡ content.bytes)) × FillRooms rooms pieces
 
 -- a file may have this content: its reads may give what is given of it
 abbrev pub MayHold : Contents → Content → Type 0
-MayHold gives content = (pieces : List (List ℕ)) (stop : Stop) → GivesContent content pieces stop → gives pieces stop
+MayHold gives content =
+    (rooms : Rooms) (pieces : List (List ℕ)) (stop : Stop) → GivesContent content rooms pieces stop → gives rooms pieces stop

@@ -62,6 +62,7 @@ impl<'a> Tree for MemTree<'a> {
 
     ghost use Rattle.lc_tree.specs.MemTrees.{content_of, mem_lists, mem_gives};
     ghost use Rattle.lc_tree.specs.Nodes.{node_at};
+    ghost use Rattle.lc_tree.specs.MemListings.{tells_some};
 
     ghost lists = { mem_lists };
 
@@ -89,5 +90,7 @@ impl<'a> Tree for MemTree<'a> {
         }
     }
 
-    ghost some_content = { λ t path. (content_of (node_at t path), λ pieces stop given. given) };
+    ghost some_listing = { λ t path. tells_some (node_at t path) };
+
+    ghost some_content = { λ t path. (content_of (node_at t path), λ rooms pieces stop given. given) };
 }

@@ -1,6 +1,6 @@
 //! The trait of trees of directories and files.
 ghost use Rattle.std.specs.Prelude.{ℕ, List, IfOk};
-ghost use Rattle.lc_tree.specs.Trees.{AreOf, Content, Contents, LeavesLooks, Listings, Lists, MayHold, Opens};
+ghost use Rattle.lc_tree.specs.Trees.{AreOf, Content, Contents, LeavesLooks, Listings, Lists, MayHold, Opens, TellsSome};
 
 use crate::{Entry, Listing, ReadFault};
 use lc_census::Source;
@@ -50,6 +50,9 @@ pub trait Tree: Sync {
     {
         Err(ReadFault::Failed)
     }
+
+    // Each path may be listed in some way, which is no failed allocation.
+    ghost some_listing: { (t : Self) (path : List ℕ) → TellsSome (lists t path) };
 
     // Each file may be read in some way.
     ghost some_content: { (t : Self) (path : List ℕ) → (c : Content) × MayHold (gives t path) c };

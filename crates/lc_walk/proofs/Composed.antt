@@ -1,11 +1,10 @@
 -- From a closed board, and from what its workers left, to a closed walk and its report.
 use Rattle.std.proofs.Common.{◌≡◌, ℕ, zero, suc, ◌<◌, ◌≤◌, Bool, true, false, cond, List, [], ◌∷◌, ◌++◌, length, slice_get, map}
-use Rattle.std.proofs.Common.{refl, sym, ◌∙◌, ap, arith, subst, Option, Some, None, inl, inr, IsPermutation}
+use Rattle.std.proofs.Common.{refl, sym, ◌∙◌, ap, arith, subst, Option, Some, None, IsPermutation}
 use Rattle.std.proofs.lemmas.Bool.{or_left, or_right}
 use Rattle.std.specs.List.{flat_map, list_any, range_with_len, enumerate_from}
 use Rattle.std.proofs.lemmas.List.Sorted.{IsPermutation-sym}
 use Rattle.lc_board.specs.Ends.{Saying, RowsHold, ender, ends}
-use Rattle.lc_board.specs.LegalHistory.{posts_under}
 use Rattle.lc_board.specs.Part.{part}
 use Rattle.lc_board.specs.RowsInPlace.{InPlace}
 use Rattle.lc_board.specs.Pass.{Pass}
@@ -35,8 +34,7 @@ use Rattle.lc_walk.specs.WalkReport.{entries_in}
 use Rattle.lc_walk.specs.WalkReport.{tallied_of, files_of, faults_of, directories_of, skipped_lines_of, entry_count, IsReportOf}
 use Rattle.lc_walk.specs.Assembled.{fault_line, directories_by_row, files_by_row, faults_by_row, skipped_by_row, entries_by_row}
 use Rattle.lc_walk.specs.Assembled.{directories_in_rows, files_in_rows, faults_in_rows, skipped_in_rows, entries_in_rows, AreFindings}
-use Rattle.lc_walk.specs.WorkerResults.{MayStand, IsLawfulEnd, AreLawful, returned_files, files_given, files_of_pass, files_of_passes}
-use Rattle.lc_walk.proofs.Broken.{NoneFor, unbroken}
+use Rattle.lc_walk.specs.WorkerResults.{IsLawfulEnd, AreLawful, returned_files, files_given, files_of_pass, files_of_passes}
 use Rattle.lc_walk.proofs.Fuller.{fuller_says, full_pass}
 use Rattle.lc_walk.specs.WalkAnswers.{SomeRows, IsWalkReport}
 use Rattle.std.specs.List.Sorted.{IsStrictlySortedBy}
@@ -46,7 +44,6 @@ use Rattle.lc_walk.specs.RowViews.{ChildModel}
 use Rattle.lc_walk.proofs.Reports.{report_law}
 use Rattle.lc_walk.proofs.PathsApart.{paths_once_law, found_apart, file_list_apart, fault_list_apart, skipped_list_apart}
 use Rattle.lc_walk.proofs.PathsApart.{all_lists_apart}
-use Rattle.lc_walk.specs.declared.broken_cause.BrokenCause.TheVariants.{Memory}
 use Rattle.lc_walk.specs.declared.row.Row.{Row}
 use Rattle.lc_walk.specs.declared.row.Row.TheVariants.{Listed, Faulted, Broken}
 use Rattle.lc_board.proofs.EndsInPlace.{rows_hold}
@@ -127,10 +124,10 @@ module _ (ask : Asked) (MayAnswer : List ℕ → Answers → Type 0) (capacity w
 
   -- each row is lawful in the whole history, by answers that the tree may give
   pub lawful_here : (i : ℕ) (e : Ended Row) → slice_get rows i ≡ Some e →
-      IsLawful ask full history i e (answers i) × MayStand MayAnswer (posts_under i history) (row_of e) (answers i)
+      IsLawful ask full history i e (answers i) × MayAnswer (job_of (row_of e)).path (answers i)
   lawful_here i e is =
       let l = held.holds i e is in
-      subst (λ a. IsLawful ask full history i e a × MayStand MayAnswer (posts_under i history) (row_of e) a) (sym (answers_are i e is)) (
+      subst (λ a. IsLawful ask full history i e a × MayAnswer (job_of (row_of e)).path a) (sym (answers_are i e is)) (
         record {
           job_is = l.job_is;
           well_formed = l.well_formed;
@@ -151,27 +148,19 @@ module _ (ask : Asked) (MayAnswer : List ℕ → Answers → Type 0) (capacity w
     lawful = λ i e is. (lawful_here i e is).0;
   }
 
-  -- where no row was broken off for want of memory, the tree was asked about each
-  pub may_here : NoneFor Memory rows → (i : ℕ) (e : Ended Row) → slice_get rows i ≡ Some e → MayAnswer (job_of (row_of e)).path (answers i)
-  may_here fed i e is = at (lawful_here i e is).1
-    where
-      at : MayStand MayAnswer (posts_under i history) (row_of e) (answers i) → MayAnswer (job_of (row_of e)).path (answers i)
-      at (inl broken) = absurd (fed i e is broken.0)
-      at (inr may) = may
-
   -- a post was answered Full only where all numbers are used
   pub full_rows : promises.fills ≡ true → full ≡ true → length rows ≡ capacity
   full_rows fills is_full = let p = full_pass passes is_full in settled.all_used fills p.worker p.pass p.is p.was
 
-  abbrev pub some_rows : NoneFor Memory rows → SomeRows MayAnswer ask capacity workers top promises
-  some_rows fed = record {
+  abbrev pub some_rows : SomeRows MayAnswer ask capacity workers top promises
+  some_rows = record {
     full = full;
     history = history;
     rows = rows;
     answers = answers;
     filled = full_rows;
     walked = walked;
-    may = may_here fed;
+    may = λ i e is. (lawful_here i e is).1;
   }
 
   -- ---- the files of all passes are those of the rows
@@ -358,9 +347,8 @@ module _ (ask : Asked) (MayAnswer : List ℕ → Answers → Type 0) (capacity w
         IsWalkReport MayAnswer ask capacity workers top promises r
     report_of_walk at_top t stood told tells r is =
         let ours = report_of_rows t stood told tells r is in
-        let fed : NoneFor Memory rows = λ i e here. unbroken (row_of e) Memory (whole i e here) in
         record {
-          found = some_rows fed;
+          found = some_rows;
           whole = whole;
           report = λ depth deep. report_law ask.lists found (walk_of ask.selection depth top (tree_of_rows rows answers)) r
               (IsPermutation-sym _ _ (core_law ask full capacity workers top history rows answers walked whole depth deep)) ours;
@@ -374,6 +362,6 @@ module _ (ask : Asked) (MayAnswer : List ℕ → Answers → Type 0) (capacity w
           apart = all_lists_apart found once ask.lists r ours;
           one_answer = λ tree one depth deep. report_law ask.lists found (walk_of ask.selection depth top tree) r
               (IsPermutation-sym _ _ (one_answer_law tree ask full capacity workers top history rows answers walked whole at_top
-              (agrees ask full capacity workers top history rows answers walked whole at_top MayAnswer (may_here fed) tree one)
+              (agrees ask full capacity workers top history rows answers walked whole at_top MayAnswer (λ i e here. (lawful_here i e here).1) tree one)
               depth deep)) ours;
         }

@@ -1,19 +1,17 @@
 -- The rows by which a worker ends its claims are lawful.
 use Rattle.std.proofs.Common.{◌≡◌, ℕ, ◌<◌, false, List, [], ◌++◌, length, map, take}
 use Rattle.std.proofs.Common.{cond, refl, sym, ◌∙◌, ap, subst, Option, Some, None, Result, Ok}
-use Rattle.std.proofs.Common.{Err, inl, inr, arith}
+use Rattle.std.proofs.Common.{Err, inl, arith}
 use Rattle.std.proofs.Math.Seq.{take-length}
 use Rattle.std.proofs.lemmas.List.{length-map, length-take-le}
 use Rattle.std.proofs.lemmas.List.Sorted.{IsPermutation-append_comm}
-use Rattle.std.specs.List.Sorted.{IsStrictlySortedBy}
 use Rattle.std.specs.declared.alloc.AllocError.{AllocError}
 use Rattle.lc_board.specs.Holding.{job_held, posts_held}
 use Rattle.lc_board.specs.Pass.{Pass, after_give, after_fault}
 use Rattle.lc_board.specs.declared.answers.Ended.TheVariants as ended
-use Rattle.lc_tree.specs.Listing.{IsListing}
 use Rattle.lc_tree.specs.Trees.{Listings, Contents}
 use Rattle.lc_level.specs.declared.fault_word.FaultWord.{FaultWord}
-use Rattle.lc_level.specs.Answers.{Answers, no_answers}
+use Rattle.lc_level.specs.Answers.{Answers}
 use Rattle.lc_level.specs.CountedNames.{IsCounted}
 use Rattle.lc_level.specs.Deep.{has_too_deep}
 use Rattle.lc_level.specs.Job.{JobModel}
@@ -24,6 +22,7 @@ use Rattle.lc_level.specs.Opens.{IsOpened, OpensLevel}
 use Rattle.lc_level.specs.WellFormed.{IsWellFormed}
 use Rattle.lc_level.specs.TreeAnswers.{MayAnswer}
 use Rattle.lc_level.proofs.CountedLevels.{opened_level, counted_level}
+use Rattle.lc_level.proofs.SomeAnswers.{HasAnswers}
 use Rattle.lc_walk.specs.Found.{children_of, children_at}
 use Rattle.lc_walk.specs.Lawful.{Asked, IsCause, jobs_of, named, counted_files, files_at}
 use Rattle.lc_walk.specs.Posting.{HasPosted, RefusesPost}
@@ -44,35 +43,32 @@ use Rattle.lc_level.specs.declared.open_fault.OpenFault.TheVariants as open_faul
 use Rattle.lc_walk.specs.declared.row.Row.{Row}
 use Rattle.lc_walk.specs.declared.row.Row.TheVariants.{Listed, Faulted, Broken}
 
-no_entries : IsListing []
-unfolding IsStrictlySortedBy
-no_entries = record { good = refl; order = tt; few = omega arith }
-
 module _ (ask : Asked) (lists : List ℕ → Listings) (gives : List ℕ → Contents) where
   abbrev Lawful : Pass JobModel Row → JobModel → BrokenCause → Answers → Type 0
   Lawful p j c a = IsLawfulEnd ask p.full (MayAnswer lists gives) (job_held p.mine) (posts_held p.mine)
       (ended.Returned (Broken (record { job = j; cause = c }))) a
 
   -- a directory was broken off before anything was posted
-  memory_end : (p : Pass JobModel Row) (j : JobModel) → HoldsJob j p → Lawful p j Memory no_answers
-  memory_end p j h = record {
+  memory_end : (p : Pass JobModel Row) (j : JobModel) (some : HasAnswers lists gives j.path) → HoldsJob j p → Lawful p j Memory some.0
+  memory_end p j some h = record {
     job_is = h.job_is;
-    well_formed = no_entries;
+    well_formed = some.2;
     says = record { posted = 0; posts_are = ap jobs_of h.none; cause_is = tt };
-    may = inl (refl, h.none);
+    may = some.1;
   }
 
   -- and with it the tally, whatever stood there
-  pub serves_unasked : (p : Pass JobModel Row) (j : JobModel) (t : Option TallyModel) → HoldsJob j p
+  pub serves_unasked : (p : Pass JobModel Row) (j : JobModel) (t : Option TallyModel) → HasAnswers lists gives j.path → HoldsJob j p
       → WorksOn ask (MayAnswer lists gives) p (after_give p (Broken (record { job = j; cause = Memory }))) t None
-  serves_unasked p j t h = works_give ask (MayAnswer lists gives) p _ no_answers t None (memory_end p j h) (λ fs s. tt) (λ e. inl refl)
+  serves_unasked p j t some h =
+      works_give ask (MayAnswer lists gives) p _ some.0 t None (memory_end p j some h) (λ fs s. tt) (λ e. inl refl)
 
   -- a directory was broken off before it was opened, for want of memory
   pub serves_unread : (p : Pass JobModel Row) (j : JobModel) (t : TallyModel) (result : Result (Unit {0}) AllocError)
-      → HoldsJob j p → BreaksOff Memory result →
+      → HasAnswers lists gives j.path → HoldsJob j p → BreaksOff Memory result →
       Serves ask (MayAnswer lists gives) p (after_give p (Broken (record { job = j; cause = Memory }))) t t result
-  serves_unread p j t result h g =
-      serves_broken ask (MayAnswer lists gives) p j Memory no_answers t t result (memory_end p j h) g (λ n. refl)
+  serves_unread p j t result some h g =
+      serves_broken ask (MayAnswer lists gives) p j Memory some.0 t t result (memory_end p j some h) g (λ n. refl)
 
   -- or since one of its entries is too deep
   pub serves_too_deep : (p : Pass JobModel Row) (j : JobModel) (t : TallyModel) (result : Result (Unit {0}) AllocError)
@@ -83,7 +79,7 @@ module _ (ask : Asked) (lists : List ℕ → Listings) (gives : List ℕ → Con
         job_is = h.job_is;
         well_formed = o.2;
         says = record { posted = 0; posts_are = ap jobs_of h.none; cause_is = o.3 };
-        may = inr o.1;
+        may = o.1;
       }) g (λ n. refl)
 
   -- a directory at fault
@@ -94,7 +90,7 @@ module _ (ask : Asked) (lists : List ℕ → Listings) (gives : List ℕ → Con
     job_is = h.job_is;
     well_formed = o.2;
     says = record { level_is = o.3; posts_are = h.none };
-    may = inr o.1;
+    may = o.1;
   })
 
   -- a directory was opened, and child directories were posted
@@ -120,7 +116,7 @@ module _ (ask : Asked) (lists : List ℕ → Listings) (gives : List ℕ → Con
             (sym same_children);
         cause_is = is;
       };
-      may = inr c.inside.may;
+      may = c.inside.may;
     }
 
     -- fewer than all were posted
@@ -210,7 +206,7 @@ module _ (ask : Asked) (lists : List ℕ → Listings) (gives : List ℕ → Con
                 ∙ ap (named (walked_in here.fates)) (sym (posts_now _ x));
             shallow = ap (λ k. has_too_deep ask.selection k counted.0) is.job ∙ counted.4;
           };
-          may = inr (subst (λ (k : JobModel). MayAnswer lists gives k.path counted.0) (sym is.job) counted.1);
+          may = subst (λ (k : JobModel). MayAnswer lists gives k.path counted.0) (sym is.job) counted.1;
         }
 
         gains : (fs : List CountedFile) → StandsFor t fs → StandsFor u (map tallied (files_at ask.selection row.job counted.0) ++ fs)

@@ -19,7 +19,7 @@ use Rattle.lc_level.specs.Answers.{Answers}
 use Rattle.lc_level.specs.Job.{JobModel}
 use Rattle.lc_walk.specs.Rows.{row_of, job_of}
 use Rattle.lc_walk.specs.Lawful.{Asked, Says, IsCause}
-use Rattle.lc_walk.specs.Assembled.{IsBrokenBy, SomeBroken, Assembles}
+use Rattle.lc_walk.specs.Assembled.{IsBrokenBy, Assembles}
 use Rattle.lc_walk.specs.WorkerResults.{AreLawful, files_of_passes, FoundOver}
 use Rattle.lc_walk.specs.WalkAnswers.{SomeRows, WalkAnswers}
 use Rattle.lc_walk.specs.WalkOn.{fault_of_close}
@@ -30,7 +30,7 @@ use Rattle.lc_walk.specs.WalkOptions.{asked_by, top_of}
 use Rattle.lc_walk.specs.Walks.{Walks}
 use Rattle.lc_walk.specs.declared.options.Options.{Options}
 use Rattle.lc_walk.specs.declared.broken_cause.BrokenCause.{BrokenCause}
-use Rattle.lc_walk.specs.declared.broken_cause.BrokenCause.TheVariants.{Memory, TooManyDirs, TooDeep}
+use Rattle.lc_walk.specs.declared.broken_cause.BrokenCause.TheVariants.{TooManyDirs, TooDeep}
 use Rattle.lc_walk.specs.declared.row.Row.{Row}
 use Rattle.lc_walk.specs.declared.row.Row.TheVariants.{Listed, Faulted, Broken}
 use Rattle.lc_walk.specs.declared.walk_fault.WalkFault.{WalkFault}
@@ -58,9 +58,8 @@ module _ (ask : Asked) (MayAnswer : List ℕ → Answers → Type 0) (capacity w
   module _ (given : ℕ → List Answers) (lawful : (w : ℕ) (p : Pass JobModel Row) → slice_get passes w ≡ Some p
       → AreLawful ask p.full MayAnswer p.mine (given w))
       (rows : List (Ended Row)) (settled : Settled capacity workers top promises passes rows) where
-    abbrev rows_so : promises.keeps ≡ true → ¬ SomeBroken Memory rows → SomeRows MayAnswer ask capacity workers top promises
-    rows_so keeps fed = some_rows ask MayAnswer capacity workers top promises passes rows room keeps count settled given lawful
-        (λ i e is b. fed (i, (e, is, b)))
+    abbrev rows_so : promises.keeps ≡ true → SomeRows MayAnswer ask capacity workers top promises
+    rows_so keeps = some_rows ask MayAnswer capacity workers top promises passes rows room keeps count settled given lawful
 
     cause_here : (keeps : promises.keeps ≡ true) (c : BrokenCause) (i : ℕ) (e : Ended Row) → slice_get rows i ≡ Some e
         → IsBrokenBy c (row_of e) →
@@ -80,7 +79,7 @@ module _ (ask : Asked) (MayAnswer : List ℕ → Answers → Type 0) (capacity w
         stood a.found a.told r a.report
     assembled_walk t stood (Err fault.Memory) a = tt
     assembled_walk t stood (Err fault.TooManyDirs) a = λ keeps fills.
-        let found = rows_so keeps a.1 in
+        let found = rows_so keeps in
         let cause = cause_here keeps TooManyDirs a.0.0 a.0.1.0 a.0.1.1 a.0.1.2 in
         record {
           found = found;
@@ -92,7 +91,7 @@ module _ (ask : Asked) (MayAnswer : List ℕ → Answers → Type 0) (capacity w
         }
     assembled_walk t stood (Err fault.TooDeep) a = λ keeps.
         record {
-          found = rows_so keeps a.1;
+          found = rows_so keeps;
           number = a.0.0;
           row = a.0.1.0;
           is = a.0.1.1;

@@ -26,17 +26,14 @@ returned_files ask (Listed r) a = map tallied (files_at ask.selection r.job a)
 returned_files ask (Faulted r) a = []
 returned_files ask (Broken r) a = []
 
--- a tree may give these answers for the directory of a row; of one that was broken off for want of memory it may have been asked nothing
-abbrev pub MayStand : (List ℕ → Answers → Type 0) → List (ℕ × JobModel) → Row → Answers → Type 0
-MayStand MayAnswer posts r a = (IsBrokenBy Memory r × (posts ≡ [])) ⊎ MayAnswer (job_of r).path a
-
--- a row is lawful with these answers for the claim that it ends, by the job and the posts of that claim, and the tree may give them
+-- a row is lawful with these answers for the claim that it ends, by the job and the posts of that claim, and the tree may give them for
+-- the row's directory
 pub record IsLawfulEnd (ask : Asked) (full : Bool) (MayAnswer : List ℕ → Answers → Type 0)
     (got : Option JobModel) (posts : List (ℕ × JobModel)) (e : Ended Row) (a : Answers) : Type 0 where
   pub job_is : got ≡ Some (job_of (row_of e))
   pub well_formed : IsWellFormed a
   pub says : Says ask full e a posts
-  pub may : MayStand MayAnswer posts (row_of e) a
+  pub may : MayAnswer (job_of (row_of e)).path a
 
 -- each row that some events gave is lawful with its answers: one for each row, the newest first. It speaks of each claim alone: until
 -- the board is closed nothing says that no number is got twice

@@ -41,7 +41,7 @@ pub fn reports_are_by_given_answers<T: Tree>(tree: &T)
     let _tree = tree;
 }
 
-/// The report of a walk of a tree of memory, each of whose files has under 4 GiB, is that of the recursive walk of the tree that its
+/// The report of a walk of a tree of memory, each of whose files has under 2^47 bytes, is that of the recursive walk of the tree that its
 /// node stands for.
 pub fn reports_of_memory_are_those_of_its_node()
     ensures one_answer { NodeOneAnswerLaw }

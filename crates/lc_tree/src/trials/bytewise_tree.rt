@@ -17,9 +17,11 @@ pub struct BytewiseTree<T>(pub T);
 impl<T: Tree> Tree for BytewiseTree<T> {
     type File = Bytewise<T::File>;
 
+    ghost use Rattle.lc_tree.specs.BytewiseContents.{ByteByByte, held_bytewise};
+
     ghost lists = { λ t path. T.lists t.0 path };
 
-    ghost gives = { λ t path. T.gives t.0 path };
+    ghost gives = { λ t path. ByteByByte (T.gives t.0 path) };
 
     fn list(&self, alloc: Global, path: &[u8]) -> Result<Listing, ReadFault> {
         self.0.list(alloc, path)
@@ -32,5 +34,7 @@ impl<T: Tree> Tree for BytewiseTree<T> {
         }
     }
 
-    ghost some_content = { λ t path. T.some_content t.0 path };
+    ghost some_listing = { λ t path. T.some_listing t.0 path };
+
+    ghost some_content = { λ t path. held_bytewise (T.gives t.0 path) (T.some_content t.0 path) };
 }

@@ -25,7 +25,7 @@ impl<'a, T: Tree> Tree for FailingTree<'a, T> {
     type File = FailingFile<'a, T::File>;
 
     ghost use Rattle.lc_tree.specs.FailingTrees.{ListsOrFails, GivesOrFails};
-    ghost use Rattle.lc_tree.specs.FailingContents.{held_or_fails};
+    ghost use Rattle.lc_tree.specs.FailingContents.{fails_to_list, held_or_fails};
 
     ghost lists = { λ t path. ListsOrFails (T.lists t.tree.now path) };
 
@@ -50,6 +50,8 @@ impl<'a, T: Tree> Tree for FailingTree<'a, T> {
             Err(fault) => Err(fault),
         }
     }
+
+    ghost some_listing = { λ t path. fails_to_list (T.lists t.tree.now path) };
 
     ghost some_content = { λ t path. held_or_fails (T.gives t.tree.now path) (T.some_content t.tree.now path) };
 }

@@ -40,6 +40,7 @@ impl<'a> Tree for Gate<'a> {
     ghost use Rattle.lc_tree.specs.MemTrees.{content_of, mem_gives};
     ghost use Rattle.lc_tree.specs.Nodes.{node_at};
     ghost use Rattle.lc_tree.specs.SysTrees.{AnyListing};
+    ghost use Rattle.lc_tree.specs.Trees.{unread};
 
     ghost lists = { λ t path. AnyListing };
 
@@ -56,7 +57,9 @@ impl<'a> Tree for Gate<'a> {
         self.tree.open_file(alloc, path)
     }
 
-    ghost some_content = { λ t path. (content_of (node_at t.tree path), λ pieces stop given. given) };
+    ghost some_listing = { λ t path. (unread, tt, tt) };
+
+    ghost some_content = { λ t path. (content_of (node_at t.tree path), λ rooms pieces stop given. given) };
 }
 
 const TWO: &str = "a/{ f } b/{ f }";

@@ -1,14 +1,14 @@
-use Rattle.std.proofs.Common.{length}
-use Rattle.lc_census.specs.Reads.{at_end, at_failure, at_neither}
-use Rattle.lc_level.proofs.Rooms.{any_room}
+use Rattle.std.proofs.Common.{Some, subst}
+use Rattle.lc_census.specs.Limits.{buffer_len}
+use Rattle.lc_census.specs.Reads.{RoomOf, Reads, at_end, at_failure, at_neither}
 use Rattle.lc_level.proofs.level_reader.LevelReader.count_file.Goals as goal
 
 pub returns-in-Ok-count_in : goal.returns-in-Ok-count_in
 returns-in-Ok-count_in g c =
     let run = c.in-Ok-count_in.ensures.counts in (
       run.0,
-      c.in-Ok.ensures run.0 at_end c.count_in.new.reader
-          (any_room g.T.File.Source.may_give (length c.args.buffer.now) run.0 at_end c.in-Ok.file c.count_in.new.reader run.1),
+      c.in-Ok.ensures (Some buffer_len) run.0 at_end c.count_in.new.reader
+          (subst (λ size. Reads g.T.File.Source.may_give (RoomOf size) c.in-Ok.file run.0 at_end c.count_in.new.reader) c.requires run.1),
       run.3,
     )
 
@@ -16,15 +16,15 @@ pub returns-in-Err-Read : goal.returns-in-Err-Read
 returns-in-Err-Read g c =
     let run = rw c.in-Err-Read.field-0-is at c.in-Err-Read.ensures.counts in (
       run.0,
-      c.in-Ok.ensures run.0 at_failure c.count_in.new.reader
-          (any_room g.T.File.Source.may_give (length c.args.buffer.now) run.0 at_failure c.in-Ok.file c.count_in.new.reader run.1),
+      c.in-Ok.ensures (Some buffer_len) run.0 at_failure c.count_in.new.reader
+          (subst (λ size. Reads g.T.File.Source.may_give (RoomOf size) c.in-Ok.file run.0 at_failure c.count_in.new.reader) c.requires run.1),
     )
 
 pub returns-in-Err-Endless : goal.returns-in-Err-Endless
 returns-in-Err-Endless g c =
     let run = rw c.in-Err-Endless.field-0-is at c.in-Err-Endless.ensures.counts in (
       run.0,
-      c.in-Ok.ensures run.0 at_neither c.count_in.new.reader
-          (any_room g.T.File.Source.may_give (length c.args.buffer.now) run.0 at_neither c.in-Ok.file c.count_in.new.reader run.1),
+      c.in-Ok.ensures (Some buffer_len) run.0 at_neither c.count_in.new.reader
+          (subst (λ size. Reads g.T.File.Source.may_give (RoomOf size) c.in-Ok.file run.0 at_neither c.count_in.new.reader) c.requires run.1),
       run.2,
     )

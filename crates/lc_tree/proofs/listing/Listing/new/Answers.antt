@@ -4,7 +4,7 @@ use Rattle.std.specs.List.Sorted.{IsStrictlySortedBy}
 use Rattle.std.proofs.lemmas.List.Sorted.{length_permutation}
 use Rattle.lc_tree.specs.Listing.{EntryModel, names, have_good_names, HaveDistinctNames}
 use Rattle.lc_tree.specs.ByteOrder.{bytes_cmp}
-use Rattle.lc_tree.proofs.Entries.{good_names_moved, distinct_names_moved, distinct_from_sorted}
+use Rattle.lc_tree.specs.MovedEntries.{good_names_moved, distinct_names_moved, distinct_from_sorted}
 use Rattle.lc_tree.proofs.listing.Listing.new.Goals as goal
 
 pub returns-then-not-are_distinct : goal.returns-then-not-are_distinct

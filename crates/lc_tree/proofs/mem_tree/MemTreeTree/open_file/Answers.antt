@@ -11,5 +11,5 @@ returns-in-Some-of_node-clause-given c =
     let path = c.args.path.now in
     let is : c.in-Some-of_node.file ≡ content_of (node_at c.args.self.now path) =
     c.in-Some-of_node.ensures ∙ (ap content_of c.in-Some.ensures ∙ ap (λ top. content_of (node_at top path)) c.self.view_is) in
-    λ pieces stop left reads. subst (λ (content : Content). GivesContent content pieces stop) is
-    (reads_give c.in-Some-of_node.file left pieces stop reads)
+    λ rooms pieces stop left reads. subst (λ (content : Content). GivesContent content rooms pieces stop) is
+    (reads_give rooms c.in-Some-of_node.file left pieces stop reads)

@@ -1,5 +1,6 @@
 use Rattle.std.proofs.Common.{subst, Err}
 use Rattle.lc_level.specs.Opens.{OpensLevel}
+use Rattle.lc_level.proofs.SomeAnswers.{some_answers}
 use Rattle.lc_level.specs.declared.open_fault.OpenFault.TheVariants as open_fault
 use Rattle.lc_walk.specs.WalkOptions.{asked_by}
 use Rattle.lc_walk.proofs.RowEnds.{serves_unread, serves_too_deep, serves_faulted}
@@ -19,10 +20,13 @@ returns-in-Err-Faulted-clause-serves g c =
 
 pub returns-in-Err-Memory-clause-serves : goal.returns-in-Err-Memory-clause-serves
 returns-in-Err-Memory-clause-serves g c =
+    let law = g.met.T.Tree g.world.𝓛 g.world.𝓜 g.world.𝓡 ((λ s x. x), (λ x. x), (λ x. x), λ x. x) in
     let tree = c.args.self.now.reader.tree.now in
     rw (c.break_off.ensures.mine, c.of.ensures)
     (serves_unread (asked_by c.args.self.now.options.now) (g.T.Tree.lists tree) (g.T.Tree.gives tree) _ c.args.job c.args.tally.now
-    c.break_off.result c.requires.1 c.break_off.ensures.memory)
+    c.break_off.result
+    (some_answers (g.T.Tree.lists tree) (g.T.Tree.gives tree) (law.some_listing tree) (law.some_content tree) c.args.job.path)
+    c.requires.1 c.break_off.ensures.memory)
 
 pub returns-in-Err-TooDeep-clause-serves : goal.returns-in-Err-TooDeep-clause-serves
 returns-in-Err-TooDeep-clause-serves g c =

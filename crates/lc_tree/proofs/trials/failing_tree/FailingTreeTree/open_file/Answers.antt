@@ -1,5 +1,5 @@
-use Rattle.lc_tree.specs.FailingTrees.{MayFail, GivesOrFails}
-use Rattle.lc_tree.proofs.Readings.{gives_follow, gives_or_fails}
+use Rattle.lc_tree.specs.FailingTrees.{MayFail}
+use Rattle.lc_tree.proofs.Readings.{reads_follow, gives_or_fails}
 use Rattle.lc_tree.proofs.trials.failing_tree.FailingTreeTree.open_file.Goals as goal
 
 -- the reads are those of the file below, but that one may fail
@@ -7,7 +7,6 @@ pub returns-in-Ok : goal.returns-in-Ok
 returns-in-Ok g c =
     let may_give = g.T.File.Source.may_give in
     let gives = g.T.Tree.gives c.args.self.now.tree.now c.args.path.now in
-    gives_follow (λ file. file.file) (λ old room answer new. MayFail may_give old.file room answer new.file) (MayFail may_give)
-    (λ old new answer read. read)
-    (GivesOrFails gives) (record { file = c.in-Ok.file; call = c.args.self.now.call })
-    (gives_or_fails may_give gives c.in-Ok.file c.in-Ok.ensures)
+    λ rooms pieces stop left reads. gives_or_fails may_give rooms gives c.in-Ok.file left.file pieces stop c.in-Ok.ensures
+    (reads_follow (λ file. file.file) (λ old room answer new. MayFail may_give old.file room answer new.file) (MayFail may_give) rooms rooms
+    (λ old new answer read. read) (record { file = c.in-Ok.file; call = c.args.self.now.call }) left pieces stop reads)

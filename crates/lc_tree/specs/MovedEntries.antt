@@ -1,4 +1,4 @@
--- What entries keep when they are moved about.
+-- What entries keep when they are moved about: proofs for the law of a tree, which reads them from here.
 use Rattle.std.proofs.Common.{◌≡◌, List, true}
 use Rattle.std.specs.Prelude.{IsTrue}
 use Rattle.std.specs.List.Sorted.{IsPermutation, IsStrictlySortedBy}

@@ -1,4 +1,4 @@
--- The listing of given entries, as a value, is their listing.
+-- The listing of given entries, as a value, is their listing: proofs for the law of a tree, which reads them from here.
 use Rattle.std.proofs.Common.{◌≡◌, ℕ, Bool, true, false, not, cond, nat_lt, inl, inr, List, [], ◌∷◌, length, map, Result, Ok}
 use Rattle.std.proofs.Common.{Err, refl, sym, ◌∙◌, ap, subst, arith, bytes_eq}
 use Rattle.std.specs.Prelude.{IfOk}
@@ -19,7 +19,7 @@ use Rattle.lc_tree.specs.Listing.{EntryModel, names, have_good_names, max_entrie
 use Rattle.lc_tree.specs.MemTrees.{IsAnswerFor}
 use Rattle.lc_tree.specs.declared.read_fault.ReadFault.{ReadFault}
 use Rattle.lc_tree.specs.declared.read_fault.ReadFault.TheVariants.{BadName, Twice, TooMany}
-use Rattle.lc_tree.proofs.Entries.{good_names_moved}
+use Rattle.lc_tree.specs.MovedEntries.{good_names_moved}
 
 module _ {X : Type 0} (name : X → List ℕ) where
   -- what holds of all holds once one more is among them
