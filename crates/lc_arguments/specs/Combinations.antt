@@ -1,9 +1,9 @@
 -- Options of a count that go together.
 use Rattle.std.specs.Prelude.{◌&&◌, ◌||◌, Bool, true, false, not, is_some, Option, Some, None}
-use Rattle.lc_view.specs.declared.table_options.Format.{Format}
-use Rattle.lc_view.specs.declared.table_options.Format.TheVariants.{Table, Csv, Markdown, Html}
-use Rattle.lc_view.specs.declared.table_options.Order.{Order}
-use Rattle.lc_view.specs.declared.table_options.Order.TheVariants.{Name}
+use Rattle.lc_sheet.specs.declared.table_options.Format.{Format}
+use Rattle.lc_sheet.specs.declared.table_options.Format.TheVariants.{Table, Csv, Markdown, Html}
+use Rattle.lc_sheet.specs.declared.table_options.Order.{Order}
+use Rattle.lc_sheet.specs.declared.table_options.Order.TheVariants.{Name}
 use Rattle.lc_arguments.specs.declared.count.CountRequest.{CountRequest}
 
 -- rows have shares in the format that was named; where none is, shares make it a table

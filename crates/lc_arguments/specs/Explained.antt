@@ -14,9 +14,9 @@ use Rattle.lc_arguments.specs.Words.{AskForNoCount, AskForNoExplanation, AsksNoC
 use Rattle.lc_arguments.specs.Words.{IsTableAt, Misvalue, is_bad_part, part_of, texts_read, values_read}
 use Rattle.lc_arguments.specs.Repeated.{are_allowed}
 use Rattle.clap.specs.Walk.{Row}
-use Rattle.lc_view.specs.declared.table_options.Columns.{Columns}
-use Rattle.lc_view.specs.declared.table_options.Format.{Format}
-use Rattle.lc_view.specs.declared.table_options.Order.{Order}
+use Rattle.lc_sheet.specs.declared.table_options.Columns.{Columns}
+use Rattle.lc_sheet.specs.declared.table_options.Format.{Format}
+use Rattle.lc_sheet.specs.declared.table_options.Order.{Order}
 use Rattle.lc_arguments.specs.TableWords.{AreColumnsBy, IsTableBy, format_word, order_word}
 use Rattle.lc_arguments.specs.declared.numbers.Numbers.{Numbers}
 use Rattle.lc_arguments.specs.declared.repeated.Repeated.{Repeated}

@@ -4,7 +4,7 @@ ghost use Rattle.std.specs.Prelude.{◌≡◌, is_some, not};
 ghost use Rattle.lc_arguments.specs.Combinations.{asks_for_rows, fit_together, is_by_name, shows_shares};
 
 use crate::count::CountRequest;
-use lc_view::{Format, Order};
+use lc_sheet::{Format, Order};
 
 /// Returns whether rows have shares in the named format, or in the table that shares make where none is named.
 fn shows_shares(format: Option<Format>) -> bool

@@ -3,9 +3,9 @@
 ghost use Rattle.std.specs.Prelude.{◌≡◌, ◌≢◌, MatchOption, option_map};
 ghost use Rattle.clap.specs.Matches.{found_of};
 ghost use Rattle.clap.specs.Walk.{rows_of};
-ghost use Rattle.lc_view.specs.declared.table_options.Columns.{Columns as ColumnsModel};
-ghost use Rattle.lc_view.specs.declared.table_options.Format.{Format as FormatModel};
-ghost use Rattle.lc_view.specs.declared.table_options.Order.{Order as OrderModel};
+ghost use Rattle.lc_sheet.specs.declared.table_options.Columns.{Columns as ColumnsModel};
+ghost use Rattle.lc_sheet.specs.declared.table_options.Format.{Format as FormatModel};
+ghost use Rattle.lc_sheet.specs.declared.table_options.Order.{Order as OrderModel};
 ghost use Rattle.lc_arguments.specs.Explained.{AnswersColumns, AnswersFormat, AnswersSort, AnswersTable, AnswersTableIn};
 ghost use Rattle.lc_arguments.specs.TableWords.{IsColumnsText, default_order, format_in, format_word, is_for_reading, number_of};
 ghost use Rattle.lc_arguments.specs.TableWords.{options_in, order_in, order_word};
@@ -13,7 +13,7 @@ ghost use Rattle.lc_arguments.specs.TableWords.{options_in, order_in, order_word
 use crate::request::{ParseExit, refused, unfit};
 use clap::ArgMatches;
 use lc_glob::cut_at_first;
-use lc_view::{Columns, Format, Order, SortBy, TableOptions};
+use lc_sheet::{Columns, Format, Order, SortBy, TableOptions};
 use std::alloc::Global;
 
 /// The table that a count is asked for, as by `--format table --by ext --sort lines`.

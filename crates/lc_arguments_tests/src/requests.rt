@@ -4,7 +4,7 @@ use lc_arguments::{
     CheckRequest, CountRequest, Exclusions, ExplainRequest, ParseExit, Request, TableRequest,
     count_words,
 };
-use lc_view::{Columns, Format, SortBy};
+use lc_sheet::{Columns, Format, SortBy};
 use std::alloc::{AllocError, Global};
 use std::process::Abort;
 use std::test::Fail;

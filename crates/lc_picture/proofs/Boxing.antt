@@ -1,6 +1,6 @@
 -- Boxes that are written one after the other.
 use Rattle.std.proofs.Common.{◌≡◌, ℕ, ◌+◌, ◌<◌, List, ◌∷◌, ◌++◌, length, drop, get_or, min, refl, sym, ap, ap₂, ◌∙◌}
-use Rattle.lc_view.specs.declared.table_options.SortBy.{SortBy}
+use Rattle.lc_sheet.specs.declared.table_options.SortBy.{SortBy}
 use Rattle.lc_picture.specs.Boxes.{BoxModel, boxes_in, next_box}
 use Rattle.lc_picture.specs.Pieces.{text_of}
 use Rattle.lc_picture.proofs.Steps.{one_on}

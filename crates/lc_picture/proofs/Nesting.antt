@@ -4,7 +4,7 @@ use Rattle.std.proofs.Common.{refl, sym, ap, ◌∙◌, append_assoc, arith}
 use Rattle.std.proofs.lemmas.Bool.{ne_eqb}
 use Rattle.std.proofs.lemmas.List.{append-nil}
 use Rattle.lc_rows.specs.ShownRows.{number_in}
-use Rattle.lc_view.specs.declared.table_options.SortBy.{SortBy}
+use Rattle.lc_sheet.specs.declared.table_options.SortBy.{SortBy}
 use Rattle.lc_picture.specs.Boxes.{BoxModel, boxes_in, closings, left_beside, opening}
 use Rattle.lc_picture.specs.Laws.{NestingLaw, open_after}
 use Rattle.lc_picture.specs.Pieces.{Piece}

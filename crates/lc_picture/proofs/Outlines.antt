@@ -7,7 +7,7 @@ use Rattle.std.proofs.lemmas.List.Elements.{filter-append}
 use Rattle.lc_rows.specs.RowKeys.{ShownRowModel}
 use Rattle.lc_rows.specs.ShownRows.{number_in}
 use Rattle.lc_rows.specs.Views.{ViewModel}
-use Rattle.lc_view.specs.declared.table_options.SortBy.{SortBy}
+use Rattle.lc_sheet.specs.declared.table_options.SortBy.{SortBy}
 use Rattle.lc_walk.specs.declared.tally.sums.Sums.{Sums}
 use Rattle.lc_picture.specs.Boxes.{BoxModel, box_of, boxes_in, closing, closings, drawn_boxes, left_beside, next_box, opening}
 use Rattle.lc_picture.specs.Chart.{chart_row, largest, others_row}

@@ -6,7 +6,7 @@ use Rattle.lc_rows.specs.Directories.{name_of}
 use Rattle.lc_rows.specs.RowKeys.{ShownRowModel}
 use Rattle.lc_rows.specs.ShownRows.{number_in}
 use Rattle.lc_text.specs.Visible.{visible_path}
-use Rattle.lc_view.specs.declared.table_options.SortBy.{SortBy}
+use Rattle.lc_sheet.specs.declared.table_options.SortBy.{SortBy}
 use Rattle.lc_walk.specs.declared.tally.sums.Sums.{Sums}
 use Rattle.lc_picture.specs.Colours.{main_colour, path_of, rows_from, shared_colour}
 use Rattle.lc_picture.specs.Pieces.{Piece, markup, name, share, sums_pieces}

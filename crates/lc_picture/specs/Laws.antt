@@ -5,7 +5,7 @@ use Rattle.std.specs.List.{filter, list_any}
 use Rattle.lc_rows.specs.RowKeys.{ShownRowModel}
 use Rattle.lc_rows.specs.ShownRows.{number_in}
 use Rattle.lc_rows.specs.Views.{ViewModel}
-use Rattle.lc_view.specs.declared.table_options.SortBy.{SortBy}
+use Rattle.lc_sheet.specs.declared.table_options.SortBy.{SortBy}
 use Rattle.lc_walk.specs.declared.tally.sums.Sums.{Sums}
 use Rattle.lc_text.specs.Visible.{visible_path}
 use Rattle.lc_picture.specs.Boxes.{BoxModel, box_of, boxes_in, drawn_boxes}

@@ -8,7 +8,7 @@ ghost use Rattle.lc_picture.specs.Pieces.{text_of};
 use crate::directory_box::DirectoryBox;
 use crate::escaping::push_name;
 use crate::sums::{number_in, push_number, push_sums};
-use lc_view::SortBy;
+use lc_sheet::SortBy;
 use std::alloc::AllocError;
 
 /// Returns what is left of a number without that of the next box, if this is right in a box of this depth.

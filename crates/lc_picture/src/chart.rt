@@ -9,7 +9,7 @@ use crate::colours::colour_of;
 use crate::escaping::push_extension;
 use crate::sums::{number_in, push_number};
 use lc_rows::{ShownRow, View};
-use lc_view::SortBy;
+use lc_sheet::SortBy;
 use lc_walk::Sums;
 use std::alloc::AllocError;
 

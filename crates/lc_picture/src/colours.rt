@@ -5,7 +5,7 @@ ghost use Rattle.lc_picture.specs.Colours.{colour_of, main_colour, path_of, plac
 
 use crate::sums::number_in;
 use lc_rows::ShownRow;
-use lc_view::SortBy;
+use lc_sheet::SortBy;
 
 /// The colour that all extensions but the first of the chart share.
 const SHARED_COLOUR: usize = 8;

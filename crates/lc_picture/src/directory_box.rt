@@ -10,7 +10,7 @@ use crate::colours::{main_colour, next_place, path_of};
 use crate::sums::number_in;
 use lc_glob::path::depth_of;
 use lc_rows::ShownRow;
-use lc_view::SortBy;
+use lc_sheet::SortBy;
 use lc_walk::Sums;
 use memchr::memrchr;
 use std::alloc::{AllocError, Global};

@@ -13,7 +13,7 @@ use crate::style::{
 };
 use crate::sums::{number_in, push_sums};
 use lc_rows::{ShownRow, View, shown_rows, tree_rows};
-use lc_view::{Columns, SortBy};
+use lc_sheet::{Columns, SortBy};
 use lc_walk::{FileLine, Report, Sums};
 use std::alloc::{AllocError, Global};
 

@@ -4,7 +4,7 @@ ghost use Rattle.std.specs.Prelude.{◌≡◌};
 ghost use Rattle.lc_picture.specs.Page.{boxes_begin, chart_begin, number_word, tree_begin};
 ghost use Rattle.lc_picture.specs.Style.{page_begin, style, sums_begin};
 
-use lc_view::SortBy;
+use lc_sheet::SortBy;
 
 /// The begin of a page, up to its style.
 pub(crate) fn page_begin() -> &'static [u8]

@@ -4,7 +4,7 @@ ghost use Rattle.std.specs.Prelude.{◌≡◌, ◌++◌, OnOk, decimal};
 ghost use Rattle.lc_rows.specs.ShownRows.{number_in};
 ghost use Rattle.lc_picture.specs.Pieces.{sums_pieces, text_of};
 
-use lc_view::SortBy;
+use lc_sheet::SortBy;
 use lc_walk::Sums;
 use std::alloc::AllocError;
 

@@ -5,7 +5,7 @@ use Rattle.lc_level.specs.FaultLines.{FaultLineModel}
 use Rattle.lc_text.specs.Writes.{AnswersPrint}
 use Rattle.lc_text.specs.declared.printing.PrintFault.{PrintFault}
 use Rattle.lc_text.specs.declared.printing.PrintFault.TheVariants.{Memory, Write}
-use Rattle.lc_view.specs.declared.table_options.Format.{Format}
+use Rattle.lc_sheet.specs.declared.table_options.Format.{Format}
 use Rattle.lc_program.specs.Faults.{AreFaultLines, TellsFaults}
 use Rattle.lc_program.specs.Tellings.{Tells}
 use Rattle.lc_program.specs.declared.unread_reason.UnreadReason.{UnreadReason}

@@ -15,7 +15,7 @@ use Rattle.lc_table.specs.Runs.{AnswersRun}
 use Rattle.lc_table.specs.declared.running.RunFault.{RunFault}
 use Rattle.lc_tree.specs.declared.file_systems.FileSystems.{FileSystems}
 use Rattle.lc_tree.specs.declared.file_systems.FileSystems.TheVariants.{All, One}
-use Rattle.lc_view.specs.declared.table_options.Format.{Format}
+use Rattle.lc_sheet.specs.declared.table_options.Format.{Format}
 use Rattle.lc_walk.specs.Walks.{Walks}
 use Rattle.lc_walk.specs.declared.options.Options.{Options}
 use Rattle.lc_program.specs.PathLists.{AnswersWanted, GivesList}

@@ -31,7 +31,7 @@ use Rattle.lc_program.specs.declared.streams.Terminals.{Terminals}
 use Rattle.lc_program.specs.declared.unread_reason.UnreadReason.{UnreadReason}
 use Rattle.lc_text.specs.declared.outcome.Outcome.{Outcome}
 use Rattle.lc_text.specs.declared.outcome.Outcome.TheVariants as outcome
-use Rattle.lc_view.specs.declared.table_options.Format.{Format}
+use Rattle.lc_sheet.specs.declared.table_options.Format.{Format}
 
 abbrev pub status_of : Ending → ℕ
 status_of Done = 0

@@ -5,8 +5,8 @@ use Rattle.lc_text.specs.declared.lines.PathEnd.TheVariants.{LineFeed, Nul}
 use Rattle.lc_text.specs.declared.style.PathFormat.{PathFormat}
 use Rattle.lc_text.specs.declared.style.PathStyle.{PathStyle}
 use Rattle.lc_text.specs.declared.style.PathStyle.TheVariants.{Escaped, Visible}
-use Rattle.lc_view.specs.declared.table_options.Format.{Format}
-use Rattle.lc_view.specs.declared.table_options.Format.TheVariants.{Table, Tsv}
+use Rattle.lc_sheet.specs.declared.table_options.Format.{Format}
+use Rattle.lc_sheet.specs.declared.table_options.Format.TheVariants.{Table, Tsv}
 
 -- how paths are printed on an output that is a terminal, or is none
 abbrev pub style_for : Bool → PathStyle

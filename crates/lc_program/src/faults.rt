@@ -6,8 +6,8 @@ ghost use Rattle.lc_program.specs.Faults.{AreFaultLines, TellsFaults, each_line,
 
 use crate::system::System;
 use crate::unlisted::uncounted_line;
+use lc_sheet::Format;
 use lc_text::{Sink, print, push_visible};
-use lc_view::Format;
 use lc_walk::FaultLine;
 use std::alloc::{AllocError, Global};
 

@@ -10,7 +10,7 @@ use Rattle.std.proofs.lemmas.List.{get_or-map, length-map}
 use Rattle.std.proofs.lemmas.List.Folds.{list_any_at}
 use Rattle.std.proofs.lemmas.List.Sorted.{sum_by-IsPermutation}
 use Rattle.std.proofs.lemmas.List.Sums.{length-filter}
-use Rattle.lc_view.specs.declared.table_options.Columns.{Columns}
+use Rattle.lc_sheet.specs.declared.table_options.Columns.{Columns}
 use Rattle.lc_walk.proofs.Filtered.{part, sum_by-filter}
 use Rattle.lc_walk.proofs.Keys.{equal_if}
 use Rattle.lc_walk.proofs.RowSums.{same_sums}

@@ -13,7 +13,7 @@ use Rattle.std.proofs.lemmas.Map.Text.{is_eq-slice_cmp}
 use Rattle.std.proofs.lemmas.Slice.Eq.{bytes_eq-Decides}
 use Rattle.lc_glob.specs.Path.{depth_of, is_good_path}
 use Rattle.lc_tree.specs.ByteOrder.{bytes_cmp}
-use Rattle.lc_view.specs.declared.table_options.Columns.{Columns}
+use Rattle.lc_sheet.specs.declared.table_options.Columns.{Columns}
 use Rattle.lc_walk.proofs.Filtered.{part, sum_by-filter}
 use Rattle.lc_walk.proofs.RowSums.{same_sums}
 use Rattle.lc_walk.specs.Key.{Key, key_cmp, same_key}

@@ -11,7 +11,7 @@ use Rattle.std.proofs.lemmas.List.Elements.{All-nil}
 use Rattle.std.proofs.lemmas.List.Sums.{sum_by-take-drop}
 use Rattle.std.proofs.lemmas.List.Sorted.{IsPermutation-refl, sorted_far}
 use Rattle.std.proofs.lemmas.Map.Keys.{ge_from_not_lt}
-use Rattle.lc_view.specs.declared.table_options.SortBy.{SortBy}
+use Rattle.lc_sheet.specs.declared.table_options.SortBy.{SortBy}
 use Rattle.lc_walk.proofs.RowSums.{same_sums}
 use Rattle.lc_walk.specs.ReportLines.{FileLineModel}
 use Rattle.lc_walk.specs.Sums.{no_files, plus}

@@ -2,8 +2,8 @@
 use Rattle.std.specs.Prelude.{◌≡◌, ◌≤◌, ◌&&◌, ℕ, true, List, length, map, Option, Some, None, unwrap_or}
 use Rattle.std.specs.List.{All, AllPass, filter}
 use Rattle.std.specs.List.Sorted.{IsPermutation}
-use Rattle.lc_view.specs.declared.table_options.Columns.{Columns}
-use Rattle.lc_view.specs.declared.table_options.SortBy.{SortBy}
+use Rattle.lc_sheet.specs.declared.table_options.Columns.{Columns}
+use Rattle.lc_sheet.specs.declared.table_options.SortBy.{SortBy}
 use Rattle.lc_glob.specs.Path.{is_good_path}
 use Rattle.lc_walk.specs.Key.{Key, same_key}
 use Rattle.lc_walk.specs.ReportLines.{FileLineModel}

@@ -6,9 +6,9 @@ use Rattle.std.specs.Ordering.{nat_cmp, on, then_cmp}
 use Rattle.std.specs.declared.cmp.Ordering.{Ordering}
 use Rattle.lc_census.specs.declared.line_count.Eol.TheVariants.{NoEnd}
 use Rattle.lc_rules.specs.declared.states.TextState.TheVariants.{Unspecified}
-use Rattle.lc_view.specs.declared.table_options.Columns.{Columns}
-use Rattle.lc_view.specs.declared.table_options.SortBy.{SortBy}
-use Rattle.lc_view.specs.declared.table_options.SortBy.TheVariants.{Files, Lines, Blank, Bytes}
+use Rattle.lc_sheet.specs.declared.table_options.Columns.{Columns}
+use Rattle.lc_sheet.specs.declared.table_options.SortBy.{SortBy}
+use Rattle.lc_sheet.specs.declared.table_options.SortBy.TheVariants.{Files, Lines, Blank, Bytes}
 use Rattle.lc_walk.specs.Extension.{extension_of}
 use Rattle.lc_walk.specs.Key.{Key}
 use Rattle.lc_walk.specs.ReportLines.{FileLineModel}

@@ -8,7 +8,7 @@ use Rattle.std.specs.Ordering.{nat_cmp, on, then_cmp}
 use Rattle.std.specs.declared.cmp.Ordering.{Ordering}
 use Rattle.lc_glob.specs.Bytes.{slash}
 use Rattle.lc_glob.specs.Path.{depth_of}
-use Rattle.lc_view.specs.declared.table_options.Columns.{Columns}
+use Rattle.lc_sheet.specs.declared.table_options.Columns.{Columns}
 use Rattle.lc_walk.specs.Key.{key_cmp}
 use Rattle.lc_walk.specs.ReportLines.{FileLineModel}
 use Rattle.lc_rows.specs.Directories.{directory_of, parent_of}

@@ -9,7 +9,7 @@ use crate::adding_up::added_up;
 use crate::parts::{Part, file_part};
 use crate::shown_row::ShownRow;
 use lc_glob::path::depth_of;
-use lc_view::Columns;
+use lc_sheet::Columns;
 use lc_walk::FileLine;
 use std::alloc::{AllocError, Global};
 

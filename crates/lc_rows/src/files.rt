@@ -4,7 +4,7 @@ ghost use Rattle.std.specs.Prelude.{◌≡◌};
 ghost use Rattle.std.specs.List.Sorted.{IsPermutation, IsSorted};
 ghost use Rattle.lc_rows.specs.ShownFiles.{AreFilesSorted, file_cmp, file_number};
 
-use lc_view::SortBy;
+use lc_sheet::SortBy;
 use lc_walk::FileLine;
 use std::cmp::Ordering;
 

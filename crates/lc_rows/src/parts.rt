@@ -9,7 +9,7 @@ use crate::directories::{first_segments, split_path};
 use crate::row_key::RowKeyRef;
 use lc_census::Eol;
 use lc_rules::TextState;
-use lc_view::Columns;
+use lc_sheet::Columns;
 use lc_walk::{FileLine, KeyRef, Sums, TallyRow, extension};
 use std::alloc::{AllocError, Global};
 use std::marker::Model;

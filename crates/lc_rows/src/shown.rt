@@ -7,7 +7,7 @@ ghost use Rattle.lc_rows.specs.ShownRows.{AreShown, AreSorted, AreSummed, keeps_
 use crate::adding_up::{added_up, rows_of};
 use crate::parts::parts_of;
 use crate::shown_row::ShownRow;
-use lc_view::{Columns, SortBy};
+use lc_sheet::{Columns, SortBy};
 use lc_walk::{FileLine, Sums, TallyRow};
 use std::alloc::{AllocError, Global};
 use std::cmp::Ordering;

@@ -9,7 +9,7 @@ use Rattle.csv.specs.Reading.{AreRecords, Reached, default_config}
 use Rattle.csv.specs.Writing.{read_back}
 use Rattle.csv.specs.declared.parser.State.TheVariants.{StartRecord}
 use Rattle.lc_rows.specs.RowKeys.{ShownRowModel}
-use Rattle.lc_view.specs.declared.table_options.Columns.{Columns}
+use Rattle.lc_sheet.specs.declared.table_options.Columns.{Columns}
 use Rattle.lc_table.specs.CsvFields.{extension_field, field_if, file_fields, file_headings, row_fields, row_headings, skipped_fields}
 use Rattle.lc_table.specs.CsvFields.{skipped_headings, text_field}
 use Rattle.lc_table.specs.CsvText.{file_records, record_text, row_records, skipped_records}

@@ -11,8 +11,8 @@ use Rattle.lc_rows.proofs.RowLaws.{totals_law}
 use Rattle.lc_rows.specs.Laws.{totals_of}
 use Rattle.lc_rows.specs.RowKeys.{ShownRowModel, sums_of_shown}
 use Rattle.lc_rows.specs.ShownRows.{number_in}
-use Rattle.lc_view.specs.declared.table_options.SortBy.{SortBy}
-use Rattle.lc_view.specs.declared.table_options.SortBy.TheVariants.{Files, Lines, Blank, Bytes}
+use Rattle.lc_sheet.specs.declared.table_options.SortBy.{SortBy}
+use Rattle.lc_sheet.specs.declared.table_options.SortBy.TheVariants.{Files, Lines, Blank, Bytes}
 use Rattle.lc_table.specs.RowShares.{largest}
 use Rattle.lc_table.specs.ShareLaws.{NearestLaw, RowBarsLaw, RowSharesLaw, WholeLaw}
 use Rattle.lc_table.specs.Shares.{rounded_parts}

@@ -6,7 +6,7 @@ use Rattle.std.specs.Result.{IsErrAnd}
 use Rattle.lc_level.specs.FaultLines.{FaultLineModel}
 use Rattle.lc_text.specs.declared.printing.PrintFault.{PrintFault}
 use Rattle.lc_text.specs.declared.printing.PrintFault.TheVariants as print
-use Rattle.lc_view.specs.declared.table_options.TableOptions.{TableOptions}
+use Rattle.lc_sheet.specs.declared.table_options.TableOptions.{TableOptions}
 use Rattle.lc_census.specs.declared.source.Failed.{Failed}
 use Rattle.lc_walk.specs.declared.report.Report.{Report}
 use Rattle.lc_walk.specs.declared.walk_fault.WalkFault.{WalkFault}

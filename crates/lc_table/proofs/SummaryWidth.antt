@@ -6,7 +6,7 @@ use Rattle.std.specs.List.{All}
 use Rattle.std.proofs.lemmas.List.{map-append}
 use Rattle.std.proofs.lemmas.List.Elements.{All-append, All-cons, All-head, All-map, All-nil, All-tail, All-weaker}
 use Rattle.lc_text.specs.Visible.{visible_path}
-use Rattle.lc_view.specs.declared.table_options.Columns.{Columns}
+use Rattle.lc_sheet.specs.declared.table_options.Columns.{Columns}
 use Rattle.lc_rows.specs.RowKeys.{ShownRowModel}
 use Rattle.lc_rows.specs.Views.{ViewModel}
 use Rattle.lc_walk.specs.declared.report.Report.{Report}

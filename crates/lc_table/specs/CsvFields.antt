@@ -6,7 +6,7 @@ use Rattle.lc_rows.specs.RowKeys.{ShownRowModel}
 use Rattle.lc_rules.specs.declared.states.TextState.{TextState}
 use Rattle.lc_rules.specs.declared.states.TextState.TheVariants as text
 use Rattle.lc_text.specs.RulePlaces.{rule_file}
-use Rattle.lc_view.specs.declared.table_options.Columns.{Columns}
+use Rattle.lc_sheet.specs.declared.table_options.Columns.{Columns}
 use Rattle.lc_walk.specs.Extension.{extension_of}
 use Rattle.lc_walk.specs.ReportLines.{FileLineModel, SkippedLineModel}
 use Rattle.lc_table.specs.DirectoryWords.{directory_name}

@@ -6,8 +6,8 @@ use Rattle.csv.specs.Writing.{default_writer, fields_written, has_written, row_t
 use Rattle.csv.specs.declared.writer.Writer.{Writer}
 use Rattle.lc_rows.specs.RowKeys.{ShownRowModel}
 use Rattle.lc_rows.specs.Views.{ViewModel}
-use Rattle.lc_view.specs.declared.table_options.Columns.{Columns}
-use Rattle.lc_view.specs.declared.table_options.TableOptions.{TableOptions}
+use Rattle.lc_sheet.specs.declared.table_options.Columns.{Columns}
+use Rattle.lc_sheet.specs.declared.table_options.TableOptions.{TableOptions}
 use Rattle.lc_walk.specs.ReportLines.{FileLineModel, SkippedLineModel}
 use Rattle.lc_walk.specs.declared.report.Report.{Report}
 use Rattle.lc_table.specs.CsvFields.{file_fields, file_headings, row_fields, row_headings, skipped_fields, skipped_headings}

@@ -2,7 +2,7 @@
 use Rattle.std.specs.Prelude.{ℕ, if◌then◌else◌, List, [], ◌∷◌, ◌++◌, map, flat_map, codes}
 use Rattle.lc_rows.specs.Classes.{all_sums}
 use Rattle.lc_rows.specs.Views.{ViewModel}
-use Rattle.lc_view.specs.declared.table_options.TableOptions.{TableOptions}
+use Rattle.lc_sheet.specs.declared.table_options.TableOptions.{TableOptions}
 use Rattle.lc_walk.specs.declared.report.Report.{Report}
 use Rattle.lc_table.specs.Columns.{CellModel, number}
 use Rattle.lc_table.specs.MarkdownCells.{cell_text, rule_cell}

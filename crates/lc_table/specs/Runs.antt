@@ -8,7 +8,7 @@ use Rattle.lc_walk.specs.declared.walk_fault.WalkFault.{WalkFault}
 use Rattle.lc_table.specs.TableText.{IsTextOf}
 use Rattle.lc_text.specs.Writes.{Writes, StopsWriting}
 use Rattle.lc_text.specs.declared.printing.PrintFault.{PrintFault}
-use Rattle.lc_view.specs.declared.table_options.TableOptions.{TableOptions}
+use Rattle.lc_sheet.specs.declared.table_options.TableOptions.{TableOptions}
 use Rattle.lc_text.specs.declared.printing.PrintFault.TheVariants as print
 use Rattle.lc_table.specs.declared.running.RunFault.{RunFault}
 use Rattle.lc_table.specs.declared.running.RunFault.TheVariants.{Walk, Memory, Write}

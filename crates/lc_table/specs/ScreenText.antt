@@ -4,7 +4,7 @@ use Rattle.std.specs.Prelude.{Some, None}
 use Rattle.lc_level.specs.FaultLines.{FaultLineModel}
 use Rattle.lc_level.specs.FaultWords.{fault_word}
 use Rattle.lc_text.specs.Visible.{visible_bytes, visible_path}
-use Rattle.lc_view.specs.declared.table_options.Columns.{Columns}
+use Rattle.lc_sheet.specs.declared.table_options.Columns.{Columns}
 use Rattle.lc_walk.specs.ReportLines.{FileLineModel, SkippedLineModel}
 use Rattle.lc_walk.specs.declared.report.Report.{Report}
 use Rattle.lc_walk.specs.declared.tally.sums.Sums.{Sums}
@@ -19,7 +19,7 @@ use Rattle.lc_table.specs.RowShares.{row_columns, row_shares, share_headings, su
 use Rattle.lc_table.specs.SkippedWords.{reason_word, reason_place, skipped_path}
 use Rattle.lc_table.specs.TsvText.{eol_word, text_word}
 use Rattle.lc_table.specs.declared.row_columns.RowColumns.{RowColumns}
-use Rattle.lc_view.specs.declared.table_options.TableOptions.{TableOptions}
+use Rattle.lc_sheet.specs.declared.table_options.TableOptions.{TableOptions}
 
 abbrev pub integer : ℕ → CellModel
 integer n = number (with_commas (decimal n))

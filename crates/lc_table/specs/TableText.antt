@@ -1,8 +1,8 @@
 -- The text of a table, by its options.
 use Rattle.std.specs.Prelude.{◌≡◌, ℕ, Bool, true, false, if◌then◌else◌, List, []}
-use Rattle.lc_view.specs.declared.table_options.Format.{Format}
-use Rattle.lc_view.specs.declared.table_options.Format.TheVariants.{Tsv, Table, Json, Csv, Markdown, Html}
-use Rattle.lc_view.specs.declared.table_options.TableOptions.{TableOptions}
+use Rattle.lc_sheet.specs.declared.table_options.Format.{Format}
+use Rattle.lc_sheet.specs.declared.table_options.Format.TheVariants.{Tsv, Table, Json, Csv, Markdown, Html}
+use Rattle.lc_sheet.specs.declared.table_options.TableOptions.{TableOptions}
 use Rattle.lc_picture.specs.Page.{IsPageOf, drawn_number}
 use Rattle.lc_table.specs.CsvText.{csv_text_of}
 use Rattle.lc_table.specs.JsonText.{IsDocument, json_text_of, report_value}

@@ -1,7 +1,7 @@
 -- Parts of lines with tabs, as the code makes them.
 use Rattle.std.specs.Prelude.{ℕ, if◌then◌else◌, List, ◌∷◌, codes, is_some}
 use Rattle.lc_rows.specs.RowKeys.{ShownRowModel}
-use Rattle.lc_view.specs.declared.table_options.Columns.{Columns}
+use Rattle.lc_sheet.specs.declared.table_options.Columns.{Columns}
 use Rattle.lc_table.specs.TsvText.{column, eol_word, extension_word, line_with, sums_fields, text_word}
 
 -- a row from its extension on

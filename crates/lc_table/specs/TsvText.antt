@@ -13,7 +13,7 @@ use Rattle.lc_walk.specs.declared.tally.sums.Sums.{Sums}
 use Rattle.lc_level.specs.FaultWords.{fault_word}
 use Rattle.lc_walk.specs.declared.report.Report.{Report}
 use Rattle.lc_text.specs.Escape.{escape_bytes, escape_path}
-use Rattle.lc_view.specs.declared.table_options.Columns.{Columns}
+use Rattle.lc_sheet.specs.declared.table_options.Columns.{Columns}
 use Rattle.lc_rows.specs.Views.{ViewModel}
 use Rattle.lc_table.specs.SkippedWords.{reason_word, reason_place, skipped_path}
 

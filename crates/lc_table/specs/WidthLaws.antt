@@ -9,7 +9,7 @@ use Rattle.lc_walk.specs.ReportLines.{FileLineModel, SkippedLineModel}
 use Rattle.lc_walk.specs.declared.report.Report.{Report}
 use Rattle.lc_rows.specs.RowKeys.{ShownRowModel}
 use Rattle.lc_rows.specs.Views.{ViewModel}
-use Rattle.lc_view.specs.declared.table_options.TableOptions.{TableOptions}
+use Rattle.lc_sheet.specs.declared.table_options.TableOptions.{TableOptions}
 use Rattle.lc_table.specs.Blanks.{ends_in_blank, without_blanks}
 use Rattle.lc_table.specs.Columns.{width_of}
 use Rattle.lc_table.specs.PaddedText.{padded_counts, padded_summary}

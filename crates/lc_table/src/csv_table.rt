@@ -15,8 +15,8 @@ use lc_census::Count;
 use lc_level::Reason;
 use lc_rows::{ShownRow, View, directory_at};
 use lc_rules::TextState;
+use lc_sheet::{Columns, TableOptions};
 use lc_text::{source_directory, source_name};
-use lc_view::{Columns, TableOptions};
 use lc_walk::{FileLine, Report, SkippedLine, Sums};
 use std::alloc::{AllocError, Global};
 

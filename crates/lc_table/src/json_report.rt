@@ -20,7 +20,7 @@ use crate::words::{directory_name, eol_word, text_word};
 use lc_census::Eol;
 use lc_rows::{ClassSums, ShownRow, View, directory_at};
 use lc_rules::TextState;
-use lc_view::{Columns, TableOptions};
+use lc_sheet::{Columns, TableOptions};
 use lc_walk::{FaultLine, FileLine, Report, Sums, TallyRow};
 use std::alloc::{AllocError, Global};
 

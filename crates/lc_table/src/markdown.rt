@@ -14,7 +14,7 @@ use crate::markdown_line::{Weight, push_headings, push_line};
 use crate::row_cells::{set_headings, set_row, set_sums};
 use crate::row_columns::RowColumns;
 use lc_rows::{AllSums, ShownRow, View};
-use lc_view::TableOptions;
+use lc_sheet::TableOptions;
 use lc_walk::{Report, Sums};
 use std::alloc::{AllocError, Global};
 

@@ -11,7 +11,7 @@ use crate::row_columns::{RowColumns, Shares, number_in};
 use crate::shares::rounded_parts;
 use crate::words::{eol_word, text_word};
 use lc_rows::ShownRow;
-use lc_view::Columns;
+use lc_sheet::Columns;
 use lc_walk::Sums;
 use std::alloc::AllocError;
 

@@ -6,7 +6,7 @@ ghost use Rattle.lc_rows.specs.Views.{view_model};
 ghost use Rattle.lc_table.specs.RowShares.{largest, largest_in, row_columns, shares_of};
 
 use lc_rows::{ShownRow, View};
-use lc_view::{Columns, Format, SortBy, TableOptions};
+use lc_sheet::{Columns, Format, SortBy, TableOptions};
 use lc_walk::{Report, Sums};
 
 /// The shares of rows in a number.

@@ -7,9 +7,9 @@ ghost use Rattle.lc_table.specs.Runs.{AnswersRun, table_fault};
 ghost use Rattle.lc_table.specs.declared.running.RunFault.TheVariants.{Walk};
 
 use crate::writing::table;
+use lc_sheet::TableOptions;
 use lc_text::{PrintFault, Sink};
 use lc_tree::Tree;
-use lc_view::TableOptions;
 use lc_walk::{FaultLine, Options, WalkFault, walk};
 use std::alloc::Global;
 use std::sync::Wait;

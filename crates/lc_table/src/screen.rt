@@ -12,7 +12,7 @@ use crate::listing::push_listing;
 use crate::row_columns::RowColumns;
 use crate::summary::push_summary;
 use lc_rows::View;
-use lc_view::TableOptions;
+use lc_sheet::TableOptions;
 use lc_walk::Report;
 use std::alloc::{AllocError, Global};
 

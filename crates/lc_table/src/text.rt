@@ -11,7 +11,7 @@ use crate::screen::screen_text;
 use crate::tsv::tsv_text;
 use lc_picture::page;
 use lc_rows::{View, shown_rows, sort_files};
-use lc_view::{Format, TableOptions};
+use lc_sheet::{Format, TableOptions};
 use lc_walk::{FileLine, Report};
 use std::alloc::{AllocError, Global};
 

@@ -4,8 +4,8 @@ ghost use Rattle.std.specs.Prelude.{◌≡◌};
 ghost use Rattle.lc_table.specs.Runs.{AnswersTable};
 
 use crate::text::table_text;
+use lc_sheet::TableOptions;
 use lc_text::{PrintFault, Sink, print};
-use lc_view::TableOptions;
 use lc_walk::Report;
 use std::alloc::Global;
 

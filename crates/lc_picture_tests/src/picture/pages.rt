@@ -3,7 +3,7 @@
 use lc_census::{Count, Eol};
 use lc_picture::page;
 use lc_rules::TextState;
-use lc_view::SortBy;
+use lc_sheet::SortBy;
 use lc_walk::{FileLine, Report, ReportLists, Sums, TallyRow};
 use std::alloc::{AllocError, Global};
 use std::test::Fail;

@@ -4,7 +4,7 @@ use crate::rows::files::{BY_DIRECTORY, File, NONE, Row, are_rows, file_lines, su
 use lc_census::Eol;
 use lc_rows::{View, shown_rows};
 use lc_rules::TextState;
-use lc_view::{Columns, SortBy};
+use lc_sheet::{Columns, SortBy};
 use lc_walk::TallyRow;
 use std::alloc::{AllocError, Global};
 use std::process::Abort;

@@ -3,7 +3,7 @@
 use lc_census::{Count, Eol};
 use lc_rows::ShownRow;
 use lc_rules::TextState;
-use lc_view::Columns;
+use lc_sheet::Columns;
 use lc_walk::{FileLine, Sums};
 use std::alloc::{AllocError, Global};
 

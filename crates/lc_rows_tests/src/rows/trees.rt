@@ -3,7 +3,7 @@
 use crate::rows::files::{BY_DIRECTORY, File, NONE, Row, are_rows, file_lines};
 use lc_census::Eol;
 use lc_rows::tree_rows;
-use lc_view::Columns;
+use lc_sheet::Columns;
 use std::process::Abort;
 use std::test::Fail;
 

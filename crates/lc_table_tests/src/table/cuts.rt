@@ -4,7 +4,7 @@ use crate::table::asking::{HEADER, TSV};
 use crate::table::tables::{Case, NONE, compare_all};
 use lc_census::Eol;
 use lc_rules::TextState;
-use lc_view::{Format, SortBy, TableOptions};
+use lc_sheet::{Format, SortBy, TableOptions};
 use std::test::Fail;
 
 const LINES_TOP_1: TableOptions = TableOptions {

@@ -4,7 +4,7 @@ use crate::table::asking::TSV;
 use crate::table::tables::{Case, NONE, compare_as_asked};
 use lc_census::Eol;
 use lc_rules::TextState;
-use lc_view::{Columns, Format, SortBy, TableOptions};
+use lc_sheet::{Columns, Format, SortBy, TableOptions};
 use std::test::Fail;
 
 const HEADER: &[u8] = b"dir\text\ttext\teol\tfiles\tlines\tblank\tbytes\n";

@@ -6,7 +6,7 @@ use crate::table::tables::{Case, NONE, compare_as_asked};
 use lc_census::Eol;
 use lc_level::FaultWord;
 use lc_rules::TextState;
-use lc_view::{Columns, Format, SortBy, TableOptions};
+use lc_sheet::{Columns, Format, SortBy, TableOptions};
 use std::test::Fail;
 
 const CSV: TableOptions = TableOptions {

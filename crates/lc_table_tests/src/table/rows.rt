@@ -4,7 +4,7 @@ use crate::table::asking::{HEADER, TSV};
 use crate::table::tables::{Case, NONE, compare_all, has_parts, report_of};
 use lc_census::Eol;
 use lc_rules::TextState;
-use lc_view::{Columns, SortBy, TableOptions};
+use lc_sheet::{Columns, SortBy, TableOptions};
 use std::alloc::{AllocError, Global};
 use std::process::Abort;
 use std::test::Fail;

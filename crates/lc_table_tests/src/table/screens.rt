@@ -5,7 +5,7 @@ use crate::table::tables::{Case, NONE, compare_all};
 use lc_census::Eol;
 use lc_level::FaultWord;
 use lc_rules::TextState;
-use lc_view::{Columns, Format, SortBy, TableOptions};
+use lc_sheet::{Columns, Format, SortBy, TableOptions};
 use std::test::Fail;
 
 const SCREEN: TableOptions = TableOptions {

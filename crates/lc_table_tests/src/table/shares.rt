@@ -5,8 +5,8 @@ use crate::table::screens::EMPTY;
 use crate::table::tables::{Case, NONE, compare_as_asked};
 use lc_census::Eol;
 use lc_rules::TextState;
+use lc_sheet::{Format, SortBy, TableOptions};
 use lc_table::push_number;
-use lc_view::{Format, SortBy, TableOptions};
 use std::test::Fail;
 
 const SHARES: TableOptions = TableOptions {
