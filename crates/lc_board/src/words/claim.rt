@@ -33,7 +33,7 @@ fn number_after(number: u32, taken: u32, busy: bool) -> u32
 }
 
 impl<J, R> Words<J, R> {
-    /// Looks at the number, and claims it if it is open. Or else gives the word.
+    /// Looks at the number, and claims it if it is open. Returns its job, or else the word that was found.
     fn visit(&self, pass: &mut WordsPass<J, R>, number: u32) -> Result<J, Word>
         requires board { IsPassOf self.now pass.old }
         requires free { pass.old.holding ≡ None }
