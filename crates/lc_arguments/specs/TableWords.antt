@@ -9,8 +9,8 @@ use Rattle.lc_sheet.specs.declared.table_options.Format.TheVariants.{Tsv, Table,
 use Rattle.lc_sheet.specs.declared.table_options.Order.{Order}
 use Rattle.lc_sheet.specs.declared.table_options.Order.TheVariants.{Name, Largest}
 use Rattle.lc_sheet.specs.declared.table_options.TableOptions.{TableOptions}
-use Rattle.lc_sheet.specs.declared.table_options.SortBy.{SortBy}
-use Rattle.lc_sheet.specs.declared.table_options.SortBy.TheVariants.{Files, Lines, Blank, Bytes}
+use Rattle.lc_sheet.specs.declared.column.Number.{Number}
+use Rattle.lc_sheet.specs.declared.column.Number.TheVariants.{Files, Lines, Blank, Bytes}
 use Rattle.lc_arguments.specs.declared.table.TableRequest.{TableRequest}
 
 abbrev pub format_word : Format → List ℕ
@@ -21,7 +21,7 @@ format_word Csv = codes "csv"
 format_word Markdown = codes "markdown"
 format_word Html = codes "html"
 
-abbrev pub sort_word : SortBy → List ℕ
+abbrev pub sort_word : Number → List ℕ
 sort_word Files = codes "files"
 sort_word Lines = codes "lines"
 sort_word Blank = codes "blank"
@@ -85,7 +85,7 @@ abbrev pub default_order : Format → Option ℕ → Order
 default_order format top = cond (is_some top || is_for_reading format) (Largest Lines) Name
 
 -- the number by which an order sorts; that of names sorts by none
-abbrev pub number_of : Order → Option SortBy
+abbrev pub number_of : Order → Option Number
 number_of Name = None
 number_of (Largest number) = Some number
 

@@ -13,7 +13,7 @@ ghost use Rattle.lc_arguments.specs.TableWords.{options_in, order_in, order_word
 use crate::request::{ParseExit, refused, unfit};
 use clap::ArgMatches;
 use lc_glob::cut_at_first;
-use lc_sheet::{Columns, Format, Order, SortBy, TableOptions};
+use lc_sheet::{Columns, Format, Order, Number, TableOptions};
 use std::alloc::Global;
 
 /// The table that a count is asked for, as by `--format table --by ext --sort lines`.
@@ -45,14 +45,14 @@ fn default_order(format: Format, top: Option<u32>) -> Order
     ensures { result ≡ default_order format top }
 {
     if top.is_some() || is_for_reading(format) {
-        Order::Largest(SortBy::Lines)
+        Order::Largest(Number::Lines)
     } else {
         Order::Name
     }
 }
 
 /// Returns the number by which an order sorts, if it is not that of names.
-fn number_of(order: Order) -> Option<SortBy>
+fn number_of(order: Order) -> Option<Number>
     ensures { result ≡ number_of order }
 {
     match order {
@@ -114,10 +114,10 @@ fn order_named(name: &str) -> Option<Order>
 {
     match name {
         "name" => Some(Order::Name),
-        "files" => Some(Order::Largest(SortBy::Files)),
-        "lines" => Some(Order::Largest(SortBy::Lines)),
-        "blank" => Some(Order::Largest(SortBy::Blank)),
-        "bytes" => Some(Order::Largest(SortBy::Bytes)),
+        "files" => Some(Order::Largest(Number::Files)),
+        "lines" => Some(Order::Largest(Number::Lines)),
+        "blank" => Some(Order::Largest(Number::Blank)),
+        "bytes" => Some(Order::Largest(Number::Bytes)),
         _ => None,
     }
 }

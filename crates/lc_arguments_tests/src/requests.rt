@@ -4,7 +4,7 @@ use lc_arguments::{
     CheckRequest, CountRequest, Exclusions, ExplainRequest, ParseExit, Request, TableRequest,
     count_words,
 };
-use lc_sheet::{Columns, Format, SortBy};
+use lc_sheet::{Columns, Format, Number};
 use std::alloc::{AllocError, Global};
 use std::process::Abort;
 use std::test::Fail;
@@ -510,7 +510,7 @@ fn refused_words_and_commands_that_work(rt: HostRuntime) -> Result<(), Fail> {
 }
 
 /// Returns the number by which a table with these words is sorted, in a format.
-fn sorted_by(alloc: Global, line: &str, format: Format) -> Result<Option<SortBy>, AllocError> {
+fn sorted_by(alloc: Global, line: &str, format: Format) -> Result<Option<Number>, AllocError> {
     let words = words_of(alloc, line)?;
     match Request::read(alloc, words.as_slice()) {
         Ok(Request::Count(request)) => Ok(request.table.options(format).sort),
@@ -521,7 +521,7 @@ fn sorted_by(alloc: Global, line: &str, format: Format) -> Result<Option<SortBy>
 
 #[test]
 fn orders_of_formats(rt: HostRuntime) -> Result<(), Fail> {
-    let lines = Some(SortBy::Lines);
+    let lines = Some(Number::Lines);
     for (line, format, wanted) in [
         ("count", Format::Tsv, None),
         ("count", Format::Table, lines),
@@ -531,7 +531,7 @@ fn orders_of_formats(rt: HostRuntime) -> Result<(), Fail> {
         ("count --share", Format::Tsv, lines),
         ("count --sort name", Format::Table, None),
         ("count --sort name --top 3", Format::Csv, None),
-        ("count --sort bytes", Format::Table, Some(SortBy::Bytes)),
+        ("count --sort bytes", Format::Table, Some(Number::Bytes)),
     ] {
         let found = sorted_by(rt.alloc(), line, format)?;
         assert!(rt; found == wanted, "{line}, {format:?}: {found:?}");

@@ -1,13 +1,13 @@
 -- Boxes that are written one after the other.
 use Rattle.std.proofs.Common.{◌≡◌, ℕ, ◌+◌, ◌<◌, List, ◌∷◌, ◌++◌, length, drop, get_or, min, refl, sym, ap, ap₂, ◌∙◌}
-use Rattle.lc_sheet.specs.declared.table_options.SortBy.{SortBy}
+use Rattle.lc_sheet.specs.declared.column.Number.{Number}
 use Rattle.lc_picture.specs.Boxes.{BoxModel, boxes_in, next_box}
 use Rattle.lc_picture.specs.Pieces.{text_of}
 use Rattle.lc_picture.proofs.Steps.{one_on}
 use Rattle.lc_picture.proofs.Texts.{two_texts}
 
 -- behind the next box of some come the others
-pub one_box_more : (by : SortBy) (within next : ℕ) (t0 t1 all : List ℕ) (b d : BoxModel) (bs after : List BoxModel) (i : ℕ)
+pub one_box_more : (by : Number) (within next : ℕ) (t0 t1 all : List ℕ) (b d : BoxModel) (bs after : List BoxModel) (i : ℕ)
     → i < length bs → b ≡ get_or bs i d → after ≡ drop (i + 1) bs → next ≡ min within b.depth + 1
     → t1 ≡ t0 ++ text_of (next_box by within b after) → t0 ++ text_of (boxes_in by within (drop i bs)) ≡ all
     → t1 ++ text_of (boxes_in by next (drop (i + 1) bs)) ≡ all

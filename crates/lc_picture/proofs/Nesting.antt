@@ -4,7 +4,7 @@ use Rattle.std.proofs.Common.{refl, sym, ap, ◌∙◌, append_assoc, arith}
 use Rattle.std.proofs.lemmas.Bool.{ne_eqb}
 use Rattle.std.proofs.lemmas.List.{append-nil}
 use Rattle.lc_rows.specs.ShownRows.{number_in}
-use Rattle.lc_sheet.specs.declared.table_options.SortBy.{SortBy}
+use Rattle.lc_sheet.specs.declared.column.Number.{Number}
 use Rattle.lc_picture.specs.Boxes.{BoxModel, boxes_in, closings, left_beside, opening}
 use Rattle.lc_picture.specs.Laws.{NestingLaw, open_after}
 use Rattle.lc_picture.specs.Pieces.{Piece}
@@ -18,11 +18,11 @@ closed_after n (suc k) ps le =
     let next : n - 1 - k ≡ n - suc k = omega arith in
     one_closed n (closings k ++ ps) (omega arith) ∙ closed_after (n - 1) k ps (omega arith) ∙ ap (λ (m : ℕ). open_after m ps) next
 
-opened_after : (n : ℕ) (by : SortBy) (b : BoxModel) (left : ℕ) (ps : List Piece)
+opened_after : (n : ℕ) (by : Number) (b : BoxModel) (left : ℕ) (ps : List Piece)
     → open_after n (opening by b left ++ ps) ≡ open_after (n + 1) ps
 opened_after n by b left ps = refl
 
-all_closed : (by : SortBy) (within : ℕ) (bs : List BoxModel) → open_after within (boxes_in by within bs) ≡ Some 0
+all_closed : (by : Number) (within : ℕ) (bs : List BoxModel) → open_after within (boxes_in by within bs) ≡ Some 0
 all_closed by within [] =
     let none : within - within ≡ 0 = omega arith in
     ap (open_after within) (sym (append-nil (closings within))) ∙ closed_after within within [] (omega arith) ∙ ap (λ (n : ℕ). Some n) none

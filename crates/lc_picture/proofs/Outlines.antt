@@ -7,7 +7,7 @@ use Rattle.std.proofs.lemmas.List.Elements.{filter-append}
 use Rattle.lc_rows.specs.RowKeys.{ShownRowModel}
 use Rattle.lc_rows.specs.ShownRows.{number_in}
 use Rattle.lc_rows.specs.Views.{ViewModel}
-use Rattle.lc_sheet.specs.declared.table_options.SortBy.{SortBy}
+use Rattle.lc_sheet.specs.declared.column.Number.{Number}
 use Rattle.lc_walk.specs.declared.tally.sums.Sums.{Sums}
 use Rattle.lc_picture.specs.Boxes.{BoxModel, box_of, boxes_in, closing, closings, drawn_boxes, left_beside, next_box, opening}
 use Rattle.lc_picture.specs.Chart.{chart_row, largest, others_row}
@@ -23,22 +23,22 @@ closings_show : (n : ℕ) → filter is_shown (closings n) ≡ []
 closings_show zero = refl
 closings_show (suc n) = closings_show n
 
-box_shows : (by : SortBy) (within : ℕ) (b : BoxModel) (bs : List BoxModel) → filter is_shown (next_box by within b bs) ≡ shown_of_box b
+box_shows : (by : Number) (within : ℕ) (b : BoxModel) (bs : List BoxModel) → filter is_shown (next_box by within b bs) ≡ shown_of_box b
 box_shows by within b bs =
     filter-append is_shown (closings (within - b.depth)) (opening by b (left_beside by b.depth (number_in by b.sums) bs))
     ∙ ap (λ (ps : List Piece). ps ++ shown_of_box b) (closings_show (within - b.depth))
 
-boxes_show : (by : SortBy) (within : ℕ) (bs : List BoxModel) → filter is_shown (boxes_in by within bs) ≡ flat_map shown_of_box bs
+boxes_show : (by : Number) (within : ℕ) (bs : List BoxModel) → filter is_shown (boxes_in by within bs) ≡ flat_map shown_of_box bs
 boxes_show by within [] = closings_show within
 boxes_show by within (b ∷ bs) =
     filter-append is_shown (next_box by within b bs) (boxes_in by (min within b.depth + 1) bs)
     ∙ ap₂ (λ (ps qs : List Piece). ps ++ qs) (box_shows by within b bs) (boxes_show by (min within b.depth + 1) bs)
 
-tree_shows : (by : SortBy) (bs : List BoxModel) → filter is_shown (tree_part by bs) ≡ flat_map shown_of_box bs
+tree_shows : (by : Number) (bs : List BoxModel) → filter is_shown (tree_part by bs) ≡ flat_map shown_of_box bs
 tree_shows by bs =
     filter-append is_shown (boxes_in by 0 bs) _ ∙ append-nil (filter is_shown (boxes_in by 0 bs)) ∙ boxes_show by 0 bs
 
-rows_show : (by : SortBy) (most : ℕ) (all rows : List ShownRowModel)
+rows_show : (by : Number) (most : ℕ) (all rows : List ShownRowModel)
     → filter is_shown (flat_map (chart_row by most all) rows) ≡ flat_map shown_of_row rows
 rows_show by most all [] = refl
 rows_show by most all (r ∷ rs) =
@@ -49,7 +49,7 @@ others_show : (others : Option Sums) → filter is_shown (others_row others) ≡
 others_show None = refl
 others_show (Some s) = refl
 
-chart_shows : (by : SortBy) (v : ViewModel)
+chart_shows : (by : Number) (v : ViewModel)
     → filter is_shown (chart_part by v) ≡ flat_map shown_of_row v.rows ++ shown_of_others v.others
 chart_shows by v =
     filter-append is_shown (flat_map (chart_row by (largest by v.rows) v.rows) v.rows) (others_row v.others)
@@ -63,7 +63,7 @@ shown_law by totals v boxes =
 
 -- ---- the directories that are drawn
 
-drawn_row : (by : SortBy) (least : ℕ) (chart : List ShownRowModel) (r : ShownRowModel) (rs kinds : List ShownRowModel) (drawn : Bool)
+drawn_row : (by : Number) (least : ℕ) (chart : List ShownRowModel) (r : ShownRowModel) (rs kinds : List ShownRowModel) (drawn : Bool)
     → map without_colour (drawn_boxes by least chart (rows_from (path_of r) kinds) rs)
     ≡ map (λ s. box_of s 0) (filter (λ s. nat_le least (number_in by s.sums)) rs)
     → map without_colour (drawn_boxes by least chart kinds rs)
@@ -85,7 +85,7 @@ drawn_law by least chart kinds (r ∷ rs) =
 
 -- ---- names
 
-left_same : (by : SortBy) (depth n : ℕ) (bs : List BoxModel) → left_beside by depth n (map outline bs) ≡ left_beside by depth n bs
+left_same : (by : Number) (depth n : ℕ) (bs : List BoxModel) → left_beside by depth n (map outline bs) ≡ left_beside by depth n bs
 left_same by depth n [] = refl
 left_same by depth n (b ∷ bs) =
     ap (λ (left : ℕ). if nat_le b.depth depth then n else left)
@@ -95,14 +95,14 @@ closings_nameless : (n : ℕ) → map nameless (closings n) ≡ closings n
 closings_nameless zero = refl
 closings_nameless (suc n) = ap (λ (ps : List Piece). closing ∷ ps) (closings_nameless n)
 
-box_nameless : (by : SortBy) (within : ℕ) (b : BoxModel) (bs : List BoxModel)
+box_nameless : (by : Number) (within : ℕ) (b : BoxModel) (bs : List BoxModel)
     → map nameless (next_box by within (outline b) (map outline bs)) ≡ map nameless (next_box by within b bs)
 box_nameless by within b bs =
     let begin = λ (left : ℕ). map nameless (closings (within - b.depth) ++ opening by (outline b) left) in
     ap begin (left_same by b.depth (number_in by b.sums) bs)
     ∙ map-append nameless (closings (within - b.depth)) _ ∙ sym (map-append nameless (closings (within - b.depth)) _)
 
-boxes_nameless : (by : SortBy) (within : ℕ) (bs : List BoxModel)
+boxes_nameless : (by : Number) (within : ℕ) (bs : List BoxModel)
     → map nameless (boxes_in by within (map outline bs)) ≡ map nameless (boxes_in by within bs)
 boxes_nameless by within [] = refl
 boxes_nameless by within (b ∷ bs) =

@@ -3,7 +3,7 @@ use Rattle.std.proofs.Common.{◌≡◌, ℕ, List, [], Some, ap, ap₂, ◌∙�
 use Rattle.lc_rows.specs.RowKeys.{ShownRowModel}
 use Rattle.lc_rows.specs.ShownRows.{AreShown}
 use Rattle.lc_rows.specs.Views.{ViewModel, view_of}
-use Rattle.lc_sheet.specs.declared.table_options.SortBy.{SortBy}
+use Rattle.lc_sheet.specs.declared.column.Number.{Number}
 use Rattle.lc_walk.specs.ReportLines.{FileLineModel}
 use Rattle.lc_walk.specs.TallyRows.{TallyRowModel}
 use Rattle.lc_walk.specs.declared.report.Report.{Report}
@@ -17,7 +17,7 @@ same_view : (extensions es : List ShownRowModel) (v : ViewModel) → es ≡ exte
     → v ≡ chart_view extensions
 same_view extensions es v same view = view ∙ ap chart_view same
 
-pub page_is : (by : SortBy) (r : Report) (text : List ℕ) (rs : List TallyRowModel) (fs gs : List FileLineModel)
+pub page_is : (by : Number) (r : Report) (text : List ℕ) (rs : List TallyRowModel) (fs gs : List FileLineModel)
     (extensions es : List ShownRowModel) (boxes bs : List BoxModel) (v : ViewModel)
     → rs ≡ r.rows.items → fs ≡ r.files.items → gs ≡ r.files.items → es ≡ extensions → bs ≡ boxes
     → AreShown chart_columns (Some by) rs fs extensions → v ≡ view_of (Some chart_rows) es []

@@ -6,7 +6,7 @@ use Rattle.lc_rows.specs.Directories.{name_of}
 use Rattle.lc_rows.specs.RowKeys.{ShownRowModel}
 use Rattle.lc_rows.specs.ShownRows.{number_in}
 use Rattle.lc_text.specs.Visible.{visible_path}
-use Rattle.lc_sheet.specs.declared.table_options.SortBy.{SortBy}
+use Rattle.lc_sheet.specs.declared.column.Number.{Number}
 use Rattle.lc_walk.specs.declared.tally.sums.Sums.{Sums}
 use Rattle.lc_picture.specs.Colours.{main_colour, path_of, rows_from, shared_colour}
 use Rattle.lc_picture.specs.Pieces.{Piece, markup, name, share, sums_pieces}
@@ -26,7 +26,7 @@ abbrev pub least_drawn : ℕ → ℕ
 least_drawn total = max (total / 1000 + (if nat_le 1 (total % 1000) then 1 else 0)) 1
 
 -- the directories that are drawn, with the colours of their largest extensions, which come in the same order
-abbrev pub drawn_boxes : SortBy → ℕ → List ShownRowModel → List ShownRowModel → List ShownRowModel → List BoxModel
+abbrev pub drawn_boxes : Number → ℕ → List ShownRowModel → List ShownRowModel → List ShownRowModel → List BoxModel
 drawn_boxes by least chart kinds [] = []
 drawn_boxes by least chart kinds (r ∷ rs) =
     if nat_le least (number_in by r.sums)
@@ -35,14 +35,14 @@ drawn_boxes by least chart kinds (r ∷ rs) =
     else drawn_boxes by least chart kinds rs
 
 -- what is left of a number without those of the boxes right in one of this depth, which come before the next box that is not in it
-abbrev pub left_beside : SortBy → ℕ → ℕ → List BoxModel → ℕ
+abbrev pub left_beside : Number → ℕ → ℕ → List BoxModel → ℕ
 left_beside by depth n [] = n
 left_beside by depth n (b ∷ bs) =
     if nat_le b.depth depth then n
     else left_beside by depth (if b.depth == depth + 1 then n - number_in by b.sums else n) bs
 
 -- the tag of a box, with its colour and its number
-abbrev pub tag : SortBy → BoxModel → List Piece
+abbrev pub tag : Number → BoxModel → List Piece
 tag by b =
     markup (codes "<details open class=\"e") ∷ share b.colour ∷ markup (codes "\" style=\"--n:") ∷ share (number_in by b.sums)
     ∷ markup (codes "\"><summary><b>") ∷ []
@@ -54,7 +54,7 @@ label b left =
     ∷ (sums_pieces b.sums ++ markup (codes "</summary><div><i style=\"--n:") ∷ share left ∷ markup (codes "\"></i>") ∷ [])
 
 -- the begin of a box
-abbrev pub opening : SortBy → BoxModel → ℕ → List Piece
+abbrev pub opening : Number → BoxModel → ℕ → List Piece
 opening by b left = tag by b ++ label b left
 
 abbrev pub closing : Piece
@@ -64,10 +64,10 @@ abbrev pub closings : ℕ → List Piece
 closings n = replicate n closing
 
 -- the next box: the open ones that don't hold it are closed before it begins
-abbrev pub next_box : SortBy → ℕ → BoxModel → List BoxModel → List Piece
+abbrev pub next_box : Number → ℕ → BoxModel → List BoxModel → List Piece
 next_box by within b bs = closings (within - b.depth) ++ opening by b (left_beside by b.depth (number_in by b.sums) bs)
 
 -- the boxes of directories that come depth first, while so many boxes are open
-abbrev pub boxes_in : SortBy → ℕ → List BoxModel → List Piece
+abbrev pub boxes_in : Number → ℕ → List BoxModel → List Piece
 boxes_in by within [] = closings within
 boxes_in by within (b ∷ bs) = next_box by within b bs ++ boxes_in by (min within b.depth + 1) bs

@@ -5,7 +5,7 @@ use Rattle.lc_rows.specs.ShownRows.{number_in}
 use Rattle.lc_rows.specs.Views.{ViewModel}
 use Rattle.lc_text.specs.Visible.{visible_bytes}
 use Rattle.lc_sheet.specs.declared.table_options.Columns.{Columns}
-use Rattle.lc_sheet.specs.declared.table_options.SortBy.{SortBy}
+use Rattle.lc_sheet.specs.declared.column.Number.{Number}
 use Rattle.lc_walk.specs.declared.tally.sums.Sums.{Sums}
 use Rattle.lc_picture.specs.Colours.{colour_of}
 use Rattle.lc_picture.specs.Pieces.{Piece, count, markup, name, share}
@@ -24,7 +24,7 @@ visible_extension None = codes "-"
 visible_extension (Some e) = codes "." ++ visible_bytes e
 
 -- the largest number of a row, 0 without rows
-abbrev pub largest : SortBy → List ShownRowModel → ℕ
+abbrev pub largest : Number → List ShownRowModel → ℕ
 largest by [] = 0
 largest by (r ∷ rs) = max (number_in by r.sums) (largest by rs)
 
@@ -39,7 +39,7 @@ bar most n =
     markup (codes "<td><div class=\"bar\"><i style=\"--n:") ∷ share n ∷ markup (codes "\"></i><u style=\"--n:")
     ∷ share (most - n) ∷ markup (codes "\"></u></div></td></tr>\n") ∷ []
 
-abbrev pub chart_row : SortBy → ℕ → List ShownRowModel → ShownRowModel → List Piece
+abbrev pub chart_row : Number → ℕ → List ShownRowModel → ShownRowModel → List Piece
 chart_row by most rows r =
     markup (codes "<tr class=\"e") ∷ share (colour_of rows r.key.extension) ∷ markup (codes "\"><th>")
     ∷ name (visible_extension r.key.extension) ∷ (cells r.sums ++ bar most (number_in by r.sums))
@@ -49,5 +49,5 @@ others_row None = []
 others_row (Some s) = markup (codes "<tr><th>others") ∷ (cells s ++ markup (codes "<td></td></tr>\n") ∷ [])
 
 -- the rows of a chart, with the sums over those that it has no place for
-abbrev pub chart_pieces : SortBy → ViewModel → List Piece
+abbrev pub chart_pieces : Number → ViewModel → List Piece
 chart_pieces by v = flat_map (chart_row by (largest by v.rows) v.rows) v.rows ++ others_row v.others

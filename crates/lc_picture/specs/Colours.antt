@@ -3,7 +3,7 @@ use Rattle.std.specs.Prelude.{ℕ, ◌+◌, nat_lt, Bool, true, false, bytes_eq,
 use Rattle.std.specs.Prelude.{Option, Some, None}
 use Rattle.lc_rows.specs.RowKeys.{ShownRowModel}
 use Rattle.lc_rows.specs.ShownRows.{number_in}
-use Rattle.lc_sheet.specs.declared.table_options.SortBy.{SortBy}
+use Rattle.lc_sheet.specs.declared.column.Number.{Number}
 
 abbrev pub same_extension : Option (List ℕ) → Option (List ℕ) → Bool
 same_extension None None = true
@@ -34,7 +34,7 @@ rows_from directory (k ∷ ks) = if bytes_eq directory (path_of k) then k ∷ ks
 
 -- the colour of the extension with the largest number in a directory, whose rows come first; of equal ones it is the first, and where
 -- none is larger than a number that was met before, the colour that was met with it
-abbrev pub main_colour : List ShownRowModel → SortBy → List ℕ → ℕ → ℕ → List ShownRowModel → ℕ
+abbrev pub main_colour : List ShownRowModel → Number → List ℕ → ℕ → ℕ → List ShownRowModel → ℕ
 main_colour chart by directory number colour [] = colour
 main_colour chart by directory number colour (k ∷ ks) =
     if bytes_eq directory (path_of k)

@@ -5,7 +5,7 @@ use Rattle.std.specs.List.{filter, list_any}
 use Rattle.lc_rows.specs.RowKeys.{ShownRowModel}
 use Rattle.lc_rows.specs.ShownRows.{number_in}
 use Rattle.lc_rows.specs.Views.{ViewModel}
-use Rattle.lc_sheet.specs.declared.table_options.SortBy.{SortBy}
+use Rattle.lc_sheet.specs.declared.column.Number.{Number}
 use Rattle.lc_walk.specs.declared.tally.sums.Sums.{Sums}
 use Rattle.lc_text.specs.Visible.{visible_path}
 use Rattle.lc_picture.specs.Boxes.{BoxModel, box_of, boxes_in, drawn_boxes}
@@ -65,7 +65,7 @@ shown_of_box b = name (visible_path b.directory) ∷ counts b.sums
 -- once, in turn, and nothing else
 abbrev pub ShownLaw : Type 0
 ShownLaw =
-    (by : SortBy) (totals : Sums) (v : ViewModel) (boxes : List BoxModel)
+    (by : Number) (totals : Sums) (v : ViewModel) (boxes : List BoxModel)
     → filter is_shown (page_pieces by totals v boxes)
     ≡ counts totals ++ ((flat_map shown_of_row v.rows ++ shown_of_others v.others) ++ flat_map shown_of_box boxes)
 
@@ -75,7 +75,7 @@ without_colour b = record { directory = b.directory; depth = b.depth; colour = 0
 -- whatever the colours, the directories that are drawn are those with at least the least number, each once
 abbrev pub DrawnLaw : Type 0
 DrawnLaw =
-    (by : SortBy) (least : ℕ) (chart kinds tree : List ShownRowModel)
+    (by : Number) (least : ℕ) (chart kinds tree : List ShownRowModel)
     → map without_colour (drawn_boxes by least chart kinds tree)
     ≡ map (λ r. box_of r 0) (filter (λ r. nat_le least (number_in by r.sums)) tree)
 
@@ -93,7 +93,7 @@ outline b = record { directory = []; depth = b.depth; colour = b.colour; sums = 
 -- but for the names, the boxes depend on depths, colours and sums alone: no name adds a tag, or takes one away
 abbrev pub OutlineLaw : Type 0
 OutlineLaw =
-    (by : SortBy) (bs cs : List BoxModel) → map outline bs ≡ map outline cs
+    (by : Number) (bs cs : List BoxModel) → map outline bs ≡ map outline cs
     → map nameless (boxes_in by 0 bs) ≡ map nameless (boxes_in by 0 cs)
 
 -- whether a piece begins a box, and whether it ends one
@@ -119,4 +119,4 @@ open_after n (p ∷ ps) =
 
 -- each box that is opened is closed, and no others
 abbrev pub NestingLaw : Type 0
-NestingLaw = (by : SortBy) (bs : List BoxModel) → open_after 0 (boxes_in by 0 bs) ≡ Some 0
+NestingLaw = (by : Number) (bs : List BoxModel) → open_after 0 (boxes_in by 0 bs) ≡ Some 0

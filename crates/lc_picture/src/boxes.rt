@@ -8,11 +8,11 @@ ghost use Rattle.lc_picture.specs.Pieces.{text_of};
 use crate::directory_box::DirectoryBox;
 use crate::escaping::push_name;
 use crate::sums::{number_in, push_number, push_sums};
-use lc_sheet::SortBy;
+use lc_sheet::Number;
 use std::alloc::AllocError;
 
 /// Returns what is left of a number without that of the next box, if this is right in a box of this depth.
-fn left_after(by: SortBy, depth: usize, left: u128, next: &DirectoryBox<'_>) -> u128
+fn left_after(by: Number, depth: usize, left: u128, next: &DirectoryBox<'_>) -> u128
     ensures { result ≡ (if next.now.depth == depth + 1 then left - number_in by next.now.sums else left) }
 {
     if next.depth > depth && next.depth - depth == 1 {
@@ -23,7 +23,7 @@ fn left_after(by: SortBy, depth: usize, left: u128, next: &DirectoryBox<'_>) -> 
 }
 
 /// Returns what a box with these boxes after it has besides those right in it: the files of its directory, and what is not drawn.
-fn left_beside<'a>(by: SortBy, depth: usize, number: u128, after: &[DirectoryBox<'a>]) -> u128
+fn left_beside<'a>(by: Number, depth: usize, number: u128, after: &[DirectoryBox<'a>]) -> u128
     ensures { result ≡ left_beside by depth number after.now }
 {
     let mut left = number;
@@ -36,7 +36,7 @@ fn left_beside<'a>(by: SortBy, depth: usize, number: u128, after: &[DirectoryBox
     left
 }
 
-fn push_tag(text: &mut Vec<u8>, by: SortBy, drawn: &DirectoryBox<'_>) -> Result<(), AllocError>
+fn push_tag(text: &mut Vec<u8>, by: Number, drawn: &DirectoryBox<'_>) -> Result<(), AllocError>
     ensures { OnOk result (text.new.items ≡ text.old.items ++ text_of (tag by drawn.now)) }
 {
     text.extend_from_slice(b"<details open class=\"e")?;
@@ -79,7 +79,7 @@ fn push_closings(text: &mut Vec<u8>, count: usize) -> Result<(), AllocError>
 /// Closes the open boxes that do not hold the next one, and begins that. It returns how many boxes are open then.
 fn push_box<'a>(
     text: &mut Vec<u8>,
-    by: SortBy,
+    by: Number,
     within: usize,
     drawn: &DirectoryBox<'a>,
     after: &[DirectoryBox<'a>],
@@ -99,7 +99,7 @@ fn push_box<'a>(
 /// Appends the boxes of directories that come depth first.
 pub(crate) fn push_boxes<'a>(
     text: &mut Vec<u8>,
-    by: SortBy,
+    by: Number,
     boxes: &[DirectoryBox<'a>],
     made: &mut String,
 ) -> Result<(), AllocError>

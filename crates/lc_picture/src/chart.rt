@@ -9,11 +9,11 @@ use crate::colours::colour_of;
 use crate::escaping::push_extension;
 use crate::sums::{number_in, push_number};
 use lc_rows::{ShownRow, View};
-use lc_sheet::SortBy;
+use lc_sheet::Number;
 use lc_walk::Sums;
 use std::alloc::AllocError;
 
-fn largest(by: SortBy, rows: &[ShownRow<'_>]) -> u128
+fn largest(by: Number, rows: &[ShownRow<'_>]) -> u128
     ensures { result ≡ largest by rows.now }
 {
     let mut most = 0;
@@ -51,7 +51,7 @@ fn push_bar(text: &mut Vec<u8>, most: u128, number: u128) -> Result<(), AllocErr
 
 fn push_row(
     text: &mut Vec<u8>,
-    by: SortBy,
+    by: Number,
     most: u128,
     rows: &[ShownRow<'_>],
     row: &ShownRow<'_>,
@@ -70,7 +70,7 @@ fn push_row(
 
 fn push_rows(
     text: &mut Vec<u8>,
-    by: SortBy,
+    by: Number,
     most: u128,
     rows: &[ShownRow<'_>],
     made: &mut String,
@@ -98,7 +98,7 @@ fn push_others(text: &mut Vec<u8>, others: Option<Sums>) -> Result<(), AllocErro
 /// Appends the rows of the chart, the longest bar first, and the sums over those that it has no place for.
 pub(crate) fn push_chart(
     text: &mut Vec<u8>,
-    by: SortBy,
+    by: Number,
     view: &View<'_>,
     made: &mut String,
 ) -> Result<(), AllocError>

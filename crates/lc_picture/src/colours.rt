@@ -5,7 +5,7 @@ ghost use Rattle.lc_picture.specs.Colours.{colour_of, main_colour, path_of, plac
 
 use crate::sums::number_in;
 use lc_rows::ShownRow;
-use lc_sheet::SortBy;
+use lc_sheet::Number;
 
 /// The colour that all extensions but the first of the chart share.
 const SHARED_COLOUR: usize = 8;
@@ -61,7 +61,7 @@ pub(crate) fn next_place(directory: &[u8], kinds: &[ShownRow<'_>], start: usize)
 /// Returns the colour of the extension with the largest number in a directory, whose rows come first.
 pub(crate) fn main_colour(
     chart: &[ShownRow<'_>],
-    by: SortBy,
+    by: Number,
     directory: &[u8],
     kinds: &[ShownRow<'_>],
 ) -> usize

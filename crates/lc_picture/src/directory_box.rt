@@ -10,7 +10,7 @@ use crate::colours::{main_colour, next_place, path_of};
 use crate::sums::number_in;
 use lc_glob::path::depth_of;
 use lc_rows::ShownRow;
-use lc_sheet::SortBy;
+use lc_sheet::Number;
 use lc_walk::Sums;
 use memchr::memrchr;
 use std::alloc::{AllocError, Global};
@@ -75,7 +75,7 @@ fn box_of<'a>(row: &ShownRow<'a>, colour: usize) -> DirectoryBox<'a>
 /// Appends the box of a directory, and returns the place of its first row among those by directory and extension.
 fn push_drawn<'a>(
     boxes: &mut Vec<DirectoryBox<'a>>,
-    by: SortBy,
+    by: Number,
     row: &ShownRow<'a>,
     chart: &[ShownRow<'_>],
     kinds: &[ShownRow<'_>],
@@ -97,7 +97,7 @@ fn push_drawn<'a>(
 /// The rows of `kinds`, by directory and extension, give their colours, and come in the same order.
 pub(crate) fn drawn_boxes<'a>(
     alloc: Global,
-    by: SortBy,
+    by: Number,
     least: u128,
     rows: &[ShownRow<'a>],
     chart: &[ShownRow<'_>],

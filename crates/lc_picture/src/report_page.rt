@@ -13,7 +13,7 @@ use crate::style::{
 };
 use crate::sums::{number_in, push_sums};
 use lc_rows::{ShownRow, View, shown_rows, tree_rows};
-use lc_sheet::{Columns, SortBy};
+use lc_sheet::{Columns, Number};
 use lc_walk::{FileLine, Report, Sums};
 use std::alloc::{AllocError, Global};
 
@@ -54,7 +54,7 @@ fn push_sums_part(text: &mut Vec<u8>, totals: Sums) -> Result<(), AllocError>
 
 fn push_chart_part(
     text: &mut Vec<u8>,
-    by: SortBy,
+    by: Number,
     view: &View<'_>,
     made: &mut String,
 ) -> Result<(), AllocError>
@@ -67,7 +67,7 @@ fn push_chart_part(
 
 fn push_tree_part(
     text: &mut Vec<u8>,
-    by: SortBy,
+    by: Number,
     boxes: &[DirectoryBox<'_>],
     made: &mut String,
 ) -> Result<(), AllocError>
@@ -83,7 +83,7 @@ fn push_tree_part(
 
 fn page_text(
     alloc: Global,
-    by: SortBy,
+    by: Number,
     totals: Sums,
     view: &View<'_>,
     boxes: &[DirectoryBox<'_>],
@@ -101,7 +101,7 @@ fn page_text(
 /// Returns the boxes of the directories of some files.
 fn boxes_of<'a>(
     alloc: Global,
-    by: SortBy,
+    by: Number,
     totals: Sums,
     files: &'a [FileLine],
     chart: &[ShownRow<'_>],
@@ -115,7 +115,7 @@ fn boxes_of<'a>(
     Ok(boxes)
 }
 
-fn page_by(alloc: Global, report: &Report, by: SortBy) -> Result<Vec<u8>, AllocError>
+fn page_by(alloc: Global, report: &Report, by: Number) -> Result<Vec<u8>, AllocError>
     ensures { IfOk result (λ text. IsPageOf by report.now text.items) }
 {
     let extensions = shown_rows(alloc, &report.rows, &report.files, CHART_COLUMNS, Some(by))?;
@@ -132,8 +132,8 @@ fn page_by(alloc: Global, report: &Report, by: SortBy) -> Result<Vec<u8>, AllocE
 /// Directories with less than a thousandth of the total have no boxes. A reader folds a box to give its space to others.
 ///
 /// The report must have its files. It stops with an error if there is no memory, and for numbers that no walk has, whose sums overflow.
-pub fn page(alloc: Global, report: &Report, sort: Option<SortBy>) -> Result<Vec<u8>, AllocError>
+pub fn page(alloc: Global, report: &Report, sort: Option<Number>) -> Result<Vec<u8>, AllocError>
     ensures { IfOk result (λ text. IsPageOf (drawn_number sort) report.now text.items) }
 {
-    page_by(alloc, report, sort.unwrap_or(SortBy::Lines))
+    page_by(alloc, report, sort.unwrap_or(Number::Lines))
 }

@@ -4,7 +4,7 @@ ghost use Rattle.std.specs.Prelude.{◌≡◌};
 ghost use Rattle.lc_picture.specs.Page.{boxes_begin, chart_begin, number_word, tree_begin};
 ghost use Rattle.lc_picture.specs.Style.{page_begin, style, sums_begin};
 
-use lc_sheet::SortBy;
+use lc_sheet::Number;
 
 /// The begin of a page, up to its style.
 pub(crate) fn page_begin() -> &'static [u8]
@@ -71,14 +71,14 @@ pub(crate) fn tree_begin() -> &'static [u8]
 }
 
 /// The name of a number.
-pub(crate) fn number_word(by: SortBy) -> &'static [u8]
+pub(crate) fn number_word(by: Number) -> &'static [u8]
     ensures { result.now ≡ number_word by }
 {
     match by {
-        SortBy::Files => b"files",
-        SortBy::Lines => b"lines",
-        SortBy::Blank => b"blank lines",
-        SortBy::Bytes => b"bytes",
+        Number::Files => b"files",
+        Number::Lines => b"lines",
+        Number::Blank => b"blank lines",
+        Number::Bytes => b"bytes",
     }
 }
 

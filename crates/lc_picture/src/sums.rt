@@ -4,19 +4,19 @@ ghost use Rattle.std.specs.Prelude.{◌≡◌, ◌++◌, OnOk, decimal};
 ghost use Rattle.lc_rows.specs.ShownRows.{number_in};
 ghost use Rattle.lc_picture.specs.Pieces.{sums_pieces, text_of};
 
-use lc_sheet::SortBy;
+use lc_sheet::Number;
 use lc_walk::Sums;
 use std::alloc::AllocError;
 
 /// Returns one of the numbers of sums.
-pub(crate) fn number_in(by: SortBy, sums: Sums) -> u128
+pub(crate) fn number_in(by: Number, sums: Sums) -> u128
     ensures { result ≡ number_in by sums }
 {
     match by {
-        SortBy::Files => u128::from(sums.files),
-        SortBy::Lines => sums.lines,
-        SortBy::Blank => sums.blank,
-        SortBy::Bytes => sums.bytes,
+        Number::Files => u128::from(sums.files),
+        Number::Lines => sums.lines,
+        Number::Blank => sums.blank,
+        Number::Bytes => sums.bytes,
     }
 }
 

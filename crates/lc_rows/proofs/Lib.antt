@@ -10,3 +10,4 @@ pub mod TreeLaw
 pub mod ChildrenLaw
 pub mod ViewLaws
 pub mod ClassLaw
+pub mod SheetMade

@@ -7,7 +7,7 @@ use Rattle.std.specs.declared.cmp.Ordering.TheVariants.{Less}
 use Rattle.std.proofs.lemmas.List.Sorted.{IsPermutation-refl, sum_by-IsPermutation}
 use Rattle.std.proofs.lemmas.List.Sums.{sum_by-cons}
 use Rattle.lc_sheet.specs.declared.table_options.Columns.{Columns}
-use Rattle.lc_sheet.specs.declared.table_options.SortBy.{SortBy}
+use Rattle.lc_sheet.specs.declared.column.Number.{Number}
 use Rattle.lc_walk.proofs.RowSums.{same_sums}
 use Rattle.lc_walk.specs.Key.{Key, key_cmp}
 use Rattle.lc_walk.specs.ReportLines.{FileLineModel}
@@ -19,7 +19,7 @@ use Rattle.lc_rows.specs.RowKeys.{RowKey, ShownRowModel, row_key, row_key_cmp, r
 use Rattle.lc_rows.specs.ShownRows.{AreAddedUp, AreSorted, keeps_all, part_of_file, part_of_row, parts_in, parts_of}
 
 -- sorted or not, the rows are the same
-pub moved : (sort : Option SortBy) (rs sorted : List ShownRowModel) → AreSorted sort rs sorted → IsPermutation rs sorted
+pub moved : (sort : Option Number) (rs sorted : List ShownRowModel) → AreSorted sort rs sorted → IsPermutation rs sorted
 moved None rs sorted same = subst (λ (l : List ShownRowModel). IsPermutation rs l) (sym same) (IsPermutation-refl rs)
 moved (Some n) rs sorted h = h.0
 

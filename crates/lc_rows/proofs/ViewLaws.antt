@@ -11,7 +11,7 @@ use Rattle.std.proofs.lemmas.List.Elements.{All-nil}
 use Rattle.std.proofs.lemmas.List.Sums.{sum_by-take-drop}
 use Rattle.std.proofs.lemmas.List.Sorted.{IsPermutation-refl, sorted_far}
 use Rattle.std.proofs.lemmas.Map.Keys.{ge_from_not_lt}
-use Rattle.lc_sheet.specs.declared.table_options.SortBy.{SortBy}
+use Rattle.lc_sheet.specs.declared.column.Number.{Number}
 use Rattle.lc_walk.proofs.RowSums.{same_sums}
 use Rattle.lc_walk.specs.ReportLines.{FileLineModel}
 use Rattle.lc_walk.specs.Sums.{no_files, plus}
@@ -53,7 +53,7 @@ first_decides Equal p e = refl
 first_decides Greater p e = refl
 
 -- of two sorted files the later one has no larger number
-falls : (n : SortBy) (fs sorted : List FileLineModel) → AreFilesSorted (Some n) fs sorted → (i j : ℕ) (d : FileLineModel) → i ≤ j
+falls : (n : Number) (fs sorted : List FileLineModel) → AreFilesSorted (Some n) fs sorted → (i j : ℕ) (d : FileLineModel) → i ≤ j
     → j < length sorted → file_number n (get_or sorted j d) ≤ file_number n (get_or sorted i d)
 falls n fs sorted h i j d le within =
     let not_before =

@@ -3,7 +3,7 @@ use Rattle.std.specs.Prelude.{◌≡◌, ◌≤◌, ◌&&◌, ℕ, true, List, l
 use Rattle.std.specs.List.{All, AllPass, filter}
 use Rattle.std.specs.List.Sorted.{IsPermutation}
 use Rattle.lc_sheet.specs.declared.table_options.Columns.{Columns}
-use Rattle.lc_sheet.specs.declared.table_options.SortBy.{SortBy}
+use Rattle.lc_sheet.specs.declared.column.Number.{Number}
 use Rattle.lc_glob.specs.Path.{is_good_path}
 use Rattle.lc_walk.specs.Key.{Key, same_key}
 use Rattle.lc_walk.specs.ReportLines.{FileLineModel}
@@ -21,7 +21,7 @@ use Rattle.lc_rows.specs.Views.{first_of, rest_of, view_of}
 -- they are the summed ones, each once
 abbrev pub PermutationLaw : Type 0
 PermutationLaw =
-    (by : Columns) (sort : Option SortBy) (rs : List TallyRowModel) (fs : List FileLineModel) (shown : List ShownRowModel)
+    (by : Columns) (sort : Option Number) (rs : List TallyRowModel) (fs : List FileLineModel) (shown : List ShownRowModel)
     → AreShown by sort rs fs shown → (summed : List ShownRowModel) × AreSummed by rs fs summed × IsPermutation summed shown
 
 -- the sums over all files
@@ -36,7 +36,7 @@ totals_of (Some n) rs fs = sums_of_lines fs
 -- whatever columns are left out, and however the rows are sorted, their sums are those of all rows of the report, or of all files
 abbrev pub TotalsLaw : Type 0
 TotalsLaw =
-    (by : Columns) (sort : Option SortBy) (rs : List TallyRowModel) (fs : List FileLineModel) (shown : List ShownRowModel)
+    (by : Columns) (sort : Option Number) (rs : List TallyRowModel) (fs : List FileLineModel) (shown : List ShownRowModel)
     → AreShown by sort rs fs shown → sums_of_shown shown ≡ totals_of by.dir rs fs
 
 -- all columns of a report's rows, and no directories
@@ -58,14 +58,14 @@ file_row_key n by f = record { directory = Some (directory_of n f.path); key = k
 -- for each directory and key, the rows have the sums over the files whose directory is cut to that one and which have that key
 abbrev pub DirectoriesLaw : Type 0
 DirectoriesLaw =
-    (n : ℕ) (by : Columns) (sort : Option SortBy) (rs : List TallyRowModel) (fs : List FileLineModel) (shown : List ShownRowModel)
+    (n : ℕ) (by : Columns) (sort : Option Number) (rs : List TallyRowModel) (fs : List FileLineModel) (shown : List ShownRowModel)
     (k : RowKey) → AreShown (by_directories n by) sort rs fs shown
     → sums_of_shown (rows_within (same_row_key k) shown) ≡ sums_of_lines (filter (λ f. same_row_key k (file_row_key n by f)) fs)
 
 -- each file is in exactly one row
 abbrev pub OneRowLaw : Type 0
 OneRowLaw =
-    (n : ℕ) (by : Columns) (sort : Option SortBy) (rs : List TallyRowModel) (fs : List FileLineModel) (shown : List ShownRowModel)
+    (n : ℕ) (by : Columns) (sort : Option Number) (rs : List TallyRowModel) (fs : List FileLineModel) (shown : List ShownRowModel)
     → AreShown (by_directories n by) sort rs fs shown
     → All (λ f. length (rows_within (same_row_key (file_row_key n by f)) shown) ≡ 1) fs
 
@@ -90,18 +90,18 @@ ChildrenLaw =
 -- the rows that are shown where a table is cut, and the sums over the others, add up to those over all
 abbrev pub CutTotalsLaw : Type 0
 CutTotalsLaw =
-    (by : Columns) (sort : Option SortBy) (top : Option ℕ) (rs : List TallyRowModel) (fs : List FileLineModel)
+    (by : Columns) (sort : Option Number) (top : Option ℕ) (rs : List TallyRowModel) (fs : List FileLineModel)
     (rows : List ShownRowModel) (files : List FileLineModel) → AreShown by sort rs fs rows
     → plus (sums_of_shown (view_of top rows files).rows) (unwrap_or (view_of top rows files).others no_files) ≡ totals_of by.dir rs fs
 
 -- sorted files are the files, each once
 abbrev pub SortedFilesLaw : Type 0
-SortedFilesLaw = (sort : Option SortBy) (fs sorted : List FileLineModel) → AreFilesSorted sort fs sorted → IsPermutation fs sorted
+SortedFilesLaw = (sort : Option Number) (fs sorted : List FileLineModel) → AreFilesSorted sort fs sorted → IsPermutation fs sorted
 
 -- no file that is cut off has a larger number than one that is listed
 abbrev pub FirstFilesLaw : Type 0
 FirstFilesLaw =
-    (n : SortBy) (top : Option ℕ) (fs sorted : List FileLineModel) → AreFilesSorted (Some n) fs sorted
+    (n : Number) (top : Option ℕ) (fs sorted : List FileLineModel) → AreFilesSorted (Some n) fs sorted
     → All (λ cut. All (λ kept. file_number n cut ≤ file_number n kept) (first_of top sorted)) (rest_of top sorted)
 
 -- the sums over binary files and over others add up to those over all

@@ -8,3 +8,7 @@ pub mod TreeRows
 pub mod Views
 pub mod Classes
 pub mod Laws
+pub mod Words
+pub mod Kinds
+pub mod SheetColumns
+pub mod Sheets

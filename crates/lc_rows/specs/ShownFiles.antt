@@ -4,24 +4,24 @@ use Rattle.std.specs.List.Sorted.{IsPermutation, IsSorted}
 use Rattle.std.specs.Ordering.{nat_cmp, on, then_cmp}
 use Rattle.std.specs.declared.cmp.Ordering.{Ordering}
 use Rattle.lc_tree.specs.ByteOrder.{bytes_cmp}
-use Rattle.lc_sheet.specs.declared.table_options.SortBy.{SortBy}
+use Rattle.lc_sheet.specs.declared.column.Number.{Number}
 use Rattle.lc_walk.specs.ReportLines.{FileLineModel}
 use Rattle.lc_walk.specs.Sums.{one_file}
 use Rattle.lc_rows.specs.ShownRows.{number_in}
 
 -- the number that files are sorted by; each is one file
-abbrev pub file_number : SortBy → FileLineModel → ℕ
+abbrev pub file_number : Number → FileLineModel → ℕ
 file_number n f = number_in n (one_file f.count)
 
 -- the largest number first
-abbrev pub by_file_number : SortBy → FileLineModel → FileLineModel → Ordering
+abbrev pub by_file_number : Number → FileLineModel → FileLineModel → Ordering
 by_file_number n a b = nat_cmp (file_number n b) (file_number n a)
 
 -- the largest number first, and files of equal numbers by their paths
-abbrev pub file_cmp : SortBy → FileLineModel → FileLineModel → Ordering
+abbrev pub file_cmp : Number → FileLineModel → FileLineModel → Ordering
 file_cmp n = then_cmp (by_file_number n) (on (λ (f : FileLineModel). f.path) bytes_cmp)
 
 -- the files as a report has them, or sorted
-abbrev pub AreFilesSorted : Option SortBy → List FileLineModel → List FileLineModel → Type 0
+abbrev pub AreFilesSorted : Option Number → List FileLineModel → List FileLineModel → Type 0
 AreFilesSorted None fs sorted = sorted ≡ fs
 AreFilesSorted (Some n) fs sorted = IsPermutation fs sorted × IsSorted (file_cmp n) sorted

@@ -7,8 +7,8 @@ use Rattle.std.specs.declared.cmp.Ordering.{Ordering}
 use Rattle.lc_census.specs.declared.line_count.Eol.TheVariants.{NoEnd}
 use Rattle.lc_rules.specs.declared.states.TextState.TheVariants.{Unspecified}
 use Rattle.lc_sheet.specs.declared.table_options.Columns.{Columns}
-use Rattle.lc_sheet.specs.declared.table_options.SortBy.{SortBy}
-use Rattle.lc_sheet.specs.declared.table_options.SortBy.TheVariants.{Files, Lines, Blank, Bytes}
+use Rattle.lc_sheet.specs.declared.column.Number.{Number}
+use Rattle.lc_sheet.specs.declared.column.Number.TheVariants.{Files, Lines, Blank, Bytes}
 use Rattle.lc_walk.specs.Extension.{extension_of}
 use Rattle.lc_walk.specs.Key.{Key}
 use Rattle.lc_walk.specs.ReportLines.{FileLineModel}
@@ -66,25 +66,25 @@ abbrev pub AreSummed : Columns → List TallyRowModel → List FileLineModel →
 AreSummed by rs fs summed = MatchBool (keeps_all by) (summed ≡ parts_of by rs fs) (AreAddedUp (parts_of by rs fs) summed)
 
 -- the number that rows are sorted by
-abbrev pub number_in : SortBy → Sums → ℕ
+abbrev pub number_in : Number → Sums → ℕ
 number_in Files s = s.files
 number_in Lines s = s.lines
 number_in Blank s = s.blank
 number_in Bytes s = s.bytes
 
 -- the largest number first
-abbrev pub by_number : SortBy → ShownRowModel → ShownRowModel → Ordering
+abbrev pub by_number : Number → ShownRowModel → ShownRowModel → Ordering
 by_number n a b = nat_cmp (number_in n b.sums) (number_in n a.sums)
 
 -- the largest number first, and rows of equal numbers by their directories and keys
-abbrev pub row_cmp : SortBy → ShownRowModel → ShownRowModel → Ordering
+abbrev pub row_cmp : Number → ShownRowModel → ShownRowModel → Ordering
 row_cmp n = then_cmp (by_number n) (on row_key row_key_cmp)
 
 -- the rows as they stand, or sorted
-abbrev pub AreSorted : Option SortBy → List ShownRowModel → List ShownRowModel → Type 0
+abbrev pub AreSorted : Option Number → List ShownRowModel → List ShownRowModel → Type 0
 AreSorted None rs sorted = sorted ≡ rs
 AreSorted (Some n) rs sorted = IsPermutation rs sorted × IsSorted (row_cmp n) sorted
 
 -- the rows that a table shows of a report's rows and files
-abbrev pub AreShown : Columns → Option SortBy → List TallyRowModel → List FileLineModel → List ShownRowModel → Type 0
+abbrev pub AreShown : Columns → Option Number → List TallyRowModel → List FileLineModel → List ShownRowModel → Type 0
 AreShown by sort rs fs shown = (summed : List ShownRowModel) × AreSummed by rs fs summed × AreSorted sort summed shown

@@ -33,7 +33,7 @@ fn is_binary(row: &TallyRow) -> bool
     row.eol == Eol::Nul
 }
 
-fn some_binary(rows: &[TallyRow]) -> bool
+pub(crate) fn some_binary(rows: &[TallyRow]) -> bool
     ensures { result ≡ list_any is_binary rows.now }
 {
     rows.iter().any(is_binary)

@@ -19,7 +19,7 @@ pub struct View<'a> {
     pub files: &'a [FileLine],
 }
 
-fn split_at_top<T>(top: Option<u32>, items: &[T]) -> (&[T], &[T])
+pub(crate) fn split_at_top<T>(top: Option<u32>, items: &[T]) -> (&[T], &[T])
     ensures first { result.0.now ≡ first_of top items.now }
     ensures rest { result.1.now ≡ rest_of top items.now }
 {
@@ -39,7 +39,7 @@ fn sums_of(rows: &[ShownRow<'_>]) -> Result<Sums, AllocError>
     Ok(sums)
 }
 
-fn sums_of_some(rows: &[ShownRow<'_>]) -> Result<Option<Sums>, AllocError>
+pub(crate) fn sums_of_some(rows: &[ShownRow<'_>]) -> Result<Option<Sums>, AllocError>
     ensures { IfOk result (λ sums. sums ≡ sums_of_some rows.now) }
 {
     if rows.is_empty() {

@@ -4,22 +4,22 @@ ghost use Rattle.std.specs.Prelude.{◌≡◌};
 ghost use Rattle.std.specs.List.Sorted.{IsPermutation, IsSorted};
 ghost use Rattle.lc_rows.specs.ShownFiles.{AreFilesSorted, file_cmp, file_number};
 
-use lc_sheet::SortBy;
+use lc_sheet::Number;
 use lc_walk::FileLine;
 use std::cmp::Ordering;
 
-fn number_of(by: SortBy, file: &FileLine) -> u64
+pub(crate) fn number_of(by: Number, file: &FileLine) -> u64
     ensures { result ≡ file_number by file.now }
 {
     match by {
-        SortBy::Files => 1,
-        SortBy::Lines => file.count.lines,
-        SortBy::Blank => file.count.blank,
-        SortBy::Bytes => file.count.bytes,
+        Number::Files => 1,
+        Number::Lines => file.count.lines,
+        Number::Blank => file.count.blank,
+        Number::Bytes => file.count.bytes,
     }
 }
 
-fn compare(by: SortBy, a: &FileLine, b: &FileLine) -> Ordering
+fn compare(by: Number, a: &FileLine, b: &FileLine) -> Ordering
     ensures { result ≡ file_cmp by a.now b.now }
 {
     match number_of(by, b).cmp(&number_of(by, a)) {
@@ -28,7 +28,7 @@ fn compare(by: SortBy, a: &FileLine, b: &FileLine) -> Ordering
     }
 }
 
-fn sort(by: SortBy, files: &mut Vec<FileLine>)
+fn sort(by: Number, files: &mut Vec<FileLine>)
     ensures same { IsPermutation files.old.items files.new.items }
     ensures order { IsSorted (file_cmp by) files.new.items }
 {
@@ -38,7 +38,7 @@ fn sort(by: SortBy, files: &mut Vec<FileLine>)
 /// Sorts the files of a report in place as a table lists them: the largest number first, and files with equal numbers by their paths.
 ///
 /// Without a number they stay as they are.
-pub fn sort_files(by: Option<SortBy>, files: &mut Vec<FileLine>)
+pub fn sort_files(by: Option<Number>, files: &mut Vec<FileLine>)
     ensures { AreFilesSorted by files.old.items files.new.items }
 {
     if let Some(number) = by {

@@ -5,27 +5,35 @@
 //! - `directories`: the directories of files; `directory_tree`, `depth_first`: the rows of a tree of directories, and their order
 //! - `files`: the files that it lists, sorted; `cut`: its first rows and files, and the sums over the other rows
 //! - `classes`: the sums over all files, over binary ones and over others
+//! - `kinds`: what a line of a sheet has in a column; `values`, `words`: values that several kinds have, and their words; `columns`: which
+//!   columns a section has; `shown_sheet`: what is shown of a report, and its sheet
 //! - `laws`: what is true of the definitions that the contracts cite
 #![tactic(auto)]
 
 mod adding_up;
 mod classes;
+mod columns;
 mod cut;
 mod depth_first;
 mod directories;
 mod directory_tree;
 mod files;
+mod kinds;
 mod laws;
 mod parts;
 mod row_key;
 mod shown;
 mod shown_row;
+mod shown_sheet;
+mod values;
+mod words;
 
 pub use classes::{AllSums, ClassSums};
 pub use cut::View;
 pub use directories::directory_at;
 pub use directory_tree::tree_rows;
 pub use files::sort_files;
+pub use kinds::{Faults, Files, NamedSums, Rows, Skipped, Totals};
 pub use laws::{
     a_directory_is_its_files_and_its_children, classes_add_up_to_all_rows, each_file_is_in_one_row,
     rows_of_a_directory_are_the_sums_of_its_files, rows_of_a_tree_are_the_sums_of_what_is_below,
@@ -34,3 +42,4 @@ pub use laws::{
 };
 pub use shown::shown_rows;
 pub use shown_row::ShownRow;
+pub use shown_sheet::{ReportSheet, Shown};

@@ -7,7 +7,7 @@ ghost use Rattle.lc_rows.specs.ShownRows.{AreShown, AreSorted, AreSummed, keeps_
 use crate::adding_up::{added_up, rows_of};
 use crate::parts::parts_of;
 use crate::shown_row::ShownRow;
-use lc_sheet::{Columns, SortBy};
+use lc_sheet::{Columns, Number};
 use lc_walk::{FileLine, Sums, TallyRow};
 use std::alloc::{AllocError, Global};
 use std::cmp::Ordering;
@@ -34,18 +34,18 @@ fn summed<'a>(
     }
 }
 
-fn number_in(by: SortBy, sums: Sums) -> u128
+pub(crate) fn number_in(by: Number, sums: Sums) -> u128
     ensures { result ≡ number_in by sums }
 {
     match by {
-        SortBy::Files => u128::from(sums.files),
-        SortBy::Lines => sums.lines,
-        SortBy::Blank => sums.blank,
-        SortBy::Bytes => sums.bytes,
+        Number::Files => u128::from(sums.files),
+        Number::Lines => sums.lines,
+        Number::Blank => sums.blank,
+        Number::Bytes => sums.bytes,
     }
 }
 
-fn compare(by: SortBy, a: &ShownRow<'_>, b: &ShownRow<'_>) -> Ordering
+fn compare(by: Number, a: &ShownRow<'_>, b: &ShownRow<'_>) -> Ordering
     ensures { result ≡ row_cmp by a.now b.now }
 {
     match number_in(by, b.sums).cmp(&number_in(by, a.sums)) {
@@ -54,7 +54,7 @@ fn compare(by: SortBy, a: &ShownRow<'_>, b: &ShownRow<'_>) -> Ordering
     }
 }
 
-fn sort(by: SortBy, rows: &mut Vec<ShownRow<'_>>)
+fn sort(by: Number, rows: &mut Vec<ShownRow<'_>>)
     ensures same { IsPermutation rows.old.items rows.new.items }
     ensures order { IsSorted (row_cmp by) rows.new.items }
 {
@@ -70,7 +70,7 @@ pub fn shown_rows<'a>(
     rows: &'a [TallyRow],
     files: &'a [FileLine],
     by: Columns,
-    sort_by: Option<SortBy>,
+    sort_by: Option<Number>,
 ) -> Result<Vec<ShownRow<'a>>, AllocError>
     ensures { IfOk result (λ shown. AreShown by sort_by rows.entry.now files.entry.now shown.items) }
 {

@@ -1,8 +1,22 @@
-//! What a table shows of a report, and how it is written: the options that a command line asks for.
+//! What a report shows, whatever its format: sections of lines, each with a value in each column. And the options by which it is shown.
 //!
+//! - `column`: the columns; `value`: what a line has in a column
+//! - `form`: what every line depends on; `lines`: kinds of lines; `section`: lines of one kind in columns; `sheet`: the sections of a report
 //! - `table_options`: the format of a table, its columns, its order, and where it is cut
 #![tactic(auto)]
 
+mod column;
+mod form;
+mod lines;
+mod section;
+mod sheet;
 mod table_options;
+mod value;
 
-pub use table_options::{Columns, Format, Order, SortBy, TableOptions};
+pub use column::{Column, Number, Side};
+pub use form::{Form, Shares};
+pub use lines::Lines;
+pub use section::Section;
+pub use sheet::Sheet;
+pub use table_options::{Columns, Format, Order, TableOptions};
+pub use value::Value;

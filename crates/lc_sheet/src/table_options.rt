@@ -1,5 +1,7 @@
 //! The options of a table: its format, its columns, its order, and where it is cut.
 
+use crate::column::Number;
+
 /// The format in which a table is written.
 #[derive(Debug, Clone, Copy, PartialEq, Eq)]
 pub enum Format {
@@ -40,26 +42,13 @@ impl Columns {
     };
 }
 
-/// The number by which the rows and the files of a table are sorted, largest first.
-#[derive(Debug, Clone, Copy, PartialEq, Eq)]
-pub enum SortBy {
-    /// The number of files.
-    Files,
-    /// The number of lines.
-    Lines,
-    /// The number of blank lines.
-    Blank,
-    /// The number of bytes.
-    Bytes,
-}
-
 /// The order of the rows and of the files of a table, as a command line names it.
 #[derive(Debug, Clone, Copy, PartialEq, Eq)]
 pub enum Order {
     /// By the keys of the rows, and by the paths of the files.
     Name,
     /// By this number, largest first.
-    Largest(SortBy),
+    Largest(Number),
 }
 
 /// The options of a table.
@@ -75,7 +64,7 @@ pub struct TableOptions {
     pub by: Columns,
     /// The number by which its rows and its files are sorted. Those with equal numbers, and all without one, come in the order of their
     /// keys and of their paths.
-    pub sort: Option<SortBy>,
+    pub sort: Option<Number>,
     /// The most rows, and the most files, that it shows; all if there is no limit.
     pub top: Option<u32>,
     /// Whether it lists the files. A report may have files for its rows by directory alone.

@@ -11,8 +11,8 @@ use Rattle.lc_rows.proofs.RowLaws.{totals_law}
 use Rattle.lc_rows.specs.Laws.{totals_of}
 use Rattle.lc_rows.specs.RowKeys.{ShownRowModel, sums_of_shown}
 use Rattle.lc_rows.specs.ShownRows.{number_in}
-use Rattle.lc_sheet.specs.declared.table_options.SortBy.{SortBy}
-use Rattle.lc_sheet.specs.declared.table_options.SortBy.TheVariants.{Files, Lines, Blank, Bytes}
+use Rattle.lc_sheet.specs.declared.column.Number.{Number}
+use Rattle.lc_sheet.specs.declared.column.Number.TheVariants.{Files, Lines, Blank, Bytes}
 use Rattle.lc_table.specs.RowShares.{largest}
 use Rattle.lc_table.specs.ShareLaws.{NearestLaw, RowBarsLaw, RowSharesLaw, WholeLaw}
 use Rattle.lc_table.specs.Shares.{rounded_parts}
@@ -58,7 +58,7 @@ module _ {X : Type 0} (f : X → ℕ) where
       All-cons (λ y. f y ≤ sum_by f (x ∷ xs)) x xs (omega arith)
       (All-weaker (λ y. f y ≤ sum_by f xs) (λ y. f y ≤ sum_by f (x ∷ xs)) (λ y h. omega arith) xs (within_sum xs))
 
-rows_within_sum : (n : SortBy) (rs : List ShownRowModel) → All (λ r. number_in n r.sums ≤ number_in n (sums_of_shown rs)) rs
+rows_within_sum : (n : Number) (rs : List ShownRowModel) → All (λ r. number_in n r.sums ≤ number_in n (sums_of_shown rs)) rs
 rows_within_sum Files rs = within_sum (λ (r : ShownRowModel). r.sums.files) rs
 rows_within_sum Lines rs = within_sum (λ (r : ShownRowModel). r.sums.lines) rs
 rows_within_sum Blank rs = within_sum (λ (r : ShownRowModel). r.sums.blank) rs
@@ -71,7 +71,7 @@ row_shares_law by sort rs fs shown n is =
     All-weaker (λ r. number_in n r.sums ≤ number_in n (sums_of_shown shown)) (λ r. rounded_parts 1000 (number_in n r.sums) total ≤ 1000)
     (λ r h. parts_within 1000 (number_in n r.sums) total (omega arith)) shown (rows_within_sum n shown)
 
-rows_within_largest : (n : SortBy) (rs : List ShownRowModel) → All (λ r. number_in n r.sums ≤ largest n rs) rs
+rows_within_largest : (n : Number) (rs : List ShownRowModel) → All (λ r. number_in n r.sums ≤ largest n rs) rs
 rows_within_largest n [] = All-nil (λ r. number_in n r.sums ≤ largest n [])
 rows_within_largest n (r ∷ rs) =
     All-cons (λ q. number_in n q.sums ≤ largest n (r ∷ rs)) r rs (omega arith)

@@ -5,8 +5,8 @@ use Rattle.lc_rows.specs.ShownRows.{number_in}
 use Rattle.lc_rows.specs.Views.{ViewModel}
 use Rattle.lc_sheet.specs.declared.table_options.Format.{Format}
 use Rattle.lc_sheet.specs.declared.table_options.Format.TheVariants.{Tsv, Table, Json, Csv, Markdown, Html}
-use Rattle.lc_sheet.specs.declared.table_options.SortBy.{SortBy}
-use Rattle.lc_sheet.specs.declared.table_options.SortBy.TheVariants.{Lines}
+use Rattle.lc_sheet.specs.declared.column.Number.{Number}
+use Rattle.lc_sheet.specs.declared.column.Number.TheVariants.{Lines}
 use Rattle.lc_sheet.specs.declared.table_options.TableOptions.{TableOptions}
 use Rattle.lc_walk.specs.declared.report.Report.{Report}
 use Rattle.lc_walk.specs.declared.tally.sums.Sums.{Sums}
@@ -18,12 +18,12 @@ use Rattle.lc_table.specs.declared.row_columns.Shares.{Shares}
 -- ---- of what they are shares
 
 -- the largest number of a row, 0 without rows
-abbrev pub largest : SortBy → List ShownRowModel → ℕ
+abbrev pub largest : Number → List ShownRowModel → ℕ
 largest n [] = 0
 largest n (r ∷ rs) = max (number_in n r.sums) (largest n rs)
 
 -- a table in columns alone has bars
-abbrev pub largest_in : Format → SortBy → List ShownRowModel → Option ℕ
+abbrev pub largest_in : Format → Number → List ShownRowModel → Option ℕ
 largest_in Tsv n rs = None
 largest_in Table n rs = Some (largest n rs)
 largest_in Json n rs = None
@@ -32,7 +32,7 @@ largest_in Html n rs = None
 largest_in Markdown n rs = None
 
 -- the number that a table is sorted by, or lines
-abbrev pub share_number : Option SortBy → SortBy
+abbrev pub share_number : Option Number → Number
 share_number sort = unwrap_or sort Lines
 
 abbrev pub shares_of : TableOptions → Sums → List ShownRowModel → Shares

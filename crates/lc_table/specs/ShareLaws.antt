@@ -5,7 +5,7 @@ use Rattle.lc_rows.specs.Laws.{totals_of}
 use Rattle.lc_rows.specs.RowKeys.{ShownRowModel}
 use Rattle.lc_rows.specs.ShownRows.{AreShown, number_in}
 use Rattle.lc_sheet.specs.declared.table_options.Columns.{Columns}
-use Rattle.lc_sheet.specs.declared.table_options.SortBy.{SortBy}
+use Rattle.lc_sheet.specs.declared.column.Number.{Number}
 use Rattle.lc_walk.specs.ReportLines.{FileLineModel}
 use Rattle.lc_walk.specs.TallyRows.{TallyRowModel}
 use Rattle.lc_table.specs.RowShares.{largest}
@@ -25,13 +25,13 @@ WholeLaw = (count whole : ℕ) → 0 < whole → rounded_parts count whole whole
 -- the rows of a table have shares of the total over all of them, and none is over 100.0
 abbrev pub RowSharesLaw : Type 0
 RowSharesLaw =
-    (by : Columns) (sort : Option SortBy) (rs : List TallyRowModel) (fs : List FileLineModel) (shown : List ShownRowModel) (n : SortBy)
+    (by : Columns) (sort : Option Number) (rs : List TallyRowModel) (fs : List FileLineModel) (shown : List ShownRowModel) (n : Number)
     → AreShown by sort rs fs shown
     → All (λ r. rounded_parts 1000 (number_in n r.sums) (number_in n (totals_of by.dir rs fs)) ≤ 1000) shown
 
 -- no row has a bar longer than that of the largest number
 abbrev pub RowBarsLaw : Type 0
-RowBarsLaw = (n : SortBy) (rs : List ShownRowModel) → All (λ r. rounded_parts 160 (number_in n r.sums) (largest n rs) ≤ 160) rs
+RowBarsLaw = (n : Number) (rs : List ShownRowModel) → All (λ r. rounded_parts 160 (number_in n r.sums) (largest n rs) ≤ 160) rs
 
 -- a bar has a character for each cell that it fills or begins
 abbrev pub BarLengthLaw : Type 0

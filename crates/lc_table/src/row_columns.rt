@@ -6,13 +6,13 @@ ghost use Rattle.lc_rows.specs.Views.{view_model};
 ghost use Rattle.lc_table.specs.RowShares.{largest, largest_in, row_columns, shares_of};
 
 use lc_rows::{ShownRow, View};
-use lc_sheet::{Columns, Format, SortBy, TableOptions};
+use lc_sheet::{Columns, Format, Number, TableOptions};
 use lc_walk::{Report, Sums};
 
 /// The shares of rows in a number.
 #[derive(Clone, Copy)]
 pub(crate) struct Shares {
-    pub(crate) number: SortBy,
+    pub(crate) number: Number,
     /// The number of the whole table.
     pub(crate) total: u128,
     /// The largest number of a row that is shown, if each row has a bar.
@@ -27,18 +27,18 @@ pub(crate) struct RowColumns {
 }
 
 /// Returns one of the numbers of sums.
-pub(crate) fn number_in(by: SortBy, sums: Sums) -> u128
+pub(crate) fn number_in(by: Number, sums: Sums) -> u128
     ensures { result ≡ number_in by sums }
 {
     match by {
-        SortBy::Files => u128::from(sums.files),
-        SortBy::Lines => sums.lines,
-        SortBy::Blank => sums.blank,
-        SortBy::Bytes => sums.bytes,
+        Number::Files => u128::from(sums.files),
+        Number::Lines => sums.lines,
+        Number::Blank => sums.blank,
+        Number::Bytes => sums.bytes,
     }
 }
 
-fn largest(number: SortBy, rows: &[ShownRow<'_>]) -> u128
+fn largest(number: Number, rows: &[ShownRow<'_>]) -> u128
     ensures { result ≡ largest number rows.now }
 {
     let mut most = 0;
@@ -48,7 +48,7 @@ fn largest(number: SortBy, rows: &[ShownRow<'_>]) -> u128
     most
 }
 
-fn largest_in(format: Format, number: SortBy, rows: &[ShownRow<'_>]) -> Option<u128>
+fn largest_in(format: Format, number: Number, rows: &[ShownRow<'_>]) -> Option<u128>
     ensures { result ≡ largest_in format number rows.now }
 {
     match format {
@@ -60,7 +60,7 @@ fn largest_in(format: Format, number: SortBy, rows: &[ShownRow<'_>]) -> Option<u
 fn shares_of(options: &TableOptions, totals: Sums, rows: &[ShownRow<'_>]) -> Shares
     ensures { result ≡ shares_of options.now totals rows.now }
 {
-    let number = options.sort.unwrap_or(SortBy::Lines);
+    let number = options.sort.unwrap_or(Number::Lines);
     Shares {
         number,
         total: number_in(number, totals),

@@ -13,3 +13,4 @@ pub mod Pieces
 pub mod Blocks
 pub mod TrialWrites
 pub mod CheckFaults
+pub mod Names

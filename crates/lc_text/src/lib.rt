@@ -3,7 +3,7 @@
 //! - `sink`: where text is written; `printing`: a text is written whole, or why not; `blocks`: a text is written as it is made
 //! - `escaping`: how paths are printed; `visible`: how they are shown in a terminal; `style`: the one or the other
 //! - `quoting`: how a shell takes a text for one argument
-//! - `places`: where a rule is
+//! - `places`: where a rule is; `name`: a path or an extension with what is printed before and after it
 //! - `input`: an input of paths, read whole; `lines`, `path_line`: its paths, and the path of a line; `check_fault`: why its paths were not
 //!   answered
 //! - `outcome`: whether what was written shows an error
@@ -17,6 +17,7 @@ mod escaping;
 mod input;
 mod laws;
 mod lines;
+mod name;
 mod outcome;
 mod path_line;
 mod places;
@@ -35,6 +36,7 @@ pub use laws::{
     a_shell_reads_what_was_quoted, a_vector_takes_the_text, dots_before_a_path_are_dropped,
 };
 pub use lines::{PathEnd, split_path};
+pub use name::{Name, push_name, push_visible_name};
 pub use outcome::Outcome;
 pub use path_line::{is_bad_path, is_top, split_slash, undotted};
 pub use places::{push_rule_source, source_directory, source_name};

@@ -3,7 +3,7 @@
 use lc_census::{Count, Eol};
 use lc_picture::page;
 use lc_rules::TextState;
-use lc_sheet::SortBy;
+use lc_sheet::Number;
 use lc_walk::{FileLine, Report, ReportLists, Sums, TallyRow};
 use std::alloc::{AllocError, Global};
 use std::test::Fail;
@@ -17,7 +17,7 @@ type Row = (Option<&'static [u8]>, [u64; 4]);
 /// A report, and the parts of its page: the sums, the rows of the chart, the word for the number that is drawn, and the boxes.
 struct Case {
     name: &'static str,
-    sort: Option<SortBy>,
+    sort: Option<Number>,
     rows: &'static [Row],
     totals: [u64; 4],
     files: &'static [File],
@@ -74,7 +74,7 @@ const CASES: &[Case] = &[
     // The directory `tiny` has less than a thousandth of the bytes, so it has no box.
     Case {
         name: "markup_and_hidden_bytes_in_names",
-        sort: Some(SortBy::Bytes),
+        sort: Some(Number::Bytes),
         rows: &[
             (None, [1, 2, 0, 1_995]),
             (Some(b"<i>"), [1, 1, 0, 1_000]),
@@ -268,7 +268,7 @@ fn extensions_that_the_chart_has_no_place_for(rt: HostRuntime) -> Result<(), Fai
     end.extend_from_slice(b"lines")?;
     end.extend_from_slice(BETWEEN[3])?;
     end.extend_from_slice(BETWEEN[4])?;
-    let text = page(rt.alloc(), &report, Some(SortBy::Lines))?;
+    let text = page(rt.alloc(), &report, Some(Number::Lines))?;
     assert!(rt; text.ends_with(&end));
     Ok(())
 }

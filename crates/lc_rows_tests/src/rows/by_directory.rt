@@ -4,7 +4,7 @@ use crate::rows::files::{BY_DIRECTORY, File, NONE, Row, are_rows, file_lines, su
 use lc_census::Eol;
 use lc_rows::{View, shown_rows};
 use lc_rules::TextState;
-use lc_sheet::{Columns, SortBy};
+use lc_sheet::{Columns, Number};
 use lc_walk::TallyRow;
 use std::alloc::{AllocError, Global};
 use std::process::Abort;
@@ -21,7 +21,7 @@ const FILES: &[File] = &[
 struct Case {
     name: &'static str,
     by: Columns,
-    sort: Option<SortBy>,
+    sort: Option<Number>,
     rows: &'static [Row],
 }
 
@@ -81,7 +81,7 @@ const CASES: &[Case] = &[
     Case {
         name: "sorted_by_blank",
         by: BY_DIRECTORY,
-        sort: Some(SortBy::Blank),
+        sort: Some(Number::Blank),
         rows: &[
             (b"src", None, Eol::NoEnd, [3, 11, 3, 85]),
             (b"", None, Eol::NoEnd, [1, 4, 1, 9]),
@@ -108,7 +108,7 @@ fn rows_by_directory(rt: HostRuntime) -> Result<(), Fail> {
 fn the_first_row_and_the_others(rt: HostRuntime) -> Result<(), Fail> {
     let alloc = rt.alloc();
     let files = file_lines(alloc, FILES)?;
-    let shown = shown_rows(alloc, &[], &files, BY_DIRECTORY, Some(SortBy::Lines))?;
+    let shown = shown_rows(alloc, &[], &files, BY_DIRECTORY, Some(Number::Lines))?;
     let view = View::of(Some(1), &shown, &files)?;
     assert!(rt; are_rows(view.rows, &[(b"src", None, Eol::NoEnd, [3, 11, 3, 85])]));
     assert!(rt; view.others == Some(sums([2, 7, 2, 24])));

@@ -4,11 +4,11 @@ use crate::table::asking::{HEADER, TSV};
 use crate::table::tables::{Case, NONE, compare_all};
 use lc_census::Eol;
 use lc_rules::TextState;
-use lc_sheet::{Format, SortBy, TableOptions};
+use lc_sheet::{Format, Number, TableOptions};
 use std::test::Fail;
 
 const LINES_TOP_1: TableOptions = TableOptions {
-    sort: Some(SortBy::Lines),
+    sort: Some(Number::Lines),
     top: Some(1),
     ..TSV
 };
@@ -97,7 +97,7 @@ const TABS: &[Case] = &[
     Case {
         name: "two_files_sorted_by_blank",
         options: TableOptions {
-            sort: Some(SortBy::Blank),
+            sort: Some(Number::Blank),
             top: Some(2),
             ..TSV
         },
@@ -113,7 +113,7 @@ const TABS: &[Case] = &[
     Case {
         name: "four_files_sorted_by_bytes",
         options: TableOptions {
-            sort: Some(SortBy::Bytes),
+            sort: Some(Number::Bytes),
             top: Some(4),
             ..TSV
         },
@@ -131,7 +131,7 @@ const TABS: &[Case] = &[
     Case {
         name: "files_stay_by_path_where_rows_are_sorted_by_files",
         options: TableOptions {
-            sort: Some(SortBy::Files),
+            sort: Some(Number::Files),
             top: Some(2),
             ..TSV
         },

@@ -4,7 +4,7 @@ use crate::table::asking::TSV;
 use crate::table::tables::{Case, NONE, compare_as_asked};
 use lc_census::Eol;
 use lc_rules::TextState;
-use lc_sheet::{Columns, Format, SortBy, TableOptions};
+use lc_sheet::{Columns, Format, Number, TableOptions};
 use std::test::Fail;
 
 const HEADER: &[u8] = b"dir\text\ttext\teol\tfiles\tlines\tblank\tbytes\n";
@@ -28,7 +28,7 @@ const BY_TWO: TableOptions = TableOptions {
         text: false,
         eol: false,
     },
-    sort: Some(SortBy::Lines),
+    sort: Some(Number::Lines),
     top: Some(2),
     ..TSV
 };
@@ -78,7 +78,7 @@ const OTHER_FORMATS: &[Case] = &[
         name: "in_columns_by_lines",
         options: TableOptions {
             format: Format::Table,
-            sort: Some(SortBy::Lines),
+            sort: Some(Number::Lines),
             ..BY_DIR
         },
         lines: b"dir    files  lines  blank  bytes\n\
@@ -137,7 +137,7 @@ const OTHER_FORMATS: &[Case] = &[
         name: "as_markdown_with_shares_and_others",
         options: TableOptions {
             format: Format::Markdown,
-            sort: Some(SortBy::Lines),
+            sort: Some(Number::Lines),
             top: Some(2),
             share: true,
             ..BY_DIR

@@ -5,7 +5,7 @@ use crate::table::tables::{Case, NONE, TEXT_STATES, compare_all};
 use lc_census::Eol;
 use lc_level::FaultWord;
 use lc_rules::TextState;
-use lc_sheet::{Columns, Format, SortBy, TableOptions};
+use lc_sheet::{Columns, Format, Number, TableOptions};
 use std::test::Fail;
 
 const JSON: TableOptions = TableOptions {
@@ -92,7 +92,7 @@ const SUMMED: Case = Case {
 const SORTED: Case = Case {
     name: "sorted_rows",
     options: TableOptions {
-        sort: Some(SortBy::Bytes),
+        sort: Some(Number::Bytes),
         ..BY_TEXT
     },
     lines: b"{\"rows\":[{\"text\":null,\"files\":1,\"lines\":2,\"blank\":0,\"bytes\":20},{\"text\":\"set\",\

@@ -6,7 +6,7 @@ use crate::table::tables::{Case, NONE, compare_as_asked};
 use lc_census::Eol;
 use lc_level::FaultWord;
 use lc_rules::TextState;
-use lc_sheet::{Columns, Format, SortBy, TableOptions};
+use lc_sheet::{Columns, Format, Number, TableOptions};
 use std::test::Fail;
 
 const CSV: TableOptions = TableOptions {
@@ -77,7 +77,7 @@ const CASES: &[Case] = &[
     Case {
         name: "the_largest_file",
         options: TableOptions {
-            sort: Some(SortBy::Bytes),
+            sort: Some(Number::Bytes),
             top: Some(1),
             ..CSV_FILES
         },

@@ -4,7 +4,7 @@ use crate::table::asking::{HEADER, TSV};
 use crate::table::tables::{Case, NONE, compare_all, has_parts, report_of};
 use lc_census::Eol;
 use lc_rules::TextState;
-use lc_sheet::{Columns, SortBy, TableOptions};
+use lc_sheet::{Columns, Number, TableOptions};
 use std::alloc::{AllocError, Global};
 use std::process::Abort;
 use std::test::Fail;
@@ -38,7 +38,7 @@ const NO_ROWS: &[Case] = &[Case {
             text: false,
             eol: false,
         },
-        sort: Some(SortBy::Bytes),
+        sort: Some(Number::Bytes),
         ..TSV
     },
     rows: &[],
@@ -50,7 +50,7 @@ const NO_ROWS: &[Case] = &[Case {
 }];
 
 /// What is shown, whether the three columns are kept, the number that sorts, and the rows.
-type ShapeCase = (&'static str, [bool; 3], Option<SortBy>, &'static [u8]);
+type ShapeCase = (&'static str, [bool; 3], Option<Number>, &'static [u8]);
 
 const CASES: &[ShapeCase] = &[
     (
@@ -104,31 +104,31 @@ const CASES: &[ShapeCase] = &[
     (
         "sorted_by_files",
         [true, true, true],
-        Some(SortBy::Files),
+        Some(Number::Files),
         b".c\tset\tlf\t2\t10\t3\t70\n.h\tset\tlf\t2\t4\t1\t30\n-\t-\tlf\t1\t4\t1\t9\n.c\tset\tcrlf\t1\t10\t0\t40\n.c\t-\tlf\t1\t2\t3\t8\n",
     ),
     (
         "sorted_by_lines",
         [true, true, true],
-        Some(SortBy::Lines),
+        Some(Number::Lines),
         b".c\tset\tlf\t2\t10\t3\t70\n.c\tset\tcrlf\t1\t10\t0\t40\n-\t-\tlf\t1\t4\t1\t9\n.h\tset\tlf\t2\t4\t1\t30\n.c\t-\tlf\t1\t2\t3\t8\n",
     ),
     (
         "sorted_by_blank",
         [true, true, true],
-        Some(SortBy::Blank),
+        Some(Number::Blank),
         b".c\tset\tlf\t2\t10\t3\t70\n.c\t-\tlf\t1\t2\t3\t8\n-\t-\tlf\t1\t4\t1\t9\n.h\tset\tlf\t2\t4\t1\t30\n.c\tset\tcrlf\t1\t10\t0\t40\n",
     ),
     (
         "sorted_by_bytes",
         [true, true, true],
-        Some(SortBy::Bytes),
+        Some(Number::Bytes),
         b".c\tset\tlf\t2\t10\t3\t70\n.c\tset\tcrlf\t1\t10\t0\t40\n.h\tset\tlf\t2\t4\t1\t30\n-\t-\tlf\t1\t4\t1\t9\n.c\t-\tlf\t1\t2\t3\t8\n",
     ),
     (
         "ext_sorted_by_blank",
         [true, false, false],
-        Some(SortBy::Blank),
+        Some(Number::Blank),
         b".c\t*\t*\t4\t22\t6\t118\n-\t*\t*\t1\t4\t1\t9\n.h\t*\t*\t2\t4\t1\t30\n",
     ),
 ];

@@ -5,7 +5,7 @@ use crate::table::tables::{Case, NONE, compare_all};
 use lc_census::Eol;
 use lc_level::FaultWord;
 use lc_rules::TextState;
-use lc_sheet::{Columns, Format, SortBy, TableOptions};
+use lc_sheet::{Columns, Format, Number, TableOptions};
 use std::test::Fail;
 
 const SCREEN: TableOptions = TableOptions {
@@ -126,7 +126,7 @@ const CASES: &[Case] = &[
         name: "classes_by_text_sorted_by_lines",
         options: TableOptions {
             by: BY_TEXT,
-            sort: Some(SortBy::Lines),
+            sort: Some(Number::Lines),
             ..SCREEN
         },
         lines: b"text    files      lines  blank              bytes\n\

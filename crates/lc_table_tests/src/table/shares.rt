@@ -5,7 +5,7 @@ use crate::table::screens::EMPTY;
 use crate::table::tables::{Case, NONE, compare_as_asked};
 use lc_census::Eol;
 use lc_rules::TextState;
-use lc_sheet::{Format, SortBy, TableOptions};
+use lc_sheet::{Format, Number, TableOptions};
 use lc_table::push_number;
 use std::test::Fail;
 
@@ -44,7 +44,7 @@ const SIXTEENTHS: Case = Case {
 };
 
 const BY_FILES: TableOptions = TableOptions {
-    sort: Some(SortBy::Files),
+    sort: Some(Number::Files),
     ..SHARES
 };
 
@@ -79,7 +79,7 @@ const CASES: &[Case] = &[
     Case {
         name: "shares_of_nothing",
         options: TableOptions {
-            sort: Some(SortBy::Bytes),
+            sort: Some(Number::Bytes),
             ..SHARES
         },
         rows: &[

@@ -1,0 +1,31 @@
+-- A sheet that is made of parts.
+use Rattle.std.proofs.Common.{◌≡◌, List, Bool, Option, refl}
+use Rattle.lc_sheet.specs.declared.column.Column.{Column}
+use Rattle.lc_sheet.specs.declared.form.Form.{Form}
+use Rattle.lc_sheet.specs.declared.table_options.TableOptions.{TableOptions}
+use Rattle.lc_walk.specs.ReportLines.{FileLineModel}
+use Rattle.lc_walk.specs.declared.report.Report.{Report}
+use Rattle.lc_rows.specs.Kinds.{NamedSumsModel}
+use Rattle.lc_rows.specs.RowKeys.{ShownRowModel}
+use Rattle.lc_rows.specs.SheetColumns.{row_columns}
+use Rattle.lc_rows.specs.Sheets.{form_of, others_lines, sheet_of, sheet_with, totals_lines}
+use Rattle.lc_rows.specs.Views.{ViewModel}
+
+-- where each part is that of a view, the sheet is that of the view
+pub made : (options : TableOptions) (r : Report) (v : ViewModel) (form : Form) (columns : List Column) (rows : List ShownRowModel)
+    (others totals : List NamedSumsModel) (files : List FileLineModel)
+    → form ≡ form_of options r.totals rows → columns ≡ row_columns options → rows ≡ v.rows → others ≡ others_lines v.others
+    → totals ≡ totals_lines r → files ≡ v.files
+    → sheet_with (record {
+      format = options.format;
+      form = form;
+      columns = columns;
+      rows = rows;
+      others = others;
+      totals = totals;
+      lists_files = options.files;
+      files = files;
+    }) r
+    ≡ sheet_of options r v
+made options r v form columns rows others totals files is_form are_columns are_rows are_others are_totals are_files =
+    rw (is_form, are_columns, are_rows, are_others, are_totals, are_files) refl

@@ -1,0 +1,96 @@
+-- The columns that each section has, by the format.
+use Rattle.std.specs.Prelude.{Bool, true, false, if◌then◌else◌, List, [], ◌∷◌, ◌++◌, is_some}
+use Rattle.lc_sheet.specs.declared.column.Column.{Column}
+use Rattle.lc_sheet.specs.declared.column.Column.TheVariants as column
+use Rattle.lc_sheet.specs.declared.column.Number.TheVariants as number
+use Rattle.lc_sheet.specs.declared.table_options.Columns.{Columns}
+use Rattle.lc_sheet.specs.declared.table_options.Format.{Format}
+use Rattle.lc_sheet.specs.declared.table_options.Format.TheVariants.{Tsv, Table, Json, Csv, Markdown, Html}
+use Rattle.lc_sheet.specs.declared.table_options.TableOptions.{TableOptions}
+
+abbrev pub column_if : Bool → Column → List Column
+column_if kept c = if kept then c ∷ [] else []
+
+-- whether a format has a column for a key over which rows are summed
+abbrev pub keeps_columns : Format → Bool
+keeps_columns Tsv = true
+keeps_columns Table = false
+keeps_columns Json = false
+keeps_columns Csv = false
+keeps_columns Markdown = false
+keeps_columns Html = false
+
+-- the columns by which rows are kept apart, and in some formats also those that rows are summed over
+abbrev pub key_columns : Bool → Columns → List Column
+key_columns all by =
+    column_if (is_some by.dir) column.Dir ++ column_if (if all then true else by.ext) column.Ext
+    ++ column_if (if all then true else by.text) column.Text ++ column_if (if all then true else by.eol) column.Eol
+
+-- the first of them
+abbrev pub first_key : Bool → Columns → Column
+first_key all by =
+    if is_some by.dir then column.Dir else if (if all then true else by.ext) then column.Ext
+    else if by.text then column.Text else column.Eol
+
+abbrev pub number_columns : List Column
+number_columns =
+    column.Number number.Files ∷ column.Number number.Lines ∷ column.Number number.Blank ∷ column.Number number.Bytes ∷ []
+
+-- shares and bars, where they are asked for
+abbrev pub share_columns : Format → List Column
+share_columns Tsv = []
+share_columns Table = column.Share ∷ column.Bar ∷ []
+share_columns Json = []
+share_columns Csv = []
+share_columns Markdown = column.Share ∷ []
+share_columns Html = []
+
+abbrev pub row_columns : TableOptions → List Column
+row_columns options =
+    key_columns (keeps_columns options.format) options.by ++ number_columns
+    ++ (if options.share then share_columns options.format else [])
+
+-- those of sums, where rows have these: no keys where sums have no line among the rows
+abbrev pub sums_columns : Format → List Column → List Column
+sums_columns Tsv rows = rows
+sums_columns Table rows = rows
+sums_columns Json rows = number_columns
+sums_columns Csv rows = number_columns
+sums_columns Markdown rows = rows
+sums_columns Html rows = rows
+
+-- those of files in lines that people read, and in records
+abbrev pub listed_columns : List Column
+listed_columns =
+    column.Text ∷ column.Eol ∷ column.Number number.Lines ∷ column.Number number.Blank ∷ column.Number number.Bytes ∷ column.Path ∷ []
+
+abbrev pub recorded_columns : Bool → List Column
+recorded_columns by_directory =
+    column.Path ∷ (column_if by_directory column.Dir ++ column.Ext ∷ column.Text ∷ column.Eol
+    ∷ column.Number number.Lines ∷ column.Number number.Blank ∷ column.Number number.Bytes ∷ [])
+
+abbrev pub file_columns : Format → Columns → List Column
+file_columns Tsv by = listed_columns
+file_columns Table by = listed_columns
+file_columns Json by = recorded_columns (is_some by.dir)
+file_columns Csv by = recorded_columns (is_some by.dir)
+file_columns Markdown by = listed_columns
+file_columns Html by = listed_columns
+
+-- and of skipped entries
+abbrev pub listed_skipped : List Column
+listed_skipped = column.Reason ∷ column.Place ∷ column.Entry ∷ []
+
+abbrev pub recorded_skipped : List Column
+recorded_skipped = column.Path ∷ column.Kind ∷ column.Reason ∷ column.File ∷ column.Line ∷ column.Attribute ∷ []
+
+abbrev pub skipped_columns : Format → List Column
+skipped_columns Tsv = listed_skipped
+skipped_columns Table = listed_skipped
+skipped_columns Json = recorded_skipped
+skipped_columns Csv = recorded_skipped
+skipped_columns Markdown = listed_skipped
+skipped_columns Html = listed_skipped
+
+abbrev pub fault_columns : List Column
+fault_columns = column.Fault ∷ column.Site ∷ []

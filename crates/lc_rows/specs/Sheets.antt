@@ -1,0 +1,121 @@
+-- The sheet of a report.
+use Rattle.std.specs.Prelude.{◌≡◌, ℕ, max, Bool, if◌then◌else◌, List, [], ◌∷◌, codes, unwrap_or, Option, Some, None}
+use Rattle.std.specs.List.{list_any}
+use Rattle.lc_sheet.specs.Sheets.{SectionModel, SheetModel, lines_of}
+use Rattle.lc_sheet.specs.Values.{ValueModel}
+use Rattle.lc_sheet.specs.declared.column.Column.{Column}
+use Rattle.lc_sheet.specs.declared.column.Number.{Number}
+use Rattle.lc_sheet.specs.declared.column.Number.TheVariants.{Lines}
+use Rattle.lc_sheet.specs.declared.form.Form.{Form}
+use Rattle.lc_sheet.specs.declared.form.Shares.{Shares}
+use Rattle.lc_sheet.specs.declared.table_options.Format.{Format}
+use Rattle.lc_sheet.specs.declared.table_options.TableOptions.{TableOptions}
+use Rattle.lc_walk.specs.ReportLines.{FileLineModel}
+use Rattle.lc_walk.specs.declared.report.Report.{Report}
+use Rattle.lc_walk.specs.declared.tally.sums.Sums.{Sums}
+use Rattle.lc_rows.specs.Classes.{binary_sums, is_binary, text_sums}
+use Rattle.lc_rows.specs.Kinds.{NamedSumsModel, fault_value, file_value, row_value, skipped_value, sums_value}
+use Rattle.lc_rows.specs.RowKeys.{ShownRowModel}
+use Rattle.lc_rows.specs.SheetColumns.{fault_columns, file_columns, first_key, keeps_columns, row_columns, skipped_columns, sums_columns}
+use Rattle.lc_rows.specs.ShownFiles.{AreFilesSorted}
+use Rattle.lc_rows.specs.ShownRows.{AreShown, number_in}
+use Rattle.lc_rows.specs.Views.{ViewModel, view_of}
+
+-- ---- the form of lines
+
+-- the largest number of a row, 0 without rows
+abbrev pub largest : Number → List ShownRowModel → ℕ
+largest n [] = 0
+largest n (r ∷ rs) = max (number_in n r.sums) (largest n rs)
+
+-- the number that a table is sorted by, or lines
+abbrev pub share_number : Option Number → Number
+share_number sort = unwrap_or sort Lines
+
+abbrev pub shares_of : Number → Sums → List ShownRowModel → Shares
+shares_of n totals rs = record { number = n; total = number_in n totals; largest = largest n rs }
+
+abbrev pub form_of : TableOptions → Sums → List ShownRowModel → Form
+form_of options totals rs = record {
+  by = options.by;
+  first = first_key (keeps_columns options.format) options.by;
+  shares = if options.share then Some (shares_of (share_number options.sort) totals rs) else None;
+}
+
+-- ---- the lines of sums
+
+-- the sums over the rows that are cut off, where some are
+abbrev pub others_lines : Option Sums → List NamedSumsModel
+others_lines None = []
+others_lines (Some s) = record { name = codes "others"; sums = s } ∷ []
+
+-- the sums over all files, over those of text, and over binary ones
+abbrev pub totals_lines : Report → List NamedSumsModel
+totals_lines r =
+    record { name = codes "total"; sums = r.totals } ∷ record { name = codes "text"; sums = text_sums r.rows.items }
+    ∷ record { name = codes "binary"; sums = binary_sums r.rows.items } ∷ []
+
+-- ---- the sheet
+
+-- what is shown of a report: in which format and form; the rows with their columns; the sums; the files, where they are listed
+pub record ShownModel : Type 0 where
+  pub format : Format
+  pub form : Form
+  pub columns : List Column
+  pub rows : List ShownRowModel
+  pub others : List NamedSumsModel
+  pub totals : List NamedSumsModel
+  pub lists_files : Bool
+  pub files : List FileLineModel
+
+abbrev pub section_of : {X : Type 0} → (X → Column → ValueModel) → List Column → List X → SectionModel
+section_of value columns lines = record { columns = columns; lines = lines_of value columns lines }
+
+abbrev pub files_section : ShownModel → Option SectionModel
+files_section m =
+    if m.lists_files then Some (section_of (file_value m.form) (file_columns m.format m.form.by) m.files) else None
+
+abbrev pub sheet_with : ShownModel → Report → SheetModel
+sheet_with m r = record {
+  rows = section_of (row_value m.form) m.columns m.rows;
+  others = section_of (sums_value m.form) (sums_columns m.format m.columns) m.others;
+  totals = section_of (sums_value m.form) (sums_columns m.format m.columns) m.totals;
+  some_binary = list_any is_binary r.rows.items;
+  directories = r.directories;
+  entries = if r.lists.left_out then Some r.entries else None;
+  files = files_section m;
+  skipped = section_of (skipped_value m.form) (skipped_columns m.format) r.skipped.items;
+  faults = section_of (fault_value m.form) fault_columns r.faults.items;
+}
+
+abbrev pub shown_of : TableOptions → Report → ViewModel → ShownModel
+shown_of options r v = record {
+  format = options.format;
+  form = form_of options r.totals v.rows;
+  columns = row_columns options;
+  rows = v.rows;
+  others = others_lines v.others;
+  totals = totals_lines r;
+  lists_files = options.files;
+  files = v.files;
+}
+
+-- the sheet of a report with these options, with this view of its rows and files
+abbrev pub sheet_of : TableOptions → Report → ViewModel → SheetModel
+sheet_of options r v = sheet_with (shown_of options r v) r
+
+-- the files that a sheet lists: none where it is not to list files
+abbrev pub listed_files : Bool → List FileLineModel → List FileLineModel
+listed_files listed files = if listed then files else []
+
+-- a sheet of a report with these options whose files are these: the first of them and of its rows, as they are summed and sorted
+pub record HasFiles (options : TableOptions) (r : Report) (files : List FileLineModel) (s : SheetModel) : Type 0 where
+  pub rows : List ShownRowModel
+  pub are_rows : AreShown options.by options.sort r.rows.items files rows
+  pub is : s ≡ sheet_of options r (view_of options.top rows (listed_files options.files files))
+
+-- a sheet of a report with these options
+pub record IsSheetOf (options : TableOptions) (r : Report) (s : SheetModel) : Type 0 where
+  pub files : List FileLineModel
+  pub are_files : AreFilesSorted options.sort r.files.items files
+  pub has : HasFiles options r files s

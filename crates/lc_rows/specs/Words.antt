@@ -1,0 +1,44 @@
+-- The words of values.
+use Rattle.std.specs.Prelude.{ℕ, List, [], codes}
+use Rattle.lc_census.specs.declared.line_count.Eol.{Eol}
+use Rattle.lc_census.specs.declared.line_count.Eol.TheVariants.{NoEnd, Lf, CrLf, Cr, Mixed, Nul}
+use Rattle.lc_level.specs.Level.{Reason, named_git, by_rule, by_attribute, not_included, other_kind}
+use Rattle.lc_tree.specs.declared.entry.Kind.{Kind}
+use Rattle.lc_tree.specs.declared.entry.Kind.TheVariants.{File, Dir, Other}
+use Rattle.lc_tree.specs.declared.entry.OtherKind.TheVariants.{Special, Mounted}
+
+-- the class of line ends
+abbrev pub eol_word : Eol → List ℕ
+eol_word NoEnd = codes "none"
+eol_word Lf = codes "lf"
+eol_word CrLf = codes "crlf"
+eol_word Cr = codes "cr"
+eol_word Mixed = codes "mixed"
+eol_word Nul = codes "nul"
+
+-- why an entry is skipped
+abbrev pub reason_word : Reason → List ℕ
+reason_word named_git = codes "git"
+reason_word (by_rule source line) = codes "rule"
+reason_word (by_attribute name) = codes "attribute"
+reason_word not_included = codes "include"
+reason_word (other_kind Special) = codes "other"
+reason_word (other_kind Mounted) = codes "filesystem"
+
+-- what a skipped entry is
+abbrev pub kind_word : Kind → List ℕ
+kind_word File = codes "file"
+kind_word Dir = codes "dir"
+kind_word (Other Special) = codes "other"
+kind_word (Other Mounted) = codes "dir"
+
+-- a slash follows the path of a directory, but for `.git`
+abbrev pub skipped_end : Kind → Reason → List ℕ
+skipped_end Dir named_git = []
+skipped_end Dir (by_rule source line) = codes "/"
+skipped_end Dir (by_attribute name) = codes "/"
+skipped_end Dir not_included = codes "/"
+skipped_end Dir (other_kind what) = codes "/"
+skipped_end File reason = []
+skipped_end (Other Special) reason = []
+skipped_end (Other Mounted) reason = codes "/"

@@ -1,0 +1,26 @@
+//! What could not be read.
+
+ghost use Rattle.std.specs.Prelude.{◌≡◌};
+ghost use Rattle.lc_sheet.specs.Values.{value_model};
+ghost use Rattle.lc_rows.specs.Kinds.{fault_value};
+
+use lc_sheet::{Column, Form, Lines, Value};
+use lc_walk::FaultLine;
+
+/// The kind of the lines of what could not be read.
+#[derive(Drop)]
+pub struct Faults {}
+
+impl Lines for Faults {
+    type Line = FaultLine;
+
+    ghost value_in = { fault_value };
+
+    fn value<'l>(line: &'l FaultLine, form: Form, column: Column) -> Value<'l> {
+        match column {
+            Column::Fault => Value::Word(line.word.as_str()),
+            Column::Site => Value::Path(&line.path),
+            _ => Value::Blank,
+        }
+    }
+}

@@ -1,0 +1,101 @@
+//! The skipped entries of a sheet.
+
+ghost use Rattle.std.specs.Prelude.{◌≡◌};
+ghost use Rattle.lc_sheet.specs.Values.{value_model};
+ghost use Rattle.lc_rows.specs.Kinds.{skipped_value, attribute_value, entry_value, place_value, rule_file_value, rule_line_value, rule_name};
+
+use crate::values::bytes_value;
+use crate::words::{kind_word, reason_word, skipped_end};
+use lc_level::Reason;
+use lc_rules::RuleSource;
+use lc_sheet::{Column, Form, Lines, Value};
+use lc_text::{Name, source_directory, source_name};
+use lc_walk::SkippedLine;
+
+/// The kind of the skipped entries of a sheet.
+#[derive(Drop)]
+pub struct Skipped {}
+
+/// Makes the value of the path of a rule's file, with the number of a line.
+fn rule_name(path: &[u8], source: RuleSource, line: Option<u32>) -> Value<'_>
+    ensures { value_model result ≡ rule_name path.entry.now source line }
+{
+    Value::Name(Name {
+        front: "",
+        bytes: source_directory(path, source),
+        end: source_name(source),
+        line,
+    })
+}
+
+fn place_value(line: &SkippedLine) -> Value<'_>
+    ensures { value_model result ≡ place_value line.entry.now.path line.entry.now.reason }
+{
+    match &line.reason {
+        Reason::Rule {
+            source,
+            line: number,
+        } => rule_name(&line.path, *source, Some(*number)),
+        Reason::Attribute(name) => bytes_value(name),
+        Reason::Git | Reason::Include | Reason::OtherKind(_) => Value::Missing,
+    }
+}
+
+fn rule_file_value(line: &SkippedLine) -> Value<'_>
+    ensures { value_model result ≡ rule_file_value line.entry.now.path line.entry.now.reason }
+{
+    match &line.reason {
+        Reason::Rule { source, .. } => rule_name(&line.path, *source, None),
+        Reason::Git | Reason::Attribute(_) | Reason::Include | Reason::OtherKind(_) => Value::Blank,
+    }
+}
+
+fn rule_line_value(line: &SkippedLine) -> Value<'_>
+    ensures { value_model result ≡ rule_line_value line.entry.now.reason }
+{
+    match &line.reason {
+        Reason::Rule { line: number, .. } => Value::Number(u128::from(*number)),
+        Reason::Git | Reason::Attribute(_) | Reason::Include | Reason::OtherKind(_) => Value::Blank,
+    }
+}
+
+fn attribute_value(line: &SkippedLine) -> Value<'_>
+    ensures { value_model result ≡ attribute_value line.entry.now.reason }
+{
+    match &line.reason {
+        Reason::Attribute(name) => bytes_value(name),
+        Reason::Git | Reason::Rule { .. } | Reason::Include | Reason::OtherKind(_) => Value::Blank,
+    }
+}
+
+/// Makes the value of the path of an entry, with a slash if it is a directory.
+fn entry_value(line: &SkippedLine) -> Value<'_>
+    ensures { value_model result ≡ entry_value line.entry.now }
+{
+    Value::Name(Name {
+        front: "",
+        bytes: &line.path,
+        end: skipped_end(line.kind, &line.reason),
+        line: None,
+    })
+}
+
+impl Lines for Skipped {
+    type Line = SkippedLine;
+
+    ghost value_in = { skipped_value };
+
+    fn value<'l>(line: &'l SkippedLine, form: Form, column: Column) -> Value<'l> {
+        match column {
+            Column::Path => Value::Path(&line.path),
+            Column::Kind => Value::Word(kind_word(line.kind)),
+            Column::Reason => Value::Word(reason_word(&line.reason)),
+            Column::Place => place_value(line),
+            Column::Entry => entry_value(line),
+            Column::File => rule_file_value(line),
+            Column::Line => rule_line_value(line),
+            Column::Attribute => attribute_value(line),
+            _ => Value::Blank,
+        }
+    }
+}

@@ -1,0 +1,62 @@
+//! The sums of a sheet.
+
+ghost use Rattle.std.specs.Prelude.{◌≡◌};
+ghost use Rattle.lc_sheet.specs.Values.{value_model};
+ghost use Rattle.lc_rows.specs.Kinds.{sums_value, named_in};
+
+use crate::shown::number_in;
+use crate::values::{bar_value, share_value};
+use lc_sheet::{Column, Form, Lines, Value};
+use lc_walk::Sums;
+use std::marker::Model;
+
+/// Sums, and the name under which they are shown.
+#[derive(Drop)]
+pub struct NamedSums {
+    /// The name, such as `total`.
+    pub name: &'static str,
+    /// The sums.
+    pub sums: Sums,
+}
+
+impl Model for NamedSums {
+    ghost use Rattle.lc_rows.specs.Kinds.{NamedSumsModel};
+
+    ghost Value = { NamedSumsModel };
+
+    ghost view = { λ s. record { name = s.name.now; sums = s.sums } };
+}
+
+/// The kind of the sums of a sheet.
+#[derive(Drop)]
+pub struct Totals {}
+
+/// Makes the value of a name in a column: the name where that is the first column.
+fn named_in<'l>(first: Column, column: Column, name: &'static str) -> Value<'l>
+    ensures { value_model result ≡ named_in first column name.now }
+{
+    match (first, column) {
+        (Column::Dir, Column::Dir)
+        | (Column::Ext, Column::Ext)
+        | (Column::Text, Column::Text)
+        | (Column::Eol, Column::Eol) => Value::Word(name),
+        _ => Value::Summed,
+    }
+}
+
+impl Lines for Totals {
+    type Line = NamedSums;
+
+    ghost value_in = { sums_value };
+
+    fn value<'l>(line: &'l NamedSums, form: Form, column: Column) -> Value<'l> {
+        match column {
+            Column::Dir | Column::Ext | Column::Text | Column::Eol => named_in(
+                form.first, column, line.name,
+            ),
+            Column::Number(number) => Value::Number(number_in(number, line.sums)),
+            Column::Share => share_value(form.shares, line.sums),
+            _ => Value::Blank,
+        }
+    }
+}

@@ -1,0 +1,224 @@
+//! What is shown of a report, and its sheet.
+
+ghost use Rattle.std.specs.Prelude.{◌≡◌, if◌then◌else◌, Option, Some, None, IfOk};
+ghost use Rattle.lc_rows.specs.Sheets.{HasFiles, files_section, form_of, largest, listed_files, others_lines, share_number, shares_of};
+ghost use Rattle.lc_rows.specs.Sheets.{totals_lines};
+ghost use Rattle.lc_rows.specs.Views.{first_of, rest_of, sums_of_some};
+
+use crate::classes::{ClassSums, some_binary};
+use crate::columns::{
+    fault_columns, file_columns, first_key, row_columns, skipped_columns, sums_columns,
+};
+use crate::cut::{split_at_top, sums_of_some};
+use crate::kinds::{Faults, Files, NamedSums, Rows, Skipped, Totals};
+use crate::shown::{number_in, shown_rows};
+use crate::shown_row::ShownRow;
+use lc_sheet::{Column, Form, Format, Number, Section, Shares, Sheet, TableOptions};
+use lc_walk::{FileLine, Report, Sums};
+use std::alloc::{AllocError, Global};
+use std::marker::Model;
+
+/// The sheet of a report.
+pub type ReportSheet<'a> = Sheet<'a, Rows<'a>, Totals, Files, Skipped, Faults>;
+
+/// What is shown of a report: it owns the rows, which lend their names from the report, and lends the sheet.
+#[derive(Drop)]
+pub struct Shown<'a> {
+    format: Format,
+    form: Form,
+    columns: Vec<Column>,
+    rows: Vec<ShownRow<'a>>,
+    others: Vec<NamedSums>,
+    totals: Vec<NamedSums>,
+    lists_files: bool,
+    files: &'a [FileLine],
+    report: &'a Report,
+}
+
+impl<'a> Model for Shown<'a> {
+    ghost use Rattle.std.specs.List.{list_any};
+    ghost use Rattle.lc_sheet.specs.Sheets.{SheetModel};
+    ghost use Rattle.lc_rows.specs.Sheets.{sheet_with};
+    ghost use Rattle.lc_rows.specs.Classes.{is_binary};
+
+    ghost Value = { SheetModel };
+
+    ghost view = { λ s. sheet_with (record {
+      format = s.format;
+      form = s.form;
+      columns = s.columns.items;
+      rows = s.rows.items;
+      others = s.others.items;
+      totals = s.totals.items;
+      lists_files = s.lists_files;
+      files = s.files.now;
+    }) s.report.now };
+}
+
+fn largest(number: Number, rows: &[ShownRow<'_>]) -> u128
+    ensures { result ≡ largest number rows.now }
+{
+    let mut most = 0;
+    for row in rows {
+        most = number_in(number, row.sums).max(most);
+    }
+    most
+}
+
+fn shares_of(number: Number, totals: Sums, rows: &[ShownRow<'_>]) -> Shares
+    ensures { result ≡ shares_of number totals rows.now }
+{
+    Shares {
+        number,
+        total: number_in(number, totals),
+        largest: largest(number, rows),
+    }
+}
+
+fn form_of(options: &TableOptions, totals: Sums, rows: &[ShownRow<'_>]) -> Form
+    ensures { result ≡ form_of options.now totals rows.now }
+{
+    let shares = if options.share {
+        Some(shares_of(options.sort.unwrap_or(Number::Lines), totals, rows))
+    } else {
+        None
+    };
+    Form {
+        by: options.by,
+        first: first_key(options.format, options.by),
+        shares,
+    }
+}
+
+fn others_lines(alloc: Global, others: Option<Sums>) -> Result<Vec<NamedSums>, AllocError>
+    ensures { IfOk result (λ lines. lines.items ≡ others_lines others) }
+{
+    let mut lines = Vec::new(alloc);
+    if let Some(sums) = others {
+        lines.push(NamedSums {
+            name: "others",
+            sums,
+        })?;
+    }
+    Ok(lines)
+}
+
+fn totals_lines(alloc: Global, report: &Report) -> Result<Vec<NamedSums>, AllocError>
+    ensures { IfOk result (λ lines. lines.items ≡ totals_lines report.now) }
+{
+    let classes = ClassSums::of_all(&report.rows)?;
+    let mut lines = Vec::new(alloc);
+    lines.push(NamedSums {
+        name: "total",
+        sums: report.totals,
+    })?;
+    lines.push(NamedSums {
+        name: "text",
+        sums: classes.text,
+    })?;
+    lines.push(NamedSums {
+        name: "binary",
+        sums: classes.binary,
+    })?;
+    Ok(lines)
+}
+
+/// Adds up the rows that are cut off, if some are.
+fn others_sums(top: Option<u32>, rows: &[ShownRow<'_>]) -> Result<Option<Sums>, AllocError>
+    ensures { IfOk result (λ others. others ≡ sums_of_some (rest_of top rows.now)) }
+{
+    let (_, rest) = split_at_top(top, rows);
+    sums_of_some(rest)
+}
+
+/// Cuts off all rows but the first, as many as are asked for.
+fn cut(top: Option<u32>, rows: &mut Vec<ShownRow<'_>>)
+    ensures { rows.new.items ≡ first_of top rows.old.items }
+{
+    if let Some(most) = top {
+        rows.truncate(most as usize);
+    }
+}
+
+fn listed_files(listed: bool, files: &[FileLine]) -> &[FileLine]
+    ensures { result.now ≡ listed_files listed files.now }
+{
+    if listed { files } else { &[] }
+}
+
+impl<'a> Shown<'a> {
+    /// Sums and sorts the rows of a report, cuts them, and adds up what else is shown.
+    ///
+    /// Rows by directory are summed over the files, which the report must have, sorted as the sheet lists them. It stops with an error if
+    /// there is no memory, and for rows that no walk has, whose sums overflow.
+    pub fn of(
+        alloc: Global,
+        report: &'a Report,
+        options: &TableOptions,
+    ) -> Result<Shown<'a>, AllocError>
+        ensures { IfOk result (λ shown. HasFiles options.now report.entry.now report.entry.now.files.items shown) }
+    {
+        let mut rows = shown_rows(alloc, &report.rows, &report.files, options.by, options.sort)?;
+        let (files, _) = split_at_top(options.top, listed_files(options.files, &report.files));
+        let others = others_sums(options.top, &rows)?;
+        cut(options.top, &mut rows);
+        let shown = Shown {
+            format: options.format,
+            form: form_of(options, report.totals, &rows),
+            columns: row_columns(alloc, options)?,
+            rows,
+            others: others_lines(alloc, others)?,
+            totals: totals_lines(alloc, report)?,
+            lists_files: options.files,
+            files,
+            report,
+        };
+        Ok(shown)
+    }
+
+    fn entries(&self) -> Option<u64>
+        ensures { result ≡ self.now.entries }
+    {
+        if self.report.lists.left_out {
+            Some(self.report.entries)
+        } else {
+            None
+        }
+    }
+
+    fn files_section(&'a self) -> Option<Section<'a, Files>>
+        ensures { result ≡ self.entry.now.files }
+    {
+        if self.lists_files {
+            Some(Section::new(
+                self.form,
+                file_columns(self.format, self.form.by),
+                self.files,
+            ))
+        } else {
+            None
+        }
+    }
+
+    /// The sheet, which lends everything.
+    pub fn sheet(&'a self) -> ReportSheet<'a>
+        ensures { result ≡ self.entry.now }
+    {
+        let sums_columns = sums_columns(self.format, &self.columns);
+        Sheet {
+            rows: Section::new(self.form, &self.columns, &self.rows),
+            others: Section::new(self.form, sums_columns, &self.others),
+            totals: Section::new(self.form, sums_columns, &self.totals),
+            some_binary: some_binary(&self.report.rows),
+            directories: self.report.directories,
+            entries: self.entries(),
+            files: self.files_section(),
+            skipped: Section::new(
+                self.form,
+                skipped_columns(self.format),
+                &self.report.skipped,
+            ),
+            faults: Section::new(self.form, fault_columns(), &self.report.faults),
+        }
+    }
+}

@@ -1,0 +1,89 @@
+//! Values that lines of several kinds have.
+
+ghost use Rattle.std.specs.Prelude.{◌≡◌, option_map};
+ghost use Rattle.lc_sheet.specs.Values.{value_model};
+ghost use Rattle.lc_rows.specs.Kinds.{bar_value, bytes_value, directory_value, extension_value, kept_value, share_value, text_value};
+
+use crate::shown::number_in;
+use lc_rules::TextState;
+use lc_sheet::{Shares, Value};
+use lc_text::Name;
+use lc_walk::Sums;
+
+/// Makes the value of bytes alone.
+pub(crate) fn bytes_value(bytes: &[u8]) -> Value<'_>
+    ensures { value_model result ≡ bytes_value bytes.entry.now }
+{
+    Value::Name(Name {
+        front: "",
+        bytes,
+        end: "",
+        line: None,
+    })
+}
+
+pub(crate) fn extension_value(extension: Option<&[u8]>) -> Value<'_>
+    ensures { value_model result ≡ extension_value (option_map (λ name. name.now) extension.entry) }
+{
+    match extension {
+        None => Value::Missing,
+        Some(bytes) => Value::Name(Name {
+            front: ".",
+            bytes,
+            end: "",
+            line: None,
+        }),
+    }
+}
+
+/// Makes the value of a directory; the top's empty path is a dot.
+pub(crate) fn directory_value(path: &[u8]) -> Value<'_>
+    ensures { value_model result ≡ directory_value path.entry.now }
+{
+    if path.is_empty() {
+        Value::Name(Name {
+            front: ".",
+            bytes: path,
+            end: "",
+            line: None,
+        })
+    } else {
+        bytes_value(path)
+    }
+}
+
+pub(crate) fn text_value<'l>(text: TextState) -> Value<'l>
+    ensures { value_model result ≡ text_value text }
+{
+    match text {
+        TextState::Set => Value::Word("set"),
+        TextState::Unset => Value::Word("unset"),
+        TextState::Auto => Value::Word("auto"),
+        TextState::Other => Value::Word("other"),
+        TextState::Unspecified => Value::Missing,
+    }
+}
+
+pub(crate) fn share_value<'l>(shares: Option<Shares>, sums: Sums) -> Value<'l>
+    ensures { value_model result ≡ share_value shares sums }
+{
+    match shares {
+        None => Value::Blank,
+        Some(shares) => Value::Share {
+            part: number_in(shares.number, sums),
+            whole: shares.total,
+        },
+    }
+}
+
+pub(crate) fn bar_value<'l>(shares: Option<Shares>, sums: Sums) -> Value<'l>
+    ensures { value_model result ≡ bar_value shares sums }
+{
+    match shares {
+        None => Value::Blank,
+        Some(shares) => Value::Bar {
+            part: number_in(shares.number, sums),
+            whole: shares.largest,
+        },
+    }
+}

@@ -1,0 +1,56 @@
+//! The words of values.
+
+ghost use Rattle.std.specs.Prelude.{◌≡◌};
+ghost use Rattle.lc_level.specs.Reasons.{reason_model};
+ghost use Rattle.lc_rows.specs.Words.{eol_word, kind_word, reason_word, skipped_end};
+
+use lc_census::Eol;
+use lc_level::Reason;
+use lc_tree::{Kind, OtherKind};
+
+pub(crate) fn eol_word(eol: Eol) -> &'static str
+    ensures { result.now ≡ eol_word eol }
+{
+    match eol {
+        Eol::NoEnd => "none",
+        Eol::Lf => "lf",
+        Eol::CrLf => "crlf",
+        Eol::Cr => "cr",
+        Eol::Mixed => "mixed",
+        Eol::Nul => "nul",
+    }
+}
+
+pub(crate) fn reason_word(reason: &Reason) -> &'static str
+    ensures { result.now ≡ reason_word (reason_model reason.now) }
+{
+    match reason {
+        Reason::Git => "git",
+        Reason::Rule { .. } => "rule",
+        Reason::Attribute(_) => "attribute",
+        Reason::Include => "include",
+        Reason::OtherKind(OtherKind::Special) => "other",
+        Reason::OtherKind(OtherKind::Mounted) => "filesystem",
+    }
+}
+
+pub(crate) fn kind_word(kind: Kind) -> &'static str
+    ensures { result.now ≡ kind_word kind }
+{
+    match kind {
+        Kind::File => "file",
+        Kind::Dir | Kind::Other(OtherKind::Mounted) => "dir",
+        Kind::Other(OtherKind::Special) => "other",
+    }
+}
+
+/// Returns what follows the path of a skipped entry: a slash if it is a directory other than `.git`.
+pub(crate) fn skipped_end(kind: Kind, reason: &Reason) -> &'static str
+    ensures { result.now ≡ skipped_end kind (reason_model reason.now) }
+{
+    match (kind, reason) {
+        (Kind::Dir, Reason::Git) => "",
+        (Kind::Dir | Kind::Other(OtherKind::Mounted), _) => "/",
+        (Kind::File | Kind::Other(OtherKind::Special), _) => "",
+    }
+}

@@ -1,0 +1,54 @@
+-- The words of columns, and their sides.
+use Rattle.std.specs.Prelude.{ℕ, List, [], codes}
+use Rattle.lc_sheet.specs.declared.column.Number.{Number as NumberColumn}
+use Rattle.lc_sheet.specs.declared.column.Number.TheVariants.{Files, Lines, Blank, Bytes}
+use Rattle.lc_sheet.specs.declared.column.Side.{Side}
+use Rattle.lc_sheet.specs.declared.column.Side.TheVariants.{Left, Right, End}
+use Rattle.lc_sheet.specs.declared.column.Column.{Column}
+use Rattle.lc_sheet.specs.declared.column.Column.TheVariants.{Dir, Ext, Text, Eol, Number, Share, Bar, Path, Kind, Reason, Place, Entry}
+use Rattle.lc_sheet.specs.declared.column.Column.TheVariants.{File, Line, Attribute, Fault, Site}
+
+abbrev pub number_name : NumberColumn → List ℕ
+number_name Files = codes "files"
+number_name Lines = codes "lines"
+number_name Blank = codes "blank"
+number_name Bytes = codes "bytes"
+
+-- for programs
+abbrev pub column_name : Column → List ℕ
+column_name Dir = codes "dir"
+column_name Ext = codes "ext"
+column_name Text = codes "text"
+column_name Eol = codes "eol"
+column_name (Number n) = number_name n
+column_name Share = codes "share"
+column_name Bar = codes "bar"
+column_name Path = codes "path"
+column_name Kind = codes "kind"
+column_name Reason = codes "reason"
+column_name Place = codes "place"
+column_name Entry = codes "entry"
+column_name File = codes "file"
+column_name Line = codes "line"
+column_name Attribute = codes "attribute"
+column_name Fault = codes "word"
+column_name Site = codes "path"
+
+-- for people
+abbrev pub heading : Column → List ℕ
+heading Bar = []
+heading Path = codes "file"
+heading Reason = codes "left out"
+heading Place = codes "by"
+heading Entry = codes "path"
+heading Fault = codes "fault"
+heading column = column_name column
+
+-- numbers are at the right, and paths end their lines
+abbrev pub side_of : Column → Side
+side_of (Number n) = Right
+side_of Share = Right
+side_of Path = End
+side_of Entry = End
+side_of Site = End
+side_of column = Left

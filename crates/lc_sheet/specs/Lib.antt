@@ -1,0 +1,3 @@
+pub mod ColumnWords
+pub mod Values
+pub mod Sheets

@@ -1,0 +1,28 @@
+-- A sheet: what a report shows, as sections of lines, each with a value in each column.
+use Rattle.std.specs.Prelude.{ℕ, Bool, List, map, Option}
+use Rattle.lc_sheet.specs.Values.{ValueModel}
+use Rattle.lc_sheet.specs.declared.column.Column.{Column}
+
+-- each line has as many values as there are columns
+pub record SectionModel : Type 0 where
+  pub columns : List Column
+  pub lines : List (List ValueModel)
+
+-- the values of a line in each column
+abbrev pub line_of : {X : Type 0} → (X → Column → ValueModel) → List Column → X → List ValueModel
+line_of value columns line = map (value line) columns
+
+-- and of each line
+abbrev pub lines_of : {X : Type 0} → (X → Column → ValueModel) → List Column → List X → List (List ValueModel)
+lines_of value columns lines = map (line_of value columns) lines
+
+pub record SheetModel : Type 0 where
+  pub rows : SectionModel
+  pub others : SectionModel
+  pub totals : SectionModel
+  pub some_binary : Bool
+  pub directories : ℕ
+  pub entries : Option ℕ
+  pub files : Option SectionModel
+  pub skipped : SectionModel
+  pub faults : SectionModel

@@ -1,0 +1,29 @@
+-- The values of a sheet.
+use Rattle.std.specs.Prelude.{ℕ, List}
+use Rattle.lc_sheet.specs.declared.value.Value.{Value}
+use Rattle.lc_sheet.specs.declared.value.Value.TheVariants as value
+use Rattle.lc_text.specs.Names.{NameModel, name_model}
+
+-- a value of a line in a column: none; summed over the column; a column that does not apply; a word; bytes with what is printed before and
+-- after them; a path; a number; a part of a whole, as a share or as a bar
+pub data ValueModel : Type 0 where
+  missing : ValueModel
+  summed : ValueModel
+  blank : ValueModel
+  word : List ℕ → ValueModel
+  name : NameModel → ValueModel
+  path : List ℕ → ValueModel
+  number : ℕ → ValueModel
+  share : ℕ → ℕ → ValueModel
+  bar : ℕ → ℕ → ValueModel
+
+abbrev pub value_model : Value → ValueModel
+value_model value.Missing = missing
+value_model value.Summed = summed
+value_model value.Blank = blank
+value_model (value.Word w) = word w.now
+value_model (value.Name n) = name (name_model n)
+value_model (value.Path p) = path p.now
+value_model (value.Number n) = number n
+value_model (value.Share part whole) = share part whole
+value_model (value.Bar part whole) = bar part whole

@@ -1,0 +1,22 @@
+//! Kinds of lines.
+
+ghost use Rattle.std.specs.Prelude.{◌≡◌};
+ghost use Rattle.lc_sheet.specs.Values.{ValueModel, value_model};
+ghost use Rattle.lc_sheet.specs.declared.column.Column.{Column};
+ghost use Rattle.lc_sheet.specs.declared.form.Form.{Form};
+
+use crate::column::Column;
+use crate::form::Form;
+use crate::value::Value;
+
+/// A kind of lines: what a line of this kind has in a column.
+pub trait Lines {
+    /// A line of this kind.
+    type Line;
+
+    ghost value_in: { Form → Self.Line → Column → ValueModel };
+
+    /// The value of a line in a column.
+    fn value<'l>(line: &'l Self::Line, form: Form, column: Column) -> Value<'l>
+        ensures { value_model result ≡ value_in form line.now column };
+}

@@ -1,0 +1,53 @@
+//! The sections of a sheet: lines, each with a value in each column.
+
+ghost use Rattle.std.specs.Prelude.{◌≡◌};
+ghost use Rattle.lc_sheet.specs.Sheets.{SectionModel, lines_of};
+
+use crate::column::Column;
+use crate::form::Form;
+use crate::lines::Lines;
+use std::marker::Model;
+
+/// Lines of one kind, in columns.
+#[derive(Drop)]
+pub struct Section<'a, L: Lines> {
+    form: Form,
+    columns: &'a [Column],
+    lines: &'a [L::Line],
+}
+
+impl<'a, L: Lines> Model for Section<'a, L> {
+    ghost use Rattle.lc_sheet.specs.Sheets.{SectionModel, lines_of};
+
+    ghost Value = { SectionModel };
+
+    ghost view = { λ s. record { columns = s.columns.now; lines = lines_of (L.value_in s.form) s.columns.now s.lines.now } };
+}
+
+impl<'a, L: Lines> Section<'a, L> {
+    /// Shows lines in columns.
+    pub fn new(form: Form, columns: &'a [Column], lines: &'a [L::Line]) -> Section<'a, L>
+        ensures { result ≡ record { columns = columns.entry.now; lines = lines_of (L.value_in form) columns.entry.now lines.entry.now } }
+    {
+        Section {
+            form,
+            columns,
+            lines,
+        }
+    }
+
+    /// The columns of the section.
+    pub fn columns(&self) -> &'a [Column]
+        ensures { result.now ≡ self.now.columns }
+    {
+        self.columns
+    }
+
+    /// What the lines depend on, the columns and the lines.
+    pub fn parts(&self) -> (Form, &'a [Column], &'a [L::Line])
+        ensures columns { result.1.now ≡ self.now.columns }
+        ensures lines { lines_of (L.value_in result.0) result.1.now result.2.now ≡ self.now.lines }
+    {
+        (self.form, self.columns, self.lines)
+    }
+}

@@ -1,0 +1,46 @@
+//! A sheet: what a report shows, whatever its format.
+
+use crate::lines::Lines;
+use crate::section::Section;
+use std::marker::Model;
+
+/// What a report shows: its rows, sums, files, skipped entries and errors.
+#[derive(Drop)]
+pub struct Sheet<'a, R: Lines, T: Lines, F: Lines, S: Lines, E: Lines> {
+    /// The rows.
+    pub rows: Section<'a, R>,
+    /// The sums over the rows that are cut off: one line, or none if no row is.
+    pub others: Section<'a, T>,
+    /// The sums over all files, over those of text, and over binary ones: three lines.
+    pub totals: Section<'a, T>,
+    /// Whether some file is binary.
+    pub some_binary: bool,
+    /// The number of directories.
+    pub directories: u64,
+    /// The number of their entries, where skipped entries are asked for.
+    pub entries: Option<u64>,
+    /// The files, where these are asked for.
+    pub files: Option<Section<'a, F>>,
+    /// The skipped entries.
+    pub skipped: Section<'a, S>,
+    /// What could not be read.
+    pub faults: Section<'a, E>,
+}
+
+impl<'a, R: Lines, T: Lines, F: Lines, S: Lines, E: Lines> Model for Sheet<'a, R, T, F, S, E> {
+    ghost use Rattle.lc_sheet.specs.Sheets.{SheetModel};
+
+    ghost Value = { SheetModel };
+
+    ghost view = { λ s. record {
+      rows = s.rows;
+      others = s.others;
+      totals = s.totals;
+      some_binary = s.some_binary;
+      directories = s.directories;
+      entries = s.entries;
+      files = s.files;
+      skipped = s.skipped;
+      faults = s.faults;
+    } };
+}
