@@ -188,7 +188,8 @@ module _ {J R : Type 0} where
   others_held v w sees free o = (w.seen, o.0, o.1, sees.0, whole w.seen, o.3 (ap holding sees.1 ∙ free), o.2)
 
   -- a number that was so found had not been seen posted, or will never be open again
-  found_before : (cap i : ℕ) (x : Word) (v w : View J R) → Extends v w → IsFair cap w → Finds i x w → is_absent x ≡ false → is_open x ≡ false
+  found_before : (cap i : ℕ) (x : Word) (v w : View J R) → Extends v w → IsFair cap w → Finds i x w → is_absent x ≡ false
+      → is_open x ≡ false
       → (status v.seen i ≡ Absent) ⊎ (2 ≤ rank (status w.seen i))
   found_before cap i x v w sees fair m some_word not_open =
       ⊎_elim (λ (e : status w.seen i ≡ Absent). inl (was_absent cap w.workers v w i fair.0 sees.0 e))
@@ -261,7 +262,8 @@ module _ {J R : Type 0} where
   scan_to cap i next taken false v w s marked is = (s.0, s.1 ∙ sym is)
 
   -- a visit that claims nothing, of a number that is not the last
-  scan_on : (cap i : ℕ) (x : Word) (busy meets : Bool) (v u w : View J R) → is_busy x ≡ meets → IsScan cap i busy v u → HasLooked cap i x u w
+  scan_on : (cap i : ℕ) (x : Word) (busy meets : Bool) (v u w : View J R) → is_busy x ≡ meets → IsScan cap i busy v u
+      → HasLooked cap i x u w
       → (busy ≡ false → is_last_word cap i x ≡ false) → i < cap → holding v.mine ≡ None → is_absent x ≡ false → is_open x ≡ false
       → IsScan cap (i + 1) (busy || meets) v w
   scan_on cap i x true meets v u w is s m more near free some_word not_open = met_next cap i x v u w s.0 s.1 m some_word not_open
