@@ -11,3 +11,6 @@ pub mod ChildrenLaw
 pub mod ViewLaws
 pub mod ClassLaw
 pub mod SheetMade
+pub mod RowParts
+pub mod SheetLawProofs
+pub mod SheetParts

@@ -12,3 +12,4 @@ pub mod Words
 pub mod Kinds
 pub mod SheetColumns
 pub mod Sheets
+pub mod SheetLaws

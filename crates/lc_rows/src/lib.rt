@@ -7,7 +7,7 @@
 //! - `classes`: the sums over all files, over binary ones and over others
 //! - `kinds`: what a line of a sheet has in a column; `values`, `words`: values that several kinds have, and their words; `columns`: which
 //!   columns a section has; `shown_sheet`: what is shown of a report, and its sheet
-//! - `laws`: what is true of the definitions that the contracts cite
+//! - `laws`, `sheet_laws`: what is true of the definitions that the contracts cite
 #![tactic(auto)]
 
 mod adding_up;
@@ -22,6 +22,7 @@ mod kinds;
 mod laws;
 mod parts;
 mod row_key;
+mod sheet_laws;
 mod shown;
 mod shown_row;
 mod shown_sheet;
@@ -39,6 +40,9 @@ pub use laws::{
     rows_of_a_directory_are_the_sums_of_its_files, rows_of_a_tree_are_the_sums_of_what_is_below,
     shown_rows_are_the_summed_ones, shown_rows_keep_the_totals, sorted_files_are_the_files,
     the_first_files_are_the_largest, what_is_cut_off_adds_up, whole_keys_add_up_to_themselves,
+};
+pub use sheet_laws::{
+    classes_of_a_sheet_add_up, no_row_of_a_sheet_is_over_its_whole, rows_of_a_sheet_add_up,
 };
 pub use shown::shown_rows;
 pub use shown_row::ShownRow;

@@ -3,4 +3,5 @@
 mod by_directory;
 mod cut_paths;
 mod files;
+mod sheets;
 mod trees;

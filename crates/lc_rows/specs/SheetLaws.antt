@@ -1,0 +1,85 @@
+-- What is true of the sheet of a report, whatever its format.
+use Rattle.std.specs.Prelude.{⊤, ◌≡◌, ◌≤◌, ℕ, ◌+◌, Bool, true, false, if◌then◌else◌, List, [], ◌∷◌, map, Option}
+use Rattle.std.specs.List.{All, sum_by}
+use Rattle.lc_sheet.specs.Sheets.{SectionModel, SheetModel}
+use Rattle.lc_sheet.specs.Values.{ValueModel, missing, summed, blank, word, name, path, number, share, bar}
+use Rattle.lc_sheet.specs.declared.column.Column.{Column}
+use Rattle.lc_sheet.specs.declared.column.Column.TheVariants as column
+use Rattle.lc_sheet.specs.declared.column.Number.{Number}
+use Rattle.lc_sheet.specs.declared.column.Number.TheVariants.{Files, Lines, Blank, Bytes}
+use Rattle.lc_sheet.specs.declared.table_options.TableOptions.{TableOptions}
+use Rattle.lc_walk.specs.TallyRows.{sums_of_rows}
+use Rattle.lc_walk.specs.declared.report.Report.{Report}
+use Rattle.lc_rows.specs.Laws.{totals_of}
+use Rattle.lc_rows.specs.Sheets.{IsSheetOf}
+
+abbrev pub same_number : Number → Number → Bool
+same_number Files Files = true
+same_number Lines Lines = true
+same_number Blank Blank = true
+same_number Bytes Bytes = true
+same_number n m = false
+
+-- whether a column has this number
+abbrev pub is_number : Number → Column → Bool
+is_number n (column.Number m) = same_number n m
+is_number n other = false
+
+abbrev pub number_of : ValueModel → ℕ
+number_of (number n) = n
+number_of value = 0
+
+-- what a line has in the column of a number
+abbrev pub number_at : Number → List Column → List ValueModel → ℕ
+number_at n [] vs = 0
+number_at n (c ∷ cs) [] = 0
+number_at n (c ∷ cs) (v ∷ vs) = if is_number n c then number_of v else number_at n cs vs
+
+-- what each line has there, and the sum over all lines
+abbrev pub numbers_in : Number → SectionModel → List ℕ
+numbers_in n s = map (number_at n s.columns) s.lines
+
+abbrev pub column_sum : Number → SectionModel → ℕ
+column_sum n s = sum_by (number_at n s.columns) s.lines
+
+-- what the first line has there
+abbrev pub number_of_first : Number → List Column → List (List ValueModel) → ℕ
+number_of_first n columns [] = 0
+number_of_first n columns (line ∷ lines) = number_at n columns line
+
+abbrev pub first_number : Number → SectionModel → ℕ
+first_number n s = number_of_first n s.columns s.lines
+
+-- the totals of a report are those of what a table adds up: its rows, or for a table of directories its files
+abbrev pub HasTotals : TableOptions → Report → Type 0
+HasTotals options r = r.totals ≡ totals_of options.by.dir r.rows.items r.files.items
+
+-- in each column of numbers the rows that are shown, and the sums over the others, add up to the total
+abbrev pub SheetTotalsLaw : Type 0
+SheetTotalsLaw =
+    (options : TableOptions) (r : Report) (s : SheetModel) (n : Number) → HasTotals options r → IsSheetOf options r s
+    → column_sum n s.rows + column_sum n s.others ≡ first_number n s.totals
+
+-- in each column of numbers what is text and what is binary add up to the total
+abbrev pub SheetClassesLaw : Type 0
+SheetClassesLaw =
+    (options : TableOptions) (r : Report) (s : SheetModel) (n : Number) → r.totals ≡ sums_of_rows r.rows.items → IsSheetOf options r s
+    → (text : ℕ) × (binary : ℕ) × (numbers_in n s.totals ≡ (text + binary) ∷ text ∷ binary ∷ [])
+
+-- a part is no larger than its whole
+abbrev pub IsWithin : ValueModel → Type 0
+IsWithin missing = ⊤
+IsWithin summed = ⊤
+IsWithin blank = ⊤
+IsWithin (word w) = ⊤
+IsWithin (name n) = ⊤
+IsWithin (path p) = ⊤
+IsWithin (number n) = ⊤
+IsWithin (share part whole) = part ≤ whole
+IsWithin (bar part whole) = part ≤ whole
+
+-- no row has a share over the total or a bar over the longest
+abbrev pub SheetPartsLaw : Type 0
+SheetPartsLaw =
+    (options : TableOptions) (r : Report) (s : SheetModel) → HasTotals options r → IsSheetOf options r s
+    → All (λ (line : List ValueModel). All IsWithin line) s.rows.lines
