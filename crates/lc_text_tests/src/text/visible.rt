@@ -1,6 +1,6 @@
 //! Paths as a terminal shows them.
 
-use lc_text::push_visible_path;
+use lc_text::{Name, push_visible_name, push_visible_path};
 use std::alloc::{AllocError, Global};
 use std::process::Abort;
 use std::test::Fail;
@@ -64,5 +64,31 @@ fn visible_paths(rt: HostRuntime) -> Result<(), Fail> {
 #[test]
 fn a_path_that_is_no_text(rt: HostRuntime) -> Result<(), Fail> {
     assert!(rt; is_shown(rt.alloc(), b"caf\xe9\\\n", "caf\\xe9\\\\\\x0a")?);
+    Ok(())
+}
+
+/// Whether a name is shown so.
+fn is_name_shown(alloc: Global, name: Name<'_>, expected: &str) -> Result<bool, AllocError> {
+    let mut text = String::new(alloc);
+    push_visible_name(&mut text, name)?;
+    Ok(text.as_str() == expected)
+}
+
+#[test]
+fn names_with_fronts_and_ends(rt: HostRuntime) -> Result<(), Fail> {
+    let extension = Name {
+        front: ".",
+        bytes: b"c\t",
+        end: "",
+        line: None,
+    };
+    assert!(rt; is_name_shown(rt.alloc(), extension, ".c\\x09")?);
+    let rule = Name {
+        front: "",
+        bytes: b"src/",
+        end: ".gitignore",
+        line: Some(3),
+    };
+    assert!(rt; is_name_shown(rt.alloc(), rule, "src/.gitignore:3")?);
     Ok(())
 }
