@@ -1,5 +1,5 @@
 -- A sheet that is made of parts.
-use Rattle.std.proofs.Common.{◌≡◌, List, Bool, Option, refl}
+use Rattle.std.proofs.Common.{◌≡◌, List, refl}
 use Rattle.lc_sheet.specs.declared.column.Column.{Column}
 use Rattle.lc_sheet.specs.declared.form.Form.{Form}
 use Rattle.lc_sheet.specs.declared.table_options.TableOptions.{TableOptions}
