@@ -1,13 +1,11 @@
 -- What is true of the sheet of a report.
-use Rattle.std.proofs.Common.{◌≡◌, ◌≤◌, ℕ, ◌+◌, Bool, true, false, List, [], ◌∷◌, ◌++◌, map, Option, Some, None, refl, sym, ap, ap₂, ◌∙◌}
+use Rattle.std.proofs.Common.{◌≡◌, ℕ, ◌+◌, Bool, true, false, List, [], ◌∷◌, ◌++◌, map, Option, Some, None, refl, sym, ap, ap₂, ◌∙◌}
 use Rattle.std.proofs.Common.{subst, arith, codes, if◌then◌else◌}
-use Rattle.std.specs.Prelude.{unwrap_or, is_some}
-use Rattle.std.specs.List.{All, sum_by}
-use Rattle.std.proofs.lemmas.List.Elements.{All-map}
+use Rattle.std.specs.Prelude.{unwrap_or}
 use Rattle.std.proofs.lemmas.List.Sums.{sum_by-cons}
 use Rattle.std.proofs.lemmas.List.Sorted.{sum_by-IsPermutation}
 use Rattle.lc_sheet.specs.Sheets.{SheetModel, line_of, lines_of}
-use Rattle.lc_sheet.specs.Values.{ValueModel, number}
+use Rattle.lc_sheet.specs.Values.{ValueModel}
 use Rattle.lc_sheet.specs.declared.column.Column.{Column}
 use Rattle.lc_sheet.specs.declared.column.Column.TheVariants as column
 use Rattle.lc_sheet.specs.declared.column.Number.{Number}
@@ -24,15 +22,15 @@ use Rattle.lc_walk.specs.declared.report.Report.{Report}
 use Rattle.lc_walk.specs.declared.tally.sums.Sums.{Sums}
 use Rattle.lc_rows.specs.Classes.{binary_sums, text_sums}
 use Rattle.lc_rows.specs.Kinds.{NamedSumsModel, row_value, sums_value}
-use Rattle.lc_rows.specs.Laws.{sums_of_lines, totals_of}
+use Rattle.lc_rows.specs.Laws.{totals_of}
 use Rattle.lc_rows.specs.RowKeys.{ShownRowModel, sums_of_shown}
 use Rattle.lc_rows.specs.SheetColumns.{key_columns, keeps_columns, number_columns, row_columns, share_columns, sums_columns}
 use Rattle.lc_rows.specs.SheetLaws.{SheetClassesLaw, SheetTotalsLaw, column_sum, first_number, is_number, number_at, number_of}
 use Rattle.lc_rows.specs.SheetLaws.{numbers_in, same_number}
-use Rattle.lc_rows.specs.Sheets.{form_of, listed_files, others_lines, section_of, sheet_of, totals_lines}
+use Rattle.lc_rows.specs.Sheets.{form_of, listed_files, others_lines, section_of, sheet_of}
 use Rattle.lc_rows.specs.ShownRows.{number_in}
 use Rattle.lc_rows.specs.ShownFiles.{AreFilesSorted}
-use Rattle.lc_rows.specs.Views.{first_of, view_of}
+use Rattle.lc_rows.specs.Views.{view_of}
 use Rattle.lc_rows.proofs.ClassLaw.{classes_law}
 use Rattle.lc_rows.proofs.ViewLaws.{cut_totals_law, sorted_files_law}
 

@@ -1,5 +1,8 @@
 -- A sheet that is made of parts.
-use Rattle.std.proofs.Common.{◌≡◌, List, Bool, Option, refl}
+use Rattle.std.proofs.Common.{◌≡◌, List, refl}
+use Rattle.std.specs.Prelude.{Vec}
+use Rattle.std.specs.Global.{Global}
+use Rattle.lc_sheet.specs.Sheets.{SheetModel}
 use Rattle.lc_sheet.specs.declared.column.Column.{Column}
 use Rattle.lc_sheet.specs.declared.form.Form.{Form}
 use Rattle.lc_sheet.specs.declared.table_options.TableOptions.{TableOptions}
@@ -8,7 +11,8 @@ use Rattle.lc_walk.specs.declared.report.Report.{Report}
 use Rattle.lc_rows.specs.Kinds.{NamedSumsModel}
 use Rattle.lc_rows.specs.RowKeys.{ShownRowModel}
 use Rattle.lc_rows.specs.SheetColumns.{row_columns}
-use Rattle.lc_rows.specs.Sheets.{form_of, others_lines, sheet_of, sheet_with, totals_lines}
+use Rattle.lc_rows.specs.Sheets.{HasFiles, IsSheetOf, form_of, others_lines, sheet_of, sheet_with, totals_lines}
+use Rattle.lc_rows.specs.ShownFiles.{AreFilesSorted}
 use Rattle.lc_rows.specs.Views.{ViewModel}
 
 -- where each part is that of a view, the sheet is that of the view
@@ -29,3 +33,13 @@ pub made : (options : TableOptions) (r : Report) (v : ViewModel) (form : Form) (
     ≡ sheet_of options r v
 made options r v form columns rows others totals files is_form are_columns are_rows are_others are_totals are_files =
     rw (is_form, are_columns, are_rows, are_others, are_totals, are_files) refl
+
+-- once its files are sorted in place, the sheet of what the report is then is a sheet of the report
+pub is_sheet : (options : TableOptions) (r : Report) (files : Vec FileLineModel Global) (s : SheetModel)
+    → AreFilesSorted options.sort r.files.items files.items → HasFiles options (record r { files = files }) files.items s
+    → IsSheetOf options r s
+is_sheet options r files s are_files has = record {
+  files = files.items;
+  are_files = are_files;
+  has = record { rows = has.rows; are_rows = has.are_rows; is = has.is };
+}

@@ -1,12 +1,12 @@
 -- No row of a sheet has a share over the total or a bar over the longest.
-use Rattle.std.proofs.Common.{◌≡◌, ◌≤◌, ℕ, Bool, true, false, List, [], ◌∷◌, get_or, Option, Some, None, ap, sym, subst, ◌∙◌}
+use Rattle.std.proofs.Common.{◌≡◌, ◌≤◌, ℕ, Bool, true, false, List, [], ◌∷◌, get_or, Option, Some, None, sym, subst, ◌∙◌}
 use Rattle.std.proofs.Common.{if◌then◌else◌}
 use Rattle.std.specs.Prelude.{is_some, unwrap_or}
 use Rattle.std.specs.List.{All}
 use Rattle.std.proofs.lemmas.List.Elements.{All-map}
 use Rattle.lc_rules.specs.declared.states.TextState.{TextState}
 use Rattle.lc_rules.specs.declared.states.TextState.TheVariants as text
-use Rattle.lc_sheet.specs.Sheets.{SheetModel, line_of, lines_of}
+use Rattle.lc_sheet.specs.Sheets.{SheetModel, line_of}
 use Rattle.lc_sheet.specs.Values.{ValueModel}
 use Rattle.lc_sheet.specs.declared.column.Column.{Column}
 use Rattle.lc_sheet.specs.declared.column.Column.TheVariants as column
@@ -14,11 +14,10 @@ use Rattle.lc_sheet.specs.declared.form.Form.{Form}
 use Rattle.lc_sheet.specs.declared.form.Shares.{Shares}
 use Rattle.lc_walk.specs.declared.tally.sums.Sums.{Sums}
 use Rattle.lc_rows.specs.Kinds.{bar_value, directory_value, extension_value, kept_value, row_value, share_value, text_value}
-use Rattle.lc_rows.specs.Laws.{totals_of}
 use Rattle.lc_rows.specs.RowKeys.{ShownRowModel, sums_of_shown}
 use Rattle.lc_rows.specs.SheetColumns.{row_columns}
 use Rattle.lc_rows.specs.SheetLaws.{IsWithin, SheetPartsLaw}
-use Rattle.lc_rows.specs.Sheets.{form_of, largest, share_number, shares_of}
+use Rattle.lc_rows.specs.Sheets.{form_of, share_number, shares_of}
 use Rattle.lc_rows.specs.ShownRows.{number_in}
 use Rattle.lc_rows.specs.Views.{first_of}
 use Rattle.lc_rows.proofs.RowLaws.{totals_law}

@@ -9,10 +9,8 @@ use Rattle.lc_rules.specs.declared.states.TextState.TheVariants as text
 use Rattle.lc_sheet.specs.Values.{ValueModel, missing, summed, blank, word, name, path, number, share, bar}
 use Rattle.lc_sheet.specs.declared.column.Column.{Column}
 use Rattle.lc_sheet.specs.declared.column.Column.TheVariants as column
-use Rattle.lc_sheet.specs.declared.column.Number.{Number}
 use Rattle.lc_sheet.specs.declared.form.Form.{Form}
 use Rattle.lc_sheet.specs.declared.form.Shares.{Shares}
-use Rattle.lc_text.specs.Names.{NameModel}
 use Rattle.lc_text.specs.RulePlaces.{source_directory, source_name}
 use Rattle.lc_walk.specs.Extension.{extension_of}
 use Rattle.lc_walk.specs.ReportLines.{FileLineModel, SkippedLineModel}
