@@ -14,7 +14,9 @@ use Rattle.lc_board.specs.WordSteps.{OthersHeld, Waits, SomeHolds, Finds, HasLoo
 use Rattle.lc_board.specs.WordSteps.{is_last_word, last_look, larger}
 use Rattle.lc_board.specs.WordCode.{is_absent, is_open, has_ended, is_busy}
 use Rattle.lc_board.specs.WordPass.{AreTaken}
-use Rattle.lc_board.specs.WordsBoard.{IsSamePass, TriesClaim, known}
+use Rattle.lc_board.specs.WordsBoard.{AnswersWordsClaim, IsSamePass, TriesClaim, known}
+use Rattle.lc_board.specs.declared.answers.Claim.{Claim as Answer}
+use Rattle.lc_board.specs.declared.answers.Claim.TheVariants as answer
 use Rattle.lc_board.specs.declared.words.Words.{Words}
 use Rattle.lc_board.specs.declared.words.pass.WordsPass.{WordsPass}
 use Rattle.lc_board.specs.declared.event.Event.{Event}
@@ -22,7 +24,7 @@ use Rattle.lc_board.specs.declared.event.Event.TheVariants.{Post, Claim, Over}
 use Rattle.lc_board.specs.declared.words.coding.Word.{Word}
 use Rattle.lc_board.specs.declared.words.coding.Word.TheVariants as word
 use Rattle.lc_board.specs.declared.words.view.View.{View}
-use Rattle.lc_board.proofs.Growths.{rank_from, whole, goes_trans, rank_zero}
+use Rattle.lc_board.proofs.Growths.{rank_from, whole, goes_trans, rank_zero, legal_before}
 use Rattle.lc_board.proofs.WordCodes.{absent_is, open_is}
 use Rattle.lc_board.proofs.WordMarks.{stays_taken}
 
@@ -304,6 +306,28 @@ module _ {J R : Type 0} where
   pub later_end : (cap i : ℕ) (busy : Bool) (v w : View J R) → IsScan cap i busy v w → cap ≤ i → w.low < cap → Waits cap v w
   later_end cap i false v w s far low = let mark = s.1 in absurd (omega arith)
   later_end cap i true v w s far low = waits cap i v w s.0 s.1 (λ k a. s.1.far k (omega arith))
+
+  -- an answer stays one where more had been seen before
+  pub sees_answers : (cap : ℕ) (v u w : View J R) (h : Option ℕ) (a : Answer J) → u.worker ≡ v.worker → Extends v u
+      → AnswersWordsClaim cap u w h a → AnswersWordsClaim cap v w h a
+  sees_answers cap v u w h (answer.Got i j) who s x =
+      (x.0, subst (λ z. AddsEvent cap v (Claim z i j) w) who (sees_adds cap v u w (Claim u.worker i j) s x.1))
+  sees_answers cap v u w h answer.Later who s x = let l = x.1.0 in let o = x.1.2 in let sees = sees_trans v u w s (l.0, l.1) in (
+    x.0,
+    (
+      (sees.0, sees.1, l.2),
+      (λ k there. x.1.1 k (λ e. there (was_absent cap w.workers v u k (legal_before cap w.workers w.seen u.seen l.2.0 l.0) s.0 e))),
+      (o.0, o.1, o.2, goes_trans o.0 u.seen v.seen o.3 s.0, o.4, o.5, o.6),
+    ),
+  )
+  sees_answers cap v u w h answer.Over who s x =
+      (x.0, subst (λ z. AddsEvent cap v (Over z) w) who (sees_adds cap v u w (Over u.worker) s x.1))
+  sees_answers cap v u w h answer.Memory who s x = x
+
+  -- a look at a number above the low mark sees on
+  pub sees_above : (cap i : ℕ) (x : Word) (v u w : View J R) → Extends v u → HasLooked cap i x u w → u.low < i → Extends v w
+  sees_above cap i x v u w s m above = let l = looks_of cap i x u w m (last_no cap i u.low x (λ e. absurd (omega arith))) in
+      sees_trans v u w s (l.0, l.1)
 
   post_to : (cap i worker worker' : ℕ) (o : Option ℕ) (job job' : J) (v u w : View J R) → worker' ≡ worker → job' ≡ job → Extends v u
       → IfSome o (λ p. AddsEvent cap u (Post worker' p i job') w) → IfSome o (λ p. AddsEvent cap v (Post worker p i job) w)

@@ -14,6 +14,7 @@ mod claim;
 pub(crate) mod close;
 pub(crate) mod coding;
 mod drawing;
+pub(crate) mod newest;
 pub mod pass;
 mod posts;
 pub mod rule;

@@ -1,10 +1,11 @@
-//! A claim goes up over the words once, and visits no word twice.
+//! A claim tries the number that its pass posted last, by one exchange. Then it goes up over the words once.
 //!
 //! It begins at the low mark and goes up over the numbers that have ended. If it meets somebody who is busy, it jumps to the mark of the
-//! numbers that are taken, and goes up from there to the first number that is open or absent.
-ghost use Rattle.std.specs.Prelude.{◌≡◌, ◌+◌, ◌<◌, None, cond};
+//! numbers that are taken, and goes up from there to the first number that is open or absent. So it takes at most two steps on a word: a
+//! number that it tried in vain is never open again, and gets one look.
+ghost use Rattle.std.specs.Prelude.{◌≡◌, ◌+◌, ◌<◌, None, IfSome, IfNone, cond};
 ghost use Rattle.lc_board.specs.Limits.{capacity_limit};
-ghost use Rattle.lc_board.specs.WordSteps.{is_last_word, larger};
+ghost use Rattle.lc_board.specs.WordSteps.{Extends, is_last_word, larger};
 ghost use Rattle.lc_board.specs.WordsBoard.{AnswersWordsClaim, IsPassOf, IsSamePass, TriesClaim, known};
 
 use crate::answers::Claim;
@@ -48,9 +49,31 @@ impl<J, R> Words<J, R> {
         self.try_claim(pass, number)
     }
 
-    /// Claims the first open number that it visits, with its job. It takes at most two steps on a word, waits for nobody, takes no memory
-    /// and never answers Memory.
-    pub fn claim(&self, pass: &mut WordsPass<J, R>) -> Claim<J>
+    /// Claims the highest number that the pass posted last, if it is open. If it is not, others have come to these numbers, and they are
+    /// dropped.
+    fn claim_newest(&self, pass: &mut WordsPass<J, R>) -> Option<Claim<J>>
+        requires board { IsPassOf self.now pass.old }
+        requires free { pass.old.holding ≡ None }
+        ensures board { IsSamePass pass.old pass.new }
+        ensures some { IfSome result (AnswersWordsClaim self.now.capacity (known pass.old) (known pass.new) pass.new.holding) }
+        ensures none { IfNone result ((pass.new.holding ≡ None) × Extends (known pass.old) (known pass.new)) }
+    {
+        let number = pass.newest.take()?;
+        // Below the low mark all has ended, and the number at the mark is left to the way up.
+        if number <= pass.low || number >= self.capacity {
+            return None;
+        }
+        match self.try_claim(pass, number) {
+            Ok(job) => Some(Claim::Got(number, job)),
+            Err(_) => {
+                pass.newest.clear();
+                None
+            }
+        }
+    }
+
+    /// Claims the first open number on the way up.
+    fn claim_lowest(&self, pass: &mut WordsPass<J, R>) -> Claim<J>
         requires board { IsPassOf self.now pass.old }
         requires free { pass.old.holding ≡ None }
         ensures board { IsSamePass pass.old pass.new }
@@ -73,5 +96,19 @@ impl<J, R> Words<J, R> {
             number = number_after(number, pass.taken, busy);
         }
         Claim::Later
+    }
+
+    /// Claims an open number, with its job. It takes at most two steps on a word, waits for nobody, takes no memory and never answers
+    /// Memory.
+    pub fn claim(&self, pass: &mut WordsPass<J, R>) -> Claim<J>
+        requires board { IsPassOf self.now pass.old }
+        requires free { pass.old.holding ≡ None }
+        ensures board { IsSamePass pass.old pass.new }
+        ensures rule { AnswersWordsClaim self.now.capacity (known pass.old) (known pass.new) pass.new.holding result }
+    {
+        match self.claim_newest(pass) {
+            Some(answer) => answer,
+            None => self.claim_lowest(pass),
+        }
     }
 }

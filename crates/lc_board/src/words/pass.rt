@@ -4,6 +4,7 @@ ghost use Rattle.std.proofs.Props.{props};
 ghost use Rattle.lc_board.specs.WordPass.{AreTaken, IsTied};
 
 use crate::shared::Token;
+use crate::words::newest::Newest;
 use crate::words::view::{Slot, View};
 use atomic_table::Seat;
 
@@ -20,6 +21,8 @@ pub struct WordsPass<J, R> {
     pub(crate) low: u32,
     /// Each word below it has ended or is claimed.
     pub(crate) taken: u32,
+    /// What its claims try first.
+    pub(crate) newest: Newest,
     pub(crate) full: bool,
     ghost ties: { IsTied seat.table_id.slots worker holding posted front low seat.me } by { Prim.hlevel props },
     ghost marked: { AreTaken taken seat.me.0.seen } by { Prim.hlevel props },

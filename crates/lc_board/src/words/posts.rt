@@ -46,6 +46,7 @@ impl<J, R> Words<J, R> {
         }
         self.fill(&mut pass.seat, number, Slot::Job(job));
         self.open_drawn(&mut pass.seat, number);
+        pass.newest.note(number, pass.posted == 0);
         pass.posted += 1;
         Ok(number)
     }

@@ -9,6 +9,7 @@ ghost use Rattle.lc_board.specs.Limits.{capacity_limit, workers_limit};
 
 use crate::words::Words;
 use crate::words::coding::{ABSENT, OPEN};
+use crate::words::newest::Newest;
 use crate::words::pass::WordsPass;
 use crate::words::rule::{BoardSetup, Deal};
 use crate::words::view::Slot;
@@ -72,6 +73,7 @@ impl<J: Drop, R: Drop> Words<J, R> {
                     front: 1,
                     low: 0,
                     taken: 0,
+                    newest: Newest::new(),
                     full: false,
                 };
                 Ok((
@@ -108,6 +110,7 @@ impl<J, R> Words<J, R> {
             front: pass.front,
             low: 0,
             taken: 0,
+            newest: Newest::new(),
             full: false,
         }
     }

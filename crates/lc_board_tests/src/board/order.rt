@@ -10,27 +10,40 @@ use std::process::Abort;
 use std::sync::Wait;
 use std::test::Fail;
 
-/// A worker claims the lowest open number, whoever posted it, and goes past what the other holds.
-const LOWEST_FIRST: &[(Call, Told)] = &[
+/// A worker claims what it posted last, and one that has posted nothing the lowest open number.
+const LAST_POSTED_FIRST: &[(Call, Told)] = &[
     (Call::Claim(0), Told::Got(0, ROOT)),
-    (Call::Claim(1), Told::Later),
     (Call::Post(0, 1), Told::Posted(1)),
     (Call::Post(0, 2), Told::Posted(2)),
     (Call::Post(0, 3), Told::Posted(3)),
-    (Call::Claim(1), Told::Got(1, 1)),
-    (Call::Post(1, 4), Told::Posted(4)),
     (Call::Give(0, 0), Told::Done),
-    (Call::Claim(0), Told::Got(2, 2)),
+    (Call::Claim(0), Told::Got(3, 3)),
+    (Call::Post(0, 4), Told::Posted(4)),
+    (Call::Post(0, 5), Told::Posted(5)),
+    (Call::Give(0, 3), Told::Done),
+    (Call::Claim(1), Told::Got(1, 1)),
     (Call::Give(1, 1), Told::Done),
-    (Call::Claim(1), Told::Got(3, 3)),
-    (Call::Post(1, 5), Told::Posted(5)),
-    (Call::Give(1, 3), Told::Done),
-    (Call::Claim(1), Told::Got(4, 4)),
-    (Call::Give(1, 4), Told::Done),
-    (Call::Claim(1), Told::Got(5, 5)),
-    (Call::Give(1, 5), Told::Done),
-    (Call::Claim(1), Told::Later),
+    (Call::Claim(0), Told::Got(5, 5)),
+    (Call::Give(0, 5), Told::Done),
+    (Call::Claim(0), Told::Got(4, 4)),
+    (Call::Give(0, 4), Told::Done),
+    (Call::Claim(0), Told::Got(2, 2)),
     (Call::Give(0, 2), Told::Done),
+    (Call::Claim(0), Told::Over),
+    (Call::Claim(1), Told::Over),
+];
+
+/// A number that the other worker has claimed is tried in vain, and those below it are left to the way up.
+const TAKEN_BY_THE_OTHER: &[(Call, Told)] = &[
+    (Call::Claim(0), Told::Got(0, ROOT)),
+    (Call::Post(0, 1), Told::Posted(1)),
+    (Call::Post(0, 2), Told::Posted(2)),
+    (Call::Claim(1), Told::Got(1, 1)),
+    (Call::Give(1, 1), Told::Done),
+    (Call::Claim(1), Told::Got(2, 2)),
+    (Call::Give(0, 0), Told::Done),
+    (Call::Claim(0), Told::Later),
+    (Call::Give(1, 2), Told::Done),
     (Call::Claim(0), Told::Over),
     (Call::Claim(1), Told::Over),
 ];
@@ -58,8 +71,9 @@ fn claims_so<R: Wait + Abort>(
 }
 
 #[test]
-fn the_lowest_open_number_is_claimed_first(rt: HostRuntime) -> Result<(), Fail> {
-    claims_so(&rt, rt.alloc(), 6, LOWEST_FIRST)?;
+fn what_was_posted_last_is_claimed_first(rt: HostRuntime) -> Result<(), Fail> {
+    claims_so(&rt, rt.alloc(), 6, LAST_POSTED_FIRST)?;
+    claims_so(&rt, rt.alloc(), 3, TAKEN_BY_THE_OTHER)?;
     Ok(())
 }
 

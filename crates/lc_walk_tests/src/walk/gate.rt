@@ -74,6 +74,8 @@ const OF_SIXTEEN: &str = "- - lf 16 16 0 32, directories 17 entries 32";
 
 const WITHOUT_A: &str = "- - lf 1 1 0 2, directories 2 entries 3, fault read a";
 
+const WITHOUT_B: &str = "- - lf 1 1 0 2, directories 2 entries 3, fault read b";
+
 /// A tree, how many directories it has below the top, over which board and by how many workers it is walked, and what they find.
 type Case = (&'static str, usize, Board, u32, &'static str);
 
@@ -82,7 +84,7 @@ type Case = (&'static str, usize, Board, u32, &'static str);
 const CASES: &[Case] = &[
     (TWO, 2, Board::Words, 2, OF_TWO),
     (SIXTEEN, 16, Board::Words, 16, OF_SIXTEEN),
-    (TWO, 2, Board::Words, 1, WITHOUT_A),
+    (TWO, 2, Board::Words, 1, WITHOUT_B),
     (TWO, 2, Board::Locked, 2, OF_TWO),
     (SIXTEEN, 16, Board::Locked, 16, OF_SIXTEEN),
     (TWO, 2, Board::Locked, 1, WITHOUT_A),

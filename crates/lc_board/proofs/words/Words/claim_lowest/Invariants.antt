@@ -1,7 +1,7 @@
 use Rattle.std.proofs.Common.{◌≡◌, ◌-◌, None}
 use Rattle.lc_board.specs.WordsBoard.{IsSamePass}
 use Rattle.lc_board.proofs.WordScans.{IsScan}
-use Rattle.lc_board.proofs.words.Words.claim.Given as goal
+use Rattle.lc_board.proofs.words.Words.claim_lowest.Given as goal
 
 abbrev pub invariant-loop-number : goal.invariant-loop-number
 invariant-loop-number g l = record {

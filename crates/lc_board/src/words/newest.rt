@@ -1,0 +1,43 @@
+//! The numbers that a pass posted last, which its next claims try first. They are hints, and nothing is promised of them: whether a number
+//! is open is told by its word.
+ghost use Rattle.std.specs.Prelude.{◌<◌};
+ghost use Rattle.lc_board.specs.Limits.{capacity_limit};
+
+/// The numbers from `start` on, and below `end`.
+#[derive(Clone, Copy, Drop)]
+pub struct Newest {
+    start: u32,
+    end: u32,
+}
+
+impl Newest {
+    /// Has no number.
+    pub fn new() -> Newest {
+        Newest { start: 0, end: 0 }
+    }
+
+    /// Notes a number that was posted. The first one under a claim replaces those that are left. A later one comes on top of them, with the
+    /// numbers that others have posted in between.
+    pub fn note(&mut self, number: u32, is_first: bool)
+        requires { number < capacity_limit }
+    {
+        if is_first {
+            self.start = number;
+        }
+        self.end = number + 1;
+    }
+
+    /// Takes the highest number.
+    pub fn take(&mut self) -> Option<u32> {
+        if self.start >= self.end {
+            return None;
+        }
+        self.end -= 1;
+        Some(self.end)
+    }
+
+    /// Drops all numbers: others have come to them.
+    pub fn clear(&mut self) {
+        self.end = self.start;
+    }
+}
