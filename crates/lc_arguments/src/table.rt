@@ -13,7 +13,7 @@ ghost use Rattle.lc_arguments.specs.TableWords.{options_in, order_in, order_word
 use crate::request::{ParseExit, refused, unfit};
 use clap::ArgMatches;
 use lc_glob::cut_at_first;
-use lc_sheet::{Columns, Format, Order, Number, TableOptions};
+use lc_sheet::{Columns, Format, Number, Order, TableOptions};
 use std::alloc::Global;
 
 /// The table that a count is asked for, as by `--format table --by ext --sort lines`.
