@@ -2,6 +2,7 @@ pub mod Bytes
 pub mod Census
 pub mod Counting
 pub mod Cutting
+pub mod EolWords
 pub mod Fed
 pub mod Lanes
 pub mod Limits

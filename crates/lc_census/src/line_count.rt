@@ -1,5 +1,8 @@
 //! The counts of a census.
 
+ghost use Rattle.std.specs.Prelude.{◌≡◌};
+ghost use Rattle.lc_census.specs.EolWords.{eol_word};
+
 /// How lines end.
 #[derive(Clone, Copy, Debug, Drop, PartialEq, Eq)]
 pub enum Eol {
@@ -15,6 +18,22 @@ pub enum Eol {
     Mixed,
     /// A NUL byte occurs, whatever the line ends are.
     Nul,
+}
+
+impl Eol {
+    /// The word by which reports name the kind, such as `crlf`.
+    pub fn as_str(self) -> &'static str
+        ensures { result.now ≡ eol_word self }
+    {
+        match self {
+            Eol::NoEnd => "none",
+            Eol::Lf => "lf",
+            Eol::CrLf => "crlf",
+            Eol::Cr => "cr",
+            Eol::Mixed => "mixed",
+            Eol::Nul => "nul",
+        }
+    }
 }
 
 /// The census of some bytes.

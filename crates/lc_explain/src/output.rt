@@ -116,7 +116,7 @@ fn push_skipped(
     match reason {
         Reason::Git => push_plain(text, style, "left", "git", line),
         Reason::Rule { .. } => push_plain(text, style, "left", "-", line),
-        Reason::Include => push_plain(text, style, "left", "include", line),
+        Reason::NotIncluded => push_plain(text, style, "left", "include", line),
         Reason::OtherKind(OtherKind::Special) => push_plain(text, style, "left", "other", line),
         Reason::OtherKind(OtherKind::Mounted) => push_plain(
             text,

@@ -22,6 +22,7 @@ pub mod PathBuffers
 pub mod PathSteps
 pub mod SitePaths
 pub mod Reasons
+pub mod ReasonWords
 pub mod RuleFiles
 pub mod RulePairs
 pub mod RuleReads

@@ -9,12 +9,12 @@ abbrev pub reason_model : OwnedReason → Reason
 reason_model owned.Git = named_git
 reason_model (owned.Rule source line) = by_rule source line
 reason_model (owned.Attribute name) = by_attribute name.items
-reason_model owned.Include = not_included
+reason_model owned.NotIncluded = not_included
 reason_model (owned.OtherKind what) = other_kind what
 
 abbrev pub reason_ref_model : ReasonRef → Reason
 reason_ref_model lent.Git = named_git
 reason_ref_model (lent.Rule source line) = by_rule source line
 reason_ref_model (lent.Attribute name) = by_attribute name.now
-reason_ref_model lent.Include = not_included
+reason_ref_model lent.NotIncluded = not_included
 reason_ref_model (lent.OtherKind what) = other_kind what

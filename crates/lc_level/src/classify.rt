@@ -103,7 +103,7 @@ impl<T: Tree> LevelReader<'_, T> {
             Err(_) => return Err(OpenFault::Memory),
         }
         if !is_included(include, path) {
-            return self.leave_out(name, Kind::File, ReasonRef::Include, found);
+            return self.leave_out(name, Kind::File, ReasonRef::NotIncluded, found);
         }
         match found.files.push(name) {
             Ok(()) => Ok(()),

@@ -1,7 +1,8 @@
 //! Why an entry is skipped.
 
-ghost use Rattle.std.specs.Prelude.{◌≡◌, IfOk};
+ghost use Rattle.std.specs.Prelude.{◌≡◌, IfOk, option_map};
 ghost use Rattle.lc_level.specs.Reasons.{reason_model, reason_ref_model};
+ghost use Rattle.lc_level.specs.ReasonWords.{attribute_of, reason_word, rule_of};
 
 use lc_rules::RuleSource;
 use lc_tree::{Kind, OtherKind};
@@ -18,7 +19,7 @@ pub enum Reason {
     /// An attribute has the state for it that this word of the selection asks for, such as `ATTR` or `ATTR=VALUE`.
     Attribute(Vec<u8>),
     /// It is a file, and no pattern of the selection includes it.
-    Include,
+    NotIncluded,
     /// It is of another kind than the files that are read and the directories that are entered.
     OtherKind(OtherKind),
 }
@@ -35,8 +36,42 @@ impl Reason {
                 line: *line,
             }),
             Reason::Attribute(word) => Ok(Reason::Attribute(word.to_vec(alloc)?)),
-            Reason::Include => Ok(Reason::Include),
+            Reason::NotIncluded => Ok(Reason::NotIncluded),
             Reason::OtherKind(what) => Ok(Reason::OtherKind(*what)),
+        }
+    }
+
+    /// The word by which reports name the reason, such as `rule`.
+    pub fn word(&self) -> &'static str
+        ensures { result.now ≡ reason_word (reason_model self.now) }
+    {
+        match self {
+            Reason::Git => "git",
+            Reason::Rule { .. } => "rule",
+            Reason::Attribute(_) => "attribute",
+            Reason::NotIncluded => "include",
+            Reason::OtherKind(OtherKind::Special) => "other",
+            Reason::OtherKind(OtherKind::Mounted) => "filesystem",
+        }
+    }
+
+    /// The source of the rule and the number of its line, if a rule is the reason.
+    pub fn rule(&self) -> Option<(RuleSource, u32)>
+        ensures { result ≡ rule_of (reason_model self.now) }
+    {
+        match self {
+            Reason::Rule { source, line } => Some((*source, *line)),
+            _ => None,
+        }
+    }
+
+    /// The word of the selection, such as `ATTR` or `ATTR=VALUE`, if an attribute is the reason.
+    pub fn attribute(&self) -> Option<&[u8]>
+        ensures { option_map (λ word. word.now) result ≡ attribute_of (reason_model self.entry.now) }
+    {
+        match self {
+            Reason::Attribute(word) => Some(word),
+            _ => None,
         }
     }
 }
@@ -47,7 +82,7 @@ pub(crate) enum ReasonRef<'a> {
     Git,
     Rule { source: RuleSource, line: u32 },
     Attribute(&'a [u8]),
-    Include,
+    NotIncluded,
     OtherKind(OtherKind),
 }
 
@@ -60,7 +95,7 @@ impl ReasonRef<'_> {
             ReasonRef::Git => Ok(Reason::Git),
             ReasonRef::Rule { source, line } => Ok(Reason::Rule { source, line }),
             ReasonRef::Attribute(word) => Ok(Reason::Attribute(word.to_vec(alloc)?)),
-            ReasonRef::Include => Ok(Reason::Include),
+            ReasonRef::NotIncluded => Ok(Reason::NotIncluded),
             ReasonRef::OtherKind(what) => Ok(Reason::OtherKind(what)),
         }
     }

@@ -68,7 +68,7 @@ impl<'t, T> LevelReader<'t, T> {
             Kind::File => Ok(if is_included(self.selection.include_in(job.path()), path) {
                 None
             } else {
-                Some(Reason::Include)
+                Some(Reason::NotIncluded)
             }),
             Kind::Dir => Ok(None),
             Kind::Other(what) => Ok(Some(Reason::OtherKind(what))),

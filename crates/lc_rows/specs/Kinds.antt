@@ -1,11 +1,13 @@
 -- The lines of a sheet: what rows, sums, files, skipped entries and errors have in each column.
 use Rattle.std.specs.Prelude.{ℕ, Bool, if◌then◌else◌, List, [], ◌∷◌, codes, is_some, unwrap_or, Option, Some, None}
+use Rattle.lc_census.specs.EolWords.{eol_word}
 use Rattle.lc_level.specs.FaultLines.{FaultLineModel}
 use Rattle.lc_level.specs.FaultWords.{fault_word}
-use Rattle.lc_level.specs.Level.{Reason as SkipReason, named_git, by_rule, by_attribute, not_included, other_kind}
+use Rattle.lc_level.specs.Level.{Reason as SkipReason}
+use Rattle.lc_level.specs.ReasonWords.{attribute_of, reason_word, rule_of}
+use Rattle.lc_rules.specs.TextWords.{text_word}
 use Rattle.lc_rules.specs.declared.rule_source.RuleSource.{RuleSource}
 use Rattle.lc_rules.specs.declared.states.TextState.{TextState}
-use Rattle.lc_rules.specs.declared.states.TextState.TheVariants as text
 use Rattle.lc_sheet.specs.Values.{ValueModel, missing, summed, blank, word, name, path, number, share, bar}
 use Rattle.lc_sheet.specs.declared.column.Column.{Column}
 use Rattle.lc_sheet.specs.declared.column.Column.TheVariants as column
@@ -19,7 +21,7 @@ use Rattle.lc_rows.specs.Directories.{directory_of, name_of}
 use Rattle.lc_rows.specs.RowKeys.{ShownRowModel}
 use Rattle.lc_rows.specs.ShownFiles.{file_number}
 use Rattle.lc_rows.specs.ShownRows.{number_in}
-use Rattle.lc_rows.specs.Words.{eol_word, kind_word, reason_word, skipped_end}
+use Rattle.lc_rows.specs.Words.{kind_word, skipped_end}
 
 -- ---- values
 
@@ -37,12 +39,12 @@ abbrev pub directory_value : List ℕ → ValueModel
 directory_value [] = name (record { front = codes "."; bytes = []; end = []; line = None })
 directory_value (b ∷ bs) = bytes_value (b ∷ bs)
 
+abbrev pub word_value : Option (List ℕ) → ValueModel
+word_value None = missing
+word_value (Some w) = word w
+
 abbrev pub text_value : TextState → ValueModel
-text_value text.Set = word (codes "set")
-text_value text.Unset = word (codes "unset")
-text_value text.Auto = word (codes "auto")
-text_value text.Other = word (codes "other")
-text_value text.Unspecified = missing
+text_value state = word_value (text_word state)
 
 -- the value in a column by which rows are kept apart, or which they are summed over
 abbrev pub kept_value : Bool → ValueModel → ValueModel
@@ -116,24 +118,37 @@ rule_name p source line =
     name (record { front = []; bytes = source_directory p source; end = source_name source; line = line })
 
 -- where the rule is, or the attribute's name
+abbrev pub place_of : List ℕ → Option (RuleSource × ℕ) → Option (List ℕ) → ValueModel
+place_of p (Some rule) attribute = rule_name p rule.0 (Some rule.1)
+place_of p None (Some n) = bytes_value n
+place_of p None None = missing
+
 abbrev pub place_value : List ℕ → SkipReason → ValueModel
-place_value p named_git = missing
-place_value p (by_rule source line) = rule_name p source (Some line)
-place_value p (by_attribute n) = bytes_value n
-place_value p not_included = missing
-place_value p (other_kind what) = missing
+place_value p reason = place_of p (rule_of reason) (attribute_of reason)
+
+-- the file of the rule
+abbrev pub file_of_rule : List ℕ → Option (RuleSource × ℕ) → ValueModel
+file_of_rule p None = blank
+file_of_rule p (Some rule) = rule_name p rule.0 None
 
 abbrev pub rule_file_value : List ℕ → SkipReason → ValueModel
-rule_file_value p (by_rule source line) = rule_name p source None
-rule_file_value p reason = blank
+rule_file_value p reason = file_of_rule p (rule_of reason)
+
+-- the number of its line
+abbrev pub line_of_rule : Option (RuleSource × ℕ) → ValueModel
+line_of_rule None = blank
+line_of_rule (Some rule) = number rule.1
 
 abbrev pub rule_line_value : SkipReason → ValueModel
-rule_line_value (by_rule source line) = number line
-rule_line_value reason = blank
+rule_line_value reason = line_of_rule (rule_of reason)
+
+-- the attribute
+abbrev pub name_of_attribute : Option (List ℕ) → ValueModel
+name_of_attribute None = blank
+name_of_attribute (Some n) = bytes_value n
 
 abbrev pub attribute_value : SkipReason → ValueModel
-attribute_value (by_attribute n) = bytes_value n
-attribute_value reason = blank
+attribute_value reason = name_of_attribute (attribute_of reason)
 
 abbrev pub entry_value : SkippedLineModel → ValueModel
 entry_value l = name (record { front = []; bytes = l.path; end = skipped_end l.kind l.reason; line = None })

@@ -1,29 +1,9 @@
--- The words of values.
+-- The words of skipped entries.
 use Rattle.std.specs.Prelude.{ℕ, List, [], codes}
-use Rattle.lc_census.specs.declared.line_count.Eol.{Eol}
-use Rattle.lc_census.specs.declared.line_count.Eol.TheVariants.{NoEnd, Lf, CrLf, Cr, Mixed, Nul}
 use Rattle.lc_level.specs.Level.{Reason, named_git, by_rule, by_attribute, not_included, other_kind}
 use Rattle.lc_tree.specs.declared.entry.Kind.{Kind}
 use Rattle.lc_tree.specs.declared.entry.Kind.TheVariants.{File, Dir, Other}
 use Rattle.lc_tree.specs.declared.entry.OtherKind.TheVariants.{Special, Mounted}
-
--- the class of line ends
-abbrev pub eol_word : Eol → List ℕ
-eol_word NoEnd = codes "none"
-eol_word Lf = codes "lf"
-eol_word CrLf = codes "crlf"
-eol_word Cr = codes "cr"
-eol_word Mixed = codes "mixed"
-eol_word Nul = codes "nul"
-
--- why an entry is skipped
-abbrev pub reason_word : Reason → List ℕ
-reason_word named_git = codes "git"
-reason_word (by_rule source line) = codes "rule"
-reason_word (by_attribute name) = codes "attribute"
-reason_word not_included = codes "include"
-reason_word (other_kind Special) = codes "other"
-reason_word (other_kind Mounted) = codes "filesystem"
 
 -- what a skipped entry is
 abbrev pub kind_word : Kind → List ℕ

@@ -55,12 +55,9 @@ pub(crate) fn directory_value(path: &[u8]) -> Value<'_>
 pub(crate) fn text_value<'l>(text: TextState) -> Value<'l>
     ensures { value_model result ≡ text_value text }
 {
-    match text {
-        TextState::Set => Value::Word("set"),
-        TextState::Unset => Value::Word("unset"),
-        TextState::Auto => Value::Word("auto"),
-        TextState::Other => Value::Word("other"),
-        TextState::Unspecified => Value::Missing,
+    match text.word() {
+        None => Value::Missing,
+        Some(word) => Value::Word(word),
     }
 }
 

@@ -1,38 +1,11 @@
-//! The words of values.
+//! The words of skipped entries.
 
 ghost use Rattle.std.specs.Prelude.{◌≡◌};
 ghost use Rattle.lc_level.specs.Reasons.{reason_model};
-ghost use Rattle.lc_rows.specs.Words.{eol_word, kind_word, reason_word, skipped_end};
+ghost use Rattle.lc_rows.specs.Words.{kind_word, skipped_end};
 
-use lc_census::Eol;
 use lc_level::Reason;
 use lc_tree::{Kind, OtherKind};
-
-pub(crate) fn eol_word(eol: Eol) -> &'static str
-    ensures { result.now ≡ eol_word eol }
-{
-    match eol {
-        Eol::NoEnd => "none",
-        Eol::Lf => "lf",
-        Eol::CrLf => "crlf",
-        Eol::Cr => "cr",
-        Eol::Mixed => "mixed",
-        Eol::Nul => "nul",
-    }
-}
-
-pub(crate) fn reason_word(reason: &Reason) -> &'static str
-    ensures { result.now ≡ reason_word (reason_model reason.now) }
-{
-    match reason {
-        Reason::Git => "git",
-        Reason::Rule { .. } => "rule",
-        Reason::Attribute(_) => "attribute",
-        Reason::Include => "include",
-        Reason::OtherKind(OtherKind::Special) => "other",
-        Reason::OtherKind(OtherKind::Mounted) => "filesystem",
-    }
-}
 
 pub(crate) fn kind_word(kind: Kind) -> &'static str
     ensures { result.now ≡ kind_word kind }

@@ -22,3 +22,4 @@ pub mod MacroPlaces
 pub mod LineNames
 pub mod KnownMacros
 pub mod Resolving
+pub mod TextWords

@@ -1,5 +1,8 @@
 //! The states of attributes.
 
+ghost use Rattle.std.specs.Prelude.{◌≡◌, option_map};
+ghost use Rattle.lc_rules.specs.TextWords.{text_word};
+
 /// The state of an attribute for a path: gitattributes(5), DESCRIPTION.
 #[derive(Clone, Copy)]
 pub enum State<'a> {
@@ -20,4 +23,19 @@ pub enum TextState {
     /// Another value.
     Other,
     Unspecified,
+}
+
+impl TextState {
+    /// The word by which reports name the state, such as `auto`. There is none if the attribute is unspecified.
+    pub fn word(self) -> Option<&'static str>
+        ensures { option_map (λ word. word.now) result ≡ text_word self }
+    {
+        match self {
+            TextState::Set => Some("set"),
+            TextState::Unset => Some("unset"),
+            TextState::Auto => Some("auto"),
+            TextState::Other => Some("other"),
+            TextState::Unspecified => None,
+        }
+    }
 }

@@ -127,7 +127,7 @@ fn push_skipped_place(text: &mut String, skipped: &SkippedLine) -> Result<(), Al
     match &skipped.reason {
         Reason::Rule { source, line } => push_rule_place(text, &skipped.path, *source, *line),
         Reason::Attribute(name) => push_visible(text, name),
-        Reason::Git | Reason::Include | Reason::OtherKind(_) => text.push_str("-"),
+        Reason::Git | Reason::NotIncluded | Reason::OtherKind(_) => text.push_str("-"),
     }
 }
 

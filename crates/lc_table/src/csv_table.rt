@@ -151,7 +151,7 @@ fn push_reason(fields: &mut Fields, skipped: &SkippedLine) -> Result<(), AllocEr
             fields.push(b"")
         }
         Reason::Attribute(name) => fields.push_each(&[b"", b"", name]),
-        Reason::Git | Reason::Include | Reason::OtherKind(_) => {
+        Reason::Git | Reason::NotIncluded | Reason::OtherKind(_) => {
             fields.push_each(&[b"", b"", b""])
         }
     }

@@ -30,7 +30,7 @@ fn write_reason(
     ensures { OnOk result (text.new ≡ text.old ++ members_tokens_of (reason_members skipped.now.path skipped.now.reason)) }
 {
     match &skipped.reason {
-        Reason::Git | Reason::Include | Reason::OtherKind(_) => Ok(()),
+        Reason::Git | Reason::NotIncluded | Reason::OtherKind(_) => Ok(()),
         Reason::Attribute(name) => {
             text.bytes_member("attribute", "attribute_bytes", name)?;
             Ok(())

@@ -159,7 +159,7 @@ fn push_reason_place(text: &mut Vec<u8>, skipped: &SkippedLine) -> Result<(), Al
             push_rule_source(text, PathStyle::Escaped, &skipped.path, *source, *line)
         }
         Reason::Attribute(name) => push_escaped(text, name),
-        Reason::Git | Reason::Include | Reason::OtherKind(_) => text.extend_from_slice(b"-"),
+        Reason::Git | Reason::NotIncluded | Reason::OtherKind(_) => text.extend_from_slice(b"-"),
     }
 }
 

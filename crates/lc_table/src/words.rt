@@ -43,7 +43,7 @@ pub(crate) fn reason_word(skipped: &SkippedLine) -> &'static str
         Reason::Git => "git",
         Reason::Rule { .. } => "rule",
         Reason::Attribute(_) => "attribute",
-        Reason::Include => "include",
+        Reason::NotIncluded => "include",
         Reason::OtherKind(OtherKind::Special) => "other",
         Reason::OtherKind(OtherKind::Mounted) => "filesystem",
     }

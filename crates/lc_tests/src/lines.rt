@@ -101,7 +101,7 @@ pub fn push_reason(text: &mut String, reason: &Reason) -> Result<(), AllocError>
             text.push_str("attribute ")?;
             push_name(text, word)
         }
-        Reason::Include => text.push_str("include"),
+        Reason::NotIncluded => text.push_str("include"),
         Reason::OtherKind(OtherKind::Special) => text.push_str("other"),
         Reason::OtherKind(OtherKind::Mounted) => text.push_str("filesystem"),
     }

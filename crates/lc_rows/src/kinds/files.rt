@@ -7,7 +7,6 @@ ghost use Rattle.lc_rows.specs.Kinds.{file_value, file_directory};
 use crate::directories::{directory_at, split_path};
 use crate::files::number_of;
 use crate::values::{directory_value, extension_value, text_value};
-use crate::words::eol_word;
 use lc_sheet::{Column, Form, Lines, Value};
 use lc_walk::{FileLine, extension};
 
@@ -34,7 +33,7 @@ impl Lines for Files {
             Column::Dir => file_directory(form.by.dir, &line.path),
             Column::Ext => extension_value(extension(split_path(&line.path).1)),
             Column::Text => text_value(line.text),
-            Column::Eol => Value::Word(eol_word(line.count.eol)),
+            Column::Eol => Value::Word(line.count.eol.as_str()),
             Column::Number(number) => Value::Number(u128::from(number_of(number, line))),
             Column::Path => Value::Path(&line.path),
             _ => Value::Blank,

@@ -4,12 +4,11 @@ ghost use Rattle.std.specs.Prelude.{◌≡◌, [], option_map, unwrap_or};
 ghost use Rattle.lc_sheet.specs.Values.{value_model, word};
 ghost use Rattle.lc_sheet.specs.declared.column.Column.TheVariants.{Dir, Ext};
 ghost use Rattle.lc_rows.specs.Kinds.{directory_value, extension_value, kept_value, row_value, text_value};
-ghost use Rattle.lc_rows.specs.Words.{eol_word};
+ghost use Rattle.lc_census.specs.EolWords.{eol_word};
 
 use crate::shown::number_in;
 use crate::shown_row::ShownRow;
 use crate::values::{bar_value, directory_value, extension_value, share_value, text_value};
-use crate::words::eol_word;
 use lc_census::Eol;
 use lc_rules::TextState;
 use lc_sheet::{Column, Form, Lines, Value};
@@ -71,7 +70,7 @@ fn kept_eol<'l>(kept: bool, eol: Eol) -> Value<'l>
     ensures { value_model result ≡ kept_value kept (word (eol_word eol)) }
 {
     if kept {
-        Value::Word(eol_word(eol))
+        Value::Word(eol.as_str())
     } else {
         Value::Summed
     }

@@ -5,8 +5,7 @@ ghost use Rattle.lc_sheet.specs.Values.{value_model};
 ghost use Rattle.lc_rows.specs.Kinds.{skipped_value, attribute_value, entry_value, place_value, rule_file_value, rule_line_value, rule_name};
 
 use crate::values::bytes_value;
-use crate::words::{kind_word, reason_word, skipped_end};
-use lc_level::Reason;
+use crate::words::{kind_word, skipped_end};
 use lc_rules::RuleSource;
 use lc_sheet::{Column, Form, Lines, Value};
 use lc_text::{Name, source_directory, source_name};
@@ -31,40 +30,39 @@ fn rule_name(path: &[u8], source: RuleSource, line: Option<u32>) -> Value<'_>
 fn place_value(line: &SkippedLine) -> Value<'_>
     ensures { value_model result ≡ place_value line.entry.now.path line.entry.now.reason }
 {
-    match &line.reason {
-        Reason::Rule {
-            source,
-            line: number,
-        } => rule_name(&line.path, *source, Some(*number)),
-        Reason::Attribute(name) => bytes_value(name),
-        Reason::Git | Reason::Include | Reason::OtherKind(_) => Value::Missing,
+    if let Some((source, number)) = line.reason.rule() {
+        return rule_name(&line.path, source, Some(number));
+    }
+    match line.reason.attribute() {
+        Some(name) => bytes_value(name),
+        None => Value::Missing,
     }
 }
 
 fn rule_file_value(line: &SkippedLine) -> Value<'_>
     ensures { value_model result ≡ rule_file_value line.entry.now.path line.entry.now.reason }
 {
-    match &line.reason {
-        Reason::Rule { source, .. } => rule_name(&line.path, *source, None),
-        Reason::Git | Reason::Attribute(_) | Reason::Include | Reason::OtherKind(_) => Value::Blank,
+    match line.reason.rule() {
+        Some((source, _)) => rule_name(&line.path, source, None),
+        None => Value::Blank,
     }
 }
 
 fn rule_line_value(line: &SkippedLine) -> Value<'_>
     ensures { value_model result ≡ rule_line_value line.entry.now.reason }
 {
-    match &line.reason {
-        Reason::Rule { line: number, .. } => Value::Number(u128::from(*number)),
-        Reason::Git | Reason::Attribute(_) | Reason::Include | Reason::OtherKind(_) => Value::Blank,
+    match line.reason.rule() {
+        Some((_, number)) => Value::Number(u128::from(number)),
+        None => Value::Blank,
     }
 }
 
 fn attribute_value(line: &SkippedLine) -> Value<'_>
     ensures { value_model result ≡ attribute_value line.entry.now.reason }
 {
-    match &line.reason {
-        Reason::Attribute(name) => bytes_value(name),
-        Reason::Git | Reason::Rule { .. } | Reason::Include | Reason::OtherKind(_) => Value::Blank,
+    match line.reason.attribute() {
+        Some(name) => bytes_value(name),
+        None => Value::Blank,
     }
 }
 
@@ -89,7 +87,7 @@ impl Lines for Skipped {
         match column {
             Column::Path => Value::Path(&line.path),
             Column::Kind => Value::Word(kind_word(line.kind)),
-            Column::Reason => Value::Word(reason_word(&line.reason)),
+            Column::Reason => Value::Word(line.reason.word()),
             Column::Place => place_value(line),
             Column::Entry => entry_value(line),
             Column::File => rule_file_value(line),
