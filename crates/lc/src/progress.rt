@@ -1,6 +1,6 @@
 //! The line that a long count rewrites on a terminal.
 
-use lc_table::push_number;
+use lc_formats::push_number;
 use std::alloc::{AllocError, Global};
 use std::io::{Stderr, Write};
 use std::sync::atomic::{AtomicBool, AtomicU64, Ordering};

@@ -5,3 +5,4 @@ mod PathsWanted
 mod RulesLoaded
 mod SlicesRead
 mod Told
+mod Stopping

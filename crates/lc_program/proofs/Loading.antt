@@ -5,7 +5,7 @@ use Rattle.std.specs.Global.{Global}
 use Rattle.std.specs.Result.{IsErrAnd}
 use Rattle.lc_level.specs.FaultLines.{FaultLineModel}
 use Rattle.lc_text.specs.declared.check_fault.CheckFault.{CheckFault}
-use Rattle.lc_table.specs.declared.running.RunFault.{RunFault}
+use Rattle.lc_program.specs.declared.runs.RunFault.{RunFault}
 use Rattle.lc_program.specs.Causes.{check_cause, run_cause}
 use Rattle.lc_program.specs.Replies.{IsRunReply, Reply, checked}
 use Rattle.lc_program.specs.Unnamed.{AreUnnamedLines}

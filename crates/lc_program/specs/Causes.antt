@@ -8,8 +8,8 @@ use Rattle.lc_text.specs.declared.printing.PrintFault.{PrintFault}
 use Rattle.lc_text.specs.declared.printing.PrintFault.TheVariants as print
 use Rattle.lc_level.specs.declared.rule_text.RulesFileFault.{RulesFileFault}
 use Rattle.lc_level.specs.declared.rule_text.RulesFileFault.TheVariants as rules
-use Rattle.lc_table.specs.declared.running.RunFault.{RunFault}
-use Rattle.lc_table.specs.declared.running.RunFault.TheVariants as run
+use Rattle.lc_program.specs.declared.runs.RunFault.{RunFault}
+use Rattle.lc_program.specs.declared.runs.RunFault.TheVariants as run
 use Rattle.lc_program.specs.Reasons.{reason_given}
 use Rattle.lc_program.specs.declared.cause.Cause.{Cause}
 use Rattle.lc_program.specs.declared.cause.Cause.TheVariants.{Memory, TooManyDirs, TooDeep, Torn, Mismatch, UnreadRules, RulesTooLong}

@@ -11,8 +11,8 @@ use Rattle.lc_census.specs.declared.source.Failed.{Failed}
 use Rattle.lc_level.specs.FaultLines.{FaultLineModel}
 use Rattle.lc_level.specs.RuleReads.{shared}
 use Rattle.lc_rules.specs.IgnoreRules.{rules_of}
-use Rattle.lc_table.specs.Runs.{AnswersRun}
-use Rattle.lc_table.specs.declared.running.RunFault.{RunFault}
+use Rattle.lc_program.specs.Runs.{AnswersRun}
+use Rattle.lc_program.specs.declared.runs.RunFault.{RunFault}
 use Rattle.lc_tree.specs.declared.file_systems.FileSystems.{FileSystems}
 use Rattle.lc_tree.specs.declared.file_systems.FileSystems.TheVariants.{All, One}
 use Rattle.lc_sheet.specs.declared.table_options.Format.{Format}

@@ -16,3 +16,5 @@ pub mod Tellings
 pub mod Unlisted
 pub mod Unmatched
 pub mod Unnamed
+pub mod ReportTexts
+pub mod Runs

@@ -2,7 +2,7 @@
 use Rattle.std.specs.Prelude.{◌≡◌, String, Vec, List, [], ◌∷◌, Result, Ok, Err, string_bytes}
 use Rattle.std.specs.Global.{Global}
 use Rattle.lc_level.specs.FaultLines.{FaultLineModel}
-use Rattle.lc_table.specs.declared.running.RunFault.{RunFault}
+use Rattle.lc_program.specs.declared.runs.RunFault.{RunFault}
 use Rattle.lc_text.specs.declared.check_fault.CheckFault.{CheckFault}
 use Rattle.lc_text.specs.declared.outcome.Outcome.{Outcome}
 use Rattle.lc_text.specs.declared.outcome.Outcome.TheVariants.{Clean, SomeFaults}

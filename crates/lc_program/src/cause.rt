@@ -7,7 +7,7 @@ ghost use Rattle.lc_program.specs.declared.cause.Cause.TheVariants.{Memory};
 
 use crate::unread_reason::UnreadReason;
 use lc_level::RulesFileFault;
-use lc_table::RunFault;
+use crate::runs::RunFault;
 use lc_text::{CheckFault, PrintFault};
 use lc_walk::WalkFault;
 use std::alloc::{AllocError, AllocFailed, Global};

@@ -20,7 +20,7 @@ use lc_board::limits::{MAX_CAPACITY, MAX_WORKERS};
 use lc_census::Source;
 use lc_level::NamedAttributes;
 use lc_sheet::Format;
-use lc_table::run;
+use crate::runs::run;
 use lc_text::Sink;
 use lc_tree::FileSystems;
 use lc_walk::{Options, ReportLists};

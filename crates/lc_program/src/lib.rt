@@ -4,6 +4,7 @@
 //!   one above a directory; `streams`: the streams, and which of them are terminals
 //! - `running`: the program; `answering`: the answer to each request, by `checking`, `counting` and `explaining`; `answered`: the answers
 //! - `asked_rules`: the rules that a command line names, by `rules_file`: those of a file; `path_list`: the paths in a file
+//! - `runs`: the walk of a tree and its table, by `showing`: the text of a report, made and written
 //! - `ending`: how the program ends; `cause`: why it gives up
 //! - `telling`: help, the version, and the lines on standard error, with `introducing`, `faults`, `unlisted`, `unnamed`, `unmatched`
 //!   and `hints`; `commands`: the commands that lines show
@@ -25,6 +26,8 @@ mod path_list;
 mod repository;
 mod rules_file;
 mod running;
+mod runs;
+mod showing;
 mod streams;
 mod system;
 mod telling;
@@ -37,6 +40,8 @@ pub use cause::Cause;
 pub use ending::Ending;
 pub use repository::Repository;
 pub use running::program;
+pub use runs::{RunFault, run};
+pub use showing::{report_text, table};
 pub use streams::{Streams, Terminals};
 pub use system::System;
 pub use telling::{give_up, misuse};

@@ -130,7 +130,7 @@ fn end_of<R: Threads + Wait + Sync + AllocGlobal, Y: System, W: AsStr, S: Source
 /// - no arguments: the input has the lines of an ignore file, then a line `--`, then paths ([`check_joined`](lc_check::check_joined));
 /// - `check FILE`: the rules are those of the file of this name, which is read first, and the input has the paths
 ///   ([`check`](lc_check::check); with `--explain` [`check_explained`](lc_check::check_explained));
-/// - `count DIR`: the table of the directory of this name ([`run`](lc_table::run)); the file of `--exclude-from` is read before the walk;
+/// - `count DIR`: the table of the directory of this name ([`run`](crate::runs::run)); the file of `--exclude-from` is read before the walk;
 /// - `explain DIR`: which rule of the directory of this name decides each path, of the input or of the arguments
 ///   ([`explain`](lc_explain::explain)).
 ///

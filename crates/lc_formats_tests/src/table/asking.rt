@@ -1,0 +1,294 @@
+//! Runs as the tests ask for them, and their tables.
+
+ghost use Rattle.std.specs.Prelude.{◌≤◌, IfOk};
+ghost use Rattle.lc_walk.specs.WalkOptions.{AreWithinLimits};
+
+use lc_board::{Locked, Shared, Words};
+use lc_level::Job;
+use lc_rules::IgnoreFile;
+use lc_sheet::{Columns, Format, TableOptions};
+use lc_program::{RunFault, run, table};
+use lc_text::Outcome;
+use lc_text::trials::{Narrow, WhenFull};
+use lc_tree::trials::BytewiseTree;
+use lc_tree::{MemTree, Sketch, Tree};
+use lc_walk::{FaultLine, Options, ReportLists, Row, WalkFault, walk_on};
+use std::alloc::{AllocError, Global};
+use std::process::Abort;
+use std::sync::{Arc, Wait};
+use std::test::Fail;
+use std::thread::Threads;
+
+/// The rules that exclude, the lists that are asked for, and whether the view is an archive's.
+#[derive(Clone, Copy)]
+pub(super) struct Asked<'a> {
+    pub(super) exclude: &'a [u8],
+    pub(super) lists: ReportLists,
+    pub(super) archive: bool,
+}
+
+pub(super) const PLAIN: Asked<'static> = Asked {
+    exclude: b"",
+    lists: ReportLists {
+        files: false,
+        left_out: false,
+    },
+    archive: false,
+};
+
+pub(super) const WITH_FILES: Asked<'static> = Asked {
+    lists: ReportLists {
+        files: true,
+        left_out: false,
+    },
+    ..PLAIN
+};
+
+pub(super) const WITH_LEFT_OUT: Asked<'static> = Asked {
+    lists: ReportLists {
+        files: false,
+        left_out: true,
+    },
+    ..PLAIN
+};
+
+/// What is shown, a tree, what is asked of a run over it, and the outcome and the lines below the header.
+#[derive(Clone, Copy)]
+pub(super) struct Case<'a> {
+    pub(super) name: &'a str,
+    pub(super) top: Sketch<'a>,
+    pub(super) asked: Asked<'a>,
+    pub(super) outcome: Outcome,
+    pub(super) lines: &'a [u8],
+}
+
+/// A table with tabs, of all columns, in the order of its keys.
+pub(super) const TSV: TableOptions = TableOptions {
+    format: Format::Tsv,
+    by: Columns::ALL,
+    sort: None,
+    top: None,
+    files: false,
+    share: false,
+};
+
+/// The first line of each such table.
+pub(super) const HEADER: &[u8] = b"ext\ttext\teol\tfiles\tlines\tblank\tbytes\n";
+
+fn excluding(alloc: Global, rules: &[u8]) -> Result<Option<Arc<IgnoreFile, Global>>, AllocError> {
+    if rules.is_empty() {
+        return Ok(None);
+    }
+    let Ok(rules) = IgnoreFile::read(alloc, rules) else {
+        return Err(AllocError);
+    };
+    match Arc::new(alloc, rules) {
+        Ok(rules) => Ok(Some(rules)),
+        Err(_) => Err(AllocError),
+    }
+}
+
+fn options_of(
+    alloc: Global,
+    asked: &Asked<'_>,
+    threads: u32,
+    max_dirs: u32,
+) -> Result<Options<'static>, AllocError>
+    requires threads { (1 ≤ threads) × (threads ≤ 16) }
+    requires directories { (1 ≤ max_dirs) × (max_dirs ≤ 1048576) }
+    ensures { IfOk result AreWithinLimits }
+{
+    Ok(Options {
+        threads,
+        max_dirs,
+        lists: asked.lists,
+        exclude: excluding(alloc, asked.exclude)?,
+        command_line: None,
+        no_ignore: false,
+        archive: asked.archive,
+        without: &[],
+        include: None,
+        only: &[],
+        named: None,
+    })
+}
+
+/// The options of a table of a report with these lists.
+pub(super) fn listing(lists: ReportLists) -> TableOptions {
+    TableOptions {
+        files: lists.files,
+        ..TSV
+    }
+}
+
+/// What a report with these faults shows.
+fn outcome_of(faults: &[FaultLine]) -> Outcome {
+    if faults.is_empty() {
+        Outcome::Clean
+    } else {
+        Outcome::SomeFaults
+    }
+}
+
+/// A writer that takes any of these tables at once.
+pub(super) fn new_writer(alloc: Global) -> Result<Narrow, AllocError> {
+    Narrow::new(alloc, 1_024, 1_024, WhenFull::Fails)
+}
+
+/// The answer of a run over a tree.
+pub(super) fn answer_of<R: Threads + Wait + Sync + AllocGlobal, T: Tree>(
+    rt: &R,
+    tree: &T,
+    asked: &Asked<'_>,
+    threads: u32,
+    max_dirs: u32,
+    out: &mut Narrow,
+) -> Result<Outcome, RunFault>
+    requires threads { (1 ≤ threads) × (threads ≤ 16) }
+    requires directories { (1 ≤ max_dirs) × (max_dirs ≤ 1048576) }
+{
+    let Ok(options) = options_of(rt.alloc(), asked, threads, max_dirs) else {
+        return Err(RunFault::Memory);
+    };
+    let table_options = listing(options.lists);
+    let faults = run(rt, rt.alloc(), tree, &options, table_options, out)?;
+    Ok(outcome_of(&faults))
+}
+
+/// That of a walk over boards of this type, whose table is then written.
+fn answer_over<B: Shared<Job, Row>, R: Threads + Wait + Sync, T: Tree>(
+    rt: &R,
+    alloc: Global,
+    tree: &T,
+    asked: &Asked<'_>,
+    threads: u32,
+    out: &mut Narrow,
+) -> Result<Outcome, RunFault>
+    requires { (1 ≤ threads) × (threads ≤ 16) }
+{
+    let Ok(options) = options_of(alloc, asked, threads, 16) else {
+        return Err(RunFault::Memory);
+    };
+    let mut report = walk_on::<B, T, R>(rt, alloc, tree, &options)?;
+    table(alloc, &mut report, listing(options.lists), out)?;
+    Ok(outcome_of(&report.faults))
+}
+
+/// An answer, but for want of memory where nothing is written.
+pub(super) fn settled(
+    answer: Result<Outcome, RunFault>,
+    out: &Narrow,
+) -> Result<Result<Outcome, RunFault>, AllocError> {
+    match answer {
+        Err(RunFault::Memory | RunFault::Walk(WalkFault::Memory)) if out.taken.is_empty() => {
+            Err(AllocError)
+        }
+        answer => Ok(answer),
+    }
+}
+
+/// Whether an answer, and what was written, are those of the case.
+fn is_told(
+    answer: Result<Outcome, RunFault>,
+    out: &Narrow,
+    case: &Case<'_>,
+) -> Result<bool, AllocError> {
+    let answer = settled(answer, out)?;
+    let lines = out.taken.as_slice().strip_prefix(HEADER);
+    Ok(answer == Ok(case.outcome) && lines == Some(case.lines))
+}
+
+/// Whether a run by so many workers over a tree ends as the case says.
+fn ends_so<R: Threads + Wait + Sync + AllocGlobal, T: Tree>(
+    rt: &R,
+    tree: &T,
+    case: &Case<'_>,
+    threads: u32,
+) -> Result<bool, AllocError>
+    requires { (1 ≤ threads) × (threads ≤ 16) }
+{
+    let mut out = new_writer(rt.alloc())?;
+    let answer = answer_of(rt, tree, &case.asked, threads, 16, &mut out);
+    is_told(answer, &out, case)
+}
+
+/// Whether a walk over boards of this type does, whose table is then written.
+fn ends_so_over<B: Shared<Job, Row>, R: Threads + Wait + Sync + AllocGlobal, T: Tree>(
+    rt: &R,
+    tree: &T,
+    case: &Case<'_>,
+    threads: u32,
+) -> Result<bool, AllocError>
+    requires { (1 ≤ threads) × (threads ≤ 16) }
+{
+    let mut out = new_writer(rt.alloc())?;
+    let answer = answer_over::<B, R, T>(rt, rt.alloc(), tree, &case.asked, threads, &mut out);
+    is_told(answer, &out, case)
+}
+
+/// Whether a run does, and walks over both boards.
+fn all_end_so<R: Threads + Wait + Sync + AllocGlobal>(
+    rt: &R,
+    tree: &MemTree<'_>,
+    case: &Case<'_>,
+    threads: u32,
+) -> Result<bool, AllocError>
+    requires { (1 ≤ threads) × (threads ≤ 16) }
+{
+    Ok(
+        ends_so(rt, tree, case, threads)?
+            && ends_so_over::<Words<Job, Row>, R, MemTree>(rt, tree, case, threads)?
+            && ends_so_over::<Locked<Job, Row>, R, MemTree>(rt, tree, case, threads)?,
+    )
+}
+
+/// A run by so many workers over a tree ends as the case says.
+pub(super) fn compare<R: Threads + Wait + Sync + AllocGlobal + Abort, T: Tree>(
+    rt: &R,
+    tree: &T,
+    case: &Case<'_>,
+    threads: u32,
+) -> Result<(), Fail>
+    requires threads { (1 ≤ threads) × (threads ≤ 16) }
+{
+    assert!(rt;
+        ends_so(rt, tree, case, threads)?,
+        "{} by {threads}",
+        case.name
+    );
+    Ok(())
+}
+
+/// So do a run over the case's own tree, walks of it over both boards, by each of these numbers of workers, and a run however
+/// its files are read.
+pub(super) fn compare_by<R: Threads + Wait + Sync + AllocGlobal + Abort>(
+    rt: &R,
+    case: &Case<'_>,
+    threads_of_each: &[u32],
+) -> Result<(), Fail> {
+    let node = case.top.node(rt.alloc())?;
+    let tree = MemTree::new(&node);
+    for threads in threads_of_each {
+        let threads = *threads;
+        assert!(rt; 1 <= threads && threads <= 16);
+        assert!(rt;
+            all_end_so(rt, &tree, case, threads)?,
+            "{} by {threads}",
+            case.name
+        );
+    }
+    compare(rt, &BytewiseTree(tree), case, 2)
+}
+
+const MANY: &[u32] = &[1, 2, 16];
+
+/// So do they by any number of workers.
+pub(super) fn compare_all<R: Threads + Wait + Sync + AllocGlobal + Abort>(
+    rt: &R,
+    cases: &[Case<'_>],
+) -> Result<(), Fail> {
+    for case in cases {
+        compare_by(rt, case, MANY)?;
+    }
+    Ok(())
+}

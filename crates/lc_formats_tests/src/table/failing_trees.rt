@@ -1,0 +1,155 @@
+//! Runs over a tree of which one call fails, whichever it is.
+
+ghost use Rattle.std.specs.Prelude.{◌≤◌};
+
+use crate::table::asking::{WITH_FILES, answer_of, new_writer, settled};
+use lc_program::RunFault;
+use lc_text::Outcome;
+use lc_tree::trials::{FailingCall, FailingTree};
+use lc_tree::{MemTree, Sketch};
+use std::alloc::AllocError;
+use std::process::Abort;
+use std::sync::Wait;
+use std::test::Fail;
+use std::thread::Threads;
+
+const TOP: Sketch<'static> = Sketch::Dir(&[
+    (b".gitignore", Sketch::File(b"*.o\n")),
+    (b"a.c", Sketch::File(b"a\n")),
+    (b"a.o", Sketch::File(b"o\n")),
+    (
+        b"d",
+        Sketch::Dir(&[
+            (b".gitattributes", Sketch::File(b"*.c text\n")),
+            (b"b.c", Sketch::File(b"b\n\n")),
+            (b"e", Sketch::Dir(&[])),
+        ]),
+    ),
+]);
+
+/// The lines of the files where no call fails.
+const FILES: [&[u8]; 4] = [
+    b"file\t-\tlf\t1\t0\t4\t.gitignore",
+    b"file\t-\tlf\t1\t0\t2\ta.c",
+    b"file\t-\tlf\t1\t0\t9\td/.gitattributes",
+    b"file\tset\tlf\t2\t1\t3\td/b.c",
+];
+
+/// The paths of which one is at fault where a call fails.
+const PATHS: [&[u8]; 7] = [
+    b".",
+    b".gitignore",
+    b"a.c",
+    b"d",
+    b"d/.gitattributes",
+    b"d/b.c",
+    b"d/e",
+];
+
+/// How many lines of a table tell of a file and of a fault.
+#[derive(Clone, Copy)]
+struct Told {
+    files: usize,
+    faults: usize,
+}
+
+fn is_line_end(byte: &u8) -> bool {
+    *byte == b'\n'
+}
+
+fn is_counted(table: &[u8], path: &[u8]) -> bool {
+    for line in table.split(is_line_end) {
+        if let Some(front) = line.strip_suffix(path) {
+            if front.starts_with(b"file\t") && front.ends_with(b"\t") {
+                return true;
+            }
+        }
+    }
+    false
+}
+
+/// What the lines of a table tell, or nothing where one is none of the files above, or a path is at fault that was counted.
+fn lines_told(table: &[u8]) -> Option<Told> {
+    let mut files = 0usize;
+    let mut faults = 0usize;
+    for line in table.split(is_line_end) {
+        if line.starts_with(b"file\t") {
+            if !FILES.contains(&line) {
+                return None;
+            }
+            files = files.saturating_add(1);
+        }
+        if let Some(path) = line.strip_prefix(b"fault\tread\t") {
+            if !PATHS.contains(&path) || is_counted(table, path) {
+                return None;
+            }
+            faults = faults.saturating_add(1);
+        }
+    }
+    Some(Told { files, faults })
+}
+
+/// How many calls a walk makes: three listings, and six times a file is opened, read, and read to its end.
+const CALLS: u64 = 21;
+
+/// What a run answers, what its table tells, and how many calls it made.
+type Found = (Result<Outcome, RunFault>, Option<Told>, u64);
+
+fn has_one_fault((answer, told, _): &Found) -> bool {
+    *answer == Ok(Outcome::SomeFaults) && matches!(told, Some(Told { faults: 1, .. }))
+}
+
+/// No call of it failed.
+fn is_whole((answer, told, calls): &Found) -> bool {
+    *answer == Ok(Outcome::Clean)
+        && matches!(
+            told,
+            Some(Told {
+                files: 4,
+                faults: 0
+            })
+        )
+        && *calls == CALLS
+}
+
+/// Of a run of which this call fails. One that makes more calls than there are began again, since several workers were refused memory.
+fn found_at<R: Threads + Wait + Sync + AllocGlobal>(
+    rt: &R,
+    tree: &MemTree<'_>,
+    place: u64,
+    threads: u32,
+) -> Result<Found, AllocError>
+    requires threads { (1 ≤ threads) × (threads ≤ 16) }
+{
+    let call = FailingCall::new(place);
+    let failing = FailingTree { tree, call: &call };
+    let mut out = new_writer(rt.alloc())?;
+    let answer = answer_of(rt, &failing, &WITH_FILES, threads, 16, &mut out);
+    let answer = settled(answer, &out)?;
+    if call.begun() > CALLS {
+        return Err(AllocError);
+    }
+    Ok((answer, lines_told(&out.taken), call.begun()))
+}
+
+/// Each call of a walk fails in turn: the table then has one fault more, and each line of a file as it was or not at all.
+fn compare<R: Threads + Wait + Sync + AllocGlobal + Abort>(rt: &R, threads: u32) -> Result<(), Fail>
+    requires threads { (1 ≤ threads) × (threads ≤ 16) }
+{
+    let node = TOP.node(rt.alloc())?;
+    let tree = MemTree::new(&node);
+    for place in 0..CALLS {
+        assert!(rt;
+            has_one_fault(&found_at(rt, &tree, place, threads)?),
+            "at {place}"
+        );
+    }
+    assert!(rt; is_whole(&found_at(rt, &tree, CALLS, threads)?));
+    Ok(())
+}
+
+#[test]
+fn each_call_of_a_walk_fails(rt: HostRuntime) -> Result<(), Fail> {
+    compare(&rt, 1)?;
+    compare(&rt, 4)
+}

@@ -1,0 +1,15 @@
+use Rattle.std.proofs.Common.{ap}
+use Rattle.lc_walk.specs.Walks.{Walks}
+use Rattle.lc_program.proofs.Stopping.{run_stops}
+use Rattle.lc_program.proofs.runs.run.Goals as goal
+
+pub returns-in_err-table : goal.returns-in_err-table
+returns-in_err-table g c =
+    run_stops g.O.Sink.may_take (Walks (g.T.Tree.lists c.args.tree.now)
+    (g.T.Tree.gives c.args.tree.now) c.args.options.now) c.args.table_options c.in_ok-report.report
+    c.in_err-table.field-0.0 c.from_residual-in_err-table.result c.args.out.now c.table.new.out c.in_ok-report.ensures
+    c.in_err-table.ensures.answers c.from_residual-in_err-table.ensures.1
+
+pub returns : goal.returns
+returns g c =
+    (c.in_ok-report.report, c.in_ok-report.ensures, ap (λ v. v.items) c.table.ensures.faults, c.in_ok-table.ensures.answers)

@@ -1,0 +1,51 @@
+-- The text of a report, by its options.
+use Rattle.std.specs.Prelude.{◌≡◌, ℕ, Bool, true, false, List}
+use Rattle.lc_formats.specs.Csv.{csv_of}
+use Rattle.lc_formats.specs.Json.{IsDocument, json_of, json_text_of}
+use Rattle.lc_formats.specs.MarkdownText.{markdown_of}
+use Rattle.lc_formats.specs.Table.{table_of}
+use Rattle.lc_formats.specs.Tsv.{tsv_of}
+use Rattle.lc_picture.specs.Page.{IsPageOf, drawn_number}
+use Rattle.lc_rows.specs.Sheets.{IsSheetOf}
+use Rattle.lc_sheet.specs.Sheets.{SheetModel}
+use Rattle.lc_sheet.specs.declared.table_options.Format.{Format}
+use Rattle.lc_sheet.specs.declared.table_options.Format.TheVariants.{Tsv, Table, Json, Csv, Markdown, Html}
+use Rattle.lc_sheet.specs.declared.table_options.TableOptions.{TableOptions}
+use Rattle.lc_walk.specs.declared.report.Report.{Report}
+
+-- whether a text of this format is a picture, which has boxes beside its sheet
+abbrev pub is_picture : Format → Bool
+is_picture Html = true
+is_picture Tsv = false
+is_picture Table = false
+is_picture Json = false
+is_picture Csv = false
+is_picture Markdown = false
+
+-- the text of a sheet in a format; that of a picture is made of more
+abbrev pub IsTextIn : Format → SheetModel → List ℕ → Type 0
+IsTextIn Tsv s text = text ≡ tsv_of s
+IsTextIn Table s text = text ≡ table_of s
+IsTextIn Json s text = (text ≡ json_text_of s) × IsDocument (json_of s) text
+IsTextIn Csv s text = text ≡ csv_of s
+IsTextIn Markdown s text = text ≡ markdown_of s
+IsTextIn Html s text = ⊥
+
+-- the text of a sheet of a report with these options
+pub record HasSheet (options : TableOptions) (r : Report) (text : List ℕ) : Type 0 where
+  pub sheet : SheetModel
+  pub is_sheet : IsSheetOf options r sheet
+  pub is : IsTextIn options.format sheet text
+
+-- a text of a report with these options, in this format
+abbrev pub IsTextBy : Format → TableOptions → Report → List ℕ → Type 0
+IsTextBy Html options r text = IsPageOf (drawn_number options.sort) r text
+IsTextBy Tsv options r text = HasSheet options r text
+IsTextBy Table options r text = HasSheet options r text
+IsTextBy Json options r text = HasSheet options r text
+IsTextBy Csv options r text = HasSheet options r text
+IsTextBy Markdown options r text = HasSheet options r text
+
+-- a text of a report with these options
+abbrev pub IsTextOf : TableOptions → Report → List ℕ → Type 0
+IsTextOf options r text = IsTextBy options.format options r text

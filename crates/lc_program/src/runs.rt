@@ -1,0 +1,74 @@
+//! A run: the walk of a tree, and the table of what it found.
+
+ghost use Rattle.std.specs.Prelude.{◌≡◌};
+ghost use Rattle.lc_walk.specs.WalkOptions.{AreWithinLimits};
+ghost use Rattle.lc_walk.specs.Walks.{Walks};
+ghost use Rattle.lc_program.specs.Runs.{AnswersRun, table_fault};
+ghost use Rattle.lc_program.specs.declared.runs.RunFault.TheVariants.{Walk};
+
+use crate::showing::table;
+use lc_sheet::TableOptions;
+use lc_text::{PrintFault, Sink};
+use lc_tree::Tree;
+use lc_walk::{FaultLine, Options, WalkFault, walk};
+use std::alloc::Global;
+use std::sync::Wait;
+use std::thread::Threads;
+use thiserror::Error;
+
+/// Why a table was not written, or not whole.
+#[derive(Debug, Clone, Copy, PartialEq, Eq, Error)]
+pub enum RunFault {
+    /// The walk gave no report. Nothing was written.
+    #[error("the walk gave no report")]
+    Walk(WalkFault),
+    /// There is no memory for the text. Nothing was written.
+    #[error("out of memory")]
+    Memory,
+    /// A write failed, or took nothing. What was written is a prefix of the table.
+    #[error("cannot write")]
+    Write,
+}
+
+impl From<WalkFault> for RunFault {
+    ghost from_gives = { λ walk fault. fault ≡ Walk walk };
+
+    fn from(fault: WalkFault) -> RunFault {
+        RunFault::Walk(fault)
+    }
+}
+
+impl From<PrintFault> for RunFault {
+    ghost from_gives = { λ print fault. fault ≡ table_fault print };
+
+    fn from(fault: PrintFault) -> RunFault {
+        match fault {
+            PrintFault::Write => RunFault::Write,
+            PrintFault::Memory => RunFault::Memory,
+        }
+    }
+}
+
+/// Walks a tree, writes the table of what it found ([`table`]), and returns what could not be read.
+///
+/// ```
+/// let tree = SysTree::new(&rt, rt.alloc(), "src", FileSystems::All)?;
+/// let table_options = TableOptions { format: Format::Tsv, by: Columns::ALL, sort: None, top: None, files: false, share: false };
+/// let faults = run(&rt, rt.alloc(), &tree, &options, table_options, &mut out)?;
+/// assert!(faults.is_empty());
+/// ```
+pub fn run<T: Tree, R: Threads + Wait + Sync, O: Sink>(
+    rt: &R,
+    alloc: Global,
+    tree: &T,
+    options: &Options<'_>,
+    table_options: TableOptions,
+    out: &mut O,
+) -> Result<Vec<FaultLine>, RunFault>
+    requires limits { AreWithinLimits options.now }
+    ensures { AnswersRun O.may_take (Walks (T.lists tree.now) (T.gives tree.now) options.now) table_options out.old result out.new }
+{
+    let mut report = walk(rt, alloc, tree, options)?;
+    table(alloc, &mut report, table_options, out)?;
+    Ok(report.faults)
+}

@@ -1,0 +1,83 @@
+//! The text of a report, made and written.
+
+ghost use Rattle.std.specs.Prelude.{◌≡◌, false, IfOk};
+ghost use Rattle.lc_program.specs.ReportTexts.{HasSheet, IsTextIn, IsTextOf, is_picture};
+ghost use Rattle.lc_program.specs.Runs.{AnswersTable};
+
+use lc_formats::{csv_text, json_text, markdown_text, table_text, tsv_text};
+use lc_picture::page;
+use lc_rows::{ReportSheet, Shown, sort_files};
+use lc_sheet::{Format, TableOptions};
+use lc_text::{PrintFault, Sink, print};
+use lc_walk::Report;
+use std::alloc::{AllocError, Global};
+
+fn text_in(
+    alloc: Global,
+    format: Format,
+    sheet: &ReportSheet<'_>,
+) -> Result<Vec<u8>, AllocError>
+    requires sheet { is_picture format ≡ false }
+    ensures { IfOk result (λ text. IsTextIn format sheet.now text.items) }
+{
+    match format {
+        Format::Tsv => tsv_text(alloc, sheet),
+        Format::Table => table_text(alloc, sheet),
+        Format::Json => json_text(alloc, sheet),
+        Format::Csv => csv_text(alloc, sheet),
+        Format::Markdown => markdown_text(alloc, sheet),
+        Format::Html => unreachable!(),
+    }
+}
+
+/// Makes the text of the sheet of a report.
+fn sheet_text(
+    alloc: Global,
+    report: &mut Report,
+    options: TableOptions,
+) -> Result<Vec<u8>, AllocError>
+    requires sheet { is_picture options.format ≡ false }
+    ensures text { IfOk result (λ text. HasSheet options report.old text.items) }
+    ensures faults { report.new.faults ≡ report.old.faults }
+{
+    sort_files(options.sort, &mut report.files);
+    let shown = Shown::of(alloc, report, &options)?;
+    let sheet = shown.sheet();
+    let text = text_in(alloc, options.format, &sheet)?;
+    Ok(text)
+}
+
+/// Makes the text of a report, or its picture.
+///
+/// It sorts the files of the report in place. Rows by directory and a picture are made of these files, so the report must have them. It
+/// stops with an error if there is no memory, and for numbers that no walk has, whose sums or shares overflow.
+pub fn report_text(
+    alloc: Global,
+    report: &mut Report,
+    options: TableOptions,
+) -> Result<Vec<u8>, AllocError>
+    ensures text { IfOk result (λ text. IsTextOf options report.old text.items) }
+    ensures faults { report.new.faults ≡ report.old.faults }
+{
+    match options.format {
+        Format::Html => page(alloc, report, options.sort),
+        Format::Tsv | Format::Table | Format::Json | Format::Csv | Format::Markdown => {
+            sheet_text(alloc, report, options)
+        }
+    }
+}
+
+/// Makes the text of a report ([`report_text`]), and writes it. The report's faults stay as they are.
+pub fn table<O: Sink>(
+    alloc: Global,
+    report: &mut Report,
+    options: TableOptions,
+    out: &mut O,
+) -> Result<(), PrintFault>
+    ensures answers { AnswersTable O.may_take options report.old out.old result out.new }
+    ensures faults { report.new.faults ≡ report.old.faults }
+{
+    let text = report_text(alloc, report, options)?;
+    print(out, &text)?;
+    Ok(())
+}

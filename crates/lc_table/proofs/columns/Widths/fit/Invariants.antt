@@ -1,7 +1,0 @@
-use Rattle.std.proofs.Common.{◌≡◌, take}
-use Rattle.lc_table.specs.CellTexts.{cells_of}
-use Rattle.lc_table.specs.Columns.{cell_widths, wider}
-use Rattle.lc_table.proofs.columns.Widths.fit.Given as goal
-
-abbrev pub invariant-loop-column : goal.invariant-loop-column
-invariant-loop-column l = l.self ≡ wider l.initial.self (cell_widths (cells_of (take l.column l.cells)))

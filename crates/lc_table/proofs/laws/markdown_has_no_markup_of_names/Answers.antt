@@ -1,8 +1,0 @@
-use Rattle.lc_table.proofs.FormatLawProofs.{escaped_law, unescaped_law}
-use Rattle.lc_table.proofs.laws.markdown_has_no_markup_of_names.Goals as goal
-
-pub returns-clause-reads_back : goal.returns-clause-reads_back
-returns-clause-reads_back c = unescaped_law
-
-pub returns-clause-escaped : goal.returns-clause-escaped
-returns-clause-escaped c = escaped_law

@@ -1,8 +1,0 @@
-use Rattle.std.proofs.Common.{◌≡◌, ◌++◌, take, flat_map}
-use Rattle.lc_table.specs.CellTexts.{cells_of}
-use Rattle.lc_table.specs.MarkdownCells.{cell_text}
-use Rattle.lc_table.proofs.markdown_line.push_line.Given as goal
-
-abbrev pub invariant-loop-cell : goal.invariant-loop-cell
-invariant-loop-cell l =
-    l.text.items ≡ l.initial.text.items ++ flat_map (λ c. cell_text l.weight c.text) (cells_of (take l.cell-index l.cells))

@@ -1,6 +1,0 @@
-use Rattle.std.proofs.Common.{◌≡◌, drop, max}
-use Rattle.lc_table.specs.RowShares.{largest}
-use Rattle.lc_table.proofs.row_columns.largest.Given as goal
-
-abbrev pub invariant-loop-row : goal.invariant-loop-row
-invariant-loop-row l = max (largest l.number (drop l.row-index l.rows)) l.most ≡ largest l.number l.rows
