@@ -58,7 +58,8 @@ fn share_columns(format: Format) -> &'static [Column]
     match format {
         Format::Table => &[Column::Share, Column::Bar],
         Format::Markdown => &[Column::Share],
-        Format::Tsv | Format::Json | Format::Csv | Format::Html => &[],
+        Format::Html => &[Column::Bar],
+        Format::Tsv | Format::Json | Format::Csv => &[],
     }
 }
 

@@ -2,8 +2,8 @@
 
 ghost use Rattle.std.specs.Prelude.{◌≡◌, if◌then◌else◌, Option, Some, None, IfOk};
 ghost use Rattle.lc_rows.specs.Sheets.{HasFiles, files_section, form_of, largest, listed_files, others_lines, share_number, shares_of};
-ghost use Rattle.lc_rows.specs.Sheets.{totals_lines};
-ghost use Rattle.lc_rows.specs.Views.{first_of, rest_of, sums_of_some};
+ghost use Rattle.lc_rows.specs.Sheets.{sheet_of, totals_lines};
+ghost use Rattle.lc_rows.specs.Views.{first_of, rest_of, sums_of_some, view_of};
 
 use crate::classes::{ClassSums, some_binary};
 use crate::columns::{
@@ -158,7 +158,22 @@ impl<'a> Shown<'a> {
     ) -> Result<Shown<'a>, AllocError>
         ensures { IfOk result (λ shown. HasFiles options.now report.entry.now report.entry.now.files.items shown) }
     {
-        let mut rows = shown_rows(alloc, &report.rows, &report.files, options.by, options.sort)?;
+        let rows = shown_rows(alloc, &report.rows, &report.files, options.by, options.sort)?;
+        let shown = Shown::with_rows(alloc, report, options, rows)?;
+        Ok(shown)
+    }
+
+    /// Shows these rows of a report, which were summed and sorted ([`shown_rows`]): cuts them, and adds up what else is shown.
+    pub fn with_rows(
+        alloc: Global,
+        report: &'a Report,
+        options: &TableOptions,
+        rows: Vec<ShownRow<'a>>,
+    ) -> Result<Shown<'a>, AllocError>
+        ensures { IfOk result (λ shown. shown ≡ sheet_of options.now report.entry.now
+            (view_of options.now.top rows.items (listed_files options.now.files report.entry.now.files.items))) }
+    {
+        let mut rows = rows;
         let (files, _) = split_at_top(options.top, listed_files(options.files, &report.files));
         let others = others_sums(options.top, &rows)?;
         cut(options.top, &mut rows);

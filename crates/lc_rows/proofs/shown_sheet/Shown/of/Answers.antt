@@ -1,11 +1,7 @@
-use Rattle.std.proofs.Common.{List, ap, subst, ◌∙◌}
+use Rattle.std.proofs.Common.{List, subst}
 use Rattle.lc_walk.specs.ReportLines.{FileLineModel}
 use Rattle.lc_walk.specs.TallyRows.{TallyRowModel}
-use Rattle.lc_rows.specs.RowKeys.{ShownRowModel}
-use Rattle.lc_rows.specs.Sheets.{form_of, listed_files, others_lines}
 use Rattle.lc_rows.specs.ShownRows.{AreShown}
-use Rattle.lc_rows.specs.Views.{first_of, rest_of, sums_of_some, view_of}
-use Rattle.lc_rows.proofs.SheetMade.{made}
 use Rattle.lc_rows.proofs.shown_sheet.Shown.of.Goals as goal
 
 pub returns : goal.returns
@@ -15,16 +11,8 @@ returns c =
     let rows = c.in_ok-rows.rows.items in
     let of_files = subst (λ (fs : List FileLineModel). AreShown options.by options.sort c.deref.result.now fs rows) c.deref-2.ensures.value
     c.in_ok-rows.ensures in
-    let listed = c.listed_files.ensures ∙ ap (listed_files options.files) c.deref-3.ensures.value in
-    let is_form = c.form_of.ensures ∙ ap (form_of options report.totals) c.deref-5.ensures.value in
-    let others = c.in_ok-others.ensures
-    ∙ ap (λ (rs : List ShownRowModel). sums_of_some (rest_of options.top rs)) c.deref-4.ensures.value in
     record {
       rows = rows;
       are_rows = subst (λ (rs : List TallyRowModel). AreShown options.by options.sort rs report.files.items rows) c.deref.ensures.value of_files;
-      is = made options report (view_of options.top rows (listed_files options.files report.files.items)) c.form_of.result
-          c.in_ok-row_columns.field-0.items c.cut.new.rows.items c.in_ok-others_lines.field-0.items c.in_ok-totals_lines.field-0.items
-          c.split_at_top.result.0.now is_form c.in_ok-row_columns.ensures c.cut.ensures
-          (c.in_ok-others_lines.ensures ∙ ap others_lines others) c.in_ok-totals_lines.ensures
-          (c.split_at_top.ensures.first ∙ ap (first_of options.top) listed);
+      is = c.in_ok-shown.ensures;
     }
