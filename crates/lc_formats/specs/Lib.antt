@@ -1,0 +1,2 @@
+pub mod Tsv
+pub mod TsvParts
