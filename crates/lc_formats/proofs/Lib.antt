@@ -1,0 +1,3 @@
+pub mod TsvLines
+pub mod CsvLines
+pub mod RecordsRead

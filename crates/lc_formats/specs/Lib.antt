@@ -1,0 +1,5 @@
+pub mod Tsv
+pub mod TsvParts
+pub mod Csv
+pub mod CsvText
+pub mod CsvLaws
