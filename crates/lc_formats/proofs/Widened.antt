@@ -3,6 +3,7 @@ use Rattle.std.proofs.Common.{◌≡◌, ℕ, zero, suc, ◌+◌, ◌<◌, ◌�
 use Rattle.std.proofs.Common.{◌∙◌, ◌==◌, false, codes, arith}
 use Rattle.std.proofs.Common.{append_assoc, append-nil}
 use Rattle.std.proofs.lemmas.List.{take_more, map-append, length-map, length-take-le, get_or_default}
+use Rattle.std.proofs.lemmas.List.Concat.{flat_map-append}
 use Rattle.lc_formats.specs.Columns.{CellModel, cell_widths, line_in, lines_in, listing_in, rule_in, wider, widened, widths_of, width_at}
 use Rattle.lc_formats.specs.Cells.{cell_model, cells_of}
 use Rattle.lc_formats.specs.TableText.{listing, rows_in_columns}
@@ -84,16 +85,6 @@ cell_fitted start now next cells i width d h so_far own step =
     ∙ ap (λ n. with_width (wider start (cell_widths front)) n (w (cell_model cell))) (sym place)
     ∙ sym (wider-push start (cell_widths front) (w (cell_model cell))) ∙ ap (wider start) (sym widths)
 
--- one line more
-pub line_fitted : {A : Type 0} (cells : A → List CellModel) (xs : List A) (i : ℕ) (x : A) (start now next : List ℕ) → i < length xs
-    → x ≡ get_or xs i x → now ≡ widened start (map cells (take i xs)) → next ≡ wider now (cell_widths (cells x))
-    → next ≡ widened start (map cells (take (i + 1) xs))
-line_fitted {A} cells xs i x start now next h is so_far step =
-    let more : take (i + 1) xs ≡ take i xs ++ x ∷ [] = take_more xs i x h ∙ ap (λ (y : A). take i xs ++ y ∷ []) (sym is) in
-    step ∙ ap (λ (l : List ℕ). wider l (cell_widths (cells x))) so_far
-    ∙ sym (widened-append start (map cells (take i xs)) (cells x ∷ []))
-    ∙ ap (widened start) (sym (ap (map cells) more ∙ map-append cells (take i xs) (x ∷ [])))
-
 -- one line alone
 pub line_alone : (ws : List ℕ) (line : List CellModel) → ws ≡ wider [] (cell_widths line)
     → line_in ws line ≡ lines_in (widths_of (line ∷ [])) (line ∷ [])
@@ -124,6 +115,13 @@ pub listed_some : {A : Type 0} (headings : List CellModel) (cells : A → List C
     → listing headings (map cells xs) ≡ listing_in (widened [] (headings ∷ map cells xs)) headings (map cells xs)
 listed_some headings cells [] some = absurd (cc)
 listed_some headings cells (x ∷ xs) some = refl
+
+-- some lines and then others
+pub lines_written : (initial t1 t2 ws : List ℕ) (xs ys : List (List CellModel)) → t1 ≡ initial ++ lines_in ws xs
+    → t2 ≡ t1 ++ lines_in ws ys → t2 ≡ initial ++ lines_in ws (xs ++ ys)
+lines_written initial t1 t2 ws xs ys e1 e2 =
+    e2 ∙ ap (λ (t : List ℕ). t ++ lines_in ws ys) e1 ∙ append_assoc initial (lines_in ws xs) (lines_in ws ys)
+    ∙ ap (λ (t : List ℕ). initial ++ t) (sym (flat_map-append (line_in ws) xs ys))
 
 -- headings, rows and sums in columns that fit them all
 pub rows_written : (initial t1 t2 t3 t4 t5 first second ws : List ℕ) (headings : List CellModel) (rows sums : List (List CellModel))

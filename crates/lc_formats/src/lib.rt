@@ -1,12 +1,16 @@
 //! The formats in which a sheet is printed. A format knows values, columns and sections, and nothing of where they come from.
 //!
+//! - `table`: a text in columns, for reading, by `section_lines` and `widths`
 //! - `cells`: the cells in which a line is shown; `cell_text`, `numbers`, `shares`: the texts in them
 #![tactic(auto)]
 
 mod cell_text;
 mod cells;
 mod numbers;
+mod section_lines;
 mod shares;
+mod table;
 mod widths;
 
 pub use numbers::push_number;
+pub use table::table_text;
