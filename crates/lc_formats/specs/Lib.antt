@@ -3,3 +3,10 @@ pub mod TsvParts
 pub mod Csv
 pub mod CsvText
 pub mod CsvLaws
+pub mod Columns
+pub mod Blanks
+pub mod CellWords
+pub mod Shares
+pub mod Cells
+pub mod TableText
+pub mod Widening

@@ -12,3 +12,14 @@ mod tsv;
 pub use csv_laws::csv_reads_back;
 pub use csv_sheet::csv_text;
 pub use tsv::tsv_text;
+//! - `table`: a text in columns, for reading, by `section_lines` and `widths`
+//! - `cells`: the cells in which a line is shown; `cell_text`, `numbers`, `shares`: the texts in them
+mod cell_text;
+mod cells;
+mod numbers;
+mod section_lines;
+mod shares;
+mod table;
+mod widths;
+pub use numbers::push_number;
+pub use table::table_text;
