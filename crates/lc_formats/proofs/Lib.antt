@@ -1,0 +1,5 @@
+pub mod Decimals
+pub mod Depths
+pub mod Listed
+pub mod Sections
+pub mod Tokens

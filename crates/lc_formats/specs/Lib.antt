@@ -1,0 +1,3 @@
+pub mod JsonText
+pub mod JsonTokens
+pub mod JsonSheets
