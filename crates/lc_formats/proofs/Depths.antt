@@ -21,7 +21,8 @@ use Rattle.lc_formats.specs.JsonSheets.{number_members, object_members, skipped_
 use Rattle.lc_formats.specs.JsonText.{Member, items_with, members_with, array_with, integer, bytes_member, bytes_name, IsDocument}
 
 -- an array is as deep as its values
-items_within : {X : Type 0} (v : X → Json) (n : ℕ) → ((x : X) → depth (v x) ≤ n) → (xs : List X) → items_depth (items_with (map v xs)) ≤ n
+items_within : {X : Type 0} (v : X → Json) (n : ℕ) → ((x : X) → depth (v x) ≤ n) → (xs : List X)
+    → items_depth (items_with (map v xs)) ≤ n
 items_within v n each [] = omega arith
 items_within v n each (x ∷ xs) = let first = each x in let rest = items_within v n each xs in omega arith
 
@@ -62,7 +63,8 @@ object_within columns values = let members = line_within columns values in omega
 list_within : (n : List ℕ) (s : SectionModel) → depth (list_member n s).1 ≤ 3
 list_within n s = let each = items_within (line_object s.columns) 2 (object_within s.columns) s.lines in omega arith
 
-line_if_within : (n : List ℕ) (columns : List Column) (line : Option (List ValueModel)) → members_depth (members_with (object_members n columns line)) ≤ 3
+line_if_within : (n : List ℕ) (columns : List Column) (line : Option (List ValueModel))
+    → members_depth (members_with (object_members n columns line)) ≤ 3
 line_if_within n columns None = omega arith
 line_if_within n columns (Some values) = let own = object_within columns values in omega arith
 

@@ -3,6 +3,7 @@
 ghost use Rattle.std.specs.Prelude.{◌≡◌, ◌++◌, OnOk, flat_map};
 ghost use Rattle.json.specs.Tree.{json_tokens};
 ghost use Rattle.lc_sheet.specs.Sheets.{line_of, lines_of};
+ghost use Rattle.lc_sheet.specs.Values as value;
 ghost use Rattle.lc_sheet.specs.Values.{value_model};
 ghost use Rattle.lc_text.specs.Names.{line_end, name_model, named};
 ghost use Rattle.lc_formats.specs.JsonSheets.{line_at, line_members, line_object, list_member, value_members};
@@ -35,6 +36,23 @@ fn set_joined(joined: &mut Vec<u8>, name: Name<'_>) -> Result<(), AllocError>
     push_line_end(joined, name.line)
 }
 
+/// Writes the member of a name in a column. Its parts are joined only where there is more than its bytes.
+fn write_name(
+    text: &mut JsonText,
+    joined: &mut Vec<u8>,
+    column: Column,
+    name: Name<'_>,
+) -> Result<(), AllocError>
+    ensures { OnOk result (text.new ≡ text.old ++ members_tokens_of (value_members column (value.name (name_model name.entry)))) }
+{
+    if name.front.is_empty() && name.end.is_empty() && name.line.is_none() {
+        text.bytes_member(column.name(), name.bytes)
+    } else {
+        set_joined(joined, name)?;
+        text.bytes_member(column.name(), joined)
+    }
+}
+
 /// Writes the member of a value in a column, where it has one.
 fn write_value(
     text: &mut JsonText,
@@ -47,10 +65,7 @@ fn write_value(
     match value {
         Value::Missing => text.null_member(column.name())?,
         Value::Word(word) => text.string_member(column.name(), word)?,
-        Value::Name(name) => {
-            set_joined(joined, name)?;
-            text.bytes_member(column.name(), joined)?
-        }
+        Value::Name(name) => write_name(text, joined, column, name)?,
         Value::Path(path) => text.bytes_member(column.name(), path)?,
         Value::Number(number) => text.integer_member(column.name(), number)?,
         Value::Summed | Value::Blank | Value::Share { .. } | Value::Bar { .. } => {}
