@@ -16,8 +16,8 @@ use Rattle.lc_sheet.specs.Sheets.{SectionModel, SheetModel}
 use Rattle.lc_sheet.specs.Values.{ValueModel, missing, summed, blank, word, name, path, number, share, bar}
 use Rattle.lc_sheet.specs.declared.column.Column.{Column}
 use Rattle.lc_text.specs.Names.{named}
-use Rattle.lc_formats.specs.JsonSheets.{entries_members, files_members, json_of, line_at, line_members, line_object, list_member, list_members}
-use Rattle.lc_formats.specs.JsonSheets.{number_members, object_members, skipped_members, totals_members, value_members}
+use Rattle.lc_formats.specs.JsonSheets.{entries_members, files_members, json_of, line_at, line_members, line_object, list_member}
+use Rattle.lc_formats.specs.JsonSheets.{list_members, number_members, object_members, skipped_members, totals_members, value_members}
 use Rattle.lc_formats.specs.JsonText.{Member, items_with, members_with, array_with, integer, bytes_member, bytes_name, IsDocument}
 
 -- an array is as deep as its values

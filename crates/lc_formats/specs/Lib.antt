@@ -1,3 +1,10 @@
 pub mod JsonText
 pub mod JsonTokens
 pub mod JsonSheets
+pub mod Columns
+pub mod Blanks
+pub mod CellWords
+pub mod Shares
+pub mod Cells
+pub mod TableText
+pub mod Widening

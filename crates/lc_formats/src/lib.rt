@@ -1,10 +1,21 @@
 //! The formats in which a sheet is printed. A format knows values, columns and sections, and nothing of where they come from.
 //!
-//! - `json_sheet`: the text of a sheet as JSON; `json_values`: values, lines and sections; `json_writer`: tokens
+//! - `json_sheet`: a text as JSON, by `json_values` and `json_writer`
+//! - `table`: a text in columns, for reading, by `section_lines` and `widths`
+//! - `cells`: the cells in which a line is shown; `cell_text`, `numbers`, `shares`: the texts in them
 #![tactic(auto)]
 
+mod cell_text;
+mod cells;
 mod json_sheet;
 mod json_values;
 mod json_writer;
+mod numbers;
+mod section_lines;
+mod shares;
+mod table;
+mod widths;
 
 pub use json_sheet::json_text;
+pub use numbers::push_number;
+pub use table::table_text;

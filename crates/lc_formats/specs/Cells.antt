@@ -1,0 +1,57 @@
+-- The cells that show the values of a section, and the texts in them.
+use Rattle.std.specs.Prelude.{ℕ, List, [], ◌∷◌, map, codes, decimal}
+use Rattle.lc_text.specs.Names.{named}
+use Rattle.lc_text.specs.Visible.{visible_bytes, visible_path}
+use Rattle.lc_sheet.specs.ColumnWords.{heading, side_of}
+use Rattle.lc_sheet.specs.Sheets.{SectionModel}
+use Rattle.lc_sheet.specs.Values.{ValueModel, missing, summed, blank, word, name, path, number, share, bar, value_model}
+use Rattle.lc_sheet.specs.declared.column.Column.{Column}
+use Rattle.lc_sheet.specs.declared.column.Side.{Side}
+use Rattle.lc_formats.specs.CellWords.{with_commas}
+use Rattle.lc_formats.specs.Columns.{CellModel}
+use Rattle.lc_formats.specs.Shares.{bar as bar_text, rounded_parts, share_word}
+use Rattle.lc_formats.specs.declared.cells.Cell.{Cell}
+
+-- a value for people: nothing where there is no value to show, and `-` where there could be one
+abbrev pub shown_text : ValueModel → List ℕ
+shown_text missing = codes "-"
+shown_text summed = []
+shown_text blank = []
+shown_text (word w) = w
+shown_text (name n) = named visible_bytes n
+shown_text (path p) = visible_path p
+shown_text (number n) = with_commas (decimal n)
+shown_text (share part whole) = share_word (rounded_parts 1000 part whole)
+shown_text (bar part whole) = bar_text (rounded_parts 160 part whole)
+
+abbrev pub cell_at : Side → ValueModel → CellModel
+cell_at side value = record { side = side; text = shown_text value }
+
+-- a value in a column, and the heading of the column
+abbrev pub cell_of : Column → ValueModel → CellModel
+cell_of column value = cell_at (side_of column) value
+
+abbrev pub heading_cell : Column → CellModel
+heading_cell column = cell_at (side_of column) (word (heading column))
+
+-- ---- the lines of a section
+
+-- the values of a line, each in its column
+abbrev pub line_cells : List Column → List ValueModel → List CellModel
+line_cells [] values = []
+line_cells (c ∷ cs) [] = []
+line_cells (c ∷ cs) (v ∷ vs) = cell_of c v ∷ line_cells cs vs
+
+abbrev pub heading_cells : List Column → List CellModel
+heading_cells columns = map heading_cell columns
+
+abbrev pub section_cells : SectionModel → List (List CellModel)
+section_cells s = map (line_cells s.columns) s.lines
+
+-- ---- the cells of the code
+
+abbrev pub cell_model : Cell → CellModel
+cell_model c = cell_at c.side (value_model c.value)
+
+abbrev pub cells_of : List Cell → List CellModel
+cells_of cells = map cell_model cells

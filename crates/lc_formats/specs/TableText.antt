@@ -1,0 +1,75 @@
+-- The text of a sheet for people: sections in columns, with an empty line between.
+use Rattle.std.specs.Prelude.{ℕ, Bool, if◌then◌else◌, List, [], ◌∷◌, ◌++◌, take, codes, Option, Some, None}
+use Rattle.lc_sheet.specs.Sheets.{SectionModel, SheetModel}
+use Rattle.lc_sheet.specs.Values.{word, number}
+use Rattle.lc_sheet.specs.declared.column.Side.TheVariants.{Left, Right}
+use Rattle.lc_formats.specs.Cells.{cell_at, heading_cells, section_cells}
+use Rattle.lc_formats.specs.Columns.{CellModel, widths_of, line_in, lines_in, rule_in}
+
+-- ---- the rows and their sums
+
+-- all lines of a section, or the first alone
+abbrev pub shown_lines : Bool → SectionModel → SectionModel
+shown_lines all s = record s { lines = if all then s.lines else take 1 s.lines }
+
+-- the sums over all files; and those over text and over binary files, where some are binary
+abbrev pub shown_totals : SheetModel → SectionModel
+shown_totals s = shown_lines s.some_binary s.totals
+
+-- headings, the rows and the sums, with a rule between
+abbrev pub rows_in_columns : List ℕ → List CellModel → List (List CellModel) → List (List CellModel) → List ℕ
+rows_in_columns ws headings rows sums = line_in ws headings ++ rule_in ws ++ lines_in ws rows ++ rule_in ws ++ lines_in ws sums
+
+-- the rows; the sums over those that are cut off, where some are; and the totals
+abbrev pub row_lines : SectionModel → SectionModel → List (List CellModel)
+row_lines rows others = section_cells rows ++ section_cells others
+
+abbrev pub summary_widths : SectionModel → SectionModel → SectionModel → List ℕ
+summary_widths rows others totals =
+    widths_of (heading_cells rows.columns ∷ (row_lines rows others ++ section_cells totals))
+
+abbrev pub summary_of : SectionModel → SectionModel → SectionModel → List ℕ
+summary_of rows others totals =
+    rows_in_columns (summary_widths rows others totals) (heading_cells rows.columns) (row_lines rows others) (section_cells totals)
+
+abbrev pub summary : SheetModel → List ℕ
+summary s = summary_of s.rows s.others (shown_totals s)
+
+-- ---- what is listed
+
+-- nothing where there is no line, and else headings, the lines, and an empty line
+abbrev pub listing : List CellModel → List (List CellModel) → List ℕ
+listing headings [] = []
+listing headings (l ∷ ls) = lines_in (widths_of (headings ∷ l ∷ ls)) (headings ∷ l ∷ ls) ++ codes "\n"
+
+abbrev pub section_listing : SectionModel → List ℕ
+section_listing s = listing (heading_cells s.columns) (section_cells s)
+
+abbrev pub files_listing : Option SectionModel → List ℕ
+files_listing None = []
+files_listing (Some s) = section_listing s
+
+-- ---- the numbers of directories and of their entries
+
+abbrev pub count_cells : List ℕ → ℕ → List CellModel
+count_cells name n = cell_at Left (word name) ∷ cell_at Right (number n) ∷ []
+
+abbrev pub entries_line : Option ℕ → List (List CellModel)
+entries_line None = []
+entries_line (Some n) = count_cells (codes "entries") n ∷ []
+
+abbrev pub count_lines : ℕ → Option ℕ → List (List CellModel)
+count_lines directories entries = count_cells (codes "directories") directories ∷ entries_line entries
+
+abbrev pub counts_of : ℕ → Option ℕ → List ℕ
+counts_of directories entries =
+    lines_in (widths_of (count_lines directories entries)) (count_lines directories entries)
+
+abbrev pub counts : SheetModel → List ℕ
+counts s = counts_of s.directories s.entries
+
+-- ---- the whole text: what is listed, and last the rows with their sums
+
+abbrev pub table_of : SheetModel → List ℕ
+table_of s =
+    files_listing s.files ++ section_listing s.skipped ++ section_listing s.faults ++ summary s ++ codes "\n" ++ counts s

@@ -1,0 +1,46 @@
+//! The text of a value for reading.
+
+ghost use Rattle.std.specs.Prelude.{◌≡◌, ◌++◌, IfOk, OnOk, string_bytes};
+ghost use Rattle.lc_formats.specs.Cells.{shown_text};
+ghost use Rattle.lc_formats.specs.Columns.{width_of};
+ghost use Rattle.lc_sheet.specs.Values.{value_model};
+
+use crate::numbers::push_number;
+use crate::shares::{push_bar, push_share};
+use lc_sheet::Value;
+use lc_text::{push_visible_name, push_visible_path};
+use std::alloc::AllocError;
+use unicode_width::UnicodeWidthStr;
+
+/// Appends the text of a value. Nothing in it moves the cursor of a terminal.
+pub(crate) fn push_value(text: &mut String, value: Value<'_>) -> Result<(), AllocError>
+    ensures { OnOk result (string_bytes text.new ≡ string_bytes text.old ++ shown_text (value_model value.entry)) }
+{
+    match value {
+        Value::Missing => text.push_str("-"),
+        Value::Summed | Value::Blank => Ok(()),
+        Value::Word(word) => text.push_str(word),
+        Value::Name(name) => push_visible_name(text, name),
+        Value::Path(path) => push_visible_path(text, path),
+        Value::Number(n) => push_number(text, n),
+        Value::Share { part, whole } => push_share(text, part, whole),
+        Value::Bar { part, whole } => push_bar(text, part, whole),
+    }
+}
+
+/// Makes the text of a value, in place of what `made` had.
+pub(crate) fn make_value(made: &mut String, value: Value<'_>) -> Result<(), AllocError>
+    ensures { OnOk result (string_bytes made.new ≡ shown_text (value_model value.entry)) }
+{
+    made.clear();
+    push_value(made, value)
+}
+
+/// Makes the text of a value, in place of what `made` had, and returns its width in columns of a terminal.
+pub(crate) fn make_wide(made: &mut String, value: Value<'_>) -> Result<usize, AllocError>
+    ensures text { OnOk result (string_bytes made.new ≡ shown_text (value_model value.entry)) }
+    ensures width { IfOk result (λ width. width ≡ width_of (shown_text (value_model value.entry))) }
+{
+    make_value(made, value)?;
+    Ok(made.as_str().width())
+}

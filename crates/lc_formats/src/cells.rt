@@ -1,0 +1,197 @@
+//! The cells in which a line is shown.
+
+ghost use Rattle.std.specs.Prelude.{◌≡◌, ◌<◌, ◌++◌, ◌∷◌, [], IfOk, OnOk, replicate, string_bytes};
+ghost use Rattle.lc_formats.specs.Cells.{cell_at, cell_model, cell_of, cells_of, heading_cell, heading_cells, line_cells};
+ghost use Rattle.lc_formats.specs.Columns.{blanks_before, is_shown, text_before, width_at};
+ghost use Rattle.lc_sheet.specs.Sheets.{line_of};
+ghost use Rattle.lc_sheet.specs.Values.{value_model};
+
+use crate::cell_text::{make_value, make_wide, push_value};
+use lc_sheet::{Column, Form, Lines, Side, Value};
+use std::alloc::AllocError;
+
+/// A value at a side of its column.
+#[derive(Clone, Copy)]
+pub(crate) struct Cell<'a> {
+    side: Side,
+    value: Value<'a>,
+}
+
+/// Appends a character so many times.
+pub(crate) fn push_copies(text: &mut String, c: char, count: usize) -> Result<(), AllocError>
+    requires { c < 128 }
+    ensures { OnOk result (string_bytes text.new ≡ string_bytes text.old ++ replicate count c) }
+{
+    let mut rest = count;
+    'copies: while rest > 0 {
+        text.push(c)?;
+        rest -= 1;
+    }
+    Ok(())
+}
+
+/// Appends so many blanks before other cells; at the end of a line none.
+fn push_blanks(text: &mut String, count: usize, others: &[Cell<'_>]) -> Result<(), AllocError>
+    ensures { OnOk result (string_bytes text.new ≡ string_bytes text.old ++ blanks_before (cells_of others.now) count) }
+{
+    if others.is_empty() {
+        Ok(())
+    } else {
+        push_copies(text, ' ', count)
+    }
+}
+
+impl<'a> Cell<'a> {
+    /// Shows a value at a side.
+    pub(crate) fn new(side: Side, value: Value<'a>) -> Cell<'a>
+        ensures { cell_model result ≡ cell_at side (value_model value.entry) }
+    {
+        Cell { side, value }
+    }
+
+    /// The heading of a column.
+    pub(crate) fn heading(column: Column) -> Cell<'a>
+        ensures { cell_model result ≡ heading_cell column }
+    {
+        Cell {
+            side: column.side(),
+            value: Value::Word(column.heading()),
+        }
+    }
+
+    /// What a line has in a column.
+    pub(crate) fn of<L: Lines>(line: &'a L::Line, form: Form, column: Column) -> Cell<'a>
+        ensures { cell_model result ≡ cell_of column (L.value_in form line.entry.now column) }
+    {
+        Cell {
+            side: column.side(),
+            value: L::value(line, form, column),
+        }
+    }
+
+    pub(crate) fn side(&self) -> Side
+        ensures { result ≡ (cell_model self.now).side }
+    {
+        self.side
+    }
+
+    /// Makes its text, in place of what `made` had.
+    pub(crate) fn make(&self, made: &mut String) -> Result<(), AllocError>
+        ensures { OnOk result (string_bytes made.new ≡ (cell_model self.now).text) }
+    {
+        make_value(made, self.value)
+    }
+
+    /// Returns how wide its column must be for it.
+    pub(crate) fn width(&self, made: &mut String) -> Result<usize, AllocError>
+        ensures { IfOk result (λ width. width ≡ width_at (cell_model self.now).side (cell_model self.now).text) }
+    {
+        match self.side {
+            Side::End => Ok(0),
+            Side::Left | Side::Right => make_wide(made, self.value),
+        }
+    }
+
+    /// Returns whether it shows something: it has a text, or is the end of its line.
+    pub(crate) fn is_shown(&self, made: &mut String) -> Result<bool, AllocError>
+        ensures { IfOk result (λ shown. shown ≡ is_shown (cell_model self.now).side (cell_model self.now).text) }
+    {
+        match self.side {
+            Side::End => Ok(true),
+            Side::Left | Side::Right => {
+                make_value(made, self.value)?;
+                Ok(!made.as_str().is_empty())
+            }
+        }
+    }
+
+    /// Appends it as it is shown in a column of this width before other cells. No blanks follow the last cell of a line.
+    pub(crate) fn push_before(
+        &self,
+        others: &[Cell<'_>],
+        width: usize,
+        text: &mut String,
+        made: &mut String,
+    ) -> Result<(), AllocError>
+        ensures { OnOk result (string_bytes text.new ≡ string_bytes text.old
+            ++ text_before (cells_of others.now) (cell_model self.now).side width (cell_model self.now).text) }
+    {
+        match self.side {
+            Side::End => push_value(text, self.value),
+            Side::Left => {
+                let own = make_wide(made, self.value)?;
+                text.push_str(made.as_str())?;
+                push_blanks(text, width.saturating_sub(own), others)
+            }
+            Side::Right => {
+                let own = make_wide(made, self.value)?;
+                push_copies(text, ' ', width.saturating_sub(own))?;
+                text.push_str(made.as_str())
+            }
+        }
+    }
+}
+
+fn push_headings(cells: &mut Vec<Cell<'_>>, columns: &[Column]) -> Result<(), AllocError>
+    ensures { OnOk result (cells_of cells.new.items ≡ cells_of cells.old.items ++ heading_cells columns.now) }
+{
+    let mut rest = columns;
+    'columns: while let Some((column, others)) = rest.split_first() {
+        cells.push(Cell::heading(*column))?;
+        rest = others;
+    }
+    Ok(())
+}
+
+/// Sets the cells to the headings of columns.
+pub(crate) fn set_headings(cells: &mut Vec<Cell<'_>>, columns: &[Column]) -> Result<(), AllocError>
+    ensures { OnOk result (cells_of cells.new.items ≡ heading_cells columns.now) }
+{
+    cells.clear();
+    push_headings(cells, columns)
+}
+
+/// Appends what a line has in a column.
+fn push_cell<'l, L: Lines>(
+    cells: &mut Vec<Cell<'l>>,
+    line: &'l L::Line,
+    form: Form,
+    column: Column,
+) -> Result<(), AllocError>
+    ensures { OnOk result (cells_of cells.new.items
+        ≡ cells_of cells.old.items ++ cell_of column (L.value_in form line.entry.now column) ∷ []) }
+{
+    cells.push(Cell::of::<L>(line, form, column))?;
+    Ok(())
+}
+
+fn push_cells<'l, L: Lines>(
+    cells: &mut Vec<Cell<'l>>,
+    line: &'l L::Line,
+    form: Form,
+    columns: &[Column],
+) -> Result<(), AllocError>
+    ensures { OnOk result (cells_of cells.new.items
+        ≡ cells_of cells.old.items ++ line_cells columns.now (line_of (L.value_in form) columns.now line.entry.now)) }
+{
+    let mut rest = columns;
+    'columns: while let Some((column, others)) = rest.split_first() {
+        push_cell::<L>(cells, line, form, *column)?;
+        rest = others;
+    }
+    Ok(())
+}
+
+/// Sets the cells to what a line has in each column.
+pub(crate) fn set_cells<'l, L: Lines>(
+    cells: &mut Vec<Cell<'l>>,
+    line: &'l L::Line,
+    form: Form,
+    columns: &[Column],
+) -> Result<(), AllocError>
+    ensures { OnOk result (cells_of cells.new.items
+        ≡ line_cells columns.now (line_of (L.value_in form) columns.now line.entry.now)) }
+{
+    cells.clear();
+    push_cells::<L>(cells, line, form, columns)
+}

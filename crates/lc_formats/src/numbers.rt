@@ -1,0 +1,41 @@
+//! Numbers for reading.
+
+ghost use Rattle.std.specs.Prelude.{◌≡◌, ◌++◌, IsAscii, OnOk, decimal, string_bytes};
+ghost use Rattle.lc_formats.specs.CellWords.{comma, with_commas};
+
+use std::alloc::AllocError;
+
+fn push_comma(text: &mut String, digits: &[u8]) -> Result<(), AllocError>
+    ensures { OnOk result (string_bytes text.new ≡ string_bytes text.old ++ comma digits.now) }
+{
+    if !digits.is_empty() && digits.len() % 3 == 0 {
+        text.push_str(",")
+    } else {
+        Ok(())
+    }
+}
+
+fn push_with_commas(text: &mut String, digits: &[u8]) -> Result<(), AllocError>
+    requires { IsAscii digits.now }
+    ensures { OnOk result (string_bytes text.new ≡ string_bytes text.old ++ with_commas digits.now) }
+{
+    let mut rest = digits;
+    'digits: while let Some((digit, others)) = rest.split_first() {
+        text.push(char::from(*digit))?;
+        push_comma(text, others)?;
+        rest = others;
+    }
+    Ok(())
+}
+
+/// Appends a number with commas between groups of three digits.
+///
+/// ```
+/// push_number(&mut text, 41_203)?; // `41,203`
+/// ```
+pub fn push_number(text: &mut String, n: u128) -> Result<(), AllocError>
+    ensures { OnOk result (string_bytes text.new ≡ string_bytes text.old ++ with_commas (decimal n)) }
+{
+    let mut buffer = itoa::Buffer::new();
+    push_with_commas(text, buffer.format(n).as_bytes())
+}

@@ -1,0 +1,107 @@
+//! The lines of a section in columns.
+
+ghost use Rattle.std.specs.Prelude.{◌≡◌, ◌∷◌, ◌++◌, ◌==◌, length, OnOk, string_bytes};
+ghost use Rattle.lc_formats.specs.Cells.{heading_cells, section_cells};
+ghost use Rattle.lc_formats.specs.Columns.{lines_in, listing_in, widened};
+ghost use Rattle.lc_formats.specs.TableText.{section_listing, shown_lines};
+
+use crate::cells::{Cell, set_cells, set_headings};
+use crate::widths::Widths;
+use lc_sheet::{Lines, Section};
+use std::alloc::{AllocError, Global};
+
+/// Makes the columns at least as wide as the lines of a section.
+pub(crate) fn fit_lines<'a, L: Lines>(
+    widths: &mut Widths,
+    section: &Section<'a, L>,
+    cells: &mut Vec<Cell<'a>>,
+    made: &mut String,
+) -> Result<(), AllocError>
+    ensures { OnOk result (widths.new ≡ widened widths.old (section_cells section.now)) }
+{
+    let (form, columns, lines) = section.parts();
+    let mut rest = lines;
+    'lines: while let Some((line, others)) = rest.split_first() {
+        set_cells::<L>(cells, line, form, columns)?;
+        widths.fit(cells, made)?;
+        rest = others;
+    }
+    Ok(())
+}
+
+/// Appends the lines of a section.
+pub(crate) fn push_lines<'a, L: Lines>(
+    widths: &Widths,
+    section: &Section<'a, L>,
+    cells: &mut Vec<Cell<'a>>,
+    text: &mut String,
+    made: &mut String,
+) -> Result<(), AllocError>
+    ensures { OnOk result (string_bytes text.new ≡ string_bytes text.old ++ lines_in widths.now (section_cells section.now)) }
+{
+    let (form, columns, lines) = section.parts();
+    let mut rest = lines;
+    'lines: while let Some((line, others)) = rest.split_first() {
+        set_cells::<L>(cells, line, form, columns)?;
+        widths.push_line(cells, text, made)?;
+        rest = others;
+    }
+    Ok(())
+}
+
+/// Appends the headings, the lines and an empty line, in columns that are as wide as all of them need.
+fn push_some<'a, L: Lines>(
+    widths: &mut Widths,
+    section: &Section<'a, L>,
+    cells: &mut Vec<Cell<'a>>,
+    text: &mut String,
+    made: &mut String,
+) -> Result<(), AllocError>
+    ensures { OnOk result (string_bytes text.new ≡ string_bytes text.old
+        ++ listing_in (widened widths.old (heading_cells section.now.columns ∷ section_cells section.now))
+        (heading_cells section.now.columns) (section_cells section.now)) }
+{
+    set_headings(cells, section.columns())?;
+    widths.fit(cells, made)?;
+    fit_lines(widths, section, cells, made)?;
+    set_headings(cells, section.columns())?;
+    widths.push_line(cells, text, made)?;
+    push_lines(widths, section, cells, text, made)?;
+    text.push_str("\n")?;
+    Ok(())
+}
+
+fn is_empty<L: Lines>(section: &Section<'_, L>) -> bool
+    ensures { result ≡ (length section.now.lines == 0) }
+{
+    let (_, _, lines) = section.parts();
+    lines.is_empty()
+}
+
+/// Appends the lines of a section below their headings, and an empty line; without lines nothing.
+pub(crate) fn push_listing<'a, L: Lines>(
+    alloc: Global,
+    section: &Section<'a, L>,
+    text: &mut String,
+    made: &mut String,
+) -> Result<(), AllocError>
+    ensures { OnOk result (string_bytes text.new ≡ string_bytes text.old ++ section_listing section.now) }
+{
+    if is_empty(section) {
+        return Ok(());
+    }
+    let mut widths = Widths::new(alloc);
+    let mut cells = Vec::new(alloc);
+    push_some(&mut widths, section, &mut cells, text, made)
+}
+
+/// Returns a section with all of its lines, or with the first alone.
+pub(crate) fn shown_lines<'a, L: Lines>(all: bool, section: &Section<'a, L>) -> Section<'a, L>
+    ensures { result ≡ shown_lines all section.now }
+{
+    let (form, columns, lines) = section.parts();
+    if all || lines.is_empty() {
+        return Section::new(form, columns, lines);
+    }
+    Section::new(form, columns, &lines[..1])
+}

@@ -1,0 +1,95 @@
+//! Shares of a whole, and bars.
+
+ghost use Rattle.std.specs.Prelude.{◌≡◌, ◌<◌, ◌++◌, IfOk, OnOk, decimal, string_bytes};
+ghost use Rattle.lc_formats.specs.Shares.{bar, blocks, last_block, rounded_parts, share_word};
+
+use std::alloc::AllocError;
+
+/// The parts of a whole that a share counts: tenths of a per cent.
+const SHARE_PARTS: u16 = 1_000;
+
+/// The parts of the longest bar: eighths of 20 cells.
+const BAR_PARTS: u16 = 160;
+
+/// Divides a whole into so many parts, and returns how many of them a part of it is, rounded half up.
+///
+/// It stops with an error if a product overflows, which takes a part of 2^111 or more.
+fn rounded_parts(count: u16, part: u128, whole: u128) -> Result<u128, AllocError>
+    ensures { IfOk result (λ parts. parts ≡ rounded_parts count part whole) }
+{
+    if whole == 0 {
+        return Ok(0);
+    }
+    let divisor = whole.checked_mul(2).ok_or(AllocError)?;
+    let product = part.checked_mul(2 * u128::from(count)).ok_or(AllocError)?;
+    let dividend = product.checked_add(whole).ok_or(AllocError)?;
+    Ok(dividend / divisor)
+}
+
+fn push_decimal(text: &mut String, n: u128) -> Result<(), AllocError>
+    ensures { OnOk result (string_bytes text.new ≡ string_bytes text.old ++ decimal n) }
+{
+    let mut buffer = itoa::Buffer::new();
+    text.push_str(buffer.format(n))
+}
+
+/// Appends a share of so many tenths of a per cent.
+fn push_tenths(text: &mut String, tenths: u128) -> Result<(), AllocError>
+    ensures { OnOk result (string_bytes text.new ≡ string_bytes text.old ++ share_word tenths) }
+{
+    push_decimal(text, tenths / 10)?;
+    text.push_str(".")?;
+    push_decimal(text, tenths % 10)?;
+    text.push_str("%")
+}
+
+fn push_blocks(text: &mut String, count: u128) -> Result<(), AllocError>
+    ensures { OnOk result (string_bytes text.new ≡ string_bytes text.old ++ blocks count) }
+{
+    let mut rest = count;
+    'copies: while rest > 0 {
+        text.push('\u{2588}')?;
+        rest -= 1;
+    }
+    Ok(())
+}
+
+fn last_block(eighths: u128) -> &'static str
+    requires { eighths < 8 }
+    ensures { result.now ≡ last_block eighths }
+{
+    match eighths {
+        1 => "\u{258f}",
+        2 => "\u{258e}",
+        3 => "\u{258d}",
+        4 => "\u{258c}",
+        5 => "\u{258b}",
+        6 => "\u{258a}",
+        7 => "\u{2589}",
+        _ => "",
+    }
+}
+
+/// Appends a bar of so many eighths of a cell.
+fn push_eighths(text: &mut String, eighths: u128) -> Result<(), AllocError>
+    ensures { OnOk result (string_bytes text.new ≡ string_bytes text.old ++ bar eighths) }
+{
+    push_blocks(text, eighths / 8)?;
+    text.push_str(last_block(eighths % 8))
+}
+
+/// Appends the share in per cent that a part is of a whole.
+pub(crate) fn push_share(text: &mut String, part: u128, whole: u128) -> Result<(), AllocError>
+    ensures { OnOk result (string_bytes text.new ≡ string_bytes text.old ++ share_word (rounded_parts 1000 part whole)) }
+{
+    let tenths = rounded_parts(SHARE_PARTS, part, whole)?;
+    push_tenths(text, tenths)
+}
+
+/// Appends a bar for a part of a whole. The whole has 20 cells.
+pub(crate) fn push_bar(text: &mut String, part: u128, whole: u128) -> Result<(), AllocError>
+    ensures { OnOk result (string_bytes text.new ≡ string_bytes text.old ++ bar (rounded_parts 160 part whole)) }
+{
+    let eighths = rounded_parts(BAR_PARTS, part, whole)?;
+    push_eighths(text, eighths)
+}
