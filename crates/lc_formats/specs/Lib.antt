@@ -3,6 +3,9 @@ pub mod TsvParts
 pub mod Csv
 pub mod CsvText
 pub mod CsvLaws
+pub mod JsonText
+pub mod JsonTokens
+pub mod JsonSheets
 pub mod Columns
 pub mod Blanks
 pub mod CellWords

@@ -2,24 +2,29 @@
 //!
 //! - `tsv`: the text with a tab between fields
 //! - `csv_sheet`: the text as CSV, by `csv_records`: a text that is written record by record; `csv_laws`: a reader gives the records back
+//! - `json_sheet`: the text as JSON, by `json_values` and `json_writer`
+//! - `table`: the text in columns, for reading, by `section_lines` and `widths`
+//! - `cells`: the cells in which a line is shown; `cell_text`, `numbers`, `shares`: the texts in them
 #![tactic(auto)]
 
+mod cell_text;
+mod cells;
 mod csv_laws;
 mod csv_records;
 mod csv_sheet;
-mod tsv;
-
-pub use csv_laws::csv_reads_back;
-pub use csv_sheet::csv_text;
-pub use tsv::tsv_text;
-//! - `table`: a text in columns, for reading, by `section_lines` and `widths`
-//! - `cells`: the cells in which a line is shown; `cell_text`, `numbers`, `shares`: the texts in them
-mod cell_text;
-mod cells;
+mod json_sheet;
+mod json_values;
+mod json_writer;
 mod numbers;
 mod section_lines;
 mod shares;
 mod table;
+mod tsv;
 mod widths;
+
+pub use csv_laws::csv_reads_back;
+pub use csv_sheet::csv_text;
+pub use json_sheet::json_text;
 pub use numbers::push_number;
 pub use table::table_text;
+pub use tsv::tsv_text;

@@ -1,0 +1,89 @@
+-- The tokens of arrays and objects by their parts.
+use Rattle.std.proofs.Common.{◌≡◌, ℕ, Bool, true, false, if◌then◌else◌, List, [], ◌∷◌, ◌++◌, map}
+use Rattle.std.proofs.Common.{refl, sym, ◌∙◌, ap, append_assoc, append-nil, Some}
+use Rattle.std.specs.List.{flat_map}
+use Rattle.std.proofs.lemmas.List.Concat.{flat_map-append}
+use Rattle.std.specs.Str.{IsUtf8, is_utf8}
+use Rattle.std.proofs.lemmas.Str.{IsUtf8-from_is_utf8, is_utf8-from_IsUtf8}
+use Rattle.json.specs.Json.{Json, string}
+use Rattle.json.specs.Token.{Token, key, begin_object, end_object, end_array}
+use Rattle.json.specs.Tree.{json_tokens, items_tokens, members_tokens}
+use Rattle.lc_sheet.specs.Values.{ValueModel}
+use Rattle.lc_sheet.specs.declared.column.Column.{Column}
+use Rattle.lc_formats.specs.JsonSheets.{line_members, line_object, object_members, value_members}
+use Rattle.lc_formats.specs.JsonText.{Member, items_with, members_with, array_with, object_with, integer, bytes_member, bytes_name}
+use Rattle.lc_formats.specs.JsonTokens.{member_tokens, members_tokens_of}
+
+-- an array has the tokens of its values, and a bracket
+pub array_tokens : {X : Type 0} (value : X → Json) (xs : List X)
+    → items_tokens (items_with (map value xs)) ≡ flat_map (λ x. json_tokens (value x)) xs ++ end_array ∷ []
+array_tokens value [] = refl
+array_tokens value (x ∷ xs) =
+    ap (λ (ts : List Token). json_tokens (value x) ++ ts) (array_tokens value xs) ∙ simp append_assoc
+
+-- an object has the tokens of its members, and a bracket
+pub object_tokens : (ms : List Member) → members_tokens (members_with ms) ≡ members_tokens_of ms ++ end_object ∷ []
+object_tokens [] = refl
+object_tokens (m ∷ ms) = ap (λ (ts : List Token). member_tokens m ++ ts) (object_tokens ms) ∙ simp append_assoc
+
+-- two lists of members, appended in turn
+pub both_members : (text : List Token) (ms ns : List Member)
+    → (text ++ members_tokens_of ms) ++ members_tokens_of ns ≡ text ++ members_tokens_of (ms ++ ns)
+both_members text ms ns =
+    append_assoc text (members_tokens_of ms) (members_tokens_of ns)
+    ∙ ap (λ (ts : List Token). text ++ ts) (sym (flat_map-append member_tokens ms ns))
+
+-- an object, appended in turn
+pub object_appended : (text : List Token) (ms : List Member)
+    → ((text ++ begin_object ∷ []) ++ members_tokens_of ms) ++ end_object ∷ [] ≡ text ++ json_tokens (object_with ms)
+object_appended text ms =
+    append_assoc (text ++ begin_object ∷ []) (members_tokens_of ms) (end_object ∷ [])
+    ∙ append_assoc text (begin_object ∷ []) (members_tokens_of ms ++ end_object ∷ [])
+    ∙ ap (λ (ts : List Token). text ++ begin_object ∷ ts) (sym (object_tokens ms))
+
+-- the values of a line, column by column
+pub line_tokens : (value : Column → ValueModel) (columns : List Column)
+    → flat_map (λ c. members_tokens_of (value_members c (value c))) columns ≡ members_tokens_of (line_members columns (map value columns))
+line_tokens value [] = refl
+line_tokens value (c ∷ cs) =
+    ap (λ (ts : List Token). members_tokens_of (value_members c (value c)) ++ ts) (line_tokens value cs)
+    ∙ sym (flat_map-append member_tokens (value_members c (value c)) (line_members cs (map value cs)))
+
+-- bytes that are a text
+pub text_tokens : (name bytes : List ℕ) → IsUtf8 bytes → member_tokens (bytes_member name bytes) ≡ member_tokens (name, string bytes)
+text_tokens name bytes is =
+    ap (λ b. member_tokens (if b then (name, string bytes) else (bytes_name name, array_with (map integer bytes))))
+    (is_utf8-from_IsUtf8 bytes is)
+
+false_if : (b : Bool) → (b ≡ true → ⊥) → b ≡ false
+false_if true h = absurd (h refl)
+false_if false h = refl
+
+-- bytes that are none
+pub listed_tokens : (name bytes : List ℕ) → ¬ (IsUtf8 bytes)
+    → member_tokens (bytes_member name bytes) ≡ member_tokens (bytes_name name, array_with (map integer bytes))
+listed_tokens name bytes none =
+    ap (λ b. member_tokens (if b then (name, string bytes) else (bytes_name name, array_with (map integer bytes))))
+    (false_if (is_utf8 bytes) (λ e. none (IsUtf8-from_is_utf8 bytes e)))
+
+-- lists that were appended in turn
+pub in_turn_3 : {A : Type 0} (a b c d : List A) → ((a ++ b) ++ c) ++ d ≡ a ++ (b ++ (c ++ d))
+in_turn_3 a b c d = simp append_assoc
+
+-- a member of an object, appended in turn
+pub object_member_appended : (text : List Token) (n : List ℕ) (columns : List Column) (values : List ValueModel)
+    → (text ++ key n ∷ []) ++ json_tokens (line_object columns values)
+    ≡ text ++ members_tokens_of (object_members n columns (Some values))
+object_member_appended text n columns values = simp (append_assoc, append-nil)
+
+-- an object of a member and two lists of some, appended in turn
+pub sheet_appended : (text : List Token) (m : Member) (ms ns : List Member)
+    → ((((text ++ begin_object ∷ []) ++ member_tokens m) ++ members_tokens_of ms) ++ members_tokens_of ns) ++ end_object ∷ []
+    ≡ text ++ json_tokens (object_with (m ∷ (ms ++ ns)))
+sheet_appended text m ms ns =
+    let begun = text ++ begin_object ∷ [] in
+    let own : begun ++ member_tokens m ≡ begun ++ members_tokens_of (m ∷ []) = simp (append_assoc, append-nil) in
+    ap (λ (ts : List Token). ((ts ++ members_tokens_of ms) ++ members_tokens_of ns) ++ end_object ∷ []) own
+    ∙ ap (λ (ts : List Token). (ts ++ members_tokens_of ns) ++ end_object ∷ []) (both_members begun (m ∷ []) ms)
+    ∙ ap (λ (ts : List Token). ts ++ end_object ∷ []) (both_members begun (m ∷ ms) ns)
+    ∙ object_appended text (m ∷ (ms ++ ns))

@@ -1,0 +1,169 @@
+//! Values, lines and sections of a sheet as JSON.
+
+ghost use Rattle.std.specs.Prelude.{◌≡◌, ◌++◌, OnOk, flat_map};
+ghost use Rattle.json.specs.Tree.{json_tokens};
+ghost use Rattle.lc_sheet.specs.Sheets.{line_of, lines_of};
+ghost use Rattle.lc_sheet.specs.Values as value;
+ghost use Rattle.lc_sheet.specs.Values.{value_model};
+ghost use Rattle.lc_text.specs.Names.{line_end, name_model, named};
+ghost use Rattle.lc_formats.specs.JsonSheets.{line_at, line_members, line_object, list_member, value_members};
+ghost use Rattle.lc_formats.specs.JsonTokens.{member_tokens, members_tokens_of};
+
+use crate::json_writer::JsonText;
+use lc_sheet::{Column, Form, Lines, Section, Value};
+use lc_text::Name;
+use std::alloc::AllocError;
+
+fn push_line_end(joined: &mut Vec<u8>, line: Option<u32>) -> Result<(), AllocError>
+    ensures { OnOk result (joined.new.items ≡ joined.old.items ++ line_end line) }
+{
+    let Some(line) = line else {
+        return Ok(());
+    };
+    let mut buffer = itoa::Buffer::new();
+    joined.push(b':')?;
+    joined.extend_from_slice(buffer.format(line).as_bytes())
+}
+
+/// Joins the parts of a name, so that they are checked as one text.
+fn set_joined(joined: &mut Vec<u8>, name: Name<'_>) -> Result<(), AllocError>
+    ensures { OnOk result (joined.new.items ≡ named (λ bytes. bytes) (name_model name.entry)) }
+{
+    joined.clear();
+    joined.extend_from_slice(name.front.as_bytes())?;
+    joined.extend_from_slice(name.bytes)?;
+    joined.extend_from_slice(name.end.as_bytes())?;
+    push_line_end(joined, name.line)
+}
+
+/// Writes the member of a name in a column. Its parts are joined only where there is more than its bytes.
+fn write_name(
+    text: &mut JsonText,
+    joined: &mut Vec<u8>,
+    column: Column,
+    name: Name<'_>,
+) -> Result<(), AllocError>
+    ensures { OnOk result (text.new ≡ text.old ++ members_tokens_of (value_members column (value.name (name_model name.entry)))) }
+{
+    if name.front.is_empty() && name.end.is_empty() && name.line.is_none() {
+        text.bytes_member(column.name(), name.bytes)
+    } else {
+        set_joined(joined, name)?;
+        text.bytes_member(column.name(), joined)
+    }
+}
+
+/// Writes the member of a value in a column, where it has one.
+fn write_value(
+    text: &mut JsonText,
+    joined: &mut Vec<u8>,
+    column: Column,
+    value: Value<'_>,
+) -> Result<(), AllocError>
+    ensures { OnOk result (text.new ≡ text.old ++ members_tokens_of (value_members column (value_model value.entry))) }
+{
+    match value {
+        Value::Missing => text.null_member(column.name())?,
+        Value::Word(word) => text.string_member(column.name(), word)?,
+        Value::Name(name) => write_name(text, joined, column, name)?,
+        Value::Path(path) => text.bytes_member(column.name(), path)?,
+        Value::Number(number) => text.integer_member(column.name(), number)?,
+        Value::Summed | Value::Blank | Value::Share { .. } | Value::Bar { .. } => {}
+    }
+    Ok(())
+}
+
+fn write_column<L: Lines>(
+    text: &mut JsonText,
+    joined: &mut Vec<u8>,
+    form: Form,
+    column: Column,
+    line: &L::Line,
+) -> Result<(), AllocError>
+    ensures { OnOk result (text.new ≡ text.old ++ members_tokens_of (value_members column (L.value_in form line.now column))) }
+{
+    write_value(text, joined, column, L::value(line, form, column))
+}
+
+fn write_columns<L: Lines>(
+    text: &mut JsonText,
+    joined: &mut Vec<u8>,
+    form: Form,
+    columns: &[Column],
+    line: &L::Line,
+) -> Result<(), AllocError>
+    ensures { OnOk result (text.new
+        ≡ text.old ++ members_tokens_of (line_members columns.now (line_of (L.value_in form) columns.now line.now))) }
+{
+    for column in columns {
+        write_column::<L>(text, joined, form, *column, line)?;
+    }
+    Ok(())
+}
+
+/// Writes a line as an object.
+fn write_line<L: Lines>(
+    text: &mut JsonText,
+    joined: &mut Vec<u8>,
+    form: Form,
+    columns: &[Column],
+    line: &L::Line,
+) -> Result<(), AllocError>
+    ensures { OnOk result (text.new
+        ≡ text.old ++ json_tokens (line_object columns.now (line_of (L.value_in form) columns.now line.now))) }
+{
+    text.begin_object()?;
+    write_columns::<L>(text, joined, form, columns, line)?;
+    text.end_object()?;
+    Ok(())
+}
+
+fn write_lines<L: Lines>(
+    text: &mut JsonText,
+    joined: &mut Vec<u8>,
+    form: Form,
+    columns: &[Column],
+    lines: &[L::Line],
+) -> Result<(), AllocError>
+    ensures { OnOk result (text.new ≡ text.old
+        ++ flat_map (λ values. json_tokens (line_object columns.now values)) (lines_of (L.value_in form) columns.now lines.now)) }
+{
+    for line in lines {
+        write_line::<L>(text, joined, form, columns, line)?;
+    }
+    Ok(())
+}
+
+/// Writes a section as an array of its lines.
+pub(crate) fn write_list<L: Lines>(
+    text: &mut JsonText,
+    joined: &mut Vec<u8>,
+    name: &str,
+    section: &Section<'_, L>,
+) -> Result<(), AllocError>
+    ensures { OnOk result (text.new ≡ text.old ++ member_tokens (list_member name.now section.now)) }
+{
+    let (form, columns, lines) = section.parts();
+    text.begin_list(name)?;
+    write_lines::<L>(text, joined, form, columns, lines)?;
+    text.end_array()?;
+    Ok(())
+}
+
+/// Writes one line of a section as an object, where the section has this line.
+pub(crate) fn write_line_at<L: Lines>(
+    text: &mut JsonText,
+    joined: &mut Vec<u8>,
+    name: &str,
+    index: usize,
+    section: &Section<'_, L>,
+) -> Result<(), AllocError>
+    ensures { OnOk result (text.new ≡ text.old ++ members_tokens_of (line_at name.now index section.now)) }
+{
+    let (form, columns, lines) = section.parts();
+    if let Some(line) = lines.get(index) {
+        text.key(name)?;
+        write_line::<L>(text, joined, form, columns, line)?;
+    }
+    Ok(())
+}
