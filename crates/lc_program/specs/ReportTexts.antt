@@ -1,9 +1,10 @@
 -- The text of a report, by its options.
 use Rattle.std.specs.Prelude.{◌≡◌, ℕ, Bool, true, false, List}
 use Rattle.lc_formats.specs.Csv.{csv_of}
-use Rattle.lc_formats.specs.Json.{IsDocument, json_of, json_text_of}
+use Rattle.lc_formats.specs.JsonSheets.{json_of, json_text_of}
+use Rattle.lc_formats.specs.JsonText.{IsDocument}
 use Rattle.lc_formats.specs.MarkdownText.{markdown_of}
-use Rattle.lc_formats.specs.Table.{table_of}
+use Rattle.lc_formats.specs.TableText.{table_of}
 use Rattle.lc_formats.specs.Tsv.{tsv_of}
 use Rattle.lc_picture.specs.Page.{IsPageOf, drawn_number}
 use Rattle.lc_rows.specs.Sheets.{IsSheetOf}
