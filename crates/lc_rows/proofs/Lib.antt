@@ -14,3 +14,4 @@ pub mod SheetMade
 pub mod RowParts
 pub mod SheetLawProofs
 pub mod SheetParts
+pub mod SheetFiles

@@ -1,5 +1,5 @@
 -- What is true of the sheet of a report, whatever its format.
-use Rattle.std.specs.Prelude.{⊤, ◌≡◌, ◌≤◌, ℕ, ◌+◌, Bool, true, false, if◌then◌else◌, List, [], ◌∷◌, map}
+use Rattle.std.specs.Prelude.{⊤, ◌≡◌, ◌≤◌, ℕ, ◌+◌, Bool, true, false, if◌then◌else◌, List, [], ◌∷◌, map, Option, Some}
 use Rattle.std.specs.List.{All, sum_by}
 use Rattle.lc_sheet.specs.Sheets.{SectionModel, SheetModel}
 use Rattle.lc_sheet.specs.Values.{ValueModel, missing, summed, blank, word, name, path, number, share, bar}
@@ -8,10 +8,13 @@ use Rattle.lc_sheet.specs.declared.column.Column.TheVariants as column
 use Rattle.lc_sheet.specs.declared.column.Number.{Number}
 use Rattle.lc_sheet.specs.declared.column.Number.TheVariants.{Files, Lines, Blank, Bytes}
 use Rattle.lc_sheet.specs.declared.table_options.TableOptions.{TableOptions}
+use Rattle.lc_walk.specs.ReportLines.{FileLineModel}
 use Rattle.lc_walk.specs.TallyRows.{sums_of_rows}
 use Rattle.lc_walk.specs.declared.report.Report.{Report}
 use Rattle.lc_rows.specs.Laws.{totals_of}
 use Rattle.lc_rows.specs.Sheets.{IsSheetOf}
+use Rattle.lc_rows.specs.ShownFiles.{AreFilesSorted}
+use Rattle.lc_rows.specs.Views.{first_of}
 
 abbrev pub same_number : Number → Number → Bool
 same_number Files Files = true
@@ -83,3 +86,21 @@ abbrev pub SheetPartsLaw : Type 0
 SheetPartsLaw =
     (options : TableOptions) (r : Report) (s : SheetModel) → HasTotals options r → IsSheetOf options r s
     → All (λ (line : List ValueModel). All IsWithin line) s.rows.lines
+
+abbrev pub bytes_of : ValueModel → List ℕ
+bytes_of (path p) = p
+bytes_of value = []
+
+-- the path of a line
+abbrev pub path_at : List Column → List ValueModel → List ℕ
+path_at [] vs = []
+path_at (c ∷ cs) [] = []
+path_at (column.Path ∷ cs) (v ∷ vs) = bytes_of v
+path_at (c ∷ cs) (v ∷ vs) = path_at cs vs
+
+-- the files that a sheet lists are the first of the sorted ones
+abbrev pub SheetFilesLaw : Type 0
+SheetFilesLaw =
+    (options : TableOptions) (r : Report) (s : SheetModel) (section : SectionModel) → IsSheetOf options r s → s.files ≡ Some section
+    → (files : List FileLineModel) × AreFilesSorted options.sort r.files.items files
+    × (map (path_at section.columns) section.lines ≡ map (λ (f : FileLineModel). f.path) (first_of options.top files))

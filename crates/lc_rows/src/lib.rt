@@ -42,7 +42,8 @@ pub use laws::{
     the_first_files_are_the_largest, what_is_cut_off_adds_up, whole_keys_add_up_to_themselves,
 };
 pub use sheet_laws::{
-    classes_of_a_sheet_add_up, no_row_of_a_sheet_is_over_its_whole, rows_of_a_sheet_add_up,
+    classes_of_a_sheet_add_up, files_of_a_sheet_are_the_first, no_row_of_a_sheet_is_over_its_whole,
+    rows_of_a_sheet_add_up,
 };
 pub use shown::shown_rows;
 pub use shown_row::ShownRow;

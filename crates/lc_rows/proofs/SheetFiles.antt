@@ -1,0 +1,50 @@
+-- The files in the sheet of a report.
+use Rattle.std.proofs.Common.{◌≡◌, ℕ, Bool, true, false, if◌then◌else◌, List, [], ◌∷◌, map, Option, Some, None, refl, sym, ap, ap₂, ◌∙◌}
+use Rattle.std.proofs.Common.{subst}
+use Rattle.std.specs.Prelude.{unwrap_or}
+use Rattle.lc_sheet.specs.Sheets.{SectionModel, SheetModel, line_of, lines_of}
+use Rattle.lc_sheet.specs.Values.{ValueModel}
+use Rattle.lc_sheet.specs.declared.form.Form.{Form}
+use Rattle.lc_sheet.specs.declared.table_options.Format.{Format}
+use Rattle.lc_sheet.specs.declared.table_options.Format.TheVariants.{Tsv, Table, Json, Csv, Markdown, Html}
+use Rattle.lc_walk.specs.ReportLines.{FileLineModel}
+use Rattle.lc_rows.specs.Kinds.{file_value}
+use Rattle.lc_rows.specs.SheetColumns.{file_columns}
+use Rattle.lc_rows.specs.SheetLaws.{SheetFilesLaw, path_at}
+use Rattle.lc_rows.specs.Sheets.{form_of, listed_files, section_of}
+use Rattle.lc_rows.specs.Views.{first_of, view_of}
+
+-- the path of a file's line, in each format
+path_of_line : (format : Format) (form : Form) (f : FileLineModel)
+    → path_at (file_columns format form.by) (line_of (file_value form) (file_columns format form.by) f) ≡ f.path
+path_of_line Tsv form f = refl
+path_of_line Table form f = refl
+path_of_line Json form f = refl
+path_of_line Csv form f = refl
+path_of_line Markdown form f = refl
+path_of_line Html form f = refl
+
+paths_of_lines : (format : Format) (form : Form) (fs : List FileLineModel)
+    → map (path_at (file_columns format form.by)) (lines_of (file_value form) (file_columns format form.by) fs)
+    ≡ map (λ (f : FileLineModel). f.path) fs
+paths_of_lines format form [] = refl
+paths_of_lines format form (f ∷ fs) = ap₂ (λ p ps. p ∷ ps) (path_of_line format form f) (paths_of_lines format form fs)
+
+-- a section of files is there only where files are listed
+paths_listed : (listed : Bool) (format : Format) (form : Form) (top : Option ℕ) (fs : List FileLineModel) (section : SectionModel)
+    → (if listed then Some (section_of (file_value form) (file_columns format form.by) (first_of top (listed_files listed fs))) else None)
+    ≡ Some section
+    → map (path_at section.columns) section.lines ≡ map (λ (f : FileLineModel). f.path) (first_of top fs)
+paths_listed true format form top fs section is =
+    subst (λ (s : SectionModel). map (path_at s.columns) s.lines ≡ map (λ (f : FileLineModel). f.path) (first_of top fs))
+    (ap (λ (o : Option SectionModel). unwrap_or o section) is) (paths_of_lines format form (first_of top fs))
+paths_listed false format form top fs section is = absurd (cc is)
+
+pub sheet_files_law : SheetFilesLaw
+sheet_files_law options r s section sheet there =
+    let view = view_of options.top sheet.has.rows (listed_files options.files sheet.files) in (
+      sheet.files,
+      sheet.are_files,
+      paths_listed options.files options.format (form_of options r.totals view.rows) options.top sheet.files section
+          (sym (ap (λ (t : SheetModel). t.files) sheet.has.is) ∙ there),
+    )
