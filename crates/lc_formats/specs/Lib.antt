@@ -1,7 +1,13 @@
 pub mod Columns
+pub mod Layouts
 pub mod Blanks
 pub mod CellWords
 pub mod Shares
 pub mod Cells
 pub mod TableText
+pub mod PaddedText
 pub mod Widening
+pub mod Readable
+pub mod CommaLaws
+pub mod ShareLaws
+pub mod WidthLaws

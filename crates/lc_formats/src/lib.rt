@@ -2,6 +2,7 @@
 //!
 //! - `table`: a text in columns, for reading, by `section_lines` and `widths`
 //! - `cells`: the cells in which a line is shown; `cell_text`, `numbers`, `shares`: the texts in them
+//! - `table_laws`: what is true of the definitions that their contracts cite
 #![tactic(auto)]
 
 mod cell_text;
@@ -10,7 +11,12 @@ mod numbers;
 mod section_lines;
 mod shares;
 mod table;
+mod table_laws;
 mod widths;
 
 pub use numbers::push_number;
 pub use table::table_text;
+pub use table_laws::{
+    bars_are_as_long_as_their_cells, lines_end_without_blanks, lines_of_a_part_are_as_wide,
+    numbers_with_commas_read_back, shares_are_of_the_whole,
+};
