@@ -7,9 +7,15 @@ pub mod JsonText
 pub mod JsonTokens
 pub mod JsonSheets
 pub mod Columns
+pub mod Layouts
 pub mod Blanks
 pub mod CellWords
 pub mod Shares
 pub mod Cells
 pub mod TableText
+pub mod PaddedText
 pub mod Widening
+pub mod Readable
+pub mod CommaLaws
+pub mod ShareLaws
+pub mod WidthLaws

@@ -79,7 +79,7 @@ impl<'a> Cell<'a> {
     pub(crate) fn make(&self, made: &mut String) -> Result<(), AllocError>
         ensures { OnOk result (string_bytes made.new ≡ (cell_model self.now).text) }
     {
-        make_value(made, self.value)
+        make_value(made, &self.value)
     }
 
     /// Returns how wide its column must be for it.
@@ -88,7 +88,7 @@ impl<'a> Cell<'a> {
     {
         match self.side {
             Side::End => Ok(0),
-            Side::Left | Side::Right => make_wide(made, self.value),
+            Side::Left | Side::Right => make_wide(made, &self.value),
         }
     }
 
@@ -99,7 +99,7 @@ impl<'a> Cell<'a> {
         match self.side {
             Side::End => Ok(true),
             Side::Left | Side::Right => {
-                make_value(made, self.value)?;
+                make_value(made, &self.value)?;
                 Ok(!made.as_str().is_empty())
             }
         }
@@ -117,14 +117,14 @@ impl<'a> Cell<'a> {
             ++ text_before (cells_of others.now) (cell_model self.now).side width (cell_model self.now).text) }
     {
         match self.side {
-            Side::End => push_value(text, self.value),
+            Side::End => push_value(text, &self.value),
             Side::Left => {
-                let own = make_wide(made, self.value)?;
+                let own = make_wide(made, &self.value)?;
                 text.push_str(made.as_str())?;
                 push_blanks(text, width.saturating_sub(own), others)
             }
             Side::Right => {
-                let own = make_wide(made, self.value)?;
+                let own = make_wide(made, &self.value)?;
                 push_copies(text, ' ', width.saturating_sub(own))?;
                 text.push_str(made.as_str())
             }

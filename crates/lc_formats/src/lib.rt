@@ -5,6 +5,7 @@
 //! - `json_sheet`: the text as JSON, by `json_values` and `json_writer`
 //! - `table`: the text in columns, for reading, by `section_lines` and `widths`
 //! - `cells`: the cells in which a line is shown; `cell_text`, `numbers`, `shares`: the texts in them
+//! - `table_laws`: what is true of the texts in columns
 #![tactic(auto)]
 
 mod cell_text;
@@ -19,6 +20,7 @@ mod numbers;
 mod section_lines;
 mod shares;
 mod table;
+mod table_laws;
 mod tsv;
 mod widths;
 
@@ -27,4 +29,8 @@ pub use csv_sheet::csv_text;
 pub use json_sheet::json_text;
 pub use numbers::push_number;
 pub use table::table_text;
+pub use table_laws::{
+    bars_are_as_long_as_their_cells, lines_end_without_blanks, lines_of_a_part_are_as_wide,
+    numbers_with_commas_read_back, shares_are_of_the_whole,
+};
 pub use tsv::tsv_text;
