@@ -18,7 +18,7 @@ abbrev pub is_none : {X : Type 0} → List X → Bool
 is_none [] = true
 is_none (x ∷ xs) = false
 
--- what ends a text ends what stands before it, too
+-- what ends a text ends it with any text before it, too
 pub ends-append : (a b : List ℕ) → (b ≡ [] → ⊥) → ends_in_blank (a ++ b) ≡ ends_in_blank b
 ends-append [] b some = refl
 ends-append (c ∷ []) [] some = absurd (some refl)
@@ -72,7 +72,7 @@ one_line_before : (c : ℕ) (rest : List ℕ) → is_no_feed c ≡ true → is_o
 one_line_before c [] e all = one_line_alone (c == 32) c e
 one_line_before c (d ∷ ds) e all = and_from _ _ e all
 
--- it stands on one line still
+-- it is on one line still
 pub one_line_without : (t : List ℕ) → is_one_line t ≡ true → is_one_line (without_blanks t) ≡ true
 one_line_without [] e = refl
 one_line_without (c ∷ cs) e =

@@ -44,7 +44,7 @@ is_layout (End ∷ s ∷ ss) = false
 abbrev pub Fit : List ℕ → List CellModel → Type 0
 Fit ws cells = AllZip (λ w c. width_at c.side c.text ≤ w) ws cells
 
--- what stands in columns, and the open end
+-- what is in columns, and the open end
 abbrev pub front_at : Side → ℕ → List ℕ → List ℕ
 front_at Left w t = text_at Left w t
 front_at Right w t = text_at Right w t
@@ -64,7 +64,7 @@ abbrev pub end_of : List CellModel → List ℕ
 end_of [] = []
 end_of (c ∷ cs) = end_at c.side c.text ++ end_of cs
 
--- how wide what stands in columns is
+-- how wide what is in columns is
 abbrev pub side_width : Side → ℕ → ℕ
 side_width Left w = w
 side_width Right w = w
@@ -100,7 +100,7 @@ layout_rest Right ss e = e
 layout_rest End [] e = refl
 layout_rest End (s ∷ ss) e = absurd (cc)
 
--- a padded line is what stands in columns, its open end and a line feed
+-- a padded line is what is in columns, its open end and a line feed
 pub line_parted : (ws : List ℕ) (cells : List CellModel) → Fit ws cells → is_layout (sides cells) ≡ true
     → padded_line ws cells ≡ front ws cells ++ (end_of cells ++ codes "\n")
 line_parted [] [] fits layout = refl
@@ -110,7 +110,7 @@ line_parted (w ∷ ws) (c ∷ cs) fits layout =
     parted c.side w c.text ws cs (padded_from 1 (w ∷ ws) cs) layout
     (later_columns 0 1 w ws cs refl ∙ line_parted ws cs fits.1 (layout_rest c.side (sides cs) layout)) fits.1
 
--- ---- how wide what stands in columns is
+-- ---- how wide what is in columns is
 
 width_at_side : (s : Side) (w : ℕ) (t : List ℕ) → IsSound s t → width_at s t ≤ w → width_of (front_at s w t) ≡ side_width s w
 width_at_side Left w t sound fits = width_of-after t (w - width_of t) sound.1 ∙ omega (arith, fits)
@@ -145,7 +145,7 @@ one_line_gap : (cells : List CellModel) → is_one_line (gap cells) ≡ true
 one_line_gap [] = refl
 one_line_gap (c ∷ cs) = refl
 
--- they stand on one line
+-- they are on one line
 pub one_line_front : (ws : List ℕ) (cells : List CellModel) → AreSound cells → is_one_line (front ws cells) ≡ true
 one_line_front [] cells sound = refl
 one_line_front (w ∷ ws) [] sound = refl

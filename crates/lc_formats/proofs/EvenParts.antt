@@ -21,7 +21,7 @@ use Rattle.lc_formats.specs.Layouts.{has_no_end, is_open}
 use Rattle.lc_formats.proofs.PrintedLines.{EndsBare, layout_open, line_open, line_printed}
 use Rattle.lc_formats.proofs.Spacing.{one_line_hyphens, width_of-hyphens}
 
--- a line whose cells stand on these sides
+-- a line whose cells are at these sides
 abbrev pub IsLike : List Side → List CellModel → Type 0
 IsLike ss l = (sides l ≡ ss) × AreSound l
 

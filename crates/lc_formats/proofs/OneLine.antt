@@ -1,4 +1,4 @@
--- Texts in which no line feed stands, and texts that are UTF-8.
+-- Texts without a line feed, and texts that are UTF-8.
 use Rattle.std.proofs.Common.{◌≡◌, ℕ, zero, suc, ◌/◌, ◌%◌, ◌<◌, Bool, true, false, not, ◌==◌, ◌&&◌, ◌||◌, nat_lt, nat_eq, if◌then◌else◌}
 use Rattle.std.proofs.Common.{List, [], ◌∷◌, ◌++◌, length, get_or, codes, decimal, encode_utf8, flat_map}
 use Rattle.std.proofs.Common.{refl, sym, ap, ap₂, ◌∙◌, arith, inl, inr, append-nil}
@@ -20,11 +20,11 @@ use Rattle.lc_text.specs.Visible.{is_hidden, visible_byte, visible_bytes, visibl
 abbrev pub is_no_feed : ℕ → Bool
 is_no_feed b = not (b == 10)
 
--- no line feed stands in a text
+-- no line feed is in a text
 abbrev pub is_one_line : List ℕ → Bool
 is_one_line text = list_all is_no_feed text
 
--- what stands on one line is joined on one line
+-- texts that are on one line are joined on one line
 pub one_line-append : (a b : List ℕ) → is_one_line a ≡ true → is_one_line b ≡ true → is_one_line (a ++ b) ≡ true
 one_line-append a b x y = list_all-append is_no_feed a b ∙ ap₂ (λ p q. p && q) x y
 
@@ -204,7 +204,7 @@ one_line-number n =
     let both = one_line_numeral (with_commas (decimal n)) (numerals n) in
     (both.0, IsUtf8-are_ascii (with_commas (decimal n)) both.1)
 
--- a number stands on one line, in UTF-8
+-- a number is on one line, in UTF-8
 pub one_line-decimal : (n : ℕ) → (is_one_line (decimal n) ≡ true) × IsUtf8 (decimal n)
 one_line-decimal n =
     let both = one_line_numeral (decimal n) (all_numeral (decimal n) (decimal_digits n)) in

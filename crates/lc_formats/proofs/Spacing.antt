@@ -1,4 +1,4 @@
--- The width of a text with spaces: a space takes one column, whatever stands before it and after it.
+-- The width of a text with spaces: a space takes one column, whatever is before it and after it.
 use Rattle.std.proofs.Common.{◌≡◌, ℕ, zero, suc, ◌+◌, Bool, true, false, List, [], ◌∷◌, ◌++◌, replicate, refl, sym, ap, ◌∙◌, arith}
 use Rattle.std.specs.Int.{is_in_range}
 use Rattle.std.specs.List.{list_all}
@@ -101,7 +101,7 @@ pub width_of-before : (n : ℕ) (t : List ℕ) → width_of (spaces n ++ t) ≡ 
 width_of-before zero t = omega arith
 width_of-before (suc n) t = width_of-next (spaces n ++ t) ∙ ap (λ m. 1 + m) (width_of-before n t) ∙ omega arith
 
--- spaces stand on one line
+-- spaces are on one line
 pub one_line_spaces : (n : ℕ) → is_one_line (spaces n) ≡ true
 one_line_spaces zero = refl
 one_line_spaces (suc n) = one_line_spaces n
@@ -124,7 +124,7 @@ pub width_of-hyphens : (n : ℕ) → width_of (replicate n 45) ≡ n
 width_of-hyphens n =
     ap (str_width false) (chars_hyphens n) ∙ str_width-printable false (replicate n 45) (printable_hyphens n) ∙ length-replicate n 45
 
--- hyphens stand on one line
+-- hyphens are on one line
 pub one_line_hyphens : (n : ℕ) → is_one_line (replicate n 45) ≡ true
 one_line_hyphens zero = refl
 one_line_hyphens (suc n) = one_line_hyphens n

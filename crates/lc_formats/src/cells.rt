@@ -42,14 +42,14 @@ fn push_blanks(text: &mut String, count: usize, others: &[Cell<'_>]) -> Result<(
 }
 
 impl<'a> Cell<'a> {
-    /// Shows a value at a side.
+    /// Makes a cell with a value at a side.
     pub(crate) fn new(side: Side, value: Value<'a>) -> Cell<'a>
         ensures { cell_model result ≡ cell_at side (value_model value.entry) }
     {
         Cell { side, value }
     }
 
-    /// The heading of a column.
+    /// Makes the cell of the heading of a column.
     pub(crate) fn heading(column: Column) -> Cell<'a>
         ensures { cell_model result ≡ heading_cell column }
     {
@@ -59,7 +59,7 @@ impl<'a> Cell<'a> {
         }
     }
 
-    /// What a line has in a column.
+    /// Makes the cell of what a line has in a column.
     pub(crate) fn of<L: Lines>(line: &'a L::Line, form: Form, column: Column) -> Cell<'a>
         ensures { cell_model result ≡ cell_of column (L.value_in form line.entry.now column) }
     {
@@ -69,6 +69,7 @@ impl<'a> Cell<'a> {
         }
     }
 
+    /// Returns the side of its column at which it is.
     pub(crate) fn side(&self) -> Side
         ensures { result ≡ (cell_model self.now).side }
     {
@@ -143,7 +144,7 @@ fn push_headings(cells: &mut Vec<Cell<'_>>, columns: &[Column]) -> Result<(), Al
     Ok(())
 }
 
-/// Sets the cells to the headings of columns.
+/// Sets the cells to those of the headings of columns.
 pub(crate) fn set_headings(cells: &mut Vec<Cell<'_>>, columns: &[Column]) -> Result<(), AllocError>
     ensures { OnOk result (cells_of cells.new.items ≡ heading_cells columns.now) }
 {
@@ -151,7 +152,7 @@ pub(crate) fn set_headings(cells: &mut Vec<Cell<'_>>, columns: &[Column]) -> Res
     push_headings(cells, columns)
 }
 
-/// Appends what a line has in a column.
+/// Appends the cell of what a line has in a column.
 fn push_cell<'l, L: Lines>(
     cells: &mut Vec<Cell<'l>>,
     line: &'l L::Line,
@@ -182,7 +183,7 @@ fn push_cells<'l, L: Lines>(
     Ok(())
 }
 
-/// Sets the cells to what a line has in each column.
+/// Sets the cells to those of what a line has in each column.
 pub(crate) fn set_cells<'l, L: Lines>(
     cells: &mut Vec<Cell<'l>>,
     line: &'l L::Line,
