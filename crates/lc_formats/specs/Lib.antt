@@ -8,3 +8,6 @@ pub mod Shares
 pub mod Cells
 pub mod TableText
 pub mod Widening
+pub mod MarkdownCells
+pub mod MarkdownText
+pub mod MarkdownLaws

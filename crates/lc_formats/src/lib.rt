@@ -1,6 +1,7 @@
 //! The formats in which a sheet is printed. A format knows values, columns and sections, and nothing of where they come from.
 //!
 //! - `json_sheet`: a text as JSON, by `json_values` and `json_writer`
+//! - `markdown`: a text as Markdown, by `markdown_line` and `markdown_escape`; `markdown_laws`: what is true of it
 //! - `table`: a text in columns, for reading, by `section_lines` and `widths`
 //! - `cells`: the cells in which a line is shown; `cell_text`, `numbers`, `shares`: the texts in them
 #![tactic(auto)]
@@ -10,6 +11,10 @@ mod cells;
 mod json_sheet;
 mod json_values;
 mod json_writer;
+mod markdown;
+mod markdown_escape;
+mod markdown_laws;
+mod markdown_line;
 mod numbers;
 mod section_lines;
 mod shares;
@@ -17,5 +22,7 @@ mod table;
 mod widths;
 
 pub use json_sheet::json_text;
+pub use markdown::markdown_text;
+pub use markdown_laws::markdown_has_no_markup_of_names;
 pub use numbers::push_number;
 pub use table::table_text;
