@@ -4,6 +4,7 @@ pub mod RecordsRead
 pub mod Decimals
 pub mod Depths
 pub mod Listed
+pub mod MarkdownLawProofs
 pub mod Sections
 pub mod Tokens
 pub mod Widened

@@ -9,7 +9,7 @@ read_more : {X : Type 0} (xs : List X) (i : ℕ) (x : X) → i < length xs → x
 read_more xs i x within read = take_more xs i x within ∙ ap (λ e. take i xs ++ e ∷ []) (sym read)
 
 -- appended to what was written before
-appended_more : {A : Type 0} (initial front own now next : List A) → now ≡ initial ++ front → next ≡ now ++ own
+pub appended_more : {A : Type 0} (initial front own now next : List A) → now ≡ initial ++ front → next ≡ now ++ own
     → next ≡ initial ++ (front ++ own)
 appended_more initial front own now next so_far more = more ∙ ap (λ l. l ++ own) so_far ∙ append_assoc initial front own
 

@@ -19,3 +19,6 @@ pub mod Readable
 pub mod CommaLaws
 pub mod ShareLaws
 pub mod WidthLaws
+pub mod MarkdownCells
+pub mod MarkdownText
+pub mod MarkdownLaws

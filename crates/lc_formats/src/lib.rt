@@ -1,11 +1,12 @@
 //! The formats in which a sheet is printed. A format knows values, columns and sections, and nothing of where they come from.
 //!
 //! - `tsv`: the text with a tab between fields
-//! - `csv_sheet`: the text as CSV, by `csv_records`: a text that is written record by record; `csv_laws`: a reader gives the records back
+//! - `csv_sheet`: the text as CSV, by `csv_records`: a text that is written record by record
 //! - `json_sheet`: the text as JSON, by `json_values` and `json_writer`
+//! - `markdown`: the text as Markdown, by `markdown_line` and `markdown_escape`
 //! - `table`: the text in columns, for reading, by `section_lines` and `widths`
 //! - `cells`: the cells in which a line is shown; `cell_text`, `numbers`, `shares`: the texts in them
-//! - `table_laws`: what is true of the texts in columns
+//! - `csv_laws`, `markdown_laws`, `table_laws`: what is true of the definitions that the contracts cite
 #![tactic(auto)]
 
 mod cell_text;
@@ -16,6 +17,10 @@ mod csv_sheet;
 mod json_sheet;
 mod json_values;
 mod json_writer;
+mod markdown;
+mod markdown_escape;
+mod markdown_laws;
+mod markdown_line;
 mod numbers;
 mod section_lines;
 mod shares;
@@ -27,6 +32,8 @@ mod widths;
 pub use csv_laws::csv_reads_back;
 pub use csv_sheet::csv_text;
 pub use json_sheet::json_text;
+pub use markdown::markdown_text;
+pub use markdown_laws::markdown_has_no_markup_of_names;
 pub use numbers::push_number;
 pub use table::table_text;
 pub use table_laws::{

@@ -1,0 +1,69 @@
+-- The text of a sheet as Markdown: tables of GitHub Flavored Markdown, with an empty line between.
+use Rattle.std.specs.Prelude.{ℕ, List, [], ◌∷◌, ◌++◌, map, flat_map, codes, Option, Some, None}
+use Rattle.lc_sheet.specs.ColumnWords.{heading, side_of}
+use Rattle.lc_sheet.specs.Sheets.{SectionModel, SheetModel}
+use Rattle.lc_sheet.specs.Values.{ValueModel, word, number}
+use Rattle.lc_sheet.specs.declared.column.Column.{Column}
+use Rattle.lc_formats.specs.MarkdownCells.{rule_cell, value_cell}
+use Rattle.lc_formats.specs.TableText.{shown_totals}
+use Rattle.lc_formats.specs.declared.markdown_line.Weight.{Weight}
+use Rattle.lc_formats.specs.declared.markdown_line.Weight.TheVariants.{Plain, Bold}
+
+-- ---- lines
+
+-- a bar, and each value with a bar
+abbrev pub line_with : Weight → List ValueModel → List ℕ
+line_with weight values = codes "|" ++ (flat_map (value_cell weight) values ++ codes "\n")
+
+abbrev pub lines_with : Weight → List (List ValueModel) → List ℕ
+lines_with weight lines = flat_map (line_with weight) lines
+
+-- the line below the headings, which sets the sides of the columns
+abbrev pub rule_with : List Column → List ℕ
+rule_with columns = codes "|" ++ (flat_map (λ c. rule_cell (side_of c)) columns ++ codes "\n")
+
+abbrev pub heading_value : Column → ValueModel
+heading_value column = word (heading column)
+
+abbrev pub headings_with : List Column → List ℕ
+headings_with columns = line_with Plain (map heading_value columns) ++ rule_with columns
+
+-- ---- sections
+
+-- headings, and lines below them
+abbrev pub section_table : SectionModel → List ℕ
+section_table s = headings_with s.columns ++ lines_with Plain s.lines
+
+-- nothing where nothing is listed
+abbrev pub if_listed : List (List ValueModel) → List ℕ → List ℕ
+if_listed [] text = []
+if_listed (l ∷ ls) text = text
+
+-- a table, and an empty line below it or above it
+abbrev pub list_above : SectionModel → List ℕ
+list_above s = if_listed s.lines (section_table s ++ codes "\n")
+
+abbrev pub list_below : SectionModel → List ℕ
+list_below s = if_listed s.lines (codes "\n" ++ section_table s)
+
+abbrev pub files_above : Option SectionModel → List ℕ
+files_above None = []
+files_above (Some files) = list_above files
+
+-- ---- sheets
+
+-- the rows, and their sums in bold
+abbrev pub summary_with : SectionModel → SectionModel → SectionModel → List ℕ
+summary_with rows others totals = section_table rows ++ lines_with Bold others.lines ++ lines_with Bold totals.lines
+
+-- the number of directories, and of entries where it is there
+abbrev pub counts_with : ℕ → Option ℕ → List ℕ
+counts_with directories None = codes "| directories |\n| ---: |\n" ++ line_with Plain (number directories ∷ [])
+counts_with directories (Some entries) =
+    codes "| directories | entries |\n| ---: | ---: |\n" ++ line_with Plain (number directories ∷ number entries ∷ [])
+
+-- what is listed, the rows with their sums, the numbers, and what could not be read
+abbrev pub markdown_of : SheetModel → List ℕ
+markdown_of s =
+    files_above s.files ++ list_above s.skipped ++ summary_with s.rows s.others (shown_totals s) ++ codes "\n"
+    ++ counts_with s.directories s.entries ++ list_below s.faults

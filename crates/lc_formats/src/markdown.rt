@@ -1,0 +1,164 @@
+//! The text of a sheet as Markdown, with tables of GitHub Flavored Markdown.
+
+ghost use Rattle.std.specs.Prelude.{◌≡◌, ◌++◌, IfOk, OnOk, option_map};
+ghost use Rattle.lc_formats.specs.MarkdownText.{counts_with, files_above, lines_with, list_above, list_below, markdown_of};
+ghost use Rattle.lc_formats.specs.MarkdownText.{section_table, summary_with};
+ghost use Rattle.lc_formats.specs.declared.markdown_line.Weight.TheVariants.{Plain, Bold};
+
+use crate::markdown_line::{Weight, push_headings, push_line, push_values};
+use crate::section_lines::{is_empty, shown_lines};
+use lc_sheet::{Lines, Section, Sheet, Value};
+use std::alloc::{AllocError, Global};
+
+fn push_lines<L: Lines>(
+    text: &mut Vec<u8>,
+    weight: Weight,
+    section: &Section<'_, L>,
+    made: &mut String,
+) -> Result<(), AllocError>
+    ensures { OnOk result (text.new.items ≡ text.old.items ++ lines_with weight section.now.lines) }
+{
+    let (form, columns, lines) = section.parts();
+    let mut rest = lines;
+    'lines: while let Some((line, others)) = rest.split_first() {
+        push_line::<L>(text, weight, line, form, columns, made)?;
+        rest = others;
+    }
+    Ok(())
+}
+
+/// Appends a table of headings and lines.
+fn push_table<L: Lines>(
+    text: &mut Vec<u8>,
+    section: &Section<'_, L>,
+    made: &mut String,
+) -> Result<(), AllocError>
+    ensures { OnOk result (text.new.items ≡ text.old.items ++ section_table section.now) }
+{
+    push_headings(text, section.columns(), made)?;
+    push_lines(text, Weight::Plain, section, made)
+}
+
+/// Appends a table and an empty line; without lines nothing.
+fn push_list_above<L: Lines>(
+    text: &mut Vec<u8>,
+    section: &Section<'_, L>,
+    made: &mut String,
+) -> Result<(), AllocError>
+    ensures { OnOk result (text.new.items ≡ text.old.items ++ list_above section.now) }
+{
+    if is_empty(section) {
+        return Ok(());
+    }
+    push_table(text, section, made)?;
+    text.extend_from_slice(b"\n")
+}
+
+/// Appends an empty line and a table; without lines nothing.
+fn push_list_below<L: Lines>(
+    text: &mut Vec<u8>,
+    section: &Section<'_, L>,
+    made: &mut String,
+) -> Result<(), AllocError>
+    ensures { OnOk result (text.new.items ≡ text.old.items ++ list_below section.now) }
+{
+    if is_empty(section) {
+        return Ok(());
+    }
+    text.extend_from_slice(b"\n")?;
+    push_table(text, section, made)
+}
+
+fn push_files<F: Lines>(
+    text: &mut Vec<u8>,
+    files: Option<&Section<'_, F>>,
+    made: &mut String,
+) -> Result<(), AllocError>
+    ensures { OnOk result (text.new.items
+        ≡ text.old.items ++ files_above (option_map (λ section. section.now) files.entry)) }
+{
+    match files {
+        None => Ok(()),
+        Some(files) => push_list_above(text, files, made),
+    }
+}
+
+/// Appends the rows, and their sums in bold.
+fn push_summary<R: Lines, T: Lines>(
+    text: &mut Vec<u8>,
+    rows: &Section<'_, R>,
+    others: &Section<'_, T>,
+    totals: &Section<'_, T>,
+    made: &mut String,
+) -> Result<(), AllocError>
+    ensures { OnOk result (text.new.items ≡ text.old.items ++ summary_with rows.now others.now totals.now) }
+{
+    push_table(text, rows, made)?;
+    push_lines(text, Weight::Bold, others, made)?;
+    push_lines(text, Weight::Bold, totals, made)?;
+    Ok(())
+}
+
+fn push_directories(
+    text: &mut Vec<u8>,
+    directories: u64,
+    made: &mut String,
+) -> Result<(), AllocError>
+    ensures { OnOk result (text.new.items ≡ text.old.items ++ counts_with directories None) }
+{
+    text.extend_from_slice(b"| directories |\n| ---: |\n")?;
+    push_values(text, &[Value::Number(u128::from(directories))], made)?;
+    Ok(())
+}
+
+fn push_both(
+    text: &mut Vec<u8>,
+    directories: u64,
+    entries: u64,
+    made: &mut String,
+) -> Result<(), AllocError>
+    ensures { OnOk result (text.new.items ≡ text.old.items ++ counts_with directories (Some entries)) }
+{
+    let directories = Value::Number(u128::from(directories));
+    let entries = Value::Number(u128::from(entries));
+    text.extend_from_slice(b"| directories | entries |\n| ---: | ---: |\n")?;
+    push_values(text, &[directories, entries], made)?;
+    Ok(())
+}
+
+/// Appends the number of directories, and that of their entries where it is there.
+fn push_counts(
+    text: &mut Vec<u8>,
+    directories: u64,
+    entries: Option<u64>,
+    made: &mut String,
+) -> Result<(), AllocError>
+    ensures { OnOk result (text.new.items ≡ text.old.items ++ counts_with directories entries) }
+{
+    match entries {
+        None => push_directories(text, directories, made),
+        Some(entries) => push_both(text, directories, entries, made),
+    }
+}
+
+/// Makes the text of a sheet as Markdown.
+///
+/// Lists of files and of skipped entries come first, then the rows with their sums in bold, the number of directories, and last what could
+/// not be read. Names are shown as [`push_visible`](lc_text::push_visible) has them.
+pub fn markdown_text<R: Lines, T: Lines, F: Lines, S: Lines, E: Lines>(
+    alloc: Global,
+    sheet: &Sheet<'_, R, T, F, S, E>,
+) -> Result<Vec<u8>, AllocError>
+    ensures { IfOk result (λ text. text.items ≡ markdown_of sheet.now) }
+{
+    let mut text = Vec::new(alloc);
+    let mut made = String::new(alloc);
+    push_files(&mut text, sheet.files.as_ref(), &mut made)?;
+    push_list_above(&mut text, &sheet.skipped, &mut made)?;
+    let totals = shown_lines(sheet.some_binary, &sheet.totals);
+    push_summary(&mut text, &sheet.rows, &sheet.others, &totals, &mut made)?;
+    text.extend_from_slice(b"\n")?;
+    push_counts(&mut text, sheet.directories, sheet.entries, &mut made)?;
+    push_list_below(&mut text, &sheet.faults, &mut made)?;
+    Ok(text)
+}

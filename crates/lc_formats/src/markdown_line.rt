@@ -1,0 +1,160 @@
+//! Lines of a table of Markdown.
+
+ghost use Rattle.std.specs.Prelude.{◌≡◌, ◌++◌, flat_map, map, OnOk};
+ghost use Rattle.lc_formats.specs.Cells.{shown_text};
+ghost use Rattle.lc_formats.specs.MarkdownCells.{bold, rule_cell, value_cell, weighted};
+ghost use Rattle.lc_formats.specs.MarkdownText.{heading_value, headings_with, line_with, rule_with};
+ghost use Rattle.lc_sheet.specs.Sheets.{line_of};
+ghost use Rattle.lc_sheet.specs.Values.{value_model};
+
+use crate::cell_text::make_value;
+use crate::markdown_escape::push_markdown;
+use lc_sheet::{Column, Form, Lines, Side, Value};
+use std::alloc::AllocError;
+
+/// How the values of a line are set.
+#[derive(Clone, Copy)]
+pub(crate) enum Weight {
+    Plain,
+    Bold,
+}
+
+fn push_bold(text: &mut Vec<u8>, shown: &[u8]) -> Result<(), AllocError>
+    ensures { OnOk result (text.new.items ≡ text.old.items ++ bold shown.now) }
+{
+    if shown.is_empty() {
+        return Ok(());
+    }
+    text.extend_from_slice(b"**")?;
+    push_markdown(text, shown)?;
+    text.extend_from_slice(b"**")
+}
+
+fn push_weighted(text: &mut Vec<u8>, weight: Weight, shown: &[u8]) -> Result<(), AllocError>
+    ensures { OnOk result (text.new.items ≡ text.old.items ++ weighted weight shown.now) }
+{
+    match weight {
+        Weight::Plain => push_markdown(text, shown),
+        Weight::Bold => push_bold(text, shown),
+    }
+}
+
+/// Appends a value and the bar that ends its cell.
+fn push_value(
+    text: &mut Vec<u8>,
+    weight: Weight,
+    value: Value<'_>,
+    made: &mut String,
+) -> Result<(), AllocError>
+    ensures { OnOk result (text.new.items ≡ text.old.items ++ value_cell weight (value_model value.entry)) }
+{
+    make_value(made, value)?;
+    text.extend_from_slice(b" ")?;
+    push_weighted(text, weight, made.as_bytes())?;
+    text.extend_from_slice(b" |")
+}
+
+/// Appends a line of these values.
+pub(crate) fn push_values(
+    text: &mut Vec<u8>,
+    values: &[Value<'_>],
+    made: &mut String,
+) -> Result<(), AllocError>
+    ensures { OnOk result (text.new.items ≡ text.old.items ++ line_with Weight.Plain (map value_model values.now)) }
+{
+    text.extend_from_slice(b"|")?;
+    for value in values {
+        push_value(text, Weight::Plain, *value, made)?;
+    }
+    text.extend_from_slice(b"\n")
+}
+
+fn push_column<L: Lines>(
+    text: &mut Vec<u8>,
+    weight: Weight,
+    line: &L::Line,
+    form: Form,
+    column: Column,
+    made: &mut String,
+) -> Result<(), AllocError>
+    ensures { OnOk result (text.new.items ≡ text.old.items ++ value_cell weight (L.value_in form line.now column)) }
+{
+    push_value(text, weight, L::value(line, form, column), made)
+}
+
+/// Appends what a line has in each column.
+pub(crate) fn push_line<L: Lines>(
+    text: &mut Vec<u8>,
+    weight: Weight,
+    line: &L::Line,
+    form: Form,
+    columns: &[Column],
+    made: &mut String,
+) -> Result<(), AllocError>
+    ensures { OnOk result (text.new.items
+        ≡ text.old.items ++ line_with weight (line_of (L.value_in form) columns.now line.now)) }
+{
+    text.extend_from_slice(b"|")?;
+    let mut rest = columns;
+    'columns: while let Some((column, others)) = rest.split_first() {
+        push_column::<L>(text, weight, line, form, *column, made)?;
+        rest = others;
+    }
+    text.extend_from_slice(b"\n")
+}
+
+fn push_heading(text: &mut Vec<u8>, column: Column, made: &mut String) -> Result<(), AllocError>
+    ensures { OnOk result (text.new.items ≡ text.old.items ++ value_cell Weight.Plain (heading_value column)) }
+{
+    push_value(text, Weight::Plain, Value::Word(column.heading()), made)
+}
+
+fn push_heading_line(
+    text: &mut Vec<u8>,
+    columns: &[Column],
+    made: &mut String,
+) -> Result<(), AllocError>
+    ensures { OnOk result (text.new.items ≡ text.old.items ++ line_with Weight.Plain (map heading_value columns.now)) }
+{
+    text.extend_from_slice(b"|")?;
+    let mut rest = columns;
+    'columns: while let Some((column, others)) = rest.split_first() {
+        push_heading(text, *column, made)?;
+        rest = others;
+    }
+    text.extend_from_slice(b"\n")
+}
+
+fn rule_cell(side: Side) -> &'static [u8]
+    ensures { result.now ≡ rule_cell side }
+{
+    match side {
+        Side::Left | Side::End => b" --- |",
+        Side::Right => b" ---: |",
+    }
+}
+
+/// Appends the line that ends the headings of a table, and sets the sides of its columns.
+fn push_rule(text: &mut Vec<u8>, columns: &[Column]) -> Result<(), AllocError>
+    ensures { OnOk result (text.new.items ≡ text.old.items ++ rule_with columns.now) }
+{
+    text.extend_from_slice(b"|")?;
+    let mut rest = columns;
+    'columns: while let Some((column, others)) = rest.split_first() {
+        text.extend_from_slice(rule_cell(column.side()))?;
+        rest = others;
+    }
+    text.extend_from_slice(b"\n")
+}
+
+/// Appends the headings of a table.
+pub(crate) fn push_headings(
+    text: &mut Vec<u8>,
+    columns: &[Column],
+    made: &mut String,
+) -> Result<(), AllocError>
+    ensures { OnOk result (text.new.items ≡ text.old.items ++ headings_with columns.now) }
+{
+    push_heading_line(text, columns, made)?;
+    push_rule(text, columns)
+}
