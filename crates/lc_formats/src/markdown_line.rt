@@ -48,7 +48,7 @@ fn push_value(
 ) -> Result<(), AllocError>
     ensures { OnOk result (text.new.items ≡ text.old.items ++ value_cell weight (value_model value.entry)) }
 {
-    make_value(made, value)?;
+    make_value(made, &value)?;
     text.extend_from_slice(b" ")?;
     push_weighted(text, weight, made.as_bytes())?;
     text.extend_from_slice(b" |")

@@ -171,7 +171,7 @@ impl<'a> Shown<'a> {
         rows: Vec<ShownRow<'a>>,
     ) -> Result<Shown<'a>, AllocError>
         ensures { IfOk result (λ shown. shown ≡ sheet_of options.now report.entry.now
-            (view_of options.now.top rows.items (listed_files options.now.files report.entry.now.files.items))) }
+            (view_of options.now.top rows.entry.items (listed_files options.now.files report.entry.now.files.items))) }
     {
         let mut rows = rows;
         let (files, _) = split_at_top(options.top, listed_files(options.files, &report.files));
