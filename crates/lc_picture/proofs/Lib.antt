@@ -1,7 +1,10 @@
 pub mod Texts
 pub mod Steps
+pub mod Lines
 pub mod References
 pub mod Outlines
+pub mod ReportShown
+pub mod ChartColours
 pub mod Boxing
 pub mod Pages
 pub mod Nesting

@@ -1,19 +1,20 @@
 -- What a page shows, and what of it depends on no name.
 use Rattle.std.proofs.Common.{◌≡◌, ℕ, ◌+◌, ◌-◌, ◌==◌, nat_le, Bool, true, false, if◌then◌else◌, List, [], ◌∷◌, ◌++◌, map, min, suc, zero}
-use Rattle.std.proofs.Common.{Option, Some, None, refl, sym, ap, ap₂, ◌∙◌}
+use Rattle.std.proofs.Common.{refl, sym, ap, ap₂, ◌∙◌}
 use Rattle.std.specs.List.{filter, flat_map}
 use Rattle.std.proofs.lemmas.List.{append-nil, map-append}
 use Rattle.std.proofs.lemmas.List.Elements.{filter-append}
 use Rattle.lc_rows.specs.RowKeys.{ShownRowModel}
 use Rattle.lc_rows.specs.ShownRows.{number_in}
-use Rattle.lc_rows.specs.Views.{ViewModel}
+use Rattle.lc_sheet.specs.Sheets.{SheetModel}
+use Rattle.lc_sheet.specs.Values as value
+use Rattle.lc_sheet.specs.Values.{ValueModel}
 use Rattle.lc_sheet.specs.declared.column.Number.{Number}
-use Rattle.lc_walk.specs.declared.tally.sums.Sums.{Sums}
 use Rattle.lc_picture.specs.Boxes.{BoxModel, box_of, boxes_in, closing, closings, drawn_boxes, left_beside, next_box, opening}
-use Rattle.lc_picture.specs.Chart.{chart_row, largest, others_row}
+use Rattle.lc_picture.specs.Chart.{cell, cells, cells_in, coloured_line, coloured_lines, plain_line, plain_lines}
 use Rattle.lc_picture.specs.Colours.{main_colour, path_of, rows_from, shared_colour}
-use Rattle.lc_picture.specs.Laws.{DrawnLaw, OutlineLaw, ShownLaw, counts, is_shown, nameless, outline, shown_of_box, shown_of_others}
-use Rattle.lc_picture.specs.Laws.{shown_of_row, without_colour}
+use Rattle.lc_picture.specs.Laws.{DrawnLaw, OutlineLaw, ShownLaw, is_shown, nameless, outline, shown_of_box, shown_of_head}
+use Rattle.lc_picture.specs.Laws.{shown_of_line, shown_of_value, without_colour}
 use Rattle.lc_picture.specs.Page.{chart_part, tree_part}
 use Rattle.lc_picture.specs.Pieces.{Piece}
 
@@ -38,28 +39,48 @@ tree_shows : (by : Number) (bs : List BoxModel) → filter is_shown (tree_part b
 tree_shows by bs =
     filter-append is_shown (boxes_in by 0 bs) _ ∙ append-nil (filter is_shown (boxes_in by 0 bs)) ∙ boxes_show by 0 bs
 
-rows_show : (by : Number) (most : ℕ) (all rows : List ShownRowModel)
-    → filter is_shown (flat_map (chart_row by most all) rows) ≡ flat_map shown_of_row rows
-rows_show by most all [] = refl
-rows_show by most all (r ∷ rs) =
-    filter-append is_shown (chart_row by most all r) (flat_map (chart_row by most all) rs)
-    ∙ ap (λ (ps : List Piece). shown_of_row r ++ ps) (rows_show by most all rs)
+value_shows : (v : ValueModel) → filter is_shown (cell v) ≡ shown_of_value v
+value_shows value.missing = refl
+value_shows value.summed = refl
+value_shows value.blank = refl
+value_shows (value.word w) = refl
+value_shows (value.name n) = refl
+value_shows (value.path p) = refl
+value_shows (value.number n) = refl
+value_shows (value.share part whole) = refl
+value_shows (value.bar part whole) = refl
 
-others_show : (others : Option Sums) → filter is_shown (others_row others) ≡ shown_of_others others
-others_show None = refl
-others_show (Some s) = refl
+values_show : (vs : List ValueModel) → filter is_shown (cells_in vs) ≡ shown_of_line vs
+values_show [] = refl
+values_show (v ∷ vs) =
+    filter-append is_shown (cell v) (cells_in vs) ∙ ap₂ (λ (ps qs : List Piece). ps ++ qs) (value_shows v) (values_show vs)
 
-chart_shows : (by : Number) (v : ViewModel)
-    → filter is_shown (chart_part by v) ≡ flat_map shown_of_row v.rows ++ shown_of_others v.others
-chart_shows by v =
-    filter-append is_shown (flat_map (chart_row by (largest by v.rows) v.rows) v.rows) (others_row v.others)
-    ∙ ap₂ (λ (ps qs : List Piece). ps ++ qs) (rows_show by (largest by v.rows) v.rows v.rows) (others_show v.others)
+line_shows : (vs : List ValueModel) → filter is_shown (cells vs) ≡ shown_of_line vs
+line_shows vs = filter-append is_shown (cells_in vs) _ ∙ append-nil (filter is_shown (cells_in vs)) ∙ values_show vs
+
+plain_show : (lines : List (List ValueModel)) → filter is_shown (plain_lines lines) ≡ flat_map shown_of_line lines
+plain_show [] = refl
+plain_show (line ∷ lines) =
+    filter-append is_shown (plain_line line) (plain_lines lines)
+    ∙ ap₂ (λ (ps qs : List Piece). ps ++ qs) (line_shows line) (plain_show lines)
+
+coloured_show : (place : ℕ) (lines : List (List ValueModel)) → filter is_shown (coloured_lines place lines) ≡ flat_map shown_of_line lines
+coloured_show place [] = refl
+coloured_show place (line ∷ lines) =
+    filter-append is_shown (coloured_line place line) (coloured_lines (place + 1) lines)
+    ∙ ap₂ (λ (ps qs : List Piece). ps ++ qs) (line_shows line) (coloured_show (place + 1) lines)
+
+chart_shows : (s : SheetModel)
+    → filter is_shown (chart_part s) ≡ flat_map shown_of_line s.rows.lines ++ flat_map shown_of_line s.others.lines
+chart_shows s =
+    filter-append is_shown (coloured_lines 0 s.rows.lines) (plain_lines s.others.lines)
+    ∙ ap₂ (λ (ps qs : List Piece). ps ++ qs) (coloured_show 0 s.rows.lines) (plain_show s.others.lines)
 
 pub shown_law : ShownLaw
-shown_law by totals v boxes =
-    ap (λ (ps : List Piece). counts totals ++ ps)
-    (filter-append is_shown (chart_part by v) (tree_part by boxes)
-    ∙ ap₂ (λ (ps qs : List Piece). ps ++ qs) (chart_shows by v) (tree_shows by boxes))
+shown_law by s boxes =
+    ap (λ (ps : List Piece). shown_of_head s.totals ++ ps)
+    (filter-append is_shown (chart_part s) (tree_part by boxes)
+    ∙ ap₂ (λ (ps qs : List Piece). ps ++ qs) (chart_shows s) (tree_shows by boxes))
 
 -- ---- the directories that are drawn
 

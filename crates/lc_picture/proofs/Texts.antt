@@ -25,13 +25,16 @@ five_pieces t0 t1 t2 t3 t4 t5 p q r s u e1 e2 e3 e4 e5 =
     two_texts t0 t3 t5 (p ∷ q ∷ r ∷ []) (s ∷ u ∷ []) (three_pieces t0 t1 t2 t3 p q r e1 e2 e3)
     (two_texts t3 t4 t5 (s ∷ []) (u ∷ []) (one_piece t3 t4 s e4) (one_piece t4 t5 u e5))
 
+-- behind the text of some pieces come those after them
+pub more : (t0 t1 all : List ℕ) (a b : List Piece) → t1 ≡ t0 ++ text_of a → t0 ++ text_of (a ++ b) ≡ all → t1 ++ text_of b ≡ all
+more t0 t1 all a b e same = two_texts t0 t1 (t1 ++ text_of b) a b e refl ∙ same
+
 -- one box more is closed
 pub closed : (t0 t1 all : List ℕ) (rest : ℕ) → 0 < rest → t1 ≡ t0 ++ text_of (closings 1) → t0 ++ text_of (closings rest) ≡ all
     → t1 ++ text_of (closings (rest - 1)) ≡ all
 closed t0 t1 all rest some e same =
     let one_more : rest ≡ suc (rest - 1) = omega arith in
-    two_texts t0 t1 (t1 ++ text_of (closings (rest - 1))) (closings 1) (closings (rest - 1)) e refl
-    ∙ ap (λ (n : ℕ). t0 ++ text_of (closings n)) (sym one_more) ∙ same
+    more t0 t1 all (closings 1) (closings (rest - 1)) e (ap (λ (n : ℕ). t0 ++ text_of (closings n)) (sym one_more) ∙ same)
 
 -- the texts of lists of pieces
 pub texts_of_each : {X : Type 0} (pieces : X → List Piece) (xs : List X)

@@ -1,53 +1,71 @@
--- The bar chart of the rows by extension.
-use Rattle.std.specs.Prelude.{ℕ, ◌-◌, true, false, max, List, [], ◌∷◌, ◌++◌, flat_map, codes, Option, Some, None}
-use Rattle.lc_rows.specs.RowKeys.{ShownRowModel}
-use Rattle.lc_rows.specs.ShownRows.{number_in}
-use Rattle.lc_rows.specs.Views.{ViewModel}
-use Rattle.lc_text.specs.Visible.{visible_bytes}
-use Rattle.lc_sheet.specs.declared.table_options.Columns.{Columns}
-use Rattle.lc_sheet.specs.declared.column.Number.{Number}
-use Rattle.lc_walk.specs.declared.tally.sums.Sums.{Sums}
-use Rattle.lc_picture.specs.Colours.{colour_of}
+-- The bar chart of the rows of a sheet.
+use Rattle.std.specs.Prelude.{ℕ, ◌-◌, min, List, [], ◌∷◌, ◌++◌, flat_map, codes}
+use Rattle.std.specs.List.{enumerate_from}
+use Rattle.lc_sheet.specs.Sheets.{SheetModel}
+use Rattle.lc_sheet.specs.Values as value
+use Rattle.lc_sheet.specs.Values.{ValueModel}
+use Rattle.lc_text.specs.Names.{named}
+use Rattle.lc_text.specs.Visible.{visible_bytes, visible_path}
+use Rattle.lc_picture.specs.Colours.{shared_colour}
 use Rattle.lc_picture.specs.Pieces.{Piece, count, markup, name, share}
 
--- rows by extension alone
-abbrev pub chart_columns : Columns
-chart_columns = record { dir = None; ext = true; text = false; eol = false }
+-- a text is the head of its line
+abbrev pub name_cell : List ℕ → List Piece
+name_cell text = markup (codes "<th>") ∷ name text ∷ markup (codes "</th>") ∷ []
 
--- how many extensions have rows of their own
-abbrev pub chart_rows : ℕ
-chart_rows = 20
+abbrev pub number_cell : ℕ → List Piece
+number_cell n = markup (codes "<td>") ∷ count n ∷ markup (codes "</td>") ∷ []
 
--- a dot and the bytes, as a terminal shows them, or `-` for none
-abbrev pub visible_extension : Option (List ℕ) → List ℕ
-visible_extension None = codes "-"
-visible_extension (Some e) = codes "." ++ visible_bytes e
+abbrev pub empty_cell : List Piece
+empty_cell = markup (codes "<td></td>") ∷ []
 
--- the largest number of a row, 0 without rows
-abbrev pub largest : Number → List ShownRowModel → ℕ
-largest by [] = 0
-largest by (r ∷ rs) = max (number_in by r.sums) (largest by rs)
+-- a bar, and the space beside it
+abbrev pub bar_cell : ℕ → ℕ → List Piece
+bar_cell part whole =
+    markup (codes "<td><div class=\"bar\"><i style=\"--n:") ∷ share part ∷ markup (codes "\"></i><u style=\"--n:")
+    ∷ share (whole - part) ∷ markup (codes "\"></u></div></td>") ∷ []
 
-abbrev pub cells : Sums → List Piece
-cells s =
-    markup (codes "</th><td>") ∷ count s.files ∷ markup (codes "</td><td>") ∷ count s.lines ∷ markup (codes "</td><td>") ∷ count s.blank
-    ∷ markup (codes "</td><td>") ∷ count s.bytes ∷ markup (codes "</td>") ∷ []
+-- a value in its cell. Texts are as a terminal shows them, and a chart shows no shares
+abbrev pub cell : ValueModel → List Piece
+cell value.missing = name_cell (codes "-")
+cell value.summed = empty_cell
+cell value.blank = empty_cell
+cell (value.word w) = name_cell w
+cell (value.name n) = name_cell (named visible_bytes n)
+cell (value.path p) = name_cell (visible_path p)
+cell (value.number n) = number_cell n
+cell (value.share part whole) = empty_cell
+cell (value.bar part whole) = bar_cell part whole
 
--- a bar: its part of the largest number, and the space beside it
-abbrev pub bar : ℕ → ℕ → List Piece
-bar most n =
-    markup (codes "<td><div class=\"bar\"><i style=\"--n:") ∷ share n ∷ markup (codes "\"></i><u style=\"--n:")
-    ∷ share (most - n) ∷ markup (codes "\"></u></div></td></tr>\n") ∷ []
+abbrev pub cells_in : List ValueModel → List Piece
+cells_in values = flat_map cell values
 
-abbrev pub chart_row : Number → ℕ → List ShownRowModel → ShownRowModel → List Piece
-chart_row by most rows r =
-    markup (codes "<tr class=\"e") ∷ share (colour_of rows r.key.extension) ∷ markup (codes "\"><th>")
-    ∷ name (visible_extension r.key.extension) ∷ (cells r.sums ++ bar most (number_in by r.sums))
+-- the cells of a line, and its end
+abbrev pub cells : List ValueModel → List Piece
+cells values = cells_in values ++ markup (codes "</tr>\n") ∷ []
 
-abbrev pub others_row : Option Sums → List Piece
-others_row None = []
-others_row (Some s) = markup (codes "<tr><th>others") ∷ (cells s ++ markup (codes "<td></td></tr>\n") ∷ [])
+-- a line without a colour
+abbrev pub plain_line : List ValueModel → List Piece
+plain_line values = markup (codes "<tr>") ∷ cells values
 
--- the rows of a chart, with the sums over those that it has no place for
-abbrev pub chart_pieces : Number → ViewModel → List Piece
-chart_pieces by v = flat_map (chart_row by (largest by v.rows) v.rows) v.rows ++ others_row v.others
+abbrev pub plain_lines : List (List ValueModel) → List Piece
+plain_lines lines = flat_map plain_line lines
+
+-- the first lines have colours of their own
+abbrev pub line_colour : ℕ → ℕ
+line_colour place = min place shared_colour
+
+-- the begin of a line with the colour of its place
+abbrev pub coloured : ℕ → List Piece
+coloured place = markup (codes "<tr class=\"e") ∷ share (line_colour place) ∷ markup (codes "\">") ∷ []
+
+abbrev pub coloured_line : ℕ → List ValueModel → List Piece
+coloured_line place values = coloured place ++ cells values
+
+-- lines from a place on
+abbrev pub coloured_lines : ℕ → List (List ValueModel) → List Piece
+coloured_lines place lines = flat_map (λ line. coloured_line line.0 line.1) (enumerate_from place lines)
+
+-- the rows of a sheet, and the sums over those that it has no place for
+abbrev pub chart : SheetModel → List Piece
+chart s = coloured_lines 0 s.rows.lines ++ plain_lines s.others.lines

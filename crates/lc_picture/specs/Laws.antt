@@ -1,17 +1,28 @@
 -- What is true of pages.
-use Rattle.std.specs.Prelude.{◌≡◌, ◌+◌, ◌*◌, ◌-◌, ℕ, nat_eq, Bool, true, false, if◌then◌else◌, List, [], ◌∷◌, ◌++◌, map, flat_map, codes}
+use Rattle.std.specs.Prelude.{◌≡◌, ◌<◌, ◌+◌, ◌*◌, ◌-◌, ℕ, nat_eq, length, Bool, true, false, if◌then◌else◌, List, [], ◌∷◌, ◌++◌, map, flat_map, codes}
 use Rattle.std.specs.Prelude.{◌==◌, bytes_eq, nat_le, Option, Some, None}
-use Rattle.std.specs.List.{filter, list_any}
+use Rattle.std.specs.List.{filter, list_any, slice_index_or}
 use Rattle.lc_rows.specs.RowKeys.{ShownRowModel}
-use Rattle.lc_rows.specs.ShownRows.{number_in}
+use Rattle.lc_rows.specs.SheetLaws.{first_number}
+use Rattle.lc_rows.specs.Sheets.{sheet_of}
+use Rattle.lc_rows.specs.ShownRows.{AreShown, number_in}
 use Rattle.lc_rows.specs.Views.{ViewModel}
+use Rattle.lc_sheet.specs.Sheets.{SectionModel, SheetModel}
+use Rattle.lc_sheet.specs.Values as value
+use Rattle.lc_sheet.specs.Values.{ValueModel}
 use Rattle.lc_sheet.specs.declared.column.Number.{Number}
+use Rattle.lc_sheet.specs.declared.column.Number.TheVariants.{Files, Lines, Blank, Bytes}
+use Rattle.lc_walk.specs.ReportLines.{FileLineModel}
+use Rattle.lc_walk.specs.TallyRows.{TallyRowModel}
+use Rattle.lc_walk.specs.declared.report.Report.{Report}
 use Rattle.lc_walk.specs.declared.tally.sums.Sums.{Sums}
-use Rattle.lc_text.specs.Visible.{visible_path}
+use Rattle.lc_text.specs.Names.{named}
+use Rattle.lc_text.specs.Visible.{visible_bytes, visible_path}
 use Rattle.lc_picture.specs.Boxes.{BoxModel, box_of, boxes_in, drawn_boxes}
-use Rattle.lc_picture.specs.Chart.{visible_extension}
+use Rattle.lc_picture.specs.Chart.{line_colour}
+use Rattle.lc_picture.specs.Colours.{colour_of}
 use Rattle.lc_picture.specs.Escaping.{html}
-use Rattle.lc_picture.specs.Page.{page_pieces}
+use Rattle.lc_picture.specs.Page.{chart_columns, chart_options, chart_view, page_pieces}
 use Rattle.lc_picture.specs.Pieces.{Piece, count, markup, name, share}
 
 -- whether a byte can begin or end a tag or an attribute
@@ -43,31 +54,73 @@ is_shown (share n) = false
 is_shown (count n) = true
 is_shown (name t) = true
 
+-- sums, in the order of their words
 abbrev pub counts : Sums → List Piece
 counts s = count s.lines ∷ count s.files ∷ count s.blank ∷ count s.bytes ∷ []
 
--- the extension and the sums of a row of the chart
-abbrev pub cell_counts : Sums → List Piece
-cell_counts s = count s.files ∷ count s.lines ∷ count s.blank ∷ count s.bytes ∷ []
+abbrev pub shown_of_head : SectionModel → List Piece
+shown_of_head totals =
+    count (first_number Lines totals) ∷ count (first_number Files totals) ∷ count (first_number Blank totals)
+    ∷ count (first_number Bytes totals) ∷ []
 
-abbrev pub shown_of_row : ShownRowModel → List Piece
-shown_of_row r = name (visible_extension r.key.extension) ∷ cell_counts r.sums
+-- the text of a value, or its number. Bars are numbers in tags
+abbrev pub shown_of_value : ValueModel → List Piece
+shown_of_value value.missing = name (codes "-") ∷ []
+shown_of_value value.summed = []
+shown_of_value value.blank = []
+shown_of_value (value.word w) = name w ∷ []
+shown_of_value (value.name n) = name (named visible_bytes n) ∷ []
+shown_of_value (value.path p) = name (visible_path p) ∷ []
+shown_of_value (value.number n) = count n ∷ []
+shown_of_value (value.share part whole) = []
+shown_of_value (value.bar part whole) = []
 
-abbrev pub shown_of_others : Option Sums → List Piece
-shown_of_others None = []
-shown_of_others (Some s) = cell_counts s
+abbrev pub shown_of_line : List ValueModel → List Piece
+shown_of_line values = flat_map shown_of_value values
 
 -- the name and the sums of a directory
 abbrev pub shown_of_box : BoxModel → List Piece
 shown_of_box b = name (visible_path b.directory) ∷ counts b.sums
 
--- a page shows the sums over all files, the extensions of the chart with their sums, and the directories that are drawn with theirs: each
--- once, in turn, and nothing else
+-- a page shows the numbers of all files, the names and the numbers of the rows of its sheet and of the sums over the others, and the
+-- directories that are drawn with their sums: each once, in turn, and nothing else
 abbrev pub ShownLaw : Type 0
 ShownLaw =
-    (by : Number) (totals : Sums) (v : ViewModel) (boxes : List BoxModel)
-    → filter is_shown (page_pieces by totals v boxes)
-    ≡ counts totals ++ ((flat_map shown_of_row v.rows ++ shown_of_others v.others) ++ flat_map shown_of_box boxes)
+    (by : Number) (s : SheetModel) (boxes : List BoxModel)
+    → filter is_shown (page_pieces by s boxes)
+    ≡ shown_of_head s.totals ++ ((flat_map shown_of_line s.rows.lines ++ flat_map shown_of_line s.others.lines)
+    ++ flat_map shown_of_box boxes)
+
+-- a dot and the bytes, as a terminal shows them, or `-` for none
+abbrev pub visible_extension : Option (List ℕ) → List ℕ
+visible_extension None = codes "-"
+visible_extension (Some e) = codes "." ++ visible_bytes e
+
+-- sums, in the order of columns
+abbrev pub cell_counts : Sums → List Piece
+cell_counts s = count s.files ∷ count s.lines ∷ count s.blank ∷ count s.bytes ∷ []
+
+-- the extension and the sums of a row
+abbrev pub shown_of_row : ShownRowModel → List Piece
+shown_of_row r = name (visible_extension r.key.extension) ∷ cell_counts r.sums
+
+abbrev pub shown_of_others : Option Sums → List Piece
+shown_of_others None = []
+shown_of_others (Some s) = name (codes "others") ∷ cell_counts s
+
+-- so the page of a report shows the sums over all files, each extension of the chart with its sums, and the sums over the others
+abbrev pub ReportLaw : Type 0
+ReportLaw =
+    (by : Number) (r : Report) (v : ViewModel) (boxes : List BoxModel)
+    → filter is_shown (page_pieces by (sheet_of (chart_options by) r v) boxes)
+    ≡ counts r.totals ++ ((flat_map shown_of_row v.rows ++ shown_of_others v.others) ++ flat_map shown_of_box boxes)
+
+-- each row of the chart has the colour of its extension, by which the directories are coloured too
+abbrev pub ColoursLaw : Type 0
+ColoursLaw =
+    (by : Number) (rs : List TallyRowModel) (fs : List FileLineModel) (extensions : List ShownRowModel) (place : ℕ) (d : ShownRowModel)
+    → AreShown chart_columns (Some by) rs fs extensions → place < length (chart_view extensions).rows
+    → colour_of (chart_view extensions).rows (slice_index_or (chart_view extensions).rows place d).key.extension ≡ line_colour place
 
 abbrev pub without_colour : BoxModel → BoxModel
 without_colour b = record { directory = b.directory; depth = b.depth; colour = 0; sums = b.sums }

@@ -1,19 +1,26 @@
--- The page of a report: its sums, a bar chart of its extensions, and the boxes of its directories.
-use Rattle.std.specs.Prelude.{◌≡◌, ℕ, true, false, List, [], ◌∷◌, ◌++◌, codes, unwrap_or, Option, Some}
+-- The page of a report: the numbers of all files, a bar chart of its extensions, and the boxes of its directories.
+use Rattle.std.specs.Prelude.{◌≡◌, ℕ, true, false, List, [], ◌∷◌, ◌++◌, codes, unwrap_or, Option, Some, None}
 use Rattle.lc_rows.specs.RowKeys.{ShownRowModel}
+use Rattle.lc_rows.specs.Sheets.{sheet_of}
 use Rattle.lc_rows.specs.ShownRows.{AreShown, number_in}
 use Rattle.lc_rows.specs.TreeRows.{AreTreeRows}
 use Rattle.lc_rows.specs.Views.{ViewModel, view_of}
+use Rattle.lc_sheet.specs.Sheets.{SectionModel, SheetModel}
 use Rattle.lc_sheet.specs.declared.table_options.Columns.{Columns}
+use Rattle.lc_sheet.specs.declared.table_options.Format.TheVariants.{Html}
+use Rattle.lc_sheet.specs.declared.table_options.TableOptions.{TableOptions}
 use Rattle.lc_sheet.specs.declared.column.Number.{Number}
 use Rattle.lc_sheet.specs.declared.column.Number.TheVariants.{Files, Lines, Blank, Bytes}
 use Rattle.lc_walk.specs.ReportLines.{FileLineModel}
 use Rattle.lc_walk.specs.declared.report.Report.{Report}
 use Rattle.lc_walk.specs.declared.tally.sums.Sums.{Sums}
 use Rattle.lc_picture.specs.Boxes.{BoxModel, boxes_in, drawn_boxes, least_drawn}
-use Rattle.lc_picture.specs.Chart.{chart_columns, chart_pieces, chart_rows}
-use Rattle.lc_picture.specs.Pieces.{Piece, markup, sums_pieces, text_of}
+use Rattle.lc_picture.specs.Chart.{chart}
+use Rattle.lc_picture.specs.Head.{head}
+use Rattle.lc_picture.specs.Pieces.{Piece, markup, text_of}
 use Rattle.lc_picture.specs.Style.{page_begin, style, sums_begin}
+
+-- ---- the page of a sheet and of boxes
 
 abbrev pub number_word : Number → List ℕ
 number_word Files = codes "files"
@@ -21,16 +28,16 @@ number_word Lines = codes "lines"
 number_word Blank = codes "blank lines"
 number_word Bytes = codes "bytes"
 
-abbrev pub sums_part : Sums → List Piece
-sums_part totals = markup page_begin ∷ markup style ∷ markup sums_begin ∷ sums_pieces totals
+abbrev pub head_part : SectionModel → List Piece
+head_part totals = markup page_begin ∷ markup style ∷ markup sums_begin ∷ head totals
 
 abbrev pub chart_begin : List ℕ
 chart_begin =
     codes "</p>\n<h2>By extension</h2>\n<table>\n<tr><th>extension</th><th>files</th><th>lines</th><th>blank</th><th>bytes</th>"
     ++ codes "<td></td></tr>\n"
 
-abbrev pub chart_part : Number → ViewModel → List Piece
-chart_part by v = markup chart_begin ∷ chart_pieces by v
+abbrev pub chart_part : SheetModel → List Piece
+chart_part s = markup chart_begin ∷ chart s
 
 abbrev pub tree_begin : List ℕ
 tree_begin = codes "</table>\n<h2>By directory</h2>\n<p>Each box is as tall as its share of the "
@@ -45,8 +52,29 @@ tree_part by boxes =
     markup tree_begin ∷ markup (number_word by) ∷ markup boxes_begin
     ∷ (boxes_in by 0 boxes ++ markup (codes "</div>\n</body>\n</html>\n") ∷ [])
 
-abbrev pub page_pieces : Number → Sums → ViewModel → List BoxModel → List Piece
-page_pieces by totals v boxes = sums_part totals ++ (chart_part by v ++ tree_part by boxes)
+abbrev pub page_pieces : Number → SheetModel → List BoxModel → List Piece
+page_pieces by s boxes = head_part s.totals ++ (chart_part s ++ tree_part by boxes)
+
+-- ---- the page of a report
+
+-- rows by extension alone
+abbrev pub chart_columns : Columns
+chart_columns = record { dir = None; ext = true; text = false; eol = false }
+
+-- how many extensions have rows of their own
+abbrev pub chart_rows : ℕ
+chart_rows = 20
+
+-- the options of the sheet of a page: the largest extensions, with bars
+abbrev pub chart_options : Number → TableOptions
+chart_options by = record {
+  format = Html;
+  by = chart_columns;
+  sort = Some by;
+  top = Some chart_rows;
+  files = false;
+  share = true;
+}
 
 -- rows by directory alone
 abbrev pub tree_columns : Columns
@@ -73,10 +101,10 @@ pub record AreBoxesOf (by : Number) (totals : Sums) (files : List FileLineModel)
   pub are_kinds : AreTreeRows kind_columns files kinds
   pub are : boxes ≡ drawn_boxes by (least_drawn (number_in by totals)) chart kinds tree
 
--- a text is the page of a report, drawn by a number: of its rows by extension, sorted, and of the directories of its files
+-- a text is the page of a report, drawn by a number: of the sheet of its extensions, sorted, and of the directories of its files
 pub record IsPageOf (by : Number) (r : Report) (text : List ℕ) : Type 0 where
   pub extensions : List ShownRowModel
   pub are_extensions : AreShown chart_columns (Some by) r.rows.items r.files.items extensions
   pub boxes : List BoxModel
   pub are_boxes : AreBoxesOf by r.totals r.files.items (chart_view extensions).rows boxes
-  pub is : text ≡ text_of (page_pieces by r.totals (chart_view extensions) boxes)
+  pub is : text ≡ text_of (page_pieces by (sheet_of (chart_options by) r (chart_view extensions)) boxes)

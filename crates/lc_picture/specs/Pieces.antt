@@ -19,8 +19,12 @@ piece_text (name t) = html t
 abbrev pub text_of : List Piece → List ℕ
 text_of ps = flat_map piece_text ps
 
+-- numbers, each with its word
+abbrev pub numbers : ℕ → ℕ → ℕ → ℕ → List Piece
+numbers lines files blank bytes =
+    markup (codes "lines ") ∷ count lines ∷ markup (codes ", files ") ∷ count files ∷ markup (codes ", blank ") ∷ count blank
+    ∷ markup (codes ", bytes ") ∷ count bytes ∷ []
+
 -- sums in words
 abbrev pub sums_pieces : Sums → List Piece
-sums_pieces s =
-    markup (codes "lines ") ∷ count s.lines ∷ markup (codes ", files ") ∷ count s.files ∷ markup (codes ", blank ") ∷ count s.blank
-    ∷ markup (codes ", bytes ") ∷ count s.bytes ∷ []
+sums_pieces s = numbers s.lines s.files s.blank s.bytes

@@ -6,7 +6,7 @@ ghost use Rattle.lc_picture.specs.Boxes.{boxes_in, closings, label, left_beside,
 ghost use Rattle.lc_picture.specs.Pieces.{text_of};
 
 use crate::directory_box::DirectoryBox;
-use crate::escaping::push_name;
+use crate::escaping::push_path;
 use crate::sums::{number_in, push_number, push_sums};
 use lc_sheet::Number;
 use std::alloc::AllocError;
@@ -55,7 +55,7 @@ fn push_label(
 ) -> Result<(), AllocError>
     ensures { OnOk result (text.new.items ≡ text.old.items ++ text_of (label drawn.now left)) }
 {
-    push_name(text, drawn.directory, made)?;
+    push_path(text, drawn.directory, made)?;
     text.extend_from_slice(b"</b> ")?;
     push_sums(text, drawn.sums)?;
     text.extend_from_slice(b"</summary><div><i style=\"--n:")?;

@@ -8,7 +8,7 @@ use lc_rows::ShownRow;
 use lc_sheet::Number;
 
 /// The colour that all extensions but the first of the chart share.
-const SHARED_COLOUR: usize = 8;
+pub(crate) const SHARED_COLOUR: usize = 8;
 
 /// Returns the directory of a row.
 pub(crate) fn path_of<'a>(row: &ShownRow<'a>) -> &'a [u8]

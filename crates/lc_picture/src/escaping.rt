@@ -1,11 +1,11 @@
 //! Texts in HTML.
 
-ghost use Rattle.std.specs.Prelude.{◌≡◌, ◌++◌, OnOk, option_map, string_bytes};
-ghost use Rattle.lc_picture.specs.Chart.{visible_extension};
+ghost use Rattle.std.specs.Prelude.{◌≡◌, ◌++◌, OnOk, string_bytes};
 ghost use Rattle.lc_picture.specs.Escaping.{escaped_byte, html, is_markup};
-ghost use Rattle.lc_text.specs.Visible.{visible_path};
+ghost use Rattle.lc_text.specs.Names.{name_model, named};
+ghost use Rattle.lc_text.specs.Visible.{visible_bytes, visible_path};
 
-use lc_text::{push_visible, push_visible_path};
+use lc_text::{Name, push_visible_name, push_visible_path};
 use std::alloc::AllocError;
 
 /// The bytes that can begin or end a tag, a character reference or an attribute.
@@ -27,7 +27,8 @@ fn push_html_byte(text: &mut Vec<u8>, b: u8) -> Result<(), AllocError>
     }
 }
 
-fn push_html(text: &mut Vec<u8>, shown: &[u8]) -> Result<(), AllocError>
+/// Appends a text that is shown as it is.
+pub(crate) fn push_html(text: &mut Vec<u8>, shown: &[u8]) -> Result<(), AllocError>
     ensures { OnOk result (text.new.items ≡ text.old.items ++ html shown.now) }
 {
     for b in shown {
@@ -36,46 +37,40 @@ fn push_html(text: &mut Vec<u8>, shown: &[u8]) -> Result<(), AllocError>
     Ok(())
 }
 
-fn make_extension(made: &mut String, extension: Option<&[u8]>) -> Result<(), AllocError>
-    ensures { OnOk result (string_bytes made.new ≡ visible_extension (option_map (λ e. e.now) extension.entry)) }
+fn make_name(made: &mut String, name: Name<'_>) -> Result<(), AllocError>
+    ensures { OnOk result (string_bytes made.new ≡ named visible_bytes (name_model name.entry)) }
 {
     made.clear();
-    match extension {
-        None => made.push_str("-"),
-        Some(extension) => {
-            made.push_str(".")?;
-            push_visible(made, extension)
-        }
-    }
+    push_visible_name(made, name)
 }
 
-/// Appends the extension of files, or `-` for none.
-pub(crate) fn push_extension(
+/// Appends a name, whose bytes are as a terminal shows them.
+pub(crate) fn push_name(
     text: &mut Vec<u8>,
-    extension: Option<&[u8]>,
+    name: Name<'_>,
     made: &mut String,
 ) -> Result<(), AllocError>
-    ensures { OnOk result (text.new.items ≡ text.old.items ++ html (visible_extension (option_map (λ e. e.now) extension.entry))) }
+    ensures { OnOk result (text.new.items ≡ text.old.items ++ html (named visible_bytes (name_model name.entry))) }
 {
-    make_extension(made, extension)?;
+    make_name(made, name)?;
     push_html(text, made.as_bytes())
 }
 
-fn make_name(made: &mut String, name: &[u8]) -> Result<(), AllocError>
-    ensures { OnOk result (string_bytes made.new ≡ visible_path name.now) }
+fn make_path(made: &mut String, path: &[u8]) -> Result<(), AllocError>
+    ensures { OnOk result (string_bytes made.new ≡ visible_path path.now) }
 {
     made.clear();
-    push_visible_path(made, name)
+    push_visible_path(made, path)
 }
 
-/// Appends the name of a directory; the top's empty one is a dot.
-pub(crate) fn push_name(
+/// Appends a path, or the last name of one; that of the top is empty, and is a dot.
+pub(crate) fn push_path(
     text: &mut Vec<u8>,
-    name: &[u8],
+    path: &[u8],
     made: &mut String,
 ) -> Result<(), AllocError>
-    ensures { OnOk result (text.new.items ≡ text.old.items ++ html (visible_path name.now)) }
+    ensures { OnOk result (text.new.items ≡ text.old.items ++ html (visible_path path.now)) }
 {
-    make_name(made, name)?;
+    make_path(made, path)?;
     push_html(text, made.as_bytes())
 }

@@ -1,6 +1,6 @@
 //! Laws of the definitions that the contracts cite. The functions do nothing: their contracts are what is proved.
 
-ghost use Rattle.lc_picture.specs.Laws.{DrawnLaw, NestingLaw, OutlineLaw, ShownLaw, TagLaw, UnescapedLaw};
+ghost use Rattle.lc_picture.specs.Laws.{ColoursLaw, DrawnLaw, NestingLaw, OutlineLaw, ReportLaw, ShownLaw, TagLaw, UnescapedLaw};
 
 /// A name in the page begins and ends no tag and no attribute, and with its character references read it is the name as terminals show it.
 pub fn names_are_never_markup()
@@ -8,12 +8,18 @@ pub fn names_are_never_markup()
     ensures reads_back { UnescapedLaw }
 {}
 
-/// A page shows the sums over all files, each extension of the chart with its sums, and each directory that is drawn with its sums: once,
-/// and no other numbers or names. The directories that are drawn are those with enough lines, or with enough of the number that is asked
-/// for.
+/// A page shows the numbers of all files, the names and numbers of its sheet's rows and of the sums over the others, and each directory
+/// that is drawn with its sums: once, and no other numbers or names. In a report the rows are its extensions. The directories that are
+/// drawn are those with enough lines, or with enough of the number that is asked for.
 pub fn a_page_shows_each_directory_once()
     ensures shown { ShownLaw }
+    ensures report { ReportLaw }
     ensures drawn { DrawnLaw }
+{}
+
+/// Each row of the chart has the colour of its extension, by which the directories are coloured too.
+pub fn rows_have_the_colours_of_their_extensions()
+    ensures { ColoursLaw }
 {}
 
 /// Each box that is opened is closed, and no box is closed where none is open.

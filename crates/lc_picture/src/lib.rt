@@ -3,22 +3,26 @@
 //! - `escaping`: texts in HTML; `style`: the fixed parts of a page
 //! - `boxes`, `directory_box`: the boxes of the directories, each inside that of the directory that holds it
 //! - `colours`: the colours of extensions and of directories
-//! - `chart`: the bar chart; `sums`: sums in words
+//! - `head`: the numbers of all files; `chart`, `cells`: the bar chart, and the cells of its lines, both of a sheet
+//! - `sums`: sums in words
 //! - `report_page`: the page of a report
 //! - `laws`: what is true of the definitions that the contracts cite
 #![tactic(auto)]
 
 mod boxes;
+mod cells;
 mod chart;
 mod colours;
 mod directory_box;
 mod escaping;
+mod head;
 mod laws;
 mod report_page;
 mod style;
 mod sums;
 
 pub use laws::{
-    a_page_shows_each_directory_once, boxes_are_nested, names_are_never_markup, names_change_no_tag,
+    a_page_shows_each_directory_once, boxes_are_nested, names_are_never_markup,
+    names_change_no_tag, rows_have_the_colours_of_their_extensions,
 };
 pub use report_page::page;

@@ -1,19 +1,21 @@
 //! The page of a report.
 
-ghost use Rattle.std.specs.Prelude.{◌≡◌, ◌++◌, IfOk, OnOk};
-ghost use Rattle.lc_rows.specs.Views.{view_model};
-ghost use Rattle.lc_picture.specs.Page.{AreBoxesOf, IsPageOf, chart_part, drawn_number, page_pieces, sums_part, tree_part};
+ghost use Rattle.std.specs.Prelude.{◌≡◌, ◌++◌, IfOk, OnOk, Some};
+ghost use Rattle.lc_rows.specs.Views.{first_of};
+ghost use Rattle.lc_picture.specs.Page.{AreBoxesOf, IsPageOf, chart_options, chart_part, chart_rows, drawn_number, head_part};
+ghost use Rattle.lc_picture.specs.Page.{page_pieces, tree_part};
 ghost use Rattle.lc_picture.specs.Pieces.{text_of};
 
 use crate::boxes::push_boxes;
 use crate::chart::push_chart;
 use crate::directory_box::{DirectoryBox, drawn_boxes, least_drawn};
+use crate::head::push_head;
 use crate::style::{
     boxes_begin, chart_begin, number_word, page_begin, style, sums_begin, tree_begin,
 };
-use crate::sums::{number_in, push_sums};
-use lc_rows::{ShownRow, View, shown_rows, tree_rows};
-use lc_sheet::{Columns, Number};
+use crate::sums::number_in;
+use lc_rows::{Shown, ShownRow, shown_rows, tree_rows};
+use lc_sheet::{Columns, Format, Lines, Number, Section, Sheet, TableOptions};
 use lc_walk::{FileLine, Report, Sums};
 use std::alloc::{AllocError, Global};
 
@@ -42,26 +44,25 @@ const KIND_COLUMNS: Columns = Columns {
     ..TREE_COLUMNS
 };
 
-fn push_sums_part(text: &mut Vec<u8>, totals: Sums) -> Result<(), AllocError>
-    ensures { OnOk result (text.new.items ≡ text.old.items ++ text_of (sums_part totals)) }
+fn push_head_part<L: Lines>(text: &mut Vec<u8>, totals: &Section<'_, L>) -> Result<(), AllocError>
+    ensures { OnOk result (text.new.items ≡ text.old.items ++ text_of (head_part totals.now)) }
 {
     text.extend_from_slice(page_begin())?;
     text.extend_from_slice(style())?;
     text.extend_from_slice(sums_begin())?;
-    push_sums(text, totals)?;
+    push_head(text, totals)?;
     Ok(())
 }
 
-fn push_chart_part(
+fn push_chart_part<R: Lines, T: Lines, F: Lines, S: Lines, E: Lines>(
     text: &mut Vec<u8>,
-    by: Number,
-    view: &View<'_>,
+    sheet: &Sheet<'_, R, T, F, S, E>,
     made: &mut String,
 ) -> Result<(), AllocError>
-    ensures { OnOk result (text.new.items ≡ text.old.items ++ text_of (chart_part by (view_model view.now))) }
+    ensures { OnOk result (text.new.items ≡ text.old.items ++ text_of (chart_part sheet.now)) }
 {
     text.extend_from_slice(chart_begin())?;
-    push_chart(text, by, view, made)?;
+    push_chart(text, sheet, made)?;
     Ok(())
 }
 
@@ -81,21 +82,41 @@ fn push_tree_part(
     Ok(())
 }
 
-fn page_text(
+fn page_text<R: Lines, T: Lines, F: Lines, S: Lines, E: Lines>(
     alloc: Global,
     by: Number,
-    totals: Sums,
-    view: &View<'_>,
+    sheet: &Sheet<'_, R, T, F, S, E>,
     boxes: &[DirectoryBox<'_>],
 ) -> Result<Vec<u8>, AllocError>
-    ensures { IfOk result (λ text. text.items ≡ text_of (page_pieces by totals (view_model view.now) boxes.now)) }
+    ensures { IfOk result (λ text. text.items ≡ text_of (page_pieces by sheet.now boxes.now)) }
 {
     let mut text = Vec::new(alloc);
     let mut made = String::new(alloc);
-    push_sums_part(&mut text, totals)?;
-    push_chart_part(&mut text, by, view, &mut made)?;
+    push_head_part(&mut text, &sheet.totals)?;
+    push_chart_part(&mut text, sheet, &mut made)?;
     push_tree_part(&mut text, by, boxes, &mut made)?;
     Ok(text)
+}
+
+/// Returns the options of the sheet of a page.
+fn chart_options(by: Number) -> TableOptions
+    ensures { result ≡ chart_options by }
+{
+    TableOptions {
+        format: Format::Html,
+        by: CHART_COLUMNS,
+        sort: Some(by),
+        top: Some(CHART_ROWS),
+        files: false,
+        share: true,
+    }
+}
+
+/// Returns the rows that have a bar.
+fn first_rows<'a, 'b>(rows: &'b [ShownRow<'a>]) -> &'b [ShownRow<'a>]
+    ensures { result.now ≡ first_of (Some chart_rows) rows.entry.now }
+{
+    &rows[..rows.len().min(CHART_ROWS as usize)]
 }
 
 /// Returns the boxes of the directories of some files.
@@ -119,9 +140,10 @@ fn page_by(alloc: Global, report: &Report, by: Number) -> Result<Vec<u8>, AllocE
     ensures { IfOk result (λ text. IsPageOf by report.now text.items) }
 {
     let extensions = shown_rows(alloc, &report.rows, &report.files, CHART_COLUMNS, Some(by))?;
-    let view = View::of(Some(CHART_ROWS), &extensions, &[])?;
-    let boxes = boxes_of(alloc, by, report.totals, &report.files, view.rows)?;
-    let text = page_text(alloc, by, report.totals, &view, &boxes)?;
+    let chart = first_rows(&extensions);
+    let boxes = boxes_of(alloc, by, report.totals, &report.files, chart)?;
+    let shown = Shown::with_rows(alloc, report, &chart_options(by), extensions)?;
+    let text = page_text(alloc, by, &shown.sheet(), &boxes)?;
     Ok(text)
 }
 

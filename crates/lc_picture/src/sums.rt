@@ -2,7 +2,7 @@
 
 ghost use Rattle.std.specs.Prelude.{◌≡◌, ◌++◌, OnOk, decimal};
 ghost use Rattle.lc_rows.specs.ShownRows.{number_in};
-ghost use Rattle.lc_picture.specs.Pieces.{sums_pieces, text_of};
+ghost use Rattle.lc_picture.specs.Pieces.{numbers, sums_pieces, text_of};
 
 use lc_sheet::Number;
 use lc_walk::Sums;
@@ -28,16 +28,35 @@ pub(crate) fn push_number(text: &mut Vec<u8>, n: u128) -> Result<(), AllocError>
     text.extend_from_slice(buffer.format(n).as_bytes())
 }
 
+/// Appends numbers, each with its word.
+pub(crate) fn push_numbers(
+    text: &mut Vec<u8>,
+    lines: u128,
+    files: u128,
+    blank: u128,
+    bytes: u128,
+) -> Result<(), AllocError>
+    ensures { OnOk result (text.new.items ≡ text.old.items ++ text_of (numbers lines files blank bytes)) }
+{
+    text.extend_from_slice(b"lines ")?;
+    push_number(text, lines)?;
+    text.extend_from_slice(b", files ")?;
+    push_number(text, files)?;
+    text.extend_from_slice(b", blank ")?;
+    push_number(text, blank)?;
+    text.extend_from_slice(b", bytes ")?;
+    push_number(text, bytes)
+}
+
 /// Appends sums, each with its word.
 pub(crate) fn push_sums(text: &mut Vec<u8>, sums: Sums) -> Result<(), AllocError>
     ensures { OnOk result (text.new.items ≡ text.old.items ++ text_of (sums_pieces sums)) }
 {
-    text.extend_from_slice(b"lines ")?;
-    push_number(text, sums.lines)?;
-    text.extend_from_slice(b", files ")?;
-    push_number(text, u128::from(sums.files))?;
-    text.extend_from_slice(b", blank ")?;
-    push_number(text, sums.blank)?;
-    text.extend_from_slice(b", bytes ")?;
-    push_number(text, sums.bytes)
+    push_numbers(
+        text,
+        sums.lines,
+        u128::from(sums.files),
+        sums.blank,
+        sums.bytes,
+    )
 }

@@ -261,9 +261,10 @@ fn a_page_is_one_whole_document(rt: HostRuntime) -> Result<(), Fail> {
 fn extensions_that_the_chart_has_no_place_for(rt: HostRuntime) -> Result<(), Fail> {
     let report = report_of(rt.alloc(), MANY, [22, 649, 231, 462], &[])?;
     let mut end =
-        b"<tr><th>others</th><td>2</td><td>39</td><td>41</td><td>82</td><td></td></tr>\n".to_vec(
-            rt.alloc(),
-        )?;
+        b"<tr class=\"e8\"><th>.t</th><td>1</td><td>21</td><td>19</td><td>38</td><td><div class=\"bar\">\
+          <i style=\"--n:21\"></i><u style=\"--n:19\"></u></div></td></tr>\n\
+          <tr><th>others</th><td>2</td><td>39</td><td>41</td><td>82</td><td></td></tr>\n"
+            .to_vec(rt.alloc())?;
     end.extend_from_slice(BETWEEN[2])?;
     end.extend_from_slice(b"lines")?;
     end.extend_from_slice(BETWEEN[3])?;

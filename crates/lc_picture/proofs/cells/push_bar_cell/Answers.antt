@@ -1,14 +1,14 @@
 use Rattle.std.proofs.Common.{ℕ, ◌++◌, ap, ◌∙◌, codes, decimal}
 use Rattle.lc_picture.specs.Pieces.{markup, share}
 use Rattle.lc_picture.proofs.Texts.{five_pieces}
-use Rattle.lc_picture.proofs.chart.push_bar.Goals as goal
+use Rattle.lc_picture.proofs.cells.push_bar_cell.Goals as goal
 
 pub returns : goal.returns
 returns c =
     five_pieces c.args.text.now.items c.extend_from_slice.new.self.items c.push_number.new.text.items
     c.extend_from_slice-2.new.self.items c.push_number-2.new.text.items c.extend_from_slice-3.new.self.items
     (markup (codes "<td><div class=\"bar\"><i style=\"--n:")) (share _)
-    (markup (codes "\"></i><u style=\"--n:")) (share _) (markup (codes "\"></u></div></td></tr>\n"))
+    (markup (codes "\"></i><u style=\"--n:")) (share _) (markup (codes "\"></u></div></td>"))
     c.in_ok-extend_from_slice.ensures.items c.in_ok-push_number.ensures c.in_ok-extend_from_slice-2.ensures.items
     (c.in_ok-push_number-2.ensures ∙ ap (λ (n : ℕ). c.extend_from_slice-2.new.self.items ++ decimal n) c.saturating_sub.ensures)
     c.in_ok-extend_from_slice-3.ensures.items
