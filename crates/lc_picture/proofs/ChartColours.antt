@@ -26,6 +26,7 @@ use Rattle.lc_picture.specs.Page.{chart_columns, chart_rows}
 abbrev chart_key : Option (List ℕ) → RowKey
 chart_key e = record { directory = None; key = record { extension = e; text = Unspecified; eol = NoEnd } }
 
+-- whether a key is none of these
 abbrev is_other : RowKey → Bool
 is_other k = not (same_row_key (chart_key k.key.extension) k)
 
@@ -92,7 +93,8 @@ place_found e [] i d inside here before = absurd (omega arith)
 place_found e (r ∷ rs) zero d inside here before = rw here refl
 place_found e (r ∷ rs) (suc i) d inside here before =
     let next : i + 1 ≡ suc i = omega arith in
-    rw (before 0 (omega arith)) (ap (λ (n : ℕ). n + 1) (place_found e rs i d (omega arith) here (λ j low. before (suc j) (omega arith))) ∙ next)
+    let found = place_found e rs i d (omega arith) here (λ j low. before (suc j) (omega arith)) in
+    rw (before 0 (omega arith)) (ap (λ (n : ℕ). n + 1) found ∙ next)
 
 pub colours_law : ColoursLaw
 colours_law by rs fs extensions place d shown inside =

@@ -1,8 +1,8 @@
 -- Texts of pieces that are written one after the other.
-use Rattle.std.proofs.Common.{◌≡◌, ℕ, ◌+◌, ◌-◌, ◌<◌, List, [], ◌∷◌, ◌++◌, suc, length, take, get_or, flat_map, refl, sym, ap, ap₂, ◌∙◌}
+use Rattle.std.proofs.Common.{◌≡◌, ℕ, ◌-◌, ◌<◌, List, [], ◌∷◌, ◌++◌, suc, refl, sym, ap, ◌∙◌}
 use Rattle.std.proofs.Common.{append_assoc, arith}
-use Rattle.std.proofs.lemmas.Grind.{flat_map-append, take_at_read}
-use Rattle.std.proofs.lemmas.List.{append-nil, flat_map_more}
+use Rattle.std.proofs.lemmas.Grind.{flat_map-append}
+use Rattle.std.proofs.lemmas.List.{append-nil}
 use Rattle.lc_picture.specs.Boxes.{closings}
 use Rattle.lc_picture.specs.Pieces.{Piece, piece_text, text_of}
 
@@ -35,18 +35,3 @@ pub closed : (t0 t1 all : List ℕ) (rest : ℕ) → 0 < rest → t1 ≡ t0 ++ t
 closed t0 t1 all rest some e same =
     let one_more : rest ≡ suc (rest - 1) = omega arith in
     more t0 t1 all (closings 1) (closings (rest - 1)) e (ap (λ (n : ℕ). t0 ++ text_of (closings n)) (sym one_more) ∙ same)
-
--- the texts of lists of pieces
-pub texts_of_each : {X : Type 0} (pieces : X → List Piece) (xs : List X)
-    → flat_map (λ x. text_of (pieces x)) xs ≡ text_of (flat_map pieces xs)
-texts_of_each pieces [] = refl
-texts_of_each pieces (x ∷ xs) =
-    ap (λ (t : List ℕ). text_of (pieces x) ++ t) (texts_of_each pieces xs)
-    ∙ sym (flat_map-append piece_text (pieces x) (flat_map pieces xs))
-
--- behind the texts of some elements comes that of the next
-pub one_text_more : {X : Type 0} (text : X → List ℕ) (t0 t1 t2 : List ℕ) (x d : X) (xs : List X) (i : ℕ) → i < length xs
-    → x ≡ get_or xs i d → t1 ≡ t0 ++ flat_map text (take i xs) → t2 ≡ t1 ++ text x → t2 ≡ t0 ++ flat_map text (take (i + 1) xs)
-one_text_more {X} text t0 t1 t2 x d xs i inside is e1 e2 =
-    e2 ∙ ap₂ (λ (t u : List ℕ). t ++ u) e1 (ap text is) ∙ flat_map_more text t0 (take i xs) (get_or xs i d)
-    ∙ ap (λ (ys : List X). t0 ++ flat_map text ys) (sym (take_at_read xs i d inside).1)

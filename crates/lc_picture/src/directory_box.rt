@@ -1,6 +1,6 @@
 //! A directory as a box of the picture.
 
-ghost use Rattle.std.specs.Prelude.{◌≡◌, [], ◌∷◌, ◌++◌, IfOk, OnOk, drop, nat_le};
+ghost use Rattle.std.specs.Prelude.{◌≡◌, [], ◌∷◌, ◌++◌, IfOk, OnOk, drop};
 ghost use Rattle.lc_rows.specs.Directories.{name_of};
 ghost use Rattle.lc_rows.specs.ShownRows.{number_in};
 ghost use Rattle.lc_picture.specs.Boxes.{box_of, drawn_boxes, least_drawn};

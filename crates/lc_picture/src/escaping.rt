@@ -27,7 +27,7 @@ fn push_html_byte(text: &mut Vec<u8>, b: u8) -> Result<(), AllocError>
     }
 }
 
-/// Appends a text that is shown as it is.
+/// Appends a text, with a character reference for each byte that could be markup.
 pub(crate) fn push_html(text: &mut Vec<u8>, shown: &[u8]) -> Result<(), AllocError>
     ensures { OnOk result (text.new.items ≡ text.old.items ++ html shown.now) }
 {
