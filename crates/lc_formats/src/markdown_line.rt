@@ -1,7 +1,6 @@
 //! Lines of a table of Markdown.
 
-ghost use Rattle.std.specs.Prelude.{◌≡◌, ◌++◌, flat_map, map, OnOk};
-ghost use Rattle.lc_formats.specs.Cells.{shown_text};
+ghost use Rattle.std.specs.Prelude.{◌≡◌, ◌++◌, map, OnOk};
 ghost use Rattle.lc_formats.specs.MarkdownCells.{bold, rule_cell, value_cell, weighted};
 ghost use Rattle.lc_formats.specs.MarkdownText.{heading_value, headings_with, line_with, rule_with};
 ghost use Rattle.lc_sheet.specs.Sheets.{line_of};
