@@ -1,6 +1,6 @@
 //! The formats in which a sheet is printed. A format knows values, columns and sections, and nothing of where they come from.
 //!
-//! - `json_sheet`: a text as JSON, by `json_values` and `json_writer`
+//! - `json_sheet`: a text as JSON, by `json_values` and `json_writer`; `joined`: names as bytes
 //! - `markdown`: a text as Markdown, by `markdown_line` and `markdown_escape`; `markdown_laws`: what is true of it
 //! - `table`: a text in columns, for reading, by `section_lines` and `widths`
 //! - `cells`: the cells in which a line is shown; `cell_text`, `numbers`, `shares`: the texts in them
@@ -8,6 +8,7 @@
 
 mod cell_text;
 mod cells;
+mod joined;
 mod json_sheet;
 mod json_values;
 mod json_writer;
