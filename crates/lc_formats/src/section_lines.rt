@@ -72,7 +72,7 @@ fn push_some<'a, L: Lines>(
 }
 
 /// Returns whether a section has no lines.
-fn is_empty<L: Lines>(section: &Section<'_, L>) -> bool
+pub(crate) fn is_empty<L: Lines>(section: &Section<'_, L>) -> bool
     ensures { result ≡ (length section.now.lines == 0) }
 {
     let (_, _, lines) = section.parts();
