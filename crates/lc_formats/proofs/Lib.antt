@@ -7,3 +7,17 @@ pub mod Tokens
 pub mod Widened
 pub mod Commas
 pub mod LastCells
+pub mod OneLine
+pub mod Spacing
+pub mod BlankEnds
+pub mod EvenLines
+pub mod PrintedLines
+pub mod LinesApart
+pub mod EvenParts
+pub mod Bars
+pub mod SoundValues
+pub mod RowWidths
+pub mod ListingWidths
+pub mod LineEndProofs
+pub mod ShareLawProofs
+pub mod CommaLawProofs

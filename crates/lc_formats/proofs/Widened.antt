@@ -110,7 +110,7 @@ some_listed initial t1 t2 t3 start first ws headings lines a b e1 e2 e3 =
     let joined : t3 ≡ initial ++ listing_in ws headings lines = rw (e3, e2, e1) (simp append_assoc) in
     joined ∙ ap (λ (l : List ℕ). initial ++ listing_in l headings lines) all
 
--- where something is listed, its lines stand below the headings
+-- where something is listed, its lines are below the headings
 pub listed_some : {A : Type 0} (headings : List CellModel) (cells : A → List CellModel) (xs : List A) → (length xs == 0) ≡ false
     → listing headings (map cells xs) ≡ listing_in (widened [] (headings ∷ map cells xs)) headings (map cells xs)
 listed_some headings cells [] some = absurd (cc)

@@ -5,7 +5,7 @@ use Rattle.unicode_width.specs.Width.{str_width}
 use Rattle.lc_sheet.specs.declared.column.Side.{Side}
 use Rattle.lc_sheet.specs.declared.column.Side.TheVariants.{Left, Right, End}
 
--- a text, and where in its column it stands
+-- a text, and its side of the column
 pub record CellModel : Type 0 where
   pub side : Side
   pub text : List ℕ
@@ -45,7 +45,7 @@ widened ws (line ∷ lines) = widened (wider ws (cell_widths line)) lines
 abbrev pub widths_of : List (List CellModel) → List ℕ
 widths_of lines = widened [] lines
 
--- two spaces stand between cells
+-- two spaces are between cells
 abbrev pub gap : List CellModel → List ℕ
 gap [] = []
 gap (c ∷ cs) = codes "  "

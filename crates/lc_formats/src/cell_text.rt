@@ -13,10 +13,10 @@ use std::alloc::AllocError;
 use unicode_width::UnicodeWidthStr;
 
 /// Appends the text of a value. Nothing in it moves the cursor of a terminal.
-pub(crate) fn push_value(text: &mut String, value: Value<'_>) -> Result<(), AllocError>
-    ensures { OnOk result (string_bytes text.new ≡ string_bytes text.old ++ shown_text (value_model value.entry)) }
+pub(crate) fn push_value(text: &mut String, value: &Value<'_>) -> Result<(), AllocError>
+    ensures { OnOk result (string_bytes text.new ≡ string_bytes text.old ++ shown_text (value_model value.now)) }
 {
-    match value {
+    match *value {
         Value::Missing => text.push_str("-"),
         Value::Summed | Value::Blank => Ok(()),
         Value::Word(word) => text.push_str(word),
@@ -29,17 +29,17 @@ pub(crate) fn push_value(text: &mut String, value: Value<'_>) -> Result<(), Allo
 }
 
 /// Makes the text of a value, in place of what `made` had.
-pub(crate) fn make_value(made: &mut String, value: Value<'_>) -> Result<(), AllocError>
-    ensures { OnOk result (string_bytes made.new ≡ shown_text (value_model value.entry)) }
+pub(crate) fn make_value(made: &mut String, value: &Value<'_>) -> Result<(), AllocError>
+    ensures { OnOk result (string_bytes made.new ≡ shown_text (value_model value.now)) }
 {
     made.clear();
     push_value(made, value)
 }
 
 /// Makes the text of a value, in place of what `made` had, and returns its width in columns of a terminal.
-pub(crate) fn make_wide(made: &mut String, value: Value<'_>) -> Result<usize, AllocError>
-    ensures text { OnOk result (string_bytes made.new ≡ shown_text (value_model value.entry)) }
-    ensures width { IfOk result (λ width. width ≡ width_of (shown_text (value_model value.entry))) }
+pub(crate) fn make_wide(made: &mut String, value: &Value<'_>) -> Result<usize, AllocError>
+    ensures text { OnOk result (string_bytes made.new ≡ shown_text (value_model value.now)) }
+    ensures width { IfOk result (λ width. width ≡ width_of (shown_text (value_model value.now))) }
 {
     make_value(made, value)?;
     Ok(made.as_str().width())

@@ -42,14 +42,14 @@ fn push_blanks(text: &mut String, count: usize, others: &[Cell<'_>]) -> Result<(
 }
 
 impl<'a> Cell<'a> {
-    /// Shows a value at a side.
+    /// Makes a cell with a value at a side.
     pub(crate) fn new(side: Side, value: Value<'a>) -> Cell<'a>
         ensures { cell_model result ≡ cell_at side (value_model value.entry) }
     {
         Cell { side, value }
     }
 
-    /// The heading of a column.
+    /// Makes the cell of the heading of a column.
     pub(crate) fn heading(column: Column) -> Cell<'a>
         ensures { cell_model result ≡ heading_cell column }
     {
@@ -59,7 +59,7 @@ impl<'a> Cell<'a> {
         }
     }
 
-    /// What a line has in a column.
+    /// Makes the cell of what a line has in a column.
     pub(crate) fn of<L: Lines>(line: &'a L::Line, form: Form, column: Column) -> Cell<'a>
         ensures { cell_model result ≡ cell_of column (L.value_in form line.entry.now column) }
     {
@@ -69,26 +69,13 @@ impl<'a> Cell<'a> {
         }
     }
 
-    pub(crate) fn side(&self) -> Side
-        ensures { result ≡ (cell_model self.now).side }
-    {
-        self.side
-    }
-
-    /// Makes its text, in place of what `made` had.
-    pub(crate) fn make(&self, made: &mut String) -> Result<(), AllocError>
-        ensures { OnOk result (string_bytes made.new ≡ (cell_model self.now).text) }
-    {
-        make_value(made, self.value)
-    }
-
     /// Returns how wide its column must be for it.
     pub(crate) fn width(&self, made: &mut String) -> Result<usize, AllocError>
         ensures { IfOk result (λ width. width ≡ width_at (cell_model self.now).side (cell_model self.now).text) }
     {
         match self.side {
             Side::End => Ok(0),
-            Side::Left | Side::Right => make_wide(made, self.value),
+            Side::Left | Side::Right => make_wide(made, &self.value),
         }
     }
 
@@ -99,7 +86,7 @@ impl<'a> Cell<'a> {
         match self.side {
             Side::End => Ok(true),
             Side::Left | Side::Right => {
-                make_value(made, self.value)?;
+                make_value(made, &self.value)?;
                 Ok(!made.as_str().is_empty())
             }
         }
@@ -117,14 +104,14 @@ impl<'a> Cell<'a> {
             ++ text_before (cells_of others.now) (cell_model self.now).side width (cell_model self.now).text) }
     {
         match self.side {
-            Side::End => push_value(text, self.value),
+            Side::End => push_value(text, &self.value),
             Side::Left => {
-                let own = make_wide(made, self.value)?;
+                let own = make_wide(made, &self.value)?;
                 text.push_str(made.as_str())?;
                 push_blanks(text, width.saturating_sub(own), others)
             }
             Side::Right => {
-                let own = make_wide(made, self.value)?;
+                let own = make_wide(made, &self.value)?;
                 push_copies(text, ' ', width.saturating_sub(own))?;
                 text.push_str(made.as_str())
             }
@@ -143,7 +130,7 @@ fn push_headings(cells: &mut Vec<Cell<'_>>, columns: &[Column]) -> Result<(), Al
     Ok(())
 }
 
-/// Sets the cells to the headings of columns.
+/// Sets the cells to those of the headings of columns.
 pub(crate) fn set_headings(cells: &mut Vec<Cell<'_>>, columns: &[Column]) -> Result<(), AllocError>
     ensures { OnOk result (cells_of cells.new.items ≡ heading_cells columns.now) }
 {
@@ -151,7 +138,7 @@ pub(crate) fn set_headings(cells: &mut Vec<Cell<'_>>, columns: &[Column]) -> Res
     push_headings(cells, columns)
 }
 
-/// Appends what a line has in a column.
+/// Appends the cell of what a line has in a column.
 fn push_cell<'l, L: Lines>(
     cells: &mut Vec<Cell<'l>>,
     line: &'l L::Line,
@@ -182,7 +169,7 @@ fn push_cells<'l, L: Lines>(
     Ok(())
 }
 
-/// Sets the cells to what a line has in each column.
+/// Sets the cells to those of what a line has in each column.
 pub(crate) fn set_cells<'l, L: Lines>(
     cells: &mut Vec<Cell<'l>>,
     line: &'l L::Line,

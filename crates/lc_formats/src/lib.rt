@@ -4,6 +4,7 @@
 //! - `markdown`: a text as Markdown, by `markdown_line` and `markdown_escape`; `markdown_laws`: what is true of it
 //! - `table`: a text in columns, for reading, by `section_lines` and `widths`
 //! - `cells`: the cells in which a line is shown; `cell_text`, `numbers`, `shares`: the texts in them
+//! - `table_laws`: what is true of the definitions that their contracts cite
 #![tactic(auto)]
 
 mod cell_text;
@@ -20,6 +21,7 @@ mod numbers;
 mod section_lines;
 mod shares;
 mod table;
+mod table_laws;
 mod widths;
 
 pub use json_sheet::json_text;
@@ -27,3 +29,7 @@ pub use markdown::markdown_text;
 pub use markdown_laws::markdown_has_no_markup_of_names;
 pub use numbers::push_number;
 pub use table::table_text;
+pub use table_laws::{
+    bars_are_as_long_as_their_cells, lines_end_without_blanks, lines_of_a_part_are_as_wide,
+    numbers_with_commas_read_back, shares_are_of_the_whole,
+};

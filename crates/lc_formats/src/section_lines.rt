@@ -71,6 +71,7 @@ fn push_some<'a, L: Lines>(
     Ok(())
 }
 
+/// Returns whether a section has no lines.
 pub(crate) fn is_empty<L: Lines>(section: &Section<'_, L>) -> bool
     ensures { result ≡ (length section.now.lines == 0) }
 {

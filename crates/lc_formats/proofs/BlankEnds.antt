@@ -1,0 +1,165 @@
+-- Texts without the blanks at their ends.
+use Rattle.std.proofs.Common.{◌≡◌, ℕ, zero, suc, ◌<◌, ◌-◌, ◌/◌, ◌%◌, Bool, true, false, not, ◌==◌, ◌&&◌, if◌then◌else◌}
+use Rattle.std.proofs.Common.{List, [], ◌∷◌, ◌++◌, length, get_or, codes, decimal, encode_utf8, refl, sym, ap, ap₂, ◌∙◌, arith, append-nil}
+use Rattle.std.specs.Fmt.{digit_glyph, digits, digits_onto}
+use Rattle.std.specs.List.{list_all}
+use Rattle.std.proofs.lemmas.Bool.{and_parts, and_from, ne_eqb, not-true}
+use Rattle.std.proofs.lemmas.Bool.Decides.{nat_tests}
+use Rattle.std.proofs.lemmas.List.Folds.{list_all-append}
+use Rattle.std.proofs.lemmas.Str.{inside_one}
+use Rattle.lc_formats.specs.Blanks.{char_before, ends_in_blank, without_blanks}
+use Rattle.lc_formats.specs.CellWords.{with_commas}
+use Rattle.lc_formats.specs.Columns.{has_text, spaces}
+use Rattle.lc_formats.specs.Shares.{bar, blocks, last_block, share_word}
+use Rattle.lc_formats.proofs.OneLine.{is_no_feed, is_numeral, is_one_line, numerals}
+
+-- whether there is nothing
+abbrev pub is_none : {X : Type 0} → List X → Bool
+is_none [] = true
+is_none (x ∷ xs) = false
+
+-- what ends a text ends it with any text before it, too
+pub ends-append : (a b : List ℕ) → (b ≡ [] → ⊥) → ends_in_blank (a ++ b) ≡ ends_in_blank b
+ends-append [] b some = refl
+ends-append (c ∷ []) [] some = absurd (some refl)
+ends-append (c ∷ []) (d ∷ ds) some = refl
+ends-append (c ∷ e ∷ es) b some = ends-append (e ∷ es) b some
+
+-- a text that ends in no blank has none to lose
+pub without_none : (t : List ℕ) → ends_in_blank t ≡ false → without_blanks t ≡ t
+without_none [] e = refl
+without_none (c ∷ []) e = ap (λ b. if b then [] else c ∷ []) e
+without_none (c ∷ d ∷ ds) e = ap (char_before c) (without_none (d ∷ ds) e)
+
+ends_alone : (b : Bool) (c : ℕ) → (c == 32) ≡ b → ends_in_blank (if b then [] else c ∷ []) ≡ false
+ends_alone true c h = refl
+ends_alone false c h = h
+
+ends_before : (c : ℕ) (rest : List ℕ) → ends_in_blank rest ≡ false → ends_in_blank (char_before c rest) ≡ false
+ends_before c [] e = ends_alone (c == 32) c refl
+ends_before c (d ∷ ds) e = e
+
+-- without its blanks a text ends in none
+pub ends_without : (t : List ℕ) → ends_in_blank (without_blanks t) ≡ false
+ends_without [] = refl
+ends_without (c ∷ cs) = ends_before c (without_blanks cs) (ends_without cs)
+
+-- blanks at the end
+pub drop_end : (a b : List ℕ) → without_blanks b ≡ [] → without_blanks (a ++ b) ≡ without_blanks a
+drop_end [] b none = none
+drop_end (c ∷ a) b none = ap (char_before c) (drop_end a b none)
+
+pub blank_spaces : (n : ℕ) → without_blanks (spaces n) ≡ []
+blank_spaces zero = refl
+blank_spaces (suc n) = ap (char_before 32) (blank_spaces n)
+
+-- more than blanks at the end
+pub keep_end : (a b : List ℕ) (c : ℕ) (cs : List ℕ) → without_blanks b ≡ c ∷ cs → without_blanks (a ++ b) ≡ a ++ (c ∷ cs)
+keep_end [] b c cs is = is
+keep_end (d ∷ []) b c cs is = ap (char_before d) is
+keep_end (d ∷ e ∷ es) b c cs is = ap (char_before d) (keep_end (e ∷ es) b c cs is)
+
+-- something after a text
+pub some_after : {X : Type 0} (xs : List X) (y : X) (ys : List X) → is_none (xs ++ y ∷ ys) ≡ false
+some_after [] y ys = refl
+some_after (x ∷ xs) y ys = refl
+
+one_line_alone : (b : Bool) (c : ℕ) → is_no_feed c ≡ true → is_one_line (if b then [] else c ∷ []) ≡ true
+one_line_alone true c e = refl
+one_line_alone false c e = and_from _ _ e refl
+
+one_line_before : (c : ℕ) (rest : List ℕ) → is_no_feed c ≡ true → is_one_line rest ≡ true → is_one_line (char_before c rest) ≡ true
+one_line_before c [] e all = one_line_alone (c == 32) c e
+one_line_before c (d ∷ ds) e all = and_from _ _ e all
+
+-- it is on one line still
+pub one_line_without : (t : List ℕ) → is_one_line t ≡ true → is_one_line (without_blanks t) ≡ true
+one_line_without [] e = refl
+one_line_without (c ∷ cs) e =
+    let parts = and_parts (is_no_feed c) (is_one_line cs) e in
+    one_line_before c (without_blanks cs) parts.0 (one_line_without cs parts.1)
+
+-- ---- texts without a blank
+
+abbrev no_blank : ℕ → Bool
+no_blank b = not (b == 32)
+
+ends_none : (t : List ℕ) → list_all no_blank t ≡ true → ends_in_blank t ≡ false
+ends_none [] all = refl
+ends_none (c ∷ []) all = not-true (c == 32) (and_parts (no_blank c) true all).0
+ends_none (c ∷ d ∷ ds) all = ends_none (d ∷ ds) (and_parts (no_blank c) (list_all no_blank (d ∷ ds)) all).1
+
+none_both : (a b : List ℕ) → list_all no_blank a ≡ true → list_all no_blank b ≡ true → list_all no_blank (a ++ b) ≡ true
+none_both a b x y = list_all-append no_blank a b ∙ ap₂ (λ p q. p && q) x y
+
+no_blank_digit : (d : ℕ) → is_numeral d ≡ true → no_blank d ≡ true
+no_blank_digit d e = grind (arith, nat_tests)
+
+none_numeral : (ds : List ℕ) → list_all is_numeral ds ≡ true → list_all no_blank ds ≡ true
+none_numeral [] e = refl
+none_numeral (d ∷ ds) e =
+    let parts = and_parts (is_numeral d) (list_all is_numeral ds) e in and_from _ _ (no_blank_digit d parts.0) (none_numeral ds parts.1)
+
+-- a number ends in no blank
+pub ends_number : (n : ℕ) → ends_in_blank (with_commas (decimal n)) ≡ false
+ends_number n = ends_none (with_commas (decimal n)) (none_numeral (with_commas (decimal n)) (numerals n))
+
+text_chosen : (b : Bool) (d : ℕ) (ds ts : List ℕ) → has_text ts ≡ true → has_text (if b then d ∷ ds else ts) ≡ true
+text_chosen true d ds ts e = refl
+text_chosen false d ds ts e = e
+
+text_onto : (k n d : ℕ) (ds : List ℕ) → has_text (digits_onto k 10 false n (d ∷ ds)) ≡ true
+text_onto zero n d ds = refl
+text_onto (suc k) n d ds =
+    let x = digit_glyph false (n % 10) in
+    text_chosen (n / 10 == 0) x (d ∷ ds) (digits_onto k 10 false (n / 10) (x ∷ d ∷ ds)) (text_onto k (n / 10) x (d ∷ ds))
+
+text_decimal : (n : ℕ) → has_text (decimal n) ≡ true
+unfolding digits
+text_decimal n =
+    let x = digit_glyph false (n % 10) in
+    text_chosen (n / 10 == 0) x [] (digits_onto 63 10 false (n / 10) (x ∷ [])) (text_onto 63 (n / 10) x [])
+
+text_commas : (ds : List ℕ) → has_text ds ≡ true → has_text (with_commas ds) ≡ true
+text_commas [] e = e
+text_commas (d ∷ ds) e = refl
+
+-- a number has a text
+pub shown_number : (n : ℕ) → has_text (with_commas (decimal n)) ≡ true
+shown_number n = text_commas (decimal n) (text_decimal n)
+
+-- whether there is a text, by its length
+pub has_text-length : (t : List ℕ) → has_text t ≡ not (length t == 0)
+has_text-length [] = refl
+has_text-length (c ∷ cs) = sym (ap not (ne_eqb (length (c ∷ cs)) 0 (λ e. omega arith)))
+
+-- a share ends with its sign
+pub ends_share : (tenths : ℕ) → ends_in_blank (share_word tenths) ≡ false
+ends_share tenths =
+    ends-append (decimal (tenths / 10) ++ codes "." ++ decimal (tenths % 10)) (codes "%") (λ e. absurd (cc))
+
+from_each : (l : List ℕ) → ((k : ℕ) → k < length l → get_or l k 0 ≡ 32 → ⊥) → list_all no_blank l ≡ true
+from_each [] h = refl
+from_each (x ∷ l) h =
+    and_from _ _ (ap not (ne_eqb x 32 (h 0 (omega arith)))) (from_each l (λ k below. h (suc k) (omega arith)))
+
+none_encode : (c : ℕ) → (c ≡ 32 → ⊥) → list_all no_blank (encode_utf8 c) ≡ true
+none_encode c other = from_each (encode_utf8 c) at
+  where
+    at : (k : ℕ) → k < length (encode_utf8 c) → get_or (encode_utf8 c) k 0 ≡ 32 → ⊥
+    at k below e = other (inside_one c [] (encode_utf8 c) k (sym (append-nil _)) below (omega arith) ∙ e)
+
+none_blocks : (n : ℕ) → list_all no_blank (blocks n) ≡ true
+none_blocks zero = refl
+none_blocks (suc n) = none_both (encode_utf8 0x2588) (blocks n) (none_encode 0x2588 (λ e. omega arith)) (none_blocks n)
+
+none_part : (b : Bool) (c : ℕ) → (c ≡ 32 → ⊥) → list_all no_blank (if b then [] else encode_utf8 c) ≡ true
+none_part true c other = refl
+none_part false c other = none_encode c other
+
+-- a bar ends in no blank
+pub ends_bar : (eighths : ℕ) → ends_in_blank (bar eighths) ≡ false
+ends_bar eighths =
+    let e = eighths % 8 in
+    ends_none (bar eighths) (none_both (blocks (eighths / 8)) (last_block e) (none_blocks (eighths / 8))
+    (none_part (e == 0) (0x2590 - e) (λ h. omega arith)))

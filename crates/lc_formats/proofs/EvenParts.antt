@@ -1,0 +1,333 @@
+-- The lines of a part of a table: lines of cells that are alike, and lines of hyphens.
+use Rattle.std.proofs.Common.{◌≡◌, ℕ, ◌+◌, true, false, List, [], ◌∷◌, ◌++◌, length, map, codes, replicate, refl, sym, ap, ◌∙◌, arith}
+use Rattle.std.proofs.Common.{append_assoc, append-nil, ap₂, subst, suc, zero}
+use Rattle.std.specs.List.{All, AllZip}
+use Rattle.std.proofs.lemmas.List.{length-map, map-append, replicate-append-replicate}
+use Rattle.std.proofs.lemmas.List.Elements.{All-append, All-cons, All-head, All-nil, All-same, All-tail, All-weaker}
+use Rattle.lc_text.specs.Lines.{input_lines_of}
+use Rattle.lc_formats.specs.Blanks.{ends_in_blank, padded_line, padded_lines, without_blanks}
+use Rattle.lc_formats.specs.Columns.{CellModel, line_in, lines_in, rule_in, widths_of, width_of}
+use Rattle.lc_formats.specs.TableText.{listing}
+use Rattle.lc_formats.specs.WidthLaws.{AreEven, HasEnd, IsAlignedListing}
+use Rattle.lc_sheet.specs.declared.column.Side.{Side}
+use Rattle.lc_sheet.specs.declared.column.Side.TheVariants.{Left, Right, End}
+use Rattle.lc_formats.proofs.BlankEnds.{ends-append, ends_without, one_line_without, without_none}
+use Rattle.lc_formats.proofs.EvenLines.{AreSound, Fit, end_at, end_of, front, is_layout, line_parted}
+use Rattle.lc_formats.proofs.EvenLines.{one_line_end, one_line_front, side_width, sides, span}
+use Rattle.lc_formats.proofs.EvenLines.{width_of-front, widths_fit}
+use Rattle.lc_formats.proofs.LinesApart.{IsLined, lined-append, lined-one, input_lines_of-lined}
+use Rattle.lc_formats.proofs.OneLine.{is_one_line, one_line-append}
+use Rattle.lc_formats.specs.Layouts.{has_no_end, is_open}
+use Rattle.lc_formats.proofs.PrintedLines.{EndsBare, layout_open, line_open, line_printed}
+use Rattle.lc_formats.proofs.Spacing.{one_line_hyphens, width_of-hyphens}
+
+-- a line whose cells are at these sides
+abbrev pub IsLike : List Side → List CellModel → Type 0
+IsLike ss l = (sides l ≡ ss) × AreSound l
+
+-- a padded line without its line feed
+abbrev pub shown : List ℕ → List CellModel → List ℕ
+shown ws l = front ws l ++ end_of l
+
+one_line_shown : (ws : List ℕ) (l : List CellModel) → AreSound l → is_one_line (shown ws l) ≡ true
+one_line_shown ws l sound = one_line-append (front ws l) (end_of l) (one_line_front ws l sound) (one_line_end l sound)
+
+lined_line : (ws : List ℕ) (l : List CellModel) → Fit ws l → is_layout (sides l) ≡ true → AreSound l
+    → IsLined (shown ws l ∷ []) (padded_line ws l)
+lined_line ws l fits layout sound =
+    let one = lined-one (shown ws l) (one_line_shown ws l sound) in record {
+      text_is = line_parted ws l fits layout ∙ sym (append_assoc (front ws l) (end_of l) (codes "\n")) ∙ one.text_is;
+      each = one.each;
+    }
+
+-- the padded lines of lines that are alike, in columns that fit them
+lined_lines : (ss : List Side) (ws : List ℕ) (ls : List (List CellModel)) → is_layout ss ≡ true → All (Fit ws) ls → All (IsLike ss) ls
+    → IsLined (map (shown ws) ls) (padded_lines ws ls)
+lined_lines ss ws [] layout fits like = record { text_is = refl; each = All-nil (λ l. is_one_line l ≡ true) }
+lined_lines ss ws (l ∷ ls) layout fits like =
+    let here = All-head (IsLike ss) l ls like in
+    lined-append (shown ws l ∷ []) (map (shown ws) ls) (padded_line ws l) (padded_lines ws ls)
+    (lined_line ws l (All-head (Fit ws) l ls fits) (ap is_layout here.0 ∙ layout) here.1)
+    (lined_lines ss ws ls layout (All-tail (Fit ws) l ls fits) (All-tail (IsLike ss) l ls like))
+
+-- with an open end, they are what is printed
+lines_open : (ss : List Side) (ws : List ℕ) (ls : List (List CellModel)) → is_open ss ≡ true → All (IsLike ss) ls
+    → padded_lines ws ls ≡ lines_in ws ls
+lines_open ss ws [] layout like = refl
+lines_open ss ws (l ∷ ls) layout like =
+    ap₂ (λ (a b : List ℕ). a ++ b) (sym (line_open ws l (ap is_open (All-head (IsLike ss) l ls like).0 ∙ layout)))
+    (lines_open ss ws ls layout (All-tail (IsLike ss) l ls like))
+
+width_of-like : (ss : List Side) (ws : List ℕ) (l : List CellModel) → Fit ws l → IsLike ss l → width_of (front ws l) ≡ span ss ws
+width_of-like ss ws l fits like = width_of-front ws l fits like.1 ∙ ap (λ s. span s ws) like.0
+
+-- ---- lines without an open end
+
+-- sides of which none ends a line are a layout
+pub layout_from : (ss : List Side) → has_no_end ss ≡ true → is_layout ss ≡ true
+layout_from [] e = refl
+layout_from (Left ∷ ss) e = layout_from ss e
+layout_from (Right ∷ ss) e = layout_from ss e
+layout_from (End ∷ ss) e = absurd (cc)
+
+column_width : (s : Side) (ss : List Side) (w : ℕ) → has_no_end (s ∷ ss) ≡ true → (side_width s w ≡ w) × (has_no_end ss ≡ true)
+column_width Left ss w e = (refl, e)
+column_width Right ss w e = (refl, e)
+column_width End ss w e = absurd (cc)
+
+no_end_at : (s : Side) (t rest : List ℕ) (ss : List Side) → has_no_end (s ∷ ss) ≡ true → rest ≡ [] → end_at s t ++ rest ≡ []
+no_end_at Left t rest ss closed none = none
+no_end_at Right t rest ss closed none = none
+no_end_at End t rest ss closed none = absurd (cc)
+
+no_end : (cells : List CellModel) → has_no_end (sides cells) ≡ true → end_of cells ≡ []
+no_end [] closed = refl
+no_end (c ∷ cs) closed =
+    no_end_at c.side c.text (end_of cs) (sides cs) closed (no_end cs (column_width c.side (sides cs) 0 closed).1)
+
+padded_is : (ws : List ℕ) (l : List CellModel) → has_no_end (sides l) ≡ true → shown ws l ≡ front ws l
+padded_is ws l closed = ap (λ e. front ws l ++ e) (no_end l closed) ∙ append-nil (front ws l)
+
+-- all lines of such a layout have its width
+wide_lines : (ss : List Side) (ws : List ℕ) (ls : List (List CellModel)) → has_no_end ss ≡ true → All (Fit ws) ls → All (IsLike ss) ls
+    → All (λ line. width_of line ≡ span ss ws) (map (shown ws) ls)
+wide_lines ss ws [] closed fits like = All-nil (λ line. width_of line ≡ span ss ws)
+wide_lines ss ws (l ∷ ls) closed fits like =
+    let here = All-head (IsLike ss) l ls like in
+    All-cons (λ line. width_of line ≡ span ss ws) (shown ws l) (map (shown ws) ls)
+    (ap width_of (padded_is ws l (ap has_no_end here.0 ∙ closed)) ∙ width_of-like ss ws l (All-head (Fit ws) l ls fits) here)
+    (wide_lines ss ws ls closed (All-tail (Fit ws) l ls fits) (All-tail (IsLike ss) l ls like))
+
+printed_line : (ws : List ℕ) (l : List CellModel) → Fit ws l → has_no_end (sides l) ≡ true → AreSound l → EndsBare l
+    → IsLined (without_blanks (shown ws l) ∷ []) (line_in ws l)
+printed_line ws l fits closed sound bare =
+    let one = lined-one (without_blanks (shown ws l)) (one_line_without (shown ws l) (one_line_shown ws l sound)) in record {
+      text_is = line_printed ws l fits closed bare
+          ∙ ap (λ (t : List ℕ). without_blanks t ++ codes "\n") (sym (padded_is ws l closed)) ∙ one.text_is;
+      each = one.each;
+    }
+
+printed_lines : (ss : List Side) (ws : List ℕ) (ls : List (List CellModel)) → has_no_end ss ≡ true → All (Fit ws) ls → All (IsLike ss) ls
+    → All EndsBare ls → IsLined (map without_blanks (map (shown ws) ls)) (lines_in ws ls)
+printed_lines ss ws [] closed fits like bare = record { text_is = refl; each = All-nil (λ l. is_one_line l ≡ true) }
+printed_lines ss ws (l ∷ ls) closed fits like bare =
+    let here = All-head (IsLike ss) l ls like in
+    lined-append (without_blanks (shown ws l) ∷ []) (map without_blanks (map (shown ws) ls)) (line_in ws l) (lines_in ws ls)
+    (printed_line ws l (All-head (Fit ws) l ls fits) (ap has_no_end here.0 ∙ closed) here.1 (All-head EndsBare l ls bare))
+    (printed_lines ss ws ls closed (All-tail (Fit ws) l ls fits) (All-tail (IsLike ss) l ls like) (All-tail EndsBare l ls bare))
+
+hyphens_joined : (w n : ℕ) → replicate w 45 ++ (codes "--" ++ (replicate n 45 ++ codes "\n")) ≡ replicate (w + (2 + n)) 45 ++ codes "\n"
+hyphens_joined w n =
+    let all : replicate w 45 ++ (codes "--" ++ replicate n 45) ≡ replicate (w + (2 + n)) 45 =
+    ap (λ (l : List ℕ). replicate w 45 ++ l) (replicate-append-replicate 2 n 45) ∙ replicate-append-replicate w (2 + n) 45 in
+    ap (λ (l : List ℕ). replicate w 45 ++ l) (sym (append_assoc (codes "--") (replicate n 45) (codes "\n")))
+    ∙ sym (append_assoc (replicate w 45) (codes "--" ++ replicate n 45) (codes "\n")) ∙ ap (λ (l : List ℕ). l ++ codes "\n") all
+
+-- a line of hyphens has the width of the lines
+rule_is : (ss : List Side) (ws : List ℕ) → has_no_end ss ≡ true → length ws ≡ length ss
+    → rule_in ws ≡ replicate (span ss ws) 45 ++ codes "\n"
+rule_is [] [] closed long = refl
+rule_is [] (w ∷ ws) closed long = absurd (omega arith)
+rule_is (s ∷ ss) [] closed long = absurd (omega arith)
+rule_is (s ∷ []) (w ∷ []) closed long =
+    let own = (column_width s [] w closed).0 in
+    let n : w ≡ span (s ∷ []) (w ∷ []) = omega (arith, own) in ap (λ (n : ℕ). replicate n 45 ++ codes "\n") n
+rule_is (s ∷ []) (w ∷ v ∷ vs) closed long = absurd (omega arith)
+rule_is (s ∷ t ∷ ts) (w ∷ []) closed long = absurd (omega arith)
+rule_is (s ∷ t ∷ ts) (w ∷ v ∷ vs) closed long =
+    let column = column_width s (t ∷ ts) w closed in
+    let more = span (t ∷ ts) (v ∷ vs) in
+    let n : w + (2 + more) ≡ span (s ∷ t ∷ ts) (w ∷ v ∷ vs) = omega (arith, column.0) in
+    ap (λ (l : List ℕ). replicate w 45 ++ (codes "--" ++ l)) (rule_is (t ∷ ts) (v ∷ vs) column.1 (omega arith))
+    ∙ hyphens_joined w more ∙ ap (λ (n : ℕ). replicate n 45 ++ codes "\n") n
+
+-- ---- texts whose lines are even with their blanks, and printed without them
+
+pub record IsEven (n : ℕ) (lines : List (List ℕ)) (padded text : List ℕ) : Type 0 where
+  pub with_blanks : IsLined lines padded
+  pub printed : IsLined (map without_blanks lines) text
+  pub wide : All (λ line. width_of line ≡ n) lines
+
+-- one after the other
+pub even-append : (n : ℕ) (xs ys : List (List ℕ)) (a b s t : List ℕ) → IsEven n xs a s → IsEven n ys b t
+    → IsEven n (xs ++ ys) (a ++ b) (s ++ t)
+even-append n xs ys a b s t first second = record {
+  with_blanks = lined-append xs ys a b first.with_blanks second.with_blanks;
+  printed = subst (λ (ls : List (List ℕ)). IsLined ls (s ++ t)) (sym (map-append without_blanks xs ys))
+      (lined-append (map without_blanks xs) (map without_blanks ys) s t first.printed second.printed);
+  wide = All-append (λ line. width_of line ≡ n) xs ys first.wide second.wide;
+}
+
+-- the lines of a layout without an open end
+pub even_lines : (ss : List Side) (ws : List ℕ) (ls : List (List CellModel)) → has_no_end ss ≡ true → All (Fit ws) ls → All (IsLike ss) ls
+    → All EndsBare ls → IsEven (span ss ws) (map (shown ws) ls) (padded_lines ws ls) (lines_in ws ls)
+even_lines ss ws ls closed fits like bare = record {
+  with_blanks = lined_lines ss ws ls (layout_from ss closed) fits like;
+  printed = printed_lines ss ws ls closed fits like bare;
+  wide = wide_lines ss ws ls closed fits like;
+}
+
+-- one of them
+pub even_line : (ss : List Side) (ws : List ℕ) (l : List CellModel) → has_no_end ss ≡ true → Fit ws l → IsLike ss l → EndsBare l
+    → IsEven (span ss ws) (shown ws l ∷ []) (padded_line ws l) (line_in ws l)
+even_line ss ws l closed fits like bare =
+    let W : List ℕ → Type 0 = λ line. width_of line ≡ span ss ws in
+    let own = ap has_no_end like.0 ∙ closed in record {
+      with_blanks = lined_line ws l fits (ap is_layout like.0 ∙ layout_from ss closed) like.1;
+      printed = printed_line ws l fits own like.1 bare;
+      wide = All-cons W (shown ws l) [] (ap width_of (padded_is ws l own) ∙ width_of-like ss ws l fits like) (All-nil W);
+    }
+
+ends_hyphens : (n : ℕ) → ends_in_blank (replicate n 45) ≡ false
+ends_hyphens zero = refl
+ends_hyphens (suc zero) = refl
+ends_hyphens (suc (suc n)) = ends_hyphens (suc n)
+
+-- a line of hyphens
+pub even_rule : (ss : List Side) (ws : List ℕ) → has_no_end ss ≡ true → length ws ≡ length ss
+    → IsEven (span ss ws) (replicate (span ss ws) 45 ∷ []) (rule_in ws) (rule_in ws)
+even_rule ss ws closed long =
+    let n = span ss ws in
+    let hyphens = replicate n 45 in
+    let lined = subst (IsLined (hyphens ∷ [])) (sym (rule_is ss ws closed long)) (lined-one hyphens (one_line_hyphens n)) in record {
+      with_blanks = lined;
+      printed = subst (λ (l : List ℕ). IsLined (l ∷ []) (rule_in ws)) (sym (without_none hyphens (ends_hyphens n))) lined;
+      wide = All-cons (λ line. width_of line ≡ n) hyphens [] (width_of-hyphens n) (All-nil (λ line. width_of line ≡ n));
+    }
+
+-- the lines of such texts
+pub are_even : (n : ℕ) (lines : List (List ℕ)) (padded text : List ℕ) → IsEven n lines padded text → AreEven padded text
+are_even n lines padded text even =
+    let own = input_lines_of-lined lines padded even.with_blanks in (
+      (n, All-same (λ line. width_of line ≡ n) (input_lines_of padded) lines own even.wide),
+      input_lines_of-lined (map without_blanks lines) text even.printed ∙ ap (map without_blanks) (sym own),
+    )
+
+-- ---- texts of which no line ends in a blank
+
+pub record IsClean (text : List ℕ) : Type 0 where
+  pub lines : List (List ℕ)
+  pub lined : IsLined lines text
+  pub ends : All (λ line. ends_in_blank line ≡ false) lines
+
+pub clean-append : (a b : List ℕ) → IsClean a → IsClean b → IsClean (a ++ b)
+clean-append a b first second = record {
+  lines = first.lines ++ second.lines;
+  lined = lined-append first.lines second.lines a b first.lined second.lined;
+  ends = All-append (λ line. ends_in_blank line ≡ false) first.lines second.lines first.ends second.ends;
+}
+
+pub clean_nothing : IsClean []
+clean_nothing = record {
+  lines = [];
+  lined = record { text_is = refl; each = All-nil (λ l. is_one_line l ≡ true) };
+  ends = All-nil (λ line. ends_in_blank line ≡ false);
+}
+
+-- an empty line
+pub clean_feed : IsClean (codes "\n")
+clean_feed = record {
+  lines = [] ∷ [];
+  lined = lined-one [] refl;
+  ends = All-cons (λ line. ends_in_blank line ≡ false) [] [] refl (All-nil (λ line. ends_in_blank line ≡ false));
+}
+
+none_ends : (lines : List (List ℕ)) → All (λ line. ends_in_blank line ≡ false) (map without_blanks lines)
+none_ends [] = All-nil (λ line. ends_in_blank line ≡ false)
+none_ends (l ∷ ls) =
+    All-cons (λ line. ends_in_blank line ≡ false) (without_blanks l) (map without_blanks ls) (ends_without l) (none_ends ls)
+
+-- lines without the blanks at their ends
+pub clean_even : (n : ℕ) (lines : List (List ℕ)) (padded text : List ℕ) → IsEven n lines padded text → IsClean text
+clean_even n lines padded text even = record { lines = map without_blanks lines; lined = even.printed; ends = none_ends lines }
+
+-- lines that are alike have columns that fit
+pub like_fit : (ss : List Side) (l : List CellModel) (ls : List (List CellModel)) → All (IsLike ss) (l ∷ ls)
+    → All (Fit (widths_of (l ∷ ls))) (l ∷ ls) × (length (widths_of (l ∷ ls)) ≡ length ss)
+like_fit ss l ls like =
+    widths_fit (length ss) l ls
+    (All-weaker (IsLike ss) (λ (x : List CellModel). length x ≡ length ss)
+    (λ x is. sym (length-map x (λ (c : CellModel). c.side)) ∙ ap length is.0) (l ∷ ls) like)
+
+-- ---- lines with an open end
+
+module _ {A : Type 0} (cells : A → List CellModel) (end : A → List ℕ) (ends : (x : A) → end_of (cells x) ≡ end x) where
+  aligned : (ss : List Side) (ws : List ℕ) (xs : List A) → All (Fit ws) (map cells xs) → All (IsLike ss) (map cells xs)
+      → AllZip (λ line end. (front : List ℕ) × (line ≡ front ++ end) × (width_of front ≡ span ss ws))
+      (map (shown ws) (map cells xs)) (map end xs)
+  aligned ss ws [] fits like = tt
+  aligned ss ws (x ∷ xs) fits like =
+      let l = cells x in
+      let ls = map cells xs in (
+        (
+          front ws l,
+          ap (λ e. front ws l ++ e) (ends x),
+          width_of-like ss ws l (All-head (Fit ws) l ls fits) (All-head (IsLike ss) l ls like),
+        ),
+        aligned ss ws xs (All-tail (Fit ws) l ls fits) (All-tail (IsLike ss) l ls like),
+      )
+
+  lined_listing : (ss : List Side) (headings : List CellModel) → is_open ss ≡ true → (x : A) (xs : List A)
+      → All (IsLike ss) (headings ∷ map cells (x ∷ xs))
+      → IsLined (map (shown (widths_of (headings ∷ map cells (x ∷ xs)))) (headings ∷ map cells (x ∷ xs)) ++ [] ∷ [])
+      (listing headings (map cells (x ∷ xs)))
+  lined_listing ss headings layout x xs like =
+      let ls = map cells (x ∷ xs) in
+      let ws = widths_of (headings ∷ ls) in
+      let lines = map (shown ws) (headings ∷ ls) in
+      lined-append lines ([] ∷ []) (lines_in ws (headings ∷ ls)) (codes "\n")
+      (subst (IsLined lines) (lines_open ss ws (headings ∷ ls) layout like)
+      (lined_lines ss ws (headings ∷ ls) (layout_open ss layout) (like_fit ss headings ls like).0 like)) (lined-one [] refl)
+
+  -- a part that lists something
+  pub listing_aligned : (ss : List Side) (headings : List CellModel) (heading : List ℕ) → is_open ss ≡ true → end_of headings ≡ heading
+      → (xs : List A) → All (IsLike ss) (headings ∷ map cells xs) → IsAlignedListing heading (map end xs) (listing headings (map cells xs))
+  listing_aligned ss headings heading layout named [] like = refl
+  listing_aligned ss headings heading layout named (x ∷ xs) like =
+      let ls = map cells (x ∷ xs) in
+      let ws = widths_of (headings ∷ ls) in
+      let fits = (like_fit ss headings ls like).0 in
+      let lines = map (shown ws) (headings ∷ ls) in
+      let whole = lined_listing ss headings layout x xs like in (
+        lines,
+        input_lines_of-lined (lines ++ [] ∷ []) (lines_in ws (headings ∷ ls) ++ codes "\n") whole,
+        (
+          span ss ws,
+          (
+            (
+              front ws headings,
+              ap (λ e. front ws headings ++ e) named,
+              width_of-like ss ws headings (All-head (Fit ws) headings ls fits) (All-head (IsLike ss) headings ls like),
+            ),
+            aligned ss ws (x ∷ xs) (All-tail (Fit ws) headings ls fits) (All-tail (IsLike ss) headings ls like),
+          ),
+        ),
+      )
+
+  own_end : (ws : List ℕ) (l : List CellModel) (own : List ℕ) → end_of l ≡ own → HasEnd own → ends_in_blank (shown ws l) ≡ false
+  own_end ws l own is has =
+      ap (λ e. ends_in_blank (front ws l ++ e)) is ∙ ends-append (front ws l) own has.0 ∙ has.1
+
+  own_ends : (ws : List ℕ) (xs : List A) → All (λ x. HasEnd (end x)) xs
+      → All (λ line. ends_in_blank line ≡ false) (map (shown ws) (map cells xs))
+  own_ends ws [] has = All-nil (λ line. ends_in_blank line ≡ false)
+  own_ends ws (x ∷ xs) has =
+      All-cons (λ line. ends_in_blank line ≡ false) (shown ws (cells x)) (map (shown ws) (map cells xs))
+      (own_end ws (cells x) (end x) (ends x) (All-head (λ x. HasEnd (end x)) x xs has))
+      (own_ends ws xs (All-tail (λ x. HasEnd (end x)) x xs has))
+
+  -- and whose lines end in no blank
+  pub listing_clean : (ss : List Side) (headings : List CellModel) (heading : List ℕ) → is_open ss ≡ true → end_of headings ≡ heading
+      → HasEnd heading → (xs : List A) → All (IsLike ss) (headings ∷ map cells xs) → All (λ x. HasEnd (end x)) xs
+      → IsClean (listing headings (map cells xs))
+  listing_clean ss headings heading layout named own [] like has = clean_nothing
+  listing_clean ss headings heading layout named own (x ∷ xs) like has =
+      let ls = map cells (x ∷ xs) in
+      let ws = widths_of (headings ∷ ls) in
+      let E : List ℕ → Type 0 = λ line. ends_in_blank line ≡ false in record {
+        lines = map (shown ws) (headings ∷ ls) ++ [] ∷ [];
+        lined = lined_listing ss headings layout x xs like;
+        ends = All-append E (map (shown ws) (headings ∷ ls)) ([] ∷ [])
+            (All-cons E (shown ws headings) (map (shown ws) ls) (own_end ws headings heading named own) (own_ends ws (x ∷ xs) has))
+            (All-cons E [] [] refl (All-nil E));
+      }

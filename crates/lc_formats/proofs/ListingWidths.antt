@@ -1,0 +1,106 @@
+-- How wide the lines of what is listed are.
+use Rattle.std.proofs.Common.{◌≡◌, ℕ, true, List, [], ◌∷◌, ◌++◌, map, refl, sym, ap₂, append-nil, subst}
+use Rattle.std.specs.List.{All}
+use Rattle.std.proofs.lemmas.List.Elements.{All-cons, All-head, All-map, All-nil, All-tail, All-weaker}
+use Rattle.lc_sheet.specs.ColumnWords.{heading, side_of}
+use Rattle.lc_sheet.specs.Sheets.{SectionModel}
+use Rattle.lc_sheet.specs.Values.{ValueModel}
+use Rattle.lc_sheet.specs.declared.column.Column.{Column}
+use Rattle.lc_sheet.specs.declared.column.Column.TheVariants as column
+use Rattle.lc_sheet.specs.declared.column.Side.{Side}
+use Rattle.lc_sheet.specs.declared.column.Side.TheVariants.{Left, Right, End}
+use Rattle.lc_formats.specs.Cells.{heading_cells, line_cells, section_cells, shown_text}
+use Rattle.lc_formats.specs.Layouts.{is_open}
+use Rattle.lc_formats.specs.Readable.{AreReadable, IsListed}
+use Rattle.lc_formats.specs.TableText.{section_listing}
+use Rattle.lc_formats.specs.WidthLaws.{HasEnd, HasEnds, IsAlignedListing, ListingWidthLaw, last_heading, last_text}
+use Rattle.lc_formats.proofs.EvenLines.{end_at, end_of}
+use Rattle.lc_formats.proofs.EvenParts.{IsClean, IsLike, listing_aligned, listing_clean}
+use Rattle.lc_formats.proofs.SoundValues.{like_headings, like_line}
+
+-- ---- the last text of a line is its open end
+
+end_last : (s : Side) (t : List ℕ) → is_open (s ∷ []) ≡ true → end_at s t ++ [] ≡ t
+end_last Left t e = absurd (cc)
+end_last Right t e = absurd (cc)
+end_last End t e = append-nil t
+
+end_before : (s u : Side) (ss : List Side) (t : List ℕ) → is_open (s ∷ u ∷ ss) ≡ true → (end_at s t ≡ []) × (is_open (u ∷ ss) ≡ true)
+end_before Left u ss t e = (refl, e)
+end_before Right u ss t e = (refl, e)
+end_before End u ss t e = absurd (cc)
+
+end_headings : (columns : List Column) → is_open (map side_of columns) ≡ true → end_of (heading_cells columns) ≡ last_heading columns
+end_headings [] e = refl
+end_headings (c ∷ []) e = end_last (side_of c) (heading c) e
+end_headings (c ∷ d ∷ ds) e =
+    let own = end_before (side_of c) (side_of d) (map side_of ds) (heading c) e in
+    ap₂ (λ (x y : List ℕ). x ++ y) own.0 (end_headings (d ∷ ds) own.1)
+
+end_values : (columns : List Column) (values : List ValueModel) → is_open (map side_of columns) ≡ true → AreReadable columns values
+    → end_of (line_cells columns values) ≡ last_text values
+end_values [] [] e own = refl
+end_values [] (v ∷ vs) e own = absurd own
+end_values (c ∷ cs) [] e own = absurd own
+end_values (c ∷ []) (v ∷ []) e own = end_last (side_of c) (shown_text v) e
+end_values (c ∷ []) (v ∷ w ∷ ws) e own = absurd own.1
+end_values (c ∷ d ∷ ds) (v ∷ []) e own = absurd own.1
+end_values (c ∷ d ∷ ds) (v ∷ w ∷ ws) e own =
+    let front = end_before (side_of c) (side_of d) (map side_of ds) (shown_text v) e in
+    ap₂ (λ (x y : List ℕ). x ++ y) front.0 (end_values (d ∷ ds) (w ∷ ws) front.1 own.1)
+
+-- the open ends of lines in these columns
+abbrev ends_in : List Column → List ValueModel → List ℕ
+ends_in columns values = end_of (line_cells columns values)
+
+last_texts : (columns : List Column) (lines : List (List ValueModel)) → is_open (map side_of columns) ≡ true
+    → All (AreReadable columns) lines → map (ends_in columns) lines ≡ map last_text lines
+last_texts columns [] e own = refl
+last_texts columns (l ∷ ls) e own =
+    ap₂ (λ (x : List ℕ) (xs : List (List ℕ)). x ∷ xs) (end_values columns l e (All-head (AreReadable columns) l ls own))
+    (last_texts columns ls e (All-tail (AreReadable columns) l ls own))
+
+like_section : (s : SectionModel) → IsListed s → All (IsLike (map side_of s.columns)) (heading_cells s.columns ∷ section_cells s)
+like_section s is =
+    let L = IsLike (map side_of s.columns) in
+    All-cons L (heading_cells s.columns) (section_cells s) (like_headings s.columns)
+    (All-map L (line_cells s.columns) s.lines
+    (All-weaker (AreReadable s.columns) (λ l. L (line_cells s.columns l)) (like_line s.columns) s.lines is.readable))
+
+-- the lines of a section
+pub listing_law : ListingWidthLaw
+listing_law s is =
+    subst (λ (ends : List (List ℕ)). IsAlignedListing (last_heading s.columns) ends (section_listing s))
+    (last_texts s.columns s.lines is.opened is.readable)
+    (listing_aligned (line_cells s.columns) (ends_in s.columns) (λ values. refl) (map side_of s.columns) (heading_cells s.columns)
+    (last_heading s.columns) is.opened (end_headings s.columns is.opened) s.lines (like_section s is))
+
+-- ---- and their ends
+
+heading_end : (c : Column) → is_open (side_of c ∷ []) ≡ true → HasEnd (heading c)
+heading_end column.Path e = ((λ e. absurd (cc)), refl)
+heading_end column.Entry e = ((λ e. absurd (cc)), refl)
+heading_end column.Site e = ((λ e. absurd (cc)), refl)
+heading_end other e = absurd (cc)
+
+last_heading_end : (columns : List Column) → is_open (map side_of columns) ≡ true → HasEnd (last_heading columns)
+last_heading_end [] e = absurd (cc)
+last_heading_end (c ∷ []) e = heading_end c e
+last_heading_end (c ∷ d ∷ ds) e = last_heading_end (d ∷ ds) (end_before (side_of c) (side_of d) (map side_of ds) [] e).1
+
+open_ends : (columns : List Column) (lines : List (List ValueModel)) → is_open (map side_of columns) ≡ true
+    → All (AreReadable columns) lines → All (λ line. HasEnd (last_text line)) lines → All (λ line. HasEnd (ends_in columns line)) lines
+open_ends columns [] e own has = All-nil (λ line. HasEnd (ends_in columns line))
+open_ends columns (l ∷ ls) e own has =
+    let T : List ValueModel → Type 0 = λ line. HasEnd (last_text line) in
+    All-cons (λ line. HasEnd (ends_in columns line)) l ls
+    (subst HasEnd (sym (end_values columns l e (All-head (AreReadable columns) l ls own))) (All-head T l ls has))
+    (open_ends columns ls e (All-tail (AreReadable columns) l ls own) (All-tail T l ls has))
+
+-- no line of a section ends in a blank, where no last text does
+pub section_clean : (s : SectionModel) → HasEnds s → IsClean (section_listing s)
+section_clean s has =
+    let is = has.0 in
+    listing_clean (line_cells s.columns) (ends_in s.columns) (λ values. refl) (map side_of s.columns) (heading_cells s.columns)
+    (last_heading s.columns) is.opened (end_headings s.columns is.opened) (last_heading_end s.columns is.opened) s.lines
+    (like_section s is) (open_ends s.columns s.lines is.opened is.readable has.1)

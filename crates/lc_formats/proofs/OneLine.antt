@@ -1,0 +1,217 @@
+-- Texts without a line feed, and texts that are UTF-8.
+use Rattle.std.proofs.Common.{◌≡◌, ℕ, zero, suc, ◌/◌, ◌%◌, ◌<◌, Bool, true, false, not, ◌==◌, ◌&&◌, ◌||◌, nat_lt, nat_eq, if◌then◌else◌}
+use Rattle.std.proofs.Common.{List, [], ◌∷◌, ◌++◌, length, get_or, codes, decimal, encode_utf8, flat_map}
+use Rattle.std.proofs.Common.{refl, sym, ap, ap₂, ◌∙◌, arith, inl, inr, append-nil}
+use Rattle.std.specs.List.{All, list_all}
+use Rattle.std.specs.Fmt.{digit_glyph, digits, digits_onto}
+use Rattle.std.specs.Str.{IsUtf8, chars, is_utf8, all_scalars}
+use Rattle.std.proofs.lemmas.Bool.{and_parts, and_from, or_left, lt-ltb, ltb-true, ne_eqb}
+use Rattle.std.proofs.lemmas.Bool.Decides.{nat_tests}
+use Rattle.std.proofs.lemmas.List.Elements.{All-cons, All-head, All-nil, All-tail}
+use Rattle.std.proofs.lemmas.List.Folds.{list_all-append}
+use Rattle.std.proofs.lemmas.Str.{IsUtf8-append, IsUtf8-nil, IsUtf8-encode, IsUtf8-from_is_utf8, scalars-chars, inside_one}
+use lib.Utf8.{encode, scalar, scalar_cases}
+use Rattle.json.proofs.Printed.Utf8.{are_ascii, IsUtf8-are_ascii}
+use Rattle.lc_glob.specs.Bytes.{backslash}
+use Rattle.lc_formats.specs.CellWords.{comma, with_commas}
+use Rattle.lc_text.specs.Escape.{hex_byte, hex_digit, is_control, escape_byte}
+use Rattle.lc_text.specs.Visible.{is_hidden, visible_byte, visible_bytes, visible_char}
+
+abbrev pub is_no_feed : ℕ → Bool
+is_no_feed b = not (b == 10)
+
+-- no line feed is in a text
+abbrev pub is_one_line : List ℕ → Bool
+is_one_line text = list_all is_no_feed text
+
+-- texts that are on one line are joined on one line
+pub one_line-append : (a b : List ℕ) → is_one_line a ≡ true → is_one_line b ≡ true → is_one_line (a ++ b) ≡ true
+one_line-append a b x y = list_all-append is_no_feed a b ∙ ap₂ (λ p q. p && q) x y
+
+one_line_each : {X : Type 0} (f : X → List ℕ) → ((x : X) → is_one_line (f x) ≡ true) → (xs : List X) → is_one_line (flat_map f xs) ≡ true
+one_line_each f each [] = refl
+one_line_each f each (x ∷ xs) = one_line-append (f x) (flat_map f xs) (each x) (one_line_each f each xs)
+
+no_feed : (b : ℕ) → (b ≡ 10 → ⊥) → is_no_feed b ≡ true
+no_feed b other = ap not (ne_eqb b 10 other)
+
+from_each : (l : List ℕ) → ((k : ℕ) → k < length l → get_or l k 0 ≡ 10 → ⊥) → is_one_line l ≡ true
+from_each [] h = refl
+from_each (x ∷ l) h = and_from _ _ (no_feed x (h 0 (omega arith))) (from_each l (λ k below. h (suc k) (omega arith)))
+
+-- ---- characters and bytes as a terminal shows them
+
+no_feed_digit : (n : ℕ) → is_no_feed (hex_digit n) ≡ true
+no_feed_digit n = grind (arith, nat_tests)
+
+one_line_hex : (b : ℕ) → is_one_line (hex_byte b) ≡ true
+one_line_hex b = and_from _ _ (no_feed_digit (b / 16)) (and_from _ _ (no_feed_digit (b % 16)) refl)
+
+-- an encoded character other than a line feed is in one line
+pub one_line-encode : (c : ℕ) → (c ≡ 10 → ⊥) → is_one_line (encode_utf8 c) ≡ true
+one_line-encode c other = from_each (encode_utf8 c) at
+  where
+    at : (k : ℕ) → k < length (encode_utf8 c) → get_or (encode_utf8 c) k 0 ≡ 10 → ⊥
+    at k below e = other (inside_one c [] (encode_utf8 c) k (sym (append-nil _)) below (omega arith) ∙ e)
+
+one_line_char : (c : ℕ) → is_one_line (visible_char c) ≡ true
+one_line_char c = at (nat_eq c backslash) (is_hidden c) refl refl
+  where
+    at : (q h : Bool) → nat_eq c backslash ≡ q → is_hidden c ≡ h → is_one_line (visible_char c) ≡ true
+    at true h x y = rw x refl
+    at false true x y = rw (x, y) (one_line_each hex_byte one_line_hex (encode_utf8 c))
+    at false false x y = rw (x, y) (one_line-encode c (λ e. let t : is_hidden c ≡ true = ap is_hidden e in absurd (cc)))
+
+one_line_escape : (b : ℕ) → is_one_line (escape_byte b) ≡ true
+one_line_escape b = at (nat_eq b backslash) (is_control b) refl refl
+  where
+    at : (q h : Bool) → nat_eq b backslash ≡ q → is_control b ≡ h → is_one_line (escape_byte b) ≡ true
+    at true h x y = rw x refl
+    at false true x y = rw (x, y) (one_line_hex b)
+    at false false x y =
+        rw (x, y) (and_from _ _ (no_feed b (λ e. let t : is_control b ≡ true = ap is_control e in absurd (cc))) refl)
+
+one_line_byte : (b : ℕ) → is_one_line (visible_byte b) ≡ true
+one_line_byte b = at (nat_lt b 128) refl
+  where
+    at : (low : Bool) → nat_lt b 128 ≡ low → is_one_line (visible_byte b) ≡ true
+    at true e = rw e (one_line_escape b)
+    at false e = rw e (one_line_hex b)
+
+-- bytes as a terminal shows them are in one line
+pub one_line-visible : (bytes : List ℕ) → is_one_line (visible_bytes bytes) ≡ true
+one_line-visible bytes = at (is_utf8 bytes)
+  where
+    at : (b : Bool) → is_one_line (if b then flat_map visible_char (chars bytes) else flat_map visible_byte bytes) ≡ true
+    at true = one_line_each visible_char one_line_char (chars bytes)
+    at false = one_line_each visible_byte one_line_byte bytes
+
+-- ---- the same bytes are UTF-8
+
+utf8_each : {X : Type 0} (f : X → List ℕ) (P : X → Type 0) → ((x : X) → P x → IsUtf8 (f x)) → (xs : List X) → All P xs
+    → IsUtf8 (flat_map f xs)
+utf8_each f P each [] all = IsUtf8-nil
+utf8_each f P each (x ∷ xs) all =
+    IsUtf8-append (f x) (flat_map f xs) (each x (All-head P x xs all)) (utf8_each f P each xs (All-tail P x xs all))
+
+ascii_digit : (n : ℕ) → n < 16 → nat_lt (hex_digit n) 128 ≡ true
+ascii_digit n small = grind (arith, nat_tests)
+
+utf8_hex : (b : ℕ) → b < 256 → IsUtf8 (hex_byte b)
+utf8_hex b small =
+    IsUtf8-are_ascii (hex_byte b)
+    (and_from _ _ (ascii_digit (b / 16) (omega arith)) (and_from _ _ (ascii_digit (b % 16) (omega arith)) refl))
+
+bytes_of : (c : ℕ) → scalar c ≡ true → list_all (λ b. nat_lt b 256) (encode c) ≡ true
+unfolding encode
+bytes_of c is = elim (scalar_cases c is) [ inl low ↦ grind (arith, nat_tests) | inr high ↦ grind (arith, nat_tests) ]
+
+small_bytes : (bs : List ℕ) → list_all (λ b. nat_lt b 256) bs ≡ true → All (λ b. b < 256) bs
+small_bytes [] e = All-nil (λ b. b < 256)
+small_bytes (b ∷ bs) e =
+    let parts = and_parts _ _ e in
+    All-cons (λ b. b < 256) b bs (ltb-true b 256 parts.0) (small_bytes bs parts.1)
+
+utf8_char : (c : ℕ) → scalar c ≡ true → IsUtf8 (visible_char c)
+utf8_char c is = at (nat_eq c backslash) (is_hidden c) refl refl
+  where
+    at : (q h : Bool) → nat_eq c backslash ≡ q → is_hidden c ≡ h → IsUtf8 (visible_char c)
+    at true h x y = rw x (IsUtf8-are_ascii (codes "\\\\") refl)
+    at false true x y = rw (x, y) (utf8_each hex_byte (λ b. b < 256) utf8_hex (encode c) (small_bytes (encode c) (bytes_of c is)))
+    at false false x y = rw (x, y) (IsUtf8-encode c is)
+
+utf8_escape : (b : ℕ) → b < 128 → IsUtf8 (escape_byte b)
+utf8_escape b low = at (nat_eq b backslash) (is_control b) refl refl
+  where
+    at : (q h : Bool) → nat_eq b backslash ≡ q → is_control b ≡ h → IsUtf8 (escape_byte b)
+    at true h x y = rw x (IsUtf8-are_ascii (codes "\\\\") refl)
+    at false true x y = rw (x, y) (utf8_hex b (omega arith))
+    at false false x y = rw (x, y) (IsUtf8-are_ascii (b ∷ []) (and_from _ _ (lt-ltb b 128 low) refl))
+
+utf8_byte : (b : ℕ) → b < 256 → IsUtf8 (visible_byte b)
+utf8_byte b small = at (nat_lt b 128) refl
+  where
+    at : (low : Bool) → nat_lt b 128 ≡ low → IsUtf8 (visible_byte b)
+    at true e = rw e (utf8_escape b (ltb-true b 128 e))
+    at false e = rw e (utf8_hex b small)
+
+scalars_all : (cs : List ℕ) → all_scalars cs ≡ true → All (λ c. scalar c ≡ true) cs
+scalars_all [] e = All-nil (λ c. scalar c ≡ true)
+scalars_all (c ∷ cs) e =
+    let parts = and_parts _ _ e in All-cons (λ c. scalar c ≡ true) c cs parts.0 (scalars_all cs parts.1)
+
+-- bytes as a terminal shows them are UTF-8
+pub utf8-visible : (bytes : List ℕ) → All (λ b. b < 256) bytes → IsUtf8 (visible_bytes bytes)
+utf8-visible bytes small = at (is_utf8 bytes) refl
+  where
+    at : (b : Bool) → is_utf8 bytes ≡ b → IsUtf8 (if b then flat_map visible_char (chars bytes) else flat_map visible_byte bytes)
+    at true e =
+        utf8_each visible_char (λ c. scalar c ≡ true) utf8_char (chars bytes)
+        (scalars_all (chars bytes) (scalars-chars bytes (IsUtf8-from_is_utf8 bytes e)))
+    at false e = utf8_each visible_byte (λ b. b < 256) utf8_byte bytes small
+
+-- ---- numbers
+
+abbrev is_digit : ℕ → Bool
+is_digit d = nat_lt 47 d && nat_lt d 58
+
+either_list : (p : ℕ → Bool) (b : Bool) (xs ys : List ℕ) → list_all p xs ≡ true → list_all p ys ≡ true
+    → list_all p (if b then xs else ys) ≡ true
+either_list p true xs ys x y = x
+either_list p false xs ys x y = y
+
+digits_all : (k n : ℕ) (acc : List ℕ) → list_all is_digit acc ≡ true → list_all is_digit (digits_onto k 10 false n acc) ≡ true
+digits_all zero n acc all = all
+digits_all (suc k) n acc all =
+    let small : n % 10 < 10 = omega arith in
+    let next : list_all is_digit (digit_glyph false (n % 10) ∷ acc) ≡ true = and_from _ _ (grind (arith, nat_tests)) all in
+    either_list is_digit (n / 10 == 0) _ _ next (digits_all k (n / 10) (digit_glyph false (n % 10) ∷ acc) next)
+
+decimal_digits : (n : ℕ) → list_all is_digit (decimal n) ≡ true
+unfolding digits
+decimal_digits n = digits_all 64 n [] refl
+
+-- digits and commas
+abbrev pub is_numeral : ℕ → Bool
+is_numeral d = is_digit d || (d == 44)
+
+numeral_commas : (ds : List ℕ) → list_all is_digit ds ≡ true → list_all is_numeral (with_commas ds) ≡ true
+numeral_commas [] e = refl
+numeral_commas (d ∷ ds) e =
+    let parts = and_parts (is_digit d) (list_all is_digit ds) e in
+    let comma_is = either_list is_numeral (nat_lt 0 (length ds) && (length ds % 3 == 0)) (codes ",") [] refl refl in
+    and_from _ _ (or_left (is_digit d) (d == 44) parts.0)
+    (list_all-append is_numeral (comma ds) (with_commas ds) ∙ and_from _ _ comma_is (numeral_commas ds parts.1))
+
+numeral_byte : (d : ℕ) → is_numeral d ≡ true → (is_no_feed d ≡ true) × (nat_lt d 128 ≡ true)
+numeral_byte d e = (grind (arith, nat_tests), grind (arith, nat_tests))
+
+one_line_numeral : (ds : List ℕ) → list_all is_numeral ds ≡ true → (is_one_line ds ≡ true) × (are_ascii ds ≡ true)
+one_line_numeral [] e = (refl, refl)
+one_line_numeral (d ∷ ds) e =
+    let parts = and_parts (is_numeral d) (list_all is_numeral ds) e in
+    let here = numeral_byte d parts.0 in
+    let rest = one_line_numeral ds parts.1 in
+    (and_from _ _ here.0 rest.0, and_from _ _ here.1 rest.1)
+
+-- a number has digits and commas
+pub numerals : (n : ℕ) → list_all is_numeral (with_commas (decimal n)) ≡ true
+numerals n = numeral_commas (decimal n) (decimal_digits n)
+
+-- a number is in one line, and UTF-8
+pub one_line-number : (n : ℕ) → (is_one_line (with_commas (decimal n)) ≡ true) × IsUtf8 (with_commas (decimal n))
+one_line-number n =
+    let both = one_line_numeral (with_commas (decimal n)) (numerals n) in
+    (both.0, IsUtf8-are_ascii (with_commas (decimal n)) both.1)
+
+-- a number is on one line, in UTF-8
+pub one_line-decimal : (n : ℕ) → (is_one_line (decimal n) ≡ true) × IsUtf8 (decimal n)
+one_line-decimal n =
+    let both = one_line_numeral (decimal n) (all_numeral (decimal n) (decimal_digits n)) in
+    (both.0, IsUtf8-are_ascii (decimal n) both.1)
+  where
+    all_numeral : (ds : List ℕ) → list_all is_digit ds ≡ true → list_all is_numeral ds ≡ true
+    all_numeral [] e = refl
+    all_numeral (d ∷ ds) e =
+        let parts = and_parts (is_digit d) (list_all is_digit ds) e in
+        and_from _ _ (or_left (is_digit d) (d == 44) parts.0) (all_numeral ds parts.1)

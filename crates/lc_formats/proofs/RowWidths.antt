@@ -1,0 +1,259 @@
+-- How wide the lines of rows, of their sums and of the last numbers are.
+use Rattle.std.proofs.Common.{◌≡◌, ℕ, Bool, true, false, if◌then◌else◌, List, [], ◌∷◌, ◌++◌, length, map, codes, replicate, Option}
+use Rattle.std.proofs.Common.{Some, None, refl, sym, ap, ◌∙◌, subst, arith}
+use Rattle.std.specs.List.{All}
+use Rattle.std.proofs.lemmas.List.Elements.{All-append, All-cons, All-head, All-nil, All-tail, All-take}
+use Rattle.lc_sheet.specs.ColumnWords.{heading, side_of}
+use Rattle.lc_sheet.specs.Sheets.{SectionModel, SheetModel}
+use Rattle.lc_sheet.specs.Values.{ValueModel, missing, summed, blank, word, name, path, number, share, bar}
+use Rattle.lc_sheet.specs.declared.column.Column.{Column}
+use Rattle.lc_sheet.specs.declared.column.Side.{Side}
+use Rattle.lc_sheet.specs.declared.column.Side.TheVariants.{Left, Right, End}
+use Rattle.lc_formats.specs.Blanks.{ends_in_blank}
+use Rattle.lc_formats.specs.Cells.{cell_of, heading_cells, line_cells, section_cells, shown_text}
+use Rattle.lc_formats.specs.Columns.{CellModel, before_shown, has_text, is_shown, shown_cells, widths_of}
+use Rattle.lc_formats.specs.Layouts.{has_no_end}
+use Rattle.lc_formats.specs.PaddedText.{padded_counts, padded_rows, padded_summary}
+use Rattle.lc_formats.specs.Readable.{AreReadable, AreRows, EndsInNumbers, IsNumeral, IsTabular}
+use Rattle.lc_formats.specs.Shares.{rounded_parts}
+use Rattle.lc_formats.specs.TableText.{count_cells, count_lines, counts, entries_line, row_lines, rows_in_columns, shown_lines}
+use Rattle.lc_formats.specs.TableText.{shown_totals, summary, summary_widths}
+use Rattle.lc_formats.specs.WidthLaws.{CountsWidthLaw, SummaryWidthLaw}
+use Rattle.lc_formats.proofs.BlankEnds.{ends_bar, ends_number, ends_share, shown_number}
+use Rattle.lc_formats.proofs.EvenLines.{Fit, IsSound, span}
+use Rattle.lc_formats.proofs.EvenParts.{IsEven, IsLike, are_even, even-append, even_line, even_lines, even_rule, like_fit, shown}
+use Rattle.lc_formats.proofs.PrintedLines.{EndsBare}
+use Rattle.lc_formats.proofs.SoundValues.{like_headings, like_line, sound_ascii, sound_value}
+
+-- ---- the ends of the lines
+
+abbrev AreBare : List CellModel → Type 0
+AreBare [] = Unit {0}
+AreBare (c ∷ cs) = (ends_in_blank c.text ≡ false) × AreBare cs
+
+bare_ends : (cells : List CellModel) → AreBare cells → EndsBare cells
+bare_ends [] bare = tt
+bare_ends (c ∷ cs) bare = ((λ none. bare.0), bare_ends cs bare.1)
+
+later_none : (c : CellModel) (later : List CellModel) → before_shown c later ≡ [] → later ≡ []
+later_none c [] none = refl
+later_none c (d ∷ ds) none = absurd (cc)
+
+shown_rest : (ks ns : List CellModel) → shown_cells (ks ++ ns) ≡ [] → shown_cells ns ≡ []
+shown_rest [] ns none = none
+shown_rest (k ∷ ks) ns none = shown_rest ks ns (later_none k (shown_cells (ks ++ ns)) none)
+
+some_shown : (c : CellModel) (later : List CellModel) → is_shown c.side c.text ≡ true → before_shown c later ≡ [] → ⊥
+some_shown c [] is none =
+    let one : c ∷ [] ≡ [] = sym (ap (λ b. if b then c ∷ [] else []) is) ∙ none in absurd (cc)
+some_shown c (d ∷ ds) is none = absurd (cc)
+
+-- names before numbers
+bare_behind : (ks : List CellModel) (c : CellModel) (cs : List CellModel) → is_shown c.side c.text ≡ true → AreBare (c ∷ cs)
+    → EndsBare (ks ++ (c ∷ cs))
+bare_behind [] c cs is bare = bare_ends (c ∷ cs) bare
+bare_behind (k ∷ ks) c cs is bare =
+    ((λ none. absurd (some_shown c (shown_cells cs) is (shown_rest ks (c ∷ cs) none))), bare_behind ks c cs is bare)
+
+bare_numeral : (v : ValueModel) → IsNumeral v → ends_in_blank (shown_text v) ≡ false
+bare_numeral missing is = absurd is
+bare_numeral summed is = refl
+bare_numeral blank is = refl
+bare_numeral (word w) is = absurd is
+bare_numeral (name n) is = absurd is
+bare_numeral (path p) is = absurd is
+bare_numeral (number n) is = ends_number n
+bare_numeral (share part whole) is = ends_share (rounded_parts 1000 part whole)
+bare_numeral (bar part whole) is = ends_bar (rounded_parts 160 part whole)
+
+bare_numerals : (columns : List Column) (values : List ValueModel) → All IsNumeral values → AreBare (line_cells columns values)
+bare_numerals [] values are = tt
+bare_numerals (c ∷ cs) [] are = tt
+bare_numerals (c ∷ cs) (v ∷ vs) are =
+    (bare_numeral v (All-head IsNumeral v vs are), bare_numerals cs vs (All-tail IsNumeral v vs are))
+
+number_shown : (side : Side) (t : List ℕ) → has_text t ≡ true → is_shown side t ≡ true
+number_shown Left t is = is
+number_shown Right t is = is
+number_shown End t is = refl
+
+-- the cells before one value, its own and those after it
+parted : (columns : List Column) (keys : List ValueModel) (v : ValueModel) (more : List ValueModel) → AreReadable columns (keys ++ v ∷ more)
+    → (front : List CellModel) × (c : Column) × (cs : List Column)
+    × (line_cells columns (keys ++ v ∷ more) ≡ front ++ (cell_of c v ∷ line_cells cs more))
+parted [] [] v more own = absurd own
+parted [] (k ∷ ks) v more own = absurd own
+parted (c ∷ cs) [] v more own = ([], c, cs, refl)
+parted (c ∷ cs) (k ∷ ks) v more own =
+    let rest = parted cs ks v more own.1 in
+    (cell_of c k ∷ rest.0, rest.1, rest.2, ap (λ (l : List CellModel). cell_of c k ∷ l) rest.3)
+
+bare_parted : (columns : List Column) (keys : List ValueModel) (n : ℕ) (more : List ValueModel)
+    → AreReadable columns (keys ++ number n ∷ more) → All IsNumeral more → EndsBare (line_cells columns (keys ++ number n ∷ more))
+bare_parted columns keys n more own are =
+    let parts = parted columns keys (number n) more own in
+    let c = parts.1 in
+    subst EndsBare (sym parts.3)
+    (bare_behind parts.0 (cell_of c (number n)) (line_cells parts.2 more) (number_shown (side_of c) _ (shown_number n))
+    (ends_number n, bare_numerals parts.2 more are))
+
+bare_line : (columns : List Column) (values : List ValueModel) → AreReadable columns values → EndsInNumbers values
+    → EndsBare (line_cells columns values)
+bare_line columns values own ends =
+    let is = ends.3 in
+    subst (λ (vs : List ValueModel). EndsBare (line_cells columns vs)) (sym is)
+    (bare_parted columns ends.0 ends.2 ends.1 (subst (AreReadable columns) is own) ends.4)
+
+heading_bare : (c : Column) → ends_in_blank (heading c) ≡ false
+heading_bare c = grind arith
+
+bare_headings : (columns : List Column) → AreBare (heading_cells columns)
+bare_headings [] = tt
+bare_headings (c ∷ cs) = (heading_bare c, bare_headings cs)
+
+-- ---- lines that are alike, some with a rule between
+
+module _ {X : Type 0} (P : X → Type 0) where
+  All-front : (xs ys : List X) → All P (xs ++ ys) → All P xs
+  All-front [] ys all = All-nil P
+  All-front (x ∷ xs) ys all = All-cons P x xs (All-head P x (xs ++ ys) all) (All-front xs ys (All-tail P x (xs ++ ys) all))
+
+  All-back : (xs ys : List X) → All P (xs ++ ys) → All P ys
+  All-back [] ys all = all
+  All-back (x ∷ xs) ys all = All-back xs ys (All-tail P x (xs ++ ys) all)
+
+abbrev pub even_rows_lines : List Side → List ℕ → List CellModel → List (List CellModel) → List (List CellModel) → List (List ℕ)
+even_rows_lines ss ws headings rows sums =
+    (shown ws headings ∷ []) ++ (replicate (span ss ws) 45 ∷ []) ++ map (shown ws) rows ++ (replicate (span ss ws) 45 ∷ [])
+    ++ map (shown ws) sums
+
+rows_even : (ss : List Side) (headings : List CellModel) (rows sums : List (List CellModel)) (ws : List ℕ) → has_no_end ss ≡ true
+    → All (Fit ws) (headings ∷ (rows ++ sums)) → length ws ≡ length ss → All (IsLike ss) (headings ∷ (rows ++ sums))
+    → All EndsBare (headings ∷ (rows ++ sums))
+    → IsEven (span ss ws) (even_rows_lines ss ws headings rows sums) (padded_rows ws headings rows sums)
+    (rows_in_columns ws headings rows sums)
+rows_even ss headings rows sums ws closed fits long like bare =
+    let n = span ss ws in
+    let L = IsLike ss in
+    let F = Fit ws in
+    let rest = rows ++ sums in
+    let rest_fits = All-tail F headings rest fits in
+    let rest_like = All-tail L headings rest like in
+    let rest_bare = All-tail EndsBare headings rest bare in
+    let rule = even_rule ss ws closed long in
+    let top = even_line ss ws headings closed (All-head F headings rest fits) (All-head L headings rest like)
+    (All-head EndsBare headings rest bare) in
+    let middle = even_lines ss ws rows closed (All-front F rows sums rest_fits) (All-front L rows sums rest_like)
+    (All-front EndsBare rows sums rest_bare) in
+    let last = even_lines ss ws sums closed (All-back F rows sums rest_fits) (All-back L rows sums rest_like)
+    (All-back EndsBare rows sums rest_bare) in
+    even-append n _ _ _ _ _ _ (even-append n _ _ _ _ _ _ (even-append n _ _ _ _ _ _ (even-append n _ _ _ _ _ _ top rule) middle) rule) last
+
+-- ---- the rows and their sums
+
+-- the lines of a section in these columns are alike, and end in no blank
+pub record AreAlike (columns : List Column) (lines : List (List CellModel)) : Type 0 where
+  pub like : All (IsLike (map side_of columns)) lines
+  pub bare : All EndsBare lines
+
+alike_lines : (columns : List Column) (lines : List (List ValueModel)) → All (AreReadable columns) lines → All EndsInNumbers lines
+    → AreAlike columns (map (line_cells columns) lines)
+alike_lines columns [] own ends = record { like = All-nil (IsLike (map side_of columns)); bare = All-nil EndsBare }
+alike_lines columns (l ∷ ls) own ends =
+    let L = IsLike (map side_of columns) in
+    let here = All-head (AreReadable columns) l ls own in
+    let rest = alike_lines columns ls (All-tail (AreReadable columns) l ls own) (All-tail EndsInNumbers l ls ends) in record {
+      like = All-cons L (line_cells columns l) (map (line_cells columns) ls) (like_line columns l here) rest.like;
+      bare = All-cons EndsBare (line_cells columns l) (map (line_cells columns) ls)
+          (bare_line columns l here (All-head EndsInNumbers l ls ends)) rest.bare;
+    }
+
+alike_section : (columns : List Column) (s : SectionModel) → AreRows columns s → AreAlike columns (section_cells s)
+alike_section columns s are =
+    subst (λ (cs : List Column). AreAlike columns (map (line_cells cs) s.lines)) (sym are.in_columns)
+    (alike_lines columns s.lines are.readable are.numbers)
+
+alike-append : (columns : List Column) (xs ys : List (List CellModel)) → AreAlike columns xs → AreAlike columns ys
+    → AreAlike columns (xs ++ ys)
+alike-append columns xs ys a b = record {
+  like = All-append (IsLike (map side_of columns)) xs ys a.like b.like;
+  bare = All-append EndsBare xs ys a.bare b.bare;
+}
+
+-- and so are the first of its lines alone
+rows_shown : (all : Bool) (columns : List Column) (s : SectionModel) → AreRows columns s → AreRows columns (shown_lines all s)
+rows_shown true columns s are = record { in_columns = are.in_columns; readable = are.readable; numbers = are.numbers }
+rows_shown false columns s are = record {
+  in_columns = are.in_columns;
+  readable = All-take (AreReadable columns) 1 s.lines are.readable;
+  numbers = All-take EndsInNumbers 1 s.lines are.numbers;
+}
+
+abbrev pub summary_span : SheetModel → ℕ
+summary_span s = span (map side_of s.rows.columns) (summary_widths s.rows s.others (shown_totals s))
+
+abbrev pub summary_lines : SheetModel → List (List ℕ)
+summary_lines s =
+    even_rows_lines (map side_of s.rows.columns) (summary_widths s.rows s.others (shown_totals s)) (heading_cells s.rows.columns)
+    (row_lines s.rows s.others) (section_cells (shown_totals s))
+
+pub even_summary : (s : SheetModel) → IsTabular s → IsEven (summary_span s) (summary_lines s) (padded_summary s) (summary s)
+even_summary s is =
+    let columns = s.rows.columns in
+    let ss = map side_of columns in
+    let headings = heading_cells columns in
+    let rows = row_lines s.rows s.others in
+    let sums = section_cells (shown_totals s) in
+    let seen = alike-append columns (section_cells s.rows) (section_cells s.others) (alike_section columns s.rows is.rows)
+    (alike_section columns s.others is.others) in
+    let all = alike-append columns rows sums seen
+    (alike_section columns (shown_totals s) (rows_shown s.some_binary columns s.totals is.totals)) in
+    let like = All-cons (IsLike ss) headings (rows ++ sums) (like_headings columns) all.like in
+    let bare = All-cons EndsBare headings (rows ++ sums) (bare_ends headings (bare_headings columns)) all.bare in
+    let fits = like_fit ss headings (rows ++ sums) like in
+    rows_even ss headings rows sums (summary_widths s.rows s.others (shown_totals s)) is.closed fits.0 fits.1 like bare
+
+-- the lines of rows and sums
+pub summary_law : SummaryWidthLaw
+summary_law s is = are_even (summary_span s) (summary_lines s) (padded_summary s) (summary s) (even_summary s is)
+
+-- ---- the numbers of directories and of their entries
+
+abbrev pub count_sides : List Side
+count_sides = Left ∷ Right ∷ []
+
+like_count : (t : List ℕ) (n : ℕ) → IsSound Left t → IsLike count_sides (count_cells t n)
+like_count t n sound = (refl, (sound, (sound_value Right (number n) tt, tt)))
+
+like_entries : (entries : Option ℕ) → All (IsLike count_sides) (entries_line entries)
+like_entries None = All-nil (IsLike count_sides)
+like_entries (Some n) =
+    All-cons (IsLike count_sides) (count_cells (codes "entries") n) []
+    (like_count (codes "entries") n (sound_ascii Left (codes "entries") refl refl)) (All-nil (IsLike count_sides))
+
+bare_count : (t : List ℕ) (n : ℕ) → ends_in_blank t ≡ false → EndsBare (count_cells t n)
+bare_count t n own = ((λ none. own), ((λ none. ends_number n), tt))
+
+bare_entries : (entries : Option ℕ) → All EndsBare (entries_line entries)
+bare_entries None = All-nil EndsBare
+bare_entries (Some n) =
+    All-cons EndsBare (count_cells (codes "entries") n) [] (bare_count (codes "entries") n refl) (All-nil EndsBare)
+
+abbrev pub count_widths : SheetModel → List ℕ
+count_widths s = widths_of (count_lines s.directories s.entries)
+
+abbrev pub shown_counts : SheetModel → List (List ℕ)
+shown_counts s = map (shown (count_widths s)) (count_lines s.directories s.entries)
+
+pub even_counts : (s : SheetModel) → IsEven (span count_sides (count_widths s)) (shown_counts s) (padded_counts s) (counts s)
+even_counts s =
+    let first = count_cells (codes "directories") s.directories in
+    let more = entries_line s.entries in
+    let like = All-cons (IsLike count_sides) first more
+    (like_count (codes "directories") s.directories (sound_ascii Left (codes "directories") refl refl)) (like_entries s.entries) in
+    even_lines count_sides (count_widths s) (first ∷ more) refl (like_fit count_sides first more like).0 like
+    (All-cons EndsBare first more (bare_count (codes "directories") s.directories refl) (bare_entries s.entries))
+
+-- the lines of directories and entries
+pub counts_law : CountsWidthLaw
+counts_law s = are_even (span count_sides (count_widths s)) (shown_counts s) (padded_counts s) (counts s) (even_counts s)

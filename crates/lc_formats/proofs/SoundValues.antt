@@ -1,0 +1,121 @@
+-- The texts of values are in one line, and UTF-8.
+use Rattle.std.proofs.Common.{◌≡◌, ℕ, nat_lt, true, List, [], ◌∷◌, ◌++◌, map, codes, decimal, Option, Some, None}
+use Rattle.std.proofs.Common.{refl, ap, arith}
+use Rattle.std.specs.List.{list_all}
+use Rattle.std.specs.Str.{IsUtf8}
+use Rattle.std.proofs.lemmas.Bool.{and_parts, and_from}
+use Rattle.std.proofs.lemmas.Bool.Decides.{nat_tests}
+use Rattle.std.proofs.lemmas.Str.{IsUtf8-append}
+use Rattle.json.proofs.Printed.Utf8.{are_ascii, IsUtf8-are_ascii}
+use Rattle.lc_text.specs.Names.{NameModel, line_end}
+use Rattle.lc_text.specs.Visible.{visible_bytes, visible_path}
+use Rattle.lc_sheet.specs.ColumnWords.{heading, side_of}
+use Rattle.lc_sheet.specs.Values.{ValueModel, missing, summed, blank, word, name, path, number, share, bar}
+use Rattle.lc_sheet.specs.declared.column.Column.{Column}
+use Rattle.lc_sheet.specs.declared.column.Side.{Side}
+use Rattle.lc_sheet.specs.declared.column.Side.TheVariants.{Left, Right, End}
+use Rattle.lc_formats.specs.CellWords.{with_commas}
+use Rattle.lc_formats.specs.Cells.{heading_cells, line_cells, shown_text}
+use Rattle.lc_formats.specs.Readable.{AreReadable, HasBytes, IsPlain, IsReadable, is_printable}
+use Rattle.lc_formats.specs.Shares.{bar as bar_text, rounded_parts, share_word}
+use Rattle.lc_formats.proofs.Bars.{one_line-bar, one_line-share, utf8-bar, utf8-share}
+use Rattle.lc_formats.proofs.EvenLines.{IsSound}
+use Rattle.lc_formats.proofs.EvenParts.{IsLike}
+use Rattle.lc_formats.proofs.OneLine.{is_no_feed, is_one_line, one_line-append, one_line-decimal, one_line-number, one_line-visible}
+use Rattle.lc_formats.proofs.OneLine.{utf8-visible}
+
+-- ---- texts at a side
+
+pub sound_text : (side : Side) (t : List ℕ) → is_one_line t ≡ true → IsUtf8 t → IsSound side t
+sound_text Left t one is = (one, is)
+sound_text Right t one is = (one, is)
+sound_text End t one is = one
+
+pub sound_ascii : (side : Side) (t : List ℕ) → is_one_line t ≡ true → are_ascii t ≡ true → IsSound side t
+sound_ascii side t one low = sound_text side t one (IsUtf8-are_ascii t low)
+
+sound_join : (side : Side) (a b : List ℕ) → IsSound side a → IsSound side b → IsSound side (a ++ b)
+sound_join Left a b x y = (one_line-append a b x.0 y.0, IsUtf8-append a b x.1 y.1)
+sound_join Right a b x y = (one_line-append a b x.0 y.0, IsUtf8-append a b x.1 y.1)
+sound_join End a b x y = one_line-append a b x y
+
+plain_byte : (b : ℕ) → is_printable b ≡ true → (is_no_feed b ≡ true) × (nat_lt b 128 ≡ true)
+plain_byte b e = (grind (arith, nat_tests), grind (arith, nat_tests))
+
+plain_text : (t : List ℕ) → IsPlain t → (is_one_line t ≡ true) × (are_ascii t ≡ true)
+plain_text [] e = (refl, refl)
+plain_text (b ∷ bs) e =
+    let parts = and_parts (is_printable b) (list_all is_printable bs) e in
+    let here = plain_byte b parts.0 in
+    let rest = plain_text bs parts.1 in
+    (and_from _ _ here.0 rest.0, and_from _ _ here.1 rest.1)
+
+sound_plain : (side : Side) (t : List ℕ) → IsPlain t → IsSound side t
+sound_plain side t e = let low = plain_text t e in sound_ascii side t low.0 low.1
+
+sound_visible : (side : Side) (bs : List ℕ) → HasBytes side bs → IsSound side (visible_bytes bs)
+sound_visible Left bs small = (one_line-visible bs, utf8-visible bs small)
+sound_visible Right bs small = (one_line-visible bs, utf8-visible bs small)
+sound_visible End bs small = one_line-visible bs
+
+sound_path : (side : Side) (p : List ℕ) → HasBytes side p → IsSound side (visible_path p)
+sound_path side [] small = sound_ascii side (codes ".") refl refl
+sound_path side (b ∷ bs) small = sound_visible side (b ∷ bs) small
+
+sound_line : (side : Side) (line : Option ℕ) → IsSound side (line_end line)
+sound_line side None = sound_ascii side [] refl refl
+sound_line side (Some n) =
+    sound_join side (codes ":") (decimal n) (sound_ascii side (codes ":") refl refl)
+    (sound_text side (decimal n) (one_line-decimal n).0 (one_line-decimal n).1)
+
+sound_name : (side : Side) (n : NameModel) → IsReadable side (name n) → IsSound side (shown_text (name n))
+sound_name side n own =
+    let shown = visible_bytes n.bytes in
+    sound_join side ((n.front ++ shown) ++ n.end) (line_end n.line)
+    (sound_join side (n.front ++ shown) n.end
+    (sound_join side n.front shown (sound_plain side n.front own.0) (sound_visible side n.bytes own.1)) (sound_plain side n.end own.2))
+    (sound_line side n.line)
+
+sound_number : (side : Side) (n : ℕ) → IsSound side (with_commas (decimal n))
+sound_number side n = sound_text side (with_commas (decimal n)) (one_line-number n).0 (one_line-number n).1
+
+sound_share : (side : Side) (tenths : ℕ) → IsSound side (share_word tenths)
+sound_share side tenths = sound_text side (share_word tenths) (one_line-share tenths) (utf8-share tenths)
+
+sound_bar : (side : Side) (eighths : ℕ) → IsSound side (bar_text eighths)
+sound_bar side eighths = sound_text side (bar_text eighths) (one_line-bar eighths) (utf8-bar eighths)
+
+-- the text of a value
+pub sound_value : (side : Side) (v : ValueModel) → IsReadable side v → IsSound side (shown_text v)
+sound_value side missing own = sound_ascii side (codes "-") refl refl
+sound_value side summed own = sound_ascii side [] refl refl
+sound_value side blank own = sound_ascii side [] refl refl
+sound_value side (word w) own = sound_plain side w own
+sound_value side (name n) own = sound_name side n own
+sound_value side (path p) own = sound_path side p own
+sound_value side (number n) own = sound_number side n
+sound_value side (share part whole) own = sound_share side (rounded_parts 1000 part whole)
+sound_value side (bar part whole) own = sound_bar side (rounded_parts 160 part whole)
+
+-- ---- lines
+
+-- the cells of a line
+pub like_line : (columns : List Column) (values : List ValueModel) → AreReadable columns values
+    → IsLike (map side_of columns) (line_cells columns values)
+like_line [] [] own = (refl, tt)
+like_line [] (v ∷ vs) own = absurd own
+like_line (c ∷ cs) [] own = absurd own
+like_line (c ∷ cs) (v ∷ vs) own =
+    let rest = like_line cs vs own.1 in
+    (ap (λ (ss : List Side). side_of c ∷ ss) rest.0, (sound_value (side_of c) v own.0, rest.1))
+
+heading_low : (c : Column) → (is_one_line (heading c) ≡ true) × (are_ascii (heading c) ≡ true)
+heading_low c = (grind arith, grind arith)
+
+-- and those of the headings
+pub like_headings : (columns : List Column) → IsLike (map side_of columns) (heading_cells columns)
+like_headings [] = (refl, tt)
+like_headings (c ∷ cs) =
+    let rest = like_headings cs in
+    let low = heading_low c in
+    (ap (λ (ss : List Side). side_of c ∷ ss) rest.0, (sound_ascii (side_of c) (heading c) low.0 low.1, rest.1))

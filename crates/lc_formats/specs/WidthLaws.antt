@@ -1,0 +1,71 @@
+-- How wide the lines of a text in columns are, part by part.
+use Rattle.std.specs.Prelude.{◌≡◌, ℕ, false, List, [], ◌∷◌, ◌++◌, map, IfSome}
+use Rattle.std.specs.List.{All, AllZip}
+use Rattle.lc_sheet.specs.ColumnWords.{heading}
+use Rattle.lc_sheet.specs.Sheets.{SectionModel, SheetModel}
+use Rattle.lc_sheet.specs.Values.{ValueModel}
+use Rattle.lc_sheet.specs.declared.column.Column.{Column}
+use Rattle.lc_text.specs.Lines.{input_lines_of}
+use Rattle.lc_formats.specs.Blanks.{ends_in_blank, without_blanks}
+use Rattle.lc_formats.specs.Cells.{shown_text}
+use Rattle.lc_formats.specs.Columns.{width_of}
+use Rattle.lc_formats.specs.PaddedText.{padded_counts, padded_summary}
+use Rattle.lc_formats.specs.Readable.{IsListed, IsTabular}
+use Rattle.lc_formats.specs.TableText.{counts, section_listing, summary, table_of}
+
+-- the lines have one width
+abbrev pub AreAsWide : List (List ℕ) → Type 0
+AreAsWide lines = (width : ℕ) × All (λ line. width_of line ≡ width) lines
+
+-- with their blanks the lines have one width, and the text has them without the blanks at their ends
+abbrev pub AreEven : List ℕ → List ℕ → Type 0
+AreEven padded text = AreAsWide (input_lines_of padded) × (input_lines_of text ≡ map without_blanks (input_lines_of padded))
+
+-- the lines end with these texts, and what is before these has one width
+abbrev pub AreAligned : List (List ℕ) → List (List ℕ) → Type 0
+AreAligned lines ends =
+    (width : ℕ) × AllZip (λ line end. (front : List ℕ) × (line ≡ front ++ end) × (width_of front ≡ width)) lines ends
+
+-- nothing where nothing is listed, and else lines that end with the heading and with these texts, and an empty line
+abbrev pub IsAlignedListing : List ℕ → List (List ℕ) → List ℕ → Type 0
+IsAlignedListing heading [] text = text ≡ []
+IsAlignedListing heading (end ∷ ends) text =
+    (lines : List (List ℕ)) × (input_lines_of text ≡ lines ++ [] ∷ []) × AreAligned lines (heading ∷ end ∷ ends)
+
+-- the last heading, and the last text of a line
+abbrev pub last_heading : List Column → List ℕ
+last_heading [] = []
+last_heading (c ∷ []) = heading c
+last_heading (c ∷ d ∷ ds) = last_heading (d ∷ ds)
+
+abbrev pub last_text : List ValueModel → List ℕ
+last_text [] = []
+last_text (v ∷ []) = shown_text v
+last_text (v ∷ w ∷ ws) = last_text (w ∷ ws)
+
+-- the rows between their headings and their sums, the lines of hyphens too
+abbrev pub SummaryWidthLaw : Type 0
+SummaryWidthLaw = (s : SheetModel) → IsTabular s → AreEven (padded_summary s) (summary s)
+
+-- the numbers of directories and of their entries
+abbrev pub CountsWidthLaw : Type 0
+CountsWidthLaw = (s : SheetModel) → AreEven (padded_counts s) (counts s)
+
+-- what is listed, where the last column ends its line
+abbrev pub ListingWidthLaw : Type 0
+ListingWidthLaw =
+    (s : SectionModel) → IsListed s → IsAlignedListing (last_heading s.columns) (map last_text s.lines) (section_listing s)
+
+-- a text that ends a line with something other than a blank
+abbrev pub HasEnd : List ℕ → Type 0
+HasEnd t = (t ≡ [] → ⊥) × (ends_in_blank t ≡ false)
+
+-- a section that is listed, of which no last text ends with a blank
+abbrev pub HasEnds : SectionModel → Type 0
+HasEnds s = IsListed s × All (λ line. HasEnd (last_text line)) s.lines
+
+-- no line of a text in columns ends with a blank, where no last text of what is listed does
+abbrev pub LineEndsLaw : Type 0
+LineEndsLaw =
+    (s : SheetModel) → IsTabular s → IfSome s.files HasEnds → HasEnds s.skipped → HasEnds s.faults
+    → All (λ line. ends_in_blank line ≡ false) (input_lines_of (table_of s))
