@@ -17,3 +17,8 @@ pub mod Readable
 pub mod CommaLaws
 pub mod ShareLaws
 pub mod WidthLaws
+pub mod Tsv
+pub mod TsvParts
+pub mod Csv
+pub mod CsvText
+pub mod CsvLaws

@@ -37,11 +37,11 @@ fn write_value(
     text: &mut JsonText,
     joined: &mut Vec<u8>,
     column: Column,
-    value: Value<'_>,
+    value: &Value<'_>,
 ) -> Result<(), AllocError>
-    ensures { OnOk result (text.new ≡ text.old ++ members_tokens_of (value_members column (value_model value.entry))) }
+    ensures { OnOk result (text.new ≡ text.old ++ members_tokens_of (value_members column (value_model value.now))) }
 {
-    match value {
+    match *value {
         Value::Missing => text.null_member(column.name())?,
         Value::Word(word) => text.string_member(column.name(), word)?,
         Value::Name(name) => write_name(text, joined, column, name)?,
@@ -61,7 +61,7 @@ fn write_column<L: Lines>(
 ) -> Result<(), AllocError>
     ensures { OnOk result (text.new ≡ text.old ++ members_tokens_of (value_members column (L.value_in form line.now column))) }
 {
-    write_value(text, joined, column, L::value(line, form, column))
+    write_value(text, joined, column, &L::value(line, form, column))
 }
 
 fn write_columns<L: Lines>(

@@ -1,6 +1,9 @@
 //! The formats in which a sheet is printed. A format knows values, columns and sections, and nothing of where they come from.
 //!
-//! - `json_sheet`: a text as JSON, by `json_values` and `json_writer`; `joined`: names as bytes
+//! - `tsv`: the text with a tab between fields
+//! - `csv_sheet`: the text as CSV, by `csv_records`: a text that is written record by record; `csv_laws`: a reader gives the records back
+//! - `json_sheet`: a text as JSON, by `json_values` and `json_writer`
+//! - `joined`: names as bytes, for CSV and JSON
 //! - `markdown`: a text as Markdown, by `markdown_line` and `markdown_escape`; `markdown_laws`: what is true of it
 //! - `table`: a text in columns, for reading, by `section_lines` and `widths`
 //! - `cells`: the cells in which a line is shown; `cell_text`, `numbers`, `shares`: the texts in them
@@ -9,6 +12,9 @@
 
 mod cell_text;
 mod cells;
+mod csv_laws;
+mod csv_records;
+mod csv_sheet;
 mod joined;
 mod json_sheet;
 mod json_values;
@@ -22,8 +28,11 @@ mod section_lines;
 mod shares;
 mod table;
 mod table_laws;
+mod tsv;
 mod widths;
 
+pub use csv_laws::csv_reads_back;
+pub use csv_sheet::csv_text;
 pub use json_sheet::json_text;
 pub use markdown::markdown_text;
 pub use markdown_laws::markdown_has_no_markup_of_names;
@@ -33,3 +42,4 @@ pub use table_laws::{
     bars_are_as_long_as_their_cells, lines_end_without_blanks, lines_of_a_part_are_as_wide,
     numbers_with_commas_read_back, shares_are_of_the_whole,
 };
+pub use tsv::tsv_text;

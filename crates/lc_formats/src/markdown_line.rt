@@ -42,10 +42,10 @@ fn push_weighted(text: &mut Vec<u8>, weight: Weight, shown: &[u8]) -> Result<(),
 fn push_value(
     text: &mut Vec<u8>,
     weight: Weight,
-    value: Value<'_>,
+    value: &Value<'_>,
     made: &mut String,
 ) -> Result<(), AllocError>
-    ensures { OnOk result (text.new.items ≡ text.old.items ++ value_cell weight (value_model value.entry)) }
+    ensures { OnOk result (text.new.items ≡ text.old.items ++ value_cell weight (value_model value.now)) }
 {
     make_value(made, value)?;
     text.extend_from_slice(b" ")?;
@@ -63,7 +63,7 @@ pub(crate) fn push_values(
 {
     text.extend_from_slice(b"|")?;
     for value in values {
-        push_value(text, Weight::Plain, *value, made)?;
+        push_value(text, Weight::Plain, value, made)?;
     }
     text.extend_from_slice(b"\n")
 }
@@ -78,7 +78,7 @@ fn push_column<L: Lines>(
 ) -> Result<(), AllocError>
     ensures { OnOk result (text.new.items ≡ text.old.items ++ value_cell weight (L.value_in form line.now column)) }
 {
-    push_value(text, weight, L::value(line, form, column), made)
+    push_value(text, weight, &L::value(line, form, column), made)
 }
 
 /// Appends what a line has in each column.
@@ -105,7 +105,7 @@ pub(crate) fn push_line<L: Lines>(
 fn push_heading(text: &mut Vec<u8>, column: Column, made: &mut String) -> Result<(), AllocError>
     ensures { OnOk result (text.new.items ≡ text.old.items ++ value_cell Weight.Plain (heading_value column)) }
 {
-    push_value(text, Weight::Plain, Value::Word(column.heading()), made)
+    push_value(text, Weight::Plain, &Value::Word(column.heading()), made)
 }
 
 fn push_heading_line(

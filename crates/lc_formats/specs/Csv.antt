@@ -1,0 +1,41 @@
+-- The text of a sheet as CSV: records of one section, below the names of its columns.
+use Rattle.std.specs.Prelude.{ℕ, List, [], ◌∷◌, map, decimal, Option, Some, None}
+use Rattle.std.specs.List.{flat_map}
+use Rattle.lc_sheet.specs.ColumnWords.{column_name}
+use Rattle.lc_sheet.specs.Sheets.{SectionModel, SheetModel}
+use Rattle.lc_sheet.specs.Values.{ValueModel, missing, summed, blank, word, name, path, number, share, bar}
+use Rattle.lc_text.specs.Names.{named}
+use Rattle.lc_formats.specs.CsvText.{raw, record_text}
+
+-- a value as a field, with the bytes of names and of paths as they are
+abbrev pub field_of : ValueModel → List ℕ
+field_of missing = []
+field_of summed = []
+field_of blank = []
+field_of (word w) = w
+field_of (name n) = named raw n
+field_of (path p) = p
+field_of (number n) = decimal n
+field_of (share part whole) = []
+field_of (bar part whole) = []
+
+-- the names of the columns, and a record for each line
+abbrev pub records_of : SectionModel → List (List (List ℕ))
+records_of s = map column_name s.columns ∷ map (map field_of) s.lines
+
+-- the skipped entries where they are asked for, else the rows
+abbrev pub skipped_or_rows : Option ℕ → SheetModel → SectionModel
+skipped_or_rows None s = s.rows
+skipped_or_rows (Some entries) s = s.skipped
+
+-- the files where they are asked for, else the skipped entries or the rows
+abbrev pub section_among : Option SectionModel → SheetModel → SectionModel
+section_among None s = skipped_or_rows s.entries s
+section_among (Some files) s = files
+
+-- the section whose lines are the records
+abbrev pub csv_section : SheetModel → SectionModel
+csv_section s = section_among s.files s
+
+abbrev pub csv_of : SheetModel → List ℕ
+csv_of s = flat_map record_text (records_of (csv_section s))

@@ -1,0 +1,19 @@
+-- What is true of texts as CSV.
+use Rattle.std.specs.Prelude.{◌≡◌, ◌<◌, List, length}
+use Rattle.std.specs.List.{All}
+use Rattle.csv.specs.Reading.{AreRecords, default_config}
+use Rattle.csv.specs.declared.parser.State.TheVariants.{StartRecord}
+use Rattle.lc_sheet.specs.Sheets.{SectionModel, SheetModel}
+use Rattle.lc_sheet.specs.Values.{ValueModel}
+use Rattle.lc_formats.specs.Csv.{csv_of, csv_section, records_of}
+
+-- a section with columns, whose lines have a value in each
+pub record HasColumns (s : SectionModel) : Type 0 where
+  pub some : 0 < length s.columns
+  pub each : All (λ (values : List ValueModel). length values ≡ length s.columns) s.lines
+
+-- a reader of CSV (RFC 4180) gives the records of the section and no others
+abbrev pub RecordsLaw : Type 0
+RecordsLaw =
+    (s : SheetModel) → HasColumns (csv_section s)
+    → AreRecords default_config StartRecord (csv_of s) (records_of (csv_section s))

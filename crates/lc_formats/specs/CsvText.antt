@@ -1,0 +1,19 @@
+-- A text of records (RFC 4180).
+use Rattle.std.specs.Prelude.{◌≡◌, ℕ, false, List, Vec}
+use Rattle.std.specs.Global.{Global}
+use Rattle.csv.specs.Writing.{default_writer, fields_written, has_written, row_text, writer_setup}
+use Rattle.csv.specs.declared.writer.Writer.{Writer}
+
+-- bytes as they are
+abbrev pub raw : List ℕ → List ℕ
+raw bytes = bytes
+
+-- a record of these fields (RFC 4180), with a line feed at its end
+abbrev pub record_text : List (List ℕ) → List ℕ
+record_text fields = row_text default_writer fields
+
+-- a writer of such records, between two of them
+pub record IsBetween (w : Writer (Vec ℕ Global)) : Type 0 where
+  pub setup : writer_setup w ≡ default_writer
+  pub fields : fields_written w ≡ 0
+  pub wrote : has_written w ≡ false

@@ -1,0 +1,8 @@
+//! Laws of texts as CSV. The functions do nothing: their contracts are what is proved.
+
+ghost use Rattle.lc_formats.specs.CsvLaws.{RecordsLaw};
+
+/// A reader of CSV gives the records of a sheet, and no others.
+pub fn csv_reads_back()
+    ensures { RecordsLaw }
+{}

@@ -1,0 +1,152 @@
+//! The text of a sheet as CSV.
+
+ghost use Rattle.std.specs.Prelude.{◌≡◌, [], ◌∷◌, ◌++◌, map, IfOk, OnOk};
+ghost use Rattle.std.specs.List.{flat_map};
+ghost use Rattle.lc_formats.specs.Csv.{csv_of, csv_section, field_of, records_of};
+ghost use Rattle.lc_formats.specs.CsvText.{record_text};
+ghost use Rattle.lc_sheet.specs.ColumnWords.{column_name};
+ghost use Rattle.lc_sheet.specs.Sheets.{line_of, lines_of};
+ghost use Rattle.lc_sheet.specs.Values.{value_model};
+
+use crate::csv_records::{CsvText, Fields};
+use lc_sheet::{Column, Form, Lines, Section, Sheet, Value};
+use std::alloc::{AllocError, Global};
+
+/// Appends a value as a field.
+fn push_value(fields: &mut Fields, value: Value<'_>) -> Result<(), AllocError>
+    ensures { OnOk result (fields.new ≡ fields.old ++ field_of (value_model value.entry) ∷ []) }
+{
+    match value {
+        Value::Word(word) => fields.push(word.as_bytes()),
+        Value::Name(name) => fields.push_name(name),
+        Value::Path(path) => fields.push(path),
+        Value::Number(number) => fields.push_number(number),
+        Value::Missing | Value::Summed | Value::Blank | Value::Share { .. } | Value::Bar { .. } =>
+            fields.push(b""),
+    }
+}
+
+/// Appends the value of a line in a column.
+fn push_field<L: Lines>(
+    fields: &mut Fields,
+    form: Form,
+    line: &L::Line,
+    column: Column,
+) -> Result<(), AllocError>
+    ensures { OnOk result (fields.new ≡ fields.old ++ field_of (L.value_in form line.now column) ∷ []) }
+{
+    let value = L::value(line, form, column);
+    push_value(fields, value)
+}
+
+fn push_fields<L: Lines>(
+    fields: &mut Fields,
+    form: Form,
+    line: &L::Line,
+    columns: &[Column],
+) -> Result<(), AllocError>
+    ensures { OnOk result (fields.new ≡ fields.old ++ map (λ column. field_of (L.value_in form line.now column)) columns.now) }
+{
+    for column in columns {
+        push_field::<L>(fields, form, line, *column)?;
+    }
+    Ok(())
+}
+
+fn set_fields<L: Lines>(
+    fields: &mut Fields,
+    form: Form,
+    line: &L::Line,
+    columns: &[Column],
+) -> Result<(), AllocError>
+    ensures { OnOk result (fields.new ≡ map field_of (line_of (L.value_in form) columns.now line.now)) }
+{
+    fields.clear();
+    push_fields::<L>(fields, form, line, columns)?;
+    Ok(())
+}
+
+fn push_names(fields: &mut Fields, columns: &[Column]) -> Result<(), AllocError>
+    ensures { OnOk result (fields.new ≡ fields.old ++ map column_name columns.now) }
+{
+    for column in columns {
+        fields.push(column.name().as_bytes())?;
+    }
+    Ok(())
+}
+
+/// Appends the names of columns as a record.
+fn push_headings(
+    text: &mut CsvText,
+    fields: &mut Fields,
+    columns: &[Column],
+) -> Result<(), AllocError>
+    ensures { OnOk result (text.new ≡ text.old ++ record_text (map column_name columns.now)) }
+{
+    fields.clear();
+    push_names(fields, columns)?;
+    text.push_record(fields)
+}
+
+/// Appends a record for each line.
+fn push_lines<L: Lines>(
+    text: &mut CsvText,
+    fields: &mut Fields,
+    form: Form,
+    columns: &[Column],
+    lines: &[L::Line],
+) -> Result<(), AllocError>
+    ensures { OnOk result (text.new
+        ≡ text.old ++ flat_map record_text (map (map field_of) (lines_of (L.value_in form) columns.now lines.now))) }
+{
+    for line in lines {
+        set_fields::<L>(fields, form, line, columns)?;
+        text.push_record(fields)?;
+    }
+    Ok(())
+}
+
+fn push_section<L: Lines>(
+    text: &mut CsvText,
+    fields: &mut Fields,
+    section: &Section<'_, L>,
+) -> Result<(), AllocError>
+    ensures { OnOk result (text.new ≡ text.old ++ flat_map record_text (records_of section.now)) }
+{
+    let (form, columns, lines) = section.parts();
+    push_headings(text, fields, columns)?;
+    push_lines::<L>(text, fields, form, columns, lines)
+}
+
+/// Appends the records of the files, else of the skipped entries, else of the rows.
+fn push_records<R: Lines, T: Lines, F: Lines, S: Lines, E: Lines>(
+    text: &mut CsvText,
+    fields: &mut Fields,
+    sheet: &Sheet<'_, R, T, F, S, E>,
+) -> Result<(), AllocError>
+    ensures { OnOk result (text.new ≡ text.old ++ flat_map record_text (records_of (csv_section sheet.now))) }
+{
+    if let Some(files) = &sheet.files {
+        return push_section(text, fields, files);
+    }
+    if sheet.entries.is_some() {
+        return push_section(text, fields, &sheet.skipped);
+    }
+    push_section(text, fields, &sheet.rows)
+}
+
+/// Makes the text of a sheet as CSV (RFC 4180): records of one kind below their headings.
+///
+/// There is one for each file if the sheet lists files, else one for each skipped entry if it counts entries, and else one for each row.
+/// Bytes are as they are, with quotes around a field that needs them.
+pub fn csv_text<R: Lines, T: Lines, F: Lines, S: Lines, E: Lines>(
+    alloc: Global,
+    sheet: &Sheet<'_, R, T, F, S, E>,
+) -> Result<Vec<u8>, AllocError>
+    ensures { IfOk result (λ text. text.items ≡ csv_of sheet.now) }
+{
+    let mut text = CsvText::new(alloc);
+    let mut fields = Fields::new(alloc);
+    push_records(&mut text, &mut fields, sheet)?;
+    text.into_text()
+}
