@@ -24,3 +24,6 @@ pub mod ListingWidths
 pub mod LineEndProofs
 pub mod ShareLawProofs
 pub mod CommaLawProofs
+pub mod TsvLines
+pub mod CsvLines
+pub mod RecordsRead

@@ -15,6 +15,9 @@ pub mod Cells
 pub mod TableText
 pub mod PaddedText
 pub mod Widening
+pub mod MarkdownCells
+pub mod MarkdownText
+pub mod MarkdownLaws
 pub mod Readable
 pub mod CommaLaws
 pub mod ShareLaws
@@ -22,3 +25,8 @@ pub mod WidthLaws
 pub mod MarkdownCells
 pub mod MarkdownText
 pub mod MarkdownLaws
+pub mod Tsv
+pub mod TsvParts
+pub mod Csv
+pub mod CsvText
+pub mod CsvLaws

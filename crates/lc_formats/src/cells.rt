@@ -69,20 +69,6 @@ impl<'a> Cell<'a> {
         }
     }
 
-    /// Returns the side of its column at which it is.
-    pub(crate) fn side(&self) -> Side
-        ensures { result ≡ (cell_model self.now).side }
-    {
-        self.side
-    }
-
-    /// Makes its text, in place of what `made` had.
-    pub(crate) fn make(&self, made: &mut String) -> Result<(), AllocError>
-        ensures { OnOk result (string_bytes made.new ≡ (cell_model self.now).text) }
-    {
-        make_value(made, &self.value)
-    }
-
     /// Returns how wide its column must be for it.
     pub(crate) fn width(&self, made: &mut String) -> Result<usize, AllocError>
         ensures { IfOk result (λ width. width ≡ width_at (cell_model self.now).side (cell_model self.now).text) }

@@ -1,10 +1,11 @@
 //! A CSV text (RFC 4180), written record by record.
 
-ghost use Rattle.std.specs.Prelude.{◌≡◌, [], ◌∷◌, ◌++◌, decimal, IfOk, IsTrue, OnOk};
+ghost use Rattle.std.specs.Prelude.{◌≡◌, [], ◌∷◌, ◌++◌, decimal, IfOk, OnOk};
 ghost use Rattle.csv.specs.Records.{fields_of, partial_of};
 ghost use Rattle.lc_formats.specs.CsvText.{raw, record_text};
-ghost use Rattle.lc_text.specs.Names.{line_end, name_model, named};
+ghost use Rattle.lc_text.specs.Names.{name_model, named};
 
+use crate::joined::{has_bytes_alone, join_name};
 use csv::{ByteRecord, Writer};
 use lc_text::Name;
 use std::alloc::{AllocError, Global};
@@ -22,35 +23,6 @@ fn push_field(row: &mut ByteRecord, field: &[u8]) -> Result<(), AllocError>
         return Err(AllocError);
     }
     Ok(())
-}
-
-fn join_line(text: &mut Vec<u8>, line: Option<u32>) -> Result<(), AllocError>
-    ensures { OnOk result (text.new.items ≡ text.old.items ++ line_end line) }
-{
-    match line {
-        None => Ok(()),
-        Some(line) => {
-            let mut buffer = itoa::Buffer::new();
-            text.extend_from_slice(b":")?;
-            text.extend_from_slice(buffer.format(line).as_bytes())
-        }
-    }
-}
-
-fn join_name(text: &mut Vec<u8>, name: Name<'_>) -> Result<(), AllocError>
-    ensures { OnOk result (text.new.items ≡ text.old.items ++ named raw (name_model name.entry)) }
-{
-    text.extend_from_slice(name.front.as_bytes())?;
-    text.extend_from_slice(name.bytes)?;
-    text.extend_from_slice(name.end.as_bytes())?;
-    join_line(text, name.line)
-}
-
-/// Returns whether nothing is printed before or after the bytes of a name.
-fn has_bytes_alone(name: Name<'_>) -> bool
-    ensures { IsTrue result → named raw (name_model name.entry) ≡ name.entry.bytes.now }
-{
-    name.front.is_empty() && name.end.is_empty() && name.line.is_none()
 }
 
 /// The fields of a record.

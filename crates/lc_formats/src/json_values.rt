@@ -5,36 +5,15 @@ ghost use Rattle.json.specs.Tree.{json_tokens};
 ghost use Rattle.lc_sheet.specs.Sheets.{line_of, lines_of};
 ghost use Rattle.lc_sheet.specs.Values as value;
 ghost use Rattle.lc_sheet.specs.Values.{value_model};
-ghost use Rattle.lc_text.specs.Names.{line_end, name_model, named};
+ghost use Rattle.lc_text.specs.Names.{name_model};
 ghost use Rattle.lc_formats.specs.JsonSheets.{line_at, line_members, line_object, list_member, value_members};
 ghost use Rattle.lc_formats.specs.JsonTokens.{member_tokens, members_tokens_of};
 
+use crate::joined::{has_bytes_alone, join_name};
 use crate::json_writer::JsonText;
 use lc_sheet::{Column, Form, Lines, Section, Value};
 use lc_text::Name;
 use std::alloc::AllocError;
-
-fn push_line_end(joined: &mut Vec<u8>, line: Option<u32>) -> Result<(), AllocError>
-    ensures { OnOk result (joined.new.items ≡ joined.old.items ++ line_end line) }
-{
-    let Some(line) = line else {
-        return Ok(());
-    };
-    let mut buffer = itoa::Buffer::new();
-    joined.push(b':')?;
-    joined.extend_from_slice(buffer.format(line).as_bytes())
-}
-
-/// Joins the parts of a name, so that they are checked as one text.
-fn set_joined(joined: &mut Vec<u8>, name: Name<'_>) -> Result<(), AllocError>
-    ensures { OnOk result (joined.new.items ≡ named (λ bytes. bytes) (name_model name.entry)) }
-{
-    joined.clear();
-    joined.extend_from_slice(name.front.as_bytes())?;
-    joined.extend_from_slice(name.bytes)?;
-    joined.extend_from_slice(name.end.as_bytes())?;
-    push_line_end(joined, name.line)
-}
 
 /// Writes the member of a name in a column. Its parts are joined only where there is more than its bytes.
 fn write_name(
@@ -45,12 +24,12 @@ fn write_name(
 ) -> Result<(), AllocError>
     ensures { OnOk result (text.new ≡ text.old ++ members_tokens_of (value_members column (value.name (name_model name.entry)))) }
 {
-    if name.front.is_empty() && name.end.is_empty() && name.line.is_none() {
-        text.bytes_member(column.name(), name.bytes)
-    } else {
-        set_joined(joined, name)?;
-        text.bytes_member(column.name(), joined)
+    if has_bytes_alone(name) {
+        return text.bytes_member(column.name(), name.bytes);
     }
+    joined.clear();
+    join_name(joined, name)?;
+    text.bytes_member(column.name(), joined)
 }
 
 /// Writes the member of a value in a column, where it has one.
@@ -58,11 +37,11 @@ fn write_value(
     text: &mut JsonText,
     joined: &mut Vec<u8>,
     column: Column,
-    value: Value<'_>,
+    value: &Value<'_>,
 ) -> Result<(), AllocError>
-    ensures { OnOk result (text.new ≡ text.old ++ members_tokens_of (value_members column (value_model value.entry))) }
+    ensures { OnOk result (text.new ≡ text.old ++ members_tokens_of (value_members column (value_model value.now))) }
 {
-    match value {
+    match *value {
         Value::Missing => text.null_member(column.name())?,
         Value::Word(word) => text.string_member(column.name(), word)?,
         Value::Name(name) => write_name(text, joined, column, name)?,
@@ -82,7 +61,7 @@ fn write_column<L: Lines>(
 ) -> Result<(), AllocError>
     ensures { OnOk result (text.new ≡ text.old ++ members_tokens_of (value_members column (L.value_in form line.now column))) }
 {
-    write_value(text, joined, column, L::value(line, form, column))
+    write_value(text, joined, column, &L::value(line, form, column))
 }
 
 fn write_columns<L: Lines>(

@@ -5,6 +5,7 @@
 //! - `json_sheet`: the text as JSON, by `json_values` and `json_writer`
 //! - `markdown`: the text as Markdown, by `markdown_line` and `markdown_escape`
 //! - `table`: the text in columns, for reading, by `section_lines` and `widths`
+//! - `joined`: a name with what is before and after its bytes, for CSV and JSON
 //! - `cells`: the cells in which a line is shown; `cell_text`, `numbers`, `shares`: the texts in them
 //! - `csv_laws`, `markdown_laws`, `table_laws`: what is true of the definitions that the contracts cite
 #![tactic(auto)]
@@ -14,6 +15,7 @@ mod cells;
 mod csv_laws;
 mod csv_records;
 mod csv_sheet;
+mod joined;
 mod json_sheet;
 mod json_values;
 mod json_writer;

@@ -3,7 +3,6 @@
 ghost use Rattle.std.specs.Prelude.{◌≡◌, ◌++◌, IfOk, OnOk, option_map};
 ghost use Rattle.lc_formats.specs.MarkdownText.{counts_with, files_above, lines_with, list_above, list_below, markdown_of};
 ghost use Rattle.lc_formats.specs.MarkdownText.{section_table, summary_with};
-ghost use Rattle.lc_formats.specs.declared.markdown_line.Weight.TheVariants.{Plain, Bold};
 
 use crate::markdown_line::{Weight, push_headings, push_line, push_values};
 use crate::section_lines::{is_empty, shown_lines};

@@ -1,7 +1,6 @@
 //! Lines of a table of Markdown.
 
-ghost use Rattle.std.specs.Prelude.{◌≡◌, ◌++◌, flat_map, map, OnOk};
-ghost use Rattle.lc_formats.specs.Cells.{shown_text};
+ghost use Rattle.std.specs.Prelude.{◌≡◌, ◌++◌, map, OnOk};
 ghost use Rattle.lc_formats.specs.MarkdownCells.{bold, rule_cell, value_cell, weighted};
 ghost use Rattle.lc_formats.specs.MarkdownText.{heading_value, headings_with, line_with, rule_with};
 ghost use Rattle.lc_sheet.specs.Sheets.{line_of};
@@ -43,10 +42,10 @@ fn push_weighted(text: &mut Vec<u8>, weight: Weight, shown: &[u8]) -> Result<(),
 fn push_value(
     text: &mut Vec<u8>,
     weight: Weight,
-    value: Value<'_>,
+    value: &Value<'_>,
     made: &mut String,
 ) -> Result<(), AllocError>
-    ensures { OnOk result (text.new.items ≡ text.old.items ++ value_cell weight (value_model value.entry)) }
+    ensures { OnOk result (text.new.items ≡ text.old.items ++ value_cell weight (value_model value.now)) }
 {
     make_value(made, &value)?;
     text.extend_from_slice(b" ")?;
@@ -64,7 +63,7 @@ pub(crate) fn push_values(
 {
     text.extend_from_slice(b"|")?;
     for value in values {
-        push_value(text, Weight::Plain, *value, made)?;
+        push_value(text, Weight::Plain, value, made)?;
     }
     text.extend_from_slice(b"\n")
 }
@@ -79,7 +78,7 @@ fn push_column<L: Lines>(
 ) -> Result<(), AllocError>
     ensures { OnOk result (text.new.items ≡ text.old.items ++ value_cell weight (L.value_in form line.now column)) }
 {
-    push_value(text, weight, L::value(line, form, column), made)
+    push_value(text, weight, &L::value(line, form, column), made)
 }
 
 /// Appends what a line has in each column.
@@ -106,7 +105,7 @@ pub(crate) fn push_line<L: Lines>(
 fn push_heading(text: &mut Vec<u8>, column: Column, made: &mut String) -> Result<(), AllocError>
     ensures { OnOk result (text.new.items ≡ text.old.items ++ value_cell Weight.Plain (heading_value column)) }
 {
-    push_value(text, Weight::Plain, Value::Word(column.heading()), made)
+    push_value(text, Weight::Plain, &Value::Word(column.heading()), made)
 }
 
 fn push_heading_line(

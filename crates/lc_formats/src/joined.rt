@@ -1,0 +1,35 @@
+//! Names as bytes, for formats that programs read.
+
+ghost use Rattle.std.specs.Prelude.{◌≡◌, ◌++◌, IsTrue, OnOk};
+ghost use Rattle.lc_text.specs.Names.{line_end, name_model, named};
+
+use lc_text::Name;
+use std::alloc::AllocError;
+
+fn join_line(text: &mut Vec<u8>, line: Option<u32>) -> Result<(), AllocError>
+    ensures { OnOk result (text.new.items ≡ text.old.items ++ line_end line) }
+{
+    let Some(line) = line else {
+        return Ok(());
+    };
+    let mut buffer = itoa::Buffer::new();
+    text.push(b':')?;
+    text.extend_from_slice(buffer.format(line).as_bytes())
+}
+
+/// Appends the parts of a name, with its bytes as they are.
+pub(crate) fn join_name(text: &mut Vec<u8>, name: Name<'_>) -> Result<(), AllocError>
+    ensures { OnOk result (text.new.items ≡ text.old.items ++ named (λ bytes. bytes) (name_model name.entry)) }
+{
+    text.extend_from_slice(name.front.as_bytes())?;
+    text.extend_from_slice(name.bytes)?;
+    text.extend_from_slice(name.end.as_bytes())?;
+    join_line(text, name.line)
+}
+
+/// Returns whether nothing is printed before or after the bytes of a name, so that they need no joining.
+pub(crate) fn has_bytes_alone(name: Name<'_>) -> bool
+    ensures { IsTrue result → named (λ bytes. bytes) (name_model name.entry) ≡ name.entry.bytes.now }
+{
+    name.front.is_empty() && name.end.is_empty() && name.line.is_none()
+}
