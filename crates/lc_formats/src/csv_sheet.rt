@@ -13,6 +13,8 @@ use lc_sheet::{Column, Form, Lines, Section, Sheet, Value};
 use std::alloc::{AllocError, Global};
 
 /// Appends a value as a field.
+// It is inlined, so that a value that is made where its column is known is appended without being stored.
+#[inline(always)]
 fn push_value(fields: &mut Fields, value: Value<'_>) -> Result<(), AllocError>
     ensures { OnOk result (fields.new ≡ fields.old ++ field_of (value_model value.entry) ∷ []) }
 {
@@ -27,6 +29,7 @@ fn push_value(fields: &mut Fields, value: Value<'_>) -> Result<(), AllocError>
 }
 
 /// Appends the value of a line in a column.
+#[inline(always)]
 fn push_field<L: Lines>(
     fields: &mut Fields,
     form: Form,

@@ -22,6 +22,8 @@ fn push_number(text: &mut Vec<u8>, number: u128) -> Result<(), AllocError>
 }
 
 /// Appends a value as a field.
+// It is inlined, so that a value that is made where its column is known is appended without being stored.
+#[inline(always)]
 fn push_value(text: &mut Vec<u8>, value: Value<'_>) -> Result<(), AllocError>
     ensures { OnOk result (text.new.items ≡ text.old.items ++ field_of (value_model value.entry)) }
 {
@@ -37,6 +39,7 @@ fn push_value(text: &mut Vec<u8>, value: Value<'_>) -> Result<(), AllocError>
 }
 
 /// Appends the value of a line in a column.
+#[inline(always)]
 fn push_field<L: Lines>(
     text: &mut Vec<u8>,
     form: Form,
