@@ -24,6 +24,3 @@ pub mod ListingWidths
 pub mod LineEndProofs
 pub mod ShareLawProofs
 pub mod CommaLawProofs
-pub mod TsvLines
-pub mod CsvLines
-pub mod RecordsRead

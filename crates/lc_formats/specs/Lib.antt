@@ -22,11 +22,3 @@ pub mod Readable
 pub mod CommaLaws
 pub mod ShareLaws
 pub mod WidthLaws
-pub mod MarkdownCells
-pub mod MarkdownText
-pub mod MarkdownLaws
-pub mod Tsv
-pub mod TsvParts
-pub mod Csv
-pub mod CsvText
-pub mod CsvLaws

@@ -7,7 +7,8 @@ ghost use Rattle.lc_picture.specs.Pieces.{text_of};
 
 use crate::directory_box::DirectoryBox;
 use crate::escaping::push_path;
-use crate::sums::{number_in, push_number, push_sums};
+use crate::sums::{push_number, push_sums};
+use lc_rows::number_in;
 use lc_sheet::Number;
 use std::alloc::AllocError;
 

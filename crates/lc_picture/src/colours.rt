@@ -3,8 +3,7 @@
 ghost use Rattle.std.specs.Prelude.{◌≡◌, drop, option_map};
 ghost use Rattle.lc_picture.specs.Colours.{colour_of, main_colour, path_of, place_of, rows_from, same_extension, shared_colour};
 
-use crate::sums::number_in;
-use lc_rows::ShownRow;
+use lc_rows::{ShownRow, number_in};
 use lc_sheet::Number;
 
 /// The colour that all extensions but the first of the chart share.

@@ -1,18 +1,15 @@
 //! A directory as a box of the picture.
 
 ghost use Rattle.std.specs.Prelude.{◌≡◌, [], ◌∷◌, ◌++◌, IfOk, OnOk, drop};
-ghost use Rattle.lc_rows.specs.Directories.{name_of};
 ghost use Rattle.lc_rows.specs.ShownRows.{number_in};
 ghost use Rattle.lc_picture.specs.Boxes.{box_of, drawn_boxes, least_drawn};
 ghost use Rattle.lc_picture.specs.Colours.{main_colour, path_of, rows_from, shared_colour};
 
 use crate::colours::{main_colour, next_place, path_of};
-use crate::sums::number_in;
 use lc_glob::path::depth_of;
-use lc_rows::ShownRow;
+use lc_rows::{ShownRow, name_of, number_in};
 use lc_sheet::Number;
 use lc_walk::Sums;
-use memchr::memrchr;
 use std::alloc::{AllocError, Global};
 use std::marker::Model;
 
@@ -35,15 +32,6 @@ impl<'a> Model for DirectoryBox<'a> {
     ghost Value = { BoxModel };
 
     ghost view = { λ b. record { directory = b.directory.now; depth = b.depth; colour = b.colour; sums = b.sums } };
-}
-
-fn name_of(path: &[u8]) -> &[u8]
-    ensures { result.now ≡ name_of path.now }
-{
-    match memrchr(b'/', path) {
-        None => path,
-        Some(place) => &path[place + 1..],
-    }
 }
 
 /// Returns the least number that is drawn: a thousandth of the total, rounded up, and not nothing.

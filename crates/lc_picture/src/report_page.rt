@@ -13,8 +13,7 @@ use crate::head::push_head;
 use crate::style::{
     boxes_begin, chart_begin, number_word, page_begin, style, sums_begin, tree_begin,
 };
-use crate::sums::number_in;
-use lc_rows::{Shown, ShownRow, shown_rows, tree_rows};
+use lc_rows::{Shown, ShownRow, number_in, shown_rows, tree_rows};
 use lc_sheet::{Columns, Format, Lines, Number, Section, Sheet, TableOptions};
 use lc_walk::{FileLine, Report, Sums};
 use std::alloc::{AllocError, Global};

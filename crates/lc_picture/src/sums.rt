@@ -1,24 +1,10 @@
 //! Sums in words, and their numbers.
 
 ghost use Rattle.std.specs.Prelude.{◌≡◌, ◌++◌, OnOk, decimal};
-ghost use Rattle.lc_rows.specs.ShownRows.{number_in};
 ghost use Rattle.lc_picture.specs.Pieces.{numbers, sums_pieces, text_of};
 
-use lc_sheet::Number;
 use lc_walk::Sums;
 use std::alloc::AllocError;
-
-/// Returns one of the numbers of sums.
-pub(crate) fn number_in(by: Number, sums: Sums) -> u128
-    ensures { result ≡ number_in by sums }
-{
-    match by {
-        Number::Files => u128::from(sums.files),
-        Number::Lines => sums.lines,
-        Number::Blank => sums.blank,
-        Number::Bytes => sums.bytes,
-    }
-}
 
 /// Appends a number in digits.
 pub(crate) fn push_number(text: &mut Vec<u8>, n: u128) -> Result<(), AllocError>

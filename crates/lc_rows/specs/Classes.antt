@@ -1,13 +1,9 @@
 -- The sums over binary files, and over others.
-use Rattle.std.specs.Prelude.{Bool, true, false, not, if◌then◌else◌, List, filter, Option, Some, None}
-use Rattle.std.specs.List.{list_any}
+use Rattle.std.specs.Prelude.{Bool, true, false, not, List, filter}
 use Rattle.lc_census.specs.declared.line_count.Eol.{Eol}
 use Rattle.lc_census.specs.declared.line_count.Eol.TheVariants.{Nul}
 use Rattle.lc_walk.specs.TallyRows.{TallyRowModel, sums_of_rows}
-use Rattle.lc_walk.specs.declared.report.Report.{Report}
 use Rattle.lc_walk.specs.declared.tally.sums.Sums.{Sums}
-use Rattle.lc_rows.specs.declared.classes.AllSums.{AllSums}
-use Rattle.lc_rows.specs.declared.classes.ClassSums.{ClassSums}
 
 abbrev pub is_nul : Eol → Bool
 is_nul Nul = true
@@ -22,11 +18,3 @@ text_sums rs = sums_of_rows (filter (λ r. not (is_binary r)) rs)
 
 abbrev pub binary_sums : List TallyRowModel → Sums
 binary_sums rs = sums_of_rows (filter is_binary rs)
-
--- the sums of either class, where some file is binary
-abbrev pub classes_of : List TallyRowModel → Option ClassSums
-classes_of rs = if list_any is_binary rs then Some (record { text = text_sums rs; binary = binary_sums rs }) else None
-
--- the sums over all files, and by class
-abbrev pub all_sums : Report → AllSums
-all_sums r = record { total = r.totals; classes = classes_of r.rows.items }

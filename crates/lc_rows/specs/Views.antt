@@ -1,6 +1,5 @@
 -- What a table shows of the rows and files that it has: as many as are asked for.
 use Rattle.std.specs.Prelude.{ℕ, List, [], ◌∷◌, take, drop, Option, Some, None}
-use Rattle.lc_rows.specs.declared.cut.View.{View}
 use Rattle.lc_rows.specs.RowKeys.{ShownRowModel, sums_of_shown}
 use Rattle.lc_walk.specs.ReportLines.{FileLineModel}
 use Rattle.lc_walk.specs.declared.tally.sums.Sums.{Sums}
@@ -10,9 +9,6 @@ pub record ViewModel : Type 0 where
   pub rows : List ShownRowModel
   pub others : Option Sums
   pub files : List FileLineModel
-
-abbrev pub view_model : View → ViewModel
-view_model v = record { rows = v.rows.now; others = v.others; files = v.files.now }
 
 -- as many as are asked for, or all
 abbrev pub first_of : {X : Type 0} → Option ℕ → List X → List X

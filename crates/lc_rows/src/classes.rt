@@ -2,29 +2,20 @@
 
 ghost use Rattle.std.specs.Prelude.{◌≡◌, if◌then◌else◌, IfOk, OnOk};
 ghost use Rattle.std.specs.List.{list_any};
-ghost use Rattle.lc_rows.specs.Classes.{all_sums, binary_sums, classes_of, is_binary, text_sums};
+ghost use Rattle.lc_rows.specs.Classes.{binary_sums, is_binary, text_sums};
 ghost use Rattle.lc_walk.specs.Sums.{plus};
 
 use lc_census::Eol;
-use lc_walk::{Report, Sums, TallyRow};
+use lc_walk::{Sums, TallyRow};
 use std::alloc::AllocError;
 
 /// The sums over the files of each class: those with a NUL byte are binary, and the others are text.
 #[derive(Clone, Copy)]
-pub struct ClassSums {
+pub(crate) struct ClassSums {
     /// The sums over the files without a NUL byte.
-    pub text: Sums,
+    pub(crate) text: Sums,
     /// The sums over the files with a NUL byte.
-    pub binary: Sums,
-}
-
-/// The sums over all files of a report, and by class where some file is binary.
-#[derive(Clone, Copy)]
-pub struct AllSums {
-    /// The sums over all files.
-    pub total: Sums,
-    /// The sums of each class, where some file is binary.
-    pub classes: Option<ClassSums>,
+    pub(crate) binary: Sums,
 }
 
 fn is_binary(row: &TallyRow) -> bool
@@ -58,7 +49,7 @@ impl ClassSums {
     }
 
     /// Adds up rows by class. It stops with an error for rows that no walk has, whose sums overflow.
-    pub fn of_all(rows: &[TallyRow]) -> Result<ClassSums, AllocError>
+    pub(crate) fn of_all(rows: &[TallyRow]) -> Result<ClassSums, AllocError>
         ensures text { IfOk result (λ sums. sums.text ≡ text_sums rows.now) }
         ensures binary { IfOk result (λ sums. sums.binary ≡ binary_sums rows.now) }
     {
@@ -70,27 +61,5 @@ impl ClassSums {
             sums = sums.with_row(row)?;
         }
         Ok(sums)
-    }
-
-    fn of(rows: &[TallyRow]) -> Result<Option<ClassSums>, AllocError>
-        ensures { IfOk result (λ classes. classes ≡ classes_of rows.now) }
-    {
-        if some_binary(rows) {
-            Ok(Some(ClassSums::of_all(rows)?))
-        } else {
-            Ok(None)
-        }
-    }
-}
-
-impl AllSums {
-    /// Adds up the rows of a report by class. It stops with an error for rows that no walk has, whose sums overflow.
-    pub fn of(report: &Report) -> Result<AllSums, AllocError>
-        ensures { IfOk result (λ sums. sums ≡ all_sums report.now) }
-    {
-        Ok(AllSums {
-            total: report.totals,
-            classes: ClassSums::of(&report.rows)?,
-        })
     }
 }

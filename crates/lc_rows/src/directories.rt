@@ -17,6 +17,13 @@ pub(crate) fn split_path(path: &[u8]) -> (&[u8], &[u8])
     }
 }
 
+/// Returns the last name of a path.
+pub fn name_of(path: &[u8]) -> &[u8]
+    ensures { result.now ≡ name_of path.now }
+{
+    split_path(path).1
+}
+
 /// Cuts a path to its first segments.
 pub(crate) fn first_segments(depth: usize, path: &[u8]) -> &[u8]
     ensures { result.now ≡ first_segments depth path.now }

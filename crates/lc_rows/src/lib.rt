@@ -29,9 +29,7 @@ mod shown_sheet;
 mod values;
 mod words;
 
-pub use classes::{AllSums, ClassSums};
-pub use cut::View;
-pub use directories::directory_at;
+pub use directories::{directory_at, name_of};
 pub use directory_tree::tree_rows;
 pub use files::sort_files;
 pub use kinds::{Faults, Files, NamedSums, Rows, Skipped, Totals};
@@ -45,6 +43,6 @@ pub use sheet_laws::{
     classes_of_a_sheet_add_up, files_of_a_sheet_are_the_first, no_row_of_a_sheet_is_over_its_whole,
     rows_of_a_sheet_add_up,
 };
-pub use shown::shown_rows;
+pub use shown::{number_in, shown_rows};
 pub use shown_row::ShownRow;
 pub use shown_sheet::{ReportSheet, Shown};

@@ -34,7 +34,8 @@ fn summed<'a>(
     }
 }
 
-pub(crate) fn number_in(by: Number, sums: Sums) -> u128
+/// Returns one of the numbers of sums.
+pub fn number_in(by: Number, sums: Sums) -> u128
     ensures { result ≡ number_in by sums }
 {
     match by {

@@ -4,7 +4,7 @@ ghost use Rattle.std.specs.Prelude.{◌≡◌};
 ghost use Rattle.lc_sheet.specs.Values.{value_model};
 ghost use Rattle.lc_rows.specs.Kinds.{file_value, file_directory};
 
-use crate::directories::{directory_at, split_path};
+use crate::directories::{directory_at, name_of};
 use crate::files::number_of;
 use crate::values::{directory_value, extension_value, text_value};
 use lc_sheet::{Column, Form, Lines, Value};
@@ -28,10 +28,11 @@ impl Lines for Files {
 
     ghost value_in = { file_value };
 
+    #[inline(always)]
     fn value<'l>(line: &'l FileLine, form: Form, column: Column) -> Value<'l> {
         match column {
             Column::Dir => file_directory(form.by.dir, &line.path),
-            Column::Ext => extension_value(extension(split_path(&line.path).1)),
+            Column::Ext => extension_value(extension(name_of(&line.path))),
             Column::Text => text_value(line.text),
             Column::Eol => Value::Word(line.count.eol.as_str()),
             Column::Number(number) => Value::Number(u128::from(number_of(number, line))),

@@ -81,6 +81,7 @@ impl<'a> Lines for Rows<'a> {
 
     ghost value_in = { row_value };
 
+    #[inline(always)]
     fn value<'l>(line: &'l ShownRow<'a>, form: Form, column: Column) -> Value<'l> {
         match column {
             Column::Dir => directory_in(line, form),

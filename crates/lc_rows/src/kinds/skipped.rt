@@ -83,6 +83,7 @@ impl Lines for Skipped {
 
     ghost value_in = { skipped_value };
 
+    #[inline(always)]
     fn value<'l>(line: &'l SkippedLine, form: Form, column: Column) -> Value<'l> {
         match column {
             Column::Path => Value::Path(&line.path),

@@ -1,8 +1,8 @@
 //! Rows by directory, alone and with other columns, sorted and cut.
 
-use crate::rows::files::{BY_DIRECTORY, File, NONE, Row, are_rows, file_lines, sums};
+use crate::rows::files::{BY_DIRECTORY, File, NONE, Row, are_rows, file_lines};
 use lc_census::Eol;
-use lc_rows::{View, shown_rows};
+use lc_rows::shown_rows;
 use lc_rules::TextState;
 use lc_sheet::{Columns, Number};
 use lc_walk::TallyRow;
@@ -101,18 +101,6 @@ fn rows_by_directory(rt: HostRuntime) -> Result<(), Fail> {
     for case in CASES {
         assert!(rt; has_rows(rt.alloc(), case)?, "{}", case.name);
     }
-    Ok(())
-}
-
-#[test]
-fn the_first_row_and_the_others(rt: HostRuntime) -> Result<(), Fail> {
-    let alloc = rt.alloc();
-    let files = file_lines(alloc, FILES)?;
-    let shown = shown_rows(alloc, &[], &files, BY_DIRECTORY, Some(Number::Lines))?;
-    let view = View::of(Some(1), &shown, &files)?;
-    assert!(rt; are_rows(view.rows, &[(b"src", None, Eol::NoEnd, [3, 11, 3, 85])]));
-    assert!(rt; view.others == Some(sums([2, 7, 2, 24])));
-    assert!(rt; view.files.len() == 1);
     Ok(())
 }
 
