@@ -15,3 +15,5 @@ pub mod SlashesSaidAlike
 pub mod TakingPart
 pub mod ExplainedEntries
 pub mod TopRules
+pub mod ReportSheets
+pub mod SheetRecords

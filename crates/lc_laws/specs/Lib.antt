@@ -5,3 +5,4 @@ pub mod CountsExplained
 pub mod CountsChecked
 pub mod OneExplanation
 pub mod SlashAtEnd
+pub mod SheetReadable

@@ -1,12 +1,15 @@
-//! Laws that tie a count, an explanation and a check together, in the terms of who calls them.
+//! Laws that tie a count, an explanation and a check together, and a report to its texts, in the terms of who calls them.
 //!
 //! - `laws`: that a count agrees on each path with an explanation of the tree, and with a check by the top's rules; that a path has one
 //!   explanation, whether or not a slash ends a directory's path
+//! - `printed_laws`: that the sheet of a report has what the laws of its texts ask for
 #![tactic(auto)]
 
 mod laws;
+mod printed_laws;
 
 pub use laws::{
     counts_are_as_checked, counts_are_as_explained, explanations_are_by_given_answers,
     one_answer_is_one_explanation, slashes_of_directories_say_nothing,
 };
+pub use printed_laws::{sheets_of_reports_are_readable, sheets_of_reports_have_records};

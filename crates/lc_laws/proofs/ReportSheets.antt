@@ -1,0 +1,337 @@
+-- The sheet of a report, as a text in columns shows it, is readable.
+use Rattle.std.proofs.Common.{◌≡◌, ◌<◌, ◌-◌, ℕ, Bool, true, false, ◌&&◌, if◌then◌else◌, List, [], ◌∷◌, ◌++◌, length, map, is_some, unwrap_or}
+use Rattle.std.proofs.Common.{Option, Some, None, codes, refl, sym, ap, ap₂, ◌∙◌, append_assoc, subst, arith}
+use Rattle.std.specs.List.{All}
+use Rattle.std.specs.Option.{IfSome}
+use Rattle.std.proofs.lemmas.List.{map-append}
+use Rattle.std.proofs.lemmas.List.Elements.{All-cons, All-head, All-map, All-nil, All-tail, All-take, All-weaker}
+use Rattle.lc_level.specs.FaultLines.{FaultLineModel}
+use Rattle.lc_level.specs.FaultWords.{fault_word}
+use Rattle.lc_level.specs.Level.{Reason as SkipReason, named_git, by_rule, by_attribute, not_included, other_kind}
+use Rattle.lc_level.specs.declared.fault_word.FaultWord.{FaultWord}
+use Rattle.lc_census.specs.declared.line_count.Eol.{Eol}
+use Rattle.lc_census.specs.declared.line_count.Eol.TheVariants as eol
+use Rattle.lc_rules.specs.Verdicts.{below}
+use Rattle.lc_rules.specs.declared.rule_source.RuleSource.{RuleSource}
+use Rattle.lc_rules.specs.declared.rule_source.RuleSource.TheVariants.{ExcludeFrom, InfoExclude, Gitignore, CommandLine}
+use Rattle.lc_rules.specs.declared.states.TextState.{TextState}
+use Rattle.lc_rules.specs.declared.states.TextState.TheVariants as state
+use Rattle.lc_text.specs.RulePlaces.{source_directory, source_name}
+use Rattle.lc_tree.specs.declared.entry.Kind.{Kind}
+use Rattle.lc_tree.specs.declared.entry.Kind.TheVariants.{File, Dir, Other}
+use Rattle.lc_tree.specs.declared.entry.OtherKind.TheVariants.{Special, Mounted}
+use Rattle.lc_sheet.specs.ColumnWords.{side_of}
+use Rattle.lc_sheet.specs.Sheets.{SectionModel, SheetModel}
+use Rattle.lc_sheet.specs.Values.{ValueModel, number, blank, word, name, path}
+use Rattle.lc_sheet.specs.declared.column.Column.{Column}
+use Rattle.lc_sheet.specs.declared.column.Column.TheVariants as column
+use Rattle.lc_sheet.specs.declared.column.Number.TheVariants.{Files, Lines, Blank, Bytes}
+use Rattle.lc_sheet.specs.declared.column.Side.{Side}
+use Rattle.lc_sheet.specs.declared.column.Side.TheVariants.{Left, Right, End}
+use Rattle.lc_sheet.specs.declared.form.Form.{Form}
+use Rattle.lc_sheet.specs.declared.form.Shares.{Shares}
+use Rattle.lc_sheet.specs.declared.table_options.Columns.{Columns}
+use Rattle.lc_sheet.specs.declared.table_options.Format.TheVariants.{Table}
+use Rattle.lc_sheet.specs.declared.table_options.Format.{Format}
+use Rattle.lc_sheet.specs.declared.table_options.TableOptions.{TableOptions}
+use Rattle.lc_walk.specs.ReportLines.{FileLineModel, SkippedLineModel}
+use Rattle.lc_walk.specs.declared.report.Report.{Report}
+use Rattle.lc_walk.specs.declared.tally.sums.Sums.{Sums}
+use Rattle.lc_rows.specs.Kinds.{NamedSumsModel, directory_value, extension_value, fault_value, file_value, kept_value, named_in, place_value}
+use Rattle.lc_rows.specs.Kinds.{entry_value, row_value, share_value, bar_value, skipped_value, sums_value, text_value}
+use Rattle.lc_rows.specs.Classes.{binary_sums, text_sums}
+use Rattle.lc_rows.specs.RowKeys.{ShownRowModel}
+use Rattle.lc_rows.specs.SheetColumns.{column_if, fault_columns, key_columns, listed_columns, listed_skipped, number_columns, row_columns}
+use Rattle.lc_rows.specs.SheetColumns.{share_columns}
+use Rattle.lc_rows.specs.Sheets.{form_of, others_lines, section_of, sheet_of, totals_lines}
+use Rattle.lc_rows.specs.Views.{ViewModel}
+use Rattle.lc_rows.specs.Words.{eol_word, kind_word, reason_word, skipped_end}
+use Rattle.lc_formats.specs.Layouts.{has_no_end}
+use Rattle.lc_formats.specs.Readable.{AreBytes, AreReadable, AreRows, EndsInNumbers, IsListed, IsNumeral, IsPlain, IsReadable, IsTabular}
+use Rattle.lc_laws.specs.SheetReadable.{HasByteName, HasByteNames, HasSkippedBytes, IsReadableSheet, ReadableSheetLaw}
+
+-- ---- words
+
+eol_plain : (e : Eol) → IsPlain (eol_word e)
+eol_plain eol.NoEnd = refl
+eol_plain eol.Lf = refl
+eol_plain eol.CrLf = refl
+eol_plain eol.Cr = refl
+eol_plain eol.Mixed = refl
+eol_plain eol.Nul = refl
+
+text_readable : (side : Side) (t : TextState) → IsReadable side (text_value t)
+text_readable side state.Set = refl
+text_readable side state.Unset = refl
+text_readable side state.Auto = refl
+text_readable side state.Other = refl
+text_readable side state.Unspecified = tt
+
+fault_plain : (w : FaultWord) → IsPlain (fault_word w)
+fault_plain w = grind arith
+
+reason_plain : (r : SkipReason) → IsPlain (reason_word r)
+reason_plain named_git = refl
+reason_plain (by_rule source line) = refl
+reason_plain (by_attribute n) = refl
+reason_plain not_included = refl
+reason_plain (other_kind Special) = refl
+reason_plain (other_kind Mounted) = refl
+
+name_plain : (source : RuleSource) → IsPlain (source_name source)
+name_plain ExcludeFrom = refl
+name_plain InfoExclude = refl
+name_plain (Gitignore depth) = refl
+name_plain CommandLine = refl
+
+end_plain : (k : Kind) (r : SkipReason) → IsPlain (skipped_end k r)
+end_plain Dir named_git = refl
+end_plain Dir (by_rule source line) = refl
+end_plain Dir (by_attribute n) = refl
+end_plain Dir not_included = refl
+end_plain Dir (other_kind what) = refl
+end_plain File r = refl
+end_plain (Other Special) r = refl
+end_plain (Other Mounted) r = refl
+
+-- ---- values at the left
+
+directory_bytes : (p : List ℕ) (source : RuleSource) → AreBytes p → AreBytes (source_directory p source)
+directory_bytes p ExcludeFrom small = All-nil (λ b. b < 256)
+directory_bytes p InfoExclude small = All-nil (λ b. b < 256)
+directory_bytes p (Gitignore depth) small = All-take (λ b. b < 256) (length p - length (below depth p)) p small
+directory_bytes p CommandLine small = All-nil (λ b. b < 256)
+
+directory_readable : (p : List ℕ) → AreBytes p → IsReadable Left (directory_value p)
+directory_readable [] small = (refl, small, refl)
+directory_readable (b ∷ bs) small = (refl, small, refl)
+
+extension_readable : (e : Option (List ℕ)) → IfSome e AreBytes → IsReadable Left (extension_value e)
+extension_readable None small = tt
+extension_readable (Some n) small = (refl, small, refl)
+
+kept_readable : (kept : Bool) (v : ValueModel) → IsReadable Left v → IsReadable Left (kept_value kept v)
+kept_readable true v own = own
+kept_readable false v own = tt
+
+place_readable : (p : List ℕ) (r : SkipReason) → AreBytes p → HasByteName r → IsReadable Left (place_value p r)
+place_readable p named_git small own = tt
+place_readable p (by_rule source line) small own = (refl, directory_bytes p source small, name_plain source)
+place_readable p (by_attribute n) small own = (refl, own, refl)
+place_readable p not_included small own = tt
+place_readable p (other_kind what) small own = tt
+
+-- ---- lines
+
+-- a value in each column
+each_readable : (f : Column → ValueModel) (columns : List Column) → ((c : Column) → IsReadable (side_of c) (f c)) → AreReadable columns (map f columns)
+each_readable f [] own = tt
+each_readable f (c ∷ cs) own = (own c, each_readable f cs own)
+
+share_readable : (side : Side) (q : Option Shares) (s : Sums) → IsReadable side (share_value q s)
+share_readable side None s = tt
+share_readable side (Some q) s = tt
+
+bar_readable : (side : Side) (q : Option Shares) (s : Sums) → IsReadable side (bar_value q s)
+bar_readable side None s = tt
+bar_readable side (Some q) s = tt
+
+row_readable : (form : Form) (r : ShownRowModel) → HasByteNames r → (c : Column) → IsReadable (side_of c) (row_value form r c)
+row_readable form r small column.Dir =
+    kept_readable (is_some form.by.dir) (directory_value (unwrap_or r.directory [])) (directory_readable (unwrap_or r.directory []) small.0)
+row_readable form r small column.Ext =
+    kept_readable form.by.ext (extension_value r.key.extension) (extension_readable r.key.extension small.1)
+row_readable form r small column.Text = kept_readable form.by.text (text_value r.key.text) (text_readable Left r.key.text)
+row_readable form r small column.Eol = kept_readable form.by.eol (word (eol_word r.key.eol)) (eol_plain r.key.eol)
+row_readable form r small (column.Number n) = tt
+row_readable form r small column.Share = share_readable Right form.shares r.sums
+row_readable form r small column.Bar = bar_readable Left form.shares r.sums
+row_readable form r small other = tt
+
+named_readable : (first c : Column) (n : List ℕ) → IsPlain n → IsReadable (side_of c) (named_in first c n)
+named_readable column.Dir column.Dir n plain = plain
+named_readable column.Ext column.Ext n plain = plain
+named_readable column.Text column.Text n plain = plain
+named_readable column.Eol column.Eol n plain = plain
+named_readable first other n plain = tt
+
+sums_readable : (form : Form) (s : NamedSumsModel) → IsPlain s.name → (c : Column) → IsReadable (side_of c) (sums_value form s c)
+sums_readable form s plain column.Dir = named_readable form.first column.Dir s.name plain
+sums_readable form s plain column.Ext = named_readable form.first column.Ext s.name plain
+sums_readable form s plain column.Text = named_readable form.first column.Text s.name plain
+sums_readable form s plain column.Eol = named_readable form.first column.Eol s.name plain
+sums_readable form s plain (column.Number n) = tt
+sums_readable form s plain column.Share = share_readable Right form.shares s.sums
+sums_readable form s plain other = tt
+
+-- ---- numbers at the end of a line
+
+share_numeral : (q : Option Shares) (s : Sums) → IsNumeral (share_value q s)
+share_numeral None s = tt
+share_numeral (Some q) s = tt
+
+bar_numeral : (q : Option Shares) (s : Sums) → IsNumeral (bar_value q s)
+bar_numeral None s = tt
+bar_numeral (Some q) s = tt
+
+abbrev pub more_columns : Bool → List Column
+more_columns b = if b then column.Share ∷ column.Bar ∷ [] else []
+
+more_numerals : (f : Column → ValueModel) (b : Bool) → IsNumeral (f column.Share) → IsNumeral (f column.Bar)
+    → All IsNumeral (map f (more_columns b))
+more_numerals f true share bar =
+    All-cons IsNumeral (f column.Share) (f column.Bar ∷ []) share (All-cons IsNumeral (f column.Bar) [] bar (All-nil IsNumeral))
+more_numerals f false share bar = All-nil IsNumeral
+
+-- a line that has numbers in the columns of numbers
+line_numbers : (f : Column → ValueModel) (keys : List Column) (b : Bool) (a l n m : ℕ) → f (column.Number Files) ≡ number a
+    → f (column.Number Lines) ≡ number l → f (column.Number Blank) ≡ number n → f (column.Number Bytes) ≡ number m
+    → IsNumeral (f column.Share) → IsNumeral (f column.Bar)
+    → EndsInNumbers (map f (keys ++ number_columns ++ more_columns b))
+line_numbers f keys b a l n m e1 e2 e3 e4 share bar =
+    let more = map f (more_columns b) in
+    let N : ValueModel → Type 0 = IsNumeral in
+    let parts = map-append f (keys ++ number_columns) (more_columns b)
+    ∙ ap (λ (vs : List ValueModel). vs ++ more) (map-append f keys number_columns) ∙ append_assoc (map f keys) (map f number_columns) more in
+    (
+      map f keys,
+      number l ∷ number n ∷ number m ∷ more,
+      a,
+      parts ∙ ap (λ (vs : List ValueModel). map f keys ++ vs) (rw (e1, e2, e3, e4) refl),
+      All-cons N (number l) (number n ∷ number m ∷ more) tt
+          (All-cons N (number n) (number m ∷ more) tt (All-cons N (number m) more tt (more_numerals f b share bar))),
+    )
+
+rows_of : {X : Type 0} (value : X → Column → ValueModel) (P : X → Type 0) (columns : List Column)
+    → ((x : X) → P x → (c : Column) → IsReadable (side_of c) (value x c)) → ((x : X) → EndsInNumbers (map (value x) columns))
+    → (xs : List X) → All P xs → AreRows columns (section_of value columns xs)
+rows_of {X} value P columns own ends xs small = record {
+  in_columns = refl;
+  readable = All-map (AreReadable columns) (λ x. map (value x) columns) xs
+      (All-weaker P (λ x. AreReadable columns (map (value x) columns)) (λ x is. each_readable (value x) columns (own x is)) xs small);
+  numbers = All-map EndsInNumbers (λ x. map (value x) columns) xs
+      (All-weaker P (λ x. EndsInNumbers (map (value x) columns)) (λ x is. ends x) xs small);
+}
+
+-- ---- the columns of rows
+
+closed-append : (xs ys : List Side) → has_no_end xs ≡ true → has_no_end ys ≡ true → has_no_end (xs ++ ys) ≡ true
+closed-append [] ys a b = b
+closed-append (Left ∷ xs) ys a b = closed-append xs ys a b
+closed-append (Right ∷ xs) ys a b = closed-append xs ys a b
+closed-append (End ∷ xs) ys a b = absurd (cc)
+
+abbrev IsClosed : List Column → Type 0
+IsClosed columns = has_no_end (map side_of columns) ≡ true
+
+closed_join : (xs ys : List Column) → IsClosed xs → IsClosed ys → IsClosed (xs ++ ys)
+closed_join xs ys a b = ap has_no_end (map-append side_of xs ys) ∙ closed-append (map side_of xs) (map side_of ys) a b
+
+closed_if : (b : Bool) (c : Column) → IsClosed (c ∷ []) → IsClosed (column_if b c)
+closed_if true c e = e
+closed_if false c e = refl
+
+closed_more : (b : Bool) → IsClosed (more_columns b)
+closed_more true = refl
+closed_more false = refl
+
+abbrev pub table_columns : TableOptions → List Column
+table_columns options = key_columns false options.by ++ number_columns ++ more_columns options.share
+
+closed_columns : (options : TableOptions) → IsClosed (table_columns options)
+closed_columns options =
+    let by = options.by in
+    let dir = column_if (is_some by.dir) column.Dir in
+    let ext = column_if by.ext column.Ext in
+    let text = column_if by.text column.Text in
+    let eols = column_if by.eol column.Eol in
+    closed_join (key_columns false by ++ number_columns) (more_columns options.share)
+    (closed_join (key_columns false by) number_columns
+    (closed_join (dir ++ ext ++ text) eols
+    (closed_join (dir ++ ext) text
+    (closed_join dir ext (closed_if (is_some by.dir) column.Dir refl) (closed_if by.ext column.Ext refl))
+    (closed_if by.text column.Text refl)) (closed_if by.eol column.Eol refl)) refl) (closed_more options.share)
+
+-- ---- the sections
+
+row_section : (options : TableOptions) (form : Form) (rs : List ShownRowModel) → All HasByteNames rs
+    → AreRows (table_columns options) (section_of (row_value form) (table_columns options) rs)
+row_section options form rs small =
+    rows_of (row_value form) HasByteNames (table_columns options) (row_readable form)
+    (λ r. line_numbers (row_value form r) (key_columns false options.by) options.share _ _ _ _ refl refl refl refl
+    (share_numeral form.shares r.sums) (bar_numeral form.shares r.sums)) rs small
+
+sums_section : (options : TableOptions) (form : Form) (ss : List NamedSumsModel) → All (λ s. IsPlain s.name) ss
+    → AreRows (table_columns options) (section_of (sums_value form) (table_columns options) ss)
+sums_section options form ss plain =
+    rows_of (sums_value form) (λ s. IsPlain s.name) (table_columns options) (sums_readable form)
+    (λ s. line_numbers (sums_value form s) (key_columns false options.by) options.share _ _ _ _ refl refl refl refl
+    (share_numeral form.shares s.sums) tt) ss plain
+
+abbrev IsNamed : NamedSumsModel → Type 0
+IsNamed s = IsPlain s.name
+
+others_plain : (others : Option Sums) → All IsNamed (others_lines others)
+others_plain None = All-nil IsNamed
+others_plain (Some s) = All-cons IsNamed _ [] refl (All-nil IsNamed)
+
+totals_plain : (r : Report) → All IsNamed (totals_lines r)
+totals_plain r =
+    let total : NamedSumsModel = record { name = codes "total"; sums = r.totals } in
+    let text : NamedSumsModel = record { name = codes "text"; sums = text_sums r.rows.items } in
+    let binary : NamedSumsModel = record { name = codes "binary"; sums = binary_sums r.rows.items } in
+    All-cons IsNamed total (text ∷ binary ∷ []) refl
+    (All-cons IsNamed text (binary ∷ []) refl (All-cons IsNamed binary [] refl (All-nil IsNamed)))
+
+listed_of : {X : Type 0} (value : X → Column → ValueModel) (P : X → Type 0) (columns : List Column)
+    → ((x : X) → P x → AreReadable columns (map (value x) columns)) → (xs : List X) → All P xs
+    → All (AreReadable columns) (section_of value columns xs).lines
+listed_of value P columns own xs small =
+    All-map (AreReadable columns) (λ x. map (value x) columns) xs (All-weaker P (λ x. AreReadable columns (map (value x) columns)) own xs small)
+
+any_all : {X : Type 0} (xs : List X) → All (λ x. Unit {0}) xs
+any_all [] = All-nil (λ x. Unit {0})
+any_all (x ∷ xs) = All-cons (λ x. Unit {0}) x xs tt (any_all xs)
+
+files_listed : (b : Bool) (form : Form) (fs : List FileLineModel)
+    → IfSome (if b then Some (section_of (file_value form) listed_columns fs) else None) IsListed
+files_listed true form fs = record {
+  opened = refl;
+  readable = listed_of (file_value form) (λ f. Unit {0}) listed_columns
+      (λ f is. (text_readable Left f.text, (eol_plain f.count.eol, (tt, (tt, (tt, (tt, tt))))))) fs (any_all fs);
+}
+files_listed false form fs = tt
+
+skipped_listed : (form : Form) (ls : List SkippedLineModel) → All HasSkippedBytes ls
+    → IsListed (section_of (skipped_value form) listed_skipped ls)
+skipped_listed form ls small = record {
+  opened = refl;
+  readable = listed_of (skipped_value form) HasSkippedBytes listed_skipped
+      (λ l is. (reason_plain l.reason, (place_readable l.path l.reason is.0 is.1, ((refl, tt, end_plain l.kind l.reason), tt)))) ls small;
+}
+
+faults_listed : (form : Form) (fs : List FaultLineModel) → IsListed (section_of (fault_value form) fault_columns fs)
+faults_listed form fs = record {
+  opened = refl;
+  readable = listed_of (fault_value form) (λ f. Unit {0}) fault_columns (λ f is. (fault_plain f.word, (tt, tt))) fs (any_all fs);
+}
+
+in_table : (options : TableOptions) (r : Report) (v : ViewModel) → All HasByteNames v.rows → All HasSkippedBytes r.skipped.items
+    → IsReadableSheet (sheet_of (record options { format = Table }) r v)
+in_table options r v small skipped =
+    let form = form_of (record options { format = Table }) r.totals v.rows in record {
+      tabular = record {
+        closed = closed_columns options;
+        rows = row_section options form v.rows small;
+        others = sums_section options form (others_lines v.others) (others_plain v.others);
+        totals = sums_section options form (totals_lines r) (totals_plain r);
+      };
+      files_listed = files_listed options.files form v.files;
+      skipped_listed = skipped_listed form r.skipped.items skipped;
+      faults_listed = faults_listed form r.faults.items;
+    }
+
+pub readable_law : ReadableSheetLaw
+readable_law options r v table small skipped =
+    let is : options ≡ record options { format = Table } = ap (λ (f : Format). record options { format = f }) table in
+    subst (λ (o : TableOptions). IsReadableSheet (sheet_of o r v)) (sym is) (in_table options r v small skipped)

@@ -1,0 +1,75 @@
+-- What a text as CSV shows of a report has columns, and a value in each.
+use Rattle.std.proofs.Common.{◌≡◌, ℕ, ◌+◌, ◌<◌, Bool, true, false, if◌then◌else◌, List, [], ◌∷◌, ◌++◌, length, is_some, Option, Some, None}
+use Rattle.std.proofs.Common.{ap, arith, length-append, ◌∙◌}
+use Rattle.std.specs.List.{All, slice_index_or}
+use Rattle.std.proofs.lemmas.List.{length-map}
+use Rattle.std.proofs.lemmas.List.Elements.{All-map}
+use Rattle.lc_sheet.specs.Sheets.{SectionModel, SheetModel, line_of, lines_of}
+use Rattle.lc_sheet.specs.Values.{ValueModel}
+use Rattle.lc_sheet.specs.declared.column.Column.{Column}
+use Rattle.lc_sheet.specs.declared.table_options.Columns.{Columns}
+use Rattle.lc_sheet.specs.declared.table_options.Format.{Format}
+use Rattle.lc_sheet.specs.declared.table_options.Format.TheVariants.{Tsv, Table, Json, Csv, Markdown, Html}
+use Rattle.lc_sheet.specs.declared.table_options.TableOptions.{TableOptions}
+use Rattle.lc_walk.specs.declared.report.Report.{Report}
+use Rattle.lc_rows.specs.Kinds.{file_value, row_value, skipped_value}
+use Rattle.lc_rows.specs.SheetColumns.{file_columns, keeps_columns, key_columns, number_columns, row_columns, share_columns, skipped_columns}
+use Rattle.lc_rows.specs.Sheets.{form_of, section_of, sheet_of}
+use Rattle.lc_rows.specs.Views.{ViewModel}
+use Rattle.lc_formats.specs.Csv.{section_among}
+use Rattle.lc_formats.specs.CsvLaws.{HasColumns}
+use Rattle.lc_laws.specs.SheetReadable.{SheetRecordsLaw}
+
+-- lines in columns have a value in each
+made_with : {X : Type 0} (value : X → Column → ValueModel) (columns : List Column) (lines : List X) → 0 < length columns
+    → HasColumns (section_of value columns lines)
+made_with value columns lines some = record {
+  some = some;
+  each = All-map (λ (values : List ValueModel). length values ≡ length columns) (line_of value columns) lines
+    (λ k d within. length-map columns (value (slice_index_or lines k d)));
+}
+
+more_than : (columns : List Column) (m n : ℕ) → length columns ≡ m + 4 + n → 0 < length columns
+more_than columns m n e = omega arith
+
+row_columns_some : (options : TableOptions) → 0 < length (row_columns options)
+row_columns_some options =
+    let keys = key_columns (keeps_columns options.format) options.by in
+    let shares : List Column = if options.share then share_columns options.format else [] in
+    let e1 : length (keys ++ number_columns ++ shares) ≡ length (keys ++ number_columns) + length shares
+      = length-append (keys ++ number_columns) shares in
+    let e2 : length (keys ++ number_columns) ≡ length keys + 4 = length-append keys number_columns in
+    more_than (row_columns options) (length keys) (length shares) (e1 ∙ ap (λ n. n + length shares) e2)
+
+skipped_columns_some : (format : Format) → 0 < length (skipped_columns format)
+skipped_columns_some Tsv = omega arith
+skipped_columns_some Table = omega arith
+skipped_columns_some Json = omega arith
+skipped_columns_some Csv = omega arith
+skipped_columns_some Markdown = omega arith
+skipped_columns_some Html = omega arith
+
+file_columns_some : (format : Format) (by : Columns) → 0 < length (file_columns format by)
+file_columns_some Tsv by = omega arith
+file_columns_some Table by = omega arith
+file_columns_some Json by = omega arith
+file_columns_some Csv by = omega arith
+file_columns_some Markdown by = omega arith
+file_columns_some Html by = omega arith
+
+module _ (options : TableOptions) (r : Report) (v : ViewModel) where
+  at : (files left_out : Bool)
+      → HasColumns (section_among
+        (if files then Some (section_of (file_value (form_of options r.totals v.rows)) (file_columns options.format options.by) v.files) else None)
+        (record (sheet_of options r v) { entries = if left_out then Some r.entries else None }))
+  at true left_out =
+      made_with (file_value (form_of options r.totals v.rows)) (file_columns options.format options.by) v.files
+      (file_columns_some options.format options.by)
+  at false true =
+      made_with (skipped_value (form_of options r.totals v.rows)) (skipped_columns options.format) r.skipped.items
+      (skipped_columns_some options.format)
+  at false false =
+      made_with (row_value (form_of options r.totals v.rows)) (row_columns options) v.rows (row_columns_some options)
+
+pub sheet_columns : SheetRecordsLaw
+sheet_columns options r v = at options r v options.files r.lists.left_out

@@ -1,0 +1,46 @@
+-- The sheet of a report, as its texts show it: what is known of its columns and values.
+use Rattle.std.specs.Prelude.{◌≡◌, [], unwrap_or, IfSome, ⊤}
+use Rattle.std.specs.List.{All}
+use Rattle.lc_level.specs.Level.{Reason, named_git, by_rule, by_attribute, not_included, other_kind}
+use Rattle.lc_sheet.specs.Sheets.{SheetModel}
+use Rattle.lc_sheet.specs.declared.table_options.Format.TheVariants.{Table}
+use Rattle.lc_sheet.specs.declared.table_options.TableOptions.{TableOptions}
+use Rattle.lc_walk.specs.ReportLines.{SkippedLineModel}
+use Rattle.lc_walk.specs.declared.report.Report.{Report}
+use Rattle.lc_rows.specs.RowKeys.{ShownRowModel}
+use Rattle.lc_rows.specs.Sheets.{sheet_of}
+use Rattle.lc_rows.specs.Views.{ViewModel}
+use Rattle.lc_formats.specs.Csv.{csv_section}
+use Rattle.lc_formats.specs.CsvLaws.{HasColumns}
+use Rattle.lc_formats.specs.Readable.{AreBytes, IsListed, IsTabular}
+
+abbrev pub HasByteName : Reason → Type 0
+HasByteName named_git = ⊤
+HasByteName (by_rule source line) = ⊤
+HasByteName (by_attribute name) = AreBytes name
+HasByteName not_included = ⊤
+HasByteName (other_kind what) = ⊤
+
+-- the bytes of the names of a row, and of an entry that is skipped
+abbrev pub HasByteNames : ShownRowModel → Type 0
+HasByteNames row = AreBytes (unwrap_or row.directory []) × IfSome row.key.extension AreBytes
+
+abbrev pub HasSkippedBytes : SkippedLineModel → Type 0
+HasSkippedBytes l = AreBytes l.path × HasByteName l.reason
+
+-- rows and sums in the same columns, and lists whose last column ends its line
+pub record IsReadableSheet (s : SheetModel) : Type 0 where
+  pub tabular : IsTabular s
+  pub files_listed : IfSome s.files IsListed
+  pub skipped_listed : IsListed s.skipped
+  pub faults_listed : IsListed s.faults
+
+-- so the laws of the widths of a text in columns hold of each report
+abbrev pub ReadableSheetLaw : Type 0
+ReadableSheetLaw =
+    (options : TableOptions) (r : Report) (v : ViewModel) → options.format ≡ Table → All HasByteNames v.rows
+    → All HasSkippedBytes r.skipped.items → IsReadableSheet (sheet_of options r v)
+
+-- what a text as CSV shows of a report has columns, and a value in each: so a reader gives its records back
+abbrev pub SheetRecordsLaw : Type 0
+SheetRecordsLaw = (options : TableOptions) (r : Report) (v : ViewModel) → HasColumns (csv_section (sheet_of options r v))
