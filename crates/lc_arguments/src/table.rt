@@ -162,7 +162,7 @@ fn format_of(alloc: Global, name: Option<&str>) -> Result<Option<Format>, ParseE
     match format_named(name) {
         None => Err(refused(
             alloc,
-            "--format <FORMAT>",
+            "format",
             name,
             "\n  [possible values: tsv, table, json, csv, markdown, html]",
         )),
@@ -178,7 +178,7 @@ fn columns_of(alloc: Global, names: Option<&str>, depth: Option<u32>) -> Result<
     let Some(columns) = columns_named(names, depth.unwrap_or(1)) else {
         return Err(refused(
             alloc,
-            "--by <COLUMNS>",
+            "by",
             names,
             ": choose from dir, ext, text and eol, each once, separated by commas",
         ));
@@ -199,7 +199,7 @@ fn sort_of(alloc: Global, name: Option<&str>) -> Result<Option<Order>, ParseExit
     match order_named(name) {
         None => Err(refused(
             alloc,
-            "--sort <COLUMN>",
+            "sort",
             name,
             "\n  [possible values: name, files, lines, blank, bytes]",
         )),
