@@ -62,7 +62,8 @@ one_more command rows i d args new a low has are is added =
     let row = get_or rows i d in
     let rules : rules_in command (map option_model (take (i + 1) rows))
     ≡ rules_in command (map option_model (take i rows)) ++ option_rule (option_model row) ∷ [] =
-    ap (λ (rs : List OptionRow). rules_in command (map option_model rs)) (take_more rows i d low) ∙ rules_more command (take i rows) row true has in
+    ap (λ (rs : List OptionRow). rules_in command (map option_model rs)) (take_more rows i d low)
+    ∙ rules_more command (take i rows) row true has in
     let all = args_more (rules_in command (map option_model (take i rows))) args (option_rule (option_model row)) a are is in
     subst (λ (rs : List Rule). AreArgsOf rs new) (sym rules)
     (subst (λ (xs : List Arg). AreArgsOf (rules_in command (map option_model (take i rows)) ++ option_rule (option_model row) ∷ []) xs)

@@ -5,7 +5,7 @@ ghost use Rattle.lc_arguments.specs.Options.{is_of};
 
 /// A command that has arguments.
 #[derive(Clone, Copy)]
-pub enum Subcommand {
+pub(crate) enum Subcommand {
     /// `lc count`
     Count,
     /// `lc explain`
@@ -27,7 +27,7 @@ pub struct Commands {
 
 impl Commands {
     /// Returns whether a command is among these.
-    pub fn has(self, command: Subcommand) -> bool
+    pub(crate) fn has(self, command: Subcommand) -> bool
         ensures { result ≡ is_of command self }
     {
         match command {
