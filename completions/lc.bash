@@ -30,7 +30,7 @@ _lc_value() {
     --format) mapfile -t COMPREPLY < <(compgen -W 'tsv table json csv markdown html' -- "$2") ;;
     --by) mapfile -t COMPREPLY < <(compgen -W "$(_lc_columns "$2" dir ext text eol)" -- "$2") ;;
     --depth) mapfile -t COMPREPLY < <(compgen -W '1 2 3' -- "$2") ;;
-    --sort) mapfile -t COMPREPLY < <(compgen -W 'files lines blank bytes name' -- "$2") ;;
+    --sort) mapfile -t COMPREPLY < <(compgen -W 'name files lines blank bytes' -- "$2") ;;
     --top) mapfile -t COMPREPLY < <(compgen -W '10 20 50' -- "$2") ;;
     -j | --threads) mapfile -t COMPREPLY < <(compgen -W '1 2 4 8 16' -- "$2") ;;
     --max-dirs) mapfile -t COMPREPLY < <(compgen -W '65536 1048576' -- "$2") ;;

@@ -1,6 +1,6 @@
 //! The texts of usage errors.
 
-use crate::option_row::{Kind, OptionRow};
+use crate::option_row::{Completes, Kind, OptionRow};
 use crate::options_table::options;
 use crate::suggestions::Advice;
 use std::alloc::{AllocError, Global};
@@ -32,21 +32,35 @@ pub(crate) fn advised(
     Ok(text)
 }
 
-/// Returns the name in help of the value of an option.
-fn value_name(option: &str) -> &'static str {
+/// Returns the name in help of the value of an option, and what the value may be.
+fn value_named(option: &str) -> (&'static str, Completes) {
     for row in options() {
         if row.name == option {
-            return row.value;
+            return (row.value, row.completes);
         }
     }
-    ""
+    ("", Completes::Nothing)
+}
+
+/// Appends the words of which a value is one, if these are all that it may be.
+fn push_possible(text: &mut String, completes: Completes) -> Result<(), AllocError> {
+    let Completes::Meanings(words) = completes else {
+        return Ok(());
+    };
+    text.push_str("\n  [possible values")?;
+    let mut before = ": ";
+    for (word, _) in words {
+        write!(text, "{before}{word}")?;
+        before = ", ";
+    }
+    text.push_str("]")
 }
 
 /// Makes the text of the refusal of a value of an option, which is named without its hyphens.
 ///
 /// ```
-/// let text = value_refused(rt.alloc(), "sort", "names", ": no column")?;
-/// assert!(rt; text.starts_with("error: invalid value 'names' for '--sort <COLUMN>': no column\n"));
+/// let text = value_refused(rt.alloc(), "by", "x", ": no column")?;
+/// assert!(rt; text.starts_with("error: invalid value 'x' for '--by <COLUMNS>': no column\n"));
 /// ```
 pub(crate) fn value_refused(
     alloc: Global,
@@ -54,10 +68,13 @@ pub(crate) fn value_refused(
     value: &str,
     why: &str,
 ) -> Result<String, AllocError> {
-    let name = value_name(option);
-    format!(in alloc;
-        "error: invalid value '{value}' for '--{option} <{name}>'{why}\n\nFor more information, try '--help'.\n"
-    )
+    let (name, completes) = value_named(option);
+    let mut text = format!(in alloc;
+        "error: invalid value '{value}' for '--{option} <{name}>'{why}"
+    )?;
+    push_possible(&mut text, completes)?;
+    text.push_str("\n\nFor more information, try '--help'.\n")?;
+    Ok(text)
 }
 
 /// Makes the text of the refusal of a number, if clap refuses one of this option. `problem` is what clap says.

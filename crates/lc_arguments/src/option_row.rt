@@ -101,7 +101,7 @@ pub enum Completes {
     Files,
     /// One of these words.
     Words(&'static [&'static str]),
-    /// One of these words, each with its meaning.
+    /// One of these words, which are the only values, each with its meaning.
     Meanings(&'static [(&'static str, &'static str)]),
     /// Some of these words, separated by commas.
     List(&'static [&'static str]),

@@ -232,11 +232,11 @@ and with --top, and else name",
         brief: "Sort rows and files, largest first, or by name",
         example: "lc count --sort bytes .",
         completes: Completes::Meanings(&[
+            ("name", "By name"),
             ("files", "Most files first"),
             ("lines", "Most lines first"),
             ("blank", "Most blank lines first"),
             ("bytes", "Most bytes first"),
-            ("name", "By name"),
         ]),
         ..FLAG
     },

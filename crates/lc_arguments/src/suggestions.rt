@@ -1,7 +1,7 @@
 //! What refused arguments may have meant. Each suggested command works wherever it is typed.
 
 use crate::near::near_name;
-use crate::option_row::Subcommand;
+use crate::option_row::{Completes, Subcommand};
 use crate::options_table::options;
 use lc_text::{is_bad_path, is_top, push_quoted, push_visible, split_slash, undotted};
 use std::alloc::{AllocError, Global};
@@ -83,8 +83,14 @@ fn is_format_option(word: &str) -> bool {
     matches!(word, "-f" | "-o" | "--output")
 }
 
+/// Returns whether a word is a value of `--format`.
 fn is_format(word: &str) -> bool {
-    matches!(word, "tsv" | "table" | "json" | "csv" | "markdown" | "html")
+    for row in options() {
+        if let ("format", Completes::Meanings(formats)) = (row.name, row.completes) {
+            return formats.iter().any(|(format, _)| *format == word);
+        }
+    }
+    false
 }
 
 fn is_extension_option(word: &str) -> bool {

@@ -160,12 +160,7 @@ fn format_of(alloc: Global, name: Option<&str>) -> Result<Option<Format>, ParseE
         return Ok(None);
     };
     match format_named(name) {
-        None => Err(refused(
-            alloc,
-            "format",
-            name,
-            "\n  [possible values: tsv, table, json, csv, markdown, html]",
-        )),
+        None => Err(refused(alloc, "format", name, "")),
         format => Ok(format),
     }
 }
@@ -197,12 +192,7 @@ fn sort_of(alloc: Global, name: Option<&str>) -> Result<Option<Order>, ParseExit
         return Ok(None);
     };
     match order_named(name) {
-        None => Err(refused(
-            alloc,
-            "sort",
-            name,
-            "\n  [possible values: name, files, lines, blank, bytes]",
-        )),
+        None => Err(refused(alloc, "sort", name, "")),
         sort => Ok(sort),
     }
 }
