@@ -10,54 +10,28 @@ use Rattle.lc_arguments.specs.declared.option_row.Kind.TheVariants.{Flag, Text, 
 use Rattle.lc_arguments.specs.declared.option_row.Subcommand.{Subcommand}
 use Rattle.lc_arguments.specs.declared.option_row.Subcommand.TheVariants.{Count, Explain, Check}
 
-abbrev pub flag_rule : List ℕ → Rule
-flag_rule name = record (new_rule name) { long = Some name; action = Some SetTrue }
-
--- an option with a text
-abbrev pub text_rule : List ℕ → Rule
-text_rule name = record (new_rule name) { long = Some name; value_names = 1; action = Some Set }
-
--- an option with a text that may be repeated
-abbrev pub texts_rule : List ℕ → Rule
-texts_rule name = record (new_rule name) { long = Some name; value_names = 1; action = Some Append }
-
--- an option with a number from 1 on
-abbrev pub number_rule : List ℕ → ℕ → Rule
-number_rule name most = record (new_rule name) {
+-- an argument of this kind with this name: an option without a value, with a text, with a text that may be repeated, or with a number from
+-- 1 on; or without a hyphen, one that is required, one that may be omitted, or any number of them
+abbrev pub kind_rule : Kind → List ℕ → Rule
+kind_rule Flag name = record (new_rule name) { long = Some name; action = Some SetTrue }
+kind_rule Text name = record (new_rule name) { long = Some name; value_names = 1; action = Some Set }
+kind_rule Texts name = record (new_rule name) { long = Some name; value_names = 1; action = Some Append }
+kind_rule (Number most) name = record (new_rule name) {
   long = Some name;
   value_names = 1;
   action = Some Set;
   parser = Some (Signed (pos 1) (pos most));
 }
+kind_rule Word name = record (new_rule name) { required = true; action = Some Set }
+kind_rule OptionalWord name = record (new_rule name) { action = Some Set }
+kind_rule Words name = record (new_rule name) { action = Some Append }
 
--- an argument without a hyphen that is required
-abbrev pub word_rule : List ℕ → Rule
-word_rule name = record (new_rule name) { required = true; action = Some Set }
-
--- one that may be omitted
-abbrev pub optional_word_rule : List ℕ → Rule
-optional_word_rule name = record (new_rule name) { action = Some Set }
-
--- any number of them
-abbrev pub words_rule : List ℕ → Rule
-words_rule name = record (new_rule name) { action = Some Append }
-
--- an argument of this kind with this name
-abbrev pub kind_rule : Kind → List ℕ → Rule
-kind_rule Flag name = flag_rule name
-kind_rule Text name = text_rule name
-kind_rule Texts name = texts_rule name
-kind_rule (Number most) name = number_rule name most
-kind_rule Word name = word_rule name
-kind_rule OptionalWord name = optional_word_rule name
-kind_rule Words name = words_rule name
-
--- with a short name beside the long one
+-- one with a short name beside the long one
 abbrev pub with_letter : Option ℕ → Rule → Rule
 with_letter None rule = rule
 with_letter (Some letter) rule = record rule { short = Some letter }
 
--- with the value that it has if none is given
+-- one with the value that it has if none is given
 abbrev pub with_default : Option (List ℕ) → Rule → Rule
 with_default None rule = rule
 with_default (Some text) rule = record rule { defaults = text ∷ [] }
@@ -66,7 +40,7 @@ with_default (Some text) rule = record rule { defaults = text ∷ [] }
 abbrev pub option_rule : OptionModel → Rule
 option_rule o = with_default o.default (with_letter o.letter (kind_rule o.kind o.name))
 
--- those of a command, in their order
+-- the arguments of a command, in their order
 abbrev pub rules_in : Subcommand → List OptionModel → List Rule
 rules_in command all = map option_rule (filter (λ o. is_of command o.of) all)
 
