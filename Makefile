@@ -32,11 +32,11 @@ test-memory: rt
 	tools/refused-calls
 	tools/test-memory
 
-# the built program with files, folders, pipes and words as a shell gives them, and the tables of cases beside the tests
+# the built program with files, folders, pipes and words as a shell gives them, and what documents, the manual page and completions list
 test-program: lc
 	tools/cases
 	tools/definitions
-	tools/limits
+	tools/options
 	tools/edits
 	tools/examples
 	tools/test-program

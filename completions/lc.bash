@@ -1,12 +1,43 @@
 # Completions of lc for bash.
 
-# The columns of --by that are left after those that are typed, in a list with commas.
+# Of the columns of --by, the arguments after the first, those that are left after those that are typed, in a list with commas.
 _lc_columns() {
   local typed=${1%"${1##*,}"} column
-  for column in dir ext text eol; do
+  for column in "${@:2}"; do
     [[ ,$typed == *,$column,* ]] || printf '%s\n' "$typed$column"
   done
 }
+
+# The options of command $1: made by tools/options
+_lc_options() {
+  case $1 in
+    count) echo --exclude --exclude-from --include --no-ignore --archive --without --only --only-from --null -0 \
+      --one-file-system -x --files --left-out --format --by --depth --sort --top --share --threads -j --max-dirs ;;
+    explain) echo --exclude --exclude-from --include --no-ignore --archive --without --null -0 ;;
+    check) echo --explain --null -0 ;;
+  esac
+}
+
+# Completes the value of option $1, of which $2 is typed, and fails if it has none.
+_lc_value() {
+  case $1 in
+    --exclude) ;;
+    --exclude-from) mapfile -t COMPREPLY < <(compgen -f -- "$2") ;;
+    --include) ;;
+    --without) mapfile -t COMPREPLY < <(compgen -W 'linguist-vendored linguist-generated linguist-documentation' -- "$2") ;;
+    --only) mapfile -t COMPREPLY < <(compgen -f -- "$2") ;;
+    --only-from) mapfile -t COMPREPLY < <(compgen -f -- "$2") ;;
+    --format) mapfile -t COMPREPLY < <(compgen -W 'tsv table json csv markdown html' -- "$2") ;;
+    --by) mapfile -t COMPREPLY < <(compgen -W "$(_lc_columns "$2" dir ext text eol)" -- "$2") ;;
+    --depth) mapfile -t COMPREPLY < <(compgen -W '1 2 3' -- "$2") ;;
+    --sort) mapfile -t COMPREPLY < <(compgen -W 'name files lines blank bytes' -- "$2") ;;
+    --top) mapfile -t COMPREPLY < <(compgen -W '10 20 50' -- "$2") ;;
+    -j | --threads) mapfile -t COMPREPLY < <(compgen -W '1 2 4 8 16' -- "$2") ;;
+    --max-dirs) mapfile -t COMPREPLY < <(compgen -W '65536 1048576' -- "$2") ;;
+    *) return 1 ;;
+  esac
+}
+# the options end here
 
 # Whether a first argument makes all arguments those of lc count.
 _lc_counts() {
@@ -15,7 +46,7 @@ _lc_counts() {
 
 _lc() {
   local current=${COMP_WORDS[COMP_CWORD]} option=${COMP_WORDS[COMP_CWORD - 1]} command=${COMP_WORDS[1]}
-  local options='--exclude --exclude-from --include --no-ignore --archive --without --null -0 --help -h'
+  local options='--help -h'
   COMPREPLY=()
   if _lc_counts "$command"; then
     command=count
@@ -31,34 +62,13 @@ _lc() {
     option=${COMP_WORDS[COMP_CWORD - 2]}
   fi
   case $command in
-    count | explain)
-      case $option in
-        -j | --threads) mapfile -t COMPREPLY < <(compgen -W '1 2 4 8 16' -- "$current") ;;
-        --max-dirs) mapfile -t COMPREPLY < <(compgen -W '65536 1048576' -- "$current") ;;
-        --without) mapfile -t COMPREPLY < <(compgen -W 'linguist-vendored linguist-generated linguist-documentation' -- "$current") ;;
-        --format) mapfile -t COMPREPLY < <(compgen -W 'tsv table json csv markdown html' -- "$current") ;;
-        --by) mapfile -t COMPREPLY < <(compgen -W "$(_lc_columns "$current")" -- "$current") ;;
-        --depth) mapfile -t COMPREPLY < <(compgen -W '1 2 3' -- "$current") ;;
-        --top) mapfile -t COMPREPLY < <(compgen -W '10 20 50' -- "$current") ;;
-        --sort) mapfile -t COMPREPLY < <(compgen -W 'files lines blank bytes name' -- "$current") ;;
-        --exclude | --include) ;;
-        --exclude-from | --only | --only-from) mapfile -t COMPREPLY < <(compgen -f -- "$current") ;;
-        *)
-          if [ "$command" = count ]; then
-            options+=' --only --only-from --one-file-system -x --files --left-out --format --by --depth --sort --top --share'
-            options+=' --threads -j --max-dirs'
-          fi
-          case $command$current in
-            count-* | explain-*) mapfile -t COMPREPLY < <(compgen -W "$options" -- "$current") ;;
-            count*) mapfile -t COMPREPLY < <(compgen -d -- "$current") ;;
-            *) mapfile -t COMPREPLY < <(compgen -f -- "$current") ;;
-          esac
-          ;;
-      esac
-      ;;
-    check)
-      case $current in
-        -*) mapfile -t COMPREPLY < <(compgen -W '--explain --null -0 --help -h' -- "$current") ;;
+    count | explain | check)
+      if [ "$command" != check ] && _lc_value "$option" "$current"; then
+        return
+      fi
+      case $command$current in
+        count-* | explain-* | check-*) mapfile -t COMPREPLY < <(compgen -W "$(_lc_options "$command") $options" -- "$current") ;;
+        count*) mapfile -t COMPREPLY < <(compgen -d -- "$current") ;;
         *) mapfile -t COMPREPLY < <(compgen -f -- "$current") ;;
       esac
       ;;

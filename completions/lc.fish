@@ -13,10 +13,10 @@ function __lc_command_is
     end
 end
 
-# The columns of --by that are left after those that are typed, in a list with commas.
+# Of these columns those of --by that are left after those that are typed, in a list with commas.
 function __lc_columns
     set -l typed (string replace -r '^--by=' '' -- (commandline -ct) | string replace -r '[^,]*$' '')
-    for column in dir ext text eol
+    for column in $argv
         string match -q -- "*,$column,*" ",$typed"; or echo $typed$column
     end
 end
@@ -28,28 +28,31 @@ complete -c lc -n __fish_use_subcommand -a check -d 'Match paths against the rul
 complete -c lc -n __fish_use_subcommand -a help -d 'Print help'
 complete -c lc -n __fish_use_subcommand -l version -s V -d 'Print the version'
 complete -c lc -l help -s h -d 'Print help'
-complete -c lc -n '__lc_command_is count' -l threads -s j -x -a '1 2 4 8 16' -d 'Number of threads, 1 to 16'
-complete -c lc -n '__lc_command_is count' -l max-dirs -x -a '65536 1048576' -d 'Limit of directories, 1 to 1048576'
-complete -c lc -n '__lc_command_is count' -l files -d 'Also print a line for each counted file'
-complete -c lc -n '__lc_command_is count' -l left-out -d 'Also print each skipped entry, and why'
+# Options: made by tools/options
 complete -c lc -n '__lc_command_is count explain' -l exclude -x -d 'Skip what PATTERN matches'
+complete -c lc -n '__lc_command_is count explain' -l exclude-from -r -F -d 'Skip what the patterns in FILE match'
 complete -c lc -n '__lc_command_is count explain' -l include -x -d 'Count only files that PATTERN matches'
 complete -c lc -n '__lc_command_is count explain' -l no-ignore -d 'Read no .gitignore'
-complete -c lc -n '__lc_command_is count explain check' -l null -s 0 -d 'Paths that are read end with NUL'
 complete -c lc -n '__lc_command_is count explain' -l archive -d 'Skip what has the attribute export-ignore'
 complete -c lc -n '__lc_command_is count explain' -l without -x -a 'linguist-vendored linguist-generated linguist-documentation' -d 'Skip what has this attribute'
-complete -c lc -n '__lc_command_is count explain' -l exclude-from -r -F -d 'Skip what the patterns in FILE match'
 complete -c lc -n '__lc_command_is count' -l only -r -F -d 'Count only what is at or under PATH'
-complete -c lc -n '__lc_command_is count' -l one-file-system -s x -d 'Skip directories on other file systems'
 complete -c lc -n '__lc_command_is count' -l only-from -r -F -d 'Count only the paths that FILE lists'
-complete -c lc -n '__lc_command_is count' -l format -x -d 'How to print' -a "tsv\t'Fields between tabs' table\t'Columns for reading' json\t'One object' csv\t'Records of one kind' markdown\t'Tables for a page' html\t'A picture for a browser'"
-complete -c lc -n '__lc_command_is count' -l by -x -a '(__lc_columns)' -d 'Sum rows by these columns'
-complete -c lc -n '__lc_command_is count' -l sort -x -d 'Sort rows and files' -a "files\t'Most files first' lines\t'Most lines first' blank\t'Most blank lines first' bytes\t'Most bytes first' name\t'By name'"
+complete -c lc -n '__lc_command_is count' -l null -s 0 -d 'Paths that are read end with NUL'
+complete -c lc -n '__lc_command_is count' -l one-file-system -s x -d 'Skip directories on other file systems'
+complete -c lc -n '__lc_command_is count' -l files -d 'Also print a line for each counted file'
+complete -c lc -n '__lc_command_is count' -l left-out -d 'Also print each skipped entry, and why'
+complete -c lc -n '__lc_command_is count' -l format -x -a "tsv\t'Fields between tabs' table\t'Columns for reading' json\t'One object' csv\t'Records of one kind' markdown\t'Tables for a page' html\t'A picture for a browser'" -d 'How to print'
+complete -c lc -n '__lc_command_is count' -l by -x -a '(__lc_columns dir ext text eol)' -d 'Sum rows by these columns'
 complete -c lc -n '__lc_command_is count' -l depth -x -a '1 2 3' -d 'Cut the directories of --by dir to so many segments'
-complete -c lc -n '__lc_command_is count' -l share -d 'Also print the share of each row in the total'
+complete -c lc -n '__lc_command_is count' -l sort -x -a "name\t'By name' files\t'Most files first' lines\t'Most lines first' blank\t'Most blank lines first' bytes\t'Most bytes first'" -d 'Sort rows and files, largest first, or by name'
 complete -c lc -n '__lc_command_is count' -l top -x -a '10 20 50' -d 'Print only the first rows and files'
+complete -c lc -n '__lc_command_is count' -l share -d 'Also print the share of each row in the total'
+complete -c lc -n '__lc_command_is count' -l threads -s j -x -a '1 2 4 8 16' -d 'Number of threads, 1 to 16'
+complete -c lc -n '__lc_command_is count' -l max-dirs -x -a '65536 1048576' -d 'Limit of directories, 1 to 1048576'
+complete -c lc -n '__lc_command_is check' -l explain -d 'Also print the rule that decides'
+complete -c lc -n '__lc_command_is explain check' -l null -s 0 -d 'Paths that are read end with NUL'
+# the options end here
 complete -c lc -n '__lc_command_is count' -a '(__fish_complete_directories)'
 complete -c lc -n '__lc_command_is explain' -F
-complete -c lc -n '__lc_command_is check' -l explain -d 'Also print the rule that decides'
 complete -c lc -n '__lc_command_is check' -F
 complete -c lc -n '__lc_command_is help' -a 'count explain check'

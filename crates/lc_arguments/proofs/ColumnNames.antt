@@ -7,7 +7,7 @@ use Rattle.std.specs.Str.{bytes_eq}
 use Rattle.std.specs.Bool.{Decides}
 use Rattle.std.proofs.lemmas.Slice.Eq.{bytes_eq-Decides}
 use Rattle.lc_sheet.specs.declared.table_options.Columns.{Columns}
-use Rattle.lc_arguments.specs.CommandLine.{max_depth}
+use Rattle.lc_arguments.specs.Options.{max_depth}
 use Rattle.lc_arguments.specs.TableWords.{AreColumnsBy, AreNamesOf, how_many, how_often, once_if}
 
 -- the bytes that are left, and one for the name before their end

@@ -1,12 +1,12 @@
--- Commands that are given arguments in turn, and what is read of a number among these.
-use Rattle.std.proofs.Common.{◌≡◌, ◌∙◌, ◌<◌, ℕ, zero, suc, Bool, true, false, not, ◌&&◌, ◌||◌, List, [], ◌∷◌, length, map, get_or, refl}
-use Rattle.std.proofs.Common.{sym, ap, ap₂, subst, arith}
+-- Arguments that are made of rows, commands that are given them in turn, and what is read of a number among these.
+use Rattle.std.proofs.Common.{◌≡◌, ◌∙◌, ◌+◌, ◌<◌, ℕ, zero, suc, Bool, true, false, not, ◌&&◌, ◌||◌, cond, List, [], ◌∷◌, ◌++◌, length}
+use Rattle.std.proofs.Common.{map, take, get_or, refl, sym, ap, ap₂, subst, arith}
 use Rattle.std.proofs.lemmas.Bool.{and_parts}
-use Rattle.std.specs.Prelude.{pos, Some}
-use Rattle.std.specs.List.{All, list_any, slice_index_or}
+use Rattle.std.specs.Prelude.{pos, Option, Some, None}
+use Rattle.std.specs.List.{All, filter, list_any, slice_index_or}
 use Rattle.std.specs.Str.{bytes_eq}
-use Rattle.std.proofs.lemmas.List.{get_or-map, length-map}
-use Rattle.std.proofs.lemmas.List.Elements.{All-cons, All-nil}
+use Rattle.std.proofs.lemmas.List.{append-nil, get_or-map, length-map, map-append, take_more}
+use Rattle.std.proofs.lemmas.List.Elements.{All-cons, All-nil, filter-append}
 use Rattle.std.proofs.lemmas.List.Folds.{list_any_at}
 use Rattle.std.proofs.lemmas.Slice.Eq.{bytes_eq-Decides}
 use Rattle.clap.specs.Built.{AddsArg, AddsInTurn, AddsSubcommand, FitsChain, HasDistinctIds}
@@ -16,13 +16,68 @@ use Rattle.clap.specs.Values.{IsSignedIn}
 use Rattle.clap.specs.declared.builder.arg.Arg.{Arg}
 use Rattle.clap.specs.declared.builder.command.Command.{Command}
 use Rattle.clap.specs.declared.builder.command.Command.TheViews.{out-Command}
+use Rattle.clap.specs.declared.builder.value_parser.ValueParser.{ValueParser}
 use Rattle.clap.specs.declared.builder.value_parser.ValueParser.TheVariants.{Signed}
-use Rattle.clap.specs.Simple.{App, app_of, with_rule, with_subcommand}
+use Rattle.clap.specs.Simple.{App, app_of, new_rule, with_rule, with_subcommand}
 use Rattle.clap.specs.Walk.{Rule, rule_of}
-use Rattle.lc_arguments.specs.CommandLine.{app_with, bare_app, with_rules, with_subcommands}
-use Rattle.lc_arguments.specs.CountArgs.{AreArgsOf, AreCommandsOf, IsBare, IsCommandOf}
+use Rattle.lc_arguments.specs.CommandLine.{app_with, bare_app, option_rule, rules_in, with_rules, with_subcommands}
+use Rattle.lc_arguments.specs.CountArgs.{AreArgsOf, AreCommandsOf, IsArgOf, IsBare, IsCommandOf}
+use Rattle.lc_arguments.specs.Options.{OptionModel, is_of, option_model}
 use Rattle.lc_arguments.specs.Words.{ReadsWithin}
+use Rattle.lc_arguments.specs.declared.option_row.OptionRow.{OptionRow}
+use Rattle.lc_arguments.specs.declared.option_row.Subcommand.{Subcommand}
 use Rattle.lc_arguments.proofs.ReadValues.{read_in_chain}
+
+-- the rules of one more row
+rules_more : (command : Subcommand) (rows : List OptionRow) (row : OptionRow) (has : Bool) → is_of command row.of ≡ has
+    → rules_in command (map option_model (rows ++ row ∷ []))
+    ≡ rules_in command (map option_model rows) ++ cond has (option_rule (option_model row) ∷ []) []
+rules_more command rows row has is =
+    ap (rules_in command) (map-append option_model rows (row ∷ []))
+    ∙ (ap (map option_rule) (filter-append (λ (o : OptionModel). is_of command o.of) (map option_model rows) (option_model row ∷ []))
+    ∙ (map-append option_rule (filter (λ (o : OptionModel). is_of command o.of) (map option_model rows))
+    (filter (λ (o : OptionModel). is_of command o.of) (option_model row ∷ []))
+    ∙ ap (λ (rs : List Rule). rules_in command (map option_model rows) ++ rs) (last has is)))
+  where
+    last : (b : Bool) → is_of command row.of ≡ b
+        → map option_rule (filter (λ (o : OptionModel). is_of command o.of) (option_model row ∷ []))
+        ≡ cond b (option_rule (option_model row) ∷ []) []
+    last true there = ap (λ (b : Bool). map option_rule (cond b (option_model row ∷ []) [])) there
+    last false there = ap (λ (b : Bool). map option_rule (cond b (option_model row ∷ []) [])) there
+
+-- one more argument
+args_more : (rules : List Rule) (args : List Arg) (rule : Rule) (a : Arg) → AreArgsOf rules args → IsArgOf rule a
+    → AreArgsOf (rules ++ rule ∷ []) (args ++ a ∷ [])
+args_more [] [] rule a are is = (is, tt)
+args_more (r ∷ rs) (x ∷ xs) rule a are is = (are.0, args_more rs xs rule a are.1 is)
+args_more [] (x ∷ xs) rule a are is = absurd are
+args_more (r ∷ rs) [] rule a are is = absurd are
+
+-- the argument of a row that the command has comes after those of the rows before it
+pub one_more : (command : Subcommand) (rows : List OptionRow) (i : ℕ) (d : OptionRow) (args new : List Arg) (a : Arg) → i < length rows
+    → is_of command (get_or rows i d).of ≡ true → AreArgsOf (rules_in command (map option_model (take i rows))) args
+    → IsArgOf (option_rule (option_model (get_or rows i d))) a → new ≡ args ++ a ∷ []
+    → AreArgsOf (rules_in command (map option_model (take (i + 1) rows))) new
+one_more command rows i d args new a low has are is added =
+    let row = get_or rows i d in
+    let rules : rules_in command (map option_model (take (i + 1) rows))
+    ≡ rules_in command (map option_model (take i rows)) ++ option_rule (option_model row) ∷ [] =
+    ap (λ (rs : List OptionRow). rules_in command (map option_model rs)) (take_more rows i d low)
+    ∙ rules_more command (take i rows) row true has in
+    let all = args_more (rules_in command (map option_model (take i rows))) args (option_rule (option_model row)) a are is in
+    subst (λ (rs : List Rule). AreArgsOf rs new) (sym rules)
+    (subst (λ (xs : List Arg). AreArgsOf (rules_in command (map option_model (take i rows)) ++ option_rule (option_model row) ∷ []) xs)
+    (sym added) all)
+
+-- and a row that it has not gives none
+pub none_more : (command : Subcommand) (rows : List OptionRow) (i : ℕ) (d : OptionRow) (args : List Arg) → i < length rows
+    → is_of command (get_or rows i d).of ≡ false → AreArgsOf (rules_in command (map option_model (take i rows))) args
+    → AreArgsOf (rules_in command (map option_model (take (i + 1) rows))) args
+none_more command rows i d args low not_its are =
+    let rules : rules_in command (map option_model (take (i + 1) rows)) ≡ rules_in command (map option_model (take i rows)) =
+    ap (λ (rs : List OptionRow). rules_in command (map option_model rs)) (take_more rows i d low)
+    ∙ (rules_more command (take i rows) (get_or rows i d) false not_its ∙ append-nil _) in
+    subst (λ (rs : List Rule). AreArgsOf rs args) (sym rules) are
 
 abbrev pub ids_of : List Arg → List (List ℕ)
 ids_of xs = map (λ (a : Arg). a.id.now) xs
@@ -137,12 +192,38 @@ seen_with name rules c has =
     let turned = rules_in_turn has.bare c has.args has.added has.fits (bare_app name) has.is_bare.0.0 in
     (turned.0 ∙ ap (with_rules (bare_app name)) has.are, turned.1 has.is_bare.0.1)
 
--- what a parse reads of a number among its arguments is in its range
-pub reads_number : (name : List ℕ) (rules : List Rule) (c : Command) → HasRules name rules c
+-- the parser of the first argument with this name
+abbrev pub parser_named : List ℕ → List Rule → Option (Option ValueParser)
+parser_named id [] = None
+parser_named id (r ∷ rs) = cond (bytes_eq r.id id) (Some r.parser) (parser_named id rs)
+
+-- an argument with this name and this parser
+record Named (id : List ℕ) (parser : Option ValueParser) (rules : List Rule) : Type 0 where
+  place : ℕ
+  within : place < length rules
+  named : (d : Rule) → (slice_index_or rules place d).id ≡ id
+  parsed : (d : Rule) → (slice_index_or rules place d).parser ≡ parser
+
+found_named : (id : List ℕ) (parser : Option ValueParser) (rules : List Rule) → parser_named id rules ≡ Some parser → Named id parser rules
+found_named id parser [] found = cc
+found_named id parser (r ∷ rs) found = go (bytes_eq r.id id) refl (found_named id parser rs) found
+  where
+    go : (here : Bool) → bytes_eq r.id id ≡ here → (parser_named id rs ≡ Some parser → Named id parser rs)
+        → cond here (Some r.parser) (parser_named id rs) ≡ Some parser → Named id parser (r ∷ rs)
+    go true same after is =
+        let first : r.parser ≡ parser = cc in
+        record { place = 0; within = omega arith; named = λ _. (bytes_eq-Decides r.id id).0 same; parsed = λ _. first }
+    go false other after is =
+        let later = after is in
+        let low : later.place < length rs = later.within in
+        record { place = suc later.place; within = omega arith; named = later.named; parsed = later.parsed }
+
+-- what a parse reads of a number at this place among its arguments is in its range
+reads_at : (name : List ℕ) (rules : List Rule) (c : Command) → HasRules name rules c
     → are_apart (map (λ (r : Rule). r.id) rules) ≡ true → (k : ℕ) (other : Rule) → k < length rules
     → (id : List ℕ) (most : ℕ) → (slice_index_or rules k other).id ≡ id
     → (slice_index_or rules k other).parser ≡ Some (Signed (pos 1) (pos most)) → ReadsWithin c id 1 most
-reads_number name rules c has apart k other within id most is_named is_parsed m parsed text read = go has.args refl
+reads_at name rules c has apart k other within id most is_named is_parsed m parsed text read = go has.args refl
   where
     go : (xs : List Arg) → has.args ≡ xs
         → (digits : List ℕ) × (text ≡ without_minus digits) × IsSignedIn (pos 1) (pos most) digits
@@ -160,3 +241,11 @@ reads_number name rules c has apart k other within id most is_named is_parsed m 
         (distinct_ids args ids) there parsed
         (Signed (pos 1) (pos most)) (ap (λ (r : Rule). r.parser) rule ∙ is_parsed) text
         (subst (λ (i : List ℕ). one_text (found_of m) i ≡ Some text) (sym (ap (λ (r : Rule). r.id) rule ∙ is_named)) read)
+
+-- what a parse reads of the number with this name is in its range
+pub reads_number : (name : List ℕ) (rules : List Rule) (c : Command) → HasRules name rules c
+    → are_apart (map (λ (r : Rule). r.id) rules) ≡ true → (id : List ℕ) (most : ℕ)
+    → parser_named id rules ≡ Some (Some (Signed (pos 1) (pos most))) → ReadsWithin c id 1 most
+reads_number name rules c has apart id most found =
+    let at = found_named id (Some (Signed (pos 1) (pos most))) rules found in
+    reads_at name rules c has apart at.place (new_rule id) at.within id most (at.named (new_rule id)) (at.parsed (new_rule id))

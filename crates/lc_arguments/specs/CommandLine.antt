@@ -1,111 +1,61 @@
 -- The commands and their arguments, as clap sees them.
-use Rattle.std.specs.Prelude.{ℕ, true, List, [], ◌∷◌, ◌++◌, pos, Some, codes}
+use Rattle.std.specs.Prelude.{ℕ, true, List, [], ◌∷◌, map, filter, pos, Option, Some, None, codes}
 use Rattle.clap.specs.Simple.{App, Shape, new_app, new_rule, on_top, with_rule, with_subcommand}
 use Rattle.clap.specs.Walk.{Rule}
 use Rattle.clap.specs.declared.builder.action.ArgAction.TheVariants.{Append, Set, SetTrue}
 use Rattle.clap.specs.declared.builder.value_parser.ValueParser.TheVariants.{Signed}
+use Rattle.lc_arguments.specs.Options.{OptionModel, is_of, options}
+use Rattle.lc_arguments.specs.declared.option_row.Kind.{Kind}
+use Rattle.lc_arguments.specs.declared.option_row.Kind.TheVariants.{Flag, Text, Texts, Number, Word, OptionalWord, Words}
+use Rattle.lc_arguments.specs.declared.option_row.Subcommand.{Subcommand}
+use Rattle.lc_arguments.specs.declared.option_row.Subcommand.TheVariants.{Count, Explain, Check}
 
--- an option with a number from 1 on
-abbrev pub number_rule : List ℕ → ℕ → List ℕ → Rule
-number_rule name most default = record (new_rule name) {
+-- an argument of this kind with this name: an option without a value, with a text, with a text that may be repeated, or with a number from
+-- 1 on; or without a hyphen, one that is required, one that may be omitted, or any number of them
+abbrev pub kind_rule : Kind → List ℕ → Rule
+kind_rule Flag name = record (new_rule name) { long = Some name; action = Some SetTrue }
+kind_rule Text name = record (new_rule name) { long = Some name; value_names = 1; action = Some Set }
+kind_rule Texts name = record (new_rule name) { long = Some name; value_names = 1; action = Some Append }
+kind_rule (Number most) name = record (new_rule name) {
   long = Some name;
   value_names = 1;
   action = Some Set;
   parser = Some (Signed (pos 1) (pos most));
-  defaults = default ∷ [];
 }
+kind_rule Word name = record (new_rule name) { required = true; action = Some Set }
+kind_rule OptionalWord name = record (new_rule name) { action = Some Set }
+kind_rule Words name = record (new_rule name) { action = Some Append }
 
--- one that need not be given
-abbrev pub free_number_rule : List ℕ → ℕ → Rule
-free_number_rule name most = record (new_rule name) {
-  long = Some name;
-  value_names = 1;
-  action = Some Set;
-  parser = Some (Signed (pos 1) (pos most));
-}
+-- one with a short name beside the long one
+abbrev pub with_letter : Option ℕ → Rule → Rule
+with_letter None rule = rule
+with_letter (Some letter) rule = record rule { short = Some letter }
 
-abbrev pub flag_rule : List ℕ → Rule
-flag_rule name = record (new_rule name) { long = Some name; action = Some SetTrue }
+-- one with the value that it has if none is given
+abbrev pub with_default : Option (List ℕ) → Rule → Rule
+with_default None rule = rule
+with_default (Some text) rule = record rule { defaults = text ∷ [] }
 
--- an option with a text
-abbrev pub text_rule : List ℕ → Rule
-text_rule name = record (new_rule name) { long = Some name; value_names = 1; action = Some Set }
+-- an argument as clap sees it
+abbrev pub option_rule : OptionModel → Rule
+option_rule o = with_default o.default (with_letter o.letter (kind_rule o.kind o.name))
 
--- an option with a text, which may stand several times
-abbrev pub texts_rule : List ℕ → Rule
-texts_rule name = record (new_rule name) { long = Some name; value_names = 1; action = Some Append }
-
--- an option with a short name beside its long one
-abbrev pub short_rule : ℕ → Rule → Rule
-short_rule name rule = record rule { short = Some name }
-
--- a word that is wanted
-abbrev pub word_rule : List ℕ → Rule
-word_rule name = record (new_rule name) { required = true; action = Some Set }
-
--- a word that need not be there
-abbrev pub default_word_rule : List ℕ → List ℕ → Rule
-default_word_rule name default = record (new_rule name) { action = Some Set; defaults = default ∷ [] }
-
--- words that need not be there
-abbrev pub words_rule : List ℕ → Rule
-words_rule name = record (new_rule name) { action = Some Append }
+-- the arguments of a command, in their order
+abbrev pub rules_in : Subcommand → List OptionModel → List Rule
+rules_in command all = map option_rule (filter (λ o. is_of command o.of) all)
 
 -- a command without arguments, whose own name is not among the words
 abbrev pub bare_app : List ℕ → App
 bare_app name = on_top (λ (s : Shape). record s { no_binary_name = true }) (new_app name)
 
--- what leaves entries out beside the rules of a directory
-abbrev pub exclusion_rules : List Rule
-exclusion_rules =
-    texts_rule (codes "exclude") ∷ text_rule (codes "exclude-from") ∷ texts_rule (codes "include") ∷ flag_rule (codes "no-ignore")
-    ∷ flag_rule (codes "archive") ∷ texts_rule (codes "without") ∷ []
-
--- `-0`, by which paths end with NUL
-abbrev pub null_rule : Rule
-null_rule = short_rule 48 (flag_rule (codes "null"))
-
--- which paths are counted; `-x` stays on one file system
-abbrev pub path_rules : List Rule
-path_rules =
-    texts_rule (codes "only") ∷ text_rule (codes "only-from") ∷ null_rule
-    ∷ short_rule 120 (flag_rule (codes "one-file-system")) ∷ []
-
--- the most rows and files that are asked for
-abbrev pub max_top : ℕ
-max_top = 4294967295
-
--- the most segments of a row's directory
-abbrev pub max_depth : ℕ
-max_depth = 256
-
--- what the table has and looks like
-abbrev pub table_rules : List Rule
-table_rules =
-    flag_rule (codes "files") ∷ flag_rule (codes "left-out") ∷ text_rule (codes "format") ∷ text_rule (codes "by")
-    ∷ free_number_rule (codes "depth") max_depth ∷ text_rule (codes "sort") ∷ free_number_rule (codes "top") max_top
-    ∷ flag_rule (codes "share") ∷ []
-
--- the most threads of a count, and the most directories
-abbrev pub max_threads : ℕ
-max_threads = 16
-
-abbrev pub max_dirs : ℕ
-max_dirs = 1048576
-
--- the bounds of a count; `-j` is that of its threads
-abbrev pub limit_rules : List Rule
-limit_rules =
-    short_rule 106 (number_rule (codes "threads") max_threads (codes "4")) ∷ number_rule (codes "max-dirs") max_dirs (codes "65536") ∷ []
-
 abbrev pub count_rules : List Rule
-count_rules = exclusion_rules ++ path_rules ++ table_rules ++ limit_rules ++ default_word_rule (codes "DIR") (codes ".") ∷ []
+count_rules = rules_in Count options
 
 abbrev pub check_rules : List Rule
-check_rules = flag_rule (codes "explain") ∷ null_rule ∷ word_rule (codes "FILE") ∷ []
+check_rules = rules_in Check options
 
 abbrev pub explain_rules : List Rule
-explain_rules = exclusion_rules ++ null_rule ∷ word_rule (codes "DIR") ∷ words_rule (codes "PATH") ∷ []
+explain_rules = rules_in Explain options
 
 -- each in turn
 abbrev pub with_rules : App → List Rule → App

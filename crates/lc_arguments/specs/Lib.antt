@@ -2,6 +2,7 @@ pub mod Combinations
 pub mod CommandLine
 pub mod CountArgs
 pub mod Explained
+pub mod Options
 pub mod Refusals
 pub mod Repeated
 pub mod TableWords

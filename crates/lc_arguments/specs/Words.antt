@@ -21,7 +21,8 @@ use Rattle.clap.specs.declared.parser.matches.ArgMatches.{ArgMatches}
 use Rattle.clap.specs.declared.parser.matches.Found.{Found}
 use Rattle.lc_glob.specs.Bytes.{hyphen, slash}
 use Rattle.lc_glob.specs.Pieces.{is_byte}
-use Rattle.lc_arguments.specs.CommandLine.{count_app, check_app, explain_app, lc_app, max_depth, max_threads, max_dirs, max_top}
+use Rattle.lc_arguments.specs.CommandLine.{count_app, check_app, explain_app, lc_app}
+use Rattle.lc_arguments.specs.Options.{max_depth, max_dirs, max_threads, max_top}
 use Rattle.lc_arguments.specs.Combinations.{fit_together}
 use Rattle.lc_arguments.specs.Repeated.{are_allowed, id_of}
 use Rattle.lc_arguments.specs.declared.repeated.Repeated.{Repeated}

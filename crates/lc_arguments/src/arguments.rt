@@ -1,141 +1,112 @@
-//! The forms of arguments, and a command without any.
+//! The arguments of a command, made of the table of options, and a command without any.
 
-ghost use Rattle.std.specs.Prelude.{◌≡◌, true, IfOk};
+ghost use Rattle.std.specs.Prelude.{◌≡◌, IfOk, map, option_map, true};
+ghost use Rattle.std.specs.List.{list_all};
 ghost use Rattle.clap.specs.Walk.{Rule};
-ghost use Rattle.lc_arguments.specs.CommandLine.{default_word_rule, flag_rule, free_number_rule, number_rule, short_rule, text_rule};
-ghost use Rattle.lc_arguments.specs.CommandLine.{texts_rule, word_rule};
-ghost use Rattle.lc_arguments.specs.CountArgs.{is_own_name, IsArgOf, IsBare};
+ghost use Rattle.lc_arguments.specs.CommandLine.{kind_rule, option_rule, rules_in, with_default, with_letter};
+ghost use Rattle.lc_arguments.specs.CountArgs.{is_own_name, AreArgsOf, IsArgOf, IsBare};
+ghost use Rattle.lc_arguments.specs.Options.{option_model, options};
 
-use crate::help::{CommandHelp, OptionHelp};
+use crate::help::CommandHelp;
+use crate::option_row::{Kind, OptionRow, Subcommand};
+use crate::options_table::options;
 use clap::builder::ValueParser;
 use clap::{Arg, ArgAction, Command};
 use std::alloc::{AllocError, Global};
 
-/// Makes a flag: an option without a value.
-pub(crate) fn flag<'a>(alloc: Global, name: &'a str, help: OptionHelp) -> Arg<'a>
-    requires own { is_own_name name.now ≡ true }
-    ensures { IsArgOf (flag_rule name.entry.now) result }
+/// Makes an argument with the kind of a row.
+fn with_kind<'a>(alloc: Global, row: &'static OptionRow) -> Arg<'a>
+    requires own { is_own_name row.now.name.now ≡ true }
+    ensures { IsArgOf (kind_rule row.now.kind row.now.name.now) result }
 {
-    Arg::new(alloc, name)
-        .long(name)
-        .action(ArgAction::SetTrue)
-        .help(help.short)
-        .long_help(help.long)
-        .help_heading(help.heading)
-}
-
-/// Makes an option with a value, which help shows as `value`.
-pub(crate) fn text_option<'a>(
-    alloc: Global,
-    name: &'a str,
-    value: &'a str,
-    help: OptionHelp,
-) -> Arg<'a>
-    requires own { is_own_name name.now ≡ true }
-    ensures { IsArgOf (text_rule name.entry.now) result }
-{
-    Arg::new(alloc, name)
-        .long(name)
-        .value_name(value)
-        .action(ArgAction::Set)
-        .help(help.short)
-        .long_help(help.long)
-        .help_heading(help.heading)
-}
-
-/// Makes an option with a value that may be given several times.
-pub(crate) fn texts_option<'a>(
-    alloc: Global,
-    name: &'a str,
-    value: &'a str,
-    help: OptionHelp,
-) -> Arg<'a>
-    requires own { is_own_name name.now ≡ true }
-    ensures { IsArgOf (texts_rule name.entry.now) result }
-{
-    Arg::new(alloc, name)
-        .long(name)
-        .value_name(value)
-        .action(ArgAction::Append)
-        .help(help.short)
-        .long_help(help.long)
-        .help_heading(help.heading)
-}
-
-/// Makes an option with a number from 1 to `most`.
-pub(crate) fn number_option<'a>(
-    alloc: Global,
-    name: &'a str,
-    most: u32,
-    default: &'a str,
-    help: OptionHelp,
-) -> Arg<'a>
-    requires own { is_own_name name.now ≡ true }
-    ensures { IsArgOf (number_rule name.entry.now most default.entry.now) result }
-{
-    Arg::new(alloc, name)
-        .long(name)
-        .value_name("N")
-        .action(ArgAction::Set)
-        .value_parser(ValueParser::signed(1, i64::from(most)))
-        .default_value(default)
-        .help(help.short)
-        .long_help(help.long)
-        .help_heading(help.heading)
-}
-
-/// Makes an option with a number from 1 to `most` that has no default.
-pub(crate) fn free_number_option<'a>(
-    alloc: Global,
-    name: &'a str,
-    most: u32,
-    help: OptionHelp,
-) -> Arg<'a>
-    requires own { is_own_name name.now ≡ true }
-    ensures { IsArgOf (free_number_rule name.entry.now most) result }
-{
-    Arg::new(alloc, name)
-        .long(name)
-        .value_name("N")
-        .action(ArgAction::Set)
-        .value_parser(ValueParser::signed(1, i64::from(most)))
-        .help(help.short)
-        .long_help(help.long)
-        .help_heading(help.heading)
+    let arg = Arg::new(alloc, row.name);
+    match row.kind {
+        Kind::Flag => arg.long(row.name).action(ArgAction::SetTrue),
+        Kind::Text => arg
+            .long(row.name)
+            .value_name(row.value)
+            .action(ArgAction::Set),
+        Kind::Texts => arg
+            .long(row.name)
+            .value_name(row.value)
+            .action(ArgAction::Append),
+        Kind::Number(most) => arg
+            .long(row.name)
+            .value_name(row.value)
+            .action(ArgAction::Set)
+            .value_parser(ValueParser::signed(1, i64::from(most))),
+        Kind::Word => arg.required(true).action(ArgAction::Set),
+        Kind::OptionalWord => arg.action(ArgAction::Set),
+        Kind::Words => arg.action(ArgAction::Append),
+    }
 }
 
 /// Gives an option a short name, such as `-j`, beside its long one.
-pub(crate) fn with_short<'a>(option: Arg<'a>, name: char) -> Arg<'a>
-    ensures { (rule : Rule) → IsArgOf rule option.entry → IsArgOf (short_rule name rule) result }
+fn with_letter<'a>(arg: Arg<'a>, letter: Option<char>) -> Arg<'a>
+    ensures { (rule : Rule) → IsArgOf rule arg.entry → IsArgOf (with_letter letter rule) result }
 {
-    option.short(name)
+    match letter {
+        None => arg,
+        Some(letter) => arg.short(letter),
+    }
 }
 
-/// Makes a required argument without a name of its own.
-pub(crate) fn word<'a>(alloc: Global, name: &'a str, text: &'a str) -> Arg<'a>
-    requires own { is_own_name name.now ≡ true }
-    ensures { IsArgOf (word_rule name.entry.now) result }
+/// Gives an argument a default.
+fn with_default<'a>(arg: Arg<'a>, default: Option<&'static str>) -> Arg<'a>
+    ensures { (rule : Rule) → IsArgOf rule arg.entry
+        → IsArgOf (with_default (option_map (λ text. text.now) default.entry) rule) result }
 {
-    Arg::new(alloc, name)
-        .required(true)
-        .action(ArgAction::Set)
-        .help(text)
+    match default {
+        None => arg,
+        Some(text) => arg.default_value(text),
+    }
 }
 
-/// Makes an argument without a name of its own that has a default.
-pub(crate) fn default_word<'a>(
+/// Gives an argument its texts in help.
+fn with_help<'a>(arg: Arg<'a>, row: &'static OptionRow) -> Arg<'a>
+    ensures { (rule : Rule) → IsArgOf rule arg.entry → IsArgOf rule result }
+{
+    let arg = arg.help(row.help);
+    if row.heading.is_empty() {
+        return arg;
+    }
+    arg.long_help(row.long_help).help_heading(row.heading)
+}
+
+/// Makes the argument of a row.
+fn arg<'a>(alloc: Global, row: &'static OptionRow) -> Arg<'a>
+    requires own { is_own_name row.now.name.now ≡ true }
+    ensures { IsArgOf (option_rule (option_model row.now)) result }
+{
+    let arg = with_kind(alloc, row);
+    let arg = with_letter(arg, row.short);
+    let arg = with_default(arg, row.default);
+    with_help(arg, row)
+}
+
+/// Makes the arguments of the rows that a command has.
+fn args_of<'a>(
     alloc: Global,
-    name: &'a str,
-    default: &'a str,
-    text: &'a str,
-) -> Arg<'a>
-    requires own { is_own_name name.now ≡ true }
-    ensures { IsArgOf (default_word_rule name.entry.now default.entry.now) result }
+    command: Subcommand,
+    rows: &'static [OptionRow],
+) -> Result<Vec<Arg<'a>>, AllocError>
+    requires own { list_all (λ row. is_own_name row.name.now) rows.now ≡ true }
+    ensures { IfOk result (λ args. AreArgsOf (rules_in command (map option_model rows.now)) args.items) }
 {
-    Arg::new(alloc, name)
-        .action(ArgAction::Set)
-        .default_value(default)
-        .help(text)
+    let mut args = Vec::new(alloc);
+    for row in rows {
+        if row.of.has(command) {
+            args.push(arg(alloc, row))?;
+        }
+    }
+    Ok(args)
+}
+
+/// Makes the arguments of a command.
+pub(crate) fn args<'a>(alloc: Global, command: Subcommand) -> Result<Vec<Arg<'a>>, AllocError>
+    ensures { IfOk result (λ args. AreArgsOf (rules_in command options) args.items) }
+{
+    args_of(alloc, command, options())
 }
 
 /// Makes a command without arguments. Its own name is not among the words that it reads.

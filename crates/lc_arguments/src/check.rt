@@ -1,15 +1,16 @@
 //! The command line of `lc check`.
 
 ghost use Rattle.std.specs.Prelude.{IfOk, map};
-ghost use Rattle.lc_arguments.specs.CommandLine.{check_app, check_rules};
-ghost use Rattle.lc_arguments.specs.CountArgs.{AreArgsOf, IsCommandOf};
+ghost use Rattle.lc_arguments.specs.CommandLine.{check_app};
+ghost use Rattle.lc_arguments.specs.CountArgs.{IsCommandOf};
 ghost use Rattle.lc_arguments.specs.Explained.{AnswersCheckWords, Explains};
 
-use crate::arguments::{bare, flag, with_short, word};
+use crate::arguments::{args, bare};
 use crate::error_text::problem_of;
+use crate::option_row::Subcommand;
 use crate::request::{ParseExit, explained};
 use crate::{help, suggestions};
-use clap::{Arg, Command, Error};
+use clap::{Command, Error};
 use std::alloc::{AllocError, Global};
 use std::convert::AsStr;
 
@@ -24,21 +25,11 @@ pub struct CheckRequest<'w> {
     pub file: &'w str,
 }
 
-fn args<'a>(alloc: Global) -> [Arg<'a>; 3]
-    ensures { AreArgsOf check_rules result }
-{
-    [
-        flag(alloc, "explain", help::EXPLAIN),
-        with_short(flag(alloc, "null", help::NULL_INPUT), '0'),
-        word(alloc, "FILE", "Ignore file, such as .gitignore"),
-    ]
-}
-
 /// Makes the clap command of `lc check`.
 pub(crate) fn command<'a>(alloc: Global) -> Result<Command<'a>, AllocError>
     ensures { IfOk result (IsCommandOf check_app) }
 {
-    let args = Vec::from_array(alloc, args(alloc))?;
+    let args = args(alloc, Subcommand::Check)?;
     let command = bare(alloc, "check", help::CHECK)?;
     command.args(args)
 }

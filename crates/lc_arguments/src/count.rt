@@ -1,34 +1,31 @@
 //! The command line of `lc count`.
 
-ghost use Rattle.std.specs.Prelude.{[], ◌∷◌, map, IfOk};
+ghost use Rattle.std.specs.Prelude.{map, IfOk};
 ghost use Rattle.clap.specs.Matches.{found_of};
 ghost use Rattle.clap.specs.Walk.{rows_of};
-ghost use Rattle.lc_arguments.specs.CommandLine.{count_rules, limit_rules, path_rules, table_rules};
-ghost use Rattle.lc_arguments.specs.CountArgs.{AreArgsOf, IsCountCommand};
+ghost use Rattle.lc_arguments.specs.CountArgs.{IsCountCommand};
 ghost use Rattle.lc_arguments.specs.Explained.{AnswersCountIn, AnswersCountWords, Explains};
 
-use crate::arguments::{
-    bare, default_word, flag, free_number_option, number_option, text_option, with_short,
-};
+use crate::arguments::{args, bare};
 use crate::combinations::misfit;
 use crate::error_text::problem_of;
-use crate::exclusions::{Exclusions, exclusion_options};
-use crate::limits::{MAX_DEPTH, MAX_DIRS, MAX_THREADS, MAX_TOP};
+use crate::exclusions::Exclusions;
 use crate::numbers::Numbers;
-use crate::paths::{only, paths_in};
+use crate::option_row::Subcommand;
+use crate::paths::paths_in;
 use crate::request::{ParseExit, explained, unfit};
 use crate::table::{TableRequest, table_in};
 use crate::{help, suggestions};
-use clap::{Arg, ArgMatches, Command, Error};
+use clap::{ArgMatches, Command, Error};
 use std::alloc::{AllocError, Global};
 use std::convert::AsStr;
 
 /// The options of `lc count`, as in `lc count --threads 8 --exclude-from rules src`.
 #[derive(Drop)]
 pub struct CountRequest<'w> {
-    /// The number of threads: 1 to [`MAX_THREADS`], by default 4.
+    /// The number of threads: 1 to [`MAX_THREADS`](crate::MAX_THREADS), by default 4.
     pub threads: u32,
-    /// The most directories, DIR included: 1 to [`MAX_DIRS`], by default 65,536.
+    /// The most directories, DIR included: 1 to [`MAX_DIRS`](crate::MAX_DIRS), by default 65,536.
     pub max_dirs: u32,
     /// List each entry that is skipped, and print the number of entries.
     pub left_out: bool,
@@ -49,96 +46,11 @@ pub struct CountRequest<'w> {
     pub directory: &'w str,
 }
 
-/// Makes the options that choose paths.
-fn path_options<'a>(alloc: Global) -> (Arg<'a>, Arg<'a>, Arg<'a>, Arg<'a>)
-    ensures { AreArgsOf path_rules (result.0 ∷ result.1 ∷ result.2 ∷ result.3 ∷ []) }
-{
-    (
-        only(alloc),
-        text_option(alloc, "only-from", "FILE", help::ONLY_FROM),
-        with_short(flag(alloc, "null", help::NULL), '0'),
-        with_short(flag(alloc, "one-file-system", help::ONE_FILE_SYSTEM), 'x'),
-    )
-}
-
-/// Makes the options that choose what is printed.
-fn table_options<'a>(
-    alloc: Global,
-) -> (
-    Arg<'a>,
-    Arg<'a>,
-    Arg<'a>,
-    Arg<'a>,
-    Arg<'a>,
-    Arg<'a>,
-    Arg<'a>,
-    Arg<'a>,
-)
-    ensures { AreArgsOf table_rules
-        (result.0 ∷ result.1 ∷ result.2 ∷ result.3 ∷ result.4 ∷ result.5 ∷ result.6 ∷ result.7 ∷ []) }
-{
-    (
-        flag(alloc, "files", help::FILES),
-        flag(alloc, "left-out", help::LEFT_OUT),
-        text_option(alloc, "format", "FORMAT", help::FORMAT),
-        text_option(alloc, "by", "COLUMNS", help::BY),
-        free_number_option(alloc, "depth", MAX_DEPTH, help::DEPTH),
-        text_option(alloc, "sort", "COLUMN", help::SORT),
-        free_number_option(alloc, "top", MAX_TOP, help::TOP),
-        flag(alloc, "share", help::SHARE),
-    )
-}
-
-/// Makes the options that limit a count.
-fn limits<'a>(alloc: Global) -> (Arg<'a>, Arg<'a>)
-    ensures { AreArgsOf limit_rules (result.0 ∷ result.1 ∷ []) }
-{
-    (
-        with_short(
-            number_option(alloc, "threads", MAX_THREADS, "4", help::THREADS),
-            'j',
-        ),
-        number_option(alloc, "max-dirs", MAX_DIRS, "65536", help::MAX_DIRS),
-    )
-}
-
-fn args<'a>(alloc: Global) -> [Arg<'a>; 21]
-    ensures { AreArgsOf count_rules result }
-{
-    let exclusions = exclusion_options(alloc);
-    let (only, only_from, null, one_file_system) = path_options(alloc);
-    let (files, left_out, format, by, depth, sort, top, share) = table_options(alloc);
-    let (threads, max_dirs) = limits(alloc);
-    [
-        exclusions.0,
-        exclusions.1,
-        exclusions.2,
-        exclusions.3,
-        exclusions.4,
-        exclusions.5,
-        only,
-        only_from,
-        null,
-        one_file_system,
-        files,
-        left_out,
-        format,
-        by,
-        depth,
-        sort,
-        top,
-        share,
-        threads,
-        max_dirs,
-        default_word(alloc, "DIR", ".", help::COUNTED_DIR),
-    ]
-}
-
 /// Makes the clap command of `lc count`.
 pub(crate) fn command<'a>(alloc: Global) -> Result<Command<'a>, AllocError>
     ensures { IfOk result IsCountCommand }
 {
-    let args = Vec::from_array(alloc, args(alloc))?;
+    let args = args(alloc, Subcommand::Count)?;
     let command = bare(alloc, "count", help::COUNT)?;
     command.args(args)
 }

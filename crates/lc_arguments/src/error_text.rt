@@ -1,16 +1,9 @@
 //! The texts of usage errors.
 
-use crate::limits::{MAX_DEPTH, MAX_DIRS, MAX_THREADS, MAX_TOP};
+use crate::option_row::{Completes, Kind, OptionRow};
+use crate::options_table::options;
 use crate::suggestions::Advice;
 use std::alloc::{AllocError, Global};
-
-/// The options with a number, as clap quotes them, each with its largest one.
-const NUMBERS: &[(&str, u32)] = &[
-    ("--threads <N>", MAX_THREADS),
-    ("--max-dirs <N>", MAX_DIRS),
-    ("--depth <N>", MAX_DEPTH),
-    ("--top <N>", MAX_TOP),
-];
 
 /// Returns what is wrong with the arguments: the first paragraph of clap's text.
 pub(crate) fn problem_of(text: &str) -> &str {
@@ -39,17 +32,70 @@ pub(crate) fn advised(
     Ok(text)
 }
 
-/// Finds the value that clap quotes of a refused number.
-fn number_quoted<'p>(
+/// Returns the name in help of the value of an option, and what the value may be.
+fn value_named(option: &str) -> (&'static str, Completes) {
+    for row in options() {
+        if row.name == option {
+            return (row.value, row.completes);
+        }
+    }
+    ("", Completes::Nothing)
+}
+
+/// Appends the words of which a value is one, if these are all that it may be.
+fn push_possible(text: &mut String, completes: Completes) -> Result<(), AllocError> {
+    let Completes::Meanings(words) = completes else {
+        return Ok(());
+    };
+    text.push_str("\n  [possible values")?;
+    let mut before = ": ";
+    for (word, _) in words {
+        write!(text, "{before}{word}")?;
+        before = ", ";
+    }
+    text.push_str("]")
+}
+
+/// Makes the text of the refusal of a value of an option, which is named without its hyphens.
+///
+/// ```
+/// let text = value_refused(rt.alloc(), "by", "x", ": no column")?;
+/// assert!(rt; text.starts_with("error: invalid value 'x' for '--by <COLUMNS>': no column\n"));
+/// ```
+pub(crate) fn value_refused(
     alloc: Global,
-    problem: &'p str,
     option: &str,
-) -> Result<Option<&'p str>, AllocError> {
-    let end = format!(in alloc; "' for '{option}': ")?;
+    value: &str,
+    why: &str,
+) -> Result<String, AllocError> {
+    let (name, completes) = value_named(option);
+    let mut text = format!(in alloc;
+        "error: invalid value '{value}' for '--{option} <{name}>'{why}"
+    )?;
+    push_possible(&mut text, completes)?;
+    text.push_str("\n\nFor more information, try '--help'.\n")?;
+    Ok(text)
+}
+
+/// Makes the text of the refusal of a number, if clap refuses one of this option. `problem` is what clap says.
+fn number_refusal(
+    alloc: Global,
+    problem: &str,
+    option: &OptionRow,
+    most: u32,
+) -> Result<Option<String>, AllocError> {
+    let (name, number) = (option.name, option.value);
+    let end = format!(in alloc; "' for '--{name} <{number}>': ")?;
     let Some((start, _)) = problem.rsplit_once(end.as_str()) else {
         return Ok(None);
     };
-    Ok(start.strip_prefix("error: invalid value '"))
+    let Some(value) = start.strip_prefix("error: invalid value '") else {
+        return Ok(None);
+    };
+    let text = format!(in alloc;
+        "error: invalid value for '--{name} <{number}>': '{value}' is no number from 1 to {most}\n\nFor more information, try '--help'.\n"
+    )?;
+    Ok(Some(text))
 }
 
 /// Makes the text of the refusal of a number. `text` is that of clap.
@@ -60,11 +106,11 @@ fn number_quoted<'p>(
 /// assert!(rt; refused.starts_with("error: invalid value for '--threads <N>': 'x' is no number from 1 to 16\n"));
 /// ```
 pub(crate) fn number_refused(alloc: Global, text: &str) -> Result<String, AllocError> {
-    for (option, most) in NUMBERS {
-        if let Some(value) = number_quoted(alloc, problem_of(text), option)? {
-            return format!(in alloc;
-                "error: invalid value for '{option}': '{value}' is no number from 1 to {most}\n\nFor more information, try '--help'.\n"
-            );
+    for row in options() {
+        if let Kind::Number(most) = row.kind {
+            if let Some(refusal) = number_refusal(alloc, problem_of(text), row, most)? {
+                return Ok(refusal);
+            }
         }
     }
     String::from_str(alloc, text)

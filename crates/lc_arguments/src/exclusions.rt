@@ -1,17 +1,12 @@
 //! The options that skip entries beside a directory's own rules.
 
-ghost use Rattle.std.specs.Prelude.{◌≡◌, [], ◌∷◌};
 ghost use Rattle.clap.specs.Matches.{found_of};
 ghost use Rattle.clap.specs.Walk.{rows_of};
-ghost use Rattle.lc_arguments.specs.CommandLine.{exclusion_rules};
-ghost use Rattle.lc_arguments.specs.CountArgs.{AreArgsOf};
 ghost use Rattle.lc_arguments.specs.Explained.{AnswersExclusions};
 
-use crate::arguments::{flag, text_option, texts_option};
-use crate::help;
 use crate::repeated::{Repeated, values_in};
 use crate::request::ParseExit;
-use clap::{Arg, ArgMatches};
+use clap::ArgMatches;
 use std::alloc::Global;
 
 /// What is skipped beside what a directory's own rules ignore, as by `--exclude '*.log' --without linguist-vendored`.
@@ -29,22 +24,6 @@ pub struct Exclusions<'w> {
     pub include: Vec<&'w str>,
     /// Read neither a `.gitignore` nor `.git/info/exclude`.
     pub no_ignore: bool,
-}
-
-/// Makes the options that skip entries.
-pub(crate) fn exclusion_options<'a>(
-    alloc: Global,
-) -> (Arg<'a>, Arg<'a>, Arg<'a>, Arg<'a>, Arg<'a>, Arg<'a>)
-    ensures { AreArgsOf exclusion_rules (result.0 ∷ result.1 ∷ result.2 ∷ result.3 ∷ result.4 ∷ result.5 ∷ []) }
-{
-    (
-        texts_option(alloc, "exclude", "PATTERN", help::EXCLUDE),
-        text_option(alloc, "exclude-from", "FILE", help::EXCLUDE_FROM),
-        texts_option(alloc, "include", "PATTERN", help::INCLUDE),
-        flag(alloc, "no-ignore", help::NO_IGNORE),
-        flag(alloc, "archive", help::ARCHIVE),
-        texts_option(alloc, "without", "ATTR[=VALUE]", help::WITHOUT),
-    )
 }
 
 impl<'w> Exclusions<'w> {

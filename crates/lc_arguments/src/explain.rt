@@ -1,16 +1,17 @@
 //! The command line of `lc explain`.
 
-ghost use Rattle.std.specs.Prelude.{◌≡◌, IfOk, map, codes};
-ghost use Rattle.lc_arguments.specs.CommandLine.{explain_app, explain_rules, words_rule};
-ghost use Rattle.lc_arguments.specs.CountArgs.{AreArgsOf, IsArgOf, IsCommandOf};
+ghost use Rattle.std.specs.Prelude.{IfOk, map};
+ghost use Rattle.lc_arguments.specs.CommandLine.{explain_app};
+ghost use Rattle.lc_arguments.specs.CountArgs.{IsCommandOf};
 ghost use Rattle.lc_arguments.specs.Explained.{AnswersExplainWords, Explains};
 
-use crate::arguments::{bare, flag, with_short, word};
+use crate::arguments::{args, bare};
 use crate::error_text::problem_of;
-use crate::exclusions::{Exclusions, exclusion_options};
+use crate::exclusions::Exclusions;
+use crate::option_row::Subcommand;
 use crate::request::{ParseExit, explained};
 use crate::{help, suggestions};
-use clap::{Arg, ArgAction, Command, Error};
+use clap::{Command, Error};
 use std::alloc::{AllocError, Global};
 use std::convert::AsStr;
 
@@ -27,36 +28,11 @@ pub struct ExplainRequest<'w> {
     pub paths: Vec<&'w str>,
 }
 
-fn paths<'a>(alloc: Global) -> Arg<'a>
-    ensures { IsArgOf (words_rule (codes "PATH")) result }
-{
-    Arg::new(alloc, "PATH").action(ArgAction::Append).help(
-        "Path relative to DIR; without any, lc reads them from standard input",
-    )
-}
-
-fn args<'a>(alloc: Global) -> [Arg<'a>; 9]
-    ensures { AreArgsOf explain_rules result }
-{
-    let exclusions = exclusion_options(alloc);
-    [
-        exclusions.0,
-        exclusions.1,
-        exclusions.2,
-        exclusions.3,
-        exclusions.4,
-        exclusions.5,
-        with_short(flag(alloc, "null", help::NULL_INPUT), '0'),
-        word(alloc, "DIR", "Directory whose rules decide"),
-        paths(alloc),
-    ]
-}
-
 /// Makes the clap command of `lc explain`.
 pub(crate) fn command<'a>(alloc: Global) -> Result<Command<'a>, AllocError>
     ensures { IfOk result (IsCommandOf explain_app) }
 {
-    let args = Vec::from_array(alloc, args(alloc))?;
+    let args = args(alloc, Subcommand::Explain)?;
     let command = bare(alloc, "explain", help::EXPLAINING)?;
     command.args(args)
 }

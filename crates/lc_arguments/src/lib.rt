@@ -5,7 +5,7 @@
 //! - `count`, `check`, `explain`: the options of each command; `table`: those of the table; `paths`: those of `--only`
 //! - `numbers`: the numbers of a count; `combinations`: options that do not go together
 //! - `exclusions`: what counts and explanations skip; `repeated`: options that may be given several times
-//! - `arguments`: the forms of options
+//! - `options_table`: the table of options; `option_row`: what a row of it says; `arguments`: clap's arguments, made of the rows
 //! - `refusals`: the text of a refusal, as a terminal shows it; `error_text`: the texts of usage errors
 //! - `suggestions`: what refused arguments may have meant; `near`: names that are close to a word
 //! - `limits`: the largest values of options; `help`: the texts of help and of the version
@@ -23,6 +23,8 @@ mod help;
 mod limits;
 mod near;
 mod numbers;
+mod option_row;
+mod options_table;
 mod paths;
 mod refusals;
 mod repeated;
@@ -36,6 +38,8 @@ pub use exclusions::Exclusions;
 pub use explain::ExplainRequest;
 pub use first_word::count_words;
 pub use limits::{MAX_DIRS, MAX_THREADS};
+pub use option_row::{Commands, Completes, Kind, OptionRow};
+pub use options_table::options;
 pub use repeated::lines_text;
 pub use request::{ParseExit, Request};
 pub use table::TableRequest;

@@ -6,11 +6,6 @@ use strsim::osa_distance;
 /// The longest word that is compared. No known name is half as long.
 const MAX_WORD: usize = 32;
 
-/// Returns a name without the hyphens before it.
-fn bare(name: &str) -> &str {
-    name.trim_start_matches('-')
-}
-
 /// Returns whether a name is so close to a word that it was probably meant: at most a third of the longer one is edited, and if that takes
 /// several edits, both begin with the same letter. So `sorted` is near `sort`, but `include-from` is not near `exclude-from`.
 fn is_near(word: &str, name: &str, edits: usize) -> bool {
@@ -19,27 +14,27 @@ fn is_near(word: &str, name: &str, edits: usize) -> bool {
     edits <= longer / 3 && (edits <= 1 || begins_alike)
 }
 
-/// Finds the known name that is nearest to a word, with what belongs to it, if one is near.
+/// Finds the known name that is nearest to a word, with what belongs to it, if one is near. Hyphens before the word do not count.
 ///
 /// ```
-/// let known = &[("--threads", "lc --threads 8 ."), ("--top", "lc --top 10 .")];
-/// assert!(rt; near_name(rt.alloc(), "--thread", known)? == Some(("--threads", "lc --threads 8 .")));
+/// let known = &[("threads", "lc --threads 8 ."), ("top", "lc --top 10 .")];
+/// assert!(rt; near_name(rt.alloc(), "--thread", known)? == Some(("threads", "lc --threads 8 .")));
 /// assert!(rt; near_name(rt.alloc(), "--text", known)?.is_none());
 /// ```
 pub(crate) fn near_name(
     alloc: Global,
     word: &str,
-    known: &'static [(&'static str, &'static str)],
+    known: &[(&'static str, &'static str)],
 ) -> Result<Option<(&'static str, &'static str)>, AllocError> {
     let mut nearest = None;
     let mut fewest = usize::MAX;
     if word.len() > MAX_WORD {
         return Ok(None);
     }
-    let word = bare(word);
+    let word = word.trim_start_matches('-');
     for (name, meant) in known {
-        let edits = osa_distance(alloc, word, bare(name))?;
-        if edits < fewest && is_near(word, bare(name), edits) {
+        let edits = osa_distance(alloc, word, name)?;
+        if edits < fewest && is_near(word, name, edits) {
             fewest = edits;
             nearest = Some((*name, *meant));
         }

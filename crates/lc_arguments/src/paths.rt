@@ -1,25 +1,15 @@
 //! The paths of `--only`, as in `--only src --only doc`.
 
-ghost use Rattle.std.specs.Prelude.{◌≡◌, map, codes};
+ghost use Rattle.std.specs.Prelude.{◌≡◌, map};
 ghost use Rattle.clap.specs.Matches.{found_of};
 ghost use Rattle.clap.specs.Walk.{rows_of};
-ghost use Rattle.lc_arguments.specs.CommandLine.{texts_rule};
-ghost use Rattle.lc_arguments.specs.CountArgs.{IsArgOf};
 ghost use Rattle.lc_arguments.specs.Explained.{AnswersPaths, AnswersPathsIn, IsRefusal};
 ghost use Rattle.lc_arguments.specs.Words.{is_bad_part, part_of};
 
-use crate::arguments::texts_option;
-use crate::help;
 use crate::request::{ParseExit, refused};
-use clap::{Arg, ArgMatches};
+use clap::ArgMatches;
 use lc_text::{is_bad_path, is_top, split_slash, undotted};
 use std::alloc::Global;
-
-pub(crate) fn only<'a>(alloc: Global) -> Arg<'a>
-    ensures { IsArgOf (texts_rule (codes "only")) result }
-{
-    texts_option(alloc, "only", "PATH", help::ONLY)
-}
 
 /// Makes the refusal of a value that is no path below DIR.
 fn misplaced(alloc: Global, word: &str) -> ParseExit
@@ -27,7 +17,7 @@ fn misplaced(alloc: Global, word: &str) -> ParseExit
 {
     refused(
         alloc,
-        "--only <PATH>",
+        "only",
         word,
         ": expected a path relative to DIR, such as src/lib",
     )

@@ -70,21 +70,18 @@ impl Repeated {
     fn refusal(self, alloc: Global, value: &str) -> ParseExit
         ensures { IsRefusal result }
     {
-        let (option, why) = match self {
-            Repeated::Attributes => (
-                "--without <ATTR[=VALUE]>",
-                ": an attribute's name has letters, digits, '-', '.' and '_', and does not begin with '-'",
-            ),
-            Repeated::Excluded => (
-                "--exclude <PATTERN>",
-                ": a pattern has no line feed, and all of them have at most 1048576 bytes",
-            ),
-            Repeated::Included => (
-                "--include <PATTERN>",
-                ": a pattern has no line feed and does not begin with '!', and all of them have at most 1048576 bytes",
-            ),
+        let why = match self {
+            Repeated::Attributes => {
+                ": an attribute's name has letters, digits, '-', '.' and '_', and does not begin with '-'"
+            }
+            Repeated::Excluded => {
+                ": a pattern has no line feed, and all of them have at most 1048576 bytes"
+            }
+            Repeated::Included => {
+                ": a pattern has no line feed and does not begin with '!', and all of them have at most 1048576 bytes"
+            }
         };
-        refused(alloc, option, value, why)
+        refused(alloc, self.name(), value, why)
     }
 }
 

@@ -9,7 +9,7 @@ ghost use Rattle.lc_arguments.specs.Words.{AnswersWords};
 
 use crate::check::CheckRequest;
 use crate::count::CountRequest;
-use crate::error_text::{advised, number_refused, problem_of};
+use crate::error_text::{advised, number_refused, problem_of, value_refused};
 use crate::explain::ExplainRequest;
 use crate::first_word::count_words;
 use crate::refusals::{message, visible_words};
@@ -107,14 +107,11 @@ pub(crate) fn explained(alloc: Global, error: &Error, usage: &str, advice: &Advi
     }
 }
 
-/// Makes the refusal of an option's value.
+/// Makes the refusal of the value of an option, which is named without its hyphens.
 pub(crate) fn refused(alloc: Global, option: &str, value: &str, why: &str) -> ParseExit
     ensures { IsRefusal result }
 {
-    let text = format!(in alloc;
-        "error: invalid value '{value}' for '{option}'{why}\n\nFor more information, try '--help'.\n"
-    );
-    match text {
+    match value_refused(alloc, option, value, why) {
         Ok(text) => ParseExit::Refused(text),
         Err(AllocError) => ParseExit::Memory,
     }

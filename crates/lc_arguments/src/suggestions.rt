@@ -1,6 +1,8 @@
 //! What refused arguments may have meant. Each suggested command works wherever it is typed.
 
 use crate::near::near_name;
+use crate::option_row::{Completes, Subcommand};
+use crate::options_table::options;
 use lc_text::{is_bad_path, is_top, push_quoted, push_visible, split_slash, undotted};
 use std::alloc::{AllocError, Global};
 use std::convert::AsStr;
@@ -14,30 +16,6 @@ const EXPLAIN: &str = "lc explain . README.md";
 /// Checks paths by the ignore file that most repositories have.
 const CHECK: &str = "git ls-files | lc check .gitignore";
 
-/// The options of `lc count`, each with a count by it.
-const COUNTS: &[(&str, &str)] = &[
-    ("--by", "lc count --by ext ."),
-    ("--depth", "lc count --by dir --depth 2 ."),
-    ("--sort", "lc count --sort bytes ."),
-    ("--top", "lc count --top 10 ."),
-    ("--share", "lc count --share ."),
-    ("--format", "lc count --format table ."),
-    ("--files", "lc count --files ."),
-    ("--left-out", "lc count --left-out ."),
-    ("--exclude", "lc count --exclude '*.min.js' ."),
-    ("--include", "lc count --include '*.c' ."),
-    ("--exclude-from", COUNT),
-    ("--only", COUNT),
-    ("--only-from", "find . | lc count --only-from - ."),
-    ("--null", "find . -print0 | lc count --only-from - -0 ."),
-    ("--no-ignore", "lc count --no-ignore ."),
-    ("--one-file-system", "lc count --one-file-system ."),
-    ("--archive", "lc count --archive ."),
-    ("--without", "lc count --without linguist-vendored ."),
-    ("--threads", "lc count --threads 8 ."),
-    ("--max-dirs", "lc count --max-dirs 1000000 ."),
-];
-
 /// The commands, each with a use of it.
 const COMMANDS: &[(&str, &str)] = &[
     ("count", COUNT),
@@ -45,20 +23,6 @@ const COMMANDS: &[(&str, &str)] = &[
     ("check", CHECK),
     ("help", "lc --help"),
 ];
-
-/// The options of `lc explain`.
-const EXPLANATIONS: &[(&str, &str)] = &[
-    ("--exclude", EXPLAIN),
-    ("--exclude-from", EXPLAIN),
-    ("--include", EXPLAIN),
-    ("--no-ignore", EXPLAIN),
-    ("--archive", EXPLAIN),
-    ("--without", EXPLAIN),
-    ("--null", EXPLAIN),
-];
-
-/// The options of `lc check`.
-const CHECKS: &[(&str, &str)] = &[("--explain", CHECK), ("--null", CHECK)];
 
 /// What a usage error says beside what is wrong.
 #[derive(Drop)]
@@ -119,8 +83,14 @@ fn is_format_option(word: &str) -> bool {
     matches!(word, "-f" | "-o" | "--output")
 }
 
+/// Returns whether a word is a value of `--format`.
 fn is_format(word: &str) -> bool {
-    matches!(word, "tsv" | "table" | "json" | "csv" | "markdown" | "html")
+    for row in options() {
+        if let ("format", Completes::Meanings(formats)) = (row.name, row.completes) {
+            return formats.iter().any(|(format, _)| *format == word);
+        }
+    }
+    false
 }
 
 fn is_extension_option(word: &str) -> bool {
@@ -194,35 +164,42 @@ fn quoted(problem: &str) -> &str {
     }
 }
 
-/// Makes the advice for an unknown name that is close to a known one.
-fn near(
+/// Lists the names of a command's options. Each of `lc count` is with a count by it, and others are with the command's example.
+fn known_options(
     alloc: Global,
-    word: &str,
-    kind: &str,
-    known: &'static [(&'static str, &'static str)],
-) -> Result<Option<Advice>, AllocError> {
-    let Some((name, meant)) = near_name(alloc, word, known)? else {
-        return Ok(None);
-    };
-    let tip = format!(in alloc; "a similar {kind} exists: '{name}'")?;
-    Ok(Some(with_tip(alloc, tip, meant)?))
+    command: Subcommand,
+    other: &'static str,
+) -> Result<Vec<(&'static str, &'static str)>, AllocError> {
+    let mut known = Vec::new(alloc);
+    for row in options() {
+        if row.of.has(command) && !row.heading.is_empty() {
+            let meant = match command {
+                Subcommand::Count => row.example,
+                Subcommand::Explain | Subcommand::Check => other,
+            };
+            known.push((row.name, meant))?;
+        }
+    }
+    Ok(known)
 }
 
-/// Makes the advice for an unknown argument: the option that is close if it is a long option, or else this command.
+/// Makes the advice for an unknown argument: the option that is close if it is a long option, or else this use of the command.
 fn option_or(
     alloc: Global,
     problem: &str,
-    options: &'static [(&'static str, &'static str)],
-    command: &str,
+    command: Subcommand,
+    other: &'static str,
 ) -> Result<Advice, AllocError> {
     let unknown = quoted(problem);
     if !unknown.starts_with("--") {
-        return example(alloc, command);
+        return example(alloc, other);
     }
-    match near(alloc, unknown, "argument", options)? {
-        Some(advice) => Ok(advice),
-        None => example(alloc, command),
-    }
+    let known = known_options(alloc, command, other)?;
+    let Some((name, meant)) = near_name(alloc, unknown, &known)? else {
+        return example(alloc, other);
+    };
+    let tip = format!(in alloc; "a similar argument exists: '--{name}'")?;
+    with_tip(alloc, tip, meant)
 }
 
 /// Returns what the program does without an unknown option, if that is what the option may have meant.
@@ -260,7 +237,7 @@ pub(crate) fn count<W: AsStr>(
         let parts = count_of_parts(alloc, words)?;
         return example(alloc, &parts);
     }
-    option_or(alloc, problem, COUNTS, COUNT)
+    option_or(alloc, problem, Subcommand::Count, COUNT)
 }
 
 /// Makes the advice for a first argument that is no command, nor close to one.
@@ -284,20 +261,22 @@ pub(crate) fn command(alloc: Global, first: &str) -> Result<Advice, AllocError> 
     if let Some(meant) = word_meant(first) {
         return example(alloc, meant);
     }
-    match near(alloc, first, "command", COMMANDS)? {
-        Some(advice) => Ok(advice),
-        None => count_of(alloc, first),
-    }
+    let Some((name, meant)) = near_name(alloc, first, COMMANDS)? else {
+        return count_of(alloc, first);
+    };
+    let tip = format!(in alloc; "a similar command exists: '{name}'")?;
+    with_tip(alloc, tip, meant)
 }
 
 /// Returns the name in help of the value of an option of `lc explain` that takes the next argument.
 fn value_name(option: &str) -> Option<&'static str> {
-    match option {
-        "--exclude" | "--include" => Some("PATTERN"),
-        "--exclude-from" => Some("FILE"),
-        "--without" => Some("ATTR[=VALUE]"),
-        _ => None,
+    let name = option.strip_prefix("--").unwrap_or("");
+    for row in options() {
+        if row.of.has(Subcommand::Explain) && row.name == name && !row.value.is_empty() {
+            return Some(row.value);
+        }
     }
+    None
 }
 
 /// Says which argument was read as the value of an option, if one was. Of several it names the last.
@@ -325,10 +304,10 @@ pub(crate) fn explain<W: AsStr>(
             return with_tip(alloc, tip, EXPLAIN);
         }
     }
-    option_or(alloc, problem, EXPLANATIONS, EXPLAIN)
+    option_or(alloc, problem, Subcommand::Explain, EXPLAIN)
 }
 
 /// Finds the check that refused arguments of `lc check` may have meant. `problem` is what clap says is wrong.
 pub(crate) fn check(alloc: Global, problem: &str) -> Result<Advice, AllocError> {
-    option_or(alloc, problem, CHECKS, CHECK)
+    option_or(alloc, problem, Subcommand::Check, CHECK)
 }

@@ -160,12 +160,7 @@ fn format_of(alloc: Global, name: Option<&str>) -> Result<Option<Format>, ParseE
         return Ok(None);
     };
     match format_named(name) {
-        None => Err(refused(
-            alloc,
-            "--format <FORMAT>",
-            name,
-            "\n  [possible values: tsv, table, json, csv, markdown, html]",
-        )),
+        None => Err(refused(alloc, "format", name, "")),
         format => Ok(format),
     }
 }
@@ -178,7 +173,7 @@ fn columns_of(alloc: Global, names: Option<&str>, depth: Option<u32>) -> Result<
     let Some(columns) = columns_named(names, depth.unwrap_or(1)) else {
         return Err(refused(
             alloc,
-            "--by <COLUMNS>",
+            "by",
             names,
             ": choose from dir, ext, text and eol, each once, separated by commas",
         ));
@@ -197,12 +192,7 @@ fn sort_of(alloc: Global, name: Option<&str>) -> Result<Option<Order>, ParseExit
         return Ok(None);
     };
     match order_named(name) {
-        None => Err(refused(
-            alloc,
-            "--sort <COLUMN>",
-            name,
-            "\n  [possible values: name, files, lines, blank, bytes]",
-        )),
+        None => Err(refused(alloc, "sort", name, "")),
         sort => Ok(sort),
     }
 }

@@ -33,6 +33,7 @@ fn write_name(
 }
 
 /// Writes the member of a value in a column, where it has one.
+#[inline(always)]
 fn write_value(
     text: &mut JsonText,
     joined: &mut Vec<u8>,
@@ -52,6 +53,7 @@ fn write_value(
     Ok(())
 }
 
+#[inline(always)]
 fn write_column<L: Lines>(
     text: &mut JsonText,
     joined: &mut Vec<u8>,

@@ -14,6 +14,9 @@ use lc_sheet::{Column, Form, Lines, Section, Sheet, Value};
 use lc_text::{push_name, push_path};
 use std::alloc::{AllocError, Global};
 
+/// About what the line of a file takes, in bytes. Room for all lines at once spares most copies of the text while it grows.
+const LINE_ROOM: usize = 64;
+
 fn push_number(text: &mut Vec<u8>, number: u128) -> Result<(), AllocError>
     ensures { OnOk result (text.new.items ≡ text.old.items ++ decimal number) }
 {
@@ -169,6 +172,7 @@ fn push_tagged_section<L: Lines>(
     ensures { OnOk result (text.new.items ≡ text.old.items ++ tagged_lines tag.now section.now) }
 {
     let (form, columns, lines) = section.parts();
+    text.reserve(lines.len().saturating_mul(LINE_ROOM))?;
     push_tagged_lines::<L>(text, tag, form, columns, lines)
 }
 

@@ -1,8 +1,8 @@
-use Rattle.std.proofs.Common.{codes, subst, sym}
+use Rattle.std.proofs.Common.{codes}
 use Rattle.std.proofs.lemmas.Result.{IfOk-weaker}
 use Rattle.clap.specs.Built.{AddsArg, AddsInTurn}
 use Rattle.lc_arguments.specs.CommandLine.{check_app, check_rules}
-use Rattle.lc_arguments.specs.CountArgs.{AreArgsOf, IsCommandOf}
+use Rattle.lc_arguments.specs.CountArgs.{IsCommandOf}
 use Rattle.lc_arguments.proofs.CommandRules.{given, seen_with}
 use Rattle.lc_arguments.proofs.check.command.Goals as goal
 
@@ -10,8 +10,7 @@ pub returns : goal.returns
 returns c =
     let args = c.in_ok-args.args.items in
     let bare = c.in_ok-command.command in
-    let are = subst (AreArgsOf check_rules) (sym c.in_ok-args.ensures.items) c.args-2.ensures in
     IfOk-weaker c.args-3.result (AddsInTurn AddsArg bare args) (IsCommandOf check_app)
     (λ command added. seen_with (codes "check") check_rules command
-    (given (codes "check") check_rules bare args command c.in_ok-command.ensures are added))
+    (given (codes "check") check_rules bare args command c.in_ok-command.ensures c.in_ok-args.ensures added))
     c.args-3.ensures

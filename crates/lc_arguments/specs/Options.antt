@@ -1,0 +1,98 @@
+-- The arguments of all commands, as clap sees them.
+use Rattle.std.specs.Prelude.{ℕ, Bool, true, false, List, [], ◌∷◌, Option, Some, None, option_map, codes}
+use Rattle.lc_arguments.specs.declared.option_row.Commands.{Commands}
+use Rattle.lc_arguments.specs.declared.option_row.Kind.{Kind}
+use Rattle.lc_arguments.specs.declared.option_row.Kind.TheVariants.{Flag, Text, Texts, Number, Word, OptionalWord, Words}
+use Rattle.lc_arguments.specs.declared.option_row.OptionRow.{OptionRow}
+use Rattle.lc_arguments.specs.declared.option_row.Subcommand.{Subcommand}
+use Rattle.lc_arguments.specs.declared.option_row.Subcommand.TheVariants.{Count, Explain, Check}
+
+-- an argument: its name, its letter, its kind, its default, and the commands that have it
+pub record OptionModel : Type 0 where
+  pub name : List ℕ
+  pub letter : Option ℕ
+  pub kind : Kind
+  pub default : Option (List ℕ)
+  pub of : Commands
+
+-- what a row says to clap
+abbrev pub option_model : OptionRow → OptionModel
+option_model row = record {
+  name = row.name.now;
+  letter = row.short;
+  kind = row.kind;
+  default = option_map (λ text. text.now) row.default;
+  of = row.of;
+}
+
+-- a command is among these
+abbrev pub is_of : Subcommand → Commands → Bool
+is_of Count commands = commands.count
+is_of Explain commands = commands.explain
+is_of Check commands = commands.check
+
+abbrev pub count : Commands
+count = record { count = true; explain = false; check = false }
+
+abbrev pub explain : Commands
+explain = record { count = false; explain = true; check = false }
+
+abbrev pub check : Commands
+check = record { count = false; explain = false; check = true }
+
+-- the commands that skip entries
+abbrev pub filters : Commands
+filters = record { count = true; explain = true; check = false }
+
+-- the commands that read paths from standard input
+abbrev pub input : Commands
+input = record { count = false; explain = true; check = true }
+
+-- the most rows and files that are asked for
+abbrev pub max_top : ℕ
+max_top = 4294967295
+
+-- the most segments of a row's directory
+abbrev pub max_depth : ℕ
+max_depth = 256
+
+-- the most threads of a count, and the most directories
+abbrev pub max_threads : ℕ
+max_threads = 16
+
+abbrev pub max_dirs : ℕ
+max_dirs = 1048576
+
+-- an argument with this name, letter, kind and default, of these commands
+abbrev pub option : List ℕ → Option ℕ → Kind → Option (List ℕ) → Commands → OptionModel
+option name letter kind default of = record { name = name; letter = letter; kind = kind; default = default; of = of }
+
+abbrev pub options : List OptionModel
+options =
+    option (codes "exclude") None Texts None filters
+    ∷ option (codes "exclude-from") None Text None filters
+    ∷ option (codes "include") None Texts None filters
+    ∷ option (codes "no-ignore") None Flag None filters
+    ∷ option (codes "archive") None Flag None filters
+    ∷ option (codes "without") None Texts None filters
+    ∷ option (codes "only") None Texts None count
+    ∷ option (codes "only-from") None Text None count
+    ∷ option (codes "null") (Some 48) Flag None count
+    ∷ option (codes "one-file-system") (Some 120) Flag None count
+    ∷ option (codes "files") None Flag None count
+    ∷ option (codes "left-out") None Flag None count
+    ∷ option (codes "format") None Text None count
+    ∷ option (codes "by") None Text None count
+    ∷ option (codes "depth") None (Number max_depth) None count
+    ∷ option (codes "sort") None Text None count
+    ∷ option (codes "top") None (Number max_top) None count
+    ∷ option (codes "share") None Flag None count
+    ∷ option (codes "threads") (Some 106) (Number max_threads) (Some (codes "4")) count
+    ∷ option (codes "max-dirs") None (Number max_dirs) (Some (codes "65536")) count
+    ∷ option (codes "DIR") None OptionalWord (Some (codes ".")) count
+    ∷ option (codes "explain") None Flag None check
+    ∷ option (codes "null") (Some 48) Flag None input
+    ∷ option (codes "DIR") None Word None explain
+    ∷ option (codes "PATH") None Words None explain
+    ∷ option (codes "FILE") None Word None check
+    ∷ []

@@ -1,0 +1,153 @@
+//! What a row of the table of options says.
+
+ghost use Rattle.std.specs.Prelude.{◌≡◌};
+ghost use Rattle.lc_arguments.specs.Options.{is_of};
+
+/// A command that has arguments.
+#[derive(Clone, Copy)]
+pub(crate) enum Subcommand {
+    /// `lc count`
+    Count,
+    /// `lc explain`
+    Explain,
+    /// `lc check`
+    Check,
+}
+
+/// The commands that have an argument.
+#[derive(Clone, Copy)]
+pub struct Commands {
+    /// `lc count` has it.
+    pub count: bool,
+    /// `lc explain` has it.
+    pub explain: bool,
+    /// `lc check` has it.
+    pub check: bool,
+}
+
+impl Commands {
+    /// Returns whether a command is among these.
+    pub(crate) fn has(self, command: Subcommand) -> bool
+        ensures { result ≡ is_of command self }
+    {
+        match command {
+            Subcommand::Count => self.count,
+            Subcommand::Explain => self.explain,
+            Subcommand::Check => self.check,
+        }
+    }
+}
+
+/// `lc count` alone.
+pub(crate) const COUNT: Commands = Commands {
+    count: true,
+    explain: false,
+    check: false,
+};
+
+/// `lc explain` alone.
+pub(crate) const EXPLAIN: Commands = Commands {
+    count: false,
+    explain: true,
+    check: false,
+};
+
+/// `lc check` alone.
+pub(crate) const CHECK: Commands = Commands {
+    count: false,
+    explain: false,
+    check: true,
+};
+
+/// The commands that skip entries.
+pub(crate) const FILTERS: Commands = Commands {
+    count: true,
+    explain: true,
+    check: false,
+};
+
+/// The commands that read paths from standard input.
+pub(crate) const INPUT: Commands = Commands {
+    count: false,
+    explain: true,
+    check: true,
+};
+
+/// The kind of an argument, and of its value.
+#[derive(Clone, Copy)]
+pub enum Kind {
+    /// An option without a value.
+    Flag,
+    /// An option with a text.
+    Text,
+    /// An option with a text that may be repeated.
+    Texts,
+    /// An option with a number from 1 to this one.
+    Number(u32),
+    /// A required argument without a hyphen.
+    Word,
+    /// An argument without a hyphen that has a default.
+    OptionalWord,
+    /// Any number of arguments without a hyphen.
+    Words,
+}
+
+/// What a shell completes the value of an option with.
+#[derive(Clone, Copy)]
+pub enum Completes {
+    /// Nothing.
+    Nothing,
+    /// The path of a file.
+    Files,
+    /// One of these words.
+    Words(&'static [&'static str]),
+    /// One of these words, which are the only values, each with its meaning.
+    Meanings(&'static [(&'static str, &'static str)]),
+    /// Some of these words, separated by commas.
+    List(&'static [&'static str]),
+}
+
+/// An argument of some commands: what clap reads, and what help, usage errors, the manual page and completions show.
+#[derive(Clone, Copy)]
+pub struct OptionRow {
+    /// The long name without its hyphens, or the name of an argument without a hyphen.
+    pub name: &'static str,
+    /// The letter of the short name.
+    pub short: Option<char>,
+    /// The name of the value in help.
+    pub value: &'static str,
+    /// The kind of the argument and of its value.
+    pub kind: Kind,
+    /// The value if none is given.
+    pub default: Option<&'static str>,
+    /// The commands that have it.
+    pub of: Commands,
+    /// The heading above it in help. An argument without a hyphen has none.
+    pub heading: &'static str,
+    /// The line of `-h`.
+    pub help: &'static str,
+    /// The paragraph of `--help`.
+    pub long_help: &'static str,
+    /// What completions show beside the option, if it is not `help`.
+    pub brief: &'static str,
+    /// A count with it, which usage errors of `lc count` suggest.
+    pub example: &'static str,
+    /// What a shell completes the value with.
+    pub completes: Completes,
+}
+
+/// A flag of `lc count`: what a row has that does not say otherwise.
+pub(crate) const FLAG: OptionRow = OptionRow {
+    name: "",
+    short: None,
+    value: "",
+    kind: Kind::Flag,
+    default: None,
+    of: COUNT,
+    heading: "",
+    help: "",
+    long_help: "",
+    brief: "",
+    example: "",
+    completes: Completes::Nothing,
+};
