@@ -45,7 +45,9 @@ use Rattle.lc_rows.specs.SheetColumns.{column_if, fault_columns, key_columns, li
 use Rattle.lc_rows.specs.SheetColumns.{share_columns}
 use Rattle.lc_rows.specs.Sheets.{form_of, others_lines, section_of, sheet_of, totals_lines}
 use Rattle.lc_rows.specs.Views.{ViewModel}
-use Rattle.lc_rows.specs.Words.{eol_word, kind_word, reason_word, skipped_end}
+use Rattle.lc_census.specs.EolWords.{eol_word}
+use Rattle.lc_level.specs.ReasonWords.{reason_word}
+use Rattle.lc_rows.specs.Words.{kind_word, skipped_end}
 use Rattle.lc_formats.specs.Layouts.{has_no_end}
 use Rattle.lc_formats.specs.Readable.{AreBytes, AreReadable, AreRows, EndsInNumbers, IsListed, IsNumeral, IsPlain, IsReadable, IsTabular}
 use Rattle.lc_laws.specs.SheetReadable.{HasByteName, HasByteNames, HasSkippedBytes, IsReadableSheet, ReadableSheetLaw}
@@ -192,8 +194,7 @@ line_numbers f keys b a l n m e1 e2 e3 e4 share bar =
     let more = map f (more_columns b) in
     let N : ValueModel → Type 0 = IsNumeral in
     let parts = map-append f (keys ++ number_columns) (more_columns b)
-    ∙ ap (λ (vs : List ValueModel). vs ++ more) (map-append f keys number_columns) ∙ append_assoc (map f keys) (map f number_columns) more in
-    (
+    ∙ ap (λ (vs : List ValueModel). vs ++ more) (map-append f keys number_columns) ∙ append_assoc (map f keys) (map f number_columns) more in (
       map f keys,
       number l ∷ number n ∷ number m ∷ more,
       a,

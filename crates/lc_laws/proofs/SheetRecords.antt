@@ -26,7 +26,7 @@ made_with : {X : Type 0} (value : X → Column → ValueModel) (columns : List C
 made_with value columns lines some = record {
   some = some;
   each = All-map (λ (values : List ValueModel). length values ≡ length columns) (line_of value columns) lines
-    (λ k d within. length-map columns (value (slice_index_or lines k d)));
+      (λ k d within. length-map columns (value (slice_index_or lines k d)));
 }
 
 more_than : (columns : List Column) (m n : ℕ) → length columns ≡ m + 4 + n → 0 < length columns
@@ -37,7 +37,7 @@ row_columns_some options =
     let keys = key_columns (keeps_columns options.format) options.by in
     let shares : List Column = if options.share then share_columns options.format else [] in
     let e1 : length (keys ++ number_columns ++ shares) ≡ length (keys ++ number_columns) + length shares
-      = length-append (keys ++ number_columns) shares in
+    = length-append (keys ++ number_columns) shares in
     let e2 : length (keys ++ number_columns) ≡ length keys + 4 = length-append keys number_columns in
     more_than (row_columns options) (length keys) (length shares) (e1 ∙ ap (λ n. n + length shares) e2)
 
@@ -60,8 +60,8 @@ file_columns_some Html by = omega arith
 module _ (options : TableOptions) (r : Report) (v : ViewModel) where
   at : (files left_out : Bool)
       → HasColumns (section_among
-        (if files then Some (section_of (file_value (form_of options r.totals v.rows)) (file_columns options.format options.by) v.files) else None)
-        (record (sheet_of options r v) { entries = if left_out then Some r.entries else None }))
+      (if files then Some (section_of (file_value (form_of options r.totals v.rows)) (file_columns options.format options.by) v.files) else None)
+      (record (sheet_of options r v) { entries = if left_out then Some r.entries else None }))
   at true left_out =
       made_with (file_value (form_of options r.totals v.rows)) (file_columns options.format options.by) v.files
       (file_columns_some options.format options.by)
