@@ -47,7 +47,7 @@ use Rattle.lc_rows.specs.Sheets.{form_of, others_lines, section_of, sheet_of, to
 use Rattle.lc_rows.specs.Views.{ViewModel}
 use Rattle.lc_census.specs.EolWords.{eol_word}
 use Rattle.lc_level.specs.ReasonWords.{reason_word}
-use Rattle.lc_rows.specs.Words.{kind_word, skipped_end}
+use Rattle.lc_rows.specs.Words.{skipped_end}
 use Rattle.lc_formats.specs.Layouts.{has_no_end}
 use Rattle.lc_formats.specs.Readable.{AreBytes, AreReadable, AreRows, EndsInNumbers, IsListed, IsNumeral, IsPlain, IsReadable, IsTabular}
 use Rattle.lc_laws.specs.SheetReadable.{HasByteName, HasByteNames, HasSkippedBytes, IsReadableSheet, ReadableSheetLaw}

@@ -5,9 +5,9 @@ ghost use Rattle.std.specs.Cow.{cow_str_bytes};
 ghost use Rattle.lc_program.specs.Causes.{HasNumber, cause_line, check_cause, print_cause, rules_cause, run_cause, unread_paths_line};
 ghost use Rattle.lc_program.specs.declared.cause.Cause.TheVariants.{Memory};
 
+use crate::runs::RunFault;
 use crate::unread_reason::UnreadReason;
 use lc_level::RulesFileFault;
-use crate::runs::RunFault;
 use lc_text::{CheckFault, PrintFault};
 use lc_walk::WalkFault;
 use std::alloc::{AllocError, AllocFailed, Global};

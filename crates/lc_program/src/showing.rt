@@ -12,11 +12,7 @@ use lc_text::{PrintFault, Sink, print};
 use lc_walk::Report;
 use std::alloc::{AllocError, Global};
 
-fn text_in(
-    alloc: Global,
-    format: Format,
-    sheet: &ReportSheet<'_>,
-) -> Result<Vec<u8>, AllocError>
+fn text_in(alloc: Global, format: Format, sheet: &ReportSheet<'_>) -> Result<Vec<u8>, AllocError>
     requires sheet { is_picture format ≡ false }
     ensures { IfOk result (λ text. IsTextIn format sheet.now text.items) }
 {

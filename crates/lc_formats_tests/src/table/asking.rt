@@ -5,9 +5,9 @@ ghost use Rattle.lc_walk.specs.WalkOptions.{AreWithinLimits};
 
 use lc_board::{Locked, Shared, Words};
 use lc_level::Job;
+use lc_program::{RunFault, run, table};
 use lc_rules::IgnoreFile;
 use lc_sheet::{Columns, Format, TableOptions};
-use lc_program::{RunFault, run, table};
 use lc_text::Outcome;
 use lc_text::trials::{Narrow, WhenFull};
 use lc_tree::trials::BytewiseTree;

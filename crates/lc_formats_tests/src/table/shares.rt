@@ -4,9 +4,9 @@ use crate::table::asking::TSV;
 use crate::table::screens::EMPTY;
 use crate::table::tables::{Case, NONE, compare_as_asked};
 use lc_census::Eol;
+use lc_formats::push_number;
 use lc_rules::TextState;
 use lc_sheet::{Format, Number, TableOptions};
-use lc_formats::push_number;
 use std::test::Fail;
 
 const SHARES: TableOptions = TableOptions {

@@ -3,9 +3,9 @@
 use crate::table::asking::{HEADER, TSV};
 use lc_census::{Count, Eol};
 use lc_level::FaultWord;
+use lc_program::{report_text, table};
 use lc_rules::TextState;
 use lc_sheet::TableOptions;
-use lc_program::{report_text, table};
 use lc_text::PrintFault;
 use lc_text::trials::{Narrow, WRITERS, WhenFull};
 use lc_walk::{FaultLine, FileLine, Report, ReportLists, Sums, TallyRow};
