@@ -1,9 +1,8 @@
-use Rattle.std.proofs.Common.{◌∙◌, List, ap, subst, sym}
+use Rattle.std.proofs.Common.{◌∙◌, List, ap, map, subst, sym, take}
 use Rattle.clap.specs.declared.builder.arg.Arg.{Arg}
-use Rattle.lc_arguments.specs.Options.{option_model}
-use Rattle.std.proofs.Common.{map, take}
 use Rattle.lc_arguments.specs.CommandLine.{rules_in}
 use Rattle.lc_arguments.specs.CountArgs.{AreArgsOf}
+use Rattle.lc_arguments.specs.Options.{option_model}
 use Rattle.lc_arguments.proofs.CommandRules.{none_more, one_more}
 use Rattle.lc_arguments.proofs.arguments.args_of.Goals as goal
 use Rattle.lc_arguments.proofs.arguments.args_of.Goals.{then-has+in_ok-push, else-has}
