@@ -1,11 +1,8 @@
 -- What a history says without its values.
 use Rattle.std.proofs.Common.{◌≡◌, ℕ, ◌<◌, ◌==◌, cond, Bool, true, false, List, [], ◌∷◌, ◌++◌, map, refl, sym, ◌∙◌, ap, subst}
 use Rattle.std.proofs.lemmas.List.{map-append}
-use Rattle.lc_board.specs.State.{Open, Claimed, Returned, Faulted, status}
-use Rattle.lc_board.specs.Part.{part, worker_of}
-use Rattle.lc_board.specs.LegalHistory.{posts_under, IsAllowed, IsLegal}
-use Rattle.lc_board.specs.Bare.{bare, BareEvent}
-use Rattle.lc_board.specs.declared.event.Event.{Event}
+use Rattle.lc_board.specs.{State.{Open, Claimed, Returned, Faulted, status}, Part.{part, worker_of}}
+use Rattle.lc_board.specs.{LegalHistory.{posts_under, IsAllowed, IsLegal}, Bare.{bare, BareEvent}, declared.event.Event.Event}
 use Rattle.lc_board.specs.declared.event.Event.TheVariants.{Post, Claim, Return, Fault, Over}
 
 module _ {J : Type 0} where
@@ -25,10 +22,7 @@ module _ {J R : Type 0} where
   -- an event without its values is of the same worker
   pub worker_bare : (e : Event J R) → worker_of (bare e) ≡ worker_of e
   worker_bare (Post w p i j) = refl
-  worker_bare (Claim w i j) = refl
-  worker_bare (Return w i r) = refl
-  worker_bare (Fault w i r) = refl
-  worker_bare (Over w) = refl
+  worker_bare _ = refl
 
   -- values say nothing of a number's status
   pub status_bare : (h : List (Event J R)) (k : ℕ) → status (map bare h) k ≡ status h k
@@ -43,10 +37,7 @@ module _ {J R : Type 0} where
   pub posts_bare : (p : ℕ) (h : List (Event J R)) → map numbered (posts_under p h) ≡ posts_under p (map bare h)
   posts_bare p [] = refl
   posts_bare p (Post w q i j ∷ h) = more_posts (p == q) (posts_under p h) (posts_under p (map bare h)) i j (posts_bare p h)
-  posts_bare p (Claim w i j ∷ h) = posts_bare p h
-  posts_bare p (Return w i r ∷ h) = posts_bare p h
-  posts_bare p (Fault w i r ∷ h) = posts_bare p h
-  posts_bare p (Over w ∷ h) = posts_bare p h
+  posts_bare p (_ ∷ h) = posts_bare p h
 
   allowed_bare : (c : ℕ) (h : List (Event J R)) (e : Event J R) → IsAllowed c h e → IsAllowed c (map bare h) (bare e)
   allowed_bare c h (Post w p i j) a = (status_bare h p ∙ a.0, status_bare h i ∙ a.1, a.2, a.3)

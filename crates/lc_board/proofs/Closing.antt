@@ -1,40 +1,18 @@
 -- What a close answers, of a stored history and the passes.
-use Rattle.std.proofs.Common.{◌≡◌, ◌≢◌, ℕ, zero, suc, List, [], ◌∷◌, map, length, slice_get, Some, refl, sym, ◌∙◌, ap, subst}
-use Rattle.std.proofs.lemmas.List.{length-map}
-use Rattle.lc_board.specs.Part.{part}
-use Rattle.lc_board.specs.Bare.{bare, BareEvent}
-use Rattle.lc_board.specs.State.{Status, Open, Claimed, status}
-use Rattle.lc_board.specs.LegalHistory.{IsLegal, IsOver}
-use Rattle.lc_board.specs.PlainBoard.{Board, IsAfter}
-use Rattle.lc_board.specs.PlainCalls.{RefusesRows, IsLeftLeast, NoneLeft, cell_of}
-use Rattle.lc_board.specs.Pass.{Pass}
-use Rattle.lc_board.specs.Numbers.{HasNumbers}
-use Rattle.lc_board.specs.RecordedCalls.{RefusesMemory, RefusesRecorded, IsReady, locked_promises}
-use Rattle.lc_board.specs.declared.plain.cell.Cell.{Cell}
-use Rattle.lc_board.specs.ClosedBoard.{Settled, Unfinished, Differs, IsUnended}
-use Rattle.lc_board.specs.declared.event.Event.{Event}
-use Rattle.lc_board.specs.RecordedBoard.{Record}
-use Rattle.lc_board.specs.declared.answers.CloseFault.{CloseFault}
+use Rattle.std.proofs.Common.{◌≡◌, ◌≢◌, ℕ, List, map, length, slice_get, Some, refl, sym, ◌∙◌, ap, subst}
+use Rattle.std.proofs.{Common.option_map, lemmas.{List.length-map, Option.slice_get-map}}
+use Rattle.lc_board.specs.{Part.part, Bare.{bare, BareEvent}, LegalHistory.{IsLegal, IsOver}}
+use Rattle.lc_board.specs.{PlainBoard.{Board, IsAfter}, PlainCalls.{RefusesRows, IsLeftLeast, NoneLeft, cell_of}, Pass.Pass}
+use Rattle.lc_board.specs.{Numbers.HasNumbers, RecordedCalls.{RefusesMemory, RefusesRecorded, IsReady, locked_promises}}
+use Rattle.lc_board.specs.declared.{plain.cell.Cell.Cell, event.Event.Event, answers.{CloseFault.CloseFault, Ended.Ended}}
+use Rattle.lc_board.specs.{ClosedBoard.{Settled, Unfinished, Differs}, RecordedBoard.Record}
 use Rattle.lc_board.specs.declared.answers.CloseFault.TheVariants as close
-use Rattle.lc_board.specs.declared.answers.Ended.{Ended}
-use Rattle.lc_board.proofs.PlainSteps.{has_numbers, rows_placed, rows_shown, left_status, gone_status}
-use Rattle.lc_board.proofs.BareHistories.{part_bare}
-use Rattle.lc_board.proofs.Weaving.{settled}
-
-get_map : {X Y : Type 0} (f : X → Y) (xs : List X) (i : ℕ) (y : Y) → slice_get (map f xs) i ≡ Some y
-    → (x : X) × (slice_get xs i ≡ Some x) × (f x ≡ y)
-get_map f [] i y h = absurd (cc h)
-get_map f (x ∷ xs) zero y h = (x, refl, cc h)
-get_map f (x ∷ xs) (suc i) y h = get_map f xs i y h
+use Rattle.lc_board.proofs.{PlainSteps.{unended, has_numbers, rows_placed, rows_shown, left_status, gone_status}, BareHistories.part_bare}
+use Rattle.lc_board.proofs.{Weaving.settled, ReturnedPasses.mapped_from}
 
 -- what lies at a place of a mapped list
 pub map_get : {X Y : Type 0} (f : X → Y) (xs : List X) (i : ℕ) (x : X) → slice_get xs i ≡ Some x → slice_get (map f xs) i ≡ Some (f x)
-map_get f [] i x h = absurd (cc h)
-map_get f (y ∷ xs) zero x h = let e : y ≡ x = cc h in ap (λ z. Some (f z)) e
-map_get f (y ∷ xs) (suc i) x h = map_get f xs i x h
-
-unended : (s : Status) → ¬ IsUnended s → (s ≢ Open) × ((w : ℕ) → s ≢ Claimed w)
-unended s n = (λ e. n (subst IsUnended (sym e) tt), λ w e. n (subst IsUnended (sym e) tt))
+map_get f xs i x h = slice_get-map f xs i ∙ ap (option_map f) h
 
 module _ {J R : Type 0} where
   -- the history that the board stands for is legal for its capacity and its workers
@@ -55,7 +33,7 @@ module _ {J R : Type 0} where
 
   -- where nothing is left the history is over
   pub over_when : (root : J) (h : List (Event J R)) (b : Board J R) → IsAfter root h b → NoneLeft b → IsOver h
-  over_when root h b a none k = unended (status h k) (gone_status root h b k a (none k))
+  over_when root h b a none k = unended _ _ refl (gone_status root h b k a (none k))
 
   -- where a pass's list is not its part of the stored history, the passes have no common history
   pub differs : {P : Type 0} (view : P → Pass J R) (c n w : ℕ) (ps : List P) (p : P) (root : J) (h : List (Event J R))
@@ -86,7 +64,7 @@ module _ {J R : Type 0} where
       settled c n root (map view ps) h es rows (legal_at c n first h b a same count) (rows_placed first h b rows a cells).0
       (numbers_of_rows first h b rows a cells) (rows_shown first h b rows a cells) is
       (length-map ps view ∙ len)
-      (λ w v at. let there = get_map view ps w v at in subst (λ (u : Pass J R). part w es ≡ map bare u.mine) there.2
+      (λ w v at. let there = mapped_from view ps w v at in subst (λ (u : Pass J R). part w es ≡ map bare u.mine) there.2
       (each w there.0 there.1))
 
   -- the pass of a worker tells something else than the history
@@ -104,7 +82,7 @@ module _ {J R : Type 0} where
       → IsReady (record { board = b; history = es }) (map view ps)
   ready view ps b es none each = record {
     none_left = none;
-    agrees = λ w v at. let there = get_map view ps w v at in subst (λ (u : Pass J R). part w es ≡ map bare u.mine) there.2
+    agrees = λ w v at. let there = mapped_from view ps w v at in subst (λ (u : Pass J R). part w es ≡ map bare u.mine) there.2
         (each w there.0 there.1);
   }
 

@@ -1,14 +1,9 @@
 -- The last event of a stored history against the last note of a pass.
 use Rattle.std.proofs.Common.{◌≡◌, ◌≢◌, ℕ, List, [], ◌∷◌, ◌++◌, map, sym, ◌∙◌, ap}
 use Rattle.std.specs.declared.snapshot.Snapshot.{Snapshot}
-use Rattle.lc_board.specs.Part.{part, worker_of}
-use Rattle.lc_board.specs.Bare.{BareEvent, bare}
-use Rattle.lc_board.specs.Notes.{valued, mine_of}
-use Rattle.lc_board.specs.NewestFirst.{newest_first}
-use Rattle.lc_board.specs.ComparedPass.{IsSame}
-use Rattle.lc_board.specs.declared.event.Event.{Event}
-use Rattle.lc_board.proofs.Places.{at_same}
-use Rattle.lc_board.proofs.NewestFirst.{newest_push, mine_push}
+use Rattle.lc_board.specs.{Part.{part, worker_of}, Bare.{BareEvent, bare}, Notes.{valued, mine_of}, NewestFirst.newest_first}
+use Rattle.lc_board.specs.{ComparedPass.IsSame, declared.event.Event.Event}
+use Rattle.lc_board.proofs.{Places.at_same, NewestFirst.{newest_push, mine_push}}
 
 -- the worker's own last event is the newest of its part
 own_last : (w : ℕ) (before : List BareEvent) (e : BareEvent) → worker_of e ≡ w

@@ -2,21 +2,14 @@
 use Rattle.std.proofs.Common.{◌≡◌, ◌≢◌, ℕ, ◌==◌, Bool, true, false, cond, List, [], ◌∷◌, ◌++◌, refl, sym, ◌∙◌, ap, subst, Option, Some}
 use Rattle.std.proofs.Common.{None}
 use Rattle.std.specs.List.{AllByRecursion}
-use Rattle.lc_board.specs.State.{Status, Absent, Open, Claimed, Returned, Faulted, status}
-use Rattle.lc_board.specs.Part.{part}
-use Rattle.lc_board.specs.LegalHistory.{IsLegal}
-use Rattle.lc_board.specs.RowsInPlace.{row_given}
-use Rattle.lc_board.specs.Ends.{ends, ender}
-use Rattle.lc_board.specs.Laws.{GivenAs, SaysSame, EndedStays}
-use Rattle.lc_board.specs.declared.event.Event.{Event}
-use Rattle.lc_board.specs.declared.event.Event.TheVariants.{Post, Claim, Return, Fault, Over}
-use Rattle.lc_board.specs.declared.answers.Ended.{Ended}
+use Rattle.lc_board.specs.{State.{Status, Absent, Open, Claimed, Returned, Faulted, status}, Part.part, LegalHistory.IsLegal}
+use Rattle.lc_board.specs.{RowsInPlace.row_given, Ends.{ends, ender}, Laws.{GivenAs, SaysSame, EndedStays}, declared.event.Event.Event}
+use Rattle.lc_board.specs.declared.{event.Event.TheVariants.{Post, Claim, Return, Fault, Over}, answers.Ended.Ended}
 use Rattle.lc_board.specs.declared.answers.Ended.TheVariants as ended
-use Rattle.lc_board.proofs.Places.{at_same, at_other}
-use Rattle.lc_board.proofs.NumbersOnce.{ended_has_row}
-use Rattle.lc_board.proofs.Weights.{each-map}
+use Rattle.lc_board.proofs.{Places.{at_same, at_other}, NumbersOnce.ended_has_row, Weights.each-map}
 
-none_some : {A : Type 0} (x : A) → None ≡ Some x → ⊥
+-- nothing is not something
+pub none_some : {A : Type 0} (x : A) → None ≡ Some x → ⊥
 none_some x e = absurd (cc e)
 
 -- neither absent nor open nor claimed
@@ -30,11 +23,9 @@ pub record IsPast (s : Status) : Type 0 where
 
 -- a number that has a row has ended
 past : {R : Type 0} (s : Status) (o : Option (Ended R)) (e : Ended R) → GivenAs s o → o ≡ Some e → IsPast s
-past Absent o e g is = absurd (none_some e (sym g ∙ is))
-past Open o e g is = absurd (none_some e (sym g ∙ is))
-past (Claimed w) o e g is = absurd (none_some e (sym g ∙ is))
 past Returned o e g is = record { there = λ x. absurd (cc x); shut = λ x. absurd (cc x); free = λ w x. absurd (cc x) }
 past Faulted o e g is = record { there = λ x. absurd (cc x); shut = λ x. absurd (cc x); free = λ w x. absurd (cc x) }
+past _ o e g is = absurd (none_some e (sym g ∙ is))
 
 module _ {J R : Type 0} where
   -- a number with a row has ended
@@ -75,13 +66,11 @@ module _ {J R : Type 0} where
   -- and who ended it
   pub ender_stays : (c n : ℕ) (h : List (Event J R)) (t : Event J R) → IsLegal c n (t ∷ h) → (i : ℕ) (e : Ended R)
       → row_given h i ≡ Some e → ender (t ∷ h) i ≡ ender h i
-  ender_stays c n h (Post w p k j) l i e is = refl
-  ender_stays c n h (Claim w k j) l i e is = refl
   ender_stays c n h (Return w k r) l i e is = let g = row_means_ended c n h l.0 i e is in at_other i k _ _
       (λ x. g.free w (ap (status h) x ∙ l.2))
   ender_stays c n h (Fault w k r) l i e is = let g = row_means_ended c n h l.0 i e is in at_other i k _ _
       (λ x. g.free w (ap (status h) x ∙ l.2.0))
-  ender_stays c n h (Over w) l i e is = refl
+  ender_stays c n h _ l i e is = refl
 
   -- the end is that of its number
   abbrev pub IsGiven : List (Event J R) → (ℕ × Ended R) → Type 0
@@ -93,21 +82,10 @@ module _ {J R : Type 0} where
   -- each end is that of its number
   pub ends_given : (c n : ℕ) (h : List (Event J R)) → IsLegal c n h → AllByRecursion (IsGiven h) (ends h)
   ends_given c n [] l = tt
-  ends_given c n (Post w p i j ∷ h) l =
-      each-map (IsGiven h) (IsGiven (Post w p i j ∷ h)) (still c n h (Post w p i j) l) (ends h) (ends_given c n h l.0)
-  ends_given c n (Claim w i j ∷ h) l =
-      each-map (IsGiven h) (IsGiven (Claim w i j ∷ h)) (still c n h (Claim w i j) l) (ends h) (ends_given c n h l.0)
-  ends_given c n (Return w i r ∷ h) l = (
-    at_same i i _ _ refl,
-    each-map (IsGiven h) (IsGiven (Return w i r ∷ h))
-        (still c n h (Return w i r) l) (ends h) (ends_given c n h l.0),
-  )
-  ends_given c n (Fault w i r ∷ h) l = (
-    at_same i i _ _ refl,
-    each-map (IsGiven h) (IsGiven (Fault w i r ∷ h))
-        (still c n h (Fault w i r) l) (ends h) (ends_given c n h l.0),
-  )
-  ends_given c n (Over w ∷ h) l = ends_given c n h l.0
+  ends_given c n (Return w i r ∷ h) l =
+      (at_same i i _ _ refl, each-map (IsGiven h) _ (still c n h (Return w i r) l) _ (ends_given c n h l.0))
+  ends_given c n (Fault w i r ∷ h) l = (at_same i i _ _ refl, each-map (IsGiven h) _ (still c n h (Fault w i r) l) _ (ends_given c n h l.0))
+  ends_given c n (e ∷ h) l = each-map (IsGiven h) (IsGiven (e ∷ h)) (still c n h e l) (ends h) (ends_given c n h l.0)
 
   -- a number that is claimed has no row
   pub claimed_has_no_row : (c n : ℕ) (h : List (Event J R)) → IsLegal c n h → (w i : ℕ) (e : Ended R) → status h i ≡ Claimed w

@@ -1,32 +1,18 @@
 -- From what is said of each end in its worker's part to what is said of the ends in the whole history.
-use Rattle.std.proofs.Common.{◌≡◌, ◌≢◌, ℕ, zero, suc, ◌<◌, ◌==◌, Bool, true, false, cond, List, [], ◌∷◌, length, slice_get, map, refl}
-use Rattle.std.proofs.Common.{sym, ◌∙◌, ap, subst, Option, Some, None, arith}
+use Rattle.std.proofs.Common.{◌≡◌, ◌≢◌, ℕ, ◌<◌, ◌==◌, Bool, true, false, cond, List, [], ◌∷◌, length, slice_get, map, refl, sym}
+use Rattle.std.proofs.{Common.{◌∙◌, ap, subst, Option, Some, arith}, lemmas.Option.slice_get_within}
 use Rattle.std.specs.List.{AllByRecursion}
-use Rattle.std.proofs.lemmas.Option.{slice_get_within}
-use Rattle.lc_board.specs.State.{Claimed, status}
-use Rattle.lc_board.specs.Part.{worker_of, part}
-use Rattle.lc_board.specs.LegalHistory.{posts_under, IsLegal}
-use Rattle.lc_board.specs.Holding.{job_held, posts_held}
-use Rattle.lc_board.specs.RowsInPlace.{job_got, row_given}
-use Rattle.lc_board.specs.Growth.{put}
-use Rattle.lc_board.specs.Ends.{Saying, ends, ender, EachEnd, EndsHold, RowsHold}
-use Rattle.lc_board.specs.Pass.{Pass}
-use Rattle.lc_board.specs.ClosedBoard.{Promises, Settled}
-use Rattle.lc_board.specs.declared.event.Event.{Event}
-use Rattle.lc_board.specs.declared.event.Event.TheVariants.{Post, Claim, Return, Fault, Over}
-use Rattle.lc_board.specs.declared.answers.Ended.{Ended}
+use Rattle.lc_board.specs.{State.{Claimed, status}, Part.{worker_of, part}, LegalHistory.{posts_under, IsLegal}}
+use Rattle.lc_board.specs.{Holding.{job_held, posts_held}, RowsInPlace.{job_got, row_given}, Growth.put}
+use Rattle.lc_board.specs.{Ends.{Saying, ends, ender, EachEnd, EndsHold, RowsHold}, Pass.Pass, ClosedBoard.{Promises, Settled}}
+use Rattle.lc_board.specs.declared.{event.Event.{Event, TheVariants.{Return, Fault}}, answers.Ended.Ended}
 use Rattle.lc_board.specs.declared.answers.Ended.TheVariants as ended
-use Rattle.lc_board.proofs.Places.{at_same, at_other, each}
-use Rattle.lc_board.proofs.Growths.{at_put, put_here, put_else, part_own, part_else}
-use Rattle.lc_board.proofs.HeldClaims.{part_tells_claim}
-use Rattle.lc_board.proofs.Weights.{each-map}
-use Rattle.lc_board.proofs.EndedNumbers.{IsGiven, stays_after, ender_stays, ends_given, claimed_has_no_row, part_ends, no_end}
+use Rattle.lc_board.proofs.{Places.{at_same, at_other, each, get_there}, Growths.{at_put, put_here, put_else, part_own, part_else}}
+use Rattle.lc_board.proofs.{HeldClaims.part_tells_claim, Weights.each-map}
+use Rattle.lc_board.proofs.EndedNumbers.{none_some, IsGiven, stays_after, ender_stays, ends_given, claimed_has_no_row, part_ends, no_end}
 
 same_some : {A : Type 0} (x y : A) → Some x ≡ Some y → x ≡ y
 same_some x y e = cc
-
-none_some : {A : Type 0} (x : A) → None ≡ Some x → ⊥
-none_some x e = absurd (cc e)
 
 within_or : {A : Type 0} (b : Bool) (x y : Option A) (z : A) (v w n : ℕ) → v < n → (y ≡ Some z → w < n) → cond b x y ≡ Some z
     → cond b v w < n
@@ -134,39 +120,14 @@ module _ {J R A : Type 0} (P : Saying J R A) (c n : ℕ) where
       at_put given v rest (λ u g. EachEnd (P u) (part u h) g) w mine
       (λ away. subst (λ m. EachEnd (P w) m (given w)) (part_else w h e (λ z. away (sym z ∙ own))) (all w low))
 
-  returned : (h : List (Event J R)) (v k : ℕ) (r : R) (given : ℕ → List A) (g : List A) → given v ≡ g → IsLegal c n (Return v k r ∷ h)
-      → EachEnd (P v) (Return v k r ∷ part v h) g
-      → ((f : ℕ → List A) → Lawful h f → EndsHold P n h f) → Lawful (Return v k r ∷ h) given → EndsHold P n (Return v k r ∷ h) given
-  returned h v k r given [] is l x rec all = absurd x
-  returned h v k r given (a ∷ rest) is l x rec all =
-      with_end h (Return v k r) k v (ended.Returned r) l
-      (record {
-        own = refl;
-        held = l.2;
-        rows = λ i. refl;
-        enders = λ i. refl;
-        jobs = λ i. refl;
-        posts = λ i. refl;
-        one = λ m. refl;
-      }) given a rest is x.0
-      (rec (put given v rest) (fewer h (Return v k r) v given rest refl x.1 all))
-
-  faulted : (h : List (Event J R)) (v k : ℕ) (r : R) (given : ℕ → List A) (g : List A) → given v ≡ g → IsLegal c n (Fault v k r ∷ h)
-      → EachEnd (P v) (Fault v k r ∷ part v h) g
-      → ((f : ℕ → List A) → Lawful h f → EndsHold P n h f) → Lawful (Fault v k r ∷ h) given → EndsHold P n (Fault v k r ∷ h) given
-  faulted h v k r given [] is l x rec all = absurd x
-  faulted h v k r given (a ∷ rest) is l x rec all =
-      with_end h (Fault v k r) k v (ended.Faulted r) l
-      (record {
-        own = refl;
-        held = l.2.0;
-        rows = λ i. refl;
-        enders = λ i. refl;
-        jobs = λ i. refl;
-        posts = λ i. refl;
-        one = λ m. refl;
-      }) given a rest is x.0
-      (rec (put given v rest) (fewer h (Fault v k r) v given rest refl x.1 all))
+  -- an end takes the newest of its worker's witnesses
+  ended_by : (h : List (Event J R)) (e : Event J R) (k v : ℕ) (d : Ended R) (given : ℕ → List A) (g : List A) → given v ≡ g
+      → IsLegal c n (e ∷ h) → IsEnd h e k v d → given v ≢ [] → ((a : A) (rest : List A) → given v ≡ a ∷ rest
+      → P v (job_held (part v h)) (posts_held (part v h)) d a × EachEnd (P v) (part v h) rest)
+      → ((f : ℕ → List A) → Lawful h f → EndsHold P n h f) → Lawful (e ∷ h) given → EndsHold P n (e ∷ h) given
+  ended_by h e k v d given [] is l end some first rec all = absurd (some is)
+  ended_by h e k v d given (a ∷ rest) is l end some first rec all = let x = first a rest is in
+      with_end h e k v d l end given a rest is x.0 (rec (put given v rest) (fewer h e v given rest end.own x.1 all))
 
   own_part : (h : List (Event J R)) (e : Event J R) (given : ℕ → List A) → Lawful (e ∷ h) given → worker_of e < n
       → EachEnd (P (worker_of e)) (e ∷ part (worker_of e) h) (given (worker_of e))
@@ -175,20 +136,10 @@ module _ {J R A : Type 0} (P : Saying J R A) (c n : ℕ) where
 
 -- an event that ends nothing leaves a part's witnesses
 module _ {J R A : Type 0} where
-  past_post : (Q : Option J → List (ℕ × J) → Ended R → A → Type 0) (v p k : ℕ) (j : J) (m : List (Event J R)) (g : List A) (b : Bool)
-      → EachEnd Q (cond b (Post v p k j ∷ m) m) g → EachEnd Q m g
-  past_post Q v p k j m g true x = x
-  past_post Q v p k j m g false x = x
-
-  past_claim : (Q : Option J → List (ℕ × J) → Ended R → A → Type 0) (v k : ℕ) (j : J) (m : List (Event J R)) (g : List A) (b : Bool)
-      → EachEnd Q (cond b (Claim v k j ∷ m) m) g → EachEnd Q m g
-  past_claim Q v k j m g true x = x
-  past_claim Q v k j m g false x = x
-
-  past_over : (Q : Option J → List (ℕ × J) → Ended R → A → Type 0) (v : ℕ) (m : List (Event J R)) (g : List A) (b : Bool)
-      → EachEnd Q (cond b (Over v ∷ m) m) g → EachEnd Q m g
-  past_over Q v m g true x = x
-  past_over Q v m g false x = x
+  past : (Q : Option J → List (ℕ × J) → Ended R → A → Type 0) (e : Event J R) (m : List (Event J R)) (g : List A) (b : Bool)
+      → (EachEnd Q (e ∷ m) g → EachEnd Q m g) → EachEnd Q (cond b (e ∷ m) m) g → EachEnd Q m g
+  past Q e m g true f x = f x
+  past Q e m g false f x = x
 
   -- what is said of each end in its worker's part holds of all ends of the history
   pub ends_hold : (P : Saying J R A) (blank : A) (c n : ℕ) (h : List (Event J R)) → IsLegal c n h → (given : ℕ → List A)
@@ -198,40 +149,34 @@ module _ {J R A : Type 0} where
     holds = λ i e g. absurd (none_some e g);
     given_by = λ w low. no_witness (P w) (given w) (all w low);
   }
-  ends_hold P blank c n (Post v p k j ∷ h) l given all =
-      goes_on P c n h (Post v p k j) given l (λ i. refl) (λ w. no_end (Post v p k j) (part w h) refl (v == w))
-      (ends_hold P blank c n h l.0 given (λ w low. past_post (P w) v p k j (part w h) (given w) (v == w) (all w low)))
-  ends_hold P blank c n (Claim v k j ∷ h) l given all =
-      goes_on P c n h (Claim v k j) given l (λ i. refl) (λ w. no_end (Claim v k j) (part w h) refl (v == w))
-      (ends_hold P blank c n h l.0 given (λ w low. past_claim (P w) v k j (part w h) (given w) (v == w) (all w low)))
   ends_hold P blank c n (Return v k r ∷ h) l given all =
-      returned P c n h v k r given (given v) refl l (own_part P c n h (Return v k r) given all l.1)
-      (λ f lawful. ends_hold P blank c n h l.0 f lawful) all
+      let told = λ (g : List A) (is : given v ≡ g). subst (EachEnd (P v) (Return v k r ∷ part v h)) is
+      (own_part P c n h (Return v k r) given all l.1) in
+      ended_by P c n h (Return v k r) k v (ended.Returned r) given (given v) refl l
+      (record { own = refl; held = l.2; rows = λ i. refl; enders = λ i. refl; jobs = λ i. refl; posts = λ i. refl; one = λ m. refl })
+      (told []) (λ a rest. told (a ∷ rest)) (λ f lawful. ends_hold P blank c n h l.0 f lawful) all
   ends_hold P blank c n (Fault v k r ∷ h) l given all =
-      faulted P c n h v k r given (given v) refl l (own_part P c n h (Fault v k r) given all l.1)
-      (λ f lawful. ends_hold P blank c n h l.0 f lawful) all
-  ends_hold P blank c n (Over v ∷ h) l given all =
-      goes_on P c n h (Over v) given l (λ i. refl) (λ w. no_end (Over v) (part w h) refl (v == w))
-      (ends_hold P blank c n h l.0 given (λ w low. past_over (P w) v (part w h) (given w) (v == w) (all w low)))
+      let told = λ (g : List A) (is : given v ≡ g). subst (EachEnd (P v) (Fault v k r ∷ part v h)) is
+      (own_part P c n h (Fault v k r) given all l.1) in
+      ended_by P c n h (Fault v k r) k v (ended.Faulted r) given (given v) refl l
+      (record { own = refl; held = l.2.0; rows = λ i. refl; enders = λ i. refl; jobs = λ i. refl; posts = λ i. refl; one = λ m. refl })
+      (told []) (λ a rest. told (a ∷ rest)) (λ f lawful. ends_hold P blank c n h l.0 f lawful) all
+  ends_hold P blank c n (e ∷ h) l given all =
+      goes_on P c n h e given l (λ i. refl) (λ w. no_end e (part w h) refl (worker_of e == w))
+      (ends_hold P blank c n h l.0 given
+      (λ w low. past (P w) e (part w h) (given w) (worker_of e == w) (λ x. x) (all w low)))
 
 -- ---- the rows of a closed board
-
-got_here : {A : Type 0} (xs : List A) (i : ℕ) → i < length xs → (x : A) × (slice_get xs i ≡ Some x)
-got_here [] i l = absurd (omega arith)
-got_here (x ∷ xs) zero l = (x, refl)
-got_here (x ∷ xs) (suc i) l = got_here xs i (omega arith)
 
 module _ {J R : Type 0} where
   -- who ended a number is one of the workers
   pub ender_within : (c n : ℕ) (h : List (Event J R)) → IsLegal c n h → (i : ℕ) (e : Ended R) → row_given h i ≡ Some e → ender h i < n
   ender_within c n [] l i e g = absurd (none_some e g)
-  ender_within c n (Post v p k j ∷ h) l i e g = ender_within c n h l.0 i e g
-  ender_within c n (Claim v k j ∷ h) l i e g = ender_within c n h l.0 i e g
-  ender_within c n (Over v ∷ h) l i e g = ender_within c n h l.0 i e g
   ender_within c n (Return v k r ∷ h) l i e g =
       within_or (i == k) (Some (ended.Returned r)) (row_given h i) e v (ender h i) n l.1 (ender_within c n h l.0 i e) g
   ender_within c n (Fault v k r ∷ h) l i e g =
       within_or (i == k) (Some (ended.Faulted r)) (row_given h i) e v (ender h i) n l.1 (ender_within c n h l.0 i e) g
+  ender_within c n (_ ∷ h) l i e g = ender_within c n h l.0 i e g
 
   -- and so of the rows of the closed board
   pub rows_hold : {A : Type 0} (P : Saying J R A) (blank : A) (c n : ℕ) (root : J) (promises : Promises) (passes : List (Pass J R))
@@ -243,7 +188,7 @@ module _ {J R : Type 0} where
       let h = settled.history in
       let placed = settled.in_place keeps in
       let e = ends_hold P blank c n h settled.legal given
-      (λ w low. let p = got_here passes w (omega arith) in subst (λ m. EachEnd (P w) m (given w)) (sym (settled.parts w p.0 p.1))
+      (λ w low. let p = get_there passes w (omega arith) in subst (λ m. EachEnd (P w) m (given w)) (sym (settled.parts w p.0 p.1))
       (all w p.0 p.1)) in
       record {
         by = e.by;

@@ -3,11 +3,8 @@ use Rattle.std.proofs.Common.{◌≡◌, ◌≢◌, ℕ, ◌≤◌, cond, List, 
 use Rattle.std.proofs.Common.{append_assoc}
 use mathlib.Core.Logic.{dite}
 use native.Mathlib.Decide.{ℕ_discrete}
-use Rattle.lc_board.specs.State.{Status, Absent, Open, Claimed, Returned, Faulted, status}
-use Rattle.lc_board.specs.Part.{worker_of, part}
-use Rattle.lc_board.specs.LegalHistory.{IsAllowed, IsLegal}
-use Rattle.lc_board.specs.Growth.{GoesOn, rank, put}
-use Rattle.lc_board.specs.declared.event.Event.{Event}
+use Rattle.lc_board.specs.{State.{Status, Absent, Open, Claimed, Returned, Faulted, status}, Part.{worker_of, part}}
+use Rattle.lc_board.specs.{LegalHistory.{IsAllowed, IsLegal}, Growth.{GoesOn, rank, put}, declared.event.Event.Event}
 use Rattle.lc_board.specs.declared.event.Event.TheVariants.{Post, Claim, Return, Fault, Over}
 
 -- what holds at an index of put
@@ -39,18 +36,12 @@ goes_trans h g f a b = (a.0 ++ b.0, a.1 ∙ (ap (λ z. a.0 ++ z) b.1 ∙ sym (ap
 -- no rank is over that of an ended number
 pub rank_most : (m : Status) → rank m ≤ 3
 rank_most Absent = omega arith
-rank_most Open = omega arith
-rank_most (Claimed w) = omega arith
-rank_most Returned = omega arith
-rank_most Faulted = omega arith
+rank_most _ = omega arith
 
 -- the lowest rank is that of an absent number
 pub rank_zero : (m : Status) → rank m ≡ 0 → m ≡ Absent
 rank_zero Absent e = refl
-rank_zero Open e = absurd (omega arith)
-rank_zero (Claimed w) e = absurd (omega arith)
-rank_zero Returned e = absurd (omega arith)
-rank_zero Faulted e = absurd (omega arith)
+rank_zero _ e = absurd (omega arith)
 
 module _ {J R : Type 0} where
   -- an event of the worker is in its part

@@ -1,18 +1,10 @@
 -- A worker's part of a legal history tells which number the worker has claimed, with which job, and what it has posted under it.
 use Rattle.std.proofs.Common.{◌≡◌, ◌≢◌, ℕ, ◌==◌, cond, Bool, true, false, List, [], ◌∷◌, ◌++◌, length, Some, None, refl, sym, ◌∙◌, ap}
-use Rattle.std.proofs.Common.{arith, eq-eqb, length-append}
-use Rattle.std.proofs.lemmas.Bool.{eqb-true}
-use Rattle.std.proofs.lemmas.List.{nil_from_length}
-use Rattle.lc_board.specs.State.{Status, Absent, Open, Claimed, Returned, Faulted, status}
-use Rattle.lc_board.specs.Part.{part}
-use Rattle.lc_board.specs.LegalHistory.{posts_under, IsLegal}
-use Rattle.lc_board.specs.Holding.{holding, posted, job_held, posts_held}
-use Rattle.lc_board.specs.RowsInPlace.{job_got}
-use Rattle.lc_board.specs.Laws.{PartTellsClaim, PostedNothing}
-use Rattle.lc_board.specs.declared.event.Event.{Event}
-use Rattle.lc_board.specs.declared.event.Event.TheVariants.{Post, Claim, Return, Fault, Over}
-use Rattle.lc_board.proofs.Places.{at_same, at_other, differ, apart}
-use Rattle.lc_board.proofs.PartsOfWhole.{open_fresh}
+use Rattle.std.proofs.{Common.{arith, eq-eqb, length-append}, lemmas.{Bool.eqb-true, List.nil_from_length}}
+use Rattle.lc_board.specs.{State.{Status, Absent, Open, Claimed, Returned, Faulted, status}, Part.part, LegalHistory.{posts_under, IsLegal}}
+use Rattle.lc_board.specs.{Holding.{holding, posted, job_held, posts_held}, RowsInPlace.job_got, Laws.{PartTellsClaim, PostedNothing}}
+use Rattle.lc_board.specs.declared.event.Event.{Event, TheVariants.{Post, Claim, Return, Fault, Over}}
+use Rattle.lc_board.proofs.{Places.{at_same, at_other, differ, apart}, PartsOfWhole.open_fresh}
 
 -- what a choice by a test is, where it is not the first
 unput : {A : Type 0} (b : Bool) (x y z : A) → x ≢ z → cond b x y ≡ z → (b ≡ false) × (y ≡ z)
@@ -161,10 +153,8 @@ module _ {J R : Type 0} where
   posted_is : (m : List (Event J R)) → posted m ≡ length (posts_held m)
   posted_is [] = refl
   posted_is (Post w p i j ∷ m) = let rest = posted_is m in omega (arith, rest, length-append (posts_held m) ((i, j) ∷ []))
-  posted_is (Claim w i j ∷ m) = refl
-  posted_is (Return w i r ∷ m) = refl
-  posted_is (Fault w i r ∷ m) = refl
   posted_is (Over w ∷ m) = posted_is m
+  posted_is (_ ∷ m) = refl
 
   counts_posts : (c n w : ℕ) (h : List (Event J R)) → IsLegal c n h → (i : ℕ) → status h i ≡ Claimed w
       → posted (part w h) ≡ length (posts_under i h)

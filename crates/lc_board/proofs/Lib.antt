@@ -1,4 +1,4 @@
-pub mod Crossing
+pub mod SentAndShared
 pub mod Places
 pub mod NumbersOnce
 pub mod PartsOfWhole

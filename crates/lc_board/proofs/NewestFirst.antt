@@ -1,9 +1,7 @@
 -- A list that grew at its end, read from its newest element.
 use Rattle.std.proofs.Common.{◌≡◌, List, [], ◌∷◌, ◌++◌, map, refl, ap}
 use Rattle.std.specs.declared.snapshot.Snapshot.{Snapshot}
-use Rattle.lc_board.specs.NewestFirst.{onto, newest_first}
-use Rattle.lc_board.specs.Notes.{valued, mine_of}
-use Rattle.lc_board.specs.declared.event.Event.{Event}
+use Rattle.lc_board.specs.{NewestFirst.{onto, newest_first}, Notes.{valued, mine_of}, declared.event.Event.Event}
 
 onto_push : {A : Type 0} (acc xs : List A) (x : A) → onto acc (xs ++ x ∷ []) ≡ x ∷ onto acc xs
 onto_push acc [] x = refl

@@ -2,10 +2,8 @@
 use Rattle.std.proofs.Common.{◌≡◌, ℕ, ◌+◌, ◌==◌, cond, Bool, true, false, List, [], ◌∷◌, Option, Some, None, refl, ◌∙◌, ap, subst, arith}
 use Rattle.std.proofs.lemmas.Bool.{eqb-true}
 use Rattle.lc_board.specs.State.{Status, Absent, Open, Claimed, Returned, Faulted, status}
-use Rattle.lc_board.specs.Laws.{Counts, NumbersOnce, GivenAs, EndedHasRow}
-use Rattle.lc_board.specs.declared.event.Event.{Event}
-use Rattle.lc_board.specs.declared.event.Event.TheVariants.{Post, Claim, Return, Fault, Over}
-use Rattle.lc_board.specs.declared.answers.Ended.{Ended}
+use Rattle.lc_board.specs.{Laws.{Counts, NumbersOnce, GivenAs, EndedHasRow}, declared.event.Event.Event}
+use Rattle.lc_board.specs.declared.{event.Event.TheVariants.{Post, Claim, Return, Fault, Over}, answers.Ended.Ended}
 use Rattle.lc_board.specs.declared.answers.Ended.TheVariants as ended
 
 first_counts : (b : Bool) → Counts (cond b Open Absent) 0 0 0
@@ -21,38 +19,25 @@ claim_counts : (b : Bool) (w : ℕ) (s : Status) (p c e : ℕ) → Counts s p c 
 claim_counts true w s p c e x is = let y = subst (λ t. Counts t p c e) (is refl) x in (y.0, omega (arith, y.1), y.2)
 claim_counts false w s p c e x is = x
 
-return_counts : (b : Bool) (w : ℕ) (s : Status) (p c e : ℕ) → Counts s p c e → (b ≡ true → s ≡ Claimed w)
-    → Counts (cond b Returned s) p c (cond b (e + 1) e)
-return_counts true w s p c e x is = let y = subst (λ t. Counts t p c e) (is refl) x in (y.0, y.1, omega (arith, y.2))
-return_counts false w s p c e x is = x
-
-fault_counts : (b : Bool) (w : ℕ) (s : Status) (p c e : ℕ) → Counts s p c e → (b ≡ true → s ≡ Claimed w)
-    → Counts (cond b Faulted s) p c (cond b (e + 1) e)
-fault_counts true w s p c e x is = let y = subst (λ t. Counts t p c e) (is refl) x in (y.0, y.1, omega (arith, y.2))
-fault_counts false w s p c e x is = x
+end_counts : (t : Status) → ((p c e : ℕ) → Counts Returned p c e → Counts t p c e) → (b : Bool) (w : ℕ) (s : Status) (p c e : ℕ)
+    → Counts s p c e → (b ≡ true → s ≡ Claimed w) → Counts (cond b t s) p c (cond b (e + 1) e)
+end_counts t f true w s p c e x is = let y = subst (λ t. Counts t p c e) (is refl) x in f p c (e + 1) (y.0, y.1, omega (arith, y.2))
+end_counts t f false w s p c e x is = x
 
 first_given : (R : Type 0) (b : Bool) → GivenAs {R = R} (cond b Open Absent) None
 first_given R true = refl
 first_given R false = refl
 
-post_given : {R : Type 0} (b : Bool) (s : Status) (o : Option (Ended R)) → GivenAs s o → (b ≡ true → s ≡ Absent) → GivenAs (cond b Open s) o
-post_given true s o x is = subst (λ t. GivenAs t o) (is refl) x
-post_given false s o x is = x
+-- a step between statuses that say the same of the row
+step_given : {R : Type 0} (u t : Status) → ((o : Option (Ended R)) → GivenAs t o → GivenAs u o) → (b : Bool) (s : Status)
+    (o : Option (Ended R)) → GivenAs s o → (b ≡ true → s ≡ t) → GivenAs (cond b u s) o
+step_given u t f true s o x is = f o (subst (λ t. GivenAs t o) (is refl) x)
+step_given u t f false s o x is = x
 
-claim_given : {R : Type 0} (b : Bool) (w : ℕ) (s : Status) (o : Option (Ended R)) → GivenAs s o → (b ≡ true → s ≡ Open)
-    → GivenAs (cond b (Claimed w) s) o
-claim_given true w s o x is = subst (λ t. GivenAs t o) (is refl) x
-claim_given false w s o x is = x
-
-return_given : {R : Type 0} (b : Bool) (r : R) (s : Status) (o : Option (Ended R)) → GivenAs s o
-    → GivenAs (cond b Returned s) (cond b (Some (ended.Returned r)) o)
-return_given true r s o x = (r, refl)
-return_given false r s o x = x
-
-fault_given : {R : Type 0} (b : Bool) (r : R) (s : Status) (o : Option (Ended R)) → GivenAs s o
-    → GivenAs (cond b Faulted s) (cond b (Some (ended.Faulted r)) o)
-fault_given true r s o x = (r, refl)
-fault_given false r s o x = x
+end_given : {R : Type 0} (t : Status) (d : Ended R) → GivenAs t (Some d) → (b : Bool) (s : Status) (o : Option (Ended R)) → GivenAs s o
+    → GivenAs (cond b t s) (cond b (Some d) o)
+end_given t d g true s o x = g
+end_given t d g false s o x = x
 
 module _ {J R : Type 0} where
   -- the status of a number that an event names
@@ -64,15 +49,19 @@ module _ {J R : Type 0} where
   numbers_once c n [] l k = first_counts (k == 0)
   numbers_once c n (Post w p i j ∷ h) l k = post_counts (k == i) _ _ _ _ (numbers_once c n h l.0 k) (named h k i Absent l.2.1)
   numbers_once c n (Claim w i j ∷ h) l k = claim_counts (k == i) w _ _ _ _ (numbers_once c n h l.0 k) (named h k i Open l.2.0)
-  numbers_once c n (Return w i r ∷ h) l k = return_counts (k == i) w _ _ _ _ (numbers_once c n h l.0 k) (named h k i (Claimed w) l.2)
-  numbers_once c n (Fault w i r ∷ h) l k = fault_counts (k == i) w _ _ _ _ (numbers_once c n h l.0 k) (named h k i (Claimed w) l.2.0)
+  numbers_once c n (Return w i r ∷ h) l k =
+      end_counts Returned (λ p c e x. x) (k == i) w _ _ _ _ (numbers_once c n h l.0 k) (named h k i (Claimed w) l.2)
+  numbers_once c n (Fault w i r ∷ h) l k =
+      end_counts Faulted (λ p c e x. x) (k == i) w _ _ _ _ (numbers_once c n h l.0 k) (named h k i (Claimed w) l.2.0)
   numbers_once c n (Over w ∷ h) l k = numbers_once c n h l.0 k
 
   -- an ended number has a row
   pub ended_has_row : EndedHasRow J R
   ended_has_row c n [] l k = first_given R (k == 0)
-  ended_has_row c n (Post w p i j ∷ h) l k = post_given (k == i) _ _ (ended_has_row c n h l.0 k) (named h k i Absent l.2.1)
-  ended_has_row c n (Claim w i j ∷ h) l k = claim_given (k == i) w _ _ (ended_has_row c n h l.0 k) (named h k i Open l.2.0)
-  ended_has_row c n (Return w i r ∷ h) l k = return_given (k == i) r _ _ (ended_has_row c n h l.0 k)
-  ended_has_row c n (Fault w i r ∷ h) l k = fault_given (k == i) r _ _ (ended_has_row c n h l.0 k)
+  ended_has_row c n (Post w p i j ∷ h) l k =
+      step_given Open Absent (λ o x. x) (k == i) _ _ (ended_has_row c n h l.0 k) (named h k i Absent l.2.1)
+  ended_has_row c n (Claim w i j ∷ h) l k =
+      step_given (Claimed w) Open (λ o x. x) (k == i) _ _ (ended_has_row c n h l.0 k) (named h k i Open l.2.0)
+  ended_has_row c n (Return w i r ∷ h) l k = end_given Returned (ended.Returned r) (r, refl) (k == i) _ _ (ended_has_row c n h l.0 k)
+  ended_has_row c n (Fault w i r ∷ h) l k = end_given Faulted (ended.Faulted r) (r, refl) (k == i) _ _ (ended_has_row c n h l.0 k)
   ended_has_row c n (Over w ∷ h) l k = ended_has_row c n h l.0 k

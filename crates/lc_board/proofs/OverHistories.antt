@@ -1,9 +1,6 @@
 -- Once a history is over, nothing but Over follows.
 use Rattle.std.proofs.Common.{◌≡◌, ℕ, ◌==◌, cond, Bool, true, false, List, [], ◌∷◌, subst}
-use Rattle.lc_board.specs.Part.{worker_of, part}
-use Rattle.lc_board.specs.LegalHistory.{IsAllowed, IsOver}
-use Rattle.lc_board.specs.Laws.{OverStays}
-use Rattle.lc_board.specs.declared.event.Event.{Event}
+use Rattle.lc_board.specs.{Part.{worker_of, part}, LegalHistory.{IsAllowed, IsOver}, Laws.OverStays, declared.event.Event.Event}
 use Rattle.lc_board.specs.declared.event.Event.TheVariants.{Post, Claim, Return, Fault, Over}
 
 module _ {J R : Type 0} where
@@ -18,12 +15,9 @@ module _ {J R : Type 0} where
   over_told : (c w : ℕ) (h : List (Event J R)) (e : Event J R) → e ≡ Over w → IsAllowed c h e → IsOver (e ∷ h)
   over_told c w h e is a = let o : IsOver h = subst (IsAllowed c h) is a in over_goes_on c h e a o
 
-  first_is : (x y : Event J R) (xs ys : List (Event J R)) → x ∷ xs ≡ y ∷ ys → x ≡ y
-  first_is x y xs ys e = cc e
-
   over_by : (c w : ℕ) (h m : List (Event J R)) (e : Event J R) (b : Bool) → IsAllowed c h e → (part w h ≡ Over w ∷ m → IsOver h)
       → cond b (e ∷ part w h) (part w h) ≡ Over w ∷ m → IsOver (e ∷ h)
-  over_by c w h m e true a before is = over_told c w h e (first_is e (Over w) (part w h) m is) a
+  over_by c w h m e true a before is = let x : e ∷ part w h ≡ Over w ∷ m = is in over_told c w h e (cc x) a
   over_by c w h m e false a before is = over_goes_on c h e a (before is)
 
   -- so do many

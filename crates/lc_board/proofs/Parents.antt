@@ -1,13 +1,10 @@
 -- Each number of a legal history but 0 was posted under exactly one number, once.
-use Rattle.std.proofs.Common.{◌≡◌, ◌≢◌, ℕ, ◌<◌, ◌==◌, Bool, true, false, cond, List, [], ◌∷◌, ◌++◌, refl, sym, ◌∙◌, ap, arith, subst}
-use Rattle.std.proofs.Common.{◌⊎◌, inl, inr, eq-eqb}
+use Rattle.std.proofs.Common.{◌≡◌, ◌≢◌, ℕ, ◌<◌, ◌==◌, Bool, true, false, cond, List, [], ◌∷◌, ◌++◌, refl, sym, ◌∙◌, ap, arith, subst, ◌⊎◌}
+use Rattle.std.proofs.{Common.{inl, inr, eq-eqb}, lemmas.Bool.eqb-true}
 use Rattle.std.specs.List.{AllByRecursion}
-use Rattle.std.proofs.lemmas.Bool.{eqb-true}
-use Rattle.lc_board.specs.State.{Absent, Open, Claimed, status}
-use Rattle.lc_board.specs.LegalHistory.{posts_under, IsLegal}
-use Rattle.lc_board.specs.declared.event.Event.{Event}
-use Rattle.lc_board.specs.declared.event.Event.TheVariants.{Post, Claim, Return, Fault, Over}
-use Rattle.lc_board.proofs.PostedNumbers.{persist, was_there, Known, known}
+use Rattle.lc_board.specs.{State.{Absent, Open, Claimed, status}, LegalHistory.{posts_under, IsLegal}, declared.event.Event.Event}
+use Rattle.lc_board.specs.declared.event.Event.TheVariants.{Post}
+use Rattle.lc_board.proofs.PostedNumbers.{start_is, persist, was_there, Known, known}
 
 -- the number was posted
 abbrev pub IsIn : {J : Type 0} → ℕ → List (ℕ × J) → Type 0
@@ -74,10 +71,6 @@ out_cond true k xs y i = at (in_either k xs y i)
     at (inr e) = inr (e, refl)
 out_cond false k xs y i = inl i
 
-first_is_0 : (b : Bool) (k : ℕ) → (k == 0) ≡ b → cond b Open Absent ≢ Absent → k ≡ 0
-first_is_0 true k e n = eqb-true k 0 e
-first_is_0 false k e n = absurd (n refl)
-
 module _ {J R : Type 0} where
   -- a number that was posted is there
   pub posted_there : (c n : ℕ) (top : J) (h : List (Event J R)) → IsLegal c n h → (p k : ℕ) → IsIn k (posts_under p h) → status h k ≢ Absent
@@ -98,10 +91,7 @@ module _ {J R : Type 0} where
   posts_once c n top [] l p = tt
   posts_once c n top (Post w q i j ∷ h) l p =
       once_cond (p == q) (posts_under p h) (i, j) (posts_once c n top h l.0 p) (λ x. posted_there c n top h l.0 p i x l.2.1)
-  posts_once c n top (Claim w i j ∷ h) l p = posts_once c n top h l.0 p
-  posts_once c n top (Return w i r ∷ h) l p = posts_once c n top h l.0 p
-  posts_once c n top (Fault w i r ∷ h) l p = posts_once c n top h l.0 p
-  posts_once c n top (Over w ∷ h) l p = posts_once c n top h l.0 p
+  posts_once c n top (_ ∷ h) l p = posts_once c n top h l.0 p
 
   -- and under no other number
   pub one_parent : (c n : ℕ) (top : J) (h : List (Event J R)) → IsLegal c n h → (p q k : ℕ) → IsIn k (posts_under p h)
@@ -119,10 +109,7 @@ module _ {J R : Type 0} where
       at rec (inl x) (inr y) = absurd (never p x y.0)
       at rec (inr x) (inl y) = absurd (never q y x.0)
       at rec (inr x) (inr y) = eqb-true p r x.1 ∙ sym (eqb-true q r y.1)
-  one_parent c n top (Claim w i j ∷ h) l p q k a b = one_parent c n top h l.0 p q k a b
-  one_parent c n top (Return w i r ∷ h) l p q k a b = one_parent c n top h l.0 p q k a b
-  one_parent c n top (Fault w i r ∷ h) l p q k a b = one_parent c n top h l.0 p q k a b
-  one_parent c n top (Over w ∷ h) l p q k a b = one_parent c n top h l.0 p q k a b
+  one_parent c n top (_ ∷ h) l p q k a b = one_parent c n top h l.0 p q k a b
 
   -- 0, or posted under a number that is there
   abbrev pub HasParent : List (Event J R) → ℕ → Type 0
@@ -135,7 +122,7 @@ module _ {J R : Type 0} where
 
   -- a number that is not absent has one above it, but for 0
   pub parent : (c n : ℕ) (h : List (Event J R)) → IsLegal c n h → (k : ℕ) → status h k ≢ Absent → HasParent h k
-  parent c n [] l k a = inl (first_is_0 (k == 0) k refl a)
+  parent c n [] l k a = inl (eqb-true k 0 (start_is (k == 0) a))
   parent c n (Post w q i j ∷ h) l k a = at (parent c n h l.0 k) (k == i) refl a
     where
       at : (status h k ≢ Absent → HasParent h k) → (b : Bool) → (k == i) ≡ b → cond b Open (status h k) ≢ Absent
@@ -149,10 +136,4 @@ module _ {J R : Type 0} where
                 (posts_under q h) i j (eq-eqb q q refl),
           ))
       at rec false e a = keep_parent h (Post w q i j) k (λ p x. in_cond (p == q) k (posts_under p h) (i, j) x) (rec a)
-  parent c n (Claim w i j ∷ h) l k a =
-      keep_parent h (Claim w i j) k (λ p x. x) (parent c n h l.0 k (was_there c n h (Claim w i j) l k a refl))
-  parent c n (Return w i r ∷ h) l k a =
-      keep_parent h (Return w i r) k (λ p x. x) (parent c n h l.0 k (was_there c n h (Return w i r) l k a refl))
-  parent c n (Fault w i r ∷ h) l k a =
-      keep_parent h (Fault w i r) k (λ p x. x) (parent c n h l.0 k (was_there c n h (Fault w i r) l k a refl))
-  parent c n (Over w ∷ h) l k a = keep_parent h (Over w) k (λ p x. x) (parent c n h l.0 k a)
+  parent c n (e ∷ h) l k a = keep_parent h e k (λ p x. x) (parent c n h l.0 k (was_there c n h e l k a refl))

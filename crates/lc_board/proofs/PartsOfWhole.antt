@@ -1,15 +1,11 @@
 -- What a worker's part says of a number that the worker claimed is what the whole history says.
-use Rattle.std.proofs.Common.{◌≡◌, ◌≢◌, ℕ, ◌<◌, ◌==◌, cond, Bool, true, false, List, [], ◌∷◌, ◌++◌, Some, None, refl, sym, ◌∙◌, ap}
-use Rattle.std.proofs.Common.{subst, arith, eq-eqb}
-use Rattle.std.proofs.lemmas.Bool.{eqb-true, ne_eqb}
-use Rattle.lc_board.specs.State.{Status, Absent, Open, Claimed, Returned, Faulted, status}
-use Rattle.lc_board.specs.Part.{worker_of, part}
-use Rattle.lc_board.specs.LegalHistory.{posts_under, IsLegal}
-use Rattle.lc_board.specs.RowsInPlace.{job_got, row_given}
-use Rattle.lc_board.specs.Laws.{IsFresh, SaysSame, PartSaysWhole}
-use Rattle.lc_board.specs.declared.event.Event.{Event}
-use Rattle.lc_board.specs.declared.event.Event.TheVariants.{Post, Claim, Return, Fault, Over}
-use Rattle.lc_board.proofs.Places.{at_other, apart}
+use Rattle.std.proofs.Common.{◌≡◌, ◌≢◌, ℕ, ◌<◌, ◌==◌, cond, Bool, true, false, List, [], ◌∷◌, ◌++◌, Some, None, refl, sym, ◌∙◌, ap, subst}
+use Rattle.std.proofs.{Common.{arith, eq-eqb}, lemmas.Bool.{eqb-true, ne_eqb}}
+use Rattle.lc_board.specs.{State.{Status, Absent, Open, Claimed, Returned, Faulted, status}, Part.{worker_of, part}}
+use Rattle.lc_board.specs.{LegalHistory.{posts_under, IsLegal}, RowsInPlace.{job_got, row_given}, Laws.{IsFresh, SaysSame, PartSaysWhole}}
+use Rattle.lc_board.specs.declared.{event.Event.{Event, TheVariants.{Post, Claim, Return, Fault, Over}}, answers.Ended.Ended}
+use Rattle.lc_board.specs.declared.answers.Ended.TheVariants as ended
+use Rattle.lc_board.proofs.{Places.{at_same, at_other, apart}, Growths.part_own}
 
 module _ {J R : Type 0} where
   -- the event says nothing of the number
@@ -33,11 +29,10 @@ module _ {J R : Type 0} where
     pub others : (v : ℕ) → v ≢ w → job_got (part v h) i ≡ None
 
   abbrev Taker : Status → ℕ → List (Event J R) → Type 0
-  Taker Absent i h = IsUntouched i h
-  Taker Open i h = IsUntouched i h
   Taker (Claimed w) i h = IsTaken w i h
   Taker Returned i h = (w : ℕ) × IsTaken w i h
   Taker Faulted i h = (w : ℕ) × IsTaken w i h
+  Taker _ i h = IsUntouched i h
 
   fresh_same : (i : ℕ) (h g : List (Event J R)) → SaysSame i h g → IsFresh i h → IsFresh i g
   fresh_same i h g s f = record { posts = s.posts ∙ f.posts; got = s.got ∙ f.got; given = s.given ∙ f.given }
@@ -62,23 +57,16 @@ module _ {J R : Type 0} where
       }
 
   taker_off : (e : Event J R) (s : Status) (i : ℕ) (h : List (Event J R)) → IsOff e i → Taker s i h → Taker s i (e ∷ h)
-  taker_off e Absent i h off t = untouched_off e i h off t
-  taker_off e Open i h off t = untouched_off e i h off t
   taker_off e (Claimed w) i h off t = taken_off e w i h off t
   taker_off e Returned i h off t = (t.0, taken_off e t.0 i h off t.1)
   taker_off e Faulted i h off t = (t.0, taken_off e t.0 i h off t.1)
+  taker_off e _ i h off t = untouched_off e i h off t
 
   post_off : (w p k i : ℕ) (j : J) → i ≢ p → IsOff (Post w p k j) i
   post_off w p k i j n = record { posts = λ h. at_other i p _ _ n; got = λ h. refl; given = λ h. refl }
 
   claim_off : (w k i : ℕ) (j : J) → i ≢ k → IsOff (Claim w k j) i
   claim_off w k i j n = record { posts = λ h. refl; got = λ h. at_other i k _ _ n; given = λ h. refl }
-
-  return_off : (w k i : ℕ) (r : R) → i ≢ k → IsOff (Return w k r) i
-  return_off w k i r n = record { posts = λ h. refl; got = λ h. refl; given = λ h. at_other i k _ _ n }
-
-  fault_off : (w k i : ℕ) (r : R) → i ≢ k → IsOff (Fault w k r) i
-  fault_off w k i r n = record { posts = λ h. refl; got = λ h. refl; given = λ h. at_other i k _ _ n }
 
   -- events that give nobody a job
   got_same : (e : Event J R) (i : ℕ) → ((q : List (Event J R)) → job_got (e ∷ q) i ≡ job_got q i) → (b : Bool) (q : List (Event J R))
@@ -108,16 +96,16 @@ module _ {J R : Type 0} where
     others = λ v n. let its = u.parts v in rw (ne_eqb w v (λ e. n (sym e))) its.got;
   }
 
-  return_here : (w k : ℕ) (r : R) (h : List (Event J R)) → IsTaken w k h → IsTaken w k (Return w k r ∷ h)
-  return_here w k r h t = record {
-    own = rw (eq-eqb w w refl) (record { posts = t.own.posts; got = t.own.got; given = rw (eq-eqb k k refl) refl });
-    others = λ v n. got_same (Return w k r) k (λ q. refl) (w == v) (part v h) ∙ t.others v n;
-  }
-
-  fault_here : (w k : ℕ) (r : R) (h : List (Event J R)) → IsTaken w k h → IsTaken w k (Fault w k r ∷ h)
-  fault_here w k r h t = record {
-    own = rw (eq-eqb w w refl) (record { posts = t.own.posts; got = t.own.got; given = rw (eq-eqb k k refl) refl });
-    others = λ v n. got_same (Fault w k r) k (λ q. refl) (w == v) (part v h) ∙ t.others v n;
+  row_here : (w k : ℕ) (e : Event J R) (d : Ended R) (h : List (Event J R)) → worker_of e ≡ w
+      → ((g : List (Event J R)) → posts_under k (e ∷ g) ≡ posts_under k g) → ((g : List (Event J R)) → job_got (e ∷ g) k ≡ job_got g k)
+      → ((g : List (Event J R)) → row_given (e ∷ g) k ≡ Some d) → IsTaken w k h → IsTaken w k (e ∷ h)
+  row_here w k e d h by posts got given t = record {
+    own = subst (SaysSame k (e ∷ h)) (sym (part_own w h e by)) (record {
+      posts = posts (part w h) ∙ (t.own.posts ∙ sym (posts h));
+      got = got (part w h) ∙ (t.own.got ∙ sym (got h));
+      given = given (part w h) ∙ sym (given h);
+    });
+    others = λ v n. got_same e k got (worker_of e == v) (part v h) ∙ t.others v n;
   }
 
   -- the number that an event names
@@ -145,27 +133,15 @@ module _ {J R : Type 0} where
       (claim_here w k j h (subst (λ m. IsUntouched m h) (eqb-true i k e) u))
   at_claim w k i j h false e ready t = taker_off (Claim w k j) (status h i) i h (claim_off w k i j (apart i k e)) t
 
-  at_return : (w k i : ℕ) (r : R) (h : List (Event J R)) (b : Bool) → (i == k) ≡ b → status h k ≡ Claimed w → Taker (status h i) i h
-      → Taker (cond b Returned (status h i)) i (Return w k r ∷ h)
-  at_return w k i r h true e held t =
-      let was : status h i ≡ Claimed w = ap (λ m. status h m) (eqb-true i k e) ∙ held in
-      let own : IsTaken w i h = subst (λ s. Taker s i h) was t in (
-        w,
-        subst (λ m. IsTaken w m (Return w k r ∷ h)) (sym (eqb-true i k e))
-            (return_here w k r h (subst (λ m. IsTaken w m h) (eqb-true i k e) own)),
-      )
-  at_return w k i r h false e held t = taker_off (Return w k r) (status h i) i h (return_off w k i r (apart i k e)) t
-
-  at_fault : (w k i : ℕ) (r : R) (h : List (Event J R)) (b : Bool) → (i == k) ≡ b → status h k ≡ Claimed w → Taker (status h i) i h
-      → Taker (cond b Faulted (status h i)) i (Fault w k r ∷ h)
-  at_fault w k i r h true e held t =
-      let was : status h i ≡ Claimed w = ap (λ m. status h m) (eqb-true i k e) ∙ held in
-      let own : IsTaken w i h = subst (λ s. Taker s i h) was t in (
-        w,
-        subst (λ m. IsTaken w m (Fault w k r ∷ h)) (sym (eqb-true i k e))
-            (fault_here w k r h (subst (λ m. IsTaken w m h) (eqb-true i k e) own)),
-      )
-  at_fault w k i r h false e held t = taker_off (Fault w k r) (status h i) i h (fault_off w k i r (apart i k e)) t
+  -- an end, by which the number becomes s
+  at_end : (s : Status) (w k i : ℕ) (e : Event J R) (h : List (Event J R)) (b : Bool) → (i == k) ≡ b → status h k ≡ Claimed w
+      → (i ≢ k → IsOff e i) → (IsTaken w k h → IsTaken w k (e ∷ h)) → (IsTaken w i (e ∷ h) → Taker s i (e ∷ h)) → Taker (status h i) i h
+      → Taker (cond b s (status h i)) i (e ∷ h)
+  at_end s w k i e h true is held off here says t =
+      let was : status h i ≡ Claimed w = ap (λ m. status h m) (eqb-true i k is) ∙ held in
+      let own : IsTaken w i h = subst (λ s. Taker s i h) was t in
+      says (subst (λ m. IsTaken w m (e ∷ h)) (sym (eqb-true i k is)) (here (subst (λ m. IsTaken w m h) (eqb-true i k is) own)))
+  at_end s w k i e h false is held off here says t = taker_off e (status h i) i h (off (apart i k is)) t
 
   taker_first : (h : List (Event J R)) (i : ℕ) (b : Bool) → IsUntouched i h → Taker (cond b Open Absent) i h
   taker_first h i true u = u
@@ -177,8 +153,14 @@ module _ {J R : Type 0} where
       (record { whole = record { posts = refl; got = refl; given = refl }; parts = λ v. record { posts = refl; got = refl; given = refl } })
   taker c n (Post w p k j ∷ h) l i = at_post w p k i j h (i == k) (i == p) refl refl l.2.0 l.2.1 l.2.3 (taker c n h l.0 i)
   taker c n (Claim w k j ∷ h) l i = at_claim w k i j h (i == k) refl l.2.0 (taker c n h l.0 i)
-  taker c n (Return w k r ∷ h) l i = at_return w k i r h (i == k) refl l.2 (taker c n h l.0 i)
-  taker c n (Fault w k r ∷ h) l i = at_fault w k i r h (i == k) refl l.2.0 (taker c n h l.0 i)
+  taker c n (Return w k r ∷ h) l i = at_end Returned w k i (Return w k r) h (i == k) refl l.2
+      (λ n. record { posts = λ h. refl; got = λ h. refl; given = λ h. at_other i k _ _ n })
+      (row_here w k (Return w k r) (ended.Returned r) h refl (λ g. refl) (λ g. refl) (λ g. at_same k k _ _ refl))
+      (λ t. (w, t)) (taker c n h l.0 i)
+  taker c n (Fault w k r ∷ h) l i = at_end Faulted w k i (Fault w k r) h (i == k) refl l.2.0
+      (λ n. record { posts = λ h. refl; got = λ h. refl; given = λ h. at_other i k _ _ n })
+      (row_here w k (Fault w k r) (ended.Faulted r) h refl (λ g. refl) (λ g. refl) (λ g. at_same k k _ _ refl))
+      (λ t. (w, t)) (taker c n h l.0 i)
   taker c n (Over w ∷ h) l i = taker_off (Over w) (status h i) i h (record { posts = λ q. refl; got = λ q. refl; given = λ q. refl })
       (taker c n h l.0 i)
 
@@ -195,11 +177,10 @@ module _ {J R : Type 0} where
   taken_says v i w j h false e t got = let x : None ≡ Some j = sym (t.others w (apart w v e)) ∙ got in absurd (cc x)
 
   taker_says : (s : Status) (i w : ℕ) (j : J) (h : List (Event J R)) → Taker s i h → job_got (part w h) i ≡ Some j → SaysSame i h (part w h)
-  taker_says Absent i w j h t got = absurd (untouched_none i w j h t got)
-  taker_says Open i w j h t got = absurd (untouched_none i w j h t got)
   taker_says (Claimed v) i w j h t got = taken_says v i w j h (w == v) refl t got
   taker_says Returned i w j h t got = taken_says t.0 i w j h (w == t.0) refl t.1 got
   taker_says Faulted i w j h t got = taken_says t.0 i w j h (w == t.0) refl t.1 got
+  taker_says _ i w j h t got = absurd (untouched_none i w j h t got)
 
   -- so says a part what the history says
   pub part_says_whole : PartSaysWhole J R

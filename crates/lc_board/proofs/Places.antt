@@ -32,6 +32,12 @@ pub each : (P : ℕ → Type 0) (i : ℕ) → P i → ((k : ℕ) → k ≢ i →
 each P i here others k = each_cases P i here others k (k == i) refl
 
 module _ {A : Type 0} where
+  -- what lies at a place within the list
+  pub get_there : (xs : List A) (i : ℕ) → i < length xs → (x : A) × (slice_get xs i ≡ Some x)
+  get_there [] i l = absurd (omega (arith, l))
+  get_there (x ∷ xs) zero l = (x, refl)
+  get_there (x ∷ xs) (suc i) l = get_there xs i (omega (arith, l))
+
   -- the place that was written
   pub get_set_same : (xs : List A) (i : ℕ) (v : A) → i < length xs → slice_get (slice_set xs i v) i ≡ Some v
   get_set_same [] i v h = absurd (omega arith)

@@ -1,17 +1,11 @@
 -- What each call of the board answers.
 use Rattle.std.proofs.Common.{◌≡◌, ◌≢◌, ℕ, zero, suc, ◌<◌, ◌≤◌, ◌+◌, List, [], ◌∷◌, ◌++◌, length, slice_get, slice_set, slice_index_or}
-use Rattle.std.proofs.Common.{Option, Some, None, Ok, IfSome, refl, sym, ◌∙◌, ap, subst, arith}
-use Rattle.std.proofs.lemmas.List.{length-set}
+use Rattle.std.proofs.{Common.{Option, Some, None, Ok, IfSome, refl, sym, ◌∙◌, ap, subst, arith}, lemmas.List.length-set}
 use Rattle.std.proofs.lemmas.Option.{slice_get_within, slice_get_read}
 use Rattle.lc_board.specs.PlainBoard.{Board, held_by, cell_at, IsAfter, Adds, posts_in, posts_by, posts_at}
 use Rattle.lc_board.specs.PlainCalls.{IsOpen, IsHeld, IsLeft, NoneOpen, NoneHeld, AnswersClaim, AnswersPost}
-use Rattle.lc_board.specs.PlainFields.{IsSound, IsHeldBy}
-use Rattle.lc_board.specs.Ending.{MayEnd, end_event}
-use Rattle.lc_board.specs.declared.event.Event.{Event}
-use Rattle.lc_board.specs.declared.event.Event.TheVariants.{Post}
-use Rattle.lc_board.specs.declared.plain.cell.Cell.{Cell}
-use Rattle.lc_board.specs.declared.plain.cell.Cell.TheVariants.{Waiting, Held, Done}
-use Rattle.lc_board.specs.declared.answers.Ended.{Ended}
+use Rattle.lc_board.specs.{PlainFields.{IsSound, IsHeldBy}, Ending.{MayEnd, end_event}, declared.event.Event.{Event, TheVariants.Post}}
+use Rattle.lc_board.specs.declared.{plain.cell.Cell.{Cell, TheVariants.{Waiting, Held, Done}}, answers.Ended.Ended}
 use Rattle.lc_board.specs.declared.answers.Ended.TheVariants as ended
 use Rattle.lc_board.specs.declared.answers.Claim.TheVariants as answer
 use Rattle.lc_board.proofs.PlainSteps.{after_claim, after_over, after_post, after_return, after_fault, held_is}
@@ -68,10 +62,8 @@ module _ {J R : Type 0} where
 
   none_held_by : (m : ℕ) (b : Board J R) (k : ℕ) (o : Option (Cell J R)) → IsSound m b
       → ((w i : ℕ) → slice_get b.held w ≢ Some (Some i)) → slice_get b.cells k ≡ o → ¬ IsHeld o
-  none_held_by m b k None s free e x = x
-  none_held_by m b k (Some (Waiting j)) s free e x = x
   none_held_by m b k (Some (Held w n)) s free e x = free w k (index_some b.held w k (s.owned k w n e).0)
-  none_held_by m b k (Some (Done r)) s free e x = x
+  none_held_by m b k _ s free e x = x
 
   -- where no worker holds a number no cell is held
   pub none_held : (m : ℕ) (b : Board J R) → IsSound m b → ((w i : ℕ) → slice_get b.held w ≢ Some (Some i)) → NoneHeld b
@@ -162,16 +154,12 @@ module _ {J R : Type 0} where
   left_inside (c ∷ xs) (suc k) x = omega (arith, left_inside xs k x)
 
   left_open : (o : Option (Cell J R)) → IsOpen o → IsLeft o
-  left_open None x = x
   left_open (Some (Waiting j)) x = tt
-  left_open (Some (Held w n)) x = tt
-  left_open (Some (Done e)) x = x
+  left_open _ x = absurd x
 
   left_held : (o : Option (Cell J R)) → IsHeld o → IsLeft o
-  left_held None x = x
-  left_held (Some (Waiting j)) x = tt
   left_held (Some (Held w n)) x = tt
-  left_held (Some (Done e)) x = x
+  left_held _ x = absurd x
 
   -- a number from the mark on is left
   pub some_left : (m : ℕ) (b : Board J R) → IsSound m b → m < length b.cells → (k : ℕ) × IsLeft (cell_at b k)

@@ -1,14 +1,9 @@
 -- What the fields of a board keep over each call.
 use Rattle.std.proofs.Common.{◌≡◌, ◌≢◌, ℕ, zero, suc, ◌<◌, ◌≤◌, ◌+◌, List, [], ◌∷◌, ◌++◌, length, slice_get, slice_set, slice_index_or}
-use Rattle.std.proofs.Common.{replicate, Option, Some, None, refl, sym, ◌∙◌, ap, subst, arith, length-append}
-use Rattle.std.proofs.lemmas.List.{length-set}
+use Rattle.std.proofs.{Common.{replicate, Option, Some, None, refl, sym, ◌∙◌, ap, subst, arith, length-append}, lemmas.List.length-set}
 use Rattle.std.proofs.lemmas.Option.{slice_get_past, slice_get_within}
-use Rattle.lc_board.specs.Limits.{capacity_limit}
-use Rattle.lc_board.specs.PlainBoard.{Board, held_by, cell_at, first_board}
-use Rattle.lc_board.specs.PlainCalls.{IsOpen}
-use Rattle.lc_board.specs.PlainFields.{IsSound, IsHeldBy}
-use Rattle.lc_board.specs.declared.plain.cell.Cell.{Cell}
-use Rattle.lc_board.specs.declared.plain.cell.Cell.TheVariants.{Waiting, Held, Done}
+use Rattle.lc_board.specs.{Limits.capacity_limit, PlainBoard.{Board, held_by, cell_at, first_board}, PlainCalls.IsOpen}
+use Rattle.lc_board.specs.{PlainFields.{IsSound, IsHeldBy}, declared.plain.cell.Cell.{Cell, TheVariants.{Waiting, Held, Done}}}
 use Rattle.lc_board.specs.declared.answers.Ended.{Ended}
 use Rattle.lc_board.proofs.Places.{each, each_set, each_push, index_set_same, index_set_other, get_set_other, get_set_same}
 
@@ -23,10 +18,8 @@ none_held (suc n) (suc w) = none_held n w
 module _ {J R : Type 0} where
   -- a cell that is held by a worker has its number of posts
   pub held_cell : (w : ℕ) (o : Option (Cell J R)) → IsHeldBy w o → (n : ℕ) × (o ≡ Some (Held w n))
-  held_cell w None h = absurd h
-  held_cell w (Some (Waiting j)) h = absurd h
   held_cell w (Some (Held v n)) h = (n, ap (λ u. Some (Held u n)) h)
-  held_cell w (Some (Done e)) h = absurd h
+  held_cell w _ h = absurd h
 
   -- a cell that is there lies on the board
   pub cell_inside : (xs : List (Cell J R)) (k : ℕ) (c : Cell J R) → slice_get xs k ≡ Some c → k < length xs

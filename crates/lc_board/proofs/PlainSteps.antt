@@ -1,30 +1,20 @@
 -- Each event that is allowed leads from the state after a history to the state after one event more.
-use Rattle.std.proofs.Common.{◌≡◌, ◌≢◌, ℕ, zero, suc, ◌<◌, ◌≤◌, ◌+◌, List, [], ◌∷◌, ◌++◌, map, length, slice_get, slice_set, Option}
-use Rattle.std.proofs.Common.{Some, None, option_map, refl, sym, ◌∙◌, ap, subst, arith, length-append, ◌↔◌}
-use Rattle.std.proofs.lemmas.List.{length-set}
-use Rattle.std.proofs.lemmas.Option.{slice_get-map, slice_get_past, slice_get_within}
+use Rattle.std.proofs.Common.{◌≡◌, ◌≢◌, ℕ, zero, suc, ◌<◌, ◌≤◌, ◌+◌, List, [], ◌∷◌, ◌++◌, map, length, slice_get, slice_set, Option, Some}
+use Rattle.std.proofs.Common.{None, option_map, refl, sym, ◌∙◌, ap, subst, arith, length-append, ◌↔◌}
+use Rattle.std.proofs.lemmas.{List.{length-set, nil_from_length}, Option.{slice_get-map, slice_get_past, slice_get_within}}
 use Rattle.lc_board.specs.State.{Status, Absent, Open, Claimed, Returned, Faulted, status}
-use Rattle.lc_board.specs.LegalHistory.{posts_under, IsIdle, IsOver, IsAllowed, IsLegal}
-use Rattle.lc_board.specs.Part.{worker_of}
-use Rattle.lc_board.specs.ClosedBoard.{Shows, IsUnended}
+use Rattle.lc_board.specs.{LegalHistory.{posts_under, IsIdle, IsOver, IsAllowed, IsLegal}, Part.worker_of, ClosedBoard.{Shows, IsUnended}}
 use Rattle.lc_board.specs.RowsInPlace.{job_posted, job_got, row_given, InPlace}
 use Rattle.lc_board.specs.PlainBoard.{Board, cell_at, IsCellOf, IsAfter, first_board}
-use Rattle.lc_board.specs.PlainCalls.{IsOpen, IsHeld, IsLeft, NoneOpen, NoneHeld, cell_of}
-use Rattle.lc_board.specs.declared.event.Event.{Event}
-use Rattle.lc_board.specs.declared.event.Event.TheVariants.{Post, Claim, Return, Fault, Over}
-use Rattle.lc_board.specs.declared.plain.cell.Cell.{Cell}
-use Rattle.lc_board.specs.declared.plain.cell.Cell.TheVariants.{Waiting, Held, Done}
-use Rattle.lc_board.specs.declared.answers.Ended.{Ended}
+use Rattle.lc_board.specs.{PlainCalls.{IsOpen, IsHeld, IsLeft, NoneOpen, NoneHeld, cell_of}, declared.event.Event.Event}
+use Rattle.lc_board.specs.declared.{event.Event.TheVariants.{Post, Claim, Return, Fault, Over}, plain.cell.Cell.Cell}
+use Rattle.lc_board.specs.{declared.{plain.cell.Cell.TheVariants.{Waiting, Held, Done}, answers.Ended.Ended}, Numbers.HasNumbers}
 use Rattle.lc_board.specs.declared.answers.Ended.TheVariants as ended
-use Rattle.lc_board.specs.Numbers.{HasNumbers}
 use Rattle.lc_board.proofs.Places.{get_none, at_same, at_other, each_set, each_push}
 
-no_posts : {A : Type 0} (xs : List A) → length xs ≡ 0 → xs ≡ []
-no_posts [] e = refl
-no_posts (x ∷ xs) e = absurd (omega (arith, e))
-
-over_by : (s t : Status) → s ≡ t → t ≢ Open → ((w : ℕ) → t ≢ Claimed w) → (s ≢ Open) × ((w : ℕ) → s ≢ Claimed w)
-over_by s t e a b = (λ x. a (sym e ∙ x), λ w x. b w (sym e ∙ x))
+-- what a status that has ended, or is absent, is not
+pub unended : (s t : Status) → s ≡ t → ¬ IsUnended t → (s ≢ Open) × ((w : ℕ) → s ≢ Claimed w)
+unended s t e n = (λ x. n (subst IsUnended (sym x ∙ e) tt), λ w x. n (subst IsUnended (sym x ∙ e) tt))
 
 module _ {J R : Type 0} where
   -- the histories agree at this number
@@ -46,20 +36,16 @@ module _ {J R : Type 0} where
   -- what the status of a number says of its cell
   pub claimed_cell : (root : J) (h : List (Event J R)) (k w : ℕ) (o : Option (Cell J R)) → IsCellOf root h k o → status h k ≡ Claimed w
       → (n : ℕ) × (o ≡ Some (Held w n))
-  claimed_cell root h k w None f s = let e : Absent ≡ Claimed w = sym f.0 ∙ s in absurd (cc e)
-  claimed_cell root h k w (Some (Waiting j)) f s = let e : Open ≡ Claimed w = sym f.0 ∙ s in absurd (cc e)
   claimed_cell root h k w (Some (Held v n)) f s = let e : Claimed v ≡ Claimed w = sym f.0 ∙ s in let same : v ≡ w = cc e in
       (n, ap (λ u. Some (Held u n)) same)
-  claimed_cell root h k w (Some (Done (ended.Returned r))) f s = let e : Returned ≡ Claimed w = sym f.0 ∙ s in absurd (cc e)
-  claimed_cell root h k w (Some (Done (ended.Faulted r))) f s = let e : Faulted ≡ Claimed w = sym f.0 ∙ s in absurd (cc e)
+  claimed_cell root h k w (Some (Done (ended.Returned r))) f s = absurd (cc (sym f.0 ∙ s))
+  claimed_cell root h k w _ f s = absurd (cc (sym f.0 ∙ s))
 
   -- the cell of an open number waits
   pub open_cell : (root : J) (h : List (Event J R)) (k : ℕ) (o : Option (Cell J R)) → IsCellOf root h k o → status h k ≡ Open → IsOpen o
-  open_cell root h k None f s = let e : Absent ≡ Open = sym f.0 ∙ s in absurd (cc e)
   open_cell root h k (Some (Waiting j)) f s = tt
-  open_cell root h k (Some (Held v n)) f s = let e : Claimed v ≡ Open = sym f.0 ∙ s in absurd (cc e)
-  open_cell root h k (Some (Done (ended.Returned r))) f s = let e : Returned ≡ Open = sym f.0 ∙ s in absurd (cc e)
-  open_cell root h k (Some (Done (ended.Faulted r))) f s = let e : Faulted ≡ Open = sym f.0 ∙ s in absurd (cc e)
+  open_cell root h k (Some (Done (ended.Returned r))) f s = absurd (cc (sym f.0 ∙ s))
+  open_cell root h k _ f s = absurd (cc (sym f.0 ∙ s))
 
   -- a cell that is held
   pub held_is : (o : Option (Cell J R)) (w n : ℕ) → o ≡ Some (Held w n) → IsHeld o
@@ -77,6 +63,17 @@ module _ {J R : Type 0} where
     fits = fits;
   }
 
+  -- one event more that sets one cell, and says nothing of the others
+  after_set : (root : J) (h : List (Event J R)) (old new : Board J R) (e : Event J R) (i : ℕ) (c : Cell J R) → IsAfter root h old
+      → new.capacity ≡ old.capacity → length new.held ≡ length old.held → worker_of e < length old.held
+      → IsAllowed old.capacity h e → i < length old.cells → new.cells ≡ slice_set old.cells i c
+      → IsCellOf root (e ∷ h) i (Some c) → ((m : ℕ) → m ≢ i → Agree root h (e ∷ h) m) → IsAfter root (e ∷ h) new
+  after_set root h old new e i c a same count low may near cells here others =
+      after_step root h e old new a same count low may
+      (λ k. subst (λ (cs : List (Cell J R)). IsCellOf root (e ∷ h) k (slice_get cs k)) (sym cells)
+      (each_set (IsCellOf root (e ∷ h)) old.cells i c near here
+      (λ m off. fits_same root h (e ∷ h) m (others m off) (slice_get old.cells m) (a.fits m)) k))
+
   -- a worker without a cell has claimed nothing
   pub idle_after : (root : J) (h : List (Event J R)) (b : Board J R) (w : ℕ) → IsAfter root h b
       → ((k n : ℕ) → cell_at b k ≢ Some (Held w n)) → IsIdle w h
@@ -90,17 +87,9 @@ module _ {J R : Type 0} where
       → IsAfter root (Claim w i j ∷ h) new
   after_claim root h old new w i j a same count low free near here cells =
       let was = subst (IsCellOf root h i) here (a.fits i) in
-      after_step root h (Claim w i j) old new a same count low (was.0, idle_after root h old w a free)
-      (λ k. subst (λ (cs : List (Cell J R)). IsCellOf root (Claim w i j ∷ h) k (slice_get cs k)) (sym cells)
-      (each_set (IsCellOf root (Claim w i j ∷ h)) old.cells i (Held w 0) near
+      after_set root h old new (Claim w i j) i (Held w 0) a same count low (was.0, idle_after root h old w a free) near cells
       (at_same i i _ _ refl, ap length was.1, was.2, at_same i i _ _ refl ∙ sym was.3)
-      (λ m n. fits_same root h (Claim w i j ∷ h) m (record {
-        states = at_other m i _ _ n;
-        posts = refl;
-        given = refl;
-        got = at_other m i _ _ n;
-        jobs = refl;
-      }) (slice_get old.cells m) (a.fits m)) k))
+      (λ m n. record { states = at_other m i _ _ n; posts = refl; given = refl; got = at_other m i _ _ n; jobs = refl })
 
   -- where no cell waits and none is held the history is over
   pub over_after : (root : J) (h : List (Event J R)) (b : Board J R) → IsAfter root h b → NoneOpen b → NoneHeld b → IsOver h
@@ -168,13 +157,9 @@ module _ {J R : Type 0} where
       → IsAfter root (Return w i r ∷ h) new
   after_return root h old new w i n r a same count low near here cells =
       let was = subst (IsCellOf root h i) here (a.fits i) in
-      after_step root h (Return w i r) old new a same count low was.0
-      (λ k. subst (λ (cs : List (Cell J R)). IsCellOf root (Return w i r ∷ h) k (slice_get cs k)) (sym cells)
-      (each_set (IsCellOf root (Return w i r ∷ h)) old.cells i (Done (ended.Returned r)) near
+      after_set root h old new (Return w i r) i (Done (ended.Returned r)) a same count low was.0 near cells
       (at_same i i _ _ refl, at_same i i _ _ refl, was.3)
-      (λ m off. fits_same root h (Return w i r ∷ h) m
-      (record { states = at_other m i _ _ off; posts = refl; given = at_other m i _ _ off; got = refl; jobs = refl })
-      (slice_get old.cells m) (a.fits m)) k))
+      (λ m n. record { states = at_other m i _ _ n; posts = refl; given = at_other m i _ _ n; got = refl; jobs = refl })
 
   -- a fault
   pub after_fault : (root : J) (h : List (Event J R)) (old new : Board J R) (w i : ℕ) (r : R) → IsAfter root h old
@@ -184,13 +169,9 @@ module _ {J R : Type 0} where
       → IsAfter root (Fault w i r ∷ h) new
   after_fault root h old new w i r a same count low near here cells =
       let was = subst (IsCellOf root h i) here (a.fits i) in
-      after_step root h (Fault w i r) old new a same count low (was.0, no_posts (posts_under i h) was.1)
-      (λ k. subst (λ (cs : List (Cell J R)). IsCellOf root (Fault w i r ∷ h) k (slice_get cs k)) (sym cells)
-      (each_set (IsCellOf root (Fault w i r ∷ h)) old.cells i (Done (ended.Faulted r)) near
-      (at_same i i _ _ refl, at_same i i _ _ refl, was.3)
-      (λ m off. fits_same root h (Fault w i r ∷ h) m
-      (record { states = at_other m i _ _ off; posts = refl; given = at_other m i _ _ off; got = refl; jobs = refl })
-      (slice_get old.cells m) (a.fits m)) k))
+      after_set root h old new (Fault w i r) i (Done (ended.Faulted r)) a same count low
+      (was.0, nil_from_length (posts_under i h) was.1) near cells (at_same i i _ _ refl, at_same i i _ _ refl, was.3)
+      (λ m n. record { states = at_other m i _ _ n; posts = refl; given = at_other m i _ _ n; got = refl; jobs = refl })
 
   first_fits : (root : J) (k : ℕ) (o : Option (Cell J R)) → slice_get (Waiting root ∷ []) k ≡ o → IsCellOf root [] k o
   first_fits root zero o e = subst (IsCellOf root [] 0) e (refl, refl, refl, refl)
@@ -209,24 +190,11 @@ module _ {J R : Type 0} where
 
   ends : (root : J) (h : List (Event J R)) (k : ℕ) (o : Option (Ended R)) → IsCellOf {R = R} root h k (option_map cell_of o)
       → Ends root h k o
-  ends root h k None f = record {
-    over = over_by _ Absent f.0 (λ e. absurd (cc e)) (λ w e. absurd (cc e));
-    given = sym f.2;
-    handed = λ e x. absurd (cc x);
-    shown = f.0;
-  }
-  ends root h k (Some (ended.Returned r)) f = record {
-    over = over_by _ Returned f.0 (λ e. absurd (cc e)) (λ w e. absurd (cc e));
-    given = sym f.1;
-    handed = λ e x. f.2;
-    shown = f.0;
-  }
-  ends root h k (Some (ended.Faulted r)) f = record {
-    over = over_by _ Faulted f.0 (λ e. absurd (cc e)) (λ w e. absurd (cc e));
-    given = sym f.1;
-    handed = λ e x. f.2;
-    shown = f.0;
-  }
+  ends root h k None f = record { over = unended _ Absent f.0 (λ x. x); given = sym f.2; handed = λ e x. absurd (cc x); shown = f.0 }
+  ends root h k (Some (ended.Returned r)) f =
+      record { over = unended _ Returned f.0 (λ x. x); given = sym f.1; handed = λ e x. f.2; shown = f.0 }
+  ends root h k (Some (ended.Faulted r)) f =
+      record { over = unended _ Faulted f.0 (λ x. x); given = sym f.1; handed = λ e x. f.2; shown = f.0 }
 
   ends_at : (root : J) (h : List (Event J R)) (b : Board J R) (rows : List (Ended R)) → IsAfter root h b → map cell_of rows ≡ b.cells
       → (k : ℕ) → Ends root h k (slice_get rows k)
@@ -240,9 +208,8 @@ module _ {J R : Type 0} where
 
   left_by : (root : J) (h : List (Event J R)) (k : ℕ) (o : Option (Cell J R)) → IsCellOf root h k o → IsLeft o → IsUnended (status h k)
   left_by root h k None f x = absurd x
-  left_by root h k (Some (Waiting j)) f x = subst IsUnended (sym f.0) tt
-  left_by root h k (Some (Held w n)) f x = subst IsUnended (sym f.0) tt
   left_by root h k (Some (Done e)) f x = absurd x
+  left_by root h k _ f x = subst IsUnended (sym f.0) tt
 
   -- a number whose cell is left has not ended
   pub left_status : (root : J) (h : List (Event J R)) (b : Board J R) (k : ℕ) → IsAfter root h b → IsLeft (cell_at b k)
@@ -250,11 +217,10 @@ module _ {J R : Type 0} where
   left_status root h b k a x = left_by root h k (cell_at b k) (a.fits k) x
 
   gone_by : (root : J) (h : List (Event J R)) (k : ℕ) (o : Option (Cell J R)) → IsCellOf root h k o → ¬ IsLeft o → ¬ IsUnended (status h k)
-  gone_by root h k None f n x = subst IsUnended f.0 x
   gone_by root h k (Some (Waiting j)) f n x = n tt
   gone_by root h k (Some (Held w m)) f n x = n tt
   gone_by root h k (Some (Done (ended.Returned r))) f n x = subst IsUnended f.0 x
-  gone_by root h k (Some (Done (ended.Faulted r))) f n x = subst IsUnended f.0 x
+  gone_by root h k _ f n x = subst IsUnended f.0 x
 
   -- a number whose cell is not left has
   pub gone_status : (root : J) (h : List (Event J R)) (b : Board J R) (k : ℕ) → IsAfter root h b → ¬ IsLeft (cell_at b k)
@@ -275,13 +241,8 @@ module _ {J R : Type 0} where
   numbers_at : (root : J) (h : List (Event J R)) (k : ℕ) (cs : List (Cell J R)) (o : Option (Cell J R)) → IsCellOf root h k o
       → slice_get cs k ≡ o → (status h k ≡ Absent) ↔ (length cs ≤ k)
   numbers_at root h k cs None f e = (λ _. get_none cs k e, λ _. f.0)
-  numbers_at root h k cs (Some (Waiting j)) f e = present h k cs (Waiting j) e (λ s. let x : Open ≡ Absent = sym f.0 ∙ s in absurd (cc x))
-  numbers_at root h k cs (Some (Held w n)) f e = present h k cs (Held w n) e
-      (λ s. let x : Claimed w ≡ Absent = sym f.0 ∙ s in absurd (cc x))
-  numbers_at root h k cs (Some (Done (ended.Returned r))) f e = present h k cs (Done (ended.Returned r)) e
-      (λ s. let x : Returned ≡ Absent = sym f.0 ∙ s in absurd (cc x))
-  numbers_at root h k cs (Some (Done (ended.Faulted r))) f e = present h k cs (Done (ended.Faulted r)) e
-      (λ s. let x : Faulted ≡ Absent = sym f.0 ∙ s in absurd (cc x))
+  numbers_at root h k cs (Some (Done (ended.Returned r))) f e = present h k cs (Done (ended.Returned r)) e (λ s. absurd (cc (sym f.0 ∙ s)))
+  numbers_at root h k cs (Some c) f e = present h k cs c e (λ s. absurd (cc (sym f.0 ∙ s)))
 
   -- the numbers of a board are those of its history
   pub has_numbers : (root : J) (h : List (Event J R)) (b : Board J R) → IsAfter root h b → HasNumbers (length b.cells) h

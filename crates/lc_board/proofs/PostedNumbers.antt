@@ -1,23 +1,16 @@
 -- The numbers of a legal history, and what is posted under them.
-use Rattle.std.proofs.Common.{◌≡◌, ◌≢◌, ℕ, ◌+◌, ◌<◌, ◌≤◌, ◌==◌, Bool, true, false, cond, List, [], ◌∷◌, ◌++◌, Option, Some, refl, sym}
-use Rattle.std.proofs.Common.{◌∙◌, ap, arith, eq-eqb}
+use Rattle.std.proofs.Common.{◌≡◌, ◌≢◌, ℕ, ◌+◌, ◌<◌, ◌≤◌, ◌==◌, Bool, true, false, cond, List, [], ◌∷◌, ◌++◌, Option, Some, refl, sym, ◌∙◌}
+use Rattle.std.proofs.{Common.{ap, arith, eq-eqb}, lemmas.Bool.{eqb-true, ne_eqb}}
 use Rattle.std.specs.List.{AllByRecursion}
-use Rattle.std.proofs.lemmas.Bool.{eqb-true, ne_eqb}
-use Rattle.lc_board.specs.State.{Status, Absent, Open, Claimed, Returned, Faulted, status}
-use Rattle.lc_board.specs.LegalHistory.{posts_under, IsLegal}
-use Rattle.lc_board.specs.RowsInPlace.{job_posted}
-use Rattle.lc_board.specs.declared.event.Event.{Event}
-use Rattle.lc_board.specs.declared.event.Event.TheVariants.{Post, Claim, Return, Fault, Over}
+use Rattle.lc_board.specs.{State.{Status, Absent, Open, Claimed, Returned, Faulted, status}, LegalHistory.{posts_under, IsLegal}}
+use Rattle.lc_board.specs.{RowsInPlace.job_posted, declared.event.Event.{Event, TheVariants.{Post, Claim, Return, Fault, Over}}}
 use Rattle.lc_board.proofs.Weights.{weigh, weigh-append, weigh-sum, each-append, each-map, only, turned}
 
 -- the numbers of the state
 abbrev pub numbers : {J R : Type 0} → List (Event J R) → List ℕ
 numbers [] = 0 ∷ []
 numbers (Post w p i j ∷ h) = i ∷ numbers h
-numbers (Claim w i j ∷ h) = numbers h
-numbers (Return w i r ∷ h) = numbers h
-numbers (Fault w i r ∷ h) = numbers h
-numbers (Over w ∷ h) = numbers h
+numbers (_ ∷ h) = numbers h
 
 -- a number that is absent after an event is another than the event's, and was absent before
 fresh : (b : Bool) (s t : Status) → s ≢ Absent → cond b s t ≡ Absent → (b ≡ false) × (t ≡ Absent)
@@ -63,7 +56,8 @@ open_here : (b : Bool) (s : Status) → b ≡ true → cond b Open s ≢ Absent
 open_here true s e a = cc
 open_here false s e a = cc
 
-start_is : (b : Bool) → cond b Open Absent ≢ Absent → b ≡ true
+-- a number that is there at the start is 0
+pub start_is : (b : Bool) → cond b Open Absent ≢ Absent → b ≡ true
 start_is true n = refl
 start_is false n = absurd (n refl)
 
@@ -113,10 +107,7 @@ module _ {J R : Type 0} where
       skip (p == q) (posts_under p h ++ (i, j) ∷ []) (posts_under p h)
       (λ t. found h p q (Claimed w) (λ x. cc) l.2.0 t before)
       (none_under c n h l.0 p before)
-  none_under c n (Claim w i j ∷ h) l p a = none_under c n h l.0 p (persist (Claim w i j) h p a)
-  none_under c n (Return w i r ∷ h) l p a = none_under c n h l.0 p (persist (Return w i r) h p a)
-  none_under c n (Fault w i r ∷ h) l p a = none_under c n h l.0 p (persist (Fault w i r) h p a)
-  none_under c n (Over w ∷ h) l p a = none_under c n h l.0 p a
+  none_under c n (e ∷ h) l p a = none_under c n h l.0 p (persist e h p a)
 
   -- an absent number is not among the numbers
   pub not_among : (h : List (Event J R)) (p v : ℕ) → status h p ≡ Absent → weigh (only p v) (numbers h) ≡ 0
@@ -124,10 +115,7 @@ module _ {J R : Type 0} where
   not_among (Post w q i j ∷ h) p v a =
       let f = fresh (p == i) Open (status h p) (λ x. cc) a in
       zero_at (p == i) v (weigh (only p v) (numbers h)) f.0 (not_among h p v f.1)
-  not_among (Claim w i j ∷ h) p v a = not_among h p v (persist (Claim w i j) h p a)
-  not_among (Return w i r ∷ h) p v a = not_among h p v (persist (Return w i r) h p a)
-  not_among (Fault w i r ∷ h) p v a = not_among h p v (persist (Fault w i r) h p a)
-  not_among (Over w ∷ h) p v a = not_among h p v a
+  not_among (e ∷ h) p v a = not_among h p v (persist e h p a)
 
   -- a number that is not absent stands once among the numbers
   pub once : (c n : ℕ) (h : List (Event J R)) → IsLegal c n h → (p v : ℕ) → status h p ≢ Absent → weigh (only p v) (numbers h) ≡ v
@@ -136,26 +124,16 @@ module _ {J R : Type 0} where
       one_at (p == i) (status h p) v (weigh (only p v) (numbers h)) a
       (λ t. not_among h p v (ap (λ x. status h x) (eqb-true p i t) ∙ l.2.1))
       (once c n h l.0 p v)
-  once c n (Claim w i j ∷ h) l p v a = once c n h l.0 p v (was_there c n h (Claim w i j) l p a refl)
-  once c n (Return w i r ∷ h) l p v a = once c n h l.0 p v (was_there c n h (Return w i r) l p a refl)
-  once c n (Fault w i r ∷ h) l p v a = once c n h l.0 p v (was_there c n h (Fault w i r) l p a refl)
-  once c n (Over w ∷ h) l p v a = once c n h l.0 p v a
+  once c n (e ∷ h) l p v a = once c n h l.0 p v (was_there c n h e l p a refl)
 
   -- the numbers are present
   pub all_present : (h : List (Event J R)) → AllByRecursion (λ k. status h k ≢ Absent) (numbers h)
   all_present [] = (λ a. cc, tt)
   all_present (Post w q i j ∷ h) = (
     open_here (i == i) (status h i) (eq-eqb i i refl),
-    each-map (λ k. status h k ≢ Absent) (λ k. status (Post w q i j ∷ h) k ≢ Absent) (λ k n a. n (persist (Post w q i j) h k a))
-        (numbers h) (all_present h),
+    each-map (λ k. status h k ≢ Absent) _ (λ k n a. n (persist (Post w q i j) h k a)) (numbers h) (all_present h),
   )
-  all_present (Claim w i j ∷ h) = each-map (λ k. status h k ≢ Absent) (λ k. status (Claim w i j ∷ h) k ≢ Absent)
-      (λ k n a. n (persist (Claim w i j) h k a)) (numbers h) (all_present h)
-  all_present (Return w i r ∷ h) = each-map (λ k. status h k ≢ Absent) (λ k. status (Return w i r ∷ h) k ≢ Absent)
-      (λ k n a. n (persist (Return w i r) h k a)) (numbers h) (all_present h)
-  all_present (Fault w i r ∷ h) = each-map (λ k. status h k ≢ Absent) (λ k. status (Fault w i r ∷ h) k ≢ Absent)
-      (λ k n a. n (persist (Fault w i r) h k a)) (numbers h) (all_present h)
-  all_present (Over w ∷ h) = all_present h
+  all_present (e ∷ h) = each-map (λ k. status h k ≢ Absent) _ (λ k n a. n (persist e h k a)) (numbers h) (all_present h)
 
   -- a number that is present is below the capacity
   pub within : (c n : ℕ) (h : List (Event J R)) → IsLegal c n h → 1 ≤ c → (k : ℕ) → status h k ≢ Absent → k < c
@@ -163,10 +141,7 @@ module _ {J R : Type 0} where
   within c n (Post w q i j ∷ h) l z k a =
       let fits : i < c = l.2.2 in
       split_open (k == i) (status h k) a (λ t. let e = eqb-true k i t in omega arith) (within c n h l.0 z k)
-  within c n (Claim w i j ∷ h) l z k a = within c n h l.0 z k (was_there c n h (Claim w i j) l k a refl)
-  within c n (Return w i r ∷ h) l z k a = within c n h l.0 z k (was_there c n h (Return w i r) l k a refl)
-  within c n (Fault w i r ∷ h) l z k a = within c n h l.0 z k (was_there c n h (Fault w i r) l k a refl)
-  within c n (Over w ∷ h) l z k a = within c n h l.0 z k a
+  within c n (e ∷ h) l z k a = within c n h l.0 z k (was_there c n h e l k a refl)
 
   -- the weight of the numbers posted under x
   abbrev pub below : (ℕ → ℕ) → List (Event J R) → ℕ → ℕ
@@ -190,10 +165,7 @@ module _ {J R : Type 0} where
       (λ x. one_more (x == q) f (posts_under x h) i j ∙ ap (λ b. below f h x + cond b (f i) 0) (turned x q)) (numbers h) in
       let here : weigh (only q (f i)) (numbers h) ≡ f i = once c n h l.0 q (f i) (λ a. let was = l.2.0 in cc) in
       omega (arith, counted_twice c n h l.0 f)
-  counted_twice c n (Claim w i j ∷ h) l f = counted_twice c n h l.0 f
-  counted_twice c n (Return w i r ∷ h) l f = counted_twice c n h l.0 f
-  counted_twice c n (Fault w i r ∷ h) l f = counted_twice c n h l.0 f
-  counted_twice c n (Over w ∷ h) l f = counted_twice c n h l.0 f
+  counted_twice c n (_ ∷ h) l f = counted_twice c n h l.0 f
 
   -- ---- what is known of a post
 
@@ -228,34 +200,10 @@ module _ {J R : Type 0} where
         above = omega arith;
         inside = fits;
       })
-  known c n top (Claim w i j ∷ h) l p =
-      each-map (Known c top h p) (Known c top (Claim w i j ∷ h) p)
-      (λ post k. record {
-        value = k.value;
-        there = λ x. k.there (persist (Claim w i j) h post.0 x);
-        above = k.above;
-        inside = k.inside;
-      }) (posts_under p h) (known c n top h l.0 p)
-  known c n top (Return w i r ∷ h) l p =
-      each-map (Known c top h p) (Known c top (Return w i r ∷ h) p)
-      (λ post k. record {
-        value = k.value;
-        there = λ x. k.there (persist (Return w i r) h post.0 x);
-        above = k.above;
-        inside = k.inside;
-      }) (posts_under p h) (known c n top h l.0 p)
-  known c n top (Fault w i r ∷ h) l p =
-      each-map (Known c top h p) (Known c top (Fault w i r ∷ h) p)
-      (λ post k. record {
-        value = k.value;
-        there = λ x. k.there (persist (Fault w i r) h post.0 x);
-        above = k.above;
-        inside = k.inside;
-      }) (posts_under p h) (known c n top h l.0 p)
-  known c n top (Over w ∷ h) l p =
-      each-map (Known c top h p) (Known c top (Over w ∷ h) p)
-      (λ post k. record { value = k.value; there = k.there; above = k.above; inside = k.inside }) (posts_under p h)
-      (known c n top h l.0 p)
+  known c n top (e ∷ h) l p =
+      each-map (Known c top h p) (Known c top (e ∷ h) p)
+      (λ post k. record { value = k.value; there = λ x. k.there (persist e h post.0 x); above = k.above; inside = k.inside })
+      (posts_under p h) (known c n top h l.0 p)
 
   -- the job of the top is that of number 0
   pub top_posted : (c n : ℕ) (top : J) (h : List (Event J R)) → IsLegal c n h → job_posted top h 0 ≡ Some top
@@ -263,7 +211,4 @@ module _ {J R : Type 0} where
   top_posted c n top (Post w q i j ∷ h) l =
       pass_by (0 == i) (Some j) (job_posted top h 0) (Some top) (ne_eqb 0 i (λ e. start h (ap (λ k. status h k) e ∙ l.2.1)))
       (top_posted c n top h l.0)
-  top_posted c n top (Claim w i j ∷ h) l = top_posted c n top h l.0
-  top_posted c n top (Return w i r ∷ h) l = top_posted c n top h l.0
-  top_posted c n top (Fault w i r ∷ h) l = top_posted c n top h l.0
-  top_posted c n top (Over w ∷ h) l = top_posted c n top h l.0
+  top_posted c n top (_ ∷ h) l = top_posted c n top h l.0

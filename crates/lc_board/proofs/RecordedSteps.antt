@@ -1,13 +1,9 @@
 -- The stored history goes on with each event, and keeps room for the ends.
-use Rattle.std.proofs.Common.{◌≡◌, ℕ, zero, suc, ◌≤◌, ◌+◌, List, [], ◌∷◌, ◌++◌, length, slice_set, slice_index_or, replicate, Option}
-use Rattle.std.proofs.Common.{Some, None, IfSome, refl, sym, ◌∙◌, ap, subst, arith}
-use Rattle.lc_board.specs.Bare.{BareEvent, bare}
-use Rattle.lc_board.specs.NewestFirst.{newest_first}
-use Rattle.lc_board.specs.PlainBoard.{Board, Adds}
-use Rattle.lc_board.specs.RecordedBoard.{held_count, IsRecorded}
-use Rattle.lc_board.specs.declared.event.Event.{Event}
-use Rattle.lc_board.proofs.NewestFirst.{newest_push}
-use Rattle.lc_board.proofs.PlainSteps.{has_numbers}
+use Rattle.std.proofs.Common.{◌≡◌, ℕ, zero, suc, ◌≤◌, ◌+◌, List, [], ◌∷◌, ◌++◌, length, slice_set, slice_index_or, replicate, Option, Some}
+use Rattle.std.proofs.Common.{None, IfSome, refl, sym, ◌∙◌, ap, subst, arith}
+use Rattle.lc_board.specs.{Bare.{BareEvent, bare}, NewestFirst.newest_first, PlainBoard.{Board, Adds}}
+use Rattle.lc_board.specs.{RecordedBoard.{held_count, IsRecorded}, declared.event.Event.Event}
+use Rattle.lc_board.proofs.{NewestFirst.newest_push, PlainSteps.has_numbers}
 
 -- no more workers hold numbers than there are
 pub held_count-most : (hs : List (Option ℕ)) → held_count hs ≤ length hs

@@ -1,18 +1,14 @@
 -- Passes that come back from their workers, in order.
-use Rattle.std.proofs.Common.{◌≡◌, ℕ, zero, suc, ◌<◌, List, [], ◌∷◌, length, map, slice_get, slice_set, slice_index_or, Some, refl, ◌∙◌}
-use Rattle.std.proofs.Common.{ap, subst, arith}
-use Rattle.std.proofs.lemmas.Option.{slice_get_within, get_or_from_slice_get, slice_get-get_or}
+use Rattle.std.proofs.Common.{◌≡◌, ℕ, zero, suc, ◌<◌, List, [], ◌∷◌, length, map, slice_get, slice_set, slice_index_or, Some, refl, ◌∙◌, ap}
+use Rattle.std.proofs.{Common.{subst, arith}, lemmas.Option.{slice_get_within, get_or_from_slice_get, slice_get-get_or}}
 use Rattle.lc_board.specs.Pass.{Pass, new_pass}
 use Rattle.lc_board.proofs.Places.{each_set}
 
-same_some : {A : Type 0} (x y : A) → Some x ≡ Some y → x ≡ y
-same_some x y e = cc
-
 -- what lies at a place of a mapped list comes from what lies there
-mapped_from : {A B : Type 0} (f : A → B) (xs : List A) (i : ℕ) (y : B) → slice_get (map f xs) i ≡ Some y
+pub mapped_from : {A B : Type 0} (f : A → B) (xs : List A) (i : ℕ) (y : B) → slice_get (map f xs) i ≡ Some y
     → (x : A) × (slice_get xs i ≡ Some x) × (f x ≡ y)
 mapped_from f [] i y e = absurd (cc e)
-mapped_from f (x ∷ xs) zero y e = (x, refl, same_some (f x) y e)
+mapped_from f (x ∷ xs) zero y e = (x, refl, cc e)
 mapped_from f (x ∷ xs) (suc i) y e = mapped_from f xs i y e
 
 -- What comes back from each worker has its pass in it, as `pass` says. Each pass is the board's, and its worker's, where the passes were

@@ -1,29 +1,18 @@
 -- The numbers that all workers ended are the numbers of a history that is over, each once.
-use Rattle.std.proofs.Common.{◌≡◌, ◌≢◌, ℕ, zero, suc, ◌+◌, ◌<◌, ◌≤◌, ◌==◌, Bool, true, false, cond, List, [], ◌∷◌, ◌++◌, length}
-use Rattle.std.proofs.Common.{map, slice_get, refl, sym, ◌∙◌, ap, arith, subst, Option, Some, None, ◌⊎◌, inl, inr, IsPermutation}
-use Rattle.std.proofs.Common.{sum_by}
-use Rattle.std.specs.List.{flat_map, range_with_len, enumerate_from, list_any, IsDistinct, AllByRecursion}
-use Rattle.std.proofs.lemmas.Bool.{cases_lt, eqb-true, ne_eqb, or_cases}
-use Rattle.std.proofs.lemmas.List.Sums.{sum_by-append, sum_by-cons}
+use Rattle.std.proofs.Common.{◌≡◌, ◌≢◌, ℕ, zero, suc, ◌+◌, ◌<◌, ◌≤◌, ◌==◌, Bool, true, false, cond, List, [], ◌∷◌, ◌++◌, length, map}
+use Rattle.std.proofs.Common.{slice_get, refl, sym, ◌∙◌, ap, arith, subst, Option, Some, None, ◌⊎◌, inl, inr, IsPermutation, sum_by}
+use Rattle.std.proofs.lemmas.{Bool.{cases_lt, eqb-true, ne_eqb, or_cases}, List.Sums.{sum_by-append, sum_by-cons}}
 use Rattle.std.proofs.lemmas.Map.Steps.{length-le_from_distinct_below}
 use Rattle.std.proofs.lemmas.List.Sorted.{IsPermutation-refl, IsPermutation-trans, IsPermutation-cons, IsPermutation-middle}
 use Rattle.std.proofs.lemmas.List.Sorted.{IsPermutation-append_right, IsPermutation-map, sum_by-IsPermutation}
-use Rattle.lc_board.specs.State.{Status, Absent, Open, Claimed, Returned, Faulted, status}
-use Rattle.lc_board.specs.Part.{worker_of, part}
-use Rattle.lc_board.specs.LegalHistory.{IsAllowed, IsLegal, IsOver}
-use Rattle.lc_board.specs.RowsInPlace.{row_given}
-use Rattle.lc_board.specs.Numbers.{HasNumbers, ends_of, posts_of}
-use Rattle.lc_board.specs.Ends.{ends}
-use Rattle.lc_board.specs.Laws.{Counts, PostedOnce, StaysLegal, FewNumbers, FewEnds, RowsAreEnds, SumsOfRows}
-use Rattle.lc_board.specs.declared.event.Event.{Event}
-use Rattle.lc_board.specs.declared.event.Event.TheVariants.{Post, Claim, Return, Fault, Over}
-use Rattle.lc_board.specs.declared.answers.Ended.{Ended}
+use Rattle.std.specs.List.{flat_map, range_with_len, enumerate_from, list_any, IsDistinct, AllByRecursion}
+use Rattle.lc_board.specs.{State.{Status, Absent, Open, Claimed, Returned, Faulted, status}, Part.{worker_of, part}}
+use Rattle.lc_board.specs.{LegalHistory.{IsAllowed, IsLegal, IsOver}, RowsInPlace.row_given, Numbers.{HasNumbers, ends_of, posts_of}}
+use Rattle.lc_board.specs.{Ends.ends, Laws.{Counts, PostedOnce, StaysLegal, FewNumbers, FewEnds, RowsAreEnds, SumsOfRows}}
+use Rattle.lc_board.specs.declared.{event.Event.{Event, TheVariants.{Post, Claim, Return, Fault, Over}}, answers.Ended.Ended}
 use Rattle.lc_board.specs.declared.answers.Ended.TheVariants as ended
-use Rattle.lc_board.proofs.Places.{at_same, at_other}
-use Rattle.lc_board.proofs.Growths.{part_own, part_else}
-use Rattle.lc_board.proofs.NumbersOnce.{numbers_once, named}
-use Rattle.lc_board.proofs.Weights.{each-map, only, times, permuted}
-use Rattle.lc_board.proofs.PostedNumbers.{start, within}
+use Rattle.lc_board.proofs.{Places.{at_same, at_other}, Growths.{part_own, part_else}, NumbersOnce.{numbers_once, named}}
+use Rattle.lc_board.proofs.{Weights.{each-map, only, times, permuted}, PostedNumbers.{start, within}}
 use Rattle.lc_board.proofs.EndedNumbers.{IsGiven, ends_given, no_end, row_means_ended, claimed_has_no_row}
 
 -- 0 was never posted
@@ -87,8 +76,7 @@ ended_once : (s : Status) (a b c : ℕ) → Counts s a b c → s ≢ Absent → 
 ended_once Absent a b c x n o l = absurd (n refl)
 ended_once Open a b c x n o l = absurd (o refl)
 ended_once (Claimed w) a b c x n o l = absurd (l w refl)
-ended_once Returned a b c x n o l = x.2
-ended_once Faulted a b c x n o l = x.2
+ended_once _ a b c x n o l = x.2
 
 never_ended : (s : Status) (a b c : ℕ) → Counts s a b c → s ≡ Absent → c ≡ 0
 never_ended s a b c x e = let y = subst (λ t. Counts t a b c) e x in y.2
@@ -169,10 +157,7 @@ module _ {J R : Type 0} where
 
   larger_allowed : (c d : ℕ) (h : List (Event J R)) (e : Event J R) → c ≤ d → IsAllowed c h e → IsAllowed d h e
   larger_allowed c d h (Post w p i j) le a = (a.0, a.1, omega (arith, a.2), a.3)
-  larger_allowed c d h (Claim w i j) le a = a
-  larger_allowed c d h (Return w i r) le a = a
-  larger_allowed c d h (Fault w i r) le a = a
-  larger_allowed c d h (Over w) le a = a
+  larger_allowed c d h _ le a = a
 
   -- a legal history is legal for a larger board
   pub stays_legal : StaysLegal J R
@@ -205,11 +190,9 @@ module _ {J R : Type 0} where
   distinct : (c n : ℕ) (h : List (Event J R)) → IsLegal c n h → IsDistinct (λ a b. a == b) (map number_of (ends h))
   unfolding IsDistinct
   distinct c n [] l = tt
-  distinct c n (Post w p i j ∷ h) l = distinct c n h l.0
-  distinct c n (Claim w i j ∷ h) l = distinct c n h l.0
   distinct c n (Return w i r ∷ h) l = (apart_from c n h l.0 w i l.2, distinct c n h l.0)
   distinct c n (Fault w i r ∷ h) l = (apart_from c n h l.0 w i l.2.0, distinct c n h l.0)
-  distinct c n (Over w ∷ h) l = distinct c n h l.0
+  distinct c n (_ ∷ h) l = distinct c n h l.0
 
   -- and no more ends than numbers
   pub few_ends : FewEnds J R
@@ -267,28 +250,21 @@ module _ {J R : Type 0} where
   -- the ends of all parts are those of the history
   pub ends_of_parts : (c n : ℕ) (h : List (Event J R)) → IsLegal c n h → IsPermutation (ends_by 0 n h) (ends h)
   ends_of_parts c n [] l = subst (λ xs. IsPermutation xs []) (sym (none_by 0 n [] refl)) (IsPermutation-refl [])
-  ends_of_parts c n (Post w p i j ∷ h) l =
-      subst (λ xs. IsPermutation xs (ends h)) (sym (same_by (Post w p i j) (λ q. refl) h 0 n)) (ends_of_parts c n h l.0)
-  ends_of_parts c n (Claim w i j ∷ h) l =
-      subst (λ xs. IsPermutation xs (ends h)) (sym (same_by (Claim w i j) (λ q. refl) h 0 n)) (ends_of_parts c n h l.0)
   ends_of_parts c n (Return w i r ∷ h) l =
       IsPermutation-trans _ _ _ (one_by (Return w i r) (i, ended.Returned r) (λ q. refl) h 0 n (omega arith) (omega (arith, l.1)))
       (IsPermutation-cons (i, ended.Returned r) _ _ (ends_of_parts c n h l.0))
   ends_of_parts c n (Fault w i r ∷ h) l =
       IsPermutation-trans _ _ _ (one_by (Fault w i r) (i, ended.Faulted r) (λ q. refl) h 0 n (omega arith) (omega (arith, l.1)))
       (IsPermutation-cons (i, ended.Faulted r) _ _ (ends_of_parts c n h l.0))
-  ends_of_parts c n (Over w ∷ h) l =
-      subst (λ xs. IsPermutation xs (ends h)) (sym (same_by (Over w) (λ q. refl) h 0 n)) (ends_of_parts c n h l.0)
+  ends_of_parts c n (e ∷ h) l = subst (λ xs. IsPermutation xs (ends h)) (sym (same_by e (λ q. refl) h 0 n)) (ends_of_parts c n h l.0)
 
   -- ---- and the rows of a history that is over
 
   ends_counted : (p : ℕ) (h : List (Event J R)) → times p (map number_of (ends h)) ≡ ends_of p h
   ends_counted p [] = refl
-  ends_counted p (Post w q i j ∷ h) = ends_counted p h
-  ends_counted p (Claim w i j ∷ h) = ends_counted p h
-  ends_counted p (Over w ∷ h) = ends_counted p h
   ends_counted p (Return w i r ∷ h) = one_more (p == i) (times p (map number_of (ends h))) (ends_of p h) (ends_counted p h)
   ends_counted p (Fault w i r ∷ h) = one_more (p == i) (times p (map number_of (ends h))) (ends_of p h) (ends_counted p h)
+  ends_counted p (_ ∷ h) = ends_counted p h
 
   -- the numbers of the ends are those below the count, each once
   pub numbers_ended : (c n : ℕ) (h : List (Event J R)) → IsLegal c n h → IsOver h → (m : ℕ) → HasNumbers m h

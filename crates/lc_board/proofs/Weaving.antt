@@ -1,17 +1,9 @@
 -- Values put to a history without values.
-use Rattle.std.proofs.Common.{◌≡◌, ◌≢◌, ℕ, zero, suc, ◌≤◌, ◌==◌, cond, Bool, true, false, List, [], ◌∷◌, map, length, slice_get, Some}
-use Rattle.std.proofs.Common.{refl, sym, ◌∙◌, ap, subst, arith, eq-eqb, ◌↔◌}
-use Rattle.std.proofs.lemmas.Bool.{eqb-true}
-use Rattle.lc_board.specs.State.{Absent, status}
-use Rattle.lc_board.specs.Numbers.{HasNumbers}
-use Rattle.lc_board.specs.RecordedCalls.{locked_promises}
-use Rattle.lc_board.specs.Part.{part, worker_of}
-use Rattle.lc_board.specs.Bare.{bare, BareEvent}
-use Rattle.lc_board.specs.LegalHistory.{IsLegal, IsOver}
-use Rattle.lc_board.specs.Pass.{Pass}
-use Rattle.lc_board.specs.ClosedBoard.{Settled, Shows}
-use Rattle.lc_board.specs.declared.answers.Ended.{Ended}
-use Rattle.lc_board.specs.declared.event.Event.{Event}
+use Rattle.std.proofs.Common.{◌≡◌, ◌≢◌, ℕ, zero, suc, ◌≤◌, ◌==◌, cond, Bool, true, false, List, [], ◌∷◌, map, length, slice_get, Some, refl}
+use Rattle.std.proofs.{Common.{sym, ◌∙◌, ap, subst, arith, eq-eqb, ◌↔◌}, lemmas.Bool.eqb-true}
+use Rattle.lc_board.specs.{State.{Absent, status}, Numbers.HasNumbers, RecordedCalls.locked_promises, Part.{part, worker_of}}
+use Rattle.lc_board.specs.{Bare.{bare, BareEvent}, LegalHistory.{IsLegal, IsOver}, Pass.Pass, ClosedBoard.{Settled, Shows}}
+use Rattle.lc_board.specs.declared.{answers.Ended.Ended, event.Event.Event}
 use Rattle.lc_board.proofs.BareHistories.{worker_bare, status_bare, legal_bare, legal_back}
 
 skip : (w : ℕ) (e : BareEvent) (es : List BareEvent) (b : Bool) → (worker_of e == w) ≡ b → worker_of e ≢ w → part w es ≡ []

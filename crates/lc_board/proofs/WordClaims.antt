@@ -1,6 +1,6 @@
 -- A look at a word keeps the row of words, and so does a claim of an open number.
-use Rattle.std.proofs.Common.{◌≡◌, ◌≢◌, ℕ, eqb, subst, ◌+◌, ◌*◌, ◌<◌, ◌≤◌, ◌⊎◌, Bool, true, false, List, [], ◌∷◌, length, get_or, set}
-use Rattle.std.proofs.Common.{sym, refl, ap, ◌∙◌, inl, inr, ⊎_elim, arith, length-set, Option, Some, None}
+use Rattle.std.proofs.Common.{◌≡◌, ◌≢◌, ℕ, eqb, subst, ◌+◌, ◌*◌, ◌<◌, ◌≤◌, ◌⊎◌, Bool, true, false, List, [], ◌∷◌, length, get_or, set, sym}
+use Rattle.std.proofs.{Common.{refl, ap, ◌∙◌, inl, inr, ⊎_elim, arith, length-set, Option, Some, None}, lemmas.Bool.Decides.nat_tests}
 use mathlib.Core.Logic.{dite}
 use mathlib.Core.Option.{some, none}
 use native.Mathlib.Decide.{ℕ_discrete, dec_lt}
@@ -8,26 +8,15 @@ use lib.ListN.{get_elem?}
 use lib.Seq.{set-get_or}
 use prog.Atomic.{either}
 use Rattle.std.specs.Prelude.{MatchBool}
-use Rattle.std.proofs.lemmas.Bool.Decides.{nat_tests}
 use Rattle.atomic_table.specs.Table.{State, Act, keeps, takes, stepped, step, Allows, Valid, carried_after}
 use Rattle.atomic_table.proofs.Lists.{set_else, exchanged}
-use Rattle.lc_board.specs.State.{Absent, Open, Claimed, status}
-use Rattle.lc_board.specs.Part.{part}
-use Rattle.lc_board.specs.LegalHistory.{IsAllowed, IsLegal}
-use Rattle.lc_board.specs.Holding.{holding}
-use Rattle.lc_board.specs.Growth.{rank, put, job_at}
-use Rattle.lc_board.specs.WordCode.{shown, code, word_of, is_absent, is_open, has_ended}
-use Rattle.lc_board.specs.WordRow.{Seated, SlotHolds, Knows, IsRow}
-use Rattle.lc_board.specs.declared.words.coding.Word.{Word}
-use Rattle.lc_board.specs.declared.words.coding.Word.TheVariants as word
+use Rattle.lc_board.specs.{State.{Absent, Open, Claimed, status}, Part.part, LegalHistory.{IsAllowed, IsLegal}, Holding.holding}
+use Rattle.lc_board.specs.{Growth.{rank, put, job_at}, WordCode.{shown, code, word_of, is_absent, is_open, has_ended}}
+use Rattle.lc_board.specs.{WordRow.{Seated, SlotHolds, Knows, IsRow}, declared.{words.coding.Word.Word, event.Event.Event}}
+use Rattle.lc_board.specs.declared.{event.Event.TheVariants.{Claim, Over}, words.view.{Slot.{Slot, TheVariants.Job}, View.View}}
 use Rattle.lc_board.specs.WordSteps.{ExtendsFairly, AddsEvent, SomeHolds, Finds, HasLooked, looked, TakesJob, claimed, low_after, last_look}
-use Rattle.lc_board.specs.declared.event.Event.{Event}
-use Rattle.lc_board.specs.declared.event.Event.TheVariants.{Claim, Over}
-use Rattle.lc_board.specs.declared.words.view.Slot.{Slot}
-use Rattle.lc_board.specs.declared.words.view.Slot.TheVariants.{Job}
-use Rattle.lc_board.specs.declared.words.view.View.{View}
-use Rattle.lc_board.proofs.HeldClaims.{part_tells_claim}
-use Rattle.lc_board.proofs.Growths.{at_put, put_else, whole, part_own, part_else}
+use Rattle.lc_board.specs.declared.words.coding.Word.TheVariants as word
+use Rattle.lc_board.proofs.{HeldClaims.part_tells_claim, Growths.{at_put, put_else, whole, part_own, part_else}}
 use Rattle.lc_board.proofs.WordCodes.{decoded, absent_is, not_open, ended_rank}
 use Rattle.lc_board.proofs.WordsMoved.{apart_same, agree_put, held_is, still_ended, IsTold, IsNext, steps_on, lies_stay, IsTurn, turned}
 
@@ -73,6 +62,14 @@ module _ {J R : Type 0} where
       → word_of (get_or s.words i 0) ≡ r.faces i
   face_here root workers s r i near = ap word_of (r.state.shows i near) ∙ decoded (r.faces i)
 
+  -- a step that writes the word that was there writes nothing
+  pub unwritten : (root : Option J) (workers me : ℕ) (s : St J R) (i : ℕ) (w : View J R)
+      → IsRow root workers record { words = s.words; homes = s.homes; views = set s.views me w }
+      → IsRow root workers record { words = set s.words i (get_or s.words i 0); homes = s.homes; views = set s.views me w }
+  unwritten root workers me s i w r =
+      subst (λ (ws : List ℕ). IsRow root workers record { words = ws; homes = s.homes; views = set s.views me w })
+      (sym (set-get_or s.words i 0)) r
+
   -- what a look tells of a number is so of the history
   pub finds : (root : Option J) (workers : ℕ) (s : St J R) (r : IsRow root workers s) (i : ℕ) (h' : List (Event J R)) (w : View J R)
       → IsLegal (length s.homes) workers h' → ((k : ℕ) → status w.seen k ≡ status r.history k)
@@ -92,11 +89,9 @@ module _ {J R : Type 0} where
 
       found : (c : Word) → r.faces i ≡ c → Finds i c w
       found word.Absent e = λ k le. same k ∙ (r.state.agrees k ∙ ap shown (r.state.together i k le e))
-      found word.Open e = same i ∙ (r.state.agrees i ∙ ap shown e)
-      found word.Returned e = same i ∙ (r.state.agrees i ∙ ap shown e)
-      found word.Faulted e = same i ∙ (r.state.agrees i ∙ ap shown e)
       found (word.Drawn u) e = let p = r.busy i u e in (same i ∙ (r.state.agrees i ∙ ap shown e), some_holds p.0 u p.1)
       found (word.Claimed u) e = (same i ∙ (r.state.agrees i ∙ ap shown e), some_holds i u (r.state.agrees i ∙ ap shown e))
+      found _ e = same i ∙ (r.state.agrees i ∙ ap shown e)
 
   abbrev looked_view : View J R → List (Event J R) → ℕ → View J R
   looked_view v h low = record v { seen = h; low = low }
@@ -182,51 +177,26 @@ module _ {J R : Type 0} where
         → (w : View J R) × IsRow root workers record { words = s.words; homes = s.homes; views = set s.views me w }
         × HasLooked (length s.homes) i (r.faces i) v w
     misses false is = let did = steps_on root workers s r me v at lives r.history r.faces s.words s.homes v.mine v.drawn mark v.front
-        (next_same root workers s r v.worker) looked_told in let w = looked_view v r.history mark in (
-          w,
-          did.0,
-          (
-            (refl, refl, refl, refl, refl, refl),
-            refl,
-            refl,
-            refl,
-            low_now,
-            beyond_now,
-            finds root workers s r i r.history w r.state.legal (λ z. refl) km.mine refl,
-            subst (λ b. MatchBool b (AddsEvent (length s.homes) v (Over v.worker) w) (ExtendsFairly (length s.homes) v w)) (sym is)
-                (km.seen, refl, did.1),
-          ),
-        )
+        (next_same root workers s r v.worker) looked_told in let w = looked_view v r.history mark in
+        let word = finds root workers s r i r.history w r.state.legal (λ z. refl) km.mine refl in
+        let more = subst (λ b. MatchBool b (AddsEvent (length s.homes) v (Over v.worker) w) (ExtendsFairly (length s.homes) v w)) (sym is)
+        (km.seen, refl, did.1) in
+        (w, did.0, ((refl, refl, refl, refl, refl, refl), refl, refl, refl, low_now, beyond_now, word, more))
     misses true is = let last = last_tells (length s.homes) i v.low (r.faces i) is in let e : Event J R = Over v.worker in
         let told = over_told last in let did = steps_on root workers s r me v at lives (e ∷ r.history) r.faces s.words s.homes (e ∷ v.mine)
-        v.drawn mark v.front (over_next last) told in let w = over_view v r.history mark in (
-          w,
-          did.0,
-          (
-            (refl, refl, refl, refl, refl, refl),
-            refl,
-            refl,
-            refl,
-            low_now,
-            beyond_now,
-            finds root workers s r i (e ∷ r.history) w (over_legal last) (λ z. refl) told.own refl,
-            subst (λ b. MatchBool b (AddsEvent (length s.homes) v (Over v.worker) w) (ExtendsFairly (length s.homes) v w)) (sym is)
-                ((r.history, km.seen, refl), refl, did.1),
-          ),
-        )
+        v.drawn mark v.front (over_next last) told in let w = over_view v r.history mark in
+        let word = finds root workers s r i (e ∷ r.history) w (over_legal last) (λ z. refl) told.own refl in
+        let more = subst (λ b. MatchBool b (AddsEvent (length s.homes) v (Over v.worker) w) (ExtendsFairly (length s.homes) v w)) (sym is)
+        ((r.history, km.seen, refl), refl, did.1) in
+        (w, did.0, ((refl, refl, refl, refl, refl, refl), refl, refl, refl, low_now, beyond_now, word, more))
 
   -- a look keeps the row of words
   pub looks : (root : Option J) (workers slots me : ℕ) (m : Seated J R) (i : ℕ) → m.0.live ≡ true → i < slots
       → Allows (IsRow root workers) slots me m i (λ n. n) (looked (step slots i 0 0 none) m)
   looks root workers slots me m i lives near s r len at fits = let v = m.0 in let near' : i < length s.homes = omega arith in
-      let did = misses root workers me i v lives s r at near' (last_look (length s.homes) i v.low (r.faces i)) refl in (
-        did.0,
-        keeps,
-        tt,
-        subst (λ (ws : List ℕ). IsRow root workers record { words = ws; homes = s.homes; views = set s.views me did.0 })
-            (sym (set-get_or s.words i 0)) did.1,
-        (refl, subst (λ (z : ℕ × Word). HasLooked z.0 i z.1 v did.0) (λ k. (len k, sym (face_here root workers s r i near') k)) did.2),
-      )
+      let did = misses root workers me i v lives s r at near' (last_look (length s.homes) i v.low (r.faces i)) refl in
+      let saw = subst (λ (z : ℕ × Word). HasLooked z.0 i z.1 v did.0) (λ k. (len k, sym (face_here root workers s r i near') k)) did.2 in
+      (did.0, keeps, tt, unwritten root workers me s i did.0 did.1, (refl, saw))
 
   abbrev pub added : View J R → List (Event J R) → Event J R → View J R
   added v h e = record v { seen = e ∷ h; mine = e ∷ v.mine }
@@ -311,28 +281,21 @@ module _ {J R : Type 0} where
       let did = steps_on root workers s r me v at lives (e ∷ r.history) (put r.faces i (word.Claimed v.worker))
       (set s.words i (5 + 2 * v.worker)) (set s.homes i none) (e ∷ v.mine) v.drawn v.low v.front
       (turned root workers s r v.worker i (e ∷ r.history) (word.Claimed v.worker) (set s.homes i none) turn)
-      (claim_told root workers me i v lives free s r at near' there l.0 l.1 l.2) in (
+      (claim_told root workers me i v lives free s r at near' there l.0 l.1 l.2) in
+      let adds = subst (λ c. AddsEvent c v e w) len ((r.history, k.seen, refl), refl, did.1) in (
         w,
         takes i (Job l.0),
         l.1,
         subst (λ n. IsRow root workers (stepped s i n me m.1 w (takes i (Job l.0)))) (sym is) did.0,
         subst (λ b. MatchBool b (TakesJob (step slots i 1 new none) m (w, carried_after m.1 (takes i (Job l.0))))
-            (looked (step slots i 1 new none) m z (w, carried_after m.1 (takes i (Job l.0))))) (sym (ap (λ n. is_open (word_of n)) hit)) (
-              l.0,
-              (refl, refl, refl, refl, refl, refl),
-              refl,
-              refl,
-              refl,
-              refl,
-              subst (λ c. AddsEvent c v e w) len ((r.history, k.seen, refl), refl, did.1),
-            ),
+            (looked (step slots i 1 new none) m z (w, carried_after m.1 (takes i (Job l.0))))) (sym (ap (λ n. is_open (word_of n)) hit))
+            (l.0, (refl, refl, refl, refl, refl, refl), refl, refl, refl, refl, adds),
       ))
       (λ (miss : z ≢ 1). let did = misses root workers me i v lives s r at near' (last_look (length s.homes) i v.low (r.faces i)) refl in (
         did.0,
         keeps,
         tt,
-        subst (λ (ws : List ℕ). IsRow root workers record { words = ws; homes = s.homes; views = set s.views me did.0 })
-            (sym (set-get_or s.words i 0)) did.1,
+        unwritten root workers me s i did.0 did.1,
         subst (λ b. MatchBool b (TakesJob (step slots i 1 new none) m (did.0, carried_after m.1 keeps))
             (looked (step slots i 1 new none) m z (did.0, carried_after m.1 keeps)))
             (sym (ap is_open (face_here root workers s r i near') ∙ not_open (r.faces i) (λ e. miss (r.state.shows i near' ∙ ap code e))))

@@ -1,36 +1,21 @@
 -- What a closed row of words says of one history, and of the rows that are taken out of it.
-use Rattle.std.proofs.Common.{◌≡◌, ◌≢◌, ℕ, zero, suc, ◌+◌, ◌<◌, ◌≤◌, ◌==◌, ◌⊎◌, Bool, true, false, cond, ltb, List, [], ◌∷◌, ◌++◌}
-use Rattle.std.proofs.Common.{length, get_or, slice_get, sym, refl, ap, ◌∙◌, subst, inl, inr, ⊎_elim, arith, Option, Some, None}
+use Rattle.std.proofs.Common.{◌≡◌, ◌≢◌, ℕ, zero, suc, ◌+◌, ◌<◌, ◌≤◌, ◌==◌, ◌⊎◌, Bool, true, false, cond, ltb, List, [], ◌∷◌, ◌++◌, length}
+use Rattle.std.proofs.Common.{get_or, slice_get, sym, refl, ap, ◌∙◌, subst, inl, inr, ⊎_elim, arith, Option, Some, None}
+use Rattle.std.proofs.lemmas.{Bool.{eqb-true, Decides.nat_tests}, Option.{slice_get_past, slice_get_within}}
 use mathlib.Core.Logic.{dite}
 use mathlib.Core.Option.{some, some-injective, some-ne-none}
 use native.Mathlib.Decide.{ℕ_discrete, dec_lt}
 use lib.ListN.{get_elem?}
-use Rattle.std.proofs.lemmas.Bool.{eqb-true}
-use Rattle.std.proofs.lemmas.Bool.Decides.{nat_tests}
-use Rattle.std.proofs.lemmas.Option.{slice_get_past, slice_get_within}
 use Rattle.atomic_table.specs.Table.{Final, Seen}
-use Rattle.lc_board.specs.State.{Status, Absent, Open, Claimed, Returned, Faulted, status}
-use Rattle.lc_board.specs.Part.{part}
-use Rattle.lc_board.specs.LegalHistory.{IsLegal, IsOver}
-use Rattle.lc_board.specs.RowsInPlace.{job_posted, job_got, row_given}
-use Rattle.lc_board.specs.Laws.{GivenAs}
-use Rattle.lc_board.specs.Pass.{Pass}
-use Rattle.lc_board.specs.ClosedBoard.{Shows, IsUnended, Settled, Unfinished, Finished}
-use Rattle.lc_board.specs.Growth.{rank, job_at, IsMatched}
-use Rattle.lc_board.specs.WordCode.{shown, word_of, is_absent, has_ended}
-use Rattle.lc_board.specs.WordRow.{Homes, SlotHolds, Knows, ShowsState, IsRow}
-use Rattle.lc_board.specs.declared.words.coding.Word.{Word}
-use Rattle.lc_board.specs.declared.words.coding.Word.TheVariants as word
-use Rattle.lc_board.specs.WordSteps.{merged, larger}
+use Rattle.lc_board.specs.{State.{Status, Absent, Open, Claimed, Returned, Faulted, status}, Part.part, LegalHistory.{IsLegal, IsOver}}
+use Rattle.lc_board.specs.{RowsInPlace.{job_posted, job_got, row_given}, Laws.GivenAs, Pass.Pass}
+use Rattle.lc_board.specs.{ClosedBoard.{Shows, IsUnended, Settled, Unfinished, Finished}, Growth.{rank, job_at, IsMatched}}
+use Rattle.lc_board.specs.{WordCode.{shown, word_of, is_absent, has_ended}, WordRow.{Homes, SlotHolds, Knows, ShowsState, IsRow}}
+use Rattle.lc_board.specs.declared.{words.coding.Word.Word, event.Event.{Event, TheVariants.{Post, Claim, Return, Fault, Over}}}
+use Rattle.lc_board.specs.{declared.{answers.Ended.Ended, words.view.{Slot.{Slot, TheVariants.Row}, View.View}}, WordSteps.{merged, larger}}
 use Rattle.lc_board.specs.WordClose.{words_promises, word_at, ended_as, Tells, HasTaken, IsClosedRow, EndedBelow, HasRows, TakesRows}
-use Rattle.lc_board.specs.declared.event.Event.{Event}
-use Rattle.lc_board.specs.declared.event.Event.TheVariants.{Post, Claim, Return, Fault, Over}
-use Rattle.lc_board.specs.declared.answers.Ended.{Ended}
-use Rattle.lc_board.specs.declared.words.view.Slot.{Slot}
-use Rattle.lc_board.specs.declared.words.view.Slot.TheVariants.{Row}
-use Rattle.lc_board.specs.declared.words.view.View.{View}
-use Rattle.lc_board.proofs.Places.{at_same, at_other, apart, get_push_same, get_push_other}
-use Rattle.lc_board.proofs.NumbersOnce.{ended_has_row}
+use Rattle.lc_board.specs.declared.words.coding.Word.TheVariants as word
+use Rattle.lc_board.proofs.{Places.{at_same, at_other, apart, get_there, get_push_same, get_push_other}, NumbersOnce.ended_has_row}
 use Rattle.lc_board.proofs.WordCodes.{decoded, absent_is, ended_rank}
 
 index_at : (l : List ℕ) (i a : ℕ) → get_elem? l i ≡ some a → get_or l i 0 ≡ a
@@ -74,17 +59,13 @@ module _ {J R : Type 0} where
   abbrev GotAs : Option J → Status → List (Event J R) → ℕ → Type 0
   GotAs root Absent h k = Unit {0}
   GotAs root Open h k = Unit {0}
-  GotAs root (Claimed w) h k = job_got h k ≡ job_at root h k
-  GotAs root Returned h k = job_got h k ≡ job_at root h k
-  GotAs root Faulted h k = job_got h k ≡ job_at root h k
+  GotAs root _ h k = job_got h k ≡ job_at root h k
 
   got_keep : (root : Option J) (s : Status) (h g : List (Event J R)) (k : ℕ) → job_got g k ≡ job_got h k
       → job_at root g k ≡ job_at root h k → GotAs root s h k → GotAs root s g k
   got_keep root Absent h g k a b x = tt
   got_keep root Open h g k a b x = tt
-  got_keep root (Claimed w) h g k a b x = a ∙ (x ∙ sym b)
-  got_keep root Returned h g k a b x = a ∙ (x ∙ sym b)
-  got_keep root Faulted h g k a b x = a ∙ (x ∙ sym b)
+  got_keep root _ h g k a b x = a ∙ (x ∙ sym b)
 
   got_post : (root : Option J) (w p i : ℕ) (j : J) (h : List (Event J R)) (k : ℕ) (b : Bool) → (k == i) ≡ b
       → GotAs root (status h k) h k → GotAs root (cond b Open (status h k)) (Post w p i j ∷ h) k
@@ -99,15 +80,11 @@ module _ {J R : Type 0} where
   got_claim root w i j h k false e m x =
       got_keep root (status h k) h (Claim w i j ∷ h) k (at_other k i (Some j) (job_got h k) (apart k i e)) refl x
 
-  got_return : (root : Option J) (w i : ℕ) (r : R) (h : List (Event J R)) (k : ℕ) (b : Bool) → (k == i) ≡ b → status h i ≡ Claimed w
-      → GotAs root (status h k) h k → GotAs root (cond b Returned (status h k)) (Return w i r ∷ h) k
-  got_return root w i r h k true e c x = subst (λ s. GotAs root s h k) (ap (λ z. status h z) (eqb-true k i e) ∙ c) x
-  got_return root w i r h k false e c x = got_keep root (status h k) h (Return w i r ∷ h) k refl refl x
-
-  got_fault : (root : Option J) (w i : ℕ) (r : R) (h : List (Event J R)) (k : ℕ) (b : Bool) → (k == i) ≡ b → status h i ≡ Claimed w
-      → GotAs root (status h k) h k → GotAs root (cond b Faulted (status h k)) (Fault w i r ∷ h) k
-  got_fault root w i r h k true e c x = subst (λ s. GotAs root s h k) (ap (λ z. status h z) (eqb-true k i e) ∙ c) x
-  got_fault root w i r h k false e c x = got_keep root (status h k) h (Fault w i r ∷ h) k refl refl x
+  got_end : (root : Option J) (w i : ℕ) (x : Status) (h g : List (Event J R)) (k : ℕ) (b : Bool) → (k == i) ≡ b → status h i ≡ Claimed w
+      → (GotAs root (Claimed w) h k → GotAs root x g k) → job_got g k ≡ job_got h k → job_at root g k ≡ job_at root h k
+      → GotAs root (status h k) h k → GotAs root (cond b x (status h k)) g k
+  got_end root w i x h g k true e c f a d y = f (subst (λ s. GotAs root s h k) (ap (λ z. status h z) (eqb-true k i e) ∙ c) y)
+  got_end root w i x h g k false e c f a d y = got_keep root (status h k) h g k a d y
 
   first_got : (root : Option J) (k : ℕ) (h : List (Event J R)) (b : Bool) → GotAs root (cond b Open Absent) h k
   first_got root k h true = tt
@@ -117,25 +94,22 @@ module _ {J R : Type 0} where
   got_right c n root [] l m k = first_got root k [] (k == 0)
   got_right c n root (Post w p i j ∷ h) l m k = got_post root w p i j h k (k == i) refl (got_right c n root h l.0 m.0 k)
   got_right c n root (Claim w i j ∷ h) l m k = got_claim root w i j h k (k == i) refl m.1 (got_right c n root h l.0 m.0 k)
-  got_right c n root (Return w i r ∷ h) l m k = got_return root w i r h k (k == i) refl l.2 (got_right c n root h l.0 m.0 k)
-  got_right c n root (Fault w i r ∷ h) l m k = got_fault root w i r h k (k == i) refl l.2.0 (got_right c n root h l.0 m.0 k)
+  got_right c n root (Return w i r ∷ h) l m k =
+      got_end root w i Returned h (Return w i r ∷ h) k (k == i) refl l.2 (λ x. x) refl refl (got_right c n root h l.0 m.0 k)
+  got_right c n root (Fault w i r ∷ h) l m k =
+      got_end root w i Faulted h (Fault w i r ∷ h) k (k == i) refl l.2.0 (λ x. x) refl refl (got_right c n root h l.0 m.0 k)
   got_right c n root (Over w ∷ h) l m k = got_keep root (status h k) h (Over w ∷ h) k refl refl (got_right c n root h l.0 m.0 k)
 
   posted_same : (root : J) (h : List (Event J R)) (k : ℕ) → job_at (Some root) h k ≡ job_posted root h k
   posted_same root [] k = refl
   posted_same root (Post w p i j ∷ h) k = ap (λ z. cond (k == i) (Some j) z) (posted_same root h k)
-  posted_same root (Claim w i j ∷ h) k = posted_same root h k
-  posted_same root (Return w i r ∷ h) k = posted_same root h k
-  posted_same root (Fault w i r ∷ h) k = posted_same root h k
-  posted_same root (Over w ∷ h) k = posted_same root h k
+  posted_same root (_ ∷ h) k = posted_same root h k
 
   handed_by : (root : J) (s : Status) (h : List (Event J R)) (k : ℕ) → rank s ≡ 3 → GotAs (Some root) s h k
       → job_got h k ≡ job_posted root h k
-  handed_by root Absent h k e x = absurd (omega arith)
-  handed_by root Open h k e x = absurd (omega arith)
-  handed_by root (Claimed w) h k e x = absurd (omega arith)
   handed_by root Returned h k e x = x ∙ posted_same root h k
   handed_by root Faulted h k e x = x ∙ posted_same root h k
+  handed_by root _ h k e x = absurd (omega arith)
 
 ended_over : (s : Status) → rank s ≡ 3 → (s ≢ Open) × ((w : ℕ) → s ≢ Claimed w)
 ended_over s e = (λ x. let y = sym e ∙ ap rank x in absurd (omega arith), λ w x. let y = sym e ∙ ap rank x in absurd (omega arith))
@@ -147,26 +121,21 @@ ended_there : (s : Status) → rank s ≡ 3 → s ≢ Absent
 ended_there s e x = let y = sym e ∙ ap rank x in absurd (omega arith)
 
 not_unended : (s : Status) → rank s ≡ 3 → ¬ IsUnended s
-not_unended Absent e x = x
 not_unended Open e x = absurd (omega arith)
 not_unended (Claimed w) e x = absurd (omega arith)
-not_unended Returned e x = x
-not_unended Faulted e x = x
+not_unended _ e x = x
 
 open_face : (c : Word) → ((u : ℕ) → c ≢ word.Drawn u) → is_absent c ≡ false → has_ended c ≡ false → IsUnended (shown c)
-open_face word.Absent n a e = absurd cc
 open_face word.Open n a e = tt
-open_face word.Returned n a e = absurd cc
-open_face word.Faulted n a e = absurd cc
 open_face (word.Drawn w) n a e = absurd (n w refl)
 open_face (word.Claimed w) n a e = tt
+open_face _ n a e = absurd cc
 
 shows_given : {R : Type 0} (s : Status) (o : Option (Ended R)) → GivenAs s o → s ≢ Open → ((w : ℕ) → s ≢ Claimed w) → Shows s o
 shows_given Absent o g a b = subst (λ z. Shows Absent z) (sym g) refl
 shows_given Open o g a b = absurd (a refl)
 shows_given (Claimed w) o g a b = absurd (b w refl)
-shows_given Returned o g a b = subst (λ z. Shows Returned z) (sym g.1) refl
-shows_given Faulted o g a b = subst (λ z. Shows Faulted z) (sym g.1) refl
+shows_given x o g a b = subst (λ z. Shows x z) (sym g.1) refl
 
 none_given : {R : Type 0} (s : Status) (o : Option (Ended R)) → s ≡ Absent → GivenAs s o → o ≡ None
 none_given s o e g = subst (λ z. GivenAs z o) e g
@@ -263,12 +232,6 @@ module _ {J R : Type 0} (root : J) (workers : ℕ) (passes : List (Pass J R)) (w
     parts = λ _. r.parts;
   }
 
--- an element that a list has
-get_there : {A : Type 0} (xs : List A) (i : ℕ) → i < length xs → (x : A) × (slice_get xs i ≡ Some x)
-get_there [] i l = absurd (omega (arith, l))
-get_there (x ∷ xs) zero l = (x, refl)
-get_there (x ∷ xs) (suc i) l = get_there xs i (omega (arith, l))
-
 -- the last element of a list that is the beginning of another
 pub popped : {A : Type 0} (all old new : List A) (x : A) (n : ℕ) → old ≡ new ++ x ∷ [] → length new ≡ n
     → ((w : ℕ) → w < n + 1 → slice_get old w ≡ slice_get all w)
@@ -339,12 +302,9 @@ module _ {J R : Type 0} where
 
   ended_lies : (root : Option J) (h : List (Event J R)) (hs : Homes J R) (k : ℕ) (c : Word) → SlotHolds root h hs k c → rank (shown c) ≡ 3
       → (r : R) × (get_elem? hs k ≡ some (some (Row r))) × (row_given h k ≡ ended_as (shown c) r)
-  ended_lies root h hs k (word.Drawn w) l e = absurd (omega arith)
-  ended_lies root h hs k word.Absent l e = absurd (omega arith)
-  ended_lies root h hs k word.Open l e = absurd (omega arith)
-  ended_lies root h hs k (word.Claimed w) l e = absurd (omega arith)
   ended_lies root h hs k word.Returned l e = l
   ended_lies root h hs k word.Faulted l e = l
+  ended_lies root h hs k _ l e = absurd (omega arith)
 
   part_told : (root : Option J) (workers : ℕ) (h : List (Event J R)) (faces : ℕ → Word) (owner : ℕ → Option ℕ) (id : ℕ) (v : View J R)
       → Knows root workers h faces owner id v → (u : ℕ) (m : List (Event J R)) → Tells v u m → part u h ≡ m

@@ -1,10 +1,9 @@
 -- A code is read as the word that it is of, and what a word says of its number.
 use Rattle.std.proofs.Common.{◌≡◌, ◌≢◌, ℕ, ◌+◌, ◌*◌, ◌-◌, ◌/◌, ◌%◌, ◌==◌, ◌≤◌, Bool, true, false, cond, refl, ap, ◌∙◌, arith}
 use Rattle.std.specs.Prelude.{MatchBool}
-use Rattle.lc_board.specs.Growth.{rank}
-use Rattle.lc_board.proofs.Places.{at_same, at_other}
-use Rattle.lc_board.specs.WordCode.{shown, code, busy_word, word_of, is_absent, is_open, has_ended}
+use Rattle.lc_board.specs.{Growth.rank, WordCode.{shown, code, busy_word, word_of, is_absent, is_open, has_ended}}
 use Rattle.lc_board.specs.declared.words.coding.Word.{Word}
+use Rattle.lc_board.proofs.Places.{at_same, at_other}
 use Rattle.lc_board.specs.declared.words.coding.Word.TheVariants as word
 
 half_of : (w : ℕ) → (4 + 2 * w - 4) / 2 ≡ w
@@ -28,61 +27,39 @@ from_four n far = at_other n 0 word.Absent (cond (n == 1) word.Open
 
 -- a word's code is read as the word
 pub decoded : (c : Word) → word_of (code c) ≡ c
-decoded word.Absent = refl
-decoded word.Open = refl
-decoded word.Returned = refl
-decoded word.Faulted = refl
 decoded (word.Drawn w) = from_four (4 + 2 * w) (omega arith)
     ∙ (at_same ((4 + 2 * w) % 2) 0 (word.Drawn ((4 + 2 * w - 4) / 2)) (word.Claimed ((4 + 2 * w - 4) / 2)) (even_code w)
     ∙ ap word.Drawn (half_of w))
 decoded (word.Claimed w) = from_four (5 + 2 * w) (omega arith)
     ∙ (at_other ((5 + 2 * w) % 2) 0 (word.Drawn ((5 + 2 * w - 4) / 2)) (word.Claimed ((5 + 2 * w - 4) / 2))
     (λ e. let o = odd_code w in absurd (omega arith)) ∙ ap word.Claimed (half_of_odd w))
+decoded _ = refl
 
 -- the only word that is absent
 pub absent_is : (c : Word) → is_absent c ≡ true → c ≡ word.Absent
 absent_is word.Absent e = refl
-absent_is word.Open e = absurd cc
-absent_is word.Returned e = absurd cc
-absent_is word.Faulted e = absurd cc
-absent_is (word.Drawn w) e = absurd cc
-absent_is (word.Claimed w) e = absurd cc
+absent_is _ e = absurd cc
 
 -- the only word that is open
 pub open_is : (c : Word) → is_open c ≡ true → c ≡ word.Open
-open_is word.Absent e = absurd cc
 open_is word.Open e = refl
-open_is word.Returned e = absurd cc
-open_is word.Faulted e = absurd cc
-open_is (word.Drawn w) e = absurd cc
-open_is (word.Claimed w) e = absurd cc
+open_is _ e = absurd cc
 
 -- another word is not absent
 pub not_absent : (c : Word) → c ≢ word.Absent → is_absent c ≡ false
 not_absent word.Absent n = absurd (n refl)
-not_absent word.Open n = refl
-not_absent word.Returned n = refl
-not_absent word.Faulted n = refl
-not_absent (word.Drawn w) n = refl
-not_absent (word.Claimed w) n = refl
+not_absent _ n = refl
 
 -- another word is not open
 pub not_open : (c : Word) → c ≢ word.Open → is_open c ≡ false
-not_open word.Absent n = refl
 not_open word.Open n = absurd (n refl)
-not_open word.Returned n = refl
-not_open word.Faulted n = refl
-not_open (word.Drawn w) n = refl
-not_open (word.Claimed w) n = refl
+not_open _ n = refl
 
 -- a word that has ended shows a number that has
 pub ended_rank : (c : Word) → has_ended c ≡ true → rank (shown c) ≡ 3
-ended_rank word.Absent e = absurd cc
-ended_rank word.Open e = absurd cc
 ended_rank word.Returned e = refl
 ended_rank word.Faulted e = refl
-ended_rank (word.Drawn w) e = absurd cc
-ended_rank (word.Claimed w) e = absurd cc
+ended_rank _ e = absurd cc
 
 -- of two cases the first holds
 pub match_true : (b : Bool) (A B : Type 0) → b ≡ true → MatchBool b A B → A

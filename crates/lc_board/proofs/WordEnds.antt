@@ -1,36 +1,24 @@
 -- A claim ends, by the row that is given; or its slot goes home, as the board is closed.
-use Rattle.std.proofs.Common.{◌≡◌, ◌≢◌, ℕ, subst, ◌+◌, ◌<◌, true, List, [], ◌∷◌, length, get_or, set, sym, refl, ap, ◌∙◌, arith}
-use Rattle.std.proofs.Common.{length-set, Option, Some, None}
+use Rattle.std.proofs.Common.{◌≡◌, ◌≢◌, ℕ, subst, ◌+◌, ◌<◌, true, List, [], ◌∷◌, length, get_or, set, sym, refl, ap, ◌∙◌, arith, length-set}
+use Rattle.std.proofs.Common.{Option, Some, None}
 use mathlib.Core.Logic.{dite}
-use mathlib.Core.Path.{Path}
 use mathlib.Core.Option.{some, none}
 use native.Mathlib.Decide.{ℕ_discrete}
 use lib.ListN.{get_elem?}
 use lib.Seq.{set-get_or}
 use Rattle.atomic_table.specs.Table.{gives, stepped, step, rest, Allows}
 use Rattle.atomic_table.proofs.Lists.{set_else, set_here}
-use Rattle.lc_board.specs.State.{Absent, Claimed, status}
-use Rattle.lc_board.specs.Part.{worker_of}
-use Rattle.lc_board.specs.LegalHistory.{posts_under, IsAllowed, IsLegal}
-use Rattle.lc_board.specs.Holding.{holding, posted}
-use Rattle.lc_board.specs.RowsInPlace.{row_given}
-use Rattle.lc_board.specs.Growth.{rank, put, job_at, IsRight}
-use Rattle.lc_board.specs.Ending.{MayEnd, end_event, row_in}
-use Rattle.lc_board.specs.WordCode.{shown, code, end_word}
-use Rattle.lc_board.specs.WordRow.{Homes, Seated, SlotHolds, Knows, IsRow}
-use Rattle.lc_board.specs.declared.words.coding.Word.{Word}
-use Rattle.lc_board.specs.declared.words.coding.Word.TheVariants as word
+use Rattle.lc_board.specs.{State.{Absent, Claimed, status}, Part.worker_of, LegalHistory.{posts_under, IsAllowed, IsLegal}}
+use Rattle.lc_board.specs.{Holding.{holding, posted}, RowsInPlace.row_given, Growth.{rank, put, job_at, IsRight}}
+use Rattle.lc_board.specs.{Ending.{MayEnd, end_event, row_in}, WordCode.{shown, code, end_word}}
+use Rattle.lc_board.specs.{WordRow.{Homes, Seated, SlotHolds, Knows, IsRow}, declared.{words.coding.Word.Word, event.Event.Event}}
+use Rattle.lc_board.specs.declared.{words.view.{Slot.{Slot, TheVariants.{Empty, Row}}, View.View}, answers.Ended.Ended}
 use Rattle.lc_board.specs.WordSteps.{AddsEvent, put_down}
+use Rattle.lc_board.specs.declared.words.coding.Word.TheVariants as word
 use Rattle.lc_board.specs.WordSteps as steps
-use Rattle.lc_board.specs.declared.event.Event.{Event}
 use Rattle.lc_board.specs.declared.answers.Ended.TheVariants as ended
-use Rattle.lc_board.specs.declared.words.view.Slot.{Slot}
-use Rattle.lc_board.specs.declared.words.view.Slot.TheVariants.{Empty, Row}
-use Rattle.lc_board.specs.declared.words.view.View.{View}
-use Rattle.lc_board.proofs.HeldClaims.{posted_nothing}
-use Rattle.lc_board.proofs.Growths.{at_put, put_here, put_else, part_own, part_else}
+use Rattle.lc_board.proofs.{HeldClaims.posted_nothing, Growths.{at_put, put_here, put_else, part_own, part_else}}
 use Rattle.lc_board.proofs.WordsMoved.{agree_put, of_shown, held_is, IsNext, still_ended, IsTold, steps_on, lies_stay, IsTurn, turned}
-use Rattle.lc_board.specs.declared.answers.Ended.{Ended}
 use Rattle.lc_board.proofs.WordClaims.{St, added, next_same, told_same}
 
 taken_same : (a b : ℕ) → Claimed a ≡ Claimed b → a ≡ b
@@ -43,13 +31,6 @@ by_worker J w i (ended.Faulted r) = refl
 end_rank : {R : Type 0} (x : Ended R) → rank (shown (end_word x)) ≡ 3
 end_rank (ended.Returned r) = refl
 end_rank (ended.Faulted r) = refl
-
--- an end by the code and the row of another is the same
-same_end : {R : Type 0} (x y : Ended R) → code (end_word x) ≡ code (end_word y) → row_in x ≡ row_in y → x ≡ y
-same_end (ended.Returned r) (ended.Returned q) a b = ap ended.Returned b
-same_end (ended.Returned r) (ended.Faulted q) a b = absurd (omega arith)
-same_end (ended.Faulted r) (ended.Returned q) a b = absurd (omega arith)
-same_end (ended.Faulted r) (ended.Faulted q) a b = ap ended.Faulted b
 
 module _ {J R : Type 0} where
   end_moves : (w i : ℕ) (x : Ended R) (h : List (Event J R)) (z : ℕ)
@@ -176,37 +157,11 @@ module _ {J R : Type 0} where
       let to = set s.homes i (some (Row (row_in x))) in
       let did = steps_on root workers s r me v at lives (e ∷ r.history) (put r.faces i (end_word x)) (set s.words i (code (end_word x))) to
       (e ∷ v.mine) v.drawn v.low v.front (turned root workers s r v.worker i (e ∷ r.history) (end_word x) to turn)
-      (end_told root workers me i v lives empty claim x may s r at near') in (
-        w,
-        gives,
-        tt,
-        subst (λ (c : List (ℕ × Slot J R)). IsRow root workers (stepped s i new me c w gives)) (sym has)
-            (subst (λ n. IsRow root workers record { words = set s.words i n; homes = to; views = set s.views me w }) (sym coded) did.0),
-        (
-          ((refl, refl, refl, refl, refl, refl), empty, refl, refl, refl),
-          (
-            x,
-            coded,
-            has,
-            subst (λ c. AddsEvent c v e w) len ((r.history, k0.seen, refl), refl, did.1),
-          ),
-        ),
-      )
-
-  first_row : (i k : ℕ) (a b : R) (xs ys : List (ℕ × Slot J R)) → (i, Row a) ∷ xs ≡ (k, Row b) ∷ ys → a ≡ b
-  first_row i k a b xs ys e = let h : (i, Row a) ≡ (k, Row b) = cc e in let q : Path (Slot J R) (Row a) (Row b) = ap
-      (λ (p : ℕ × Slot J R). p.1) h in cc q
-
-  -- what was told is the end that was made, once the slot was filled with its row
-  pub did_end : (slots i new r worker : ℕ) (x : Ended R) (m m1 m2 : Seated J R) → steps.ended (step slots i new 0 none) m1 r m2
-      → new ≡ code (end_word x) → m1 ≡ (m.0, (i, Row (row_in x)) ∷ rest m.1) → m.0.worker ≡ worker
-      → AddsEvent slots m.0 (end_event worker i x) m2.0
-  did_end slots i new r worker x m m1 m2 told coded now who = let did = told.1 in let me : Path (View J R) m1.0 m.0 = ap
-      (λ (y : Seated J R). y.0) now in
-      let same : did.0 ≡ x = same_end did.0 x (sym did.1 ∙ coded)
-      (first_row i i (row_in did.0) (row_in x) (rest m1.1) (rest m.1) (sym did.2 ∙ ap (λ (y : Seated J R). y.1) now)) in
-      let by : m1.0.worker ≡ worker = ap (λ (y : View J R). y.worker) me ∙ who in
-      subst (λ (z : View J R × ℕ × Ended R). AddsEvent slots z.0 (end_event z.1 i z.2) m2.0) (λ k. (me k, by k, same k)) did.3
+      (end_told root workers me i v lives empty claim x may s r at near') in
+      let row = subst (λ (c : List (ℕ × Slot J R)). IsRow root workers (stepped s i new me c w gives)) (sym has)
+      (subst (λ n. IsRow root workers record { words = set s.words i n; homes = to; views = set s.views me w }) (sym coded) did.0) in
+      let adds = subst (λ c. AddsEvent c v e w) len ((r.history, k0.seen, refl), refl, did.1) in
+      (w, gives, tt, row, (((refl, refl, refl, refl, refl, refl), empty, refl, refl, refl), (x, coded, has, adds)))
 
   -- the slot of a claim goes home, and nothing else changes
   pub puts_down : (root : Option J) (workers slots me : ℕ) (m : Seated J R) (i : ℕ) → m.0.live ≡ true → i < slots → m.0.drawn ≡ 0

@@ -1,17 +1,11 @@
 -- Numbers below the mark of those that are taken stay taken, and the mark goes up by what is found at it.
-use Rattle.std.proofs.Common.{◌≡◌, ℕ, ◌<◌, ◌≤◌, ◌⊎◌, ⊎_elim, Bool, true, false, ap, sym, ◌∙◌, subst, arith}
+use Rattle.std.proofs.{Common.{◌≡◌, ℕ, ◌<◌, ◌≤◌, ◌⊎◌, ⊎_elim, Bool, true, false, ap, sym, ◌∙◌, subst, arith}, lemmas.Bool.Decides.nat_tests}
 use Rattle.std.specs.Prelude.{MatchBool}
-use Rattle.std.proofs.lemmas.Bool.Decides.{nat_tests}
-use Rattle.lc_board.specs.State.{Claimed, status}
-use Rattle.lc_board.specs.Growth.{GoesOn, rank}
-use Rattle.lc_board.specs.WordSteps.{IsFair, AddsEvent, ExtendsFairly, Finds, HasLooked, taken_after, last_look}
-use Rattle.lc_board.specs.WordPass.{AreTaken}
-use Rattle.lc_board.specs.WordCode.{is_taken}
-use Rattle.lc_board.specs.declared.words.coding.Word.{Word}
-use Rattle.lc_board.specs.declared.words.coding.Word.TheVariants as word
-use Rattle.lc_board.specs.declared.event.Event.{Event}
-use Rattle.lc_board.specs.declared.event.Event.TheVariants.{Claim, Over}
+use Rattle.lc_board.specs.{State.{Claimed, status}, Growth.{GoesOn, rank}}
+use Rattle.lc_board.specs.{WordSteps.{IsFair, AddsEvent, ExtendsFairly, Finds, HasLooked, taken_after, last_look}, WordPass.AreTaken}
+use Rattle.lc_board.specs.{WordCode.is_taken, declared.{words.coding.Word.Word, event.Event.{Event, TheVariants.{Claim, Over}}}}
 use Rattle.lc_board.specs.declared.words.view.View.{View}
+use Rattle.lc_board.specs.declared.words.coding.Word.TheVariants as word
 use Rattle.lc_board.proofs.Growths.{longer, put_here, rank_from}
 
 -- which numbers are below the mark after a look
@@ -43,12 +37,10 @@ module _ {J R : Type 0} where
       (taken_tells i taken x k (subst (λ n. k < n) mark low))
 
   found_taken : (i : ℕ) (x : Word) (w : View J R) → Finds i x w → is_taken x ≡ true → 2 ≤ rank (status w.seen i)
-  found_taken i word.Absent w f is = absurd cc
-  found_taken i word.Open w f is = absurd cc
   found_taken i word.Returned w f is = let e = ap rank f in omega arith
   found_taken i word.Faulted w f is = let e = ap rank f in omega arith
-  found_taken i (word.Drawn u) w f is = absurd cc
   found_taken i (word.Claimed u) w f is = let e = ap rank f.0 in omega arith
+  found_taken i _ w f is = absurd cc
 
   missed_marked : (cap taken : ℕ) (v w : View J R) (b : Bool) → MatchBool b (AddsEvent cap v (Over v.worker) w) (ExtendsFairly cap v w)
       → AreTaken taken v.seen → AreTaken taken w.seen

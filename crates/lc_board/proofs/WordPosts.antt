@@ -1,32 +1,22 @@
 -- A number is drawn, and then opened with a job.
-use Rattle.std.proofs.Common.{◌≡◌, ◌≢◌, ℕ, eqb, subst, ◌+◌, ◌*◌, ◌<◌, true, cond, List, [], ◌∷◌, length, get_or, set, sym, refl, ap}
-use Rattle.std.proofs.Common.{◌∙◌, arith, length-set, Option, Some}
+use Rattle.std.proofs.Common.{◌≡◌, ◌≢◌, ℕ, eqb, subst, ◌+◌, ◌*◌, ◌<◌, true, cond, List, [], ◌∷◌, length, get_or, set, sym, refl, ap, ◌∙◌}
+use Rattle.std.proofs.Common.{arith, length-set, Option, Some}
 use mathlib.Core.Logic.{dite}
 use mathlib.Core.Option.{some, none}
 use native.Mathlib.Decide.{ℕ_discrete, dec_le}
 use lib.ListN.{get_elem?}
-use lib.Seq.{set-get_or}
 use prog.Atomic.{either}
 use Rattle.std.specs.Prelude.{MatchBool}
 use Rattle.atomic_table.specs.Table.{Act, keeps, takes, gives, stepped, step, rest, Allows, Valid, carried_after}
 use Rattle.atomic_table.proofs.Lists.{set_else, set_here, exchanged}
-use Rattle.lc_board.specs.State.{Absent, Open, Claimed, status}
-use Rattle.lc_board.specs.LegalHistory.{IsLegal}
-use Rattle.lc_board.specs.Holding.{holding}
-use Rattle.lc_board.specs.Growth.{put, job_at}
-use Rattle.lc_board.specs.WordCode.{shown, code, word_of, is_absent}
-use Rattle.lc_board.specs.WordRow.{Seated, SlotHolds, Knows, IsRow}
+use Rattle.lc_board.specs.{State.{Absent, Open, Claimed, status}, LegalHistory.IsLegal, Holding.holding, Growth.{put, job_at}}
+use Rattle.lc_board.specs.{WordCode.{shown, code, word_of, is_absent}, WordRow.{Seated, SlotHolds, Knows, IsRow}}
+use Rattle.lc_board.specs.{WordSteps.{IsFair, AddsEvent, TakesEmpty, drew, stepped_over, opened}, declared.event.Event.Event}
+use Rattle.lc_board.specs.declared.{event.Event.TheVariants.Post, words.view.{Slot.{Slot, TheVariants.{Empty, Job}}, View.View}}
 use Rattle.lc_board.specs.declared.words.coding.Word.TheVariants as word
-use Rattle.lc_board.specs.WordSteps.{IsFair, AddsEvent, TakesEmpty, drew, stepped_over, opened}
-use Rattle.lc_board.specs.declared.event.Event.{Event}
-use Rattle.lc_board.specs.declared.event.Event.TheVariants.{Post}
-use Rattle.lc_board.specs.declared.words.view.Slot.{Slot}
-use Rattle.lc_board.specs.declared.words.view.Slot.TheVariants.{Empty, Job}
-use Rattle.lc_board.specs.declared.words.view.View.{View}
-use Rattle.lc_board.proofs.Growths.{at_put, put_here, put_else, whole, part_own, part_else}
-use Rattle.lc_board.proofs.WordCodes.{not_absent}
+use Rattle.lc_board.proofs.{Growths.{at_put, put_here, put_else, whole, part_own, part_else}, WordCodes.not_absent}
 use Rattle.lc_board.proofs.WordsMoved.{agree_put, held_is, still_ended, IsTold, steps_on, IsTurn, turned}
-use Rattle.lc_board.proofs.WordClaims.{St, face_here, next_same, told_same}
+use Rattle.lc_board.proofs.WordClaims.{St, face_here, unwritten, next_same, told_same}
 
 held_same : (a b : ℕ) → word.Drawn a ≡ word.Drawn b → a ≡ b
 held_same a b e = cc
@@ -112,40 +102,21 @@ module _ {J R : Type 0} where
       (set s.homes i none) v.mine (i + 1) v.low (i + 1)
       (turned root workers s r v.worker i r.history (word.Drawn v.worker) (set s.homes i none)
       (draw_turn root workers me i v lives empty front q claim s r at near' gone))
-      (draw_told root workers me i v lives empty front q claim s r at near' gone) in let w = drawn_view v r.history i in (
-        w,
-        takes i Empty,
-        l,
-        subst (λ x. IsRow root workers (stepped s i x me m.1 w (takes i Empty))) (sym is) did.0,
-        (
-          (refl, refl, refl, refl, refl, refl),
-          refl,
-          refl,
-          (k0.seen, refl, subst (λ c. IsFair c w) len did.1),
-          subst (λ b. MatchBool b (TakesEmpty i m (w, carried_after m.1 (takes i Empty)))
-              ((carried_after m.1 (takes i Empty) ≡ m.1) × (w.drawn ≡ v.drawn))) (sym (ap (λ n. is_absent (word_of n)) hit))
-              (refl, refl, below_it root workers me i v lives empty front q claim s r at near' gone),
-        ),
-      ))
+      (draw_told root workers me i v lives empty front q claim s r at near' gone) in let w = drawn_view v r.history i in
+      let row = subst (λ x. IsRow root workers (stepped s i x me m.1 w (takes i Empty))) (sym is) did.0 in
+      let took = subst (λ b. MatchBool b (TakesEmpty i m (w, carried_after m.1 (takes i Empty)))
+      ((carried_after m.1 (takes i Empty) ≡ m.1) × (w.drawn ≡ v.drawn))) (sym (ap (λ n. is_absent (word_of n)) hit))
+      (refl, refl, below_it root workers me i v lives empty front q claim s r at near' gone) in
+      let fair = subst (λ c. IsFair c w) len did.1 in
+      (w, takes i Empty, l, row, ((refl, refl, refl, refl, refl, refl), refl, refl, (k0.seen, refl, fair), took)))
       (λ (miss : z ≢ 0). let w = passed_view v r.history i in
       let did = steps_on root workers s r me v at lives r.history r.faces s.words s.homes v.mine v.drawn v.low (i + 1)
       (next_same root workers s r v.worker) (pass_told root workers me i v lives empty front q claim s r at near'
-      (λ e. miss (r.state.shows i near' ∙ ap code e))) in (
-        w,
-        keeps,
-        tt,
-        subst (λ (ws : List ℕ). IsRow root workers record { words = ws; homes = s.homes; views = set s.views me w })
-            (sym (set-get_or s.words i 0)) did.0,
-        (
-          (refl, refl, refl, refl, refl, refl),
-          refl,
-          refl,
-          (k0.seen, refl, subst (λ c. IsFair c w) len did.1),
-          subst (λ b. MatchBool b (TakesEmpty i m (w, m.1)) ((m.1 ≡ m.1) × (w.drawn ≡ v.drawn)))
-              (sym (ap is_absent (face_here root workers s r i near') ∙ not_absent (r.faces i)
-              (λ e. miss (r.state.shows i near' ∙ ap code e)))) (refl, refl),
-        ),
-      ))
+      (λ e. miss (r.state.shows i near' ∙ ap code e))) in let row = unwritten root workers me s i w did.0 in
+      let kept = subst (λ b. MatchBool b (TakesEmpty i m (w, m.1)) ((m.1 ≡ m.1) × (w.drawn ≡ v.drawn)))
+      (sym (ap is_absent (face_here root workers s r i near') ∙ not_absent (r.faces i)
+      (λ e. miss (r.state.shows i near' ∙ ap code e)))) (refl, refl) in
+      (w, keeps, tt, row, ((refl, refl, refl, refl, refl, refl), refl, refl, (k0.seen, refl, subst (λ c. IsFair c w) len did.1), kept)))
 
   -- a look at a number that another has drawn keeps it too
   pub steps_over : (root : Option J) (workers slots me : ℕ) (m : Seated J R) (i q : ℕ) → m.0.live ≡ true → i < slots → m.0.drawn ≡ 0
@@ -156,40 +127,18 @@ module _ {J R : Type 0} where
       dite (ℕ_discrete z 0)
       (λ (hit : z ≡ 0). let w = record v { seen = r.history } in
       let did = steps_on root workers s r me v at lives r.history r.faces s.words s.homes v.mine v.drawn v.low v.front
-      (next_same root workers s r v.worker) (told_same root workers s r me v k0) in (
-        w,
-        keeps,
-        tt,
-        subst (λ (ws : List ℕ). IsRow root workers record { words = ws; homes = s.homes; views = set s.views me w })
-            (sym (set-get_or s.words i 0)) did.0,
-        (
-          refl,
-          (refl, refl, refl, refl, refl, refl),
-          refl,
-          refl,
-          sym (ap (λ n. cond (is_absent (word_of n)) v.front (i + 1)) hit),
-          (k0.seen, refl, subst (λ c. IsFair c w) len did.1),
-        ),
-      ))
+      (next_same root workers s r v.worker) (told_same root workers s r me v k0) in
+      let row = unwritten root workers me s i w did.0 in let fair = subst (λ c. IsFair c w) len did.1 in
+      let stays = sym (ap (λ n. cond (is_absent (word_of n)) v.front (i + 1)) hit) in
+      (w, keeps, tt, row, (refl, (refl, refl, refl, refl, refl, refl), refl, refl, stays, (k0.seen, refl, fair))))
       (λ (miss : z ≢ 0). let w = passed_view v r.history i in
       let did = steps_on root workers s r me v at lives r.history r.faces s.words s.homes v.mine v.drawn v.low (i + 1)
       (next_same root workers s r v.worker) (pass_told root workers me i v lives empty front q claim s r at near'
-      (λ e. miss (r.state.shows i near' ∙ ap code e))) in (
-        w,
-        keeps,
-        tt,
-        subst (λ (ws : List ℕ). IsRow root workers record { words = ws; homes = s.homes; views = set s.views me w })
-            (sym (set-get_or s.words i 0)) did.0,
-        (
-          refl,
-          (refl, refl, refl, refl, refl, refl),
-          refl,
-          refl,
-          sym (ap (λ b. cond b v.front (i + 1)) (ap is_absent (face_here root workers s r i near') ∙ not_absent (r.faces i)
-              (λ e. miss (r.state.shows i near' ∙ ap code e)))),
-          (k0.seen, refl, subst (λ c. IsFair c w) len did.1),
-        ),
-      ))
+      (λ e. miss (r.state.shows i near' ∙ ap code e))) in
+      let row = unwritten root workers me s i w did.0 in let fair = subst (λ c. IsFair c w) len did.1 in
+      let goes = sym (ap (λ b. cond b v.front (i + 1)) (ap is_absent (face_here root workers s r i near') ∙ not_absent (r.faces i)
+      (λ e. miss (r.state.shows i near' ∙ ap code e)))) in
+      (w, keeps, tt, row, (refl, (refl, refl, refl, refl, refl, refl), refl, refl, goes, (k0.seen, refl, fair))))
 
   -- the number that is drawn is opened with the job
   abbrev opened_view : View J R → List (Event J R) → Event J R → View J R
@@ -258,19 +207,7 @@ module _ {J R : Type 0} where
       let did = steps_on root workers s r me v at lives (e ∷ r.history) (put r.faces i word.Open) (set s.words i 1)
       (set s.homes i (some (Job j))) (e ∷ v.mine) 0 v.low v.front
       (turned root workers s r v.worker i (e ∷ r.history) word.Open (set s.homes i (some (Job j))) turn)
-      (open_told root workers me i v lives full p claim below j s r at near') in (
-        w,
-        gives,
-        tt,
-        subst (λ (c : List (ℕ × Slot J R)). IsRow root workers (stepped s i 1 me c w gives)) (sym has) did.0,
-        (
-          ((refl, refl, refl, refl, refl, refl), refl, refl, refl, refl),
-          (
-            p,
-            j,
-            claim,
-            has,
-            subst (λ c. AddsEvent c v e w) len ((r.history, k0.seen, refl), refl, did.1),
-          ),
-        ),
-      )
+      (open_told root workers me i v lives full p claim below j s r at near') in
+      let row = subst (λ (c : List (ℕ × Slot J R)). IsRow root workers (stepped s i 1 me c w gives)) (sym has) did.0 in
+      let adds = subst (λ c. AddsEvent c v e w) len ((r.history, k0.seen, refl), refl, did.1) in
+      (w, gives, tt, row, (((refl, refl, refl, refl, refl, refl), refl, refl, refl, refl), (p, j, claim, has, adds)))

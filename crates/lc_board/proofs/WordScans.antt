@@ -1,31 +1,19 @@
 -- A claim that goes up over the words.
-use Rattle.std.proofs.Common.{◌≡◌, ◌≢◌, ℕ, ◌+◌, ◌<◌, ◌≤◌, ◌⊎◌, Bool, true, false, ◌||◌, ◌∷◌, refl, ap, sym, ◌∙◌, subst, inl, inr}
-use Rattle.std.proofs.Common.{⊎_elim, Option, Some, None, arith}
+use Rattle.std.proofs.Common.{◌≡◌, ◌≢◌, ℕ, ◌+◌, ◌<◌, ◌≤◌, ◌⊎◌, Bool, true, false, ◌||◌, ◌∷◌, refl, ap, sym, ◌∙◌, subst, inl, inr, ⊎_elim}
+use Rattle.std.proofs.{Common.{Option, Some, None, arith}, lemmas.Bool.Decides.nat_tests}
 use mathlib.Core.Logic.{dite}
 use native.Mathlib.Decide.{ℕ_discrete, dec_le}
 use Rattle.std.specs.Prelude.{MatchBool, IfSome, Result, Ok, Err, cond}
-use Rattle.std.proofs.lemmas.Bool.Decides.{nat_tests}
-use Rattle.lc_board.specs.State.{Status, Absent, Open, status}
-use Rattle.lc_board.specs.LegalHistory.{IsLegal}
-use Rattle.lc_board.specs.Holding.{holding}
-use Rattle.lc_board.specs.Growth.{GoesOn, rank}
-use Rattle.lc_board.specs.WordSteps.{IsFair, AddsEvent, ExtendsFairly, Extends}
-use Rattle.lc_board.specs.WordSteps.{OthersHeld, Waits, SomeHolds, Finds, HasLooked, low_after}
-use Rattle.lc_board.specs.WordSteps.{is_last_word, last_look, larger}
-use Rattle.lc_board.specs.WordCode.{is_absent, is_open, has_ended, is_busy}
-use Rattle.lc_board.specs.WordPass.{AreTaken}
-use Rattle.lc_board.specs.WordsBoard.{AnswersWordsClaim, IsSamePass, TriesClaim, known}
+use Rattle.lc_board.specs.{State.{Status, Absent, Open, status}, LegalHistory.IsLegal, Holding.holding, Growth.{GoesOn, rank}}
+use Rattle.lc_board.specs.WordSteps.{IsFair, AddsEvent, ExtendsFairly, Extends, OthersHeld, Waits, SomeHolds, Finds, HasLooked, low_after}
+use Rattle.lc_board.specs.{WordSteps.{is_last_word, last_look, larger}, WordCode.{is_absent, is_open, has_ended, is_busy}}
+use Rattle.lc_board.specs.{WordPass.AreTaken, WordsBoard.{AnswersWordsClaim, IsSamePass, TriesClaim, known}, declared.words.Words.Words}
+use Rattle.lc_board.specs.declared.{words.pass.WordsPass.WordsPass, event.Event.{Event, TheVariants.{Post, Claim, Over}}}
+use Rattle.lc_board.specs.declared.words.{coding.Word.Word, view.View.View}
 use Rattle.lc_board.specs.declared.answers.Claim.{Claim as Answer}
 use Rattle.lc_board.specs.declared.answers.Claim.TheVariants as answer
-use Rattle.lc_board.specs.declared.words.Words.{Words}
-use Rattle.lc_board.specs.declared.words.pass.WordsPass.{WordsPass}
-use Rattle.lc_board.specs.declared.event.Event.{Event}
-use Rattle.lc_board.specs.declared.event.Event.TheVariants.{Post, Claim, Over}
-use Rattle.lc_board.specs.declared.words.coding.Word.{Word}
 use Rattle.lc_board.specs.declared.words.coding.Word.TheVariants as word
-use Rattle.lc_board.specs.declared.words.view.View.{View}
-use Rattle.lc_board.proofs.Growths.{rank_from, whole, goes_trans, rank_zero, legal_before}
-use Rattle.lc_board.proofs.WordCodes.{absent_is, open_is}
+use Rattle.lc_board.proofs.{Growths.{rank_from, whole, goes_trans, rank_zero, legal_before}, WordCodes.{absent_is, open_is}}
 use Rattle.lc_board.proofs.WordMarks.{stays_taken}
 
 -- a look at another number than the low mark, or at one after which others may be used, is not the last
@@ -57,29 +45,21 @@ ended_last : (cap i : ℕ) (x : Word) → is_last_word cap i x ≡ false → has
 ended_last cap i x h e l = grind (arith, nat_tests)
 
 busy_last : (cap i : ℕ) (x : Word) → is_busy x ≡ true → is_last_word cap i x ≡ false
-busy_last cap i word.Absent e = absurd cc
 busy_last cap i word.Open e = refl
-busy_last cap i word.Returned e = absurd cc
-busy_last cap i word.Faulted e = absurd cc
 busy_last cap i (word.Drawn w) e = refl
 busy_last cap i (word.Claimed w) e = refl
+busy_last cap i _ e = absurd cc
 
 -- a number that is neither absent, open nor busy has ended
 ended_else : (x : Word) → is_absent x ≡ false → is_open x ≡ false → is_busy x ≡ false → has_ended x ≡ true
-ended_else word.Absent a b c = absurd cc
-ended_else word.Open a b c = absurd cc
 ended_else word.Returned a b c = refl
 ended_else word.Faulted a b c = refl
-ended_else (word.Drawn w) a b c = absurd cc
-ended_else (word.Claimed w) a b c = absurd cc
+ended_else _ a b c = absurd cc
 
 busy_goes_on : (x : Word) → is_busy x ≡ true → has_ended x ≡ false
-busy_goes_on word.Absent e = absurd cc
-busy_goes_on word.Open e = absurd cc
-busy_goes_on word.Returned e = absurd cc
-busy_goes_on word.Faulted e = absurd cc
 busy_goes_on (word.Drawn w) e = refl
 busy_goes_on (word.Claimed w) e = refl
+busy_goes_on _ e = absurd cc
 
 below_larger : (a b k : ℕ) → k < larger a b → (k < a) ⊎ (k < b)
 below_larger a b k h = grind (arith, nat_tests)
@@ -106,10 +86,6 @@ module _ {J R : Type 0} where
   -- a pass stays the same over two steps
   pub same_trans : (a b c : WordsPass J R) → IsSamePass a b → IsSamePass b c → IsSamePass a c
   same_trans a b c x y = (y.0 ∙ x.0, y.1 ∙ x.1, y.2 ∙ x.2, y.3 ∙ x.3, y.4 ∙ x.4)
-
-  -- a pass sees what it has seen
-  pub sees_self : (v : View J R) → Extends v v
-  sees_self v = (whole v.seen, refl)
 
   -- what a claim that has met somebody busy knows before it visits i, where v is the view at its start
   pub record HasMet (cap i : ℕ) (v w : View J R) : Type 0 where
@@ -170,20 +146,16 @@ module _ {J R : Type 0} where
   -- a number that was found neither absent nor open is drawn, claimed or ended
   found_passed : (i : ℕ) (x : Word) (w : View J R) → Finds i x w → is_absent x ≡ false → is_open x ≡ false
       → (status w.seen i ≡ Absent) ⊎ (2 ≤ rank (status w.seen i))
-  found_passed i word.Absent w f a b = absurd cc
-  found_passed i word.Open w f a b = absurd cc
   found_passed i word.Returned w f a b = inr (let e = ap rank f in omega arith)
   found_passed i word.Faulted w f a b = inr (let e = ap rank f in omega arith)
   found_passed i (word.Drawn u) w f a b = inl f.0
   found_passed i (word.Claimed u) w f a b = inr (let e = ap rank f.0 in omega arith)
+  found_passed i _ w f a b = absurd cc
 
   found_busy : (i : ℕ) (x : Word) (w : View J R) → Finds i x w → is_busy x ≡ true → SomeHolds w
-  found_busy i word.Absent w f e = absurd cc
-  found_busy i word.Open w f e = absurd cc
-  found_busy i word.Returned w f e = absurd cc
-  found_busy i word.Faulted w f e = absurd cc
   found_busy i (word.Drawn u) w f e = f.1
   found_busy i (word.Claimed u) w f e = f.1
+  found_busy i _ w f e = absurd cc
 
   -- who holds a claim is another, for a pass that has claimed nothing
   others_held : (v w : View J R) → Extends v w → holding v.mine ≡ None → SomeHolds w → OthersHeld v w
@@ -283,10 +255,6 @@ module _ {J R : Type 0} where
       (subst (λ b. IsScan cap (i + 1) b v w) (sym both)
       (scan_on cap i x busy (is_busy x) v u w refl s m more near free some_word not_open)) marked is
 
-  -- a claim begins at the low mark
-  pub scan_begin : (cap i : ℕ) (v : View J R) → v.low ≡ i → IsScan cap i false v v
-  scan_begin cap i v low = (sees_self v, low)
-
   -- a claim that has met nobody finds the board over at the last word
   pub scan_over : (cap i : ℕ) (x : Word) (busy : Bool) (v u w : View J R) → u.worker ≡ v.worker → busy ≡ false → IsScan cap i busy v u
       → HasLooked cap i x u w → is_last_word cap i x ≡ true → AddsEvent cap v (Over v.worker) w
@@ -301,11 +269,6 @@ module _ {J R : Type 0} where
       let l = above_looks cap i x v u w s.1 m in let sees = sees_trans v u w s.0 (l.0, l.1) in
       let here = subst (λ z. Finds i z w) (absent_is x is) m.6 in
       waits cap i v w sees (met_kept cap i x v u w s.1 m l) (λ k far. was_absent cap w.workers v w k l.2.0 sees.0 (here k far))
-
-  -- so does the end of the words
-  pub later_end : (cap i : ℕ) (busy : Bool) (v w : View J R) → IsScan cap i busy v w → cap ≤ i → w.low < cap → Waits cap v w
-  later_end cap i false v w s far low = let mark = s.1 in absurd (omega arith)
-  later_end cap i true v w s far low = waits cap i v w s.0 s.1 (λ k a. s.1.far k (omega arith))
 
   -- an answer stays one where more had been seen before
   pub sees_answers : (cap : ℕ) (v u w : View J R) (h : Option ℕ) (a : Answer J) → u.worker ≡ v.worker → Extends v u
@@ -323,11 +286,6 @@ module _ {J R : Type 0} where
   sees_answers cap v u w h answer.Over who s x =
       (x.0, subst (λ z. AddsEvent cap v (Over z) w) who (sees_adds cap v u w (Over u.worker) s x.1))
   sees_answers cap v u w h answer.Memory who s x = x
-
-  -- a look at a number above the low mark sees on
-  pub sees_above : (cap i : ℕ) (x : Word) (v u w : View J R) → Extends v u → HasLooked cap i x u w → u.low < i → Extends v w
-  sees_above cap i x v u w s m above = let l = looks_of cap i x u w m (last_no cap i u.low x (λ e. absurd (omega arith))) in
-      sees_trans v u w s (l.0, l.1)
 
   post_to : (cap i worker worker' : ℕ) (o : Option ℕ) (job job' : J) (v u w : View J R) → worker' ≡ worker → job' ≡ job → Extends v u
       → IfSome o (λ p. AddsEvent cap u (Post worker' p i job') w) → IfSome o (λ p. AddsEvent cap v (Post worker p i job) w)

@@ -1,28 +1,19 @@
 -- Passes that are made and taken in, and the row at the start.
 use Rattle.std.proofs.Common.{◌≡◌, ◌≢◌, ℕ, zero, suc, eqb, subst, ◌+◌, ◌<◌, ◌≤◌, ◌⊎◌, Bool, true, false, cond, ltb, List, [], ◌∷◌, ◌++◌}
-use Rattle.std.proofs.Common.{length, get_or, set, replicate, map, sym, refl, ap, ◌∙◌, inl, inr, ⊎_elim, arith, length-set, Option}
-use Rattle.std.proofs.Common.{Some, None}
+use Rattle.std.proofs.Common.{length, get_or, set, replicate, map, sym, refl, ap, ◌∙◌, inl, inr, ⊎_elim, arith, length-set, Option, Some}
+use Rattle.std.proofs.{Common.None, lemmas.List.append-nil}
 use mathlib.Core.Path.{Path}
-use Rattle.std.proofs.lemmas.List.{append-nil}
 use mathlib.Core.Option.{some, some-injective, some-ne-none}
 use mathlib.Core.Option as maybe
 use lib.ListN.{get_elem?}
 use Rattle.atomic_table.specs.Table.{State, Splits, Joins, opening}
 use Rattle.atomic_table.proofs.Lists.{at_set, set_else}
-use Rattle.lc_board.specs.State.{Absent, Open, Claimed, status}
-use Rattle.lc_board.specs.Part.{part}
-use Rattle.lc_board.specs.Growth.{put}
-use Rattle.lc_board.specs.WordCode.{code}
-use Rattle.lc_board.specs.WordRow.{Homes, SlotHolds, HasJoined, Knows, IsRow}
-use Rattle.lc_board.specs.declared.words.coding.Word.{Word}
-use Rattle.lc_board.specs.declared.words.coding.Word.TheVariants as word
+use Rattle.lc_board.specs.{State.{Absent, Open, Claimed, status}, Part.part, Growth.put, WordCode.code}
+use Rattle.lc_board.specs.{WordRow.{Homes, SlotHolds, HasJoined, Knows, IsRow}, declared.{words.coding.Word.Word, event.Event.Event}}
+use Rattle.lc_board.specs.declared.words.view.{Slot.{Slot, TheVariants.{Empty, Job}}, View.View}
 use Rattle.lc_board.specs.WordSteps.{view_before_split, left_of_split, larger, right_of_split, merged, spent}
-use Rattle.lc_board.specs.declared.event.Event.{Event}
-use Rattle.lc_board.specs.declared.words.view.Slot.{Slot}
-use Rattle.lc_board.specs.declared.words.view.Slot.TheVariants.{Empty, Job}
-use Rattle.lc_board.specs.declared.words.view.View.{View}
-use Rattle.lc_board.proofs.Growths.{at_put, put_here, put_else}
-use Rattle.lc_board.proofs.WordsMoved.{same_some, agree_put}
+use Rattle.lc_board.specs.declared.words.coding.Word.TheVariants as word
+use Rattle.lc_board.proofs.{Growths.{at_put, put_here, put_else}, WordsMoved.{same_some, agree_put}}
 
 at_end : {A : Type 0} (l : List A) (a b : A) (j : ℕ) → get_elem? (l ++ a ∷ []) j ≡ some b
     → (get_elem? l j ≡ some b) ⊎ ((j ≡ length l) × (a ≡ b))

@@ -1,14 +1,8 @@
 -- A board of words is started: its first pass, and one pass more.
-use Rattle.std.proofs.Common.{◌≡◌, ◌<◌, ◌≤◌, ◌+◌, ◌-◌, ◌++◌, ◌∷◌, ◌∙◌, ℕ, false, List, [], Option, Some, None, length, replicate}
-use Rattle.std.proofs.Common.{slice_get, slice_set, refl, sym, ap, subst, arith}
-use Rattle.std.proofs.lemmas.List.{length-replicate, length-set}
-use Rattle.lc_board.specs.Pass.{new_pass}
-use Rattle.lc_board.specs.WordPass.{IsTied}
-use Rattle.lc_board.specs.WordRow.{Seated}
-use Rattle.lc_board.specs.WordSteps.{view_before_split, left_of_split, right_of_split}
-use Rattle.lc_board.specs.WordsBoard.{IsPassOf, Owns, IsSamePass, known, told}
-use Rattle.lc_board.specs.declared.words.Words.{Words}
-use Rattle.lc_board.specs.declared.words.pass.WordsPass.{WordsPass}
+use Rattle.std.proofs.Common.{◌≡◌, ◌<◌, ◌≤◌, ◌+◌, ◌-◌, ◌++◌, ◌∷◌, ◌∙◌, ℕ, false, List, [], Option, Some, None, length, replicate, slice_get}
+use Rattle.std.proofs.{Common.{slice_set, refl, sym, ap, subst, arith}, lemmas.List.{length-replicate, length-set}}
+use Rattle.lc_board.specs.{Pass.new_pass, WordPass.IsTied, WordRow.Seated, WordSteps.{view_before_split, left_of_split, right_of_split}}
+use Rattle.lc_board.specs.{WordsBoard.{IsPassOf, Owns, IsSamePass, known, told}, declared.words.{Words.Words, pass.WordsPass.WordsPass}}
 use Rattle.lc_board.specs.declared.words.view.View.{View}
 use Rattle.lc_board.proofs.Places.{each_set, each_push, get_push_other, get_set_same}
 
@@ -56,30 +50,15 @@ module _ {J R : Type 0} where
       let size : length (slice_set items 0 first') ≡ n = length-set items 0 first' ∙ len in
       let was = each 0 first at in
       let mine_first : (known first').mine ≡ (known first).mine = ap (λ (v : View J R). v.mine) me in
-      let told_first : told first' ≡ told first = (λ i. record {
-        worker = same.1 i;
-        mine = mine_first i;
-        full = same.2 i;
-        refused = false;
-      }) in
+      let told_first : told first' ≡ told first =
+      (λ i. record { worker = same.1 i; mine = mine_first i; full = same.2 i; refused = false }) in
       let mine_other : (known other).mine ≡ [] = ap (λ (v : View J R). v.mine) new in
       let worker_other : other.worker ≡ length (slice_set items 0 first') = number ∙ sym size in
-      let told_other : told other ≡ new_pass (length
-      (slice_set items 0 first')) = (λ i. record {
-        worker = worker_other i;
-        mine = mine_other i;
-        full = empty i;
-        refused = false;
-      }) in
+      let told_other : told other ≡ new_pass (length (slice_set items 0 first')) =
+      (λ i. record { worker = worker_other i; mine = mine_other i; full = empty i; refused = false }) in
       let board_first : Owns b first' = (same.0 ∙ was.0.0, (same.3 ∙ was.0.1.0, same.4 ∙ was.0.1.1)) in
-      let board_other : Owns b other = (
-        own,
-        (
-          ap (λ (v : View J R). v.workers) new ∙ was.0.1.0,
-          ap (λ (v : View J R). v.root) new
-              ∙ was.0.1.1,
-        ),
-      ) in (
+      let board_other : Owns b other =
+      (own, (ap (λ (v : View J R). v.workers) new ∙ was.0.1.0, ap (λ (v : View J R). v.root) new ∙ was.0.1.1)) in (
         each_push (λ w o. (p : WordsPass J R) → o ≡ Some p → IsNew b w p) (slice_set items 0 first') other
             (λ p e. let is : other ≡ p = cc e in subst (λ q. IsNew b (length (slice_set items 0 first')) q) is
             (board_other, told_other, ap (λ (v : View J R). v.seen) new))

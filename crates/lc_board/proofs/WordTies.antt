@@ -1,32 +1,20 @@
 -- What is stored in a pass of a board of words stays tied to what it knows and holds.
-use Rattle.std.proofs.Common.{◌≡◌, ℕ, ◌+◌, ◌<◌, Bool, true, false, cond, List, [], ◌∷◌, map, refl, ap, sym, ◌∙◌, subst, Option, Some}
-use Rattle.std.proofs.Common.{None, arith}
+use Rattle.std.proofs.Common.{◌≡◌, ℕ, ◌+◌, ◌<◌, ◌≤◌, true, false, cond, List, [], ◌∷◌, map, refl, ap, sym, ◌∙◌, subst, Option, Some, None}
+use Rattle.std.proofs.Common.{arith}
 use mathlib.Core.Path.{Path}
-use Rattle.std.specs.Prelude.{MatchBool, IsSome}
-use Rattle.std.proofs.lemmas.Bool.Decides.{nat_tests}
+use Rattle.std.specs.Prelude.{IsSome}
 use Rattle.atomic_table.specs.Table.{Step, rest}
-use Rattle.lc_board.specs.Holding.{holding, posted}
-use Rattle.lc_board.specs.WordCode.{word_of, is_absent, is_open}
-use Rattle.lc_board.specs.WordRow.{Seated}
-use Rattle.lc_board.specs.declared.words.coding.Word.{Word}
-use Rattle.lc_board.specs.WordSteps.{AddsEvent, ExtendsFairly, HasLooked, low_after, last_look}
-use Rattle.lc_board.specs.WordSteps.{Leaves, looked, TakesJob, claimed, TriesDraw}
-use Rattle.lc_board.specs.WordSteps.{OpensDrawn, stepped_over}
-use Rattle.lc_board.specs.WordPass.{IsTied, kind, tag, tags_as, carried_as}
-use Rattle.lc_board.specs.declared.event.Event.{Event}
-use Rattle.lc_board.specs.declared.event.Event.TheVariants.{Over}
-use Rattle.lc_board.specs.declared.words.view.Slot.{Slot}
-use Rattle.lc_board.specs.declared.words.view.Slot.TheVariants.{Empty, Job, Row}
+use Rattle.lc_board.specs.{Holding.{holding, posted}, WordCode.{word_of, is_absent, is_open}, WordRow.Seated}
+use Rattle.lc_board.specs.declared.{words.{coding.Word.Word, view.Slot.{Slot, TheVariants.{Empty, Job, Row}}}, event.Event.Event}
 use Rattle.lc_board.specs.declared.words.view.View.{View}
+use Rattle.lc_board.specs.WordSteps.{Same, HasLooked, Leaves, looked, TakesJob, claimed, TriesDraw, OpensDrawn, stepped_over}
+use Rattle.lc_board.specs.WordPass.{IsTied, kind, tag, tags_as, carried_as}
 use Rattle.lc_board.proofs.WordCodes.{match_true, match_false}
 
 -- a claim that is there has a number
 pub holds_some : (o : Option ℕ) → IsSome o → (i : ℕ) × (o ≡ Some i)
 holds_some None h = absurd cc
 holds_some (Some i) h = (i, refl)
-
-lower_stays : (cap i low : ℕ) (x : Word) (low2 slots : ℕ) → slots ≡ cap → low2 ≡ low_after cap i low x → low < slots → low2 < slots
-lower_stays cap i low x low2 slots same is l = grind (arith, nat_tests)
 
 module _ {J R : Type 0} where
   -- what an exchange told, by the word that it found
@@ -44,8 +32,7 @@ module _ {J R : Type 0} where
 
   is_empty : (x : Slot J R) → kind x ≡ 0 → Path (Slot J R) x Empty
   is_empty Empty e = refl
-  is_empty (Job j) e = absurd (omega arith)
-  is_empty (Row r) e = absurd (omega arith)
+  is_empty _ e = absurd (omega arith)
 
   -- what a pass carries, from the tags of it
   pub carried_is : (c : List (ℕ × Slot J R)) (o : Option ℕ) → map tag c ≡ tags_as o → Path (List (ℕ × Slot J R)) c (carried_as o)
@@ -60,41 +47,6 @@ module _ {J R : Type 0} where
   pub first_job : (i k : ℕ) (j job : J) (xs ys : List (ℕ × Slot J R)) → (i, Job j) ∷ xs ≡ (k, Job job) ∷ ys → j ≡ job
   first_job i k j job xs ys e = let h : (i, Job j) ≡ (k, Job job) = cc e in let a : Path (Slot J R) (Job j) (Job job) = ap
       (λ (p : ℕ × Slot J R). p.1) h in cc a
-
-  -- a pass with a claim holds a slot for it
-  pub held_slot : (i : ℕ) (slots worker posts front low : ℕ) (m : Seated J R) → IsTied slots worker (Some i) posts front low m
-      → (x : Slot J R) × (m.1 ≡ (i, x) ∷ rest m.1)
-  held_slot i slots worker posts front low m t = let e = carried_is m.1 (Some i) t.carries in
-      (Empty, e ∙ ap (λ l. (i, Empty) ∷ rest l) (sym e))
-
-  missed_holds : (cap : ℕ) (v w : View J R) (b : Bool) → MatchBool b (AddsEvent cap v (Over v.worker) w) (ExtendsFairly cap v w)
-      → holding w.mine ≡ holding v.mine
-  missed_holds cap v w true a = ap holding a.1
-  missed_holds cap v w false a = ap holding a.1
-
-  missed_posted : (cap : ℕ) (v w : View J R) (b : Bool) → MatchBool b (AddsEvent cap v (Over v.worker) w) (ExtendsFairly cap v w)
-      → posted w.mine ≡ posted v.mine
-  missed_posted cap v w true a = ap posted a.1
-  missed_posted cap v w false a = ap posted a.1
-
-  -- the tie holds over a look that claims nothing
-  pub tied_missed : (cap i : ℕ) (x : Word) (slots worker : ℕ) (claim : Option ℕ) (posts front low low2 : ℕ) (m m' : Seated J R)
-      → slots ≡ cap → m'.1 ≡ m.1 → HasLooked cap i x m.0 m'.0 → low2 ≡ low_after cap i low x
-      → IsTied slots worker claim posts front low m → IsTied slots worker claim posts front low2 m'
-  tied_missed cap i x slots worker claim posts front low low2 m m' same c miss is t = record {
-    live = miss.0.0 ∙ t.live;
-    idle = miss.1 ∙ t.idle;
-    numbered = miss.0.3 ∙ t.numbered;
-    fronted = miss.2 ∙ t.fronted;
-    lowered = miss.3 ∙ (ap (λ l. low_after cap i l x) t.lowered ∙ sym is);
-    holds = missed_holds cap m.0 m'.0 (last_look cap i m.0.low x) miss.7 ∙ t.holds;
-    posts_are = missed_posted cap m.0 m'.0 (last_look cap i m.0.low x) miss.7 ∙ t.posts_are;
-    carries = ap (map tag) c ∙ t.carries;
-    near = t.near;
-    within = t.within;
-    inside = t.inside;
-    lower = lower_stays cap i low x low2 slots same is t.lower;
-  }
 
   -- a claim, and then the empty slot
   pub tied_claimed : (slots i r worker : ℕ) (st : Step (Slot J R)) (posts front low : ℕ) (m m1 m2 : Seated J R) → st.word ≡ i
@@ -139,61 +91,46 @@ module _ {J R : Type 0} where
         lower = t.lower;
       }
 
-  -- a number that another has drawn before is passed
-  pub tied_passed : (cap slots i worker : ℕ) (claim : Option ℕ) (posts low : ℕ) (m m1 : Seated J R) → i < slots → TriesDraw cap i false m m1
-      → IsTied slots worker claim posts i low m → IsTied slots worker claim posts (i + 1) low m1
-  tied_passed cap slots i worker claim posts low m m1 near did t = let miss = did.4 in record {
-    live = did.0.0 ∙ t.live;
-    idle = miss.1 ∙ t.idle;
-    numbered = did.0.3 ∙ t.numbered;
-    fronted = did.2;
-    lowered = did.1 ∙ t.lowered;
-    holds = ap holding did.3.1 ∙ t.holds;
-    posts_are = ap posted did.3.1 ∙ t.posts_are;
-    carries = ap (map tag) miss.0 ∙ t.carries;
-    near = let x = t.near in omega arith;
-    within = omega arith;
+  -- the tie holds where a pass keeps all but its front
+  tied_kept : (slots worker : ℕ) (claim : Option ℕ) (posts front front2 low : ℕ) (m m1 : Seated J R) → Same m.0 m1.0
+      → m1.0.drawn ≡ m.0.drawn → m1.0.low ≡ m.0.low → m1.0.mine ≡ m.0.mine → m1.1 ≡ m.1 → m1.0.front ≡ front2 → posts ≤ front2
+      → front2 ≤ slots → IsTied slots worker claim posts front low m → IsTied slots worker claim posts front2 low m1
+  tied_kept slots worker claim posts front front2 low m m1 same drawn lowered mine carried fronted near within t = record {
+    live = same.0 ∙ t.live;
+    idle = drawn ∙ t.idle;
+    numbered = same.3 ∙ t.numbered;
+    fronted = fronted;
+    lowered = lowered ∙ t.lowered;
+    holds = ap holding mine ∙ t.holds;
+    posts_are = ap posted mine ∙ t.posts_are;
+    carries = ap (map tag) carried ∙ t.carries;
+    near = near;
+    within = within;
     inside = t.inside;
     lower = t.lower;
   }
+
+  -- a number that another has drawn before is passed
+  pub tied_passed : (cap slots i worker : ℕ) (claim : Option ℕ) (posts low : ℕ) (m m1 : Seated J R) → i < slots → TriesDraw cap i false m m1
+      → IsTied slots worker claim posts i low m → IsTied slots worker claim posts (i + 1) low m1
+  tied_passed cap slots i worker claim posts low m m1 near did t = let x = t.near in
+      tied_kept slots worker claim posts i (i + 1) low m m1 did.0 did.4.1 did.1 did.3.1 did.4.0 did.2 (omega arith) (omega arith) t
 
   -- a look at the front, which is absent
   pub tied_seen : (slots r worker : ℕ) (claim : Option ℕ) (st : Step (Slot J R)) (posts front low : ℕ) (m m1 : Seated J R)
       → is_absent (word_of r) ≡ true → stepped_over st m r m1
       → IsTied slots worker claim posts front low m → IsTied slots worker claim posts front low m1
-  tied_seen slots r worker claim st posts front low m m1 none did t = record {
-    live = did.1.0 ∙ t.live;
-    idle = did.2 ∙ t.idle;
-    numbered = did.1.3 ∙ t.numbered;
-    fronted = did.4 ∙ ap (λ b. cond b m.0.front (st.word + 1)) none ∙ t.fronted;
-    lowered = did.3 ∙ t.lowered;
-    holds = ap holding did.5.1 ∙ t.holds;
-    posts_are = ap posted did.5.1 ∙ t.posts_are;
-    carries = ap (map tag) did.0 ∙ t.carries;
-    near = t.near;
-    within = t.within;
-    inside = t.inside;
-    lower = t.lower;
-  }
+  tied_seen slots r worker claim st posts front low m m1 none did t =
+      tied_kept slots worker claim posts front front low m m1 did.1 did.2 did.3 did.5.1 did.0
+      (did.4 ∙ ap (λ b. cond b m.0.front (st.word + 1)) none ∙ t.fronted) t.near t.within t
 
   -- a look at the front, which is used
   pub tied_stepped : (slots i r worker : ℕ) (claim : Option ℕ) (st : Step (Slot J R)) (posts low : ℕ) (m m1 : Seated J R) → st.word ≡ i
       → i < slots → is_absent (word_of r) ≡ false → stepped_over st m r m1
       → IsTied slots worker claim posts i low m → IsTied slots worker claim posts (i + 1) low m1
-  tied_stepped slots i r worker claim st posts low m m1 at near other did t = record {
-    live = did.1.0 ∙ t.live;
-    idle = did.2 ∙ t.idle;
-    numbered = did.1.3 ∙ t.numbered;
-    fronted = did.4 ∙ ap (λ b. cond b m.0.front (st.word + 1)) other ∙ ap (λ k. k + 1) at;
-    lowered = did.3 ∙ t.lowered;
-    holds = ap holding did.5.1 ∙ t.holds;
-    posts_are = ap posted did.5.1 ∙ t.posts_are;
-    carries = ap (map tag) did.0 ∙ t.carries;
-    near = let x = t.near in omega arith;
-    within = omega arith;
-    inside = t.inside;
-    lower = t.lower;
-  }
+  tied_stepped slots i r worker claim st posts low m m1 at near other did t = let x = t.near in
+      tied_kept slots worker claim posts i (i + 1) low m m1 did.1 did.2 did.3 did.5.1 did.0
+      (did.4 ∙ ap (λ b. cond b m.0.front (st.word + 1)) other ∙ ap (λ k. k + 1) at) (omega arith) (omega arith) t
 
   -- a number is drawn, gets the job, and is opened
   pub tied_posted : (cap slots i worker : ℕ) (claim : Option ℕ) (job : J) (posts low : ℕ) (m m1 m2 m3 : Seated J R) → i < slots

@@ -6,22 +6,12 @@ use mathlib.Core.Option.{some}
 use lib.ListN.{get_elem?}
 use Rattle.atomic_table.specs.Table.{State}
 use Rattle.atomic_table.proofs.Lists.{at_set}
-use Rattle.lc_board.specs.State.{Status, Claimed, status}
-use Rattle.lc_board.specs.Part.{part}
-use Rattle.lc_board.specs.LegalHistory.{IsLegal}
-use Rattle.lc_board.specs.Holding.{holding}
-use Rattle.lc_board.specs.RowsInPlace.{row_given}
-use Rattle.lc_board.specs.Growth.{GoesOn, IsEnded, put, job_at, IsMatched}
-use Rattle.lc_board.specs.WordCode.{shown, code}
-use Rattle.lc_board.specs.WordRow.{Homes, SlotHolds, HasJoined, Knows, ShowsState, IsRow}
-use Rattle.lc_board.specs.WordSteps.{IsFair}
-use Rattle.lc_board.specs.declared.words.coding.Word.{Word}
+use Rattle.lc_board.specs.{State.{Status, Claimed, status}, Part.part, LegalHistory.IsLegal, Holding.holding, RowsInPlace.row_given}
+use Rattle.lc_board.specs.{Growth.{GoesOn, IsEnded, put, job_at, IsMatched}, WordCode.{shown, code}}
+use Rattle.lc_board.specs.{WordRow.{Homes, SlotHolds, HasJoined, Knows, ShowsState, IsRow}, WordSteps.IsFair}
+use Rattle.lc_board.specs.declared.{words.{coding.Word.Word, view.{Slot.Slot, View.View}}, event.Event.Event}
 use Rattle.lc_board.specs.declared.words.coding.Word.TheVariants as word
-use Rattle.lc_board.specs.declared.event.Event.{Event}
-use Rattle.lc_board.specs.declared.words.view.Slot.{Slot}
-use Rattle.lc_board.specs.declared.words.view.View.{View}
-use Rattle.lc_board.proofs.HeldClaims.{part_tells_claim}
-use Rattle.lc_board.proofs.Growths.{at_put, put_else, whole, goes_trans, rank_most, rank_from}
+use Rattle.lc_board.proofs.{HeldClaims.part_tells_claim, Growths.{at_put, put_else, whole, goes_trans, rank_most, rank_from}}
 
 -- a number is the same for the worker u
 pub record IsApart (u : ℕ) (faces faces' : ℕ → Word) : Type 0 where
@@ -34,12 +24,8 @@ pub record IsApart (u : ℕ) (faces faces' : ℕ → Word) : Type 0 where
 
 -- a status that is claimed is that of one word alone
 pub of_shown : (c : Word) (w : ℕ) → shown c ≡ Claimed w → c ≡ word.Claimed w
-of_shown word.Absent w e = absurd cc
-of_shown word.Open w e = absurd cc
-of_shown word.Returned w e = absurd cc
-of_shown word.Faulted w e = absurd cc
-of_shown (word.Drawn u) w e = absurd cc
 of_shown (word.Claimed u) w e = let same : u ≡ w = cc in ap word.Claimed same
+of_shown _ w e = absurd cc
 
 apart_at : (u : ℕ) (faces : ℕ → Word) (i : ℕ) (c' : Word) → faces i ≢ word.Drawn u → c' ≢ word.Drawn u → c' ≢ word.Claimed u
     → IsApart u faces (put faces i c')
@@ -212,12 +198,11 @@ module _ {J R : Type 0} where
   pub lies_stay : (root : Option J) (h h' : List (Event J R)) (hs hs' : Homes J R) (k : ℕ) → get_elem? hs' k ≡ get_elem? hs k
       → job_at root h' k ≡ job_at root h k → row_given h' k ≡ row_given h k → (c : Word) → SlotHolds root h hs k c
       → SlotHolds root h' hs' k c
-  lies_stay root h h' hs hs' k a b d (word.Drawn w) l = tt
   lies_stay root h h' hs hs' k a b d word.Absent l = a ∙ l
   lies_stay root h h' hs hs' k a b d word.Open l = (l.0, a ∙ l.1, b ∙ l.2)
-  lies_stay root h h' hs hs' k a b d (word.Claimed w) l = tt
   lies_stay root h h' hs hs' k a b d word.Returned l = (l.0, a ∙ l.1, d ∙ l.2)
   lies_stay root h h' hs hs' k a b d word.Faulted l = (l.0, a ∙ l.1, d ∙ l.2)
+  lies_stay root h h' hs hs' k a b d _ l = tt
 
   -- what a step on the number i owes
   pub record IsTurn (root : Option J) (workers : ℕ) (s : State (Slot J R) (View J R)) (r : IsRow root workers s) (worker i : ℕ)

@@ -1,6 +1,5 @@
 -- An event without its job or row. Which events are allowed rests on the workers and the numbers alone.
-use Rattle.lc_board.specs.declared.event.Event.{Event}
-use Rattle.lc_board.specs.declared.event.Event.TheVariants.{Post, Claim, Return, Fault, Over}
+use Rattle.lc_board.specs.declared.event.Event.{Event, TheVariants.{Post, Claim, Return, Fault, Over}}
 
 abbrev pub BareEvent : Type 0
 BareEvent = Event (Unit {0}) (Unit {0})

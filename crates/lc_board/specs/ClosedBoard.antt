@@ -1,16 +1,9 @@
 -- What closing a shared board answers, of its passes.
 use Rattle.std.specs.Prelude.{◌≡◌, ◌≢◌, ℕ, ◌<◌, Bool, true, false, Option, Some, None, List, map, length, slice_get}
-use Rattle.lc_board.specs.State.{Status, Absent, Open, Claimed, Returned, Faulted, status}
-use Rattle.lc_board.specs.Part.{part}
-use Rattle.lc_board.specs.Bare.{bare}
-use Rattle.lc_board.specs.LegalHistory.{IsLegal, IsOver}
-use Rattle.lc_board.specs.Numbers.{HasNumbers}
-use Rattle.lc_board.specs.RowsInPlace.{InPlace}
-use Rattle.lc_board.specs.Pass.{Pass}
-use Rattle.lc_board.specs.declared.event.Event.{Event}
-use Rattle.lc_board.specs.declared.answers.Ended.{Ended}
+use Rattle.lc_board.specs.{State.{Status, Absent, Open, Claimed, Returned, Faulted, status}, Part.part, Bare.bare}
+use Rattle.lc_board.specs.{LegalHistory.{IsLegal, IsOver}, Numbers.HasNumbers, RowsInPlace.InPlace, Pass.Pass, declared.event.Event.Event}
+use Rattle.lc_board.specs.declared.answers.{Ended.Ended, CloseFault.CloseFault}
 use Rattle.lc_board.specs.declared.answers.Ended.TheVariants as ended
-use Rattle.lc_board.specs.declared.answers.CloseFault.{CloseFault}
 use Rattle.lc_board.specs.declared.answers.CloseFault.TheVariants as close
 
 -- the row at a number is Returned or Faulted as its status says, and an absent number has none
@@ -21,11 +14,9 @@ Shows s (Some (ended.Faulted r)) = s ≡ Faulted
 
 -- open or claimed
 abbrev pub IsUnended : Status → Type 0
-IsUnended Absent = ⊥
 IsUnended Open = Unit {0}
 IsUnended (Claimed w) = Unit {0}
-IsUnended Returned = ⊥
-IsUnended Faulted = ⊥
+IsUnended _ = ⊥
 
 -- what a board type promises of its close:
 -- `keeps`, that the rows are in place; `compares`, that it has a history of its own, which it compares with the passes;

@@ -1,8 +1,6 @@
 -- How a claim is ended: by a row, or by the row of a fault.
 use Rattle.std.specs.Prelude.{◌≡◌, ℕ}
-use Rattle.lc_board.specs.declared.event.Event.{Event}
-use Rattle.lc_board.specs.declared.event.Event.TheVariants.{Return, Fault}
-use Rattle.lc_board.specs.declared.answers.Ended.{Ended}
+use Rattle.lc_board.specs.declared.{event.Event.{Event, TheVariants.{Return, Fault}}, answers.Ended.Ended}
 use Rattle.lc_board.specs.declared.answers.Ended.TheVariants.{Returned, Faulted}
 
 -- the event by which a worker ends its claim of a number

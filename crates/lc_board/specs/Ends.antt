@@ -1,13 +1,7 @@
 -- The ends of a history: which numbers ended, by which rows and by whom, and what is said of each end.
 use Rattle.std.specs.Prelude.{◌≡◌, ℕ, ◌<◌, ◌==◌, cond, List, [], ◌∷◌, map, slice_get, Option, Some}
-use Rattle.lc_board.specs.Part.{part}
-use Rattle.lc_board.specs.LegalHistory.{posts_under}
-use Rattle.lc_board.specs.Holding.{job_held, posts_held}
-use Rattle.lc_board.specs.RowsInPlace.{job_got, row_given}
-use Rattle.lc_board.specs.Pass.{Pass}
-use Rattle.lc_board.specs.declared.event.Event.{Event}
-use Rattle.lc_board.specs.declared.event.Event.TheVariants.{Post, Claim, Return, Fault, Over}
-use Rattle.lc_board.specs.declared.answers.Ended.{Ended}
+use Rattle.lc_board.specs.{Part.part, LegalHistory.posts_under, Holding.{job_held, posts_held}, RowsInPlace.{job_got, row_given}, Pass.Pass}
+use Rattle.lc_board.specs.declared.{event.Event.{Event, TheVariants.{Return, Fault}}, answers.Ended.Ended}
 use Rattle.lc_board.specs.declared.answers.Ended.TheVariants as ended
 
 -- what is said of an end, by its worker: of the job and the posts of its claim, its row, and a witness
@@ -18,33 +12,27 @@ module _ {J R : Type 0} where
   -- the numbers that ended, each with its row, the newest first
   abbrev pub ends : List (Event J R) → List (ℕ × Ended R)
   ends [] = []
-  ends (Post w p i j ∷ h) = ends h
-  ends (Claim w i j ∷ h) = ends h
   ends (Return w i r ∷ h) = (i, ended.Returned r) ∷ ends h
   ends (Fault w i r ∷ h) = (i, ended.Faulted r) ∷ ends h
-  ends (Over w ∷ h) = ends h
+  ends (_ ∷ h) = ends h
 
   -- who ended a number
   abbrev pub ender : List (Event J R) → ℕ → ℕ
   ender [] k = 0
-  ender (Post w p i j ∷ h) k = ender h k
-  ender (Claim w i j ∷ h) k = ender h k
   ender (Return w i r ∷ h) k = cond (k == i) w (ender h k)
   ender (Fault w i r ∷ h) k = cond (k == i) w (ender h k)
-  ender (Over w ∷ h) k = ender h k
+  ender (_ ∷ h) k = ender h k
 
   -- each end among a worker's events is as P says of the claim that it ends, with one witness for each, the newest first
   abbrev pub EachEnd : {A : Type 0}
       → (Option J → List (ℕ × J) → Ended R → A → Type 0) → List (Event J R) → List A → Type 0
   EachEnd P [] [] = Unit {0}
   EachEnd P [] (a ∷ given) = ⊥
-  EachEnd P (Post w p i j ∷ m) given = EachEnd P m given
-  EachEnd P (Claim w i j ∷ m) given = EachEnd P m given
   EachEnd P (Return w i r ∷ m) [] = ⊥
   EachEnd P (Return w i r ∷ m) (a ∷ given) = P (job_held m) (posts_held m) (ended.Returned r) a × EachEnd P m given
   EachEnd P (Fault w i r ∷ m) [] = ⊥
   EachEnd P (Fault w i r ∷ m) (a ∷ given) = P (job_held m) (posts_held m) (ended.Faulted r) a × EachEnd P m given
-  EachEnd P (Over w ∷ m) given = EachEnd P m given
+  EachEnd P (_ ∷ m) given = EachEnd P m given
 
   -- each number that ended is as P says of it in the whole history, with the witness that stands for its number; each worker's
   -- witnesses are those of the numbers that it ended

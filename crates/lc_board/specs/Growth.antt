@@ -1,8 +1,7 @@
 -- How a history goes on, and how far a number has come in it.
 use Rattle.std.specs.Prelude.{◌≡◌, ℕ, ◌≤◌, ◌==◌, cond, List, [], ◌∷◌, ◌++◌, Option, Some, None}
-use Rattle.lc_board.specs.State.{Status, Absent, Open, Claimed, Returned, Faulted}
-use Rattle.lc_board.specs.declared.event.Event.{Event}
-use Rattle.lc_board.specs.declared.event.Event.TheVariants.{Post, Claim, Return, Fault, Over}
+use Rattle.lc_board.specs.{State.{Status, Absent, Open, Claimed, Returned, Faulted}, declared.event.Event.Event}
+use Rattle.lc_board.specs.declared.event.Event.TheVariants.{Post, Claim}
 
 -- the first history begins with the second one, as both are told from their oldest event
 abbrev pub GoesOn : {E : Type 0} → List E → List E → Type 0
@@ -32,18 +31,12 @@ module _ {J R : Type 0} where
   abbrev pub job_at : Option J → List (Event J R) → ℕ → Option J
   job_at root [] k = cond (k == 0) root None
   job_at root (Post w p i j ∷ h) k = cond (k == i) (Some j) (job_at root h k)
-  job_at root (Claim w i j ∷ h) k = job_at root h k
-  job_at root (Return w i r ∷ h) k = job_at root h k
-  job_at root (Fault w i r ∷ h) k = job_at root h k
-  job_at root (Over w ∷ h) k = job_at root h k
+  job_at root (_ ∷ h) k = job_at root h k
 
   -- a job that is got is the one that was posted there
   abbrev pub IsRight : Option J → List (Event J R) → Event J R → Type 0
-  IsRight root h (Post w p i j) = Unit {0}
   IsRight root h (Claim w i j) = job_at root h i ≡ Some j
-  IsRight root h (Return w i r) = Unit {0}
-  IsRight root h (Fault w i r) = Unit {0}
-  IsRight root h (Over w) = Unit {0}
+  IsRight root h _ = Unit {0}
 
   abbrev pub IsMatched : Option J → List (Event J R) → Type 0
   IsMatched root [] = Unit {0}

@@ -1,7 +1,6 @@
 -- What the events of one worker say of its present claim.
 use Rattle.std.specs.Prelude.{ℕ, ◌+◌, List, [], ◌∷◌, ◌++◌, Option, Some, None}
-use Rattle.lc_board.specs.declared.event.Event.{Event}
-use Rattle.lc_board.specs.declared.event.Event.TheVariants.{Post, Claim, Return, Fault, Over}
+use Rattle.lc_board.specs.declared.event.Event.{Event, TheVariants.{Post, Claim, Return, Fault, Over}}
 
 module _ {J R : Type 0} where
   -- the number that is claimed and not ended
@@ -17,10 +16,8 @@ module _ {J R : Type 0} where
   abbrev pub posted : List (Event J R) → ℕ
   posted [] = 0
   posted (Post w p i j ∷ m) = posted m + 1
-  posted (Claim w i j ∷ m) = 0
-  posted (Return w i r ∷ m) = 0
-  posted (Fault w i r ∷ m) = 0
   posted (Over w ∷ m) = posted m
+  posted (_ ∷ m) = 0
 
   -- the job got with that claim
   abbrev pub job_held : List (Event J R) → Option J
@@ -35,7 +32,5 @@ module _ {J R : Type 0} where
   abbrev pub posts_held : List (Event J R) → List (ℕ × J)
   posts_held [] = []
   posts_held (Post w p i j ∷ m) = posts_held m ++ (i, j) ∷ []
-  posts_held (Claim w i j ∷ m) = []
-  posts_held (Return w i r ∷ m) = []
-  posts_held (Fault w i r ∷ m) = []
   posts_held (Over w ∷ m) = posts_held m
+  posts_held (_ ∷ m) = []

@@ -1,17 +1,10 @@
 -- What holds of every legal history.
 use Rattle.std.specs.Prelude.{◌≡◌, ◌≢◌, ℕ, ◌≤◌, List, [], ◌∷◌, length, IsPermutation, flat_map, sum_by, Option, Some, None, ◌↔◌}
 use Rattle.std.specs.List.{enumerate_from, range_with_len}
-use Rattle.lc_board.specs.State.{Status, Absent, Open, Claimed, Returned, Faulted, status}
-use Rattle.lc_board.specs.Part.{part}
-use Rattle.lc_board.specs.LegalHistory.{posts_under, IsLegal, IsOver}
-use Rattle.lc_board.specs.Holding.{holding, posted, job_held, posts_held}
-use Rattle.lc_board.specs.RowsInPlace.{job_got, row_given, InPlace}
-use Rattle.lc_board.specs.Numbers.{HasNumbers, posts_of, claims_of, ends_of}
-use Rattle.lc_board.specs.Ends.{ends}
-use Rattle.lc_board.specs.Growth.{GoesOn}
-use Rattle.lc_board.specs.declared.event.Event.{Event}
-use Rattle.lc_board.specs.declared.event.Event.TheVariants.{Over}
-use Rattle.lc_board.specs.declared.answers.Ended.{Ended}
+use Rattle.lc_board.specs.{State.{Status, Absent, Open, Claimed, Returned, Faulted, status}, Part.part}
+use Rattle.lc_board.specs.{LegalHistory.{posts_under, IsLegal, IsOver}, Holding.{holding, posted, job_held, posts_held}}
+use Rattle.lc_board.specs.{RowsInPlace.{job_got, row_given, InPlace}, Numbers.{HasNumbers, posts_of, claims_of, ends_of}, Ends.ends}
+use Rattle.lc_board.specs.{Growth.GoesOn, declared.{event.Event.{Event, TheVariants.Over}, answers.Ended.Ended}}
 use Rattle.lc_board.specs.declared.answers.Ended.TheVariants as ended
 
 -- how often a number was posted, claimed and ended, by what it is

@@ -7,9 +7,7 @@
 -- Fault w i        w has claimed i, and nothing was posted under it            i is faulted
 -- Over w           no number is open or claimed                                nothing changes
 use Rattle.std.specs.Prelude.{◌≡◌, ◌≢◌, ℕ, ◌<◌, ◌==◌, cond, List, [], ◌∷◌, ◌++◌}
-use Rattle.lc_board.specs.State.{Absent, Open, Claimed, status}
-use Rattle.lc_board.specs.Part.{worker_of}
-use Rattle.lc_board.specs.declared.event.Event.{Event}
+use Rattle.lc_board.specs.{State.{Absent, Open, Claimed, status}, Part.worker_of, declared.event.Event.Event}
 use Rattle.lc_board.specs.declared.event.Event.TheVariants.{Post, Claim, Return, Fault, Over}
 
 module _ {J R : Type 0} where
@@ -17,10 +15,7 @@ module _ {J R : Type 0} where
   abbrev pub posts_under : ℕ → List (Event J R) → List (ℕ × J)
   posts_under p [] = []
   posts_under p (Post w q i j ∷ h) = cond (p == q) (posts_under p h ++ (i, j) ∷ []) (posts_under p h)
-  posts_under p (Claim w i j ∷ h) = posts_under p h
-  posts_under p (Return w i r ∷ h) = posts_under p h
-  posts_under p (Fault w i r ∷ h) = posts_under p h
-  posts_under p (Over w ∷ h) = posts_under p h
+  posts_under p (_ ∷ h) = posts_under p h
 
   -- the worker has claimed nothing
   abbrev pub IsIdle : ℕ → List (Event J R) → Type 0

@@ -1,9 +1,6 @@
 -- What a pass of the locked board has stored, as contracts see it.
-use Rattle.std.specs.Prelude.{List, map}
-use Rattle.std.specs.declared.snapshot.Snapshot.{Snapshot}
-use Rattle.lc_board.specs.NewestFirst.{newest_first}
-use Rattle.lc_board.specs.declared.event.Event.{Event}
-use Rattle.lc_board.specs.declared.event.Event.TheVariants.{Post, Claim, Return, Fault, Over}
+use Rattle.std.specs.{Prelude.{List, map}, declared.snapshot.Snapshot.Snapshot}
+use Rattle.lc_board.specs.{NewestFirst.newest_first, declared.event.Event.{Event, TheVariants.{Post, Claim, Return, Fault, Over}}}
 
 module _ {J R : Type 0} where
   -- the event whose job or row the snapshot remembers

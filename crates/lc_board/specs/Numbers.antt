@@ -1,8 +1,6 @@
 -- The numbers that a history uses.
 use Rattle.std.specs.Prelude.{◌≡◌, ℕ, ◌≤◌, ◌+◌, ◌==◌, cond, List, [], ◌∷◌, ◌↔◌}
-use Rattle.lc_board.specs.State.{Absent, status}
-use Rattle.lc_board.specs.declared.event.Event.{Event}
-use Rattle.lc_board.specs.declared.event.Event.TheVariants.{Post, Claim, Return, Fault, Over}
+use Rattle.lc_board.specs.{State.{Absent, status}, declared.event.Event.{Event, TheVariants.{Post, Claim, Return, Fault}}}
 
 module _ {J R : Type 0} where
   -- they are 0, 1 and so on, without a gap, and there are so many
@@ -13,25 +11,17 @@ module _ {J R : Type 0} where
   abbrev pub posts_of : ℕ → List (Event J R) → ℕ
   posts_of k [] = 0
   posts_of k (Post w p i j ∷ h) = cond (k == i) (posts_of k h + 1) (posts_of k h)
-  posts_of k (Claim w i j ∷ h) = posts_of k h
-  posts_of k (Return w i r ∷ h) = posts_of k h
-  posts_of k (Fault w i r ∷ h) = posts_of k h
-  posts_of k (Over w ∷ h) = posts_of k h
+  posts_of k (_ ∷ h) = posts_of k h
 
   -- how often a number was claimed
   abbrev pub claims_of : ℕ → List (Event J R) → ℕ
   claims_of k [] = 0
-  claims_of k (Post w p i j ∷ h) = claims_of k h
   claims_of k (Claim w i j ∷ h) = cond (k == i) (claims_of k h + 1) (claims_of k h)
-  claims_of k (Return w i r ∷ h) = claims_of k h
-  claims_of k (Fault w i r ∷ h) = claims_of k h
-  claims_of k (Over w ∷ h) = claims_of k h
+  claims_of k (_ ∷ h) = claims_of k h
 
   -- how often a number was returned or faulted
   abbrev pub ends_of : ℕ → List (Event J R) → ℕ
   ends_of k [] = 0
-  ends_of k (Post w p i j ∷ h) = ends_of k h
-  ends_of k (Claim w i j ∷ h) = ends_of k h
   ends_of k (Return w i r ∷ h) = cond (k == i) (ends_of k h + 1) (ends_of k h)
   ends_of k (Fault w i r ∷ h) = cond (k == i) (ends_of k h + 1) (ends_of k h)
-  ends_of k (Over w ∷ h) = ends_of k h
+  ends_of k (_ ∷ h) = ends_of k h

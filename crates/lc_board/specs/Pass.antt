@@ -1,11 +1,9 @@
 -- What contracts see of a worker's pass, and what each call adds to it.
 use Rattle.std.specs.Prelude.{ℕ, Bool, true, false, Option, Some, None, Result, Ok, Err, List, [], ◌∷◌}
 use Rattle.lc_board.specs.Holding as events
-use Rattle.lc_board.specs.declared.event.Event.{Event}
+use Rattle.lc_board.specs.declared.{event.Event.Event, answers.{Claim.Claim, PostFault.PostFault}}
 use Rattle.lc_board.specs.declared.event.Event.TheVariants as event
-use Rattle.lc_board.specs.declared.answers.Claim.{Claim}
 use Rattle.lc_board.specs.declared.answers.Claim.TheVariants as answer
-use Rattle.lc_board.specs.declared.answers.PostFault.{PostFault}
 use Rattle.lc_board.specs.declared.answers.PostFault.TheVariants as refusal
 
 -- its worker, the events that it made, newest first, and whether a post was answered Full, a claim Memory

@@ -1,12 +1,8 @@
 -- What contracts see of the board of one thread, and which histories it is the state of.
 use Rattle.std.specs.Prelude.{◌≡◌, ℕ, List, [], ◌∷◌, length, slice_get, slice_index_or, replicate, Option, Some, None}
-use Rattle.lc_board.specs.State.{Status, Absent, Open, Claimed, Returned, Faulted, status}
-use Rattle.lc_board.specs.LegalHistory.{posts_under, IsLegal}
-use Rattle.lc_board.specs.RowsInPlace.{job_posted, job_got, row_given}
-use Rattle.lc_board.specs.declared.event.Event.{Event}
-use Rattle.lc_board.specs.declared.plain.cell.Cell.{Cell}
-use Rattle.lc_board.specs.declared.plain.cell.Cell.TheVariants.{Waiting, Held, Done}
-use Rattle.lc_board.specs.declared.answers.Ended.{Ended}
+use Rattle.lc_board.specs.{State.{Status, Absent, Open, Claimed, Returned, Faulted, status}, LegalHistory.{posts_under, IsLegal}}
+use Rattle.lc_board.specs.{RowsInPlace.{job_posted, job_got, row_given}, declared.{event.Event.Event, plain.cell.Cell.Cell}}
+use Rattle.lc_board.specs.declared.{plain.cell.Cell.TheVariants.{Waiting, Held, Done}, answers.Ended.Ended}
 use Rattle.lc_board.specs.declared.answers.Ended.TheVariants as ended
 
 -- the board: for each worker the number that it has claimed, and for each number its cell
@@ -35,10 +31,8 @@ module _ {J R : Type 0} where
   cell_at b k = slice_get b.cells k
 
   abbrev pub posts_in : Option (Cell J R) → ℕ
-  posts_in None = 0
-  posts_in (Some (Waiting j)) = 0
   posts_in (Some (Held w n)) = n
-  posts_in (Some (Done e)) = 0
+  posts_in _ = 0
 
   abbrev pub posts_at : Board J R → Option ℕ → ℕ
   posts_at b None = 0

@@ -1,15 +1,10 @@
 -- What the calls of the board of one thread answer.
-use Rattle.std.specs.Prelude.{◌≡◌, ℕ, ◌<◌, length, slice_set, Option, Some, None, Result, Ok, Err, IfSome}
-use Rattle.lc_board.specs.PlainBoard.{Board, held_by, cell_at, Adds}
+use Rattle.std.specs.Prelude.{◌≡◌, ℕ, ◌<◌, length, slice_set, Option, Some, Result, Ok, Err, IfSome}
+use Rattle.lc_board.specs.{PlainBoard.{Board, held_by, cell_at, Adds}, declared.plain.cell.Cell.{Cell, TheVariants.{Waiting, Held, Done}}}
+use Rattle.lc_board.specs.declared.answers.{Ended.Ended, Claim.Claim, CloseFault.CloseFault, PostFault.PostFault}
 use Rattle.lc_board.specs.declared.event.Event.TheVariants as event
-use Rattle.lc_board.specs.declared.plain.cell.Cell.{Cell}
-use Rattle.lc_board.specs.declared.plain.cell.Cell.TheVariants.{Waiting, Held, Done}
-use Rattle.lc_board.specs.declared.answers.Ended.{Ended}
-use Rattle.lc_board.specs.declared.answers.Claim.{Claim}
 use Rattle.lc_board.specs.declared.answers.Claim.TheVariants as answer
-use Rattle.lc_board.specs.declared.answers.CloseFault.{CloseFault}
 use Rattle.lc_board.specs.declared.answers.CloseFault.TheVariants as close
-use Rattle.lc_board.specs.declared.answers.PostFault.{PostFault}
 use Rattle.lc_board.specs.declared.answers.PostFault.TheVariants as refusal
 
 abbrev pub cell_of : {J R : Type 0} → Ended R → Cell J R
@@ -17,23 +12,18 @@ cell_of e = Done e
 
 module _ {J R : Type 0} where
   abbrev pub IsOpen : Option (Cell J R) → Type 0
-  IsOpen None = ⊥
   IsOpen (Some (Waiting j)) = Unit {0}
-  IsOpen (Some (Held w n)) = ⊥
-  IsOpen (Some (Done e)) = ⊥
+  IsOpen _ = ⊥
 
   abbrev pub IsHeld : Option (Cell J R) → Type 0
-  IsHeld None = ⊥
-  IsHeld (Some (Waiting j)) = ⊥
   IsHeld (Some (Held w n)) = Unit {0}
-  IsHeld (Some (Done e)) = ⊥
+  IsHeld _ = ⊥
 
   -- neither returned nor faulted
   abbrev pub IsLeft : Option (Cell J R) → Type 0
-  IsLeft None = ⊥
   IsLeft (Some (Waiting j)) = Unit {0}
   IsLeft (Some (Held w n)) = Unit {0}
-  IsLeft (Some (Done e)) = ⊥
+  IsLeft _ = ⊥
 
   abbrev pub NoneOpen : Board J R → Type 0
   NoneOpen b = (k : ℕ) → ¬ IsOpen (cell_at b k)

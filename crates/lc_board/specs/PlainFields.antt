@@ -1,17 +1,12 @@
 -- What the fields of a board of one thread keep.
-use Rattle.std.specs.Prelude.{◌≡◌, ℕ, ◌<◌, ◌≤◌, length, Option, Some, None}
-use Rattle.lc_board.specs.PlainBoard.{Board, held_by, cell_at}
-use Rattle.lc_board.specs.PlainCalls.{IsOpen}
-use Rattle.lc_board.specs.declared.plain.cell.Cell.{Cell}
-use Rattle.lc_board.specs.declared.plain.cell.Cell.TheVariants.{Waiting, Held, Done}
+use Rattle.std.specs.Prelude.{◌≡◌, ℕ, ◌<◌, ◌≤◌, length, Option, Some}
+use Rattle.lc_board.specs.{PlainBoard.{Board, held_by, cell_at}, PlainCalls.IsOpen, declared.plain.cell.Cell.{Cell, TheVariants.Held}}
 use Rattle.lc_board.specs.Limits.{capacity_limit}
 
 module _ {J R : Type 0} where
   abbrev pub IsHeldBy : ℕ → Option (Cell J R) → Type 0
-  IsHeldBy w None = ⊥
-  IsHeldBy w (Some (Waiting j)) = ⊥
   IsHeldBy w (Some (Held v n)) = v ≡ w
-  IsHeldBy w (Some (Done e)) = ⊥
+  IsHeldBy w _ = ⊥
 
   -- the numbers below the next one are claimed or ended, those from it on are open; a claimed number is its worker's
   pub record IsSound (next : ℕ) (b : Board J R) : Type 0 where

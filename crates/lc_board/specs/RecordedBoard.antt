@@ -1,11 +1,7 @@
 -- What contracts see of the board under the lock, and what its fields keep.
 use Rattle.std.specs.Prelude.{◌≡◌, ℕ, ◌+◌, ◌≤◌, List, [], ◌∷◌, map, length, Option, Some, None}
-use Rattle.lc_board.specs.Bare.{BareEvent, bare}
-use Rattle.lc_board.specs.Numbers.{HasNumbers}
-use Rattle.lc_board.specs.NewestFirst.{newest_first}
-use Rattle.lc_board.specs.PlainBoard.{Board, workers_of, IsAfter}
-use Rattle.lc_board.specs.declared.event.Event.{Event}
-use Rattle.lc_board.specs.Limits.{workers_limit}
+use Rattle.lc_board.specs.{Bare.{BareEvent, bare}, Numbers.HasNumbers, NewestFirst.newest_first, PlainBoard.{Board, workers_of, IsAfter}}
+use Rattle.lc_board.specs.{declared.event.Event.Event, Limits.workers_limit}
 
 -- the board, and its history, newest first, without jobs and rows
 pub record Record (J R : Type 0) : Type 0 where

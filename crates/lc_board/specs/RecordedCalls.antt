@@ -1,19 +1,12 @@
 -- What the calls of the board under the lock answer.
 use Rattle.std.specs.Prelude.{◌≡◌, ◌≢◌, ℕ, ◌<◌, Bool, true, false, List, ◌∷◌, map, Some, None, Result, Ok, Err, slice_get}
-use Rattle.lc_board.specs.Part.{part}
-use Rattle.lc_board.specs.Bare.{bare}
-use Rattle.lc_board.specs.PlainBoard.{Board, IsFull, workers_of, held_by, posts_by, Adds}
-use Rattle.lc_board.specs.PlainCalls.{AnswersClaim, AnswersPost, IsLeftLeast, NoneLeft}
-use Rattle.lc_board.specs.Pass.{Pass}
-use Rattle.lc_board.specs.ClosedBoard.{Promises}
-use Rattle.lc_board.specs.RecordedBoard.{Record}
-use Rattle.lc_board.specs.declared.event.Event.{Event}
-use Rattle.lc_board.specs.declared.event.Event.TheVariants as event
-use Rattle.lc_board.specs.declared.answers.Claim.{Claim}
-use Rattle.lc_board.specs.declared.answers.Claim.TheVariants as answer
-use Rattle.lc_board.specs.declared.answers.CloseFault.{CloseFault}
-use Rattle.lc_board.specs.declared.answers.CloseFault.TheVariants as close
+use Rattle.lc_board.specs.{Part.part, Bare.bare, PlainBoard.{Board, IsFull, workers_of, held_by, posts_by, Adds}}
+use Rattle.lc_board.specs.{PlainCalls.{AnswersClaim, AnswersPost, IsLeftLeast, NoneLeft}, Pass.Pass, ClosedBoard.Promises}
+use Rattle.lc_board.specs.{RecordedBoard.Record, declared.{event.Event.Event, answers.{Claim.Claim, CloseFault.CloseFault}}}
 use Rattle.lc_board.specs.declared.answers.PostFault.{PostFault}
+use Rattle.lc_board.specs.declared.event.Event.TheVariants as event
+use Rattle.lc_board.specs.declared.answers.Claim.TheVariants as answer
+use Rattle.lc_board.specs.declared.answers.CloseFault.TheVariants as close
 use Rattle.lc_board.specs.declared.answers.PostFault.TheVariants as refusal
 
 -- closing a locked board compares its history with the passes, and promises no more

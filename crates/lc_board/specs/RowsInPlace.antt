@@ -1,8 +1,6 @@
 -- What stands at a number: the job posted there, the job got there, the row that ended it; and rows in place.
 use Rattle.std.specs.Prelude.{◌≡◌, ℕ, ◌==◌, cond, List, [], ◌∷◌, slice_get, Option, Some, None}
-use Rattle.lc_board.specs.declared.event.Event.{Event}
-use Rattle.lc_board.specs.declared.event.Event.TheVariants.{Post, Claim, Return, Fault, Over}
-use Rattle.lc_board.specs.declared.answers.Ended.{Ended}
+use Rattle.lc_board.specs.declared.{event.Event.{Event, TheVariants.{Post, Claim, Return, Fault}}, answers.Ended.Ended}
 use Rattle.lc_board.specs.declared.answers.Ended.TheVariants as ended
 
 module _ {J R : Type 0} where
@@ -10,28 +8,20 @@ module _ {J R : Type 0} where
   abbrev pub job_posted : J → List (Event J R) → ℕ → Option J
   job_posted root [] k = cond (k == 0) (Some root) None
   job_posted root (Post w p i j ∷ h) k = cond (k == i) (Some j) (job_posted root h k)
-  job_posted root (Claim w i j ∷ h) k = job_posted root h k
-  job_posted root (Return w i r ∷ h) k = job_posted root h k
-  job_posted root (Fault w i r ∷ h) k = job_posted root h k
-  job_posted root (Over w ∷ h) k = job_posted root h k
+  job_posted root (_ ∷ h) k = job_posted root h k
 
   -- the job got with the claim of a number
   abbrev pub job_got : List (Event J R) → ℕ → Option J
   job_got [] k = None
-  job_got (Post w p i j ∷ h) k = job_got h k
   job_got (Claim w i j ∷ h) k = cond (k == i) (Some j) (job_got h k)
-  job_got (Return w i r ∷ h) k = job_got h k
-  job_got (Fault w i r ∷ h) k = job_got h k
-  job_got (Over w ∷ h) k = job_got h k
+  job_got (_ ∷ h) k = job_got h k
 
   -- the row given by the event that ended a number
   abbrev pub row_given : List (Event J R) → ℕ → Option (Ended R)
   row_given [] k = None
-  row_given (Post w p i j ∷ h) k = row_given h k
-  row_given (Claim w i j ∷ h) k = row_given h k
   row_given (Return w i r ∷ h) k = cond (k == i) (Some (ended.Returned r)) (row_given h k)
   row_given (Fault w i r ∷ h) k = cond (k == i) (Some (ended.Faulted r)) (row_given h k)
-  row_given (Over w ∷ h) k = row_given h k
+  row_given (_ ∷ h) k = row_given h k
 
   -- each row stands at the number that it ended, and the job got there is the job posted there
   pub record InPlace (root : J) (h : List (Event J R)) (rows : List (Ended R)) : Type 0 where

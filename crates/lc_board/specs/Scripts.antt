@@ -1,13 +1,8 @@
 -- Two short histories, on which the definitions are computed.
 use Rattle.std.specs.Prelude.{◌≡◌, ℕ, List, [], ◌∷◌, Some}
-use Rattle.lc_board.specs.LegalHistory.{IsLegal, IsOver, posts_under}
-use Rattle.lc_board.specs.Part.{part}
-use Rattle.lc_board.specs.Holding.{holding, posted, job_held, posts_held}
-use Rattle.lc_board.specs.RowsInPlace.{InPlace}
-use Rattle.lc_board.specs.Numbers.{HasNumbers}
-use Rattle.lc_board.specs.declared.event.Event.{Event}
-use Rattle.lc_board.specs.declared.event.Event.TheVariants.{Post, Claim, Return, Fault, Over}
-use Rattle.lc_board.specs.declared.answers.Ended.{Ended}
+use Rattle.lc_board.specs.{LegalHistory.{IsLegal, IsOver, posts_under}, Part.part, Holding.{holding, posted, job_held, posts_held}}
+use Rattle.lc_board.specs.{RowsInPlace.InPlace, Numbers.HasNumbers, declared.event.Event.Event}
+use Rattle.lc_board.specs.declared.{event.Event.TheVariants.{Post, Claim, Return, Fault, Over}, answers.Ended.Ended}
 use Rattle.lc_board.specs.declared.answers.Ended.TheVariants as ended
 
 abbrev pub Script : Type 0

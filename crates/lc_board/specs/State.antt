@@ -1,7 +1,6 @@
 -- The state of the sequential board: what each number is after a history. A history is a list of events, its newest first.
 use Rattle.std.specs.Prelude.{ℕ, ◌==◌, cond, List, [], ◌∷◌}
-use Rattle.lc_board.specs.declared.event.Event.{Event}
-use Rattle.lc_board.specs.declared.event.Event.TheVariants.{Post, Claim, Return, Fault, Over}
+use Rattle.lc_board.specs.declared.event.Event.{Event, TheVariants.{Post, Claim, Return, Fault, Over}}
 
 -- what a number is; one that is absent is not in the state
 pub data Status : Type 0 where

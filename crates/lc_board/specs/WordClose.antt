@@ -1,23 +1,14 @@
 -- What the closed row of words says, and what is taken out of it.
-use Rattle.std.specs.Prelude.{◌≡◌, ◌≢◌, ℕ, ◌<◌, ◌≤◌, ◌⊎◌, true, false}
-use Rattle.std.specs.Prelude.{List, length, slice_get, slice_index, Option, Some, None, Result, Ok, Err}
+use Rattle.std.specs.Prelude.{◌≡◌, ◌≢◌, ℕ, ◌<◌, ◌≤◌, ◌⊎◌, true, false, List, length, slice_get, slice_index, Option, Some, None, Result, Ok}
+use Rattle.std.specs.Prelude.{Err}
 use mathlib.Core.Option.{some}
 use lib.ListN.{get_elem?}
-use Rattle.lc_board.specs.State.{Status, Absent, Open, Claimed, Returned, Faulted, status}
-use Rattle.lc_board.specs.RowsInPlace.{row_given}
-use Rattle.lc_board.specs.Growth.{IsEnded}
-use Rattle.lc_board.specs.WordCode.{shown, word_of, is_absent, has_ended}
-use Rattle.lc_board.specs.WordRow.{ShowsState}
-use Rattle.lc_board.specs.declared.words.coding.Word.{Word}
+use Rattle.lc_board.specs.{State.{Status, Returned, Faulted, status}, RowsInPlace.row_given, Growth.IsEnded}
+use Rattle.lc_board.specs.{WordCode.{shown, word_of, is_absent, has_ended}, WordRow.ShowsState, declared.words.coding.Word.Word}
+use Rattle.lc_board.specs.declared.{event.Event.Event, answers.Ended.Ended, words.view.{Slot.{Slot, TheVariants.Row}, View.View}}
+use Rattle.lc_board.specs.{Pass.Pass, ClosedBoard.{Promises, HasParts}}
 use Rattle.lc_board.specs.declared.words.coding.Word.TheVariants as word
-use Rattle.lc_board.specs.Pass.{Pass}
-use Rattle.lc_board.specs.ClosedBoard.{Promises, HasParts}
-use Rattle.lc_board.specs.declared.event.Event.{Event}
-use Rattle.lc_board.specs.declared.answers.Ended.{Ended}
 use Rattle.lc_board.specs.declared.answers.Ended.TheVariants as ended
-use Rattle.lc_board.specs.declared.words.view.Slot.{Slot}
-use Rattle.lc_board.specs.declared.words.view.Slot.TheVariants.{Row}
-use Rattle.lc_board.specs.declared.words.view.View.{View}
 
 -- closing a board of words compares nothing; its rows are in place, and a post is answered Full only where all numbers are used
 abbrev pub words_promises : Promises
@@ -39,11 +30,9 @@ TellsEnded capacity codes (Err n) = EndedBelow n codes × (n < capacity)
 
 -- the row of a number that has ended, as its status says
 abbrev pub ended_as : {R : Type 0} → Status → R → Option (Ended R)
-ended_as Absent r = None
-ended_as Open r = None
-ended_as (Claimed w) r = None
 ended_as Returned r = Some (ended.Returned r)
 ended_as Faulted r = Some (ended.Faulted r)
+ended_as _ r = None
 
 module _ {J R : Type 0} where
   -- each number below n has its row in its slot

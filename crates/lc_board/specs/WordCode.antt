@@ -1,11 +1,9 @@
 -- What a word of the board says of its number, and the code under which it is stored.
 use Rattle.std.specs.Prelude.{ℕ, ◌+◌, ◌*◌, ◌-◌, ◌/◌, ◌%◌, ◌==◌, cond, Bool, true, false}
-use Rattle.lc_board.specs.State.{Status}
-use Rattle.lc_board.specs.State as state
-use Rattle.lc_board.specs.declared.answers.Ended.{Ended}
-use Rattle.lc_board.specs.declared.answers.Ended.TheVariants as ended
-use Rattle.lc_board.specs.declared.words.coding.Word.{Word}
+use Rattle.lc_board.specs.{State.Status, declared.{answers.Ended.Ended, words.coding.Word.Word}}
 use Rattle.lc_board.specs.declared.words.coding.Word.TheVariants.{Absent, Open, Returned, Faulted, Drawn, Claimed}
+use Rattle.lc_board.specs.State as state
+use Rattle.lc_board.specs.declared.answers.Ended.TheVariants as ended
 
 -- what the number is; one that is drawn is not in the state yet
 abbrev pub shown : Word → Status
@@ -35,27 +33,16 @@ word_of n = cond (n == 0) Absent (cond (n == 1) Open (cond (n == 2) Returned (co
 
 abbrev pub is_absent : Word → Bool
 is_absent Absent = true
-is_absent Open = false
-is_absent Returned = false
-is_absent Faulted = false
-is_absent (Drawn w) = false
-is_absent (Claimed w) = false
+is_absent _ = false
 
 abbrev pub is_open : Word → Bool
-is_open Absent = false
 is_open Open = true
-is_open Returned = false
-is_open Faulted = false
-is_open (Drawn w) = false
-is_open (Claimed w) = false
+is_open _ = false
 
 abbrev pub has_ended : Word → Bool
-has_ended Absent = false
-has_ended Open = false
 has_ended Returned = true
 has_ended Faulted = true
-has_ended (Drawn w) = false
-has_ended (Claimed w) = false
+has_ended _ = false
 
 -- the word of a number that has ended so
 abbrev pub end_word : {R : Type 0} → Ended R → Word
@@ -64,18 +51,13 @@ end_word (ended.Faulted r) = Faulted
 
 -- some worker is about to open it, or has claimed it
 abbrev pub is_busy : Word → Bool
-is_busy Absent = false
-is_busy Open = false
-is_busy Returned = false
-is_busy Faulted = false
 is_busy (Drawn w) = true
 is_busy (Claimed w) = true
+is_busy _ = false
 
 -- it has ended or is claimed, and so will never be open again
 abbrev pub is_taken : Word → Bool
-is_taken Absent = false
-is_taken Open = false
 is_taken Returned = true
 is_taken Faulted = true
-is_taken (Drawn w) = false
 is_taken (Claimed w) = true
+is_taken _ = false

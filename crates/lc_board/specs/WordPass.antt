@@ -1,12 +1,7 @@
 -- What a pass of a board of words has stored is what it knows and holds.
 use Rattle.std.specs.Prelude.{◌≡◌, ℕ, ◌<◌, ◌≤◌, true, List, [], ◌∷◌, map, Option, Some, None}
-use Rattle.lc_board.specs.Holding.{holding, posted}
-use Rattle.lc_board.specs.State.{status}
-use Rattle.lc_board.specs.Growth.{IsTaken}
-use Rattle.lc_board.specs.WordRow.{Seated}
-use Rattle.lc_board.specs.declared.event.Event.{Event}
-use Rattle.lc_board.specs.declared.words.view.Slot.{Slot}
-use Rattle.lc_board.specs.declared.words.view.Slot.TheVariants.{Empty, Job, Row}
+use Rattle.lc_board.specs.{Holding.{holding, posted}, State.status, Growth.IsTaken, WordRow.Seated, declared.event.Event.Event}
+use Rattle.lc_board.specs.declared.words.view.Slot.{Slot, TheVariants.{Empty, Job, Row}}
 
 -- which kind of slot it is, as a number: of slots themselves it is not known that they are equal in one way only
 abbrev pub kind : {J R : Type 0} → Slot J R → ℕ

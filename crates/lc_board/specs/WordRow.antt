@@ -1,23 +1,14 @@
 -- The row of words, and what each pass knows of it.
-use Rattle.std.specs.Prelude.{◌≡◌, ◌≢◌, ℕ, ◌+◌, ◌<◌, ◌≤◌, true}
-use Rattle.std.specs.Prelude.{List, [], length, Option, Some, None, slice_index}
+use Rattle.std.specs.Prelude.{◌≡◌, ◌≢◌, ℕ, ◌+◌, ◌<◌, ◌≤◌, true, List, [], length, Option, Some, None, slice_index}
 use mathlib.Core.Option.{some, none}
 use mathlib.Core.Option as maybe
 use lib.ListN.{get_elem?}
 use Rattle.atomic_table.specs.Table.{State, Me}
-use Rattle.lc_board.specs.State.{Claimed, status}
-use Rattle.lc_board.specs.Part.{part}
-use Rattle.lc_board.specs.LegalHistory.{IsLegal}
-use Rattle.lc_board.specs.RowsInPlace.{row_given}
-use Rattle.lc_board.specs.Growth.{GoesOn, IsEnded, job_at, IsMatched}
-use Rattle.lc_board.specs.declared.event.Event.{Event}
+use Rattle.lc_board.specs.{State.{Claimed, status}, Part.part, LegalHistory.IsLegal, RowsInPlace.row_given}
+use Rattle.lc_board.specs.{Growth.{GoesOn, IsEnded, job_at, IsMatched}, declared.{event.Event.Event, words.coding.Word.Word}}
+use Rattle.lc_board.specs.{declared.words.view.{Slot.{Slot, TheVariants.{Empty, Job, Row}}, View.View}, WordCode.{shown, code}}
 use Rattle.lc_board.specs.declared.answers.Ended.TheVariants as ended
-use Rattle.lc_board.specs.WordCode.{shown, code}
-use Rattle.lc_board.specs.declared.words.coding.Word.{Word}
 use Rattle.lc_board.specs.declared.words.coding.Word.TheVariants as word
-use Rattle.lc_board.specs.declared.words.view.Slot.{Slot}
-use Rattle.lc_board.specs.declared.words.view.Slot.TheVariants.{Empty, Job, Row}
-use Rattle.lc_board.specs.declared.words.view.View.{View}
 
 -- the slots that are at home, and what a pass knows with the slots that it holds
 abbrev pub Homes : Type 0 → Type 0 → Type 0

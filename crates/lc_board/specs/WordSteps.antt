@@ -1,23 +1,13 @@
 -- What each step on a word tells its pass.
-use Rattle.std.specs.Prelude.{◌≡◌, ◌≢◌, ℕ, ◌+◌, ◌<◌, ◌≤◌, ◌==◌, Bool, true, false, cond, ltb, ◌&&◌, ◌||◌, MatchBool, IsSome}
-use Rattle.std.specs.Prelude.{List, [], ◌∷◌, ◌++◌, Option, Some, None}
+use Rattle.std.specs.Prelude.{◌≡◌, ◌≢◌, ℕ, ◌+◌, ◌<◌, ◌≤◌, ◌==◌, Bool, true, false, cond, ltb, ◌&&◌, ◌||◌, MatchBool, IsSome, List, [], ◌∷◌}
+use Rattle.std.specs.Prelude.{◌++◌, Option, Some, None}
 use Rattle.atomic_table.specs.Table.{Step, rest}
-use Rattle.lc_board.specs.State.{Absent, Open, Claimed, Returned, Faulted, status}
-use Rattle.lc_board.specs.Part.{part}
-use Rattle.lc_board.specs.LegalHistory.{IsLegal}
-use Rattle.lc_board.specs.Holding.{holding}
-use Rattle.lc_board.specs.Growth.{GoesOn, IsEnded, IsMatched}
-use Rattle.lc_board.specs.WordCode.{code, word_of, end_word, is_absent, is_open, has_ended, is_taken}
-use Rattle.lc_board.specs.Ending.{end_event, row_in}
-use Rattle.lc_board.specs.WordRow.{Seated}
-use Rattle.lc_board.specs.declared.answers.Ended.{Ended}
-use Rattle.lc_board.specs.declared.event.Event.{Event}
-use Rattle.lc_board.specs.declared.event.Event.TheVariants.{Post, Claim, Over}
-use Rattle.lc_board.specs.declared.words.coding.Word.{Word}
+use Rattle.lc_board.specs.{State.{Absent, Open, Claimed, Returned, Faulted, status}, Part.part, LegalHistory.IsLegal, Holding.holding}
+use Rattle.lc_board.specs.{Growth.{GoesOn, IsEnded, IsMatched}, WordCode.{code, word_of, end_word, is_absent, is_open, has_ended, is_taken}}
+use Rattle.lc_board.specs.{Ending.{end_event, row_in}, WordRow.Seated, declared.{answers.Ended.Ended, event.Event.Event}}
+use Rattle.lc_board.specs.declared.{event.Event.TheVariants.{Post, Claim, Over}, words.{coding.Word.Word, view.Slot.Slot}}
+use Rattle.lc_board.specs.declared.words.view.{Slot.TheVariants.{Empty, Job, Row}, View.View}
 use Rattle.lc_board.specs.declared.words.coding.Word.TheVariants as word
-use Rattle.lc_board.specs.declared.words.view.Slot.{Slot}
-use Rattle.lc_board.specs.declared.words.view.Slot.TheVariants.{Empty, Job, Row}
-use Rattle.lc_board.specs.declared.words.view.View.{View}
 
 -- the low mark after a look at the number i, whose word is x
 abbrev pub low_after : ℕ → ℕ → ℕ → Word → ℕ

@@ -1,19 +1,11 @@
 -- What a clause says of a board of words, its passes, and what they have seen.
 use Rattle.std.specs.Prelude.{◌≡◌, ◌+◌, ℕ, false, Option, Some, None, IfSome, Result, Ok, Err}
-use Rattle.lc_board.specs.Pass.{Pass}
-use Rattle.lc_board.specs.Ending.{end_event}
-use Rattle.lc_board.specs.WordCode.{is_open}
-use Rattle.lc_board.specs.WordSteps.{AddsEvent, ExtendsFairly, HasLooked, Extends, Waits}
+use Rattle.lc_board.specs.{Pass.Pass, Ending.end_event, WordCode.is_open, WordSteps.{AddsEvent, ExtendsFairly, HasLooked, Extends, Waits}}
+use Rattle.lc_board.specs.declared.{answers.{Claim.Claim, Ended.Ended, PostFault.PostFault}, words.{coding.Word.Word, view.View.View}}
+use Rattle.lc_board.specs.declared.words.{pass.WordsPass.WordsPass, Words.Words}
 use Rattle.lc_board.specs.declared.event.Event.TheVariants as event
-use Rattle.lc_board.specs.declared.answers.Claim.{Claim}
 use Rattle.lc_board.specs.declared.answers.Claim.TheVariants as answer
-use Rattle.lc_board.specs.declared.answers.Ended.{Ended}
-use Rattle.lc_board.specs.declared.answers.PostFault.{PostFault}
 use Rattle.lc_board.specs.declared.answers.PostFault.TheVariants as refusal
-use Rattle.lc_board.specs.declared.words.coding.Word.{Word}
-use Rattle.lc_board.specs.declared.words.view.View.{View}
-use Rattle.lc_board.specs.declared.words.pass.WordsPass.{WordsPass}
-use Rattle.lc_board.specs.declared.words.Words.{Words}
 
 module _ {J R : Type 0} where
   -- the pass is this board's

@@ -1,9 +1,8 @@
 //! What holds of every legal history, for those who reason about boards. A law has no code: its contract is what it says.
-ghost use Rattle.lc_board.specs.Laws.{NumbersOnce, PartSaysWhole, PartTellsClaim, PostedNothing, OverStays, EndedHasRow};
-ghost use Rattle.lc_board.specs.Laws.{EndedStays, PostedOnce, StaysLegal, FewNumbers, FewEnds, RowsAreEnds, SumsOfRows};
-ghost use Rattle.lc_board.specs.Scripts.{ScriptsAreLegal};
-ghost use Rattle.std.specs.Prelude.{◌≡◌};
+ghost use Rattle.lc_board.specs.Laws.{NumbersOnce, PartSaysWhole, PartTellsClaim, PostedNothing, OverStays, EndedHasRow, EndedStays};
+ghost use Rattle.lc_board.specs.{Laws.{PostedOnce, StaysLegal, FewNumbers, FewEnds, RowsAreEnds, SumsOfRows}, Scripts.ScriptsAreLegal};
 ghost use Rattle.lc_board.specs.Limits.{capacity_limit, workers_limit};
+ghost use Rattle.std.specs.Prelude.{◌≡◌};
 
 use crate::limits::{MAX_CAPACITY, MAX_WORKERS};
 

@@ -3,9 +3,7 @@
 //! A lock tells nothing of its value but what its type keeps, so that the board under it agrees with the passes is compared when the
 //! board is closed.
 ghost use Rattle.std.specs.Prelude.{◌≡◌, ◌≢◌, ℕ, ◌≤◌, Some, IfOk, IfErr, map, slice_get, vec_len};
-ghost use Rattle.lc_board.specs.ClosedBoard.{Settled, RefusesClose};
-ghost use Rattle.lc_board.specs.LockedBoard.{told};
-ghost use Rattle.lc_board.specs.RecordedCalls.{locked_promises};
+ghost use Rattle.lc_board.specs.{ClosedBoard.{Settled, RefusesClose}, LockedBoard.told, RecordedCalls.locked_promises};
 ghost use Rattle.lc_board.specs.Limits.{capacity_limit, workers_limit};
 
 use crate::answers::{Claim, CloseFault, Closed, PostFault};

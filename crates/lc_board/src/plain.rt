@@ -1,13 +1,10 @@
 //! The board of one thread. A call names the worker for whom it acts.
-ghost use Rattle.std.specs.Prelude.{◌≡◌, ◌≢◌, ℕ, ◌<◌, ◌≤◌, ◌^◌, [], None, map, slice_set, true, false};
-ghost use Rattle.std.specs.Prelude.{IfOk, IfErr, IfSome, IfNone, MatchBool};
-ghost use Rattle.lc_board.specs.Ending.{MayEnd, end_event};
-ghost use Rattle.lc_board.specs.LegalHistory.{IsOver};
-ghost use Rattle.lc_board.specs.RowsInPlace.{InPlace};
+ghost use Rattle.std.specs.Prelude.{◌≡◌, ◌≢◌, ℕ, ◌<◌, ◌≤◌, ◌^◌, [], None, map, slice_set, true, false, IfOk, IfErr, IfSome, IfNone};
+ghost use Rattle.std.specs.Prelude.{MatchBool};
+ghost use Rattle.lc_board.specs.{Ending.{MayEnd, end_event}, LegalHistory.IsOver, RowsInPlace.InPlace};
 ghost use Rattle.lc_board.specs.PlainBoard.{IsAfter, IsFull, Adds, first_board, workers_of, held_by, posts_by, cell_at};
-ghost use Rattle.lc_board.specs.PlainCalls.{AnswersClaim, AnswersPost, RefusesRows, cell_of};
-ghost use Rattle.lc_board.specs.PlainCalls.{NoneOpen, NoneHeld, IsLeftLeast, NoneLeft, IsLeft};
-ghost use Rattle.lc_board.specs.declared.event.Event.TheVariants.{Return, Fault};
+ghost use Rattle.lc_board.specs.PlainCalls.{AnswersClaim, AnswersPost, RefusesRows, cell_of, NoneOpen, NoneHeld, IsLeftLeast, NoneLeft};
+ghost use Rattle.lc_board.specs.{PlainCalls.IsLeft, declared.event.Event.TheVariants.{Return, Fault}};
 ghost use Rattle.lc_board.specs.Limits.{capacity_limit, workers_limit};
 
 use crate::answers::{Claim, CloseFault, Closed, Ended, PostFault};

@@ -4,8 +4,7 @@
 //! workers stand in one legal history, of which each pass has its worker's part; `close` says so of all passes at once.
 ghost use Rattle.std.specs.Prelude.{◌≡◌, ◌≢◌, ℕ, ◌≤◌, Some, None, IfOk, IfErr, slice_get, vec_len, map};
 ghost use Rattle.lc_board.specs.Pass.{Pass, holding, posted, new_pass, after_claim, after_post, after_give, after_fault, job_back};
-ghost use Rattle.lc_board.specs.ClosedBoard.{Promises, Settled, RefusesClose};
-ghost use Rattle.lc_board.specs.Limits.{capacity_limit, workers_limit};
+ghost use Rattle.lc_board.specs.{ClosedBoard.{Promises, Settled, RefusesClose}, Limits.{capacity_limit, workers_limit}};
 
 use crate::answers::{Claim, CloseFault, Closed, PostFault};
 use std::alloc::{AllocError, Global};

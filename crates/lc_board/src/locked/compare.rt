@@ -1,10 +1,6 @@
 //! The stored history of a locked board against what its passes have stored.
 ghost use Rattle.std.specs.Prelude.{◌≡◌, ◌≢◌, ℕ, ◌≤◌, length, true, false, IfSome, IfNone, Some, slice_get};
-ghost use Rattle.lc_board.specs.Part.{worker_of};
-ghost use Rattle.lc_board.specs.Bare.{bare};
-ghost use Rattle.lc_board.specs.Notes.{valued};
-ghost use Rattle.lc_board.specs.ComparedPass.{IsSame};
-ghost use Rattle.lc_board.specs.Limits.{workers_limit};
+ghost use Rattle.lc_board.specs.{Part.worker_of, Bare.bare, Notes.valued, ComparedPass.IsSame, Limits.workers_limit};
 
 use crate::event::{BareEvent, Event};
 use crate::locked::pass::LockedPass;

@@ -1,14 +1,9 @@
 //! What lies under the lock: a board of one thread beside the history of its events.
 ghost use Rattle.std.specs.Prelude.{◌≡◌, ℕ, ◌≤◌, [], IfOk, IfErr, MatchBool, map, length};
-ghost use Rattle.lc_board.specs.LockedBoard.{told};
-ghost use Rattle.lc_board.specs.Bare.{bare};
-ghost use Rattle.lc_board.specs.Ending.{MayEnd, end_event};
-ghost use Rattle.lc_board.specs.PlainBoard.{first_board, posts_by, IsFull};
-ghost use Rattle.lc_board.specs.RecordedCalls.{Holds, MayFault, Records, RefusesRecorded, locked_promises};
-ghost use Rattle.lc_board.specs.RecordedCalls.{RecordsClaim, RecordsPost, RecordsEnd};
-ghost use Rattle.lc_board.specs.ClosedBoard.{Settled, RefusesClose};
-ghost use Rattle.lc_board.specs.declared.event.Event.TheVariants.{Return, Fault};
-ghost use Rattle.lc_board.specs.Limits.{capacity_limit, workers_limit};
+ghost use Rattle.lc_board.specs.{LockedBoard.told, Bare.bare, Ending.{MayEnd, end_event}, PlainBoard.{first_board, posts_by, IsFull}};
+ghost use Rattle.lc_board.specs.RecordedCalls.{Holds, MayFault, Records, RefusesRecorded, locked_promises, RecordsClaim, RecordsPost};
+ghost use Rattle.lc_board.specs.{RecordedCalls.RecordsEnd, ClosedBoard.{Settled, RefusesClose}};
+ghost use Rattle.lc_board.specs.{declared.event.Event.TheVariants.{Return, Fault}, Limits.{capacity_limit, workers_limit}};
 
 use crate::answers::{Claim, CloseFault, Closed, Ended, PostFault};
 use crate::event::{BareEvent, Event};
@@ -28,8 +23,7 @@ pub struct Recorded<J, R> {
 
 impl<J, R> Model for Recorded<J, R> {
     ghost use Rattle.std.specs.Prelude.{vec_len, vec_capacity};
-    ghost use Rattle.lc_board.specs.NewestFirst.{newest_first};
-    ghost use Rattle.lc_board.specs.RecordedBoard.{Record, KeepsRoom};
+    ghost use Rattle.lc_board.specs.{NewestFirst.newest_first, RecordedBoard.{Record, KeepsRoom}};
 
     ghost Value = { Record J R };
 

@@ -1,9 +1,7 @@
 //! One directory of a board of one thread.
 ghost use Rattle.std.specs.Prelude.{◌≡◌, ℕ, ◌+◌, ◌<◌, Some, MatchBool};
-ghost use Rattle.lc_board.specs.PlainBoard.{posts_in};
-ghost use Rattle.lc_board.specs.PlainCalls.{IsOpen, IsHeld, IsLeft, cell_of};
-ghost use Rattle.lc_board.specs.declared.plain.cell.Cell.TheVariants.{Waiting, Held};
-ghost use Rattle.lc_board.specs.Limits.{capacity_limit};
+ghost use Rattle.lc_board.specs.{PlainBoard.posts_in, PlainCalls.{IsOpen, IsHeld, IsLeft, cell_of}};
+ghost use Rattle.lc_board.specs.{declared.plain.cell.Cell.TheVariants.{Waiting, Held}, Limits.capacity_limit};
 
 use crate::answers::Ended;
 use std::mem;

@@ -1,7 +1,6 @@
 //! All cells of a board of one thread, and who holds them.
 ghost use Rattle.std.specs.Prelude.{◌≡◌, ◌≢◌, ℕ, ◌<◌, ◌≤◌, false, true, Some, IfOk, IfSome, IfNone, length, map, slice_get};
-ghost use Rattle.lc_board.specs.PlainCalls.{IsLeft, cell_of};
-ghost use Rattle.lc_board.specs.Limits.{capacity_limit};
+ghost use Rattle.lc_board.specs.{PlainCalls.{IsLeft, cell_of}, Limits.capacity_limit};
 
 use crate::answers::Ended;
 use crate::plain::cell::Cell;

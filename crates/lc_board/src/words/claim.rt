@@ -4,8 +4,7 @@
 //! numbers that are taken, and goes up from there to the first number that is open or absent. So it takes at most two steps on a word: a
 //! number that it tried in vain is never open again, and gets one look.
 ghost use Rattle.std.specs.Prelude.{◌≡◌, ◌+◌, ◌<◌, None, IfSome, IfNone, cond};
-ghost use Rattle.lc_board.specs.Limits.{capacity_limit};
-ghost use Rattle.lc_board.specs.WordSteps.{Extends, is_last_word, larger};
+ghost use Rattle.lc_board.specs.{Limits.capacity_limit, WordSteps.{Extends, is_last_word, larger}};
 ghost use Rattle.lc_board.specs.WordsBoard.{AnswersWordsClaim, IsPassOf, IsSamePass, TriesClaim, known};
 
 use crate::answers::Claim;

@@ -1,9 +1,7 @@
 //! A board of words is closed: the passes are taken in, and the rows are taken out.
 ghost use Rattle.std.specs.Prelude.{◌≡◌, ℕ, ◌<◌, ◌≤◌, true, false, slice_index_or, slice_get, [], Some, IfOk, map, vec_len};
-ghost use Rattle.std.specs.Mem.Slots.{slots_items, slots_filled, slots_len, IsFull};
-ghost use Rattle.std.specs.Mem.Slots.Ownership.{Filled};
-ghost use Rattle.lc_board.specs.WordSteps.{IsSameTold, merged};
-ghost use Rattle.lc_board.specs.WordsBoard.{IsPassOf, IsSamePass, known, told};
+ghost use Rattle.std.specs.Mem.Slots.{slots_items, slots_filled, slots_len, IsFull, Ownership.Filled};
+ghost use Rattle.lc_board.specs.{WordSteps.{IsSameTold, merged}, WordsBoard.{IsPassOf, IsSamePass, known, told}};
 ghost use Rattle.lc_board.specs.WordClose.{TellsEnded, EndedBelow, HasRows, IsClosedRow, TakesRows, ended_as};
 ghost use Rattle.lc_board.specs.WordCode.{has_ended, shown};
 

@@ -1,8 +1,7 @@
 //! The steps of a post on the seat of a pass: a number is drawn, its slot is filled, and it is opened.
 ghost use Rattle.std.specs.Prelude.{◌≡◌, ◌<◌, ◌∷◌};
 ghost use Rattle.atomic_table.specs.Table.{rest};
-ghost use Rattle.lc_board.specs.WordSteps.{MayDraw, TriesDraw, MayOpen, OpensDrawn};
-ghost use Rattle.lc_board.specs.declared.words.view.Slot.TheVariants.{Empty};
+ghost use Rattle.lc_board.specs.{WordSteps.{MayDraw, TriesDraw, MayOpen, OpensDrawn}, declared.words.view.Slot.TheVariants.Empty};
 
 use crate::words::Words;
 use crate::words::coding::{ABSENT, OPEN, Word, drawn_by};

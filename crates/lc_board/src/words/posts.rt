@@ -1,7 +1,6 @@
 //! A job is posted at the front of a pass, or beyond it.
 ghost use Rattle.std.specs.Prelude.{◌≡◌, ◌+◌, ◌<◌, MatchBool, IsSome};
-ghost use Rattle.lc_board.specs.WordSteps.{ExtendsFairly};
-ghost use Rattle.lc_board.specs.WordsBoard.{AnswersWordsPost, IsPassOf, IsSamePass, TriesPost, known};
+ghost use Rattle.lc_board.specs.{WordSteps.ExtendsFairly, WordsBoard.{AnswersWordsPost, IsPassOf, IsSamePass, TriesPost, known}};
 
 use crate::answers::PostFault;
 use crate::words::Words;

@@ -1,4 +1,9 @@
 //! The rule that the words of a board keep, and what each step on a word tells.
+ghost use Rattle.std.specs.Prelude.{Some};
+ghost use Rattle.lc_board.specs.WordRow.{IsRow};
+ghost use Rattle.lc_board.specs.WordSteps.{looked, stepped_over, drew, opened, claimed, ended, put_down};
+ghost use Rattle.lc_board.specs.WordSteps.{view_before_split, left_of_split, right_of_split, merged, spent};
+
 use crate::words::view::{Slot, View};
 use atomic_table::{Join, Play, Split, TableRule};
 use std::snapshot::Snapshot;
@@ -14,10 +19,6 @@ pub struct BoardSetup<J> {
 pub struct OneHistory;
 
 impl<J, R> TableRule<Slot<J, R>, View<J, R>, BoardSetup<J>> for OneHistory {
-    ghost use Rattle.lc_board.specs.WordRow.{IsRow};
-    ghost use Rattle.lc_board.specs.WordSteps.{view_before_split};
-    ghost use Rattle.std.specs.Prelude.{Some};
-
     ghost holds = { λ key. IsRow (Some key.root.value) key.workers };
 
     ghost first = { λ key. view_before_split (Some key.root.value) key.workers };
@@ -26,8 +27,6 @@ impl<J, R> TableRule<Slot<J, R>, View<J, R>, BoardSetup<J>> for OneHistory {
 pub struct Look;
 
 impl<J, R> Play<Slot<J, R>, View<J, R>> for Look {
-    ghost use Rattle.lc_board.specs.WordSteps.{looked};
-
     ghost then = { looked };
 }
 
@@ -35,40 +34,30 @@ impl<J, R> Play<Slot<J, R>, View<J, R>> for Look {
 pub struct StepOver;
 
 impl<J, R> Play<Slot<J, R>, View<J, R>> for StepOver {
-    ghost use Rattle.lc_board.specs.WordSteps.{stepped_over};
-
     ghost then = { stepped_over };
 }
 
 pub struct Draw;
 
 impl<J, R> Play<Slot<J, R>, View<J, R>> for Draw {
-    ghost use Rattle.lc_board.specs.WordSteps.{drew};
-
     ghost then = { drew };
 }
 
 pub struct Open;
 
 impl<J, R> Play<Slot<J, R>, View<J, R>> for Open {
-    ghost use Rattle.lc_board.specs.WordSteps.{opened};
-
     ghost then = { λ s m r n. opened s m r n };
 }
 
 pub struct Take;
 
 impl<J, R> Play<Slot<J, R>, View<J, R>> for Take {
-    ghost use Rattle.lc_board.specs.WordSteps.{claimed};
-
     ghost then = { claimed };
 }
 
 pub struct End;
 
 impl<J, R> Play<Slot<J, R>, View<J, R>> for End {
-    ghost use Rattle.lc_board.specs.WordSteps.{ended};
-
     ghost then = { λ s m r n. ended s m r n };
 }
 
@@ -76,8 +65,6 @@ impl<J, R> Play<Slot<J, R>, View<J, R>> for End {
 pub struct PutDown;
 
 impl<J, R> Play<Slot<J, R>, View<J, R>> for PutDown {
-    ghost use Rattle.lc_board.specs.WordSteps.{put_down};
-
     ghost then = { λ s m r n. put_down s m r n };
 }
 
@@ -85,16 +72,12 @@ impl<J, R> Play<Slot<J, R>, View<J, R>> for PutDown {
 pub struct Deal;
 
 impl<J, R> Split<View<J, R>> for Deal {
-    ghost use Rattle.lc_board.specs.WordSteps.{left_of_split, right_of_split};
-
     ghost left = { left_of_split };
 
     ghost right = { right_of_split };
 }
 
 impl<J, R> Join<View<J, R>> for Deal {
-    ghost use Rattle.lc_board.specs.WordSteps.{merged, spent};
-
     ghost both = { merged };
 
     ghost spent = { spent };

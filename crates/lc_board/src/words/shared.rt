@@ -1,11 +1,9 @@
 //! A board of words is one that workers share.
 ghost use Rattle.std.specs.Prelude.{◌≡◌, ◌≢◌, ◌≤◌, ℕ, [], None, Some, IfOk, IfErr, map, slice_get, vec_len};
-ghost use Rattle.lc_board.specs.ClosedBoard.{Settled, RefusesClose};
-ghost use Rattle.lc_board.specs.WordClose.{words_promises};
+ghost use Rattle.lc_board.specs.{ClosedBoard.{Settled, RefusesClose}, WordClose.words_promises};
 ghost use Rattle.lc_board.specs.Pass.{holding, posted, new_pass, after_claim, after_post, after_give, after_fault, job_back};
 ghost use Rattle.lc_board.specs.WordsBoard.{AnswersWordsClaim, AnswersWordsPost, EndsClaim, Owns, known, told};
-ghost use Rattle.lc_board.specs.declared.answers.Ended.TheVariants.{Returned, Faulted};
-ghost use Rattle.lc_board.specs.declared.words.pass.WordsPass.{WordsPass};
+ghost use Rattle.lc_board.specs.declared.{answers.Ended.TheVariants.{Returned, Faulted}, words.pass.WordsPass.WordsPass};
 ghost use Rattle.lc_board.specs.Limits.{capacity_limit, workers_limit};
 
 use crate::answers::{Claim, CloseFault, Closed, PostFault};

@@ -1,11 +1,8 @@
 //! A board is made, and its passes are made.
 ghost use Rattle.std.specs.Prelude.{◌≡◌, ◌<◌, ◌≤◌, ◌∷◌, replicate, IfOk, Some};
-ghost use Rattle.lc_board.specs.declared.words.coding.Word.TheVariants.{Absent, Open};
-ghost use Rattle.lc_board.specs.declared.words.view.Slot.TheVariants.{Empty, Job};
-ghost use Rattle.lc_board.specs.WordCode.{code};
-ghost use Rattle.lc_board.specs.WordSteps.{view_before_split, left_of_split, right_of_split};
-ghost use Rattle.lc_board.specs.WordsBoard.{IsNewPass, IsPassOf, IsSamePass, known};
-ghost use Rattle.lc_board.specs.Limits.{capacity_limit, workers_limit};
+ghost use Rattle.lc_board.specs.declared.words.{coding.Word.TheVariants.{Absent, Open}, view.Slot.TheVariants.{Empty, Job}};
+ghost use Rattle.lc_board.specs.{WordCode.code, WordSteps.{view_before_split, left_of_split, right_of_split}};
+ghost use Rattle.lc_board.specs.{WordsBoard.{IsNewPass, IsPassOf, IsSamePass, known}, Limits.{capacity_limit, workers_limit}};
 
 use crate::words::Words;
 use crate::words::coding::{ABSENT, OPEN};

@@ -1,10 +1,8 @@
 //! One number is looked at, claimed, or ended.
 ghost use Rattle.std.specs.Prelude.{◌≡◌, ◌<◌, IsSome, None};
 ghost use Rattle.lc_board.specs.WordSteps.{HasLooked, low_after, taken_after};
-ghost use Rattle.lc_board.specs.WordsBoard.{EndsClaim, IsPassOf, IsSamePass, TriesClaim, known};
-ghost use Rattle.lc_board.specs.Ending.{MayEnd};
-ghost use Rattle.lc_board.specs.declared.answers.Ended.TheVariants.{Returned, Faulted};
-ghost use Rattle.lc_board.specs.Limits.{capacity_limit};
+ghost use Rattle.lc_board.specs.{WordsBoard.{EndsClaim, IsPassOf, IsSamePass, TriesClaim, known}, Ending.MayEnd};
+ghost use Rattle.lc_board.specs.{declared.answers.Ended.TheVariants.{Returned, Faulted}, Limits.capacity_limit};
 
 use crate::answers::Ended;
 use crate::words::Words;

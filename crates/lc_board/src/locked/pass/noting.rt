@@ -1,10 +1,8 @@
 //! What a pass of a locked board notes of each call.
 ghost use Rattle.std.specs.Prelude.{◌≡◌, ◌≢◌, ℕ, ◌<◌, ◌≤◌, ◌+◌, None, OnOk, Ok, vec_len, vec_capacity};
-ghost use Rattle.lc_board.specs.Pass.{holding, new_pass, filled, refusing};
-ghost use Rattle.lc_board.specs.Pass.{after_claim, after_post, after_give, after_fault};
+ghost use Rattle.lc_board.specs.Pass.{holding, new_pass, filled, refusing, after_claim, after_post, after_give, after_fault};
+ghost use Rattle.lc_board.specs.{LockedBoard.told, Limits.capacity_limit};
 ghost use Rattle.lc_board.specs.declared.answers.Claim.TheVariants as answer;
-ghost use Rattle.lc_board.specs.LockedBoard.{told};
-ghost use Rattle.lc_board.specs.Limits.{capacity_limit};
 
 use crate::event::Event;
 use crate::locked::pass::LockedPass;

@@ -1,6 +1,5 @@
 use Rattle.std.proofs.Common.{◌≡◌, Some, ◌∙◌, ap, arith, length, subst, sym}
-use Rattle.lc_board.specs.Pass.{new_pass}
-use Rattle.lc_board.specs.LockedBoard.{told}
+use Rattle.lc_board.specs.{Pass.new_pass, LockedBoard.told}
 use Rattle.lc_board.proofs.Places.{each_push}
 use Rattle.lc_board.proofs.locked.LockedShared.start.Goals as goal
 

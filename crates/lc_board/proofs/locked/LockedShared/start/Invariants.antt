@@ -1,6 +1,5 @@
 use Rattle.std.proofs.Common.{◌≡◌, ℕ, Some, slice_get, vec_len}
-use Rattle.lc_board.specs.Pass.{new_pass}
-use Rattle.lc_board.specs.Notes.{mine_of}
+use Rattle.lc_board.specs.{Pass.new_pass, Notes.mine_of}
 use Rattle.lc_board.proofs.locked.LockedShared.start.Given as goal
 
 abbrev pub invariant-loop-worker : goal.invariant-loop-worker

@@ -1,5 +1,4 @@
-use Rattle.std.proofs.Common.{◌∙◌, refl, sym}
-use Rattle.std.proofs.lemmas.List.{nil_from_length}
+use Rattle.std.proofs.{Common.{◌∙◌, refl, sym}, lemmas.List.nil_from_length}
 use Rattle.lc_board.proofs.Comparing.{not_noted, noted_otherwise}
 use Rattle.lc_board.proofs.locked.compare.matches.Goals as goal
 

@@ -1,13 +1,6 @@
-use Rattle.std.proofs.Common.{◌<◌, ◌≤◌, length, Some, arith, refl, ap, subst, ◌∙◌}
-use Rattle.lc_board.specs.PlainCalls.{IsOpen}
-use Rattle.lc_board.proofs.PlainSound.{sound_claim}
-use Rattle.lc_board.proofs.PlainReplies.{claim_got, claim_over, none_open, some_held, read}
+use Rattle.std.proofs.Common.{◌<◌, ◌≤◌, length, Some, arith, refl, ap, ◌∙◌}
+use Rattle.lc_board.proofs.{PlainSound.sound_claim, PlainReplies.{claim_got, claim_over, none_open, some_held, read}}
 use Rattle.lc_board.proofs.plain.Plain.claim.Goals as goal
-
-pub take_job-job-requires : goal.take_job-job-requires
-take_job-job-requires g c =
-    let near : c.self.inside.next < length c.self.inside.cells.items = omega (arith, c.self.inside.cells.ok.0) in
-    subst IsOpen (read _ _ _ near c.index_mut.ensures.value) (c.self.invariant.above c.self.inside.next (omega arith) near)
 
 pub invariant_of-self : goal.invariant_of-self
 invariant_of-self g c =

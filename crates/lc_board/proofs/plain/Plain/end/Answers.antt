@@ -1,6 +1,5 @@
 use Rattle.std.proofs.Common.{arith}
-use Rattle.lc_board.proofs.PlainSound.{sound_end}
-use Rattle.lc_board.proofs.PlainReplies.{held_here, end_ok, holder}
+use Rattle.lc_board.proofs.{PlainSound.sound_end, PlainReplies.{held_here, end_ok, holder}}
 use Rattle.lc_board.proofs.plain.Plain.end.Goals as goal
 
 pub index_mut-requires : goal.index_mut-requires

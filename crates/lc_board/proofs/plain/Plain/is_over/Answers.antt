@@ -1,5 +1,4 @@
-use Rattle.std.proofs.Common.{◌<◌, ◌≤◌, length, arith}
-use Rattle.std.proofs.lemmas.Bool.{not-true, not-false}
+use Rattle.std.proofs.{Common.{◌<◌, ◌≤◌, length, arith}, lemmas.Bool.{not-true, not-false}}
 use Rattle.lc_board.proofs.PlainReplies.{none_open, none_held, some_left, held_left}
 use Rattle.lc_board.proofs.plain.Plain.is_over.Goals as goal
 

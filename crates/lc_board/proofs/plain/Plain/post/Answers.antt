@@ -1,14 +1,7 @@
-use Rattle.std.proofs.Common.{◌≡◌, ◌<◌, length, Some, arith, refl, sym, ap, subst, ◌∙◌}
-use Rattle.lc_board.specs.Limits.{capacity_limit}
-use Rattle.lc_board.specs.PlainBoard.{posts_in}
-use Rattle.lc_board.specs.PlainCalls.{IsHeld}
-use Rattle.lc_board.proofs.PlainSound.{sound_post}
-use Rattle.lc_board.proofs.PlainReplies.{held_here, post_ok, read, holder, count_same}
+use Rattle.std.proofs.Common.{◌≡◌, ◌<◌, length, Some, arith, sym, ap, subst, ◌∙◌}
+use Rattle.lc_board.specs.{Limits.capacity_limit, PlainBoard.posts_in, PlainCalls.IsHeld}
+use Rattle.lc_board.proofs.{PlainSound.sound_post, PlainReplies.{held_here, post_ok, read, holder, count_same}}
 use Rattle.lc_board.proofs.plain.Plain.post.Goals as goal
-
-pub returns-then-number-self : goal.returns-then-number-self
-returns-then-number-self g c =
-    rw (← c.self.view_is) (refl, omega (arith, c.self.inside.cells.ok.0, c.self.invariant.fits), refl)
 
 pub index_mut-requires : goal.index_mut-requires
 index_mut-requires g c =

@@ -1,7 +1,6 @@
 use Rattle.std.proofs.Common.{rules, ◌≡◌, ◌∷◌, [], arith, refl}
 use Rattle.lc_board.specs.declared.plain.cell.Cell.TheVariants.{Waiting}
-use Rattle.lc_board.proofs.PlainSound.{sound_first}
-use Rattle.lc_board.proofs.PlainSteps.{after_first}
+use Rattle.lc_board.proofs.{PlainSound.sound_first, PlainSteps.after_first}
 use Rattle.lc_board.proofs.plain.Plain.start.Goals as goal
 
 pub invariant_of-result : goal.invariant_of-result

@@ -1,5 +1,4 @@
-use Rattle.std.proofs.Common.{arith, below_more, refl, slice_get}
-use Rattle.std.proofs.lemmas.Option.{slice_get_read}
+use Rattle.std.proofs.{Common.{arith, below_more, refl, slice_get}, lemmas.Option.slice_get_read}
 use Rattle.lc_board.specs.PlainCalls.{IsLeft}
 use Rattle.lc_board.proofs.PlainReplies.{left_inside}
 use Rattle.lc_board.proofs.plain.scans.first_left.Goals as goal

@@ -1,6 +1,5 @@
 use Rattle.std.proofs.Common.{arith, sym, ap, ◌∙◌, ℕ, ◌+◌, ◌*◌}
-use Rattle.lc_board.proofs.WordPosts.{draws}
-use Rattle.lc_board.proofs.WordTies.{holds_some}
+use Rattle.lc_board.proofs.{WordPosts.draws, WordTies.holds_some}
 use Rattle.lc_board.specs.Holding.{holding}
 use Rattle.lc_board.proofs.words.Words.draw.Goals as goal
 

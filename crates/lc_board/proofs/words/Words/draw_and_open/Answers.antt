@@ -1,10 +1,7 @@
 use Rattle.std.proofs.Common.{arith, sym, ap, subst, ◌∙◌, ◌+◌, ◌<◌, refl, ◌∷◌}
 use Rattle.atomic_table.specs.Table.{rest}
-use Rattle.lc_board.specs.declared.words.view.Slot.TheVariants.{Job}
-use Rattle.lc_board.specs.Holding.{holding}
-use Rattle.lc_board.proofs.WordTies.{holds_some, first_job, tied_passed, tied_posted}
-use Rattle.lc_board.proofs.WordMarks.{marked_added, marked_looked}
-use Rattle.lc_board.specs.WordPass.{AreTaken, IsTied}
+use Rattle.lc_board.specs.{declared.words.view.Slot.TheVariants.Job, Holding.holding, WordPass.{AreTaken, IsTied}}
+use Rattle.lc_board.proofs.{WordTies.{holds_some, first_job, tied_passed, tied_posted}, WordMarks.{marked_added, marked_looked}}
 use Rattle.lc_board.proofs.WordScans.{try_posted}
 use Rattle.lc_board.proofs.words.Words.draw_and_open.Goals as goal
 

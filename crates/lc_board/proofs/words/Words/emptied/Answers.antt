@@ -1,9 +1,7 @@
 use Rattle.std.proofs.Common.{◌∷◌, sym, ap, ◌∙◌, arith}
 use Rattle.atomic_table.specs.Table.{rest}
-use Rattle.lc_board.specs.WordPass.{carried_as}
-use Rattle.lc_board.specs.declared.words.view.Slot.TheVariants.{Empty}
-use Rattle.lc_board.proofs.WordEnds.{puts_down}
-use Rattle.lc_board.proofs.WordTies.{carried_is}
+use Rattle.lc_board.specs.{WordPass.carried_as, declared.words.view.Slot.TheVariants.Empty}
+use Rattle.lc_board.proofs.{WordEnds.puts_down, WordTies.carried_is}
 use Rattle.lc_board.proofs.words.Words.emptied.Goals as goal
 
 pub load-requires : goal.load-requires

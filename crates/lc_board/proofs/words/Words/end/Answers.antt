@@ -1,13 +1,8 @@
-use Rattle.std.proofs.Common.{arith, sym, ap, ◌∙◌, ◌∷◌, None, IfSome, subst}
+use Rattle.std.proofs.Common.{arith, sym, ap, ◌∙◌, ◌∷◌, None, subst}
 use Rattle.atomic_table.specs.Table.{rest}
-use Rattle.lc_board.specs.Ending.{MayEnd, end_event, row_in}
-use Rattle.lc_board.specs.Holding.{holding, posted}
-use Rattle.lc_board.specs.WordPass.{AreTaken, IsTied}
-use Rattle.lc_board.specs.WordSteps.{AddsEvent}
+use Rattle.lc_board.specs.{Ending.{MayEnd, end_event, row_in}, Holding.{holding, posted}, WordPass.{AreTaken, IsTied}}
 use Rattle.lc_board.specs.declared.words.view.Slot.TheVariants.{Row}
-use Rattle.lc_board.proofs.WordEnds.{ends_claim, end_frees, end_posts, did_end}
-use Rattle.lc_board.proofs.WordMarks.{marked_added}
-use Rattle.lc_board.proofs.WordTies.{tied_ended}
+use Rattle.lc_board.proofs.{WordEnds.{ends_claim, end_frees, end_posts}, WordMarks.marked_added, WordTies.tied_ended}
 use Rattle.lc_board.proofs.words.Words.end.Goals as goal
 
 pub swap-requires : goal.swap-requires
@@ -22,16 +17,6 @@ swap-requires g c = let p = c.args.pass.now in let t = p.ties in let sq = c.args
           (ap (λ v. holding v.mine) me ∙ (t.holds ∙ c.in-Some.is)) may c.ended_by-code.ensures
           (ap (λ m. m.1) now ∙ row ∙ ap (λ m. (c.in-Some.number, Row (row_in c.args.ended)) ∷ rest m.1) (sym now)),
     )
-
-pub returns-clause-rule : goal.returns-clause-rule
-returns-clause-rule g c = let p = c.args.pass.now in let t = p.ties in let sq = c.args.self.now.square in
-    let row = ap (λ r. (p.seat.me.0, (c.in-Some.number, Row r) ∷ rest p.seat.me.1)) c.into_row.ensures in
-    let did = did_end c.args.self.now.table.shared.table_id.slots c.in-Some.number c.ended_by-code.result c.swap.result p.worker
-    c.args.ended p.seat.me c.fill.new.seat.me c.swap.new.seat.me c.swap.ensures.2 c.ended_by-code.ensures
-    (c.fill.ensures.filled ∙ row) t.numbered in
-    subst (λ o. IfSome o (λ i. AddsEvent c.args.self.now.capacity p.seat.me.0
-    (end_event p.worker i c.args.ended) c.swap.new.seat.me.0)) (sym c.in-Some.is)
-    (subst (λ n. AddsEvent n p.seat.me.0 (end_event p.worker c.in-Some.number c.args.ended) c.swap.new.seat.me.0) sq.1 did)
 
 pub invariant_of-pass : goal.invariant_of-pass
 invariant_of-pass g c = let p = c.args.pass.now in let told = c.swap.ensures.2 in let same = c.swap.ensures.0 ∙ c.fill.ensures.board in

@@ -1,10 +1,7 @@
-use Rattle.std.proofs.Common.{◌≡◌, ℕ, ◌+◌, ◌∙◌, Some, length, map, vec_len, refl, sym, ap, subst, arith}
-use Rattle.std.proofs.lemmas.List.{length-map}
+use Rattle.std.proofs.{Common.{◌≡◌, ℕ, ◌+◌, ◌∙◌, Some, length, map, vec_len, refl, sym, ap, subst, arith}, lemmas.List.length-map}
 use Rattle.std.specs.Mem.Slots.{slots_items, slots_counts}
-use Rattle.lc_board.specs.WordsBoard.{known, told}
-use Rattle.lc_board.specs.WordClose.{HasTaken}
-use Rattle.lc_board.proofs.Closing.{map_get}
-use Rattle.lc_board.proofs.WordCloses.{popped, took_first, took_in, gathers}
+use Rattle.lc_board.specs.{WordsBoard.{known, told}, WordClose.HasTaken}
+use Rattle.lc_board.proofs.{Closing.map_get, WordCloses.{popped, took_first, took_in, gathers}}
 use Rattle.lc_board.proofs.words.Words.gather.Goals as goal
 
 pub loop-other-init : goal.loop-other-init

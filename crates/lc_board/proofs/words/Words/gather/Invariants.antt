@@ -1,6 +1,5 @@
 use Rattle.std.proofs.Common.{◌≡◌, ℕ, ◌<◌, ◌≤◌, ◌+◌, map, slice_get, vec_len}
-use Rattle.lc_board.specs.WordsBoard.{IsPassOf, known, told}
-use Rattle.lc_board.specs.WordClose.{HasTaken}
+use Rattle.lc_board.specs.{WordsBoard.{IsPassOf, known, told}, WordClose.HasTaken}
 use Rattle.lc_board.proofs.words.Words.gather.Given as goal
 
 abbrev pub invariant-loop-other : goal.invariant-loop-other

@@ -1,7 +1,6 @@
 use Rattle.std.proofs.Common.{sym, subst, arith}
 use Rattle.lc_board.specs.WordSteps.{HasLooked}
-use Rattle.lc_board.proofs.WordClaims.{looks}
-use Rattle.lc_board.proofs.WordMarks.{marked_missed}
+use Rattle.lc_board.proofs.{WordClaims.looks, WordMarks.marked_missed}
 use Rattle.lc_board.proofs.words.Words.look.Goals as goal
 
 pub load-requires : goal.load-requires

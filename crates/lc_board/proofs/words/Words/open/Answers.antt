@@ -1,8 +1,6 @@
 use Rattle.std.proofs.Common.{Some, refl, ap, sym, ◌∙◌, ◌-◌, ◌∷◌, replicate, arith}
-use Rattle.lc_board.specs.declared.words.view.Slot.TheVariants.{Empty, Job}
-use Rattle.lc_board.specs.WordSteps.{view_before_split}
-use Rattle.lc_board.proofs.WordSeats.{begins}
-use Rattle.lc_board.proofs.WordStarts.{row_length, tied_first}
+use Rattle.lc_board.specs.{declared.words.view.Slot.TheVariants.{Empty, Job}, WordSteps.view_before_split}
+use Rattle.lc_board.proofs.{WordSeats.begins, WordStarts.{row_length, tied_first}}
 use Rattle.lc_board.proofs.words.Words.open.Goals as goal
 
 pub new-requires : goal.new-requires

@@ -1,4 +1,4 @@
-use Rattle.std.proofs.Common.{arith, ap, ◌∙◌, ◌+◌}
+use Rattle.std.proofs.Common.{ap, ◌∙◌, ◌+◌}
 use Rattle.lc_board.proofs.WordScans.{same_trans, post_through, sees_trans}
 use Rattle.lc_board.proofs.words.Words.post.Goals as goal
 
@@ -8,11 +8,6 @@ returns-in-Ok-clause-rule g c = let inv = c.loop-pass.invariant in let did = c.i
   post_through _ _ _ _ _ _ _ _ c.args.pass.now.seat.me.0 c.loop-pass.pass.seat.me.0 c.try_post.new.pass.seat.me.0 inv.holding
       inv.same.1 inv.job inv.sees did.1,
 )
-
-pub returns-clause-rule : goal.returns-clause-rule
-returns-clause-rule g c = let inv = c.loop-pass.invariant in let t = c.loop-pass.pass.ties in let w = t.within in
-    let sq = c.args.self.now.square in let own = ap (λ z. z.slots) (inv.same.0 ∙ c.requires.board) in
-    (inv.job, inv.posted, inv.sees, omega (arith, t.fronted, c.loop-pass-test.false))
 
 pub loop-pass-preserved : goal.loop-pass-preserved
 loop-pass-preserved g c = let inv = c.loop-pass.invariant in let same = c.in-Err.ensures.board in let told = c.in-Err.ensures.rule in

@@ -1,6 +1,5 @@
 use Rattle.std.proofs.Common.{◌≡◌, ◌-◌}
-use Rattle.lc_board.specs.WordSteps.{Extends}
-use Rattle.lc_board.specs.WordsBoard.{IsSamePass}
+use Rattle.lc_board.specs.{WordSteps.Extends, WordsBoard.IsSamePass}
 use Rattle.lc_board.proofs.words.Words.post.Given as goal
 
 abbrev pub invariant-loop-pass : goal.invariant-loop-pass

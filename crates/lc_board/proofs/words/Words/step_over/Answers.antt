@@ -1,11 +1,8 @@
 use Rattle.std.proofs.Common.{arith, ◌+◌, ◌∙◌, refl, subst, ap, sym}
-use Rattle.lc_board.specs.WordCode.{is_absent}
-use Rattle.lc_board.specs.WordPass.{IsTied}
+use Rattle.lc_board.specs.{WordCode.is_absent, WordPass.IsTied}
 use mathlib.Core.Option.{none}
 use Rattle.atomic_table.specs.Table.{step}
-use Rattle.lc_board.proofs.WordPosts.{steps_over}
-use Rattle.lc_board.proofs.WordTies.{holds_some, tied_seen, tied_stepped}
-use Rattle.lc_board.proofs.WordMarks.{marked_looked}
+use Rattle.lc_board.proofs.{WordPosts.steps_over, WordTies.{holds_some, tied_seen, tied_stepped}, WordMarks.marked_looked}
 use Rattle.lc_board.proofs.words.Words.step_over.Goals as goal
 
 pub load-requires : goal.load-requires

@@ -1,13 +1,9 @@
 use Rattle.std.proofs.Common.{arith, sym, ap, ◌∙◌, refl, ℕ, ◌+◌, ◌*◌, ◌∷◌, Some, subst}
 use Rattle.atomic_table.specs.Table.{rest, step}
 use mathlib.Core.Option.{none}
-use Rattle.lc_board.specs.declared.words.view.Slot.TheVariants.{Job}
-use Rattle.lc_board.specs.WordPass.{AreTaken, IsTied}
-use Rattle.lc_board.proofs.WordClaims.{claims}
-use Rattle.lc_board.proofs.WordTies.{did_claim, not_claimed, tied_claimed}
-use Rattle.lc_board.specs.WordCode.{is_open}
+use Rattle.lc_board.specs.{declared.words.view.Slot.TheVariants.Job, WordPass.{AreTaken, IsTied}, WordCode.is_open}
+use Rattle.lc_board.proofs.{WordClaims.claims, WordTies.{did_claim, not_claimed, tied_claimed}, WordMarks.{marked_claimed, marked_missed}}
 use Rattle.lc_board.specs.declared.words.coding.Word.TheVariants as word
-use Rattle.lc_board.proofs.WordMarks.{marked_claimed, marked_missed}
 use Rattle.lc_board.proofs.words.Words.try_claim.Goals as goal
 
 pub compare_exchange-old-requires : goal.compare_exchange-old-requires

@@ -1,7 +1,6 @@
 use Rattle.std.proofs.Common.{◌≡◌, ◌∙◌, true, sym, ap, inr, arith, below_more}
 use Rattle.std.specs.Mem.Slots.{slots_items}
-use Rattle.lc_board.specs.WordCode.{is_absent, has_ended}
-use Rattle.lc_board.specs.WordClose.{word_at}
+use Rattle.lc_board.specs.{WordCode.{is_absent, has_ended}, WordClose.word_at}
 use Rattle.lc_board.proofs.WordCloses.{word_here}
 use Rattle.lc_board.proofs.words.close.count_ended.Goals as goal
 

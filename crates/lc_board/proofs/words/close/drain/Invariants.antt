@@ -1,6 +1,5 @@
 use Rattle.std.proofs.Common.{◌≡◌, ℕ, ◌-◌, ◌<◌, false, get_or}
-use Rattle.std.specs.Mem.Slots.{slots_filled, slots_len}
-use Rattle.std.specs.Mem.Slots.Ownership.{Filled}
+use Rattle.std.specs.Mem.Slots.{slots_filled, slots_len, Ownership.Filled}
 use Rattle.lc_board.proofs.words.close.drain.Given as goal
 
 abbrev pub invariant-loop-at : goal.invariant-loop-at

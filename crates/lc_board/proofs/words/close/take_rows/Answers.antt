@@ -4,8 +4,7 @@ use mathlib.Core.Option.{some, some-injective}
 use native.Mathlib.Decide.{ℕ_discrete}
 use lib.ListN.{get_elem?}
 use Rattle.std.specs.Mem.Slots.{slots_items, slots_filled, slots_len, slots_counts}
-use Rattle.lc_board.specs.WordCode.{has_ended}
-use Rattle.lc_board.specs.declared.words.view.Slot.TheVariants.{Row}
+use Rattle.lc_board.specs.{WordCode.has_ended, declared.words.view.Slot.TheVariants.Row}
 use Rattle.lc_board.proofs.WordCloses.{word_here, rows_more}
 use Rattle.lc_board.proofs.words.close.take_rows.Goals as goal
 

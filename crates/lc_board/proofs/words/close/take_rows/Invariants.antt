@@ -1,6 +1,5 @@
 use Rattle.std.proofs.Common.{◌≡◌, ℕ, ◌<◌, ◌≤◌, false, get_or, vec_len, vec_capacity}
-use Rattle.std.specs.Mem.Slots.{slots_items, slots_filled, slots_len}
-use Rattle.std.specs.Mem.Slots.Ownership.{Filled}
+use Rattle.std.specs.Mem.Slots.{slots_items, slots_filled, slots_len, Ownership.Filled}
 use Rattle.lc_board.specs.WordClose.{TakesRows}
 use Rattle.lc_board.proofs.words.close.take_rows.Given as goal
 

@@ -1,5 +1,4 @@
-use Rattle.std.proofs.Common.{◌≡◌, ◌∷◌, ap, arith, refl}
-use Rattle.std.proofs.lemmas.List.{replicate-append-replicate}
+use Rattle.std.proofs.{Common.{◌≡◌, ◌∷◌, ap, arith, refl}, lemmas.List.replicate-append-replicate}
 use Rattle.lc_board.specs.declared.words.view.Slot.TheVariants.{Empty, Job}
 use Rattle.lc_board.proofs.words.start.slot_row.Goals as goal
 

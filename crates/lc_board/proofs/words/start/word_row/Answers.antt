@@ -1,5 +1,4 @@
-use Rattle.std.proofs.Common.{◌≡◌, ◌∷◌, ap, arith, refl}
-use Rattle.std.proofs.lemmas.List.{replicate-append-replicate}
+use Rattle.std.proofs.{Common.{◌≡◌, ◌∷◌, ap, arith, refl}, lemmas.List.replicate-append-replicate}
 use Rattle.lc_board.proofs.words.start.word_row.Goals as goal
 
 pub loop-init : goal.loop-init

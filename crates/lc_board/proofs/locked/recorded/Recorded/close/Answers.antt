@@ -1,6 +1,5 @@
 use Rattle.std.proofs.Common.{rules, ◌≡◌, length, refl}
-use Rattle.lc_board.specs.NewestFirst.{newest_first}
-use Rattle.lc_board.specs.Notes.{mine_of}
+use Rattle.lc_board.specs.{NewestFirst.newest_first, Notes.mine_of}
 use Rattle.lc_board.proofs.Closing.{unfinished, differs, settled_all, ready, rows_refused, tells_other}
 use Rattle.lc_board.proofs.locked.recorded.Recorded.close.Goals as goal
 

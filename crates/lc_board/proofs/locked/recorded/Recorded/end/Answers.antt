@@ -1,7 +1,5 @@
 use Rattle.std.proofs.Common.{rules, ◌≡◌, Some, arith, ap}
-use Rattle.lc_board.specs.PlainBoard.{Adds, held_by}
-use Rattle.lc_board.specs.RecordedBoard.{held_count}
-use Rattle.lc_board.specs.Ending.{end_event}
+use Rattle.lc_board.specs.{PlainBoard.{Adds, held_by}, RecordedBoard.held_count, Ending.end_event}
 use Rattle.lc_board.proofs.RecordedSteps.{records, if_some, held_count-freed}
 use Rattle.lc_board.proofs.locked.recorded.Recorded.end.Goals as goal
 

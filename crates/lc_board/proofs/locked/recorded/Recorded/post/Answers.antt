@@ -1,6 +1,5 @@
 use Rattle.std.proofs.Common.{rules, vec_len, vec_capacity, ◌≡◌, ◌≤◌, ◌+◌, Some, arith}
-use Rattle.lc_board.specs.PlainBoard.{Adds, held_by}
-use Rattle.lc_board.specs.declared.event.Event.TheVariants.{Post}
+use Rattle.lc_board.specs.{PlainBoard.{Adds, held_by}, declared.event.Event.TheVariants.Post}
 use Rattle.lc_board.proofs.RecordedSteps.{records, if_some, held_count-most}
 use Rattle.lc_board.proofs.locked.recorded.Recorded.post.Goals as goal
 

@@ -1,8 +1,6 @@
-use Rattle.std.proofs.Common.{◌≡◌, [], length, arith, refl, ap, ◌∙◌}
-use Rattle.std.proofs.lemmas.List.{length-replicate}
+use Rattle.std.proofs.{Common.{◌≡◌, [], length, arith, refl, ap, ◌∙◌}, lemmas.List.length-replicate}
 use Rattle.lc_board.specs.RecordedBoard.{held_count}
-use Rattle.lc_board.proofs.RecordedSteps.{held_count-nobody}
-use Rattle.lc_board.proofs.PlainSteps.{has_numbers}
+use Rattle.lc_board.proofs.{RecordedSteps.held_count-nobody, PlainSteps.has_numbers}
 use Rattle.lc_board.proofs.locked.recorded.Recorded.start.Goals as goal
 
 pub invariant_of-result : goal.invariant_of-result

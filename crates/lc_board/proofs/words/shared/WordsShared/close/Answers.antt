@@ -1,8 +1,6 @@
 use Rattle.std.proofs.Common.{◌≡◌, ◌∙◌, length, map, sym, subst, inl, inr, ⊎_elim, arith}
 use Rattle.std.specs.Mem.Slots.{slots_items, slots_counts}
-use Rattle.lc_board.specs.ClosedBoard.{Settled, Unfinished, Finished}
-use Rattle.lc_board.specs.WordClose.{words_promises}
-use Rattle.lc_board.specs.WordsBoard.{told}
+use Rattle.lc_board.specs.{ClosedBoard.{Settled, Unfinished, Finished}, WordClose.words_promises, WordsBoard.told}
 use Rattle.lc_board.proofs.WordCloses.{unfinished, all_lie, settled, finished}
 use Rattle.lc_board.proofs.words.shared.WordsShared.close.Goals as goal
 

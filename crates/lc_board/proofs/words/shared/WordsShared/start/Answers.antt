@@ -1,5 +1,4 @@
-use Rattle.std.proofs.Common.{◌<◌, ◌+◌, ◌∙◌, length, slice_get, refl, sym, ap, arith}
-use Rattle.std.proofs.lemmas.Option.{slice_get_read}
+use Rattle.std.proofs.{Common.{◌<◌, ◌+◌, ◌∙◌, length, slice_get, refl, sym, ap, arith}, lemmas.Option.slice_get_read}
 use Rattle.lc_board.proofs.WordStarts.{one_more}
 use Rattle.lc_board.proofs.words.shared.WordsShared.start.Goals as goal
 

@@ -1,6 +1,5 @@
 use Rattle.std.proofs.Common.{◌≡◌, ℕ, [], Some, slice_get, vec_len}
-use Rattle.lc_board.specs.Pass.{new_pass}
-use Rattle.lc_board.specs.WordsBoard.{Owns, known, told}
+use Rattle.lc_board.specs.{Pass.new_pass, WordsBoard.{Owns, known, told}}
 use Rattle.lc_board.proofs.words.shared.WordsShared.start.Given as goal
 
 abbrev pub invariant-loop-worker : goal.invariant-loop-worker
