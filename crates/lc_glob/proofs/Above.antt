@@ -2,22 +2,15 @@
 use Rattle.std.proofs.Common.{◌≡◌, ◌≢◌, ◌↔◌, ◌≤◌, ◌<◌, ◌+◌, ◌*◌, IsTrue, ℕ, zero, suc, Bool, false, true, List, [], ◌∷◌, ◌++◌, length, map}
 use Rattle.std.proofs.Common.{take, drop, get_or, replicate, refl, sym, ◌∙◌, ap, subst, arith, append_assoc, take-take, ⊎_elim, set}
 use Rattle.std.proofs.Math.Seq.{take-suc, take-append_seam}
-use Rattle.std.proofs.lemmas.List.{append-nil, take-append-drop, length-append, length-take-le, map-append}
-use Rattle.std.proofs.lemmas.List.{length-map, get_or-replicate, get_or-map}
-use Rattle.std.proofs.lemmas.List.{get_or-set_same, get_or-set_other}
-use Rattle.std.specs.Borrow.{Bor}
-use Rattle.lc_glob.specs.Above.{names_of, IsSet, AreSet, Before, UpTo, TellMatches}
-use Rattle.std.specs.List.{list_any}
-use Rattle.lc_glob.specs.Tokens.{TokenModel, literal, is_star}
-use Rattle.lc_glob.specs.Costs.{tokens_with_ends, bytes_with_ends, full_cost}
-use Rattle.lc_glob.specs.Fits.{Fits}
-use Rattle.lc_glob.specs.Patterns.{SegmentModel, plain, double_star, PatternModel}
-use Rattle.lc_glob.specs.Matches.{MatchesPath, FitsLast, SegmentsMatch}
+use Rattle.std.proofs.lemmas.List.{append-nil, take-append-drop, length-append, length-take-le, map-append, length-map, get_or-replicate}
+use Rattle.std.proofs.lemmas.{List.{get_or-map, get_or-set_same, get_or-set_other}, Bool.{false≢true, cases_lt}}
+use Rattle.std.specs.{Borrow.Bor, List.list_any}
+use Rattle.lc_glob.specs.{Above.{names_of, IsSet, AreSet, Before, UpTo, TellMatches}, Tokens.{TokenModel, literal, is_star}}
+use Rattle.lc_glob.specs.{Costs.{tokens_with_ends, bytes_with_ends, full_cost}, Fits.Fits}
+use Rattle.lc_glob.specs.{Patterns.{SegmentModel, plain, double_star, PatternModel}, Matches.{MatchesPath, FitsLast, SegmentsMatch}}
 use Rattle.lc_glob.specs.Leads.{Leads}
 use Rattle.lc_glob.proofs.Ends.{bytes_with_ends-end, tokens_with_ends-end}
-use Rattle.lc_glob.proofs.Leading.{none_spelled, plain_none, plain_end, plain_spelled, double_spelled}
-use Rattle.lc_glob.proofs.Matching.{decided}
-use Rattle.std.proofs.lemmas.Bool.{false≢true, cases_lt}
+use Rattle.lc_glob.proofs.{Leading.{plain_none, plain_end, plain_spelled, double_spelled}, Matching.decided}
 
 -- what holds of some front of a list
 abbrev Front : (List (List ℕ) → Type 0) → List (List ℕ) → Type 0
@@ -170,15 +163,6 @@ passed all done left others s t e cut is =
 -- as many names as are lent
 pub names_length : (names : List (Bor (List ℕ))) → length (names_of names) ≡ length names
 names_length names = length-map names (λ name. name.now)
-
--- no segments match no path that has a name
-pub matched_none : (s : List SegmentModel) (names : List (List ℕ)) (flags : List Bool) → s ≡ [] → length flags ≡ length names
-    → flags ≡ replicate (length names) false → AreSet flags (λ k. MatchesPath s (take (k + 1) names))
-matched_none s names flags none len is = λ k low.
-    let unset : get_or flags k false ≡ false = ap (λ (l : List Bool). get_or l k false) is
-    ∙ get_or-replicate (length names) k false false (omega (arith, len, low)) in
-    subst (λ (b : Bool). IsTrue b ↔ MatchesPath s (take (k + 1) names)) (sym unset)
-    (none_spelled s (take (k + 1) names) (take k names) (get_or names k []) none (take_more names k [] (omega (arith, len, low))))
 
 -- what is told of each place by the relation is told by the test
 pub told_matches : (p : PatternModel) (names : List (List ℕ)) (flags : List Bool) → length flags ≡ length names → p.is_dead ≡ false

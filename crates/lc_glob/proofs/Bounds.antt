@@ -1,14 +1,11 @@
 -- The cost in bytes of the pattern and of the path.
-use Rattle.std.proofs.Common.{◌||◌, nat_lt, ◌≡◌, ◌≤◌, ◌+◌, ◌*◌, ℕ, zero, suc, Bool, true, false, cond, nat_eq, List, [], ◌∷◌, length}
-use Rattle.std.proofs.Common.{map, Option, Some, None, ap, arith, ◌&&◌}
+use Rattle.std.proofs.Common.{◌||◌, nat_lt, ◌≡◌, ◌≤◌, ◌+◌, ◌*◌, ℕ, zero, suc, Bool, true, false, cond, nat_eq, List, [], ◌∷◌, length, map}
+use Rattle.std.proofs.Common.{Option, Some, None, ap, arith, ◌&&◌}
 use Rattle.std.specs.List.{onto_first}
-use Rattle.lc_glob.specs.Tokens.{TokenModel}
-use Rattle.lc_glob.specs.Patterns.{SegmentModel, plain, double_star, PatternModel}
-use Rattle.lc_glob.specs.Costs.{tokens_with_ends, bytes_with_ends, full_cost}
-use Rattle.lc_glob.specs.Path.{segments_of}
+use Rattle.lc_glob.specs.{Tokens.TokenModel, Patterns.{SegmentModel, plain, double_star, PatternModel, dead}}
+use Rattle.lc_glob.specs.{Costs.{tokens_with_ends, bytes_with_ends, full_cost}, Path.segments_of}
 use Rattle.lc_glob.specs.Reading.{LexemeModel, separator, one, lexeme, put, put_on, parts, pattern_of, pattern_from, segment_from}
 use Rattle.lc_glob.specs.Reading.{is_double_star, without_last, without_first, begins_empty, ends_empty, some_empty}
-use Rattle.lc_glob.specs.Patterns.{dead}
 
 onto_size : (b : ℕ) (s : List (List ℕ)) (k : ℕ) → bytes_with_ends s ≤ suc k → 1 ≤ bytes_with_ends s
     → bytes_with_ends (onto_first b s) ≤ suc (suc k)

@@ -1,39 +1,16 @@
 -- A pattern with a literal at an end matches no path that has another byte there.
-use Rattle.std.proofs.Common.{◌≡◌, ◌⊎◌, ◌≤◌, ◌+◌, ◌-◌, ◌*◌, ℕ, Bool, true, false, cond, nat_eq, List, [], ◌∷◌, ◌++◌, map}
-use Rattle.std.proofs.Common.{None, IsTrue, IsFalse, inl, inr, refl, sym, ◌∙◌, ap, subst, arith}
-use Rattle.std.proofs.lemmas.Bool.{and_parts, not-true, true_from_ne_false}
+use Rattle.std.proofs.Common.{◌≡◌, ◌⊎◌, ◌≤◌, ◌+◌, ◌-◌, ◌*◌, ℕ, Bool, true, false, cond, nat_eq, List, [], ◌∷◌, ◌++◌, map, None, IsTrue}
+use Rattle.std.proofs.{Common.{IsFalse, inl, inr, refl, sym, ◌∙◌, ap, subst, arith}, lemmas.Bool.{true_from_ne_false}}
 use Rattle.std.proofs.lemmas.List.{map-append}
 use Rattle.std.specs.List.{onto_first, slice_split}
-use Rattle.lc_glob.specs.Tokens.{TokenModel, literal, any_byte, star, class}
-use Rattle.lc_glob.specs.ByteTests.{StripsFirst}
-use Rattle.lc_glob.specs.Costs.{tokens_with_ends, full_cost}
-use Rattle.lc_glob.specs.Elements.{IsLiteral, EndsWithLiteral, BeginsWithLiteral}
-use Rattle.lc_glob.specs.EndLooks.{HasLiteralEnd, DiffersAtEnd}
-use Rattle.lc_glob.specs.Fits.{Fits}
-use Rattle.lc_glob.specs.Matches.{MatchesPath, FitsLast}
-use Rattle.lc_glob.specs.TokenLists.{tokens_model, is_separator}
-use Rattle.lc_glob.specs.Path.{segments_of}
-use Rattle.lc_glob.specs.Patterns.{SegmentModel, plain, double_star}
-use Rattle.lc_glob.specs.Reading.{is_double_star, segment_from}
-use Rattle.lc_glob.specs.Simple.{byte_token, is_literal, is_segment_literal, tokens_of_end, bytes_segment, ends_segment, exact_segment}
-use Rattle.lc_glob.specs.declared.token.Token.{Token}
-use Rattle.lc_glob.specs.declared.token.Token.TheVariants.{Literal}
-use Rattle.lc_glob.proofs.Bounds.{path_some}
-use Rattle.lc_glob.proofs.Ends.{tokens_with_ends-end}
-use Rattle.lc_glob.proofs.Fitting.{end_stuck, front_stuck}
-use Rattle.lc_glob.proofs.Leading.{plain_spelled}
-use Rattle.lc_glob.proofs.TokenLists.{model_before}
-use Rattle.lc_glob.proofs.Naming.{last_part, first_part}
-use Rattle.lc_glob.proofs.SimpleBytes.{literal_byte}
-
--- which bytes and which tokens are literals by themselves
-pub byte_literal : (b : ℕ) → IsTrue (is_segment_literal b) → IsLiteral (map byte_token) (λ (c : ℕ). nat_eq c 47) b b
-byte_literal b t =
-    let its = literal_byte b (and_parts (is_literal b) _ t).0 in (
-      not-true (nat_eq b 47) (and_parts (is_literal b) _ t).1,
-      λ bs. map-append byte_token bs (b ∷ []) ∙ ap (λ (u : TokenModel). map byte_token bs ++ u ∷ []) its,
-      λ bs. ap (λ (u : TokenModel). u ∷ map byte_token bs) its,
-    )
+use Rattle.lc_glob.specs.{Tokens.{TokenModel, literal, any_byte, star, class}, ByteTests.StripsFirst, Costs.{tokens_with_ends, full_cost}}
+use Rattle.lc_glob.specs.{Elements.{IsLiteral, EndsWithLiteral, BeginsWithLiteral}, EndLooks.{HasLiteralEnd, DiffersAtEnd}, Fits.Fits}
+use Rattle.lc_glob.specs.{Matches.{MatchesPath, FitsLast}, TokenLists.{tokens_model, is_separator}, Path.segments_of}
+use Rattle.lc_glob.specs.{Patterns.{SegmentModel, plain, double_star}, Reading.{is_double_star, segment_from}}
+use Rattle.lc_glob.specs.Simple.{byte_token, tokens_of_end, bytes_segment, ends_segment, exact_segment}
+use Rattle.lc_glob.specs.declared.token.Token.{Token, TheVariants.Literal}
+use Rattle.lc_glob.proofs.{Bounds.path_some, Ends.tokens_with_ends-end, Fitting.{end_stuck, front_stuck}, Leading.plain_spelled}
+use Rattle.lc_glob.proofs.{TokenLists.model_before, Naming.{last_part, first_part}}
 
 pub token_literal : (t : Token) (b : ℕ) → t ≡ Literal b → IsLiteral tokens_model is_separator t b
 token_literal t b e =

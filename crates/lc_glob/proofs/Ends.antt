@@ -1,11 +1,7 @@
 -- The sizes of what stands before the last of a list, and of that last.
 use Rattle.std.proofs.Common.{refl, ◌≡◌, ◌≤◌, ◌<◌, ◌+◌, ◌-◌, zero, suc, ◌*◌, ℕ, List, [], ◌∷◌, ◌++◌, length, ap, ◌∙◌, arith}
-use Rattle.lc_glob.specs.Tokens.{TokenModel}
-use Rattle.lc_glob.specs.Patterns.{SegmentModel, plain, double_star}
-use Rattle.lc_glob.specs.Views.{tokens_ref_model, segment_ref_model}
-use Rattle.lc_glob.specs.declared.segment_ref.SegmentRef.{SegmentRef}
-use Rattle.lc_glob.specs.declared.segment_ref.SegmentRef.TheVariants.{Plain, DoubleStar}
-use Rattle.lc_glob.specs.declared.segment_ref.TokensRef.{TokensRef}
+use Rattle.lc_glob.specs.{Tokens.TokenModel, Patterns.{SegmentModel, plain, double_star}, Views.{tokens_ref_model, segment_ref_model}}
+use Rattle.lc_glob.specs.declared.segment_ref.{SegmentRef.{SegmentRef, TheVariants.{Plain, DoubleStar}}, TokensRef.TokensRef}
 use Rattle.lc_glob.specs.Costs.{tokens_with_ends, bytes_with_ends, full_cost}
 
 -- one name more adds its bytes and its end

@@ -1,24 +1,12 @@
 -- A pattern of literals alone matches the path that has the same bytes.
-use Rattle.std.proofs.Common.{◌≡◌, ◌↔◌, ◌≤◌, ◌<◌, ◌+◌, ◌-◌, ◌^◌, ◌*◌, ℕ, suc, Bool, true, false, ◌&&◌, cond, nat_eq}
-use Rattle.std.proofs.Common.{bytes_eq, List, [], ◌∷◌, length, map, IsTrue}
-use Rattle.std.proofs.Common.{refl, sym, ◌∙◌, ap, ap₂, subst, arith}
-use Rattle.std.proofs.Math.Nat.{min-le_left}
-use Rattle.std.proofs.lemmas.Bool.{and_parts}
-use Rattle.std.proofs.lemmas.List.{length-map}
-use Rattle.std.proofs.lemmas.Slice.Eq.{bytes_eq-Decides}
-use Rattle.std.proofs.lemmas.List.Splits.{join_with_byte-slice_split}
+use Rattle.std.proofs.Common.{◌≡◌, ◌↔◌, ◌≤◌, ◌<◌, ◌+◌, ◌-◌, ◌^◌, ◌*◌, ℕ, suc, Bool, true, false, ◌&&◌, cond, nat_eq, bytes_eq, List, []}
+use Rattle.std.proofs.{Common.{◌∷◌, length, map, IsTrue, refl, sym, ◌∙◌, ap, ap₂, subst, arith}, Math.Nat.min-le_left}
+use Rattle.std.proofs.lemmas.{Bool.and_parts, List.{length-map, Splits.join_with_byte-slice_split}, Slice.Eq.bytes_eq-Decides}
 use Rattle.std.specs.List.{join_with_byte, list_all, onto_first}
-use Rattle.lc_glob.specs.Tokens.{TokenModel, literal}
-use Rattle.lc_glob.specs.Patterns.{SegmentModel, plain, double_star}
-use Rattle.lc_glob.specs.Matches.{MatchesPath}
-use Rattle.lc_glob.specs.Path.{segments_of}
-use Rattle.lc_glob.specs.Reading.{is_double_star}
-use Rattle.lc_glob.specs.Simple.{is_literal, bytes_segment, exact_segment}
-use Rattle.lc_glob.specs.ByteTests.{tests_if}
+use Rattle.lc_glob.specs.{Tokens.{TokenModel, literal}, Patterns.{SegmentModel, plain, double_star}, Matches.MatchesPath, Path.segments_of}
+use Rattle.lc_glob.specs.{Reading.is_double_star, Simple.{is_literal, bytes_segment, exact_segment}, ByteTests.tests_if}
 use Rattle.lc_glob.specs.Costs.{tokens_with_ends, bytes_with_ends, full_cost}
-use Rattle.lc_glob.proofs.Fitting.{fits_literals}
-use Rattle.lc_glob.proofs.Naming.{HasFirst, has_first}
-use Rattle.lc_glob.proofs.SimpleBytes.{literal_bytes}
+use Rattle.lc_glob.proofs.{Fitting.fits_literals, Naming.{HasFirst, has_first}, SimpleBytes.literal_bytes}
 
 exact_self : (ss : List (List ℕ)) → MatchesPath (map exact_segment ss) ss
 exact_self [] = tt

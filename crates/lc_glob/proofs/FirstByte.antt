@@ -1,11 +1,8 @@
 -- The first place of a byte, as a search finds it, and what it cuts.
-use Rattle.std.proofs.Common.{◌≡◌, ◌<◌, ◌+◌, ◌-◌, ℕ, zero, suc, true, nat_eq, List, [], ◌∷◌, length, take, drop, get_or, Some, None}
-use Rattle.std.proofs.Common.{refl, sym, subst, ap, arith}
+use Rattle.std.proofs.Common.{◌≡◌, ◌<◌, ◌+◌, ◌-◌, ℕ, zero, suc, true, nat_eq, List, [], ◌∷◌, length, take, drop, get_or, Some, None, refl}
+use Rattle.std.proofs.{Common.{sym, subst, ap, arith}, lemmas.{Bool.false_from_ne_true, List.{take_rest, take_all, drop_all}}}
+use Rattle.std.proofs.lemmas.List.{Splits.{slice_split_none, slice_split_first}, Sums.position_or_len_is}
 use Rattle.std.specs.List.{slice_split, position_or_len, before_first, after_first}
-use Rattle.std.proofs.lemmas.Bool.{false_from_ne_true}
-use Rattle.std.proofs.lemmas.List.{take_rest, take_all, drop_all}
-use Rattle.std.proofs.lemmas.List.Splits.{slice_split_none, slice_split_first}
-use Rattle.std.proofs.lemmas.List.Sums.{position_or_len_is}
 use Rattle.memchr.specs.Find.{IsFirstByte, is_byte}
 
 -- below a list's length the default of a read does not matter

@@ -1,29 +1,21 @@
 -- How tokens fit a segment of a path, from its front and from its end.
 use Rattle.std.proofs.Common.{take, ◌-◌, map, length, nat_eq, eq-eqb, ◌∙◌, ◌≡◌, ◌↔◌, ◌⊎◌, IsTrue, IsFalse, ℕ, Bool, true, false, arith}
-use Rattle.std.proofs.Common.{List, [], ◌∷◌, ◌++◌, inl, inr, refl, sym, subst, ap}
+use Rattle.std.proofs.{Common.{List, [], ◌∷◌, ◌++◌, inl, inr, refl, sym, subst, ap}, lemmas.Bool.{false≢true, eqb-true}}
+use Rattle.std.proofs.lemmas.{Bool.Decides.Decides-eqb, Slice.Eq.ends_is}
 use Rattle.std.specs.List.{ends_with}
-use Rattle.std.proofs.lemmas.Bool.{false≢true, eqb-true}
-use Rattle.std.proofs.lemmas.Bool.Decides.{Decides-eqb}
-use Rattle.std.proofs.lemmas.Slice.Eq.{ends_is}
-use Rattle.lc_glob.specs.Tokens.{TokenModel, literal, any_byte, star, class, takes, is_star}
-use Rattle.lc_glob.specs.Fits.{Fits}
-use Rattle.lc_glob.specs.Simple.{end_tokens}
+use Rattle.lc_glob.specs.{Tokens.{TokenModel, literal, any_byte, star, class, takes, is_star}, Fits.Fits, Simple.end_tokens}
 use Rattle.lc_glob.proofs.After.{after_empty, after_end}
 
 -- a token that is no star fits no empty name
 pub fits_one_empty : (u : TokenModel) (us : List TokenModel) → is_star u ≡ false → Fits (u ∷ us) [] → ⊥
 fits_one_empty star us e h = cc
-fits_one_empty (literal c) us e h = h
-fits_one_empty any_byte us e h = h
-fits_one_empty (class n rs) us e h = h
+fits_one_empty _ us e h = h
 
 -- another token takes one byte, and the rest fits the rest
 pub fits_one : (u : TokenModel) (us : List TokenModel) (x : ℕ) (xs : List ℕ) → is_star u ≡ false
     → Fits (u ∷ us) (x ∷ xs) ↔ (IsTrue (takes u x) × Fits us xs)
 fits_one star us x xs e = cc
-fits_one (literal c) us x xs e = (λ h. h, λ h. h)
-fits_one any_byte us x xs e = (λ h. h, λ h. h)
-fits_one (class n rs) us x xs e = (λ h. h, λ h. h)
+fits_one _ us x xs e = (λ h. h, λ h. h)
 
 -- the same of a list and a name whose first are known
 pub when_one : (tokens us : List TokenModel) (u : TokenModel) (name : List ℕ) (x : ℕ) (xs : List ℕ) → tokens ≡ u ∷ us → name ≡ x ∷ xs

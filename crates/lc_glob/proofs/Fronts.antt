@@ -1,17 +1,10 @@
 -- The first and the last of the parts that separators cut.
-use Rattle.std.proofs.Common.{◌≡◌, Bool, true, false, not, ◌&&◌, ◌||◌, cond, nat_lt, List, [], ◌∷◌, ◌++◌, length, map, Some}
-use Rattle.std.proofs.Common.{refl, sym, ◌∙◌, ap, arith}
-use Rattle.std.proofs.lemmas.Bool.{false≢true, lt-ltb, or_parts}
-use Rattle.std.proofs.lemmas.List.{map-append}
-use Rattle.std.proofs.lemmas.Simd.{map-map}
+use Rattle.std.proofs.Common.{◌≡◌, Bool, true, false, not, ◌&&◌, ◌||◌, cond, nat_lt, List, [], ◌∷◌, ◌++◌, length, map, Some, refl, sym, ◌∙◌}
+use Rattle.std.proofs.{Common.{ap, arith}, lemmas.{Bool.{false≢true, lt-ltb, or_parts}, List.map-append, Simd.map-map}}
 use Rattle.std.specs.List.{onto_first, slice_split}
-use Rattle.lc_glob.specs.Elements.{parts_in, trimmed_model}
-use Rattle.lc_glob.specs.Lists.{is_empty}
-use Rattle.lc_glob.specs.Patterns.{SegmentModel, dead}
-use Rattle.lc_glob.specs.Reading.{begins_empty, cut_at_front, ends_empty, live, pattern_from, segment_from}
-use Rattle.lc_glob.specs.Reading.{some_empty, without_first, without_last}
-use Rattle.lc_glob.specs.Tokens.{TokenModel}
-use Rattle.lc_glob.specs.Views.{live_model}
+use Rattle.lc_glob.specs.{Elements.{parts_in, trimmed_model}, Lists.is_empty, Patterns.{SegmentModel, dead}}
+use Rattle.lc_glob.specs.Reading.{begins_empty, cut_at_front, ends_empty, live, pattern_from, segment_from, some_empty, without_first}
+use Rattle.lc_glob.specs.{Reading.without_last, Tokens.TokenModel, Views.live_model}
 use Rattle.lc_glob.proofs.Naming.{some_part}
 
 -- a pattern ends with an empty part where the last part is empty and not the only one
@@ -62,9 +55,6 @@ module _ {A : Type 0} (tokens : List A → List TokenModel) (p : A → Bool) whe
       ap ends_empty (at_end xs front last e) ∙ ends_last (parts_in tokens p front) (tokens last)
       ∙ ap (λ (b : Bool). not b && is_empty (tokens last)) (filled_parts front)
 
-  pub ends_nowhere : (xs last : List A) → slice_split p xs ≡ last ∷ [] → ends_empty (parts_in tokens p xs) ≡ false
-  ends_nowhere xs last e = ap (λ (l : List (List A)). ends_empty (map tokens l)) e
-
   pub front_parts : (xs front last : List A) → slice_split p xs ≡ slice_split p front ++ last ∷ []
       → parts_in tokens p front ≡ without_last (parts_in tokens p xs)
   front_parts xs front last e = sym (ap without_last (at_end xs front last e) ∙ off (parts_in tokens p front) (tokens last))
@@ -76,9 +66,6 @@ module _ {A : Type 0} (tokens : List A → List TokenModel) (p : A → Bool) whe
       ap (λ (l : List (List A)). begins_empty (map tokens l)) e
       ∙ begins_first (tokens first) (parts_in tokens p rest) (filled_parts rest)
 
-  pub begins_nowhere : (xs first : List A) → slice_split p xs ≡ first ∷ [] → begins_empty (parts_in tokens p xs) ≡ false
-  begins_nowhere xs first e = ap (λ (l : List (List A)). begins_empty (map tokens l)) e
-
   pub rest_parts : (xs first rest : List A) → slice_split p xs ≡ first ∷ slice_split p rest
       → parts_in tokens p rest ≡ without_first (parts_in tokens p xs)
   rest_parts xs first rest e = sym (ap (λ (l : List (List A)). without_first (map tokens l)) e)
@@ -89,9 +76,6 @@ module _ {A : Type 0} (tokens : List A → List TokenModel) (p : A → Bool) whe
   two_parts xs first rest e =
       ap (λ (l : List (List A)). nat_lt 1 (length (map tokens l))) e
       ∙ longer_than_one (tokens first) (parts_in tokens p rest) (filled_parts rest)
-
-  pub one_part : (xs first : List A) → slice_split p xs ≡ first ∷ [] → nat_lt 1 (length (parts_in tokens p xs)) ≡ false
-  one_part xs first e = ap (λ (l : List (List A)). nat_lt 1 (length (map tokens l))) e
 
   onto_length : (x : A) (ps : List (List A)) → is_empty ps ≡ false → length (map tokens (onto_first x ps)) ≡ length (map tokens ps)
   onto_length x [] some = cc
@@ -120,17 +104,6 @@ module _ {A : Type 0} (tokens : List A → List TokenModel) (p : A → Bool) whe
       let dir = ends_empty (parts_in tokens p xs) in
       sym (ap (cut_at_front dir) f)
       ∙ sym (ap (live dir (begins_empty (parts_in tokens p front) || nat_lt 1 (length (parts_in tokens p front)))) r)
-
-  -- it is dead where a part is empty
-  pub trimmed_dead : (xs front rest : List A)
-      → parts_in tokens p front ≡ cond (ends_empty (parts_in tokens p xs)) (without_last (parts_in tokens p xs)) (parts_in tokens p xs)
-      → parts_in tokens p rest
-      ≡ cond (begins_empty (parts_in tokens p front)) (without_first (parts_in tokens p front)) (parts_in tokens p front)
-      → some_empty (parts_in tokens p rest) ≡ true → pattern_from (Some (parts_in tokens p xs)) ≡ dead
-  trimmed_dead xs front rest f r e =
-      let dir = ends_empty (parts_in tokens p xs) in
-      let t = begins_empty (parts_in tokens p front) || nat_lt 1 (length (parts_in tokens p front)) in
-      live_is xs front rest f r ∙ ap (λ (b : Bool). cond b dead (live_model dir t (map (segment_from t) (parts_in tokens p rest)))) e
 
   -- whether it is anchored: a separator leads, or stands between two parts of the rest
   same_scope : (front rest : List A)

@@ -1,41 +1,19 @@
 -- The items of a bracket.
-use Rattle.std.proofs.Common.{length-drop, not, ◌&&◌, ◌||◌, add-zero, lt-ltb, nat_eq, ◌≡◌, ◌<◌, ◌≤◌, ◌+◌, ◌-◌, ℕ, zero, suc, Bool, true}
-use Rattle.std.proofs.Common.{false, nat_lt, cond, List, [], ◌∷◌, ◌++◌, length, take, drop, Option, Some, None, refl, sym, ◌∙◌, ap}
-use Rattle.std.proofs.Common.{subst, arith, append_assoc}
-use Rattle.std.proofs.lemmas.List.{take_rest, append-nil, map-append}
+use Rattle.std.proofs.Common.{length-drop, not, ◌&&◌, ◌||◌, add-zero, nat_eq, ◌≡◌, ◌<◌, ◌≤◌, ◌+◌, ◌-◌, ℕ, zero, suc, Bool, true}
+use Rattle.std.proofs.Common.{false, cond, List, [], ◌∷◌, ◌++◌, length, take, drop, Option, Some, None, refl, sym, ◌∙◌, ap}
+use Rattle.std.proofs.{Common.{arith, append_assoc}, lemmas.List.{take_rest, append-nil, map-append, Sums.position_or_len_is}}
+use Rattle.std.proofs.lemmas.Bool.{false_from_ne_true}
 use mir.Val.{bool_byte}
 use Rattle.std.specs.List.{position_or_len}
-use Rattle.std.proofs.lemmas.List.Sums.{position_or_len_is}
-use Rattle.std.proofs.lemmas.Bool.{false_from_ne_true}
 use Rattle.memchr.specs.Find.{IsFirstByte, is_byte}
-use Rattle.lc_glob.specs.Brackets.{element, range_from, from_element, class_of, class_item, is_class, plain_item, colon_item, item}
-use Rattle.lc_glob.specs.Brackets.{as_set, bracket, items, items_on, taken_more}
-use Rattle.lc_glob.specs.TokenLists.{range_tokens}
-use Rattle.lc_glob.specs.Pushes.{Pushes, kept_tokens}
-use Rattle.lc_glob.specs.Tokens.{class}
-use Rattle.lc_glob.specs.declared.token.Token.{Token}
-use Rattle.lc_glob.specs.declared.token.Token.TheVariants.{Open, Range}
+use Rattle.lc_glob.specs.Brackets.{element, range_from, from_element, plain_item, item, as_set}
+use Rattle.lc_glob.specs.{Brackets.{bracket, items, items_on, taken_more}, TokenLists.range_tokens, Pushes.{Pushes, kept_tokens}}
+use Rattle.lc_glob.specs.{Tokens.class, declared.token.Token.{Token, TheVariants.{Open, Range}}}
 
 -- an item that is no class: an element, and perhaps a range from it
 pub plain_is : (b x used : ℕ) (rest : List ℕ) (found : Option (List (ℕ × ℕ) × ℕ)) → element b rest ≡ Some (x, used)
     → range_from x used (take (length rest - used) (drop used rest)) ≡ found → plain_item b rest ≡ found
 plain_is b x used rest found e r = ap (λ (o : Option (ℕ × ℕ)). from_element o rest) e ∙ (rw take_rest at r)
-
-of_class : (t u : Bool) (n : ℕ) (k : Option (List (ℕ × ℕ))) (plain : Option (List (ℕ × ℕ) × ℕ)) → t ≡ true → u ≡ true
-    → cond t (cond u (class_item n k) plain) None ≡ class_item n k
-of_class true true n k plain t u = refl
-of_class true false n k plain t u = cc
-of_class false u' n k plain t u = cc
-
-test_lt : (a b : ℕ) → a < b → nat_lt a b ≡ true
-test_lt a b l = lt-ltb a b l
-
--- an item that begins with a colon and has its end is that class
-pub colon_class : (p q : ℕ) (rest : List ℕ) (plain : Option (List (ℕ × ℕ) × ℕ)) (o : Option (List (ℕ × ℕ))) → p ≡ q → p < length rest
-    → is_class rest p ≡ true → class_of (take (p - 1) rest) ≡ o → colon_item q rest plain ≡ class_item (p + 2) o
-colon_class p q rest plain o e l f k =
-    subst (λ (n : ℕ). colon_item n rest plain ≡ class_item (p + 2) o) e
-    (of_class _ _ _ _ plain (test_lt p (length rest) l) f ∙ ap (class_item (p + 2)) k)
 
 -- the place that a search finds is the first of the byte
 pub first_some : (c : ℕ) (bytes : List ℕ) (i : ℕ) → IsFirstByte (is_byte c) bytes (Some i) → i ≡ position_or_len (λ b. nat_eq b c) bytes
@@ -50,11 +28,6 @@ first_none c bytes h =
     let p = λ (b : ℕ). nat_eq b c in
     sym (position_or_len_is p bytes (length bytes) 0 (omega arith) (λ k l. false_from_ne_true _ (h k (omega arith) l))
     (λ l. absurd (omega arith)))
-
--- the same answer with another name for its length
-pub pair_taken : (ranges : List (ℕ × ℕ)) (n taken : ℕ) (found : Option (List (ℕ × ℕ) × ℕ)) → found ≡ Some (ranges, n) → taken ≡ n
-    → found ≡ Some (ranges, taken)
-pair_taken ranges n taken found f e = f ∙ ap (λ (k : ℕ). Some (ranges, k)) (sym e)
 
 -- ranges before those found, and n bytes before those taken
 abbrev pub prepend : List (ℕ × ℕ) → ℕ → Option (List (ℕ × ℕ) × ℕ) → Option (List (ℕ × ℕ) × ℕ)
@@ -87,49 +60,10 @@ at_item first b bs more k a n t e =
     ∙ ap (λ (o : Option (List (ℕ × ℕ) × ℕ)). items_on false o next) e in
     ap (prepend a n) step ∙ prepend_more a more n (items false k bs) ∙ items_skip false k bs (a ++ more) (n + 1)
 
--- before nothing and after no bytes it is the same
-prepend_nothing : (n : ℕ) (o : Option (List (ℕ × ℕ) × ℕ)) → n ≡ 0 → o ≡ prepend [] n o
-prepend_nothing n None none = refl
-prepend_nothing n (Some r) none = let e : r.1 ≡ n + r.1 = omega (arith, none) in ap (λ (k : ℕ). Some (r.0, k)) e
-
 -- the ranges that were pushed: what all items give is those before what the rest gives
 abbrev pub HavePushed : Option (List (ℕ × ℕ) × ℕ) → List Token → List Token → ℕ → Bool → List ℕ → Type 0
 HavePushed all old new taken first left =
     (ranges : List (ℕ × ℕ)) × (new ≡ old ++ range_tokens ranges) × (all ≡ prepend ranges taken (items first 0 left))
-
-pub items_start : (tokens : List Token) (bytes : List ℕ) (n : ℕ) → n ≡ 0 → HavePushed (items true 0 bytes) tokens tokens n true bytes
-items_start tokens bytes n none = ([], sym (append-nil tokens), prepend_nothing n (items true 0 bytes) none)
-
--- where no byte is left there is no close
-pub items_over : (all : Option (List (ℕ × ℕ) × ℕ)) (old new : List Token) (taken : ℕ) (first : Bool) (left : List ℕ)
-    → HavePushed all old new taken first left → length left ≡ 0 → all ≡ None
-items_over all old new taken first [] has none = has.2
-items_over all old new taken first (b ∷ bs) has none = cc
-
--- at the close
-pub items_closed : (all : Option (List (ℕ × ℕ) × ℕ)) (old new : List Token) (first : Bool) (left : List ℕ) (b : ℕ) (rest : List ℕ)
-    (len : ℕ) → HavePushed all old new (len - length left) first left → left ≡ b ∷ rest → length left ≤ len
-    → (nat_eq b 93 && not first) ≡ true → Pushes range_tokens all old new (Some (len - length rest))
-items_closed all old new first left b rest len has cons within closes =
-    let n : len - length left + 1 ≡ len - length rest = omega (arith, ap length cons) in
-    let next = λ (j : ℕ). items false j rest in (
-      has.0,
-      has.2 ∙ ap (λ (l : List ℕ). prepend has.0 (len - length left) (items first 0 l)) cons
-          ∙ ap (λ (t : Bool). prepend has.0 (len - length left) (items_on t (item b rest) next)) closes
-          ∙ ap (λ (l : List (ℕ × ℕ)). Some (l, len - length left + 1)) (append-nil has.0)
-          ∙ ap (λ (k : ℕ). Some (has.0, k)) n,
-      has.1,
-    )
-
--- at an item that makes the pattern dead
-pub items_dead : (all : Option (List (ℕ × ℕ) × ℕ)) (old new : List Token) (taken : ℕ) (first : Bool) (left : List ℕ) (b : ℕ)
-    (rest : List ℕ) → HavePushed all old new taken first left → left ≡ b ∷ rest → (nat_eq b 93 && not first) ≡ false
-    → item b rest ≡ None → all ≡ None
-items_dead all old new taken first left b rest has cons more dead =
-    let next = λ (j : ℕ). items false j rest in
-    has.2 ∙ ap (λ (l : List ℕ). prepend has.0 taken (items first 0 l)) cons
-    ∙ ap (λ (t : Bool). prepend has.0 taken (items_on t (item b rest) next)) more
-    ∙ ap (λ (o : Option (List (ℕ × ℕ) × ℕ)). prepend has.0 taken (items_on false o next)) dead
 
 -- at any other
 pub items_step : (all : Option (List (ℕ × ℕ) × ℕ)) (old new newer : List Token) (first : Bool) (left : List ℕ) (b : ℕ) (rest : List ℕ)

@@ -1,12 +1,7 @@
 -- How segments match names from their end, and lead to it.
 use Rattle.std.proofs.Common.{◌≡◌, ◌↔◌, IsTrue, ℕ, Bool, true, false, List, [], ◌∷◌, ◌++◌, refl, sym, ◌∙◌, subst, ap}
-use Rattle.std.proofs.lemmas.List.{append-nil}
-use Rattle.std.proofs.lemmas.Bool.{false≢true}
-use Rattle.lc_glob.specs.Tokens.{TokenModel}
-use Rattle.lc_glob.specs.Fits.{Fits}
-use Rattle.lc_glob.specs.Patterns.{SegmentModel, plain, double_star}
-use Rattle.lc_glob.specs.Matches.{MatchesPath}
-use Rattle.lc_glob.specs.Leads.{Leads}
+use Rattle.std.proofs.lemmas.{List.append-nil, Bool.false≢true}
+use Rattle.lc_glob.specs.{Tokens.TokenModel, Fits.Fits, Patterns.{SegmentModel, plain, double_star}, Matches.MatchesPath, Leads.Leads}
 use Rattle.lc_glob.proofs.After.{after_empty, after_end}
 
 -- a double star alone takes all names, first or last of its segments as it is

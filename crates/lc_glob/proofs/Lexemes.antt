@@ -1,19 +1,13 @@
 -- The tokens of a pattern, lexeme by lexeme.
-use Rattle.std.proofs.Common.{◌≡◌, ◌≢◌, ◌-◌, ℕ, Bool, cond, nat_eq, false, List, [], ◌∷◌, ◌++◌, length, map, take}
-use Rattle.std.proofs.Common.{drop, Option, None, Some, refl, sym, ◌∙◌, ap, subst}
-use Rattle.std.proofs.lemmas.Bool.{ne_eqb}
-use Rattle.std.proofs.lemmas.List.{map-append}
-use Rattle.std.proofs.lemmas.List.Elements.{All-nil, All-cons}
+use Rattle.std.proofs.Common.{◌≡◌, ◌≢◌, ◌-◌, ℕ, Bool, cond, nat_eq, false, List, [], ◌∷◌, ◌++◌, length, map, take, drop, Option, None, Some}
+use Rattle.std.proofs.{Common.{refl, sym, ◌∙◌, ap, subst}, lemmas.{Bool.ne_eqb, List.{map-append, Elements.{All-nil, All-cons}}}}
 use Rattle.std.specs.List.{All, slice_split}
-use Rattle.lc_glob.specs.Brackets.{bracket}
-use Rattle.lc_glob.specs.TokenLists.{is_separator, tokens_model, range_tokens}
+use Rattle.lc_glob.specs.{Brackets.bracket, TokenLists.{is_separator, tokens_model, range_tokens}}
 use Rattle.lc_glob.specs.Pushes.{Pushes, kept_tokens, lexeme_tokens}
 use Rattle.lc_glob.specs.Reading.{LexemeModel, separator, one, as_lexeme, byte_lexeme, lexeme, parts, quoted}
-use Rattle.lc_glob.specs.Tokens.{TokenModel, literal, any_byte, star, class}
-use Rattle.lc_glob.specs.declared.token.Token.{Token}
+use Rattle.lc_glob.specs.{Tokens.{TokenModel, literal, any_byte, star, class}, declared.token.Token.Token}
 use Rattle.lc_glob.specs.declared.token.Token.TheVariants.{Literal, AnyByte, Star, Open, Separator}
-use Rattle.lc_glob.proofs.TokenLists.{model_before, bracket_alone, ranges_inside}
-use Rattle.lc_glob.proofs.Naming.{EndsIn, ends_more, ends_cut, ends_now}
+use Rattle.lc_glob.proofs.{TokenLists.{model_before, bracket_alone, ranges_inside}, Naming.{EndsIn, ends_more, ends_cut, ends_now}}
 use Rattle.lc_glob.proofs.Parts.{join, parts_separator, parts_one, parts_end}
 
 abbrev IsInside : Token → Type 0

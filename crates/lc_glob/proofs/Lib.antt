@@ -20,4 +20,3 @@ pub mod SimpleBytes
 pub mod ExactPaths
 pub mod EndLooks
 pub mod PatternSpans
-pub mod LastMatch

@@ -1,17 +1,12 @@
 -- Elements cut by separators, by the place of the first or the last of these.
-use Rattle.std.proofs.Common.{length-drop, ◌≡◌, ◌↔◌, ◌<◌, ◌+◌, ◌-◌, ℕ, Bool, true, false, IsTrue, nat_eq, List, [], ◌∷◌, ◌++◌, length}
-use Rattle.std.proofs.Common.{take, drop, get_or, refl, sym, ◌∙◌, ap, ap₂, subst, length-append, Option, Some, None, arith, append_assoc}
-use Rattle.std.specs.List.{onto_first, All, slice_split}
-use Rattle.std.specs.Borrow.{Bor}
+use Rattle.std.proofs.Common.{length-drop, ◌≡◌, ◌↔◌, ◌<◌, ◌+◌, ◌-◌, ℕ, Bool, true, false, IsTrue, nat_eq, List, [], ◌∷◌, ◌++◌, length, take}
+use Rattle.std.proofs.Common.{drop, get_or, refl, sym, ◌∙◌, ap, ap₂, subst, length-append, Option, Some, None, arith, append_assoc}
 use Rattle.std.proofs.lemmas.List.Splits.{slice_split_none, slice_split-cons_yes, slice_split-cons_no, length-slice_split, slice_split_at}
 use Rattle.std.proofs.lemmas.List.{take_rest, take-append-drop, drop_more, get_or-drop, append-nil, nil_from_length}
-use Rattle.std.proofs.Math.Seq.{take-append_seam, drop-append_seam}
-use Rattle.std.proofs.lemmas.List.Elements.{All-append, All-nil}
-use Rattle.std.proofs.lemmas.Bool.{false_from_ne_true}
+use Rattle.std.proofs.{lemmas.{List.Elements.{All-append, All-nil}, Bool.false_from_ne_true}, Math.Seq.{take-append_seam, drop-append_seam}}
+use Rattle.std.specs.{List.{onto_first, All, slice_split}, Borrow.Bor}
 use Rattle.memchr.specs.Find.{IsLastByte, is_byte}
-use Rattle.lc_glob.specs.Bytes.{slash}
-use Rattle.lc_glob.specs.Path.{segments_of}
-use Rattle.lc_glob.specs.Pieces.{cuts_left}
+use Rattle.lc_glob.specs.{Bytes.slash, Path.segments_of, Pieces.cuts_left}
 use Rattle.lc_glob.proofs.FirstByte.{same_read, split_none}
 
 -- what is left behind a front
@@ -25,10 +20,6 @@ module _ {A : Type 0} (p : A → Bool) where
   some_part xs e =
       let h = length-slice_split p xs in
       let z : length (slice_split p xs) ≡ 0 = ap length e in omega (arith, h, z)
-
-  -- nothing is left where no rest is
-  pub none_left : (rest : Option (Bor (List A))) → rest ≡ None → IsTrue true ↔ (cuts_left p rest ≡ [])
-  none_left rest e = (λ h. ap (cuts_left p) e, λ h. refl)
 
   -- something is left where a rest is
   pub some_left : (rest : Option (Bor (List A))) (xs : Bor (List A)) → rest ≡ Some xs → IsTrue false ↔ (cuts_left p rest ≡ [])

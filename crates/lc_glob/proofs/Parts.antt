@@ -1,9 +1,7 @@
 -- The parts of a pattern, lexeme by lexeme.
-use Rattle.std.proofs.Common.{arith, ◌-◌, ◌≡◌, ℕ, zero, suc, List, [], ◌∷◌, ◌++◌, length}
-use Rattle.std.proofs.Common.{take, drop, Option, Some, None, refl, sym, ◌∙◌, ap, append_assoc}
-use Rattle.std.proofs.lemmas.List.{take_rest, append-nil}
-use Rattle.lc_glob.specs.Tokens.{TokenModel}
-use Rattle.lc_glob.specs.Reading.{LexemeModel, separator, one, lexeme, put, put_on, parts}
+use Rattle.std.proofs.Common.{arith, ◌-◌, ◌≡◌, ℕ, zero, suc, List, [], ◌∷◌, ◌++◌, length, take, drop, Option, Some, None, refl, sym, ◌∙◌}
+use Rattle.std.proofs.{Common.{ap, append_assoc}, lemmas.List.{take_rest, append-nil}}
+use Rattle.lc_glob.specs.{Tokens.TokenModel, Reading.{LexemeModel, separator, one, lexeme, put, put_on, parts}}
 
 -- parts that are done and tokens of the part at hand, before those found
 abbrev pub join : List (List TokenModel) → List TokenModel → Option (List (List TokenModel)) → Option (List (List TokenModel))

@@ -1,18 +1,12 @@
 -- Patterns that are kept stay what they are while more are taken.
 use Rattle.std.proofs.Common.{◌≡◌, ◌+◌, ◌≤◌, ℕ, List, [], ◌∷◌, ◌++◌, length, map, take, drop, refl, ◌∙◌, ap, ap₂, arith}
-use Rattle.std.specs.List.{All}
-use Rattle.std.proofs.Math.Seq.{take-length, drop-append_seam}
-use Rattle.std.proofs.lemmas.List.{take-append-le, drop-append-le, length-drop, map-append}
+use Rattle.std.proofs.{Math.Seq.{take-length, drop-append_seam}, lemmas.List.{take-append-le, drop-append-le, length-drop, map-append}}
 use Rattle.std.proofs.lemmas.List.Elements.{All-head, All-tail}
-use Rattle.lc_glob.specs.Patterns.{PatternModel}
-use Rattle.lc_glob.specs.Views.{form_model, token_pattern_model}
-use Rattle.lc_glob.specs.declared.scope.Scope.{Scope}
-use Rattle.lc_glob.specs.declared.simple_pattern.SimpleForm.{SimpleForm}
-use Rattle.lc_glob.specs.declared.token.Token.{Token}
+use Rattle.std.specs.List.{All}
+use Rattle.lc_glob.specs.{Patterns.PatternModel, Views.{form_model, token_pattern_model}, declared.scope.Scope.Scope}
+use Rattle.lc_glob.specs.declared.{simple_pattern.SimpleForm.SimpleForm, token.Token.Token, pattern_set.PatternForm.PatternForm}
+use Rattle.lc_glob.specs.declared.pattern_set.{PatternForm.TheVariants.{Simple, Tokens}, PatternSpan.PatternSpan}
 use Rattle.lc_glob.specs.PatternSpans.{pattern_from, pattern_in, IsThere, IsSpanOf}
-use Rattle.lc_glob.specs.declared.pattern_set.PatternForm.{PatternForm}
-use Rattle.lc_glob.specs.declared.pattern_set.PatternForm.TheVariants.{Simple, Tokens}
-use Rattle.lc_glob.specs.declared.pattern_set.PatternSpan.{PatternSpan}
 
 -- a part of a list is that of a longer one
 part_stays : {A : Type 0} (xs ys : List A) (start len : ℕ) → start + len ≤ length xs

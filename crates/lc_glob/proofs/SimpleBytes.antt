@@ -1,17 +1,12 @@
 -- Simple patterns, byte by byte.
-use Rattle.std.proofs.Common.{◌≡◌, ℕ, Bool, true, false, not, ◌&&◌, ◌||◌, cond, nat_eq, List, [], ◌∷◌, map}
-use Rattle.std.proofs.Common.{Option, Some, refl, sym, ◌∙◌, ap}
-use Rattle.std.proofs.lemmas.Bool.{false≢true, eqb-true, and_parts}
+use Rattle.std.proofs.Common.{◌≡◌, ℕ, Bool, true, false, not, ◌&&◌, ◌||◌, cond, nat_eq, List, [], ◌∷◌, map, Option, Some, refl, sym, ◌∙◌}
+use Rattle.std.proofs.{Common.ap, lemmas.Bool.{false≢true, eqb-true, and_parts}}
 use Rattle.std.specs.List.{list_all, onto_first}
-use Rattle.lc_glob.specs.Tokens.{TokenModel, literal, any_byte, star}
-use Rattle.lc_glob.specs.Patterns.{SegmentModel, plain, double_star}
-use Rattle.lc_glob.specs.Path.{segments_of}
-use Rattle.lc_glob.specs.Reading.{LexemeModel, separator, one, lexeme, put, parts}
-use Rattle.lc_glob.specs.Reading.{is_double_star}
-use Rattle.lc_glob.specs.Simple.{is_simple, is_literal, byte_token, byte_parts, bytes_segment, is_end, tokens_of_end}
-use Rattle.lc_glob.specs.Simple.{is_ends_segment, ends_segment}
-use Rattle.lc_glob.proofs.Naming.{HasFirst, has_first}
-use Rattle.lc_glob.proofs.Parts.{at_lexeme}
+use Rattle.lc_glob.specs.{Tokens.{TokenModel, literal, any_byte, star}, Patterns.{SegmentModel, plain, double_star}, Path.segments_of}
+use Rattle.lc_glob.specs.Reading.{LexemeModel, separator, one, lexeme, put, parts, is_double_star}
+use Rattle.lc_glob.specs.Simple.{is_simple, is_literal, byte_token, byte_parts, bytes_segment, is_end, tokens_of_end, is_ends_segment}
+use Rattle.lc_glob.specs.Simple.{ends_segment}
+use Rattle.lc_glob.proofs.{Naming.{HasFirst, has_first}, Parts.at_lexeme}
 
 -- bytes that are literals
 chosen_literal : (a q : Bool) (t u v : TokenModel) → (not a && not q) ≡ true → cond a t (cond q u v) ≡ v

@@ -1,19 +1,11 @@
 -- How long the names are that tokens fit and segments lead to.
 use Rattle.std.proofs.Common.{◌≡◌, ◌≤◌, ℕ, not, false, List, [], ◌∷◌, ◌++◌, length, map, refl, sym, subst, ap, arith, length-append}
-use Rattle.std.proofs.lemmas.List.Recursion.{is_count_by}
+use Rattle.std.proofs.lemmas.List.{Recursion.is_count_by, Elements.{All-nil, All-cons, All-head, All-tail}}
 use Rattle.std.specs.List.{All, list_any, count_by}
-use Rattle.std.proofs.lemmas.List.Elements.{All-nil, All-cons, All-head, All-tail}
-use Rattle.lc_glob.specs.Tokens.{TokenModel, literal, any_byte, star, class, is_star}
-use Rattle.lc_glob.specs.Fits.{Fits}
-use Rattle.lc_glob.specs.Patterns.{SegmentModel, plain, double_star}
-use Rattle.lc_glob.specs.Leads.{Leads}
-use Rattle.lc_glob.specs.Costs.{bytes_with_ends}
-use Rattle.lc_glob.specs.Path.{segments_of}
-use Rattle.lc_glob.specs.Lengths.{IsBetween, AreBetween, FitsSome, least_bytes}
-use Rattle.lc_glob.specs.declared.lengths.Lengths.{Lengths}
-use Rattle.lc_glob.proofs.Bounds.{path_size}
-use Rattle.lc_glob.proofs.Ends.{bytes_with_ends-end}
-use Rattle.lc_glob.proofs.Fitting.{fits_literals}
+use Rattle.lc_glob.specs.{Tokens.{TokenModel, literal, any_byte, star, class, is_star}, Fits.Fits}
+use Rattle.lc_glob.specs.{Patterns.{SegmentModel, plain, double_star}, Leads.Leads, Costs.bytes_with_ends, Path.segments_of}
+use Rattle.lc_glob.specs.{Lengths.{IsBetween, AreBetween, FitsSome, least_bytes}, declared.lengths.Lengths.Lengths}
+use Rattle.lc_glob.proofs.{Bounds.path_size, Ends.bytes_with_ends-end, Fitting.fits_literals}
 
 -- a name that tokens fit has a byte for each that is no star
 pub fits_least : (us : List TokenModel) (name : List ℕ) → Fits us name → least_bytes us ≤ length name

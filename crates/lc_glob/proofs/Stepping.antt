@@ -1,17 +1,11 @@
 -- Trying a star's cuts from the shortest on, with one place to go back to.
-use Rattle.std.proofs.Common.{◌≤◌, ◌+◌, ◌*◌, arith, length, Some, None, Option, ◌≡◌, ◌↔◌, ◌⊎◌, IsTrue, ℕ, true, false, List, []}
-use Rattle.std.proofs.Common.{◌∷◌, inl, inr, refl, sym, ◌∙◌, subst, ap}
-use Rattle.lc_glob.specs.Tokens.{TokenModel, literal, any_byte, star, class, takes, is_star}
-use Rattle.lc_glob.specs.Fits.{Fits}
-use Rattle.std.proofs.Common.{length-append, ◌++◌}
-use Rattle.std.proofs.lemmas.List.{append-nil}
-use Rattle.lc_glob.specs.Lists.{is_empty}
-use Rattle.std.proofs.Math.Nat.{mul-le-mul_right}
+use Rattle.std.proofs.Common.{◌≤◌, ◌+◌, ◌*◌, arith, length, Some, None, Option, ◌≡◌, ◌↔◌, ◌⊎◌, IsTrue, ℕ, true, false, List, [], ◌∷◌, inl}
+use Rattle.std.proofs.{Common.{inr, refl, sym, ◌∙◌, subst, ap, ◌++◌}, lemmas.List.append-nil, Math.Nat.mul-le-mul_right}
+use Rattle.lc_glob.specs.{Tokens.{TokenModel, star, takes, is_star}, Fits.Fits, Lists.is_empty}
+use Rattle.lc_glob.specs.{declared.cursor.Cursor.Cursor, Steps.{FitsAt, cost_at, FrontStepIs, RetryIs}}
 use Rattle.lc_glob.proofs.Fitting.{fits_one, fits_one_empty, when_one}
 use Rattle.lc_glob.proofs.After.{Later, later_after, after_split, after_join, after_after, after_drop}
-use Rattle.lc_glob.specs.declared.cursor.Cursor.{Cursor}
 use Rattle.lc_glob.specs.declared.cursor.FrontStep.TheVariants as front
-use Rattle.lc_glob.specs.Steps.{FitsAt, cost_at, FrontStepIs, RetryIs}
 
 -- what comes after a byte that is taken
 star_drop : (us : List TokenModel) (u : TokenModel) (x : ℕ) (xs : List ℕ) → is_star u ≡ false → Fits (star ∷ u ∷ us) (x ∷ xs)
@@ -21,9 +15,7 @@ star_drop us u x xs s h = after_drop (Fits (u ∷ us)) (Fits us) (fits_one_empty
 -- the only token that is a star is the star
 pub star_is : (u : TokenModel) → is_star u ≡ true → u ≡ star
 star_is star e = refl
-star_is (literal c) e = cc
-star_is any_byte e = cc
-star_is (class n rs) e = cc
+star_is _ e = cc
 
 -- a star alone fits any name
 star_fits : (tokens : List TokenModel) (name : List ℕ) → tokens ≡ star ∷ [] → Fits tokens name
@@ -120,18 +112,6 @@ pub paid_back : (a b p h g t s all : ℕ) → a + 1 ≡ b → h ≤ p → s ≤ 
 paid_back a b p h g t s all ab hp st paid =
     let e : b * (p + 1) ≡ (a + 1) * (p + 1) = ap (λ (n : ℕ). n * (p + 1)) (sym ab) in
     omega (arith, e)
-
--- from the end
-pub shorter_end : (here before : List TokenModel) (u : TokenModel) → here ≡ before ++ u ∷ [] → length here ≡ length before + 1
-shorter_end here before u e = ap length e ∙ length-append before (u ∷ [])
-
--- a byte more makes the name longer by one
-pub length_end : (bytes before : List ℕ) (x : ℕ) → bytes ≡ before ++ x ∷ [] → length bytes ≡ length before + 1
-length_end bytes before x e = ap length e ∙ length-append before (x ∷ [])
-
--- a byte test from the end costs no more than what is left
-pub paid_end : (h b n m t s : ℕ) → h ≡ b + 1 → n ≡ m + 1 → s ≤ t + 1 → s + (m * (b + 1) + b) ≤ t + (n * (h + 1) + h)
-paid_end h b n m t s hb nm st = rw (hb, nm) (omega arith)
 
 module _ {A : Type 0} (tokens_in : List A → List TokenModel) where
   -- what holds between two steps from the front: the tokens here fit, or those after the star do later, just where the tokens of the

@@ -1,15 +1,8 @@
 -- Trying a double star's runs from the shortest on, with one place to go back to.
-use Rattle.std.proofs.Common.{◌≡◌, ◌↔◌, ◌⊎◌, ◌≤◌, ◌+◌, ℕ, List, ◌∷◌, inl, inr, sym, subst, ap, length}
-use Rattle.std.proofs.Common.{Option, Some, None, arith}
-use Rattle.lc_glob.specs.Tokens.{TokenModel}
-use Rattle.lc_glob.specs.Fits.{Fits}
-use Rattle.lc_glob.specs.Patterns.{SegmentModel, plain, double_star}
-use Rattle.lc_glob.specs.Leads.{Leads}
-use Rattle.lc_glob.specs.Views.{segments_ref_model}
-use Rattle.lc_glob.specs.Path.{segments_left}
-use Rattle.lc_glob.specs.declared.match_path.PathCursor.{PathCursor}
-use Rattle.lc_glob.proofs.After.{After, Later, later_after, after_split, after_join, after_after, after_drop}
-use Rattle.lc_glob.proofs.Cost.{again}
+use Rattle.std.proofs.Common.{◌≡◌, ◌↔◌, ◌⊎◌, ◌≤◌, ◌+◌, ℕ, List, ◌∷◌, inl, inr, sym, subst, ap, length, Option, Some, None, arith}
+use Rattle.lc_glob.specs.{Tokens.TokenModel, Fits.Fits, Patterns.{SegmentModel, plain, double_star}, Leads.Leads, Views.segments_ref_model}
+use Rattle.lc_glob.specs.{Path.segments_left, declared.match_path.PathCursor.PathCursor}
+use Rattle.lc_glob.proofs.{After.{After, Later, later_after, after_split, after_join, after_after, after_drop}, Cost.again}
 
 -- what is still to be tried where the segments here don't match the segments that are left
 abbrev pub LaterOf : Option PathCursor → Type 0

@@ -1,23 +1,16 @@
 -- Tokens as they are kept, with the ranges of brackets among them.
-use Rattle.std.proofs.Common.{◌≡◌, ◌+◌, ℕ, Bool, true, false, List, [], ◌∷◌, ◌++◌, length, map, if◌then◌else◌}
-use Rattle.std.proofs.Common.{refl, sym, ◌∙◌, ap, ap₂, subst, arith, append_assoc, take, drop, ◌-◌}
-use Rattle.std.proofs.lemmas.List.Elements.{All-nil, All-cons}
+use Rattle.std.proofs.Common.{◌≡◌, ◌+◌, ℕ, Bool, true, false, List, [], ◌∷◌, ◌++◌, length, map, if◌then◌else◌, refl, sym, ◌∙◌, ap, ap₂}
+use Rattle.std.proofs.{Common.{subst, arith, append_assoc, take, drop, ◌-◌}, lemmas.List.Elements.{All-nil, All-cons}}
 use Rattle.std.proofs.lemmas.List.Recursion.{is_count_by}
 use Rattle.std.specs.List.{All, count_by}
 use Rattle.lc_glob.proofs.Naming.{left_off}
-use Rattle.lc_glob.specs.Lengths.{least_bytes}
-use Rattle.lc_glob.specs.Tokens.{TokenModel, literal, any_byte, star, class}
+use Rattle.lc_glob.specs.{Lengths.least_bytes, Tokens.{TokenModel, literal, any_byte, star, class}}
 use Rattle.lc_glob.specs.TokenLists.{ranges_first, tokens_model, is_separator, is_for_byte, literal_tokens, range_tokens}
-use Rattle.lc_glob.specs.declared.token.Token.{Token}
-use Rattle.lc_glob.specs.declared.token.Token.TheVariants.{Literal, AnyByte, Star, Open, Range, Separator}
+use Rattle.lc_glob.specs.declared.token.Token.{Token, TheVariants.{Literal, AnyByte, Star, Open, Range, Separator}}
 
 abbrev pub is_range : Token → Bool
-is_range (Literal c) = false
-is_range AnyByte = false
-is_range Star = false
-is_range (Open n) = false
 is_range (Range f l) = true
-is_range Separator = false
+is_range _ = false
 
 -- what comes after a token that is no range adds none to the ranges before it
 ranges_end : (xs : List Token) (t : Token) (after : List Token) → is_range t ≡ false → ranges_first (xs ++ t ∷ after) ≡ ranges_first xs
@@ -27,12 +20,8 @@ ranges_end [] Star after e = refl
 ranges_end [] (Open n) after e = refl
 ranges_end [] (Range f l) after e = cc
 ranges_end [] Separator after e = refl
-ranges_end (Literal c ∷ xs) t after e = refl
-ranges_end (AnyByte ∷ xs) t after e = refl
-ranges_end (Star ∷ xs) t after e = refl
-ranges_end (Open n ∷ xs) t after e = refl
 ranges_end (Range f l ∷ xs) t after e = ap (λ (rs : List (ℕ × ℕ)). (f, l) ∷ rs) (ranges_end xs t after e)
-ranges_end (Separator ∷ xs) t after e = refl
+ranges_end (_ ∷ xs) t after e = refl
 
 -- so it changes nothing of what those before it stand for
 pub model_before : (xs : List Token) (t : Token) (after : List Token) → is_range t ≡ false
@@ -43,19 +32,14 @@ model_before (AnyByte ∷ xs) t after e = ap (λ (l : List TokenModel). any_byte
 model_before (Star ∷ xs) t after e = ap (λ (l : List TokenModel). star ∷ l) (model_before xs t after e)
 model_before (Open n ∷ xs) t after e =
     ap₂ (λ (rs : List (ℕ × ℕ)) (l : List TokenModel). class n rs ∷ l) (ranges_end xs t after e) (model_before xs t after e)
-model_before (Range f l ∷ xs) t after e = model_before xs t after e
-model_before (Separator ∷ xs) t after e = model_before xs t after e
+model_before (_ ∷ xs) t after e = model_before xs t after e
 
 longer : (us : List TokenModel) (u : TokenModel) → us ≡ u ∷ us → ⊥
 longer us u e = let len = ap length e in omega (arith, len)
 
 no_range : (t : Token) (after : List Token) (u : TokenModel) → tokens_model (t ∷ after) ≡ u ∷ tokens_model after → is_range t ≡ false
-no_range (Literal c) after u e = refl
-no_range AnyByte after u e = refl
-no_range Star after u e = refl
-no_range (Open n) after u e = refl
 no_range (Range f l) after u e = absurd (longer (tokens_model after) u e)
-no_range Separator after u e = refl
+no_range _ after u e = refl
 
 -- the last token that stands for something, where what is after it stands for nothing
 pub model_last : (all left before after : List Token) (t : Token) (u : TokenModel) → all ≡ left ++ after → left ≡ before ++ t ∷ []
@@ -101,10 +85,8 @@ least_same : (ts : List Token) → least_of ts ≡ least_bytes (tokens_model ts)
 least_same [] = refl
 least_same (Literal c ∷ ts) = ap (λ (n : ℕ). 1 + n) (least_same ts)
 least_same (AnyByte ∷ ts) = ap (λ (n : ℕ). 1 + n) (least_same ts)
-least_same (Star ∷ ts) = least_same ts
 least_same (Open n ∷ ts) = ap (λ (n : ℕ). 1 + n) (least_same ts)
-least_same (Range f l ∷ ts) = least_same ts
-least_same (Separator ∷ ts) = least_same ts
+least_same (_ ∷ ts) = least_same ts
 
 -- those that stand for one byte are as many as the tokens that are no star
 pub model_least : (ts : List Token) → count_by is_for_byte ts ≡ least_bytes (tokens_model ts)

@@ -1,12 +1,7 @@
 -- What is told of the directories above a path at once, by the names on the way down to them.
-use Rattle.std.specs.Prelude.{ℕ, ◌≡◌, ◌<◌, ◌≤◌, ◌+◌, ◌↔◌, Bool, false, true, ◌&&◌, ◌||◌, List, [], ◌∷◌, length, map}
-use Rattle.std.specs.Prelude.{take, slice_index_or, IsTrue}
-use Rattle.std.specs.Borrow.{Bor}
-use Rattle.std.specs.List.{list_any}
-use Rattle.lc_glob.specs.Tokens.{is_star}
-use Rattle.lc_glob.specs.Patterns.{SegmentModel, plain, double_star, PatternModel}
-use Rattle.lc_glob.specs.Path.{segments_of}
-use Rattle.lc_glob.specs.IsMatch.{is_match}
+use Rattle.std.specs.Prelude.{ℕ, ◌≡◌, ◌<◌, ◌≤◌, ◌+◌, ◌↔◌, Bool, false, true, ◌&&◌, ◌||◌, List, [], ◌∷◌, length, map, take, slice_index_or}
+use Rattle.std.specs.{Prelude.IsTrue, Borrow.Bor, List.list_any}
+use Rattle.lc_glob.specs.{Tokens.is_star, Patterns.{SegmentModel, plain, double_star, PatternModel}, Path.segments_of, IsMatch.is_match}
 
 -- names that are lent
 abbrev pub names_of : List (Bor (List ℕ)) → List (List ℕ)

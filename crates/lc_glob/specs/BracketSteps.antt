@@ -1,8 +1,6 @@
 -- What the steps through a bracket find.
 use Rattle.std.specs.Prelude.{ℕ, ◌≡◌, ◌+◌, ◌-◌, true, false, List, take, Some, None}
-use Rattle.lc_glob.specs.Brackets.{class_of, is_class}
-use Rattle.lc_glob.specs.declared.bracket.Colon.{Colon}
-use Rattle.lc_glob.specs.declared.bracket.Colon.TheVariants.{Class, Unknown, Ordinary}
+use Rattle.lc_glob.specs.{Brackets.{class_of, is_class}, declared.bracket.Colon.{Colon, TheVariants.{Class, Unknown, Ordinary}}}
 
 -- what begins with a `[:`, whose first close is at p of what follows it: a class, an unknown class, or none
 abbrev pub ColonIs : Colon → List ℕ → ℕ → Type 0

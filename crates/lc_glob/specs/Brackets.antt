@@ -1,9 +1,7 @@
 -- What stands between brackets: gitignore(5), PATTERN FORMAT, where the manual leaves the items to fnmatch(3).
-use Rattle.std.specs.Prelude.{ℕ, zero, suc, ◌+◌, ◌-◌, Bool, true, false, not, ◌&&◌, ◌||◌, ◌==◌, nat_lt, if◌then◌else◌, max, List, []}
-use Rattle.std.specs.Prelude.{◌∷◌, ◌++◌, length, take, drop, slice_index, Option, Some, None, codes, bytes_eq}
-use Rattle.std.specs.List.{position_or_len}
-use Rattle.lc_glob.specs.Bytes.{backslash, opening, closing, exclamation_mark, caret, hyphen, colon}
-use Rattle.lc_glob.specs.Tokens.{TokenModel, class}
+use Rattle.std.specs.Prelude.{ℕ, zero, suc, ◌+◌, ◌-◌, Bool, true, false, not, ◌&&◌, ◌||◌, ◌==◌, nat_lt, if◌then◌else◌, max, List, [], ◌∷◌}
+use Rattle.std.specs.{Prelude.{◌++◌, length, take, drop, slice_index, Option, Some, None, codes, bytes_eq}, List.position_or_len}
+use Rattle.lc_glob.specs.{Bytes.{backslash, opening, closing, exclamation_mark, caret, hyphen, colon}, Tokens.{TokenModel, class}}
 
 -- the ranges where the name is the one asked for, else what the other names give
 abbrev pub named : Bool → List (ℕ × ℕ) → Option (List (ℕ × ℕ)) → Option (List (ℕ × ℕ))

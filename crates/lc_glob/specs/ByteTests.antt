@@ -1,7 +1,6 @@
 -- Byte tests, each of which is counted, and what the first and the last byte of a segment tell.
 use Rattle.std.specs.Prelude.{ℕ, Bool, if◌then◌else◌, ◌≡◌, ◌+◌, ◌-◌, ◌^◌, min, List, [], ◌∷◌, ◌++◌, Option, Some, None, IsTrue, IsFalse}
-use Rattle.lc_glob.specs.Tokens.{TokenModel, takes}
-use Rattle.lc_glob.specs.declared.path_segment.PathSegment.{PathSegment}
+use Rattle.lc_glob.specs.{Tokens.{TokenModel, takes}, declared.path_segment.PathSegment.PathSegment}
 
 -- the number of tests made, after more of them; it stops at the greatest u64
 abbrev pub tests_after : ℕ → ℕ → ℕ

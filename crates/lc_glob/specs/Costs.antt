@@ -1,7 +1,6 @@
 -- What a pattern and a path weigh in the most byte tests of a match.
 use Rattle.std.specs.Prelude.{ℕ, ◌+◌, ◌*◌, List, [], ◌∷◌, length}
-use Rattle.lc_glob.specs.Path.{segments_of}
-use Rattle.lc_glob.specs.Patterns.{SegmentModel, plain, double_star, PatternModel}
+use Rattle.lc_glob.specs.{Path.segments_of, Patterns.{SegmentModel, plain, double_star, PatternModel}}
 
 -- the tokens of the plain segments, and one for each of these
 abbrev pub tokens_with_ends : List SegmentModel → ℕ

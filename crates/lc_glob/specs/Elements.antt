@@ -1,9 +1,6 @@
 -- What the elements of a pattern stand for, whether these are the bytes of a simple one or tokens that were read.
-use Rattle.std.specs.Prelude.{ℕ, ◌≡◌, Bool, true, false, if◌then◌else◌, List, [], ◌∷◌, ◌++◌, map}
-use Rattle.std.specs.List.{slice_split}
-use Rattle.lc_glob.specs.Tokens.{TokenModel, literal}
-use Rattle.lc_glob.specs.Patterns.{SegmentModel, plain, PatternModel}
-use Rattle.lc_glob.specs.Reading.{segment_from}
+use Rattle.std.specs.{Prelude.{ℕ, ◌≡◌, Bool, true, false, if◌then◌else◌, List, [], ◌∷◌, ◌++◌, map}, List.slice_split}
+use Rattle.lc_glob.specs.{Tokens.{TokenModel, literal}, Patterns.{SegmentModel, plain, PatternModel}, Reading.segment_from}
 
 module _ {A : Type 0} (tokens_in : List A → List TokenModel) (separates : A → Bool) where
   -- the tokens of the parts that separators cut elements into

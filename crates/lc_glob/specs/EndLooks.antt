@@ -1,8 +1,6 @@
 -- What one look at an end of a path tells of the elements of a pattern.
 use Rattle.std.specs.Prelude.{ℕ, ◌⊎◌, Bool, List, None}
-use Rattle.lc_glob.specs.ByteTests.{StripsFirst, StripsLast}
-use Rattle.lc_glob.specs.Elements.{EndsWithLiteral, BeginsWithLiteral}
-use Rattle.lc_glob.specs.Tokens.{TokenModel, literal}
+use Rattle.lc_glob.specs.{ByteTests.{StripsFirst, StripsLast}, Elements.{EndsWithLiteral, BeginsWithLiteral}, Tokens.{TokenModel, literal}}
 
 module _ {A : Type 0} (tokens_in : List A → List TokenModel) (separates : A → Bool) where
   -- they have a literal at an end

@@ -1,9 +1,7 @@
 -- Whether a pattern matches, as a test that computes.
 use Rattle.std.specs.Prelude.{ℕ, Bool, true, false, not, ◌&&◌, ◌||◌, ◌↔◌, List, [], ◌∷◌, IsTrue}
 use Rattle.lc_glob.specs.Tokens.{TokenModel, literal, any_byte, star, class, takes}
-use Rattle.lc_glob.specs.Patterns.{SegmentModel, plain, double_star, PatternModel}
-use Rattle.lc_glob.specs.Path.{segments_of}
-use Rattle.lc_glob.specs.Matches.{Matches}
+use Rattle.lc_glob.specs.{Patterns.{SegmentModel, plain, double_star, PatternModel}, Path.segments_of, Matches.Matches}
 
 -- whether the rest after some cut passes the test
 abbrev pub some_rest : {A : Type 0} → (List A → Bool) → List A → Bool

@@ -1,7 +1,6 @@
 -- What is left to match once the end of the path is taken.
 use Rattle.std.specs.Prelude.{ℕ, ◌≡◌, List, [], ◌∷◌, ◌++◌}
-use Rattle.lc_glob.specs.Fits.{Fits}
-use Rattle.lc_glob.specs.Patterns.{SegmentModel, plain, double_star}
+use Rattle.lc_glob.specs.{Fits.Fits, Patterns.{SegmentModel, plain, double_star}}
 
 -- the segments lead to the end of the names: they match them, where a double star that comes last too may give none
 abbrev pub Leads : List SegmentModel → List (List ℕ) → Type 0

@@ -1,9 +1,6 @@
 -- How long names are, and which segments may fit names of such lengths.
-use Rattle.std.specs.Prelude.{ℕ, ◌≤◌, ◌+◌, not, List, [], ◌∷◌, length, if◌then◌else◌}
-use Rattle.std.specs.List.{All}
-use Rattle.lc_glob.specs.Tokens.{TokenModel, is_star}
-use Rattle.lc_glob.specs.Fits.{Fits}
-use Rattle.lc_glob.specs.Patterns.{SegmentModel, plain, double_star}
+use Rattle.std.specs.{Prelude.{ℕ, ◌≤◌, ◌+◌, not, List, [], ◌∷◌, length, if◌then◌else◌}, List.All}
+use Rattle.lc_glob.specs.{Tokens.{TokenModel, is_star}, Fits.Fits, Patterns.{SegmentModel, plain, double_star}}
 use Rattle.lc_glob.specs.declared.lengths.Lengths.{Lengths}
 
 -- a name is no shorter than the shortest, and no longer than the longest

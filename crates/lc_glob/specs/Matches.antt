@@ -1,8 +1,6 @@
 -- What a pattern matches: gitignore(5), PATTERN FORMAT.
 use Rattle.std.specs.Prelude.{ℕ, Bool, ◌≡◌, List, [], ◌∷◌, ◌++◌, IsTrue}
-use Rattle.lc_glob.specs.Fits.{Fits}
-use Rattle.lc_glob.specs.Patterns.{SegmentModel, plain, double_star, PatternModel}
-use Rattle.lc_glob.specs.Path.{segments_of}
+use Rattle.lc_glob.specs.{Fits.Fits, Patterns.{SegmentModel, plain, double_star, PatternModel}, Path.segments_of}
 
 -- the segments of an anchored pattern match a path's: a plain one gives one name that it fits, a double star any run of
 -- names, none included, but the last segment of a pattern at least one

@@ -1,9 +1,7 @@
 -- What a path is: the names from a directory down to one of its entries, joined by slashes.
-use Rattle.std.specs.Prelude.{ℕ, ◌==◌, Bool, true, false, not, ◌&&◌, List, [], ◌∷◌, ◌++◌, length, Option}
-use Rattle.std.specs.Borrow.{Bor}
+use Rattle.std.specs.{Prelude.{ℕ, ◌==◌, Bool, true, false, not, ◌&&◌, List, [], ◌∷◌, ◌++◌, length, Option}, Borrow.Bor}
 use Rattle.std.specs.List.{list_all, list_any}
-use Rattle.lc_glob.specs.Bytes.{slash, dot, nul}
-use Rattle.lc_glob.specs.Pieces.{pieces_of, pieces_left}
+use Rattle.lc_glob.specs.{Bytes.{slash, dot, nul}, Pieces.{pieces_of, pieces_left}}
 
 -- the bytes cut at each slash: one segment more than there are slashes
 abbrev pub segments_of : List ℕ → List (List ℕ)

@@ -1,16 +1,9 @@
 -- What one step along the segments of a pattern and of a path found, and what it may cost.
 use Rattle.std.specs.Prelude.{ℕ, ◌≡◌, ◌+◌, ◌*◌, List, [], ◌∷◌, ◌++◌, length, Option, Some, None}
-use Rattle.lc_glob.specs.Tokens.{TokenModel}
-use Rattle.lc_glob.specs.Fits.{Fits}
-use Rattle.lc_glob.specs.Patterns.{SegmentModel, plain, double_star}
-use Rattle.lc_glob.specs.Leads.{Leads}
-use Rattle.lc_glob.specs.Views.{segments_ref_model}
-use Rattle.lc_glob.specs.Path.{segments_left}
-use Rattle.lc_glob.specs.Costs.{full_cost}
-use Rattle.lc_glob.specs.declared.match_path.PathCursor.{PathCursor}
-use Rattle.lc_glob.specs.declared.match_path.PathFrontStep.{PathFrontStep}
-use Rattle.lc_glob.specs.declared.match_path.PathFrontStep.TheVariants as front
+use Rattle.lc_glob.specs.{Tokens.TokenModel, Fits.Fits, Patterns.{SegmentModel, plain, double_star}, Leads.Leads, Views.segments_ref_model}
+use Rattle.lc_glob.specs.{Path.segments_left, Costs.full_cost, declared.match_path.{PathCursor.PathCursor, PathFrontStep.PathFrontStep}}
 use Rattle.lc_glob.specs.declared.match_path.PathEndStep.{PathEndStep}
+use Rattle.lc_glob.specs.declared.match_path.PathFrontStep.TheVariants as front
 use Rattle.lc_glob.specs.declared.match_path.PathEndStep.TheVariants as end
 
 -- the segments of a cursor lead to the end of the path

@@ -1,7 +1,6 @@
 -- Many patterns in order, and which of them match.
 use Rattle.std.specs.Prelude.{ℕ, zero, suc, Bool, if◌then◌else◌, List, Option, Some, None, slice_index_or}
-use Rattle.lc_glob.specs.IsMatch.{is_match}
-use Rattle.lc_glob.specs.Patterns.{PatternModel, dead}
+use Rattle.lc_glob.specs.{IsMatch.is_match, Patterns.{PatternModel, dead}}
 
 -- the pattern at an index
 abbrev pub pattern_at : List PatternModel → ℕ → PatternModel

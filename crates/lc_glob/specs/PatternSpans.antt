@@ -1,11 +1,7 @@
 -- Patterns that are kept side by side.
 use Rattle.std.specs.Prelude.{ℕ, ◌+◌, ◌≤◌, List, take, drop}
-use Rattle.lc_glob.specs.Patterns.{PatternModel}
-use Rattle.lc_glob.specs.Views.{form_model, token_pattern_model}
-use Rattle.lc_glob.specs.declared.token.Token.{Token}
-use Rattle.lc_glob.specs.declared.pattern_set.PatternForm.{PatternForm}
-use Rattle.lc_glob.specs.declared.pattern_set.PatternForm.TheVariants.{Simple, Tokens}
-use Rattle.lc_glob.specs.declared.pattern_set.PatternSpan.{PatternSpan}
+use Rattle.lc_glob.specs.{Patterns.PatternModel, Views.{form_model, token_pattern_model}, declared.token.Token.Token}
+use Rattle.lc_glob.specs.declared.pattern_set.{PatternForm.{PatternForm, TheVariants.{Simple, Tokens}}, PatternSpan.PatternSpan}
 
 -- a pattern of a form, from so many of the bytes or of the tokens
 abbrev pub pattern_from : List ℕ → List Token → PatternForm → ℕ → ℕ → PatternModel

@@ -1,7 +1,5 @@
 -- Lists cut at each element of a kind.
-use Rattle.std.specs.Prelude.{ℕ, ◌==◌, Bool, List, [], Option, Some, None}
-use Rattle.std.specs.Borrow.{Bor}
-use Rattle.std.specs.List.{slice_split}
+use Rattle.std.specs.{Prelude.{ℕ, ◌==◌, Bool, List, [], Option, Some, None}, Borrow.Bor, List.slice_split}
 
 -- whether a byte is this one
 abbrev pub is_byte : ℕ → ℕ → Bool

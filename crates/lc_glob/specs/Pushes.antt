@@ -1,9 +1,7 @@
 -- What is kept of what a pattern's bytes are read as, and what is pushed for it.
 use Rattle.std.specs.Prelude.{ℕ, ◌≡◌, List, [], ◌∷◌, ◌++◌, Option, Some, None}
-use Rattle.lc_glob.specs.TokenLists.{range_tokens}
-use Rattle.lc_glob.specs.Reading.{LexemeModel, separator, one}
-use Rattle.lc_glob.specs.Tokens.{TokenModel, literal, any_byte, star, class}
-use Rattle.lc_glob.specs.declared.token.Token.{Token}
+use Rattle.lc_glob.specs.{TokenLists.range_tokens, Reading.{LexemeModel, separator, one}}
+use Rattle.lc_glob.specs.{Tokens.{TokenModel, literal, any_byte, star, class}, declared.token.Token.Token}
 use Rattle.lc_glob.specs.declared.token.Token.TheVariants.{Literal, AnyByte, Star, Open, Separator}
 
 -- what a token of a segment is kept as

@@ -1,11 +1,9 @@
 -- How bytes are read as a pattern: gitignore(5), PATTERN FORMAT.
-use Rattle.std.specs.Prelude.{ℕ, zero, suc, Bool, false, ◌&&◌, ◌||◌, ◌==◌, nat_lt, if◌then◌else◌, List, [], ◌∷◌, length, map}
-use Rattle.std.specs.Prelude.{Option, Some, None}
-use Rattle.lc_glob.specs.Lists.{is_empty}
-use Rattle.lc_glob.specs.Bytes.{slash, backslash, asterisk, question_mark, opening}
+use Rattle.std.specs.Prelude.{ℕ, zero, suc, Bool, false, ◌&&◌, ◌||◌, ◌==◌, nat_lt, if◌then◌else◌, List, [], ◌∷◌, length, map, Option, Some}
+use Rattle.std.specs.Prelude.{None}
+use Rattle.lc_glob.specs.{Lists.is_empty, Bytes.{slash, backslash, asterisk, question_mark, opening}}
 use Rattle.lc_glob.specs.Tokens.{TokenModel, literal, any_byte, star, is_star}
-use Rattle.lc_glob.specs.Patterns.{SegmentModel, plain, double_star, PatternModel, dead}
-use Rattle.lc_glob.specs.Brackets.{bracket}
+use Rattle.lc_glob.specs.{Patterns.{SegmentModel, plain, double_star, PatternModel, dead}, Brackets.bracket}
 
 -- what the bytes are read as, one after the other: a separator, or a token of a segment
 pub data LexemeModel : Type 0 where

@@ -1,11 +1,7 @@
 -- Simple patterns: each byte is a token or a separator, since none is quoted and none opens a bracket.
-use Rattle.std.specs.Prelude.{ℕ, Bool, true, not, ◌&&◌, ◌||◌, ◌==◌, if◌then◌else◌, List, [], ◌∷◌, map}
-use Rattle.std.specs.List.{list_all}
-use Rattle.lc_glob.specs.Bytes.{slash, backslash, asterisk, question_mark, opening}
-use Rattle.lc_glob.specs.Tokens.{TokenModel, literal, any_byte, star}
-use Rattle.lc_glob.specs.Patterns.{SegmentModel, plain, double_star}
-use Rattle.lc_glob.specs.Path.{segments_of}
-use Rattle.lc_glob.specs.Reading.{is_double_star, segment_from}
+use Rattle.std.specs.{Prelude.{ℕ, Bool, true, not, ◌&&◌, ◌||◌, ◌==◌, if◌then◌else◌, List, [], ◌∷◌, map}, List.list_all}
+use Rattle.lc_glob.specs.{Bytes.{slash, backslash, asterisk, question_mark, opening}, Tokens.{TokenModel, literal, any_byte, star}}
+use Rattle.lc_glob.specs.{Patterns.{SegmentModel, plain, double_star}, Path.segments_of, Reading.{is_double_star, segment_from}}
 
 -- whether a byte neither quotes nor opens a bracket
 abbrev pub is_simple : ℕ → Bool

@@ -1,11 +1,8 @@
 -- What one step along a segment found.
 use Rattle.std.specs.Prelude.{ℕ, ◌+◌, ◌*◌, length, true, false, ◌≡◌, List, [], ◌∷◌, ◌++◌, Option, Some, None, IsTrue}
-use Rattle.lc_glob.specs.Tokens.{TokenModel, takes, is_star}
-use Rattle.lc_glob.specs.Fits.{Fits}
-use Rattle.lc_glob.specs.declared.cursor.Cursor.{Cursor}
-use Rattle.lc_glob.specs.declared.cursor.FrontStep.{FrontStep}
-use Rattle.lc_glob.specs.declared.cursor.FrontStep.TheVariants as front
+use Rattle.lc_glob.specs.{Tokens.{TokenModel, takes, is_star}, Fits.Fits, declared.cursor.{Cursor.Cursor, FrontStep.FrontStep}}
 use Rattle.lc_glob.specs.declared.cursor.EndStep.{EndStep}
+use Rattle.lc_glob.specs.declared.cursor.FrontStep.TheVariants as front
 use Rattle.lc_glob.specs.declared.cursor.EndStep.TheVariants as end
 
 module _ {A : Type 0} (tokens_in : List A → List TokenModel) where

@@ -1,18 +1,13 @@
 -- Tokens as they are kept: the ranges of a bracket follow the token that opens it.
 use Rattle.std.specs.Prelude.{ℕ, Bool, true, false, List, [], ◌∷◌, map}
-use Rattle.lc_glob.specs.Tokens.{TokenModel, literal, any_byte, star, class}
-use Rattle.lc_glob.specs.declared.token.Token.{Token}
+use Rattle.lc_glob.specs.{Tokens.{TokenModel, literal, any_byte, star, class}, declared.token.Token.Token}
 use Rattle.lc_glob.specs.declared.token.Token.TheVariants.{Literal, AnyByte, Star, Open, Range, Separator}
 
 -- the ranges that come first
 abbrev pub ranges_first : List Token → List (ℕ × ℕ)
 ranges_first [] = []
-ranges_first (Literal c ∷ ts) = []
-ranges_first (AnyByte ∷ ts) = []
-ranges_first (Star ∷ ts) = []
-ranges_first (Open negated ∷ ts) = []
 ranges_first (Range first last ∷ ts) = (first, last) ∷ ranges_first ts
-ranges_first (Separator ∷ ts) = []
+ranges_first (_ ∷ ts) = []
 
 -- what tokens between two separators stand for: a bracket takes the ranges that follow it, which stand for nothing by themselves
 abbrev pub tokens_model : List Token → List TokenModel
@@ -26,21 +21,15 @@ tokens_model (Separator ∷ ts) = tokens_model ts
 
 -- whether a token is a separator
 abbrev pub is_separator : Token → Bool
-is_separator (Literal c) = false
-is_separator AnyByte = false
-is_separator Star = false
-is_separator (Open negated) = false
-is_separator (Range first last) = false
 is_separator Separator = true
+is_separator _ = false
 
 -- whether it stands for one byte
 abbrev pub is_for_byte : Token → Bool
-is_for_byte (Literal c) = true
-is_for_byte AnyByte = true
 is_for_byte Star = false
-is_for_byte (Open negated) = true
 is_for_byte (Range first last) = false
 is_for_byte Separator = false
+is_for_byte _ = true
 
 -- these literals, as tokens, and these ranges
 abbrev pub literal_tokens : List ℕ → List Token

@@ -1,6 +1,5 @@
 -- The tokens of a pattern, and what each stands for: gitignore(5), PATTERN FORMAT.
-use Rattle.std.specs.Prelude.{ℕ, Bool, true, false, not, ◌&&◌, ◌==◌, nat_le, List}
-use Rattle.std.specs.List.{list_any}
+use Rattle.std.specs.{Prelude.{ℕ, Bool, true, false, not, ◌&&◌, ◌==◌, nat_le, List}, List.list_any}
 use Rattle.lc_glob.specs.Bytes.{slash}
 
 -- a literal byte, `?`, `*`, or a bracket: one byte of its ranges, or of none of them where it is negated
@@ -21,10 +20,8 @@ in_set true member = not member
 
 -- whether a token is a star, which alone may stand for no byte and for several
 abbrev pub is_star : TokenModel → Bool
-is_star (literal c) = false
-is_star any_byte = false
 is_star star = true
-is_star (class negated ranges) = false
+is_star _ = false
 
 -- whether a token that is no star stands for this byte; neither `?` nor a bracket stands for a slash
 abbrev pub takes : TokenModel → ℕ → Bool

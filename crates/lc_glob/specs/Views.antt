@@ -1,33 +1,20 @@
 -- What the code's values stand for.
 use Rattle.std.specs.Prelude.{ℕ, Bool, true, false, List, [], ◌∷◌, map}
-use Rattle.lc_glob.specs.Tokens.{TokenModel, literal, any_byte, star, class}
-use Rattle.lc_glob.specs.Patterns.{SegmentModel, plain, double_star, PatternModel}
-use Rattle.lc_glob.specs.declared.byte_set.ByteSet.{ByteSet}
-use Rattle.lc_glob.specs.declared.scope.Scope.{Scope}
-use Rattle.lc_glob.specs.declared.token.Token.{Token}
-use Rattle.lc_glob.specs.Elements.{trimmed_model}
-use Rattle.lc_glob.specs.TokenLists.{tokens_model, ranges_first, is_separator}
-use Rattle.lc_glob.specs.Pieces.{cuts_left}
-use Rattle.lc_glob.specs.declared.token.TokenRef.{TokenRef}
+use Rattle.lc_glob.specs.{Tokens.{TokenModel, literal, any_byte, star, class}, Patterns.{SegmentModel, plain, double_star, PatternModel}}
+use Rattle.lc_glob.specs.declared.{byte_set.ByteSet.ByteSet, scope.Scope.Scope, token.{Token.Token, TokenRef.TokenRef}}
+use Rattle.lc_glob.specs.declared.segment_ref.{TokensRef.TokensRef, SegmentRef.SegmentRef, SegmentsRef.SegmentsRef}
+use Rattle.lc_glob.specs.declared.{simple_pattern.{SimpleKind.SimpleKind, SimpleForm.SimpleForm}, pattern_view.KindRef.KindRef}
+use Rattle.lc_glob.specs.declared.{pattern.PatternKind.{PatternKind, TheVariants.{Simple, Tokens}}, pattern_ref.PatternRef.PatternRef}
+use Rattle.lc_glob.specs.{Elements.trimmed_model, TokenLists.{tokens_model, ranges_first, is_separator}, Pieces.cuts_left}
+use Rattle.lc_glob.specs.{Path.{segments_of, segments_left}, Reading.segment_from}
+use Rattle.lc_glob.specs.Simple.{byte_token, bytes_segment, ends_segment, exact_segment, end_tokens}
 use Rattle.lc_glob.specs.declared.token.TokenRef.TheVariants as ref
-use Rattle.lc_glob.specs.declared.segment_ref.TokensRef.{TokensRef}
 use Rattle.lc_glob.specs.declared.segment_ref.TokensRef.TheVariants as shape_ref
-use Rattle.lc_glob.specs.declared.segment_ref.SegmentRef.{SegmentRef}
 use Rattle.lc_glob.specs.declared.segment_ref.SegmentRef.TheVariants as segment_ref
-use Rattle.lc_glob.specs.declared.segment_ref.SegmentsRef.{SegmentsRef}
 use Rattle.lc_glob.specs.declared.segment_ref.SegmentsRef.TheVariants as segments_ref
-use Rattle.lc_glob.specs.declared.simple_pattern.SimpleKind.{SimpleKind}
-use Rattle.lc_glob.specs.declared.simple_pattern.SimpleForm.{SimpleForm}
 use Rattle.lc_glob.specs.declared.simple_pattern.SimpleKind.TheVariants as simple
 use Rattle.lc_glob.specs.declared.simple_pattern.OtherKind.TheVariants as other
-use Rattle.lc_glob.specs.declared.pattern_view.KindRef.{KindRef}
 use Rattle.lc_glob.specs.declared.pattern_view.KindRef.TheVariants as kind_ref
-use Rattle.lc_glob.specs.Path.{segments_of, segments_left}
-use Rattle.lc_glob.specs.Reading.{segment_from}
-use Rattle.lc_glob.specs.Simple.{byte_token, bytes_segment, ends_segment, exact_segment, end_tokens}
-use Rattle.lc_glob.specs.declared.pattern.PatternKind.{PatternKind}
-use Rattle.lc_glob.specs.declared.pattern.PatternKind.TheVariants.{Simple, Tokens}
-use Rattle.lc_glob.specs.declared.pattern_ref.PatternRef.{PatternRef}
 use Rattle.lc_glob.specs.declared.pattern_ref.PatternRef.TheVariants as pattern_ref
 
 -- a bracket, whose ranges come first among the tokens

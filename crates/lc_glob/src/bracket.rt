@@ -1,13 +1,10 @@
 //! What stands between brackets, read from its bytes into the tokens of a pattern.
 
-ghost use Rattle.std.specs.Prelude.{◌≡◌, ◌<◌, ◌≤◌, ◌+◌, ◌++◌, length, [], ◌∷◌, MatchOption, IfOk, IfSome, Some, None};
-ghost use Rattle.std.specs.Prelude.{true, not, ◌&&◌, ◌==◌};
+ghost use Rattle.std.specs.Prelude.{◌≡◌, ◌<◌, ◌≤◌, ◌+◌, ◌++◌, length, [], ◌∷◌, MatchOption, IfOk, IfSome, Some, None, true, not, ◌&&◌};
+ghost use Rattle.std.specs.Prelude.{◌==◌};
 ghost use Rattle.lc_glob.specs.Bytes.{closing};
-ghost use Rattle.lc_glob.specs.Brackets.{class_of, other_class_of};
-ghost use Rattle.lc_glob.specs.Brackets.{element, first_close, range_from, item, plain_item, colon_of, items, bracket};
-ghost use Rattle.lc_glob.specs.BracketSteps.{ColonIs};
-ghost use Rattle.lc_glob.specs.TokenLists.{range_tokens};
-ghost use Rattle.lc_glob.specs.Pushes.{Pushes, kept_tokens};
+ghost use Rattle.lc_glob.specs.Brackets.{class_of, other_class_of, element, first_close, range_from, item, plain_item, colon_of, items};
+ghost use Rattle.lc_glob.specs.{Brackets.bracket, BracketSteps.ColonIs, TokenLists.range_tokens, Pushes.{Pushes, kept_tokens}};
 
 use crate::token::Token;
 use memchr::memchr;

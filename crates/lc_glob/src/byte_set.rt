@@ -1,9 +1,7 @@
 //! The bytes that a bracket stands for.
 
 ghost use Rattle.std.specs.Prelude.{◌≡◌};
-ghost use Rattle.lc_glob.specs.TokenLists.{ranges_first};
-ghost use Rattle.lc_glob.specs.Tokens.{class, in_ranges, takes};
-ghost use Rattle.lc_glob.specs.Views.{set_model};
+ghost use Rattle.lc_glob.specs.{TokenLists.ranges_first, Tokens.{class, in_ranges, takes}, Views.set_model};
 
 use crate::token::Token;
 

@@ -33,8 +33,7 @@ pub struct Candidate<'a> {
 
 impl<'a> Model for Candidate<'a> {
     ghost use Rattle.std.specs.Prelude.{◌≡◌, ℕ, List, [], ◌∷◌, ◌++◌};
-    ghost use Rattle.lc_glob.specs.Lengths.{AreBetween};
-    ghost use Rattle.lc_glob.specs.Path.{segments_of, segments_left};
+    ghost use Rattle.lc_glob.specs.{Lengths.AreBetween, Path.{segments_of, segments_left}};
 
     ghost Value = { List ℕ };
 

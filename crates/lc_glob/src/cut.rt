@@ -1,7 +1,6 @@
 //! Bytes cut at the first of a byte.
 
-ghost use Rattle.std.specs.Prelude.{◌≡◌, ◌<◌, ◌∷◌, ◌++◌, [], length, IfSome, MatchOption};
-ghost use Rattle.std.specs.List.{before_first, after_first};
+ghost use Rattle.std.specs.{Prelude.{◌≡◌, ◌<◌, ◌∷◌, ◌++◌, [], length, IfSome, MatchOption}, List.{before_first, after_first}};
 ghost use Rattle.lc_glob.specs.Pieces.{is_byte, pieces_of, pieces_left};
 
 use memchr::memchr;

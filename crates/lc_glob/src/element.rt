@@ -2,16 +2,9 @@
 
 ghost use Rattle.std.specs.Prelude.{◌≡◌, ◌∷◌, ◌++◌, [], not, ◌==◌, Bool, List, map, count_by, MatchOption, IfSome, IsTrue};
 ghost use Rattle.std.specs.List.{list_any, slice_split};
-ghost use Rattle.lc_glob.specs.Bytes.{slash};
-ghost use Rattle.lc_glob.specs.Elements.{BeginsWithLiteral, EndsWithLiteral};
-ghost use Rattle.lc_glob.specs.Lengths.{least_bytes};
-ghost use Rattle.lc_glob.specs.Lists.{is_empty};
-ghost use Rattle.lc_glob.specs.TokenLists.{is_for_byte, is_separator, tokens_model};
-ghost use Rattle.lc_glob.specs.Pieces.{cuts_left};
-ghost use Rattle.lc_glob.specs.Reading.{is_double_star};
-ghost use Rattle.lc_glob.specs.Simple.{byte_token, is_segment_literal};
-ghost use Rattle.lc_glob.specs.Tokens.{TokenModel, is_star};
-ghost use Rattle.lc_glob.specs.Views.{token_ref_model};
+ghost use Rattle.lc_glob.specs.{Bytes.slash, Elements.{BeginsWithLiteral, EndsWithLiteral}, Lengths.least_bytes, Lists.is_empty};
+ghost use Rattle.lc_glob.specs.{TokenLists.{is_for_byte, is_separator, tokens_model}, Pieces.cuts_left, Reading.is_double_star};
+ghost use Rattle.lc_glob.specs.{Simple.{byte_token, is_segment_literal}, Tokens.{TokenModel, is_star}, Views.token_ref_model};
 
 use crate::cut::cut_at_first;
 use crate::token::{Token, TokenRef};

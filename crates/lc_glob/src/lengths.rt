@@ -1,11 +1,7 @@
 //! How long the segments of a path are. A pattern with a segment that none of them can fit is rejected by that.
 
-ghost use Rattle.std.specs.Prelude.{◌≡◌, ◌≤◌, ℕ, List, IsTrue, length};
-ghost use Rattle.std.specs.List.{All};
-ghost use Rattle.lc_glob.specs.Leads.{Leads};
-ghost use Rattle.lc_glob.specs.Lengths.{AreBetween, FitsSome};
-ghost use Rattle.lc_glob.specs.Path.{segments_left};
-ghost use Rattle.lc_glob.specs.Patterns.{plain};
+ghost use Rattle.std.specs.{Prelude.{◌≡◌, ◌≤◌, ℕ, List, IsTrue, length}, List.All};
+ghost use Rattle.lc_glob.specs.{Leads.Leads, Lengths.{AreBetween, FitsSome}, Path.segments_left, Patterns.plain};
 ghost use Rattle.lc_glob.specs.Views.{segment_ref_model, segments_ref_model, tokens_ref_model};
 
 use crate::element::{Element, has_star};

@@ -4,12 +4,8 @@
 //! So no segment is tried twice at a name, however many double stars stand before it.
 
 ghost use Rattle.std.specs.Prelude.{◌≡◌, ◌↔◌, ◌≤◌, ◌+◌, ◌*◌, IsTrue, false, length, take, slice_index_or, []};
-ghost use Rattle.lc_glob.specs.Above.{names_of, IsSet, AreSet, Before, UpTo, has_nested_after};
-ghost use Rattle.lc_glob.specs.Costs.{bytes_with_ends, full_cost};
-ghost use Rattle.lc_glob.specs.Fits.{Fits};
-ghost use Rattle.lc_glob.specs.Leads.{Leads};
-ghost use Rattle.lc_glob.specs.Matches.{MatchesPath};
-ghost use Rattle.lc_glob.specs.Views.{segments_ref_model, tokens_ref_model};
+ghost use Rattle.lc_glob.specs.{Above.{names_of, IsSet, AreSet, Before, UpTo, has_nested_after}, Costs.{bytes_with_ends, full_cost}};
+ghost use Rattle.lc_glob.specs.{Fits.Fits, Leads.Leads, Matches.MatchesPath, Views.{segments_ref_model, tokens_ref_model}};
 
 use crate::match_segment::fits;
 use crate::path_segment::{ByteTests, PathNames, PathSegment};

@@ -5,11 +5,9 @@
 //! double star that was passed, since the shortest run that serves one serves all before it.
 
 ghost use Rattle.std.specs.Prelude.{◌↔◌, ◌≤◌, ◌+◌, ◌-◌, IsTrue};
-ghost use Rattle.lc_glob.specs.Matches.{MatchesPath};
-ghost use Rattle.lc_glob.specs.Path.{segments_of, segments_left};
+ghost use Rattle.lc_glob.specs.{Matches.MatchesPath, Path.{segments_of, segments_left}};
 ghost use Rattle.lc_glob.specs.PathSteps.{PathEndStepIs, PathFrontStepIs, PathRetryIs, LeadsAt, cost_at, cost_after, front_cost_at};
-ghost use Rattle.lc_glob.specs.Costs.{full_cost};
-ghost use Rattle.lc_glob.specs.Views.{segments_ref_model};
+ghost use Rattle.lc_glob.specs.{Costs.full_cost, Views.segments_ref_model};
 
 use crate::candidate::Candidate;
 use crate::match_segment::fits;

@@ -1,9 +1,7 @@
 //! Whether a segment's tokens fit a segment of a path, by what they are kept as.
 
 ghost use Rattle.std.specs.Prelude.{◌↔◌, ◌<◌, ◌+◌, ◌*◌, IsTrue, length};
-ghost use Rattle.lc_glob.specs.Fits.{Fits};
-ghost use Rattle.lc_glob.specs.Simple.{end_tokens};
-ghost use Rattle.lc_glob.specs.Views.{tokens_ref_model};
+ghost use Rattle.lc_glob.specs.{Fits.Fits, Simple.end_tokens, Views.tokens_ref_model};
 
 use crate::cursor::Cursor;
 use crate::element::Element;

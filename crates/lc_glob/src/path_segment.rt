@@ -4,12 +4,9 @@
 //! for slashes is not counted.
 
 ghost use Rattle.std.specs.Prelude.{◌≡◌, ◌↔◌, ◌==◌, ◌<◌, ◌∷◌, ◌++◌, [], nat_le, nat_lt, IsTrue, MatchOption, length, bytes_eq, nat_eq};
-ghost use Rattle.std.specs.Prelude.{slice_index_or};
-ghost use Rattle.std.specs.List.{ends_with};
-ghost use Rattle.lc_glob.specs.Above.{names_of};
-ghost use Rattle.lc_glob.specs.ByteTests.{tests_after, tests_if, SkipsFirst, StripsFirst, StripsLast};
-ghost use Rattle.lc_glob.specs.Path.{segments_of, segments_left};
-ghost use Rattle.lc_glob.specs.Views.{token_ref_model};
+ghost use Rattle.std.specs.{Prelude.slice_index_or, List.ends_with};
+ghost use Rattle.lc_glob.specs.{Above.names_of, ByteTests.{tests_after, tests_if, SkipsFirst, StripsFirst, StripsLast}};
+ghost use Rattle.lc_glob.specs.{Path.{segments_of, segments_left}, Views.token_ref_model};
 
 use crate::element::Element;
 use crate::token::TokenRef;

@@ -1,12 +1,8 @@
 //! A pattern, and whether it matches a path.
 
 ghost use Rattle.std.specs.Prelude.{◌≡◌, ◌↔◌, ◌≤◌, ◌+◌, ◌*◌, IsTrue, length, List, ℕ, IfOk};
-ghost use Rattle.lc_glob.specs.Above.{names_of, TellMatches, has_nested_wildcards};
-ghost use Rattle.lc_glob.specs.IsMatch.{is_match, IsMatchDecides};
-ghost use Rattle.lc_glob.specs.Matches.{Matches};
-ghost use Rattle.lc_glob.specs.Path.{segments_of};
-ghost use Rattle.lc_glob.specs.Reading.{pattern_of};
-ghost use Rattle.lc_glob.specs.Views.{pattern_ref_model};
+ghost use Rattle.lc_glob.specs.{Above.{names_of, TellMatches, has_nested_wildcards}, IsMatch.{is_match, IsMatchDecides}, Matches.Matches};
+ghost use Rattle.lc_glob.specs.{Path.segments_of, Reading.pattern_of, Views.pattern_ref_model};
 
 use crate::candidate::Candidate;
 use crate::path_segment::{ByteTests, PathNames};

@@ -1,11 +1,8 @@
 //! A pattern that is lent, and whether it matches.
 
 ghost use Rattle.std.specs.Prelude.{◌≡◌, ◌↔◌, ◌≤◌, ◌+◌, IsTrue, length};
-ghost use Rattle.lc_glob.specs.Above.{names_of, TellMatches, has_nested_wildcards};
-ghost use Rattle.lc_glob.specs.Costs.{full_cost, match_cost};
-ghost use Rattle.lc_glob.specs.IsMatch.{is_match};
-ghost use Rattle.lc_glob.specs.Matches.{Matches};
-ghost use Rattle.lc_glob.specs.Views.{pattern_ref_model};
+ghost use Rattle.lc_glob.specs.{Above.{names_of, TellMatches, has_nested_wildcards}, Costs.{full_cost, match_cost}, IsMatch.is_match};
+ghost use Rattle.lc_glob.specs.{Matches.Matches, Views.pattern_ref_model};
 
 use crate::candidate::Candidate;
 use crate::path_segment::{ByteTests, PathNames};

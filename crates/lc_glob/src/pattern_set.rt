@@ -1,9 +1,7 @@
 //! Many patterns in order, kept side by side.
 
-ghost use Rattle.std.specs.Prelude.{◌≡◌, ◌↔◌, ◌<◌, ◌≤◌, ◌++◌, ◌∷◌, [], length, IfOk, IfSome, IsTrue, OnErr, OnOk};
-ghost use Rattle.std.specs.List.{list_any};
-ghost use Rattle.lc_glob.specs.Above.{names_of, TellMatches, has_nested_wildcards};
-ghost use Rattle.lc_glob.specs.PatternSets.{last_match_below, pattern_at};
+ghost use Rattle.std.specs.{Prelude.{◌≡◌, ◌↔◌, ◌<◌, ◌≤◌, ◌++◌, ◌∷◌, [], length, IfOk, IfSome, IsTrue, OnErr, OnOk}, List.list_any};
+ghost use Rattle.lc_glob.specs.{Above.{names_of, TellMatches, has_nested_wildcards}, PatternSets.{last_match_below, pattern_at}};
 ghost use Rattle.lc_glob.specs.Views.{form_model, token_pattern_model, pattern_ref_model};
 
 use crate::candidate::Candidate;
@@ -64,10 +62,8 @@ pub struct PatternSet {
 }
 
 impl Model for PatternSet {
-    ghost use Rattle.std.specs.Prelude.{List, map, length};
-    ghost use Rattle.std.specs.List.{All};
-    ghost use Rattle.lc_glob.specs.Patterns.{PatternModel};
-    ghost use Rattle.lc_glob.specs.PatternSpans.{pattern_in, IsSpanOf};
+    ghost use Rattle.std.specs.{Prelude.{List, map, length}, List.All};
+    ghost use Rattle.lc_glob.specs.{Patterns.PatternModel, PatternSpans.{pattern_in, IsSpanOf}};
 
     ghost Value = { List PatternModel };
 

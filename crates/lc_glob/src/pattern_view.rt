@@ -1,10 +1,8 @@
 //! A pattern seen by what of a path it is matched with.
 
 ghost use Rattle.std.specs.Prelude.{◌≡◌, ◌≤◌, ◌+◌, Bool, length};
-ghost use Rattle.lc_glob.specs.Above.{names_of, TellMatches, has_nested_wildcards};
-ghost use Rattle.lc_glob.specs.Costs.{full_cost};
-ghost use Rattle.lc_glob.specs.Views.{pattern_view_model, simple_model};
-ghost use Rattle.lc_glob.specs.declared.simple_pattern.SimpleKind.TheVariants.{Other};
+ghost use Rattle.lc_glob.specs.{Above.{names_of, TellMatches, has_nested_wildcards}, Costs.full_cost};
+ghost use Rattle.lc_glob.specs.{Views.{pattern_view_model, simple_model}, declared.simple_pattern.SimpleKind.TheVariants.Other};
 
 use crate::match_above::{has_nested_wildcards, keep, match_above};
 use crate::path_segment::{ByteTests, PathNames};

@@ -1,11 +1,8 @@
 //! Bytes read as a pattern: their tokens, and what those are kept as.
 
 ghost use Rattle.std.specs.Prelude.{◌≡◌, ◌≤◌, ◌∷◌, [], length, false, MatchOption, IfOk, IfSome, Some, None};
-ghost use Rattle.lc_glob.specs.Elements.{parts_in};
-ghost use Rattle.lc_glob.specs.TokenLists.{is_separator, literal_tokens, tokens_model};
-ghost use Rattle.lc_glob.specs.Patterns.{dead, plain};
-ghost use Rattle.lc_glob.specs.Pushes.{Pushes, lexeme_tokens};
-ghost use Rattle.lc_glob.specs.Reading.{byte_lexeme, lexeme, literal_lexeme, parts, pattern_of, quoted};
+ghost use Rattle.lc_glob.specs.{Elements.parts_in, TokenLists.{is_separator, literal_tokens, tokens_model}, Patterns.{dead, plain}};
+ghost use Rattle.lc_glob.specs.{Pushes.{Pushes, lexeme_tokens}, Reading.{byte_lexeme, lexeme, literal_lexeme, parts, pattern_of, quoted}};
 ghost use Rattle.lc_glob.specs.Views.{form_model, live_model, token_pattern_model, simple_model};
 
 use crate::bracket::push_bracket;

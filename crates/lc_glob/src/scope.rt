@@ -1,8 +1,7 @@
 //! What the separators of a pattern say of it: at its ends and between its segments.
 
 ghost use Rattle.std.specs.Prelude.{◌≡◌, ◌++◌, [], nat_lt, length, MatchOption, if◌then◌else◌, Some};
-ghost use Rattle.lc_glob.specs.Elements.{parts_in, trimmed_model};
-ghost use Rattle.lc_glob.specs.Patterns.{dead};
+ghost use Rattle.lc_glob.specs.{Elements.{parts_in, trimmed_model}, Patterns.dead};
 ghost use Rattle.lc_glob.specs.Reading.{begins_empty, ends_empty, pattern_from, some_empty, without_first, without_last};
 
 use crate::element::{Element, has_no_token};

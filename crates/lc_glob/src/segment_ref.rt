@@ -1,12 +1,8 @@
 //! The segments of a pattern, as they are matched.
 
-ghost use Rattle.std.specs.Prelude.{◌≡◌, ◌∷◌, ◌++◌, [], MatchOption, true, ◌↔◌, IsTrue};
-ghost use Rattle.std.specs.List.{list_any};
-ghost use Rattle.lc_glob.specs.Above.{is_double, is_wide};
-ghost use Rattle.lc_glob.specs.TokenLists.{tokens_model};
-ghost use Rattle.lc_glob.specs.Reading.{segment_from};
-ghost use Rattle.lc_glob.specs.Simple.{bytes_segment, ends_segment};
-ghost use Rattle.lc_glob.specs.Tokens.{is_star};
+ghost use Rattle.std.specs.{Prelude.{◌≡◌, ◌∷◌, ◌++◌, [], MatchOption, true, ◌↔◌, IsTrue}, List.list_any};
+ghost use Rattle.lc_glob.specs.{Above.{is_double, is_wide}, TokenLists.tokens_model, Reading.segment_from};
+ghost use Rattle.lc_glob.specs.{Simple.{bytes_segment, ends_segment}, Tokens.is_star};
 ghost use Rattle.lc_glob.specs.Views.{tokens_ref_model, segment_ref_model, segments_ref_model};
 
 use crate::element::{are_two_stars, has_star};

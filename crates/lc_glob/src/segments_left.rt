@@ -1,7 +1,6 @@
 //! Segments of a pattern, cut by separators, that are found one by one from either end.
 
-ghost use Rattle.std.specs.Prelude.{◌≡◌, ◌↔◌, IsTrue, [], ◌∷◌, ◌++◌, MatchOption};
-ghost use Rattle.std.specs.List.{slice_split};
+ghost use Rattle.std.specs.{Prelude.{◌≡◌, ◌↔◌, IsTrue, [], ◌∷◌, ◌++◌, MatchOption}, List.slice_split};
 ghost use Rattle.lc_glob.specs.Pieces.{cuts_left};
 
 use crate::element::Element;

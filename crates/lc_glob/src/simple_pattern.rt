@@ -3,14 +3,10 @@
 
 ghost use Rattle.std.specs.Prelude.{◌≡◌, true, length, map, false, Bool, MatchOption, [], ◌∷◌, ◌≤◌, ◌<◌, ◌+◌, ◌-◌, ◌↔◌, IsTrue};
 ghost use Rattle.std.specs.List.{list_all};
-ghost use Rattle.lc_glob.specs.Costs.{full_cost, match_cost};
-ghost use Rattle.lc_glob.specs.Matches.{Matches, MatchesPath};
-ghost use Rattle.lc_glob.specs.Path.{segments_of};
-ghost use Rattle.lc_glob.specs.Patterns.{plain};
+ghost use Rattle.lc_glob.specs.{Costs.{full_cost, match_cost}, Matches.{Matches, MatchesPath}, Path.segments_of, Patterns.plain};
 ghost use Rattle.lc_glob.specs.Reading.{pattern_of};
 ghost use Rattle.lc_glob.specs.Simple.{byte_token, bytes_segment, exact_segment, is_end, is_ends_segment, is_literal, is_simple};
-ghost use Rattle.lc_glob.specs.Views.{form_model, live_model, simple_model};
-ghost use Rattle.lc_glob.specs.declared.simple_pattern.SimpleKind.TheVariants.{Other};
+ghost use Rattle.lc_glob.specs.{Views.{form_model, live_model, simple_model}, declared.simple_pattern.SimpleKind.TheVariants.Other};
 
 use crate::candidate::Candidate;
 use crate::element::are_two_stars;

@@ -1,9 +1,7 @@
 //! The tokens of a segment.
 
 ghost use Rattle.std.specs.Prelude.{◌≡◌, ◌∷◌, MatchOption};
-ghost use Rattle.lc_glob.specs.TokenLists.{is_for_byte, is_separator, tokens_model};
-ghost use Rattle.lc_glob.specs.Simple.{byte_token};
-ghost use Rattle.lc_glob.specs.Tokens.{takes, is_star};
+ghost use Rattle.lc_glob.specs.{TokenLists.{is_for_byte, is_separator, tokens_model}, Simple.byte_token, Tokens.{takes, is_star}};
 ghost use Rattle.lc_glob.specs.Views.{token_ref_model};
 
 use crate::byte_set::ByteSet;

@@ -1,9 +1,7 @@
 //! Patterns that aren't simple, which are matched from their tokens.
 
 ghost use Rattle.std.specs.Prelude.{◌≡◌, ◌≤◌, ◌+◌, ◌↔◌, IsTrue};
-ghost use Rattle.lc_glob.specs.Costs.{match_cost};
-ghost use Rattle.lc_glob.specs.Matches.{Matches};
-ghost use Rattle.lc_glob.specs.Views.{token_pattern_model};
+ghost use Rattle.lc_glob.specs.{Costs.match_cost, Matches.Matches, Views.token_pattern_model};
 
 use crate::candidate::Candidate;
 use crate::end_look::agrees_at_end;

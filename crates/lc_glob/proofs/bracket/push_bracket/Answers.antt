@@ -1,9 +1,7 @@
-use Rattle.std.proofs.Common.{Bool, List, ℕ, Bor, sym, ◌∙◌, ap, cond, eq-eqb}
-use Rattle.std.proofs.lemmas.Bool.{ne_eqb, or_left}
-use Rattle.lc_glob.proofs.Fronts.{false_left}
-use Rattle.lc_glob.proofs.Items.{bracket_pushed}
-use Rattle.lc_glob.proofs.bracket.push_bracket.Goals as goal
+use Rattle.std.proofs.{Common.{Bool, List, ℕ, Bor, sym, ◌∙◌, ap, cond, eq-eqb}, lemmas.Bool.{ne_eqb, or_left}}
+use Rattle.lc_glob.proofs.{Fronts.false_left, Items.bracket_pushed}
 use Rattle.lc_glob.proofs.bracket.push_bracket.Goals.{then-b-eq33, else-b-eq33, then-negated, else-negated}
+use Rattle.lc_glob.proofs.bracket.push_bracket.Goals as goal
 
 pub returns-clause-is : goal.returns-clause-is
 returns-clause-is c =

@@ -1,12 +1,6 @@
-use Rattle.std.proofs.Common.{◌-◌, length, length-take, length-drop, sym, ◌∙◌, arith}
-use Rattle.lc_glob.proofs.Items.{items_start, items_step}
+use Rattle.std.proofs.Common.{length-take, length-drop, sym, ◌∙◌, arith}
+use Rattle.lc_glob.proofs.Items.{items_step}
 use Rattle.lc_glob.proofs.bracket.push_items.Goals as goal
-
-pub items-init : goal.items-init
-items-init c = record {
-  has = items_start _ c.args.bytes.now (length c.args.bytes.now - length c.args.bytes.now) (omega arith);
-  within = omega arith;
-}
 
 pub items-preserved : goal.items-preserved
 items-preserved c =

@@ -1,6 +1,5 @@
 use Rattle.std.proofs.Common.{◌≡◌, false, length}
-use Rattle.lc_glob.specs.Above.{has_nested_after}
-use Rattle.lc_glob.specs.Views.{segments_ref_model}
+use Rattle.lc_glob.specs.{Above.has_nested_after, Views.segments_ref_model}
 use Rattle.lc_glob.proofs.match_above.has_nested_wildcards.Given as goal
 
 abbrev pub invariant-segments : goal.invariant-segments

@@ -1,8 +1,5 @@
 use Rattle.std.proofs.Common.{◌≡◌, ◌≤◌, ◌<◌, ◌↔◌, ◌+◌, ◌*◌, ℕ, length, take, get_or, false, []}
-use Rattle.lc_glob.specs.Above.{names_of, IsSet}
-use Rattle.lc_glob.specs.Costs.{bytes_with_ends}
-use Rattle.lc_glob.specs.Fits.{Fits}
-use Rattle.lc_glob.specs.Views.{tokens_ref_model}
+use Rattle.lc_glob.specs.{Above.{names_of, IsSet}, Costs.bytes_with_ends, Fits.Fits, Views.tokens_ref_model}
 use Rattle.lc_glob.proofs.match_above.keep.Given as goal
 
 abbrev pub invariant-loop-k : goal.invariant-loop-k

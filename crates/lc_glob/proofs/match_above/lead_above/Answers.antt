@@ -1,7 +1,5 @@
 use Rattle.std.proofs.Common.{ap, refl, ◌≡◌, length, arith, ◌++◌, ◌∷◌, []}
-use Rattle.lc_glob.specs.Above.{names_of}
-use Rattle.lc_glob.specs.Patterns.{plain, double_star}
-use Rattle.lc_glob.specs.Views.{segment_ref_model, tokens_ref_model}
+use Rattle.lc_glob.specs.{Above.names_of, Patterns.{plain, double_star}, Views.{segment_ref_model, tokens_ref_model}}
 use Rattle.lc_glob.proofs.Above.{led_first, led_star, led_plain, passed, star_cost, plain_cost, names_length}
 use Rattle.lc_glob.proofs.match_above.lead_above.Goals as goal
 

@@ -1,8 +1,5 @@
 use Rattle.std.proofs.Common.{◌≡◌, ◌≤◌, ◌+◌, length, List, ◌++◌}
-use Rattle.lc_glob.specs.Above.{names_of}
-use Rattle.lc_glob.specs.Costs.{full_cost}
-use Rattle.lc_glob.specs.Patterns.{SegmentModel}
-use Rattle.lc_glob.specs.Views.{segments_ref_model}
+use Rattle.lc_glob.specs.{Above.names_of, Costs.full_cost, Patterns.SegmentModel, Views.segments_ref_model}
 use Rattle.lc_glob.proofs.Above.{AreLed}
 use Rattle.lc_glob.proofs.match_above.lead_above.Given as goal
 

@@ -1,16 +1,8 @@
-use Rattle.std.proofs.Common.{arith, ◌∙◌, ap, replicate, false}
-use Rattle.lc_glob.specs.Above.{names_of}
-use Rattle.lc_glob.specs.Views.{segments_ref_model, tokens_ref_model}
-use Rattle.lc_glob.proofs.Above.{matched_none, matched_star, matched_plain, star_cost, plain_cost, names_length}
+use Rattle.std.proofs.Common.{arith}
+use Rattle.lc_glob.specs.{Above.names_of, Views.{segments_ref_model, tokens_ref_model}}
+use Rattle.lc_glob.proofs.Above.{matched_star, matched_plain, star_cost, plain_cost, names_length}
 use Rattle.lc_glob.proofs.Ends.{end_segment, end_double}
 use Rattle.lc_glob.proofs.match_above.match_above.Goals as goal
-
-pub returns-in_default-clause-set : goal.returns-in_default-clause-set
-returns-in_default-clause-set c =
-    let len = names_length c.args.names.names.now in
-    matched_none _ (names_of c.args.names.names.now) _ c.in_default.ensures
-    (omega (arith, len, c.requires, c.fill.ensures.len)) (c.fill.ensures.after (λ y e. e) ∙ ap (λ n. replicate n false)
-    (omega (arith, len, c.requires)))
 
 pub returns-in-DoubleStar-clause-set : goal.returns-in-DoubleStar-clause-set
 returns-in-DoubleStar-clause-set c =

@@ -1,14 +1,8 @@
-use Rattle.std.proofs.Common.{ap, arith, sym, ◌∙◌}
-use Rattle.std.proofs.lemmas.Bool.{false≢true}
-use Rattle.lc_glob.specs.Path.{segments_of}
-use Rattle.lc_glob.specs.Views.{segments_ref_model}
-use Rattle.lc_glob.proofs.Leading.{none_spelled, double_spelled, plain_spelled}
+use Rattle.std.proofs.{Common.{ap, arith, sym, ◌∙◌}, lemmas.Bool.false≢true}
+use Rattle.lc_glob.specs.{Path.segments_of, Views.segments_ref_model}
+use Rattle.lc_glob.proofs.Leading.{double_spelled, plain_spelled}
 use Rattle.lc_glob.proofs.Ends.{end_segment, end_double, above_cost, end_cost, spell_cost}
 use Rattle.lc_glob.proofs.match_path.matches_path.Goals as goal
-
-pub returns-in_default-clause-matches_path : goal.returns-in_default-clause-matches_path
-returns-in_default-clause-matches_path c =
-    none_spelled _ _ _ _ c.in_default.ensures (ap segments_of (sym c.path.view_is) ∙ c.path.invariant.0)
 
 pub returns-then-allow-clause-matches_path : goal.returns-then-allow-clause-matches_path
 returns-then-allow-clause-matches_path c =

@@ -1,8 +1,7 @@
-use Rattle.std.proofs.Common.{◌∙◌, sym, arith}
-use Rattle.std.proofs.lemmas.Bool.{false≢true}
+use Rattle.std.proofs.{Common.{◌∙◌, sym, arith}, lemmas.Bool.false≢true}
 use Rattle.lc_glob.proofs.Fitting.{ends_decide, fits_as_many}
-use Rattle.lc_glob.proofs.match_segment.fits_end.Goals as goal
 use Rattle.lc_glob.proofs.match_segment.fits_end.Goals.{else-is_whole-via-then-is_whole+else-len-literals, else-is_whole-via-else-is_whole}
+use Rattle.lc_glob.proofs.match_segment.fits_end.Goals as goal
 
 pub returns-then-len-literals-clause-fits : goal.returns-then-len-literals-clause-fits
 returns-then-len-literals-clause-fits c = (

@@ -1,7 +1,5 @@
-use Rattle.std.proofs.Common.{◌≡◌, ◌+◌, ℕ, nat_eq, eq-eqb, List, [], ◌∷◌, length, refl, sym, ◌∙◌, ap, arith}
-use Rattle.std.proofs.lemmas.Bool.{false≢true}
-use Rattle.std.proofs.lemmas.List.{take_all}
-use Rattle.std.proofs.lemmas.List.Splits.{length-slice_split}
+use Rattle.std.proofs.{Common.{◌≡◌, ◌+◌, ℕ, nat_eq, eq-eqb, List, [], ◌∷◌, length, refl, sym, ◌∙◌, ap, arith}, lemmas.Bool.false≢true}
+use Rattle.std.proofs.lemmas.List.{take_all, Splits.length-slice_split}
 use Rattle.std.specs.List.{count_by}
 use Rattle.lc_glob.specs.Path.{depth_of}
 use Rattle.lc_glob.proofs.path.depth_of.Goals as goal

@@ -1,9 +1,5 @@
 use Rattle.std.proofs.Common.{◌∙◌, ◌∷◌, [], sym, ap, List, false}
-use Rattle.lc_glob.specs.TokenLists.{tokens_model}
-use Rattle.lc_glob.specs.Patterns.{plain}
-use Rattle.lc_glob.specs.Tokens.{TokenModel, star}
-use Rattle.lc_glob.specs.Views.{live_model}
-use Rattle.lc_glob.specs.declared.token.Token.{Token}
+use Rattle.lc_glob.specs.{TokenLists.tokens_model, Patterns.plain, Tokens.{TokenModel, star}, Views.live_model, declared.token.Token.Token}
 use Rattle.lc_glob.specs.declared.token.Token.TheVariants.{Star}
 use Rattle.lc_glob.proofs.TokenLists.{model_of_literals}
 use Rattle.lc_glob.proofs.reading.keep_last.Goals as goal

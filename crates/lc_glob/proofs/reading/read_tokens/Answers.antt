@@ -1,9 +1,6 @@
 use Rattle.std.proofs.Common.{sym, subst, [], List}
-use Rattle.lc_glob.specs.TokenLists.{is_separator}
-use Rattle.lc_glob.specs.declared.token.Token.{Token}
-use Rattle.lc_glob.proofs.Lexemes.{read_lexeme, read_all}
-use Rattle.lc_glob.proofs.Naming.{EndsIn, ends_start}
-use Rattle.lc_glob.proofs.Parts.{join_start}
+use Rattle.lc_glob.specs.{TokenLists.is_separator, declared.token.Token.Token}
+use Rattle.lc_glob.proofs.{Lexemes.{read_lexeme, read_all}, Naming.{EndsIn, ends_start}, Parts.join_start}
 use Rattle.lc_glob.proofs.reading.read_tokens.Goals as goal
 
 pub tokens-init : goal.tokens-init

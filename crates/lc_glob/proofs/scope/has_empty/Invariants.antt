@@ -1,7 +1,5 @@
 use Rattle.std.proofs.Common.{◌≡◌, length, map}
-use Rattle.lc_glob.specs.Elements.{parts_in}
-use Rattle.lc_glob.specs.Pieces.{cuts_left}
-use Rattle.lc_glob.specs.Reading.{some_empty}
+use Rattle.lc_glob.specs.{Elements.parts_in, Pieces.cuts_left, Reading.some_empty}
 use Rattle.lc_glob.proofs.scope.has_empty.Given as goal
 
 abbrev pub invariant-segments : goal.invariant-segments

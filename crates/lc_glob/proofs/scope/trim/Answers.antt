@@ -1,15 +1,6 @@
-use Rattle.std.proofs.Common.{sym, ◌∙◌}
-use Rattle.std.proofs.lemmas.Bool.{or_left}
-use Rattle.lc_glob.proofs.Fronts.{false_left, trimmed_dead, trimmed_is}
+use Rattle.std.proofs.{Common.{sym, ◌∙◌}, lemmas.Bool.or_left}
+use Rattle.lc_glob.proofs.{Fronts.{false_left, trimmed_is}, scope.trim.Goals.{then-leads, else-leads}}
 use Rattle.lc_glob.proofs.scope.trim.Goals as goal
-use Rattle.lc_glob.proofs.scope.trim.Goals.{then-leads, else-leads}
-
-pub returns-then-has_empty : goal.returns-then-has_empty
-returns-then-has_empty g c =
-    let e = g.E.Element in
-    trimmed_dead e.tokens_in e.separates _ _ _ c.without_last_separator-is_dir_only.ensures.parts
-    c.without_first_separator-leads.ensures.parts
-    (sym c.has_empty.ensures ∙ c.if-has_empty.true)
 
 pub returns : goal.returns
 returns g c =

@@ -1,7 +1,5 @@
 use Rattle.std.proofs.Common.{sym, ap, ◌∙◌, ◌∷◌, Bool, cond}
-use Rattle.lc_glob.specs.Elements.{parts_in}
-use Rattle.lc_glob.specs.Pieces.{cuts_left}
-use Rattle.lc_glob.specs.Reading.{without_first}
+use Rattle.lc_glob.specs.{Elements.parts_in, Pieces.cuts_left, Reading.without_first}
 use Rattle.lc_glob.proofs.Fronts.{begins_before, rest_parts}
 use Rattle.lc_glob.proofs.scope.without_first_separator.Goals as goal
 

@@ -1,7 +1,5 @@
 use Rattle.std.proofs.Common.{sym, ap, ◌∙◌, ◌++◌, ◌∷◌, [], Bool, cond}
-use Rattle.lc_glob.specs.Elements.{parts_in}
-use Rattle.lc_glob.specs.Pieces.{cuts_left}
-use Rattle.lc_glob.specs.Reading.{without_last}
+use Rattle.lc_glob.specs.{Elements.parts_in, Pieces.cuts_left, Reading.without_last}
 use Rattle.lc_glob.proofs.Fronts.{ends_after, front_parts}
 use Rattle.lc_glob.proofs.scope.without_last_separator.Goals as goal
 

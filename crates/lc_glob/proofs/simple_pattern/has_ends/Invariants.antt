@@ -1,7 +1,6 @@
 use Rattle.std.proofs.Common.{◌≡◌, length}
 use Rattle.std.specs.List.{list_all}
-use Rattle.lc_glob.specs.Path.{segments_of, segments_left}
-use Rattle.lc_glob.specs.Simple.{is_ends_segment}
+use Rattle.lc_glob.specs.{Path.{segments_of, segments_left}, Simple.is_ends_segment}
 use Rattle.lc_glob.proofs.simple_pattern.has_ends.Given as goal
 
 abbrev pub invariant-segments : goal.invariant-segments

@@ -1,7 +1,5 @@
 use Rattle.std.proofs.Common.{sym, ap, ◌∙◌, ◌∷◌, [], List, false}
-use Rattle.lc_glob.specs.Tokens.{TokenModel}
-use Rattle.lc_glob.specs.Patterns.{plain}
-use Rattle.lc_glob.specs.Views.{live_model}
+use Rattle.lc_glob.specs.{Tokens.TokenModel, Patterns.plain, Views.live_model}
 use Rattle.lc_glob.proofs.SimpleBytes.{literal_bytes, suffix_bytes}
 use Rattle.lc_glob.proofs.simple_pattern.name_kind.Goals as goal
 

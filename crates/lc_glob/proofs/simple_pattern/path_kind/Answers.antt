@@ -1,8 +1,6 @@
 use Rattle.std.proofs.Common.{◌∙◌, ap, sym, true}
-use Rattle.lc_glob.specs.Path.{segments_of}
-use Rattle.lc_glob.specs.Views.{live_model}
-use Rattle.lc_glob.proofs.ExactPaths.{exact_segments}
-use Rattle.lc_glob.proofs.SimpleBytes.{ends_segments}
+use Rattle.lc_glob.specs.{Path.segments_of, Views.live_model}
+use Rattle.lc_glob.proofs.{ExactPaths.exact_segments, SimpleBytes.ends_segments}
 use Rattle.lc_glob.proofs.simple_pattern.path_kind.Goals as goal
 
 pub returns-then-are_literals : goal.returns-then-are_literals

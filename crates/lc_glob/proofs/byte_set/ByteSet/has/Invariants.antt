@@ -1,6 +1,5 @@
 use Rattle.std.proofs.Common.{◌≡◌, length}
-use Rattle.lc_glob.specs.TokenLists.{ranges_first}
-use Rattle.lc_glob.specs.Tokens.{in_ranges}
+use Rattle.lc_glob.specs.{TokenLists.ranges_first, Tokens.in_ranges}
 use Rattle.lc_glob.proofs.byte_set.ByteSet.has.Given as goal
 
 abbrev pub invariant-tokens : goal.invariant-tokens

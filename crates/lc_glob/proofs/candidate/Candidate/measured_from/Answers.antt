@@ -1,7 +1,6 @@
 use Rattle.std.proofs.Common.{ap, arith, length, ◌^◌, ◌-◌}
-use Rattle.lc_glob.proofs.Sizing.{names_within}
+use Rattle.lc_glob.proofs.{Sizing.names_within, candidate.Candidate.measured_from.Goals.{then-path-long, else-path-long}}
 use Rattle.lc_glob.proofs.candidate.Candidate.measured_from.Goals as goal
-use Rattle.lc_glob.proofs.candidate.Candidate.measured_from.Goals.{then-path-long, else-path-long}
 
 pub invariant_of-result : goal.invariant_of-result
 invariant_of-result c =

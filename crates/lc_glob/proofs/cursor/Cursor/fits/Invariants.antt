@@ -1,6 +1,5 @@
 use Rattle.std.proofs.Common.{◌↔◌, ◌+◌, ◌≤◌, length}
-use Rattle.lc_glob.specs.Fits.{Fits}
-use Rattle.lc_glob.specs.Steps.{cost_at}
+use Rattle.lc_glob.specs.{Fits.Fits, Steps.cost_at}
 use Rattle.lc_glob.proofs.cursor.Cursor.fits.Given as goal
 
 abbrev pub invariant-ends : goal.invariant-ends

@@ -1,6 +1,5 @@
 use Rattle.std.proofs.Common.{sym, ◌∙◌}
-use Rattle.lc_glob.proofs.Fitting.{end_stuck}
-use Rattle.lc_glob.proofs.Stepping.{last_alone}
+use Rattle.lc_glob.proofs.{Fitting.end_stuck, Stepping.last_alone}
 use Rattle.lc_glob.proofs.cursor.Cursor.step_end.Goals as goal
 
 pub returns-in-None-clause-is : goal.returns-in-None-clause-is

@@ -1,6 +1,5 @@
 use Rattle.std.proofs.Common.{sym, ◌∙◌}
-use Rattle.lc_glob.proofs.Fitting.{front_stuck}
-use Rattle.lc_glob.proofs.Stepping.{first_alone}
+use Rattle.lc_glob.proofs.{Fitting.front_stuck, Stepping.first_alone}
 use Rattle.lc_glob.proofs.cursor.Cursor.step_front.Goals as goal
 
 pub returns-in-None-clause-is : goal.returns-in-None-clause-is

@@ -1,12 +1,8 @@
-use Rattle.std.proofs.Common.{◌≡◌, sym, ap, ◌∙◌, ◌++◌, ◌∷◌, [], List, refl, false, append_assoc}
+use Rattle.std.proofs.Common.{◌≡◌, sym, ap, ◌∙◌, ◌++◌, ◌∷◌, [], List, false, append_assoc}
 use Rattle.std.proofs.lemmas.List.Elements.{All-append, All-cons, All-nil}
-use Rattle.lc_glob.specs.TokenLists.{is_separator}
-use Rattle.lc_glob.specs.declared.token.Token.{Token}
+use Rattle.lc_glob.specs.{TokenLists.is_separator, declared.token.Token.Token}
 use Rattle.lc_glob.proofs.Naming.{cut_first, none_first}
 use Rattle.lc_glob.proofs.element.TokenElement.cut_at_first_separator.Goals as goal
-
-pub tokens-init : goal.tokens-init
-tokens-init c = ([], refl, All-nil (λ t. is_separator t ≡ false))
 
 pub returns-then-is_separator : goal.returns-then-is_separator
 returns-then-is_separator c =

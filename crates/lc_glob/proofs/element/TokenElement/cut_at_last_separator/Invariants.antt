@@ -1,7 +1,6 @@
 use Rattle.std.proofs.Common.{◌≡◌, ◌++◌, List, false, length}
 use Rattle.std.specs.List.{All}
-use Rattle.lc_glob.specs.TokenLists.{is_separator}
-use Rattle.lc_glob.specs.declared.token.Token.{Token}
+use Rattle.lc_glob.specs.{TokenLists.is_separator, declared.token.Token.Token}
 use Rattle.lc_glob.proofs.element.TokenElement.cut_at_last_separator.Given as goal
 
 abbrev pub invariant-tokens : goal.invariant-tokens

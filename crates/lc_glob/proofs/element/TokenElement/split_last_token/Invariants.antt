@@ -1,6 +1,5 @@
 use Rattle.std.proofs.Common.{◌≡◌, ◌++◌, List, [], length}
-use Rattle.lc_glob.specs.TokenLists.{tokens_model}
-use Rattle.lc_glob.specs.declared.token.Token.{Token}
+use Rattle.lc_glob.specs.{TokenLists.tokens_model, declared.token.Token.Token}
 use Rattle.lc_glob.proofs.element.TokenElement.split_last_token.Given as goal
 
 abbrev pub invariant-tokens : goal.invariant-tokens

@@ -1,6 +1,5 @@
-use Rattle.std.proofs.Common.{sym, subst, ◌∙◌}
+use Rattle.std.proofs.{Common.{sym, subst, ◌∙◌}, lemmas.List.Elements.{All-head, All-tail}}
 use Rattle.std.specs.List.{All}
-use Rattle.std.proofs.lemmas.List.Elements.{All-head, All-tail}
 use Rattle.lc_glob.specs.Lengths.{FitsSome}
 use Rattle.lc_glob.proofs.Sizing.{each_fits}
 use Rattle.lc_glob.proofs.lengths.Lengths.allow_each.Goals as goal

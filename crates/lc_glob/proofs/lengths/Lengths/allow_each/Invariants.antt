@@ -1,8 +1,6 @@
 use Rattle.std.proofs.Common.{ℕ, List, length}
 use Rattle.std.specs.List.{All}
-use Rattle.lc_glob.specs.Leads.{Leads}
-use Rattle.lc_glob.specs.Lengths.{AreBetween, FitsSome}
-use Rattle.lc_glob.specs.Views.{segments_ref_model}
+use Rattle.lc_glob.specs.{Leads.Leads, Lengths.{AreBetween, FitsSome}, Views.segments_ref_model}
 use Rattle.lc_glob.proofs.lengths.Lengths.allow_each.Given as goal
 
 abbrev pub invariant-segments : goal.invariant-segments

@@ -1,5 +1,4 @@
-use Rattle.std.proofs.Common.{arith, sym, ◌∙◌}
-use Rattle.std.proofs.lemmas.Bool.{le-leb}
+use Rattle.std.proofs.{Common.{arith, sym, ◌∙◌}, lemmas.Bool.le-leb}
 use Rattle.lc_glob.proofs.Sizing.{fits_least, fits_exactly}
 use Rattle.lc_glob.proofs.lengths.Lengths.allow_elements.Goals as goal
 

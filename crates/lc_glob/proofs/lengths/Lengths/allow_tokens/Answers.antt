@@ -1,5 +1,4 @@
-use Rattle.std.proofs.Common.{arith}
-use Rattle.std.proofs.lemmas.Bool.{le-leb}
+use Rattle.std.proofs.{Common.arith, lemmas.Bool.le-leb}
 use Rattle.lc_glob.proofs.Sizing.{literals_between, suffix_between}
 use Rattle.lc_glob.proofs.lengths.Lengths.allow_tokens.Goals as goal
 

@@ -1,7 +1,5 @@
-use Rattle.std.proofs.Common.{arith, sym, subst}
-use Rattle.std.proofs.lemmas.List.Elements.{All-nil}
-use Rattle.lc_glob.specs.Lengths.{IsBetween, AreBetween}
-use Rattle.lc_glob.specs.declared.lengths.Lengths.{Lengths}
+use Rattle.std.proofs.{Common.{arith, sym, subst}, lemmas.List.Elements.All-nil}
+use Rattle.lc_glob.specs.{Lengths.{IsBetween, AreBetween}, declared.lengths.Lengths.Lengths}
 use Rattle.lc_glob.proofs.Sizing.{more_between}
 use Rattle.lc_glob.proofs.lengths.Lengths.of.Goals as goal
 

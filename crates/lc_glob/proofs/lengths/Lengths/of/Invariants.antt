@@ -1,7 +1,5 @@
 use Rattle.std.proofs.Common.{◌≤◌, length}
-use Rattle.lc_glob.specs.Lengths.{AreBetween}
-use Rattle.lc_glob.specs.Path.{segments_left}
-use Rattle.lc_glob.specs.declared.lengths.Lengths.{Lengths}
+use Rattle.lc_glob.specs.{Lengths.AreBetween, Path.segments_left, declared.lengths.Lengths.Lengths}
 use Rattle.lc_glob.proofs.lengths.Lengths.of.Given as goal
 
 abbrev pub invariant-segments : goal.invariant-segments

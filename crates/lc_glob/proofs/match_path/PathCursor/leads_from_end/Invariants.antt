@@ -1,8 +1,5 @@
 use Rattle.std.proofs.Common.{◌↔◌, ◌≤◌, ◌+◌, length}
-use Rattle.lc_glob.specs.Leads.{Leads}
-use Rattle.lc_glob.specs.Path.{segments_left}
-use Rattle.lc_glob.specs.Costs.{full_cost}
-use Rattle.lc_glob.specs.Views.{segments_ref_model}
+use Rattle.lc_glob.specs.{Leads.Leads, Path.segments_left, Costs.full_cost, Views.segments_ref_model}
 use Rattle.lc_glob.proofs.match_path.PathCursor.leads_from_end.Given as goal
 
 abbrev pub invariant-ends : goal.invariant-ends

@@ -1,6 +1,5 @@
 use Rattle.std.proofs.Common.{inl, inr, ap, ◌≤◌, arith, length}
-use Rattle.lc_glob.specs.Views.{segments_ref_model}
-use Rattle.lc_glob.specs.Path.{segments_left}
+use Rattle.lc_glob.specs.{Views.segments_ref_model, Path.segments_left}
 use Rattle.lc_glob.proofs.Cost.{full_parts, across_cost, name_cost, name_reserve, block_cost, end_cost}
 use Rattle.lc_glob.proofs.Striding.{at_double, at_name, at_block, covers_name, shorter}
 use Rattle.lc_glob.proofs.match_path.PathCursor.leads_from_front.Goals as goal

@@ -1,9 +1,6 @@
 use Rattle.std.proofs.Common.{◌↔◌, ◌⊎◌, ◌+◌, ◌*◌, ◌≤◌, length}
-use Rattle.lc_glob.specs.Leads.{Leads}
-use Rattle.lc_glob.specs.Views.{segments_ref_model}
-use Rattle.lc_glob.specs.Path.{segments_left}
-use Rattle.lc_glob.proofs.Cost.{straight, again, full}
-use Rattle.lc_glob.proofs.Striding.{LaterOf, Covers, span, IsWithin, reserve}
+use Rattle.lc_glob.specs.{Leads.Leads, Views.segments_ref_model, Path.segments_left}
+use Rattle.lc_glob.proofs.{Cost.{straight, again, full}, Striding.{LaterOf, Covers, span, IsWithin, reserve}}
 use Rattle.lc_glob.proofs.match_path.PathCursor.leads_from_front.Given as goal
 
 abbrev pub invariant-steps : goal.invariant-steps

@@ -1,7 +1,5 @@
-use Rattle.std.proofs.lemmas.Bool.{false≢true}
-use Rattle.std.proofs.Common.{arith}
-use Rattle.lc_glob.proofs.Leading.{when_end, when_none, last_leads}
-use Rattle.lc_glob.proofs.Ends.{end_segment, end_double, end_cost}
+use Rattle.std.proofs.{lemmas.Bool.false≢true, Common.arith}
+use Rattle.lc_glob.proofs.{Leading.{when_end, when_none, last_leads}, Ends.{end_segment, end_double, end_cost}}
 use Rattle.lc_glob.proofs.match_path.PathCursor.step_end.Goals as goal
 
 pub returns-in_default-split_last-clause-is : goal.returns-in_default-split_last-clause-is

@@ -1,6 +1,5 @@
 use Rattle.std.proofs.Common.{arith}
-use Rattle.lc_glob.proofs.Bounds.{whole_bound}
-use Rattle.lc_glob.proofs.Matching.{decided}
+use Rattle.lc_glob.proofs.{Bounds.whole_bound, Matching.decided}
 use Rattle.lc_glob.proofs.pattern.Pattern.matches_counted.Goals as goal
 
 pub returns-clause-computed : goal.returns-clause-computed

@@ -1,7 +1,5 @@
 use Rattle.std.proofs.Common.{arith, ◌≡◌, ◌∙◌, length, ap, sym, subst, replicate, true, false, refl}
-use Rattle.lc_glob.specs.Above.{names_of, TellMatches}
-use Rattle.lc_glob.specs.Patterns.{PatternModel}
-use Rattle.lc_glob.specs.Views.{pattern_view_model, tokens_ref_model}
+use Rattle.lc_glob.specs.{Above.{names_of, TellMatches}, Patterns.PatternModel, Views.{pattern_view_model, tokens_ref_model}}
 use Rattle.lc_glob.proofs.Above.{told_dead, told_matches, matched_last, names_length}
 use Rattle.lc_glob.proofs.pattern_view.PatternView.flag_directories.Goals as goal
 

@@ -1,9 +1,6 @@
 use Rattle.std.proofs.Common.{ap, ◌∙◌, map, sym, true, List}
-use Rattle.lc_glob.specs.TokenLists.{tokens_model}
-use Rattle.lc_glob.specs.Reading.{segment_from}
-use Rattle.lc_glob.specs.declared.token.Token.{Token}
-use Rattle.lc_glob.specs.Simple.{bytes_segment, ends_segment, exact_segment}
-use Rattle.lc_glob.specs.Views.{segments_ref_model}
+use Rattle.lc_glob.specs.{TokenLists.tokens_model, Reading.segment_from, declared.token.Token.Token}
+use Rattle.lc_glob.specs.{Simple.{bytes_segment, ends_segment, exact_segment}, Views.segments_ref_model}
 use Rattle.lc_glob.proofs.Fronts.{none_mapped}
 use Rattle.lc_glob.proofs.segment_ref.SegmentsRef.is_empty.Goals as goal
 

@@ -1,7 +1,6 @@
 use Rattle.std.proofs.Common.{sym, ap, ◌∙◌}
 use Rattle.std.specs.List.{list_any}
-use Rattle.lc_glob.specs.Tokens.{is_star}
-use Rattle.lc_glob.specs.Views.{tokens_ref_model}
+use Rattle.lc_glob.specs.{Tokens.is_star, Views.tokens_ref_model}
 use Rattle.lc_glob.proofs.Above.{literals_no_star}
 use Rattle.lc_glob.proofs.segment_ref.TokensRef.has_star.Goals as goal
 

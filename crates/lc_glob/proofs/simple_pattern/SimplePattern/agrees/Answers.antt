@@ -1,8 +1,5 @@
 use Rattle.std.proofs.Common.{ap, sym, ◌∙◌, inl, inr, map, ℕ, List}
-use Rattle.lc_glob.specs.Path.{segments_of}
-use Rattle.lc_glob.specs.Patterns.{SegmentModel}
-use Rattle.lc_glob.specs.Pieces.{is_byte}
-use Rattle.lc_glob.specs.Simple.{byte_token}
+use Rattle.lc_glob.specs.{Path.segments_of, Patterns.SegmentModel, Pieces.is_byte, Simple.byte_token}
 use Rattle.lc_glob.proofs.EndLooks.{look_at_path, look_at_name, bytes_keep, ends_keep, exact_keep, KeepsEnds}
 use Rattle.lc_glob.proofs.simple_pattern.SimplePattern.agrees.Goals as goal
 

@@ -1,6 +1,5 @@
 use Rattle.std.proofs.Common.{ap, sym, ◌∙◌, arith}
-use Rattle.lc_glob.specs.Path.{segments_of}
-use Rattle.lc_glob.specs.Simple.{end_tokens}
+use Rattle.lc_glob.specs.{Path.segments_of, Simple.end_tokens}
 use Rattle.lc_glob.proofs.Ends.{last_cost}
 use Rattle.lc_glob.proofs.simple_pattern.SimplePattern.matched.Goals as goal
 

@@ -1,6 +1,5 @@
 use Rattle.std.proofs.Common.{ap, sym, map, ◌∙◌}
-use Rattle.lc_glob.specs.Path.{segments_of}
-use Rattle.lc_glob.specs.Simple.{byte_token}
+use Rattle.lc_glob.specs.{Path.segments_of, Simple.byte_token}
 use Rattle.lc_glob.proofs.Ends.{last_cost}
 use Rattle.lc_glob.proofs.simple_pattern.SimplePattern.matched_by.Goals as goal
 

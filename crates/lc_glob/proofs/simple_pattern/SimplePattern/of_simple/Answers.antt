@@ -1,8 +1,5 @@
 use Rattle.std.proofs.Common.{sym, ap, ◌∙◌, Bool, map}
-use Rattle.lc_glob.specs.Elements.{trimmed_model}
-use Rattle.lc_glob.specs.Pieces.{is_byte}
-use Rattle.lc_glob.specs.Reading.{pattern_from}
-use Rattle.lc_glob.specs.Simple.{byte_token}
+use Rattle.lc_glob.specs.{Elements.trimmed_model, Pieces.is_byte, Reading.pattern_from, Simple.byte_token}
 use Rattle.lc_glob.proofs.SimpleBytes.{simple_parts}
 use Rattle.lc_glob.proofs.simple_pattern.SimplePattern.of_simple.Goals as goal
 

@@ -1,9 +1,6 @@
-use Rattle.std.proofs.Common.{rules, ap, sym, ◌∙◌, arith}
-use Rattle.std.proofs.lemmas.Bool.{false≢true}
-use Rattle.lc_glob.specs.TokenLists.{tokens_model, is_separator}
-use Rattle.lc_glob.specs.Path.{segments_of}
-use Rattle.lc_glob.proofs.EndLooks.{look_at_path, tokens_keep}
-use Rattle.lc_glob.proofs.Ends.{last_cost}
+use Rattle.std.proofs.{Common.{rules, ap, sym, ◌∙◌, arith}, lemmas.Bool.false≢true}
+use Rattle.lc_glob.specs.{TokenLists.{tokens_model, is_separator}, Path.segments_of}
+use Rattle.lc_glob.proofs.{EndLooks.{look_at_path, tokens_keep}, Ends.last_cost}
 use Rattle.lc_glob.proofs.token_pattern.TokenPattern.matched.Goals as goal
 
 pub returns-then-agrees_at_end-clause-meaning : goal.returns-then-agrees_at_end-clause-meaning
