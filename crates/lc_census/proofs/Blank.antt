@@ -4,18 +4,18 @@ use Rattle.std.proofs.Common.{◌∙◌, arith}
 use Rattle.std.proofs.lemmas.Bool.{or_parts}
 use lib.Bits.{bit_and, bit_or, bit_xor}
 use mir.Val.{bool_byte}
-use Rattle.std.proofs.Math.Bool.{or-false}
+use Rattle.std.proofs.Math.Bool.{and_comm, or-false}
 use Rattle.lc_census.specs.Lanes.{test, xor, Bits, Marks, cr_before, blank_before}
 use Rattle.lc_census.specs.Bytes.{is_cr, is_end, is_space}
 use Rattle.lc_census.proofs.Bits.Test.{test-and, test-or, test-xor, shl, test-shl_one, test-shl_low, test-byte_zero, test-byte_suc}
-use Rattle.lc_census.proofs.Bits.Test.{test-mod}
+use Rattle.lc_census.proofs.Bits.Test.{test-mod, test-zero}
 use Rattle.lc_census.proofs.Bits.Adder.{carry, test-add, most}
 
 -- a shift by one, with a bit from the block before
 pub shifted : (x : ℕ) (c : Bool) (p : ℕ → Bool) → Bits x p → (i : ℕ) → suc i < 64
     → test (bit_or (shl 1 x) (bool_byte c)) (suc i) ≡ p i
 shifted x c p h i lt =
-    test-or (shl 1 x) _ (suc i) ∙ ap₂ (λ a b. a || b) (test-shl_one i x lt) (test-byte_suc c i (omega arith)) ∙ or-false _
+    test-or (shl 1 x) _ (suc i) ∙ ap₂ (λ a b. a || b) (test-shl_one i x lt) (test-byte_suc c i) ∙ or-false _
     ∙ h i (omega arith)
 
 -- the lowest bit of a word shifted up by one, with a Bool put below
@@ -32,13 +32,6 @@ carried false true true = refl
 carried false true false = refl
 carried false false true = refl
 carried false false false = refl
-
-next : (e b sp : Bool) → (e || (sp && b)) ≡ (e || (b && sp))
-next true b sp = refl
-next false true true = refl
-next false true false = refl
-next false false true = refl
-next false false false = refl
 
 undone : (a b c : Bool) → xor (xor (xor (xor a b) c) a) b ≡ c
 undone true true true = refl
@@ -66,7 +59,7 @@ module _ (v : List ℕ) (c : Bool) (ends space : ℕ)
       (ap (λ b. most b (test space i) (carry lone space i)) (test-and starts space i) ∙ carried (test starts i) (test space i)
       (carry lone space i)
       ∙ ap₂ (λ a b. a && b) (hspace i (omega arith)) (along i (omega arith)))
-      ∙ next (is_end (get_or v i 0)) (blank_before c v i) (is_space (get_or v i 0))
+      ∙ ap (λ b. is_end (get_or v i 0) || b) (and_comm (is_space (get_or v i 0)) (blank_before c v i))
 
   -- a bit of this word says whether the line is blank before that byte
   pub blank_bits : Bits (bit_or starts (bit_xor (bit_xor ((lone + space) % 2 ^ 64) lone) space)) (blank_before c v)
@@ -85,16 +78,12 @@ unfolding cr_before
 cr_bits v c cr h zero lt = shifted-zero cr c
 cr_bits v c cr h (suc i) lt = shifted cr c _ h i lt
 
-test-zero : (i : ℕ) → i < 64 → test 0 i ≡ false
-test-zero zero h = test-byte_zero false
-test-zero (suc i) h = test-byte_suc false i (omega arith)
-
 -- where no byte passes one test or another, none passes either
 pub none_marked : (x : ℕ) (p q : ℕ → Bool) (v : List ℕ) → Marks x (λ y. p y || q y) v → x ≡ 0 → Marks 0 p v × Marks 0 q v
 none_marked x p q v marks none = (
-  (λ i h. test-zero i h ∙ sym (or_parts (p (get_or v i 0)) (q (get_or v i 0)) (neither i h)).0),
-  (λ i h. test-zero i h ∙ sym (or_parts (p (get_or v i 0)) (q (get_or v i 0)) (neither i h)).1),
+  (λ i h. test-zero i ∙ sym (or_parts (p (get_or v i 0)) (q (get_or v i 0)) (neither i h)).0),
+  (λ i h. test-zero i ∙ sym (or_parts (p (get_or v i 0)) (q (get_or v i 0)) (neither i h)).1),
 )
   where
     neither : (i : ℕ) → i < 64 → (p (get_or v i 0) || q (get_or v i 0)) ≡ false
-    neither i h = sym (marks i h) ∙ ap (λ n. test n i) none ∙ test-zero i h
+    neither i h = sym (marks i h) ∙ ap (λ n. test n i) none ∙ test-zero i

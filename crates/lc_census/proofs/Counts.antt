@@ -48,18 +48,17 @@ blank_at a b v i = blank_before b v i && (is_cr (get_or v i 0) || (is_lf (get_or
 -- a scan counts the line feeds
 pub lf_all : (s : Scan) (v : List ℕ) → (after_all s v).lf ≡ s.lf + count_first (λ i. is_lf (get_or v i 0)) (length v)
 lf_all s [] = sym (add-zero s.lf)
-lf_all s (x ∷ v) = lf_all (after s x) v ∙ add_assoc s.lf (one_if (is_lf x)) (count_first (λ i. is_lf (get_or v i 0)) (length v))
+lf_all s (x ∷ v) = omega (arith, lf_all (after s x) v)
 
 -- a scan counts the carriage returns
 pub cr_all : (s : Scan) (v : List ℕ) → (after_all s v).cr ≡ s.cr + count_first (λ i. is_cr (get_or v i 0)) (length v)
 cr_all s [] = sym (add-zero s.cr)
-cr_all s (x ∷ v) = cr_all (after s x) v ∙ add_assoc s.cr (one_if (is_cr x)) (count_first (λ i. is_cr (get_or v i 0)) (length v))
+cr_all s (x ∷ v) = omega (arith, cr_all (after s x) v)
 
 -- a scan counts the NUL bytes
 pub nul_all : (s : Scan) (v : List ℕ) → (after_all s v).nul ≡ s.nul + count_first (λ i. is_nul (get_or v i 0)) (length v)
 nul_all s [] = sym (add-zero s.nul)
-nul_all s (x ∷ v) = nul_all (after s x) v
-    ∙ add_assoc s.nul (one_if (is_nul x)) (count_first (λ i. is_nul (get_or v i 0)) (length v))
+nul_all s (x ∷ v) = omega (arith, nul_all (after s x) v)
 
 -- a scan counts the line feeds after a carriage return
 pub crlf_all : (s : Scan) (v : List ℕ) → (after_all s v).crlf ≡ s.crlf + count_first (crlf_at s.after_cr v) (length v)

@@ -2,14 +2,13 @@
 pub mod Ends
 pub mod Blank
 pub mod Rest
-use Rattle.std.proofs.Common.{add_assoc, ◌≡◌, ℕ, suc, eqb, ◌+◌, ◌-◌, ◌⊎◌, inl, inr, Bool, true, false, not, ◌&&◌, ◌||◌, List, [], ◌∷◌}
-use Rattle.std.proofs.Common.{length, refl, sym, ap, ap₂, ◌∙◌, arith, zero-add, eqb-true}
+use Rattle.std.proofs.Common.{◌≡◌, ℕ, suc, eqb, ◌+◌, ◌-◌, ◌⊎◌, inl, inr, Bool, true, false, not, ◌&&◌, ◌||◌, List, [], ◌∷◌}
+use Rattle.std.proofs.Common.{length, refl, sym, ap, ◌∙◌, arith, zero-add, eqb-true}
 use Rattle.std.specs.List.{list_any}
 use Rattle.lc_census.specs.declared.scan.Scan.{Scan}
-use Rattle.lc_census.specs.Bytes.{is_lf, is_cr, is_end, is_space, is_nul, one_if}
+use Rattle.lc_census.specs.Bytes.{is_nul, one_if}
 use Rattle.lc_census.specs.Scan.{after, after_all}
-use Rattle.lc_census.specs.Cutting.{End, lf, cr_lf, cr, Line, Cutting, is_empty, starts_with_lf, same_end}
-use Rattle.lc_census.specs.Bytes.{is_lf, is_cr, is_end, is_space, is_nul, one_if}
+use Rattle.lc_census.specs.Cutting.{End, lf, cr_lf, cr, Line, is_empty, same_end}
 use Rattle.lc_census.specs.Census.{is_blank_text, class_of, has_end, count_of}
 use Rattle.lc_census.specs.declared.line_count.Count.{Count}
 use Rattle.std.specs.List.{count_by}
@@ -17,17 +16,15 @@ use Rattle.std.proofs.lemmas.List.Sums.{sum_by-cons}
 use Rattle.std.proofs.lemmas.Bool.{cases_Bool}
 use Rattle.lc_census.specs.Fed.{rest_after}
 use Rattle.lc_census.specs.Scan.{start}
-use Rattle.lc_census.specs.TheCutting.{line, cut, before, with_cr, with_text}
-use Rattle.lc_census.proofs.OneCutting.{before-text, by_kind}
-use Rattle.std.proofs.Math.Bool.{and-true, or-true}
+use Rattle.lc_census.specs.TheCutting.{cut}
 use Rattle.lc_census.proofs.Tells.Ends.{passing, ends_of, lf_run, cr_run, crlf_run}
 use Rattle.lc_census.proofs.Tells.Blank.{blank_whole, blank_run}
-use Rattle.lc_census.proofs.Tells.Rest.{rest_goes_on, rest_blank, goes_run, rest_run}
+use Rattle.lc_census.proofs.Tells.Rest.{after_end, goes, goes_run, is_blank_after, rest_run}
 
 -- NUL
 pub nul_run : (s : Scan) (xs : List ℕ) → (after_all s xs).nul ≡ s.nul + passing is_nul xs
 nul_run s [] = omega arith
-nul_run s (x ∷ xs) = nul_run (after s x) xs ∙ add_assoc s.nul (one_if (is_nul x)) (passing is_nul xs)
+nul_run s (x ∷ xs) = omega (arith, nul_run (after s x) xs)
 
 -- the words of std
 passing_is : {X : Type 0} (p : X → Bool) (xs : List X) → passing p xs ≡ count_by p xs
@@ -63,14 +60,6 @@ each_end (l ∷ ls) = go l.end (each_end ls)
     go cr_lf here = omega arith
     go cr here = omega arith
 
-false_goes : (ls : List Line) (r : List ℕ) → rest_goes_on false ls r ≡ not (is_empty r)
-false_goes [] r = refl
-false_goes (l ∷ ls) r = refl
-
-true_blank : (ls : List Line) (r : List ℕ) → rest_blank true ls r ≡ is_blank_text r
-true_blank [] r = refl
-true_blank (l ∷ ls) r = refl
-
 -- what a scan, the mark of a rest and a length say
 abbrev pub told : Scan → Bool → ℕ → Count
 told s b n = record {
@@ -91,10 +80,10 @@ module _ (xs : List ℕ) where
   crlf_is = omega (arith, crlf_run start xs)
 
   goes_is : rest_after false xs ≡ not (is_empty (cut xs).rest)
-  goes_is = goes_run false xs ∙ false_goes (cut xs).lines (cut xs).rest
+  goes_is = goes_run false xs ∙ sym (after_end goes false (cut xs).lines (cut xs).rest)
 
   blank_is : (after_all start xs).is_blank ≡ is_blank_text (cut xs).rest
-  blank_is = rest_run start xs ∙ true_blank (cut xs).lines (cut xs).rest
+  blank_is = rest_run start xs ∙ sym (after_end is_blank_after true (cut xs).lines (cut xs).rest)
 
   blanks_are : (after_all start xs).blank ≡ count_by (λ l. is_blank_text l.text) (cut xs).lines
   blanks_are = blank_run start xs ∙ zero-add _ ∙ blank_whole (cut xs).lines

@@ -5,7 +5,7 @@ use Rattle.lc_census.specs.declared.line_count.Count.{Count}
 use Rattle.lc_census.specs.declared.counting.CensusFault.{CensusFault}
 use Rattle.lc_census.specs.declared.counting.CensusFault.TheVariants.{Read, Endless, Memory}
 use Rattle.lc_census.specs.Census.{IsCensus}
-use Rattle.lc_census.specs.Reads.{Answer, RoomOf, at_end, at_failure, at_neither, Reads, read_count}
+use Rattle.lc_io.specs.Reads.{Answer, RoomOf, at_end, at_failure, at_neither, Reads, read_count}
 
 -- what a count answers, by its reads: at most so many turns, each a read into a buffer of this length
 abbrev pub AnswersCount : {S : Type 0} → (S → ℕ → Answer → S → Type 0) → ℕ → ℕ → S → Result Count CensusFault → S → Type 0

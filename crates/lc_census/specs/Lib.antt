@@ -6,9 +6,5 @@ pub mod EolWords
 pub mod Fed
 pub mod Lanes
 pub mod Limits
-pub mod Reads
 pub mod Scan
-pub mod StdReads
 pub mod TheCutting
-pub mod TrialReads
-pub mod Whole

@@ -1,12 +1,13 @@
 //! The census of what a reader gives.
-ghost use Rattle.std.specs.Prelude.{◌≡◌, ◌≢◌, ◌<◌, ◌≤◌, length, vec_len, IfOk};
+ghost use Rattle.std.specs.Prelude.{◌≡◌, ◌≢◌, ◌<◌, ◌≤◌, length};
 ghost use Rattle.lc_census.specs.Counting.{AnswersCount};
 ghost use Rattle.lc_census.specs.declared.counting.CensusFault.TheVariants.{Memory};
-ghost use Rattle.lc_census.specs.Limits.{buffer_len, max_turns};
+ghost use Rattle.lc_census.specs.Limits.{max_turns};
+ghost use Rattle.lc_io.specs.Buffers.{buffer_len};
 
 use crate::census::Census;
 use crate::line_count::Count;
-use crate::source::Source;
+use lc_io::{Source, new_buffer};
 use std::alloc::{AllocError, Global};
 
 /// Why there is no count. The reader has then given what it gave.
@@ -28,10 +29,7 @@ impl From<AllocError> for CensusFault {
     }
 }
 
-/// The length in bytes of the buffer of `count` and `count_within`, and the greatest that `count_in` takes.
-pub const BUFFER_LEN: usize = 65_536;
-
-/// The turns of `count`, and the most that `count_within` and `count_in` take: 2^32.
+/// The turns of `count`, and the most that `count_within` and `count_source` take: 2^32.
 pub const MAX_TURNS: u64 = 4_294_967_296;
 
 /// Counts what the reader gives up to its end, in at most `turns` reads into the caller's buffer.
@@ -41,9 +39,9 @@ pub const MAX_TURNS: u64 = 4_294_967_296;
 /// ```
 /// let mut buffer = new_buffer(alloc)?;
 /// let mut reader = StdSource(fs::open(rt, "notes.txt")?);
-/// let count = count_in(&mut buffer, &mut reader, MAX_TURNS);
+/// let count = count_source(&mut buffer, &mut reader, MAX_TURNS);
 /// ```
-pub fn count_in<S: Source>(
+pub fn count_source<S: Source>(
     buffer: &mut [u8],
     reader: &mut S,
     turns: u64,
@@ -84,7 +82,7 @@ pub fn count_within<S: Source>(
     ensures { AnswersCount S.may_give buffer_len turns reader.old result reader.new }
 {
     let mut buffer = new_buffer(alloc)?;
-    count_in(&mut buffer, reader, turns)
+    count_source(&mut buffer, reader, turns)
 }
 
 /// Counts what the reader gives up to its end, in at most 2^32 reads of up to 65,536 bytes.
@@ -97,11 +95,4 @@ pub fn count<S: Source>(alloc: Global, reader: &mut S) -> Result<Count, CensusFa
     ensures { AnswersCount S.may_give buffer_len max_turns reader.old result reader.new }
 {
     count_within(alloc, reader, MAX_TURNS)
-}
-
-/// A buffer of 65,536 bytes for reads.
-pub fn new_buffer(alloc: Global) -> Result<Vec<u8>, AllocError>
-    ensures { IfOk result (λ buffer. vec_len buffer ≡ buffer_len) }
-{
-    Ok(vec![in alloc; 0u8; BUFFER_LEN]?)
 }

@@ -1,27 +1,24 @@
 //! What is asked, as on a command line.
 
 use crate::sketch::content;
-use lc_level::TopRules;
-use lc_rules::{IgnoreFile, RuleFault};
+use lc_level::{Filters, OnlyPaths, RuleText, RulesFileFault, read_rule_text};
 use std::alloc::{AllocError, Global};
-use std::sync::Arc;
 
 /// What is asked of a walk or of a directory's work.
 #[derive(Drop)]
 pub struct Asked<'a> {
-    pub archive: bool,
     pub files: bool,
     pub left_out: bool,
     pub max_dirs: u32,
-    pub without: Vec<&'a str>,
-    pub only: Vec<&'a [u8]>,
-    exclude: Option<Vec<u8>>,
-    /// The patterns of `--exclude` and of `--include`, each with a line feed behind it.
-    excluded: Vec<u8>,
-    included: Vec<u8>,
-    pub no_ignore: bool,
     /// Each word has a meaning.
     pub is_known: bool,
+    exclude_from: Option<Vec<u8>>,
+    /// The patterns of `--exclude` and of `--include`, each with a line feed behind it.
+    exclude: Vec<u8>,
+    include: Vec<u8>,
+    no_ignore: bool,
+    without: Vec<&'a [u8]>,
+    only: Vec<&'a [u8]>,
 }
 
 impl<'a> Asked<'a> {
@@ -29,17 +26,16 @@ impl<'a> Asked<'a> {
     /// its bytes, as in a sketch. Up to 100 directories are taken.
     pub fn read(alloc: Global, words: &'a str) -> Result<Asked<'a>, AllocError> {
         let mut asked = Asked {
-            archive: false,
             files: false,
             left_out: false,
             max_dirs: 100,
+            is_known: true,
+            exclude_from: None,
+            exclude: Vec::new(alloc),
+            include: Vec::new(alloc),
+            no_ignore: false,
             without: Vec::new(alloc),
             only: Vec::new(alloc),
-            exclude: None,
-            excluded: Vec::new(alloc),
-            included: Vec::new(alloc),
-            no_ignore: false,
-            is_known: true,
         };
         for word in words.split_ascii_whitespace() {
             asked.put(alloc, word)?;
@@ -51,8 +47,6 @@ impl<'a> Asked<'a> {
         let (option, value) = word.split_once('=').unwrap_or((word, ""));
         if !option.starts_with('-') {
             self.only.push(word.as_bytes())?;
-        } else if option == "--archive" {
-            self.archive = true;
         } else if option == "--files" {
             self.files = true;
         } else if option == "--left-out" {
@@ -60,13 +54,13 @@ impl<'a> Asked<'a> {
         } else if option == "--max-dirs" {
             self.max_dirs = value.parse::<u32>().unwrap_or(0);
         } else if option == "--without" {
-            self.without.push(value)?;
+            self.without.push(value.as_bytes())?;
         } else if option == "--exclude-from" {
-            self.exclude = Some(content(alloc, value)?);
+            self.exclude_from = Some(content(alloc, value)?);
         } else if option == "--exclude" {
-            push_line(&mut self.excluded, value)?;
+            push_line(&mut self.exclude, value)?;
         } else if option == "--include" {
-            push_line(&mut self.included, value)?;
+            push_line(&mut self.include, value)?;
         } else if option == "--no-ignore" {
             self.no_ignore = true;
         } else {
@@ -75,36 +69,23 @@ impl<'a> Asked<'a> {
         Ok(())
     }
 
-    /// The exclude file, if there is one.
-    pub fn exclude_file(
-        &self,
-        alloc: Global,
-    ) -> Result<Option<Arc<IgnoreFile, Global>>, AllocError> {
-        match &self.exclude {
-            Some(rules) => Ok(Some(rule_file(alloc, rules)?)),
-            None => Ok(None),
+    /// The filters that are asked for.
+    pub fn filters(&self, alloc: Global) -> Result<Filters<'_>, AllocError> {
+        let mut without = Vec::new(alloc);
+        for word in &self.without {
+            without.push(word.to_vec(alloc)?)?;
         }
-    }
-
-    /// The patterns of `--exclude`, if there are some.
-    pub fn command_line(
-        &self,
-        alloc: Global,
-    ) -> Result<Option<Arc<IgnoreFile, Global>>, AllocError> {
-        some_rules(alloc, &self.excluded)
-    }
-
-    /// The patterns of `--include`, if there are some.
-    pub fn include(&self, alloc: Global) -> Result<Option<Arc<IgnoreFile, Global>>, AllocError> {
-        some_rules(alloc, &self.included)
-    }
-
-    /// The rules for the whole tree, besides those of its own files.
-    pub fn top_rules(&self, alloc: Global) -> Result<TopRules, AllocError> {
-        Ok(TopRules {
-            exclude: self.exclude_file(alloc)?,
-            command_line: self.command_line(alloc)?,
+        let exclude_from = match &self.exclude_from {
+            Some(rules) => Some(rule_text(alloc, rules)?),
+            None => None,
+        };
+        Ok(Filters {
+            exclude_from,
+            exclude: some_rules(alloc, &self.exclude)?,
+            include: some_rules(alloc, &self.include)?,
             no_ignore: self.no_ignore,
+            without,
+            only: OnlyPaths::new(alloc, &self.only)?,
         })
     }
 }
@@ -114,17 +95,20 @@ fn push_line(text: &mut Vec<u8>, line: &str) -> Result<(), AllocError> {
     text.extend_from_slice(b"\n")
 }
 
-fn rule_file(alloc: Global, rules: &[u8]) -> Result<Arc<IgnoreFile, Global>, AllocError> {
-    match IgnoreFile::read(alloc, rules) {
-        Ok(file) => Ok(Arc::new(alloc, file)?),
-        Err(RuleFault::TooLong) | Err(RuleFault::Memory) => Err(AllocError),
+fn rule_text(alloc: Global, rules: &[u8]) -> Result<RuleText, AllocError> {
+    let mut file = rules;
+    match read_rule_text(alloc, &mut file) {
+        Ok(text) => Ok(text),
+        Err(RulesFileFault::Read) | Err(RulesFileFault::TooLong) | Err(RulesFileFault::Memory) => {
+            Err(AllocError)
+        }
     }
 }
 
 /// The rules of a text that is not empty.
-fn some_rules(alloc: Global, rules: &[u8]) -> Result<Option<Arc<IgnoreFile, Global>>, AllocError> {
+fn some_rules(alloc: Global, rules: &[u8]) -> Result<Option<RuleText>, AllocError> {
     if rules.is_empty() {
         return Ok(None);
     }
-    Ok(Some(rule_file(alloc, rules)?))
+    Ok(Some(rule_text(alloc, rules)?))
 }

@@ -1,10 +1,7 @@
 pub mod LinesOf
-pub mod Taking
 pub mod Plain
 pub mod Appended
 pub mod ShellWords
 pub mod DotsDropped
 pub mod ReadBack
 pub mod Clear
-pub mod InPieces
-pub mod KnownWrites

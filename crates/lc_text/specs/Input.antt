@@ -1,10 +1,10 @@
 -- An input that is read whole.
 use Rattle.std.specs.Prelude.{ℕ, List, Result, Ok, Err, Vec}
 use Rattle.std.specs.Global.{Global}
-use Rattle.lc_census.specs.Reads.{Answer}
-use Rattle.lc_census.specs.Whole.{AnswersWhole}
-use Rattle.lc_census.specs.declared.whole.WholeFault.{WholeFault}
-use Rattle.lc_census.specs.declared.whole.WholeFault.TheVariants.{Read, TooLong, Memory}
+use Rattle.lc_io.specs.Reads.{Answer}
+use Rattle.lc_io.specs.Whole.{AnswersWhole}
+use Rattle.lc_io.specs.declared.whole.WholeFault.{WholeFault}
+use Rattle.lc_io.specs.declared.whole.WholeFault.TheVariants.{Read, TooLong, Memory}
 
 -- the most bytes of an input
 abbrev pub max_input : ℕ

@@ -8,9 +8,5 @@ pub mod Quoting
 pub mod DotsBefore
 pub mod ShellWords
 pub mod Input
-pub mod Writes
-pub mod Pieces
-pub mod Blocks
-pub mod TrialWrites
 pub mod CheckFaults
 pub mod Names

@@ -4,8 +4,7 @@ ghost use Rattle.std.specs.Prelude.{◌≡◌};
 ghost use Rattle.lc_text.specs.CheckFaults.{input_fault, rules_fault, print_fault};
 ghost use Rattle.lc_text.specs.declared.check_fault.CheckFault.TheVariants.{Memory};
 
-use crate::printing::PrintFault;
-use lc_census::WholeFault;
+use lc_io::{PrintFault, WholeFault};
 use lc_rules::RuleFault;
 use std::alloc::AllocError;
 use thiserror::Error;

@@ -2,7 +2,7 @@
 
 ghost use Rattle.lc_text.specs.Input.{ReadsInput};
 
-use lc_census::{Source, WholeFault, new_buffer, read_whole};
+use lc_io::{Source, WholeFault, new_buffer, read_whole};
 use std::alloc::Global;
 
 /// The most bytes of an input: 16 MiB.

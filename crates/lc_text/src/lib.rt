@@ -1,17 +1,14 @@
-//! What all that `lc` prints shares: where a text is written and how, and how paths and rules are printed.
+//! What all that `lc` prints shares: how paths and rules are printed.
 //!
-//! - `sink`: where text is written; `printing`: a text is written whole, or why not; `blocks`: a text is written as it is made
 //! - `escaping`: how paths are printed; `visible`: how they are shown in a terminal; `style`: the one or the other
 //! - `quoting`: how a shell takes a text for one argument
 //! - `places`: where a rule is; `name`: a path or an extension with what is printed before and after it
 //! - `input`: an input of paths, read whole; `lines`, `path_line`: its paths, and the path of a line; `check_fault`: why its paths were not
 //!   answered
 //! - `outcome`: whether what was written shows an error
-//! - `trials`: a writer for tests
 //! - `laws`: what is true of the definitions that the contracts cite
 #![tactic(auto)]
 
-mod blocks;
 mod check_fault;
 mod escaping;
 mod input;
@@ -21,27 +18,20 @@ mod name;
 mod outcome;
 mod path_line;
 mod places;
-mod printing;
 mod quoting;
-mod sink;
 mod style;
-pub mod trials;
 mod visible;
 
-pub use blocks::{BLOCK_SIZE, Block};
 pub use check_fault::CheckFault;
 pub use escaping::{escape, push_escaped, push_path};
 pub use input::{MAX_INPUT, read_input};
-pub use laws::{
-    a_shell_reads_what_was_quoted, a_vector_takes_the_text, dots_before_a_path_are_dropped,
-};
+pub use laws::{a_shell_reads_what_was_quoted, dots_before_a_path_are_dropped};
+pub use lc_io::{BLOCK_SIZE, Block, PrintFault, Sink, StdSink, print};
 pub use lines::{PathEnd, split_path};
 pub use name::{Name, push_name, push_visible_name};
 pub use outcome::Outcome;
 pub use path_line::{is_bad_path, is_top, split_slash, undotted};
 pub use places::{push_rule_source, source_directory, source_name};
-pub use printing::{PrintFault, print};
 pub use quoting::push_quoted;
-pub use sink::{Sink, StdSink};
 pub use style::{PathFormat, PathStyle, push_styled, push_styled_path};
 pub use visible::{push_visible, push_visible_path};

@@ -1,11 +1,10 @@
 -- One bit of a word as a Bool, through each operation.
-use Rattle.std.proofs.Common.{◌≡◌, ℕ, zero, suc, ◌+◌, ◌-◌, ◌*◌, ◌/◌, ◌%◌, ◌^◌, ◌<◌, min, max, Bool, true, false, not, ◌&&◌, ◌||◌, ◌==◌}
-use Rattle.std.proofs.Common.{List, get_or, cond, T, ◌⊎◌, inl, inr, refl, sym, ap, ◌∙◌, subst, arith, mod-lt, zero-lt-suc}
+use Rattle.std.proofs.Common.{◌≡◌, ℕ, zero, suc, ◌+◌, ◌-◌, ◌*◌, ◌/◌, ◌%◌, ◌^◌, ◌<◌, min, max, Bool, true, false, ◌&&◌, ◌||◌, ◌==◌}
+use Rattle.std.proofs.Common.{List, get_or, cond, refl, sym, ap, ◌∙◌, subst, arith}
 use Rattle.std.proofs.Common.{le_of_suc-le-suc, not-suc-le-zero, mul_assoc}
 use Rattle.std.specs.Int.{bit_at}
-use Rattle.std.proofs.lemmas.Nat.Bits.{bit_at_and, bit_at_or, bit_at_xor}
+use Rattle.std.proofs.lemmas.Nat.Bits.{bit_at-lt, bit_at-pow_other, bit_at-zero, bit_at_and, bit_at_or, bit_at_xor}
 use Rattle.std.proofs.lemmas.Simd.{bit_mask_l}
-use Rattle.std.proofs.lemmas.Bool.{cases_order}
 use lib.Bits.{bit_and, bit_or, bit_xor, shifted_even}
 use lib.Pow.{field, mod-mod-pow, shr-shr, shl-shr, pow-add}
 use lib.Lanes.{mask_l}
@@ -18,15 +17,11 @@ bit_cases P p q zero h = p
 bit_cases P p q (suc zero) h = q
 bit_cases P p q (suc (suc r)) h = absurd (not-suc-le-zero (le_of_suc-le-suc (le_of_suc-le-suc h)))
 
--- a bit is below 2
-pub bit_lt : (n i : ℕ) → bit_at n i < 2
-bit_lt n i = mod-lt (n / 2 ^ i) (zero-lt-suc 1)
-
 -- what holds of all pairs of 0 and 1 holds of two bits
 pub two_bits : (P : ℕ → ℕ → Type 0) → P 0 0 → P 0 1 → P 1 0 → P 1 1 → (a b i : ℕ) → P (bit_at a i) (bit_at b i)
 two_bits P p q r s a b i =
-    bit_cases (λ x. P x (bit_at b i)) (bit_cases (P 0) p q (bit_at b i) (bit_lt b i)) (bit_cases (P 1) r s (bit_at b i) (bit_lt b i))
-    (bit_at a i) (bit_lt a i)
+    bit_cases (λ x. P x (bit_at b i)) (bit_cases (P 0) p q (bit_at b i) (bit_at-lt b i)) (bit_cases (P 1) r s (bit_at b i) (bit_at-lt b i))
+    (bit_at a i) (bit_at-lt a i)
 
 -- a bit of a conjunction
 pub test-and : (a b i : ℕ) → test (bit_and a b) i ≡ (test a i && test b i)
@@ -89,35 +84,6 @@ test-mask_l ms i = ap (λ x. x == 1) (bit_mask_l ms i) ∙ back (get_or ms i fal
     back true = refl
     back false = refl
 
--- a fact of each number below n, by computation
-abbrev pub upto : (ℕ → Bool) → ℕ → Bool
-upto p zero = true
-upto p (suc n) = p n && upto p n
-
-both : (a b : Bool) → T (a && b) → T a × T b
-both true b h = (tt, h)
-both false b h = absurd h
-
--- a test of all numbers below a bound holds of each
-pub upto_sound : (p : ℕ → Bool) (n : ℕ) → T (upto p n) → (i : ℕ) → i < n → T (p i)
-upto_sound p zero h i lt = absurd (not-suc-le-zero lt)
-upto_sound p (suc n) h i lt = go (upto_sound p n (both (p n) (upto p n) h).1 i) (cases_order i n)
-  where
-    go : (i < n → T (p i)) → (i ≡ n) ⊎ ((i < n) ⊎ (n < i)) → T (p i)
-    go below (inl e) = subst (λ x. T (p x)) (sym e) (both (p n) (upto p n) h).0
-    go below (inr (inl l)) = below l
-    go below (inr (inr g)) = let no : ⊥ = omega arith in absurd no
-
-abbrev pub same : Bool → Bool → Bool
-same a b = not (xor a b)
-
--- Bools that compare equal are equal
-pub same_is : (a b : Bool) → T (same a b) → a ≡ b
-same_is true true h = refl
-same_is false false h = refl
-same_is true false h = absurd h
-same_is false true h = absurd h
-
 -- a Bool as a word
 pub test-byte_zero : (c : Bool) → test (bool_byte c) 0 ≡ c
 unfolding test
@@ -125,10 +91,15 @@ test-byte_zero true = refl
 test-byte_zero false = refl
 
 -- a Bool as a word has no bit but the lowest
-pub test-byte_suc : (c : Bool) (i : ℕ) → i < 64 → test (bool_byte c) (suc i) ≡ false
+pub test-byte_suc : (c : Bool) (i : ℕ) → test (bool_byte c) (suc i) ≡ false
 unfolding test
-test-byte_suc true i h = same_is _ _ (upto_sound (λ j. same (test 1 (suc j)) false) 64 tt i h)
-test-byte_suc false i h = same_is _ _ (upto_sound (λ j. same (test 0 (suc j)) false) 64 tt i h)
+test-byte_suc true i = ap (λ n. n == 1) (bit_at-pow_other 0 (suc i) (λ e. let no : ⊥ = omega (arith, e) in no))
+test-byte_suc false i = ap (λ n. n == 1) (bit_at-zero (suc i))
+
+-- no bit of 0 is set
+pub test-zero : (i : ℕ) → test 0 i ≡ false
+unfolding test
+test-zero i = ap (λ n. n == 1) (bit_at-zero i)
 
 -- the highest bit is the quotient by 2 ^ 63
 pub top_bit : (x : ℕ) → x < 2 ^ 64 → (x / 2 ^ 63 == 1) ≡ test x 63

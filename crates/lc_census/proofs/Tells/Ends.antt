@@ -1,10 +1,9 @@
 -- The scan counts the ends of the cutting.
-use Rattle.std.proofs.Common.{add_assoc, ◌≡◌, ℕ, ◌+◌, Bool, true, false, ◌&&◌, List, [], ◌∷◌, refl, sym, ap, ap₂, ◌∙◌, arith, zero-add}
+use Rattle.std.proofs.Common.{◌≡◌, ℕ, ◌+◌, Bool, true, false, ◌&&◌, List, [], ◌∷◌, refl, sym, ap, ap₂, ◌∙◌, arith, zero-add}
 use Rattle.lc_census.specs.declared.scan.Scan.{Scan}
 use Rattle.lc_census.specs.Bytes.{is_lf, is_cr, one_if}
 use Rattle.lc_census.specs.Scan.{after, after_all}
 use Rattle.lc_census.specs.Cutting.{End, lf, cr_lf, cr, Line, Cutting, starts_with_lf, same_end}
-use Rattle.lc_census.specs.Bytes.{is_lf, is_cr, one_if}
 use Rattle.lc_census.specs.TheCutting.{line, cut, before, with_cr, with_text}
 use Rattle.lc_census.proofs.OneCutting.{before-text, by_kind}
 use Rattle.std.proofs.Math.Bool.{and-true}
@@ -29,72 +28,55 @@ text_ends : (end : End) (x : ℕ) (ls : List Line) (r : List ℕ) → ends_of en
 text_ends end x [] r = refl
 text_ends end x (l ∷ ls) r = refl
 
-swap_three : (a b c : ℕ) → a + (b + c) ≡ b + (a + c)
-swap_three a b c = omega arith
+-- what a CR before lines does to their ends
+record IsAfterCr (old new : List Line) : Type 0 where
+  pub lfs : ends_of lf new + one_if (starts_with_lf old) ≡ ends_of lf old
+  pub crlfs : ends_of cr_lf new ≡ ends_of cr_lf old + one_if (starts_with_lf old)
+  pub crs : ends_of cr new + one_if (starts_with_lf old) ≡ 1 + ends_of cr old
 
-move : (a b c : ℕ) → a + b + c ≡ a + c + b
-move a b c = omega arith
-
--- CR before lines
-cr_lf_ends : (ls : List Line) → lf_ends (with_cr (starts_with_lf ls) ls) ≡ lf_ends ls
-cr_lf_ends [] = refl
-cr_lf_ends (l ∷ ls) = go l.text l.end
+after_cr : (ls : List Line) → IsAfterCr ls (with_cr (starts_with_lf ls) ls)
+after_cr [] = record { lfs = refl; crlfs = refl; crs = refl }
+after_cr (l ∷ ls) = go l.text l.end
   where
-    go : (t : List ℕ) (e : End) → lf_ends (with_cr (starts_with_lf (line t e ∷ ls)) (line t e ∷ ls)) ≡ lf_ends (line t e ∷ ls)
-    go [] lf = omega arith
-    go [] cr_lf = omega arith
-    go [] cr = omega arith
-    go (y ∷ t) e = omega arith
-
-cr_cr_ends : (ls : List Line) → cr_ends (with_cr (starts_with_lf ls) ls) ≡ 1 + cr_ends ls
-cr_cr_ends [] = refl
-cr_cr_ends (l ∷ ls) = go l.text l.end
-  where
-    go : (t : List ℕ) (e : End) → cr_ends (with_cr (starts_with_lf (line t e ∷ ls)) (line t e ∷ ls)) ≡ 1 + cr_ends (line t e ∷ ls)
-    go [] lf = omega arith
-    go [] cr_lf = omega arith
-    go [] cr = omega arith
-    go (y ∷ t) e = omega arith
-
-cr_crlf_ends : (ls : List Line) → ends_of cr_lf (with_cr (starts_with_lf ls) ls) ≡ ends_of cr_lf ls + one_if (starts_with_lf ls)
-cr_crlf_ends [] = refl
-cr_crlf_ends (l ∷ ls) = go l.text l.end
-  where
-    go : (t : List ℕ) (e : End)
-        → ends_of cr_lf (with_cr (starts_with_lf (line t e ∷ ls)) (line t e ∷ ls)) ≡ ends_of cr_lf (line t e ∷ ls) + one_if
-        (starts_with_lf (line t e ∷ ls))
-    go [] lf = omega arith
-    go [] cr_lf = omega arith
-    go [] cr = omega arith
-    go (y ∷ t) e = omega arith
+    go : (t : List ℕ) (e : End) → IsAfterCr (line t e ∷ ls) (with_cr (starts_with_lf (line t e ∷ ls)) (line t e ∷ ls))
+    go [] lf = record { lfs = omega arith; crlfs = omega arith; crs = omega arith }
+    go [] cr_lf = record { lfs = omega arith; crlfs = omega arith; crs = omega arith }
+    go [] cr = record { lfs = omega arith; crlfs = omega arith; crs = omega arith }
+    go (y ∷ t) e = record { lfs = omega arith; crlfs = omega arith; crs = omega arith }
 
 -- LF
 lf_step : (d : Cutting) (x : ℕ) → lf_ends (before x d).lines ≡ one_if (is_lf x) + lf_ends d.lines
 lf_step d = by_kind (λ x. lf_ends (before x d).lines ≡ one_if (is_lf x) + lf_ends d.lines)
     (omega arith)
-    (cr_lf_ends d.lines ∙ omega arith)
-    (λ x e f. ap (λ c. lf_ends c.lines) (before-text x d e f) ∙ ap₂ (λ a b. a + b) (text_ends lf x d.lines d.rest)
-    (text_ends cr_lf x d.lines d.rest) ∙ sym (zero-add _) ∙ ap (λ b. one_if b + lf_ends d.lines) (sym e))
+    (omega (arith, (after_cr d.lines).lfs, (after_cr d.lines).crlfs))
+    (λ x e f. ap (λ c. lf_ends c.lines) (before-text x d e f) ∙ omega (
+      arith,
+      text_ends lf x d.lines d.rest,
+      text_ends cr_lf x d.lines d.rest,
+      ap one_if e,
+    ))
 
 -- a scan counts the lines that end with a line feed
 pub lf_run : (s : Scan) (xs : List ℕ) → (after_all s xs).lf ≡ s.lf + lf_ends (cut xs).lines
 lf_run s [] = omega arith
-lf_run s (x ∷ xs) = lf_run (after s x) xs ∙ add_assoc s.lf (one_if (is_lf x)) (lf_ends (cut xs).lines)
-    ∙ ap (λ n. s.lf + n) (sym (lf_step (cut xs) x))
+lf_run s (x ∷ xs) = omega (arith, lf_run (after s x) xs, lf_step (cut xs) x)
 
 -- CR
 cr_step : (d : Cutting) (x : ℕ) → cr_ends (before x d).lines ≡ one_if (is_cr x) + cr_ends d.lines
 cr_step d = by_kind (λ x. cr_ends (before x d).lines ≡ one_if (is_cr x) + cr_ends d.lines)
     (omega arith)
-    (cr_cr_ends d.lines)
-    (λ x e f. ap (λ c. cr_ends c.lines) (before-text x d e f) ∙ ap₂ (λ a b. a + b) (text_ends cr x d.lines d.rest)
-    (text_ends cr_lf x d.lines d.rest) ∙ sym (zero-add _) ∙ ap (λ b. one_if b + cr_ends d.lines) (sym f))
+    (omega (arith, (after_cr d.lines).crs, (after_cr d.lines).crlfs))
+    (λ x e f. ap (λ c. cr_ends c.lines) (before-text x d e f) ∙ omega (
+      arith,
+      text_ends cr x d.lines d.rest,
+      text_ends cr_lf x d.lines d.rest,
+      ap one_if f,
+    ))
 
 -- a scan counts those that end with a carriage return alone or before a line feed
 pub cr_run : (s : Scan) (xs : List ℕ) → (after_all s xs).cr ≡ s.cr + cr_ends (cut xs).lines
 cr_run s [] = omega arith
-cr_run s (x ∷ xs) = cr_run (after s x) xs ∙ add_assoc s.cr (one_if (is_cr x)) (cr_ends (cut xs).lines)
-    ∙ ap (λ n. s.cr + n) (sym (cr_step (cut xs) x))
+cr_run s (x ∷ xs) = omega (arith, cr_run (after s x) xs, cr_step (cut xs) x)
 
 -- CR LF: an LF that stands alone at the front, where a CR stood before it, is one more
 abbrev pub crlf_ends : Bool → List Line → ℕ
@@ -120,7 +102,7 @@ crlf_step : (d : Cutting) (a : Bool) (x : ℕ)
     → crlf_ends a (before x d).lines ≡ one_if (is_lf x && a) + crlf_ends (is_cr x) d.lines
 crlf_step d a = by_kind (λ x. crlf_ends a (before x d).lines ≡ one_if (is_lf x && a) + crlf_ends (is_cr x) d.lines)
     (omega (arith, ap one_if (and-true a)))
-    (omega (arith, cr_crlf_ends d.lines, and_false a (starts_with_lf (with_cr (starts_with_lf d.lines) d.lines)) (cr_starts d.lines)))
+    (omega (arith, (after_cr d.lines).crlfs, and_false a (starts_with_lf (with_cr (starts_with_lf d.lines) d.lines)) (cr_starts d.lines)))
     (λ x e f. ap (λ c. crlf_ends a c.lines) (before-text x d e f)
     ∙ ap₂ (λ p q. p + q) (text_ends cr_lf x d.lines d.rest)
     (and_false a (starts_with_lf (with_text x d.lines d.rest).lines) (text_starts x d.lines d.rest))
@@ -129,6 +111,4 @@ crlf_step d a = by_kind (λ x. crlf_ends a (before x d).lines ≡ one_if (is_lf 
 -- a scan counts those that end with both
 pub crlf_run : (s : Scan) (xs : List ℕ) → (after_all s xs).crlf ≡ s.crlf + crlf_ends s.after_cr (cut xs).lines
 crlf_run s [] = omega (arith, and_false s.after_cr false refl)
-crlf_run s (x ∷ xs) =
-    crlf_run (after s x) xs ∙ add_assoc s.crlf (one_if (is_lf x && s.after_cr)) (crlf_ends (is_cr x) (cut xs).lines)
-    ∙ ap (λ n. s.crlf + n) (sym (crlf_step (cut xs) s.after_cr x))
+crlf_run s (x ∷ xs) = omega (arith, crlf_run (after s x) xs, crlf_step (cut xs) s.after_cr x)

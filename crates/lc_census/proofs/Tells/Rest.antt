@@ -3,84 +3,71 @@ use Rattle.std.proofs.Common.{◌≡◌, ℕ, Bool, true, false, not, ◌&&◌, 
 use Rattle.lc_census.specs.declared.scan.Scan.{Scan}
 use Rattle.lc_census.specs.Bytes.{is_end, is_space}
 use Rattle.lc_census.specs.Scan.{after, after_all}
-use Rattle.lc_census.specs.Cutting.{lf, Line, Cutting, is_empty, starts_with_lf}
-use Rattle.lc_census.specs.Bytes.{is_end, is_space}
+use Rattle.lc_census.specs.Cutting.{Line, Cutting, is_empty, starts_with_lf}
 use Rattle.lc_census.specs.Census.{is_blank_text}
 use Rattle.lc_census.specs.Fed.{rest_after}
-use Rattle.lc_census.specs.TheCutting.{line, cut, before, with_cr, with_text}
+use Rattle.lc_census.specs.TheCutting.{cut, before, with_cr, with_text}
 use Rattle.lc_census.proofs.OneCutting.{before-text, by_kind}
-use Rattle.std.proofs.Math.Bool.{and-true, or-true}
+use Rattle.std.proofs.Math.Bool.{and-true, and_assoc, or-true}
 
--- whether the rest goes on and is blank, where the line before the bytes does and is
-abbrev pub rest_goes_on : Bool → List Line → List ℕ → Bool
-rest_goes_on b [] r = b || not (is_empty r)
-rest_goes_on b (l ∷ ls) r = not (is_empty r)
+-- what f says of a rest, where b is known of the line before the bytes; the end of a line makes that fresh
+module _ (f : Bool → List ℕ → Bool) (fresh : Bool) where
+  abbrev pub rest_by : Bool → List Line → List ℕ → Bool
+  rest_by b [] r = f b r
+  rest_by b (l ∷ ls) r = f fresh r
 
-abbrev pub rest_blank : Bool → List Line → List ℕ → Bool
-rest_blank b [] r = b && is_blank_text r
-rest_blank b (l ∷ ls) r = is_blank_text r
+  pub after_end : (ls : List Line) (r : List ℕ) → f fresh r ≡ rest_by fresh ls r
+  after_end [] r = refl
+  after_end (l ∷ ls) r = refl
 
-goes_after_end : (b : Bool) (ls ms : List Line) (l : Line) (r : List ℕ) → rest_goes_on b (l ∷ ms) r ≡ rest_goes_on false ls r
-goes_after_end b [] ms l r = refl
-goes_after_end b (m ∷ ls) ms l r = refl
+  after_cr : (b : Bool) (ls : List Line) (r : List ℕ) → rest_by b (with_cr (starts_with_lf ls) ls) r ≡ rest_by fresh ls r
+  after_cr b [] r = refl
+  after_cr b (l ∷ ls) r = go (starts_with_lf (l ∷ ls))
+    where
+      go : (t : Bool) → rest_by b (with_cr t (l ∷ ls)) r ≡ f fresh r
+      go true = refl
+      go false = refl
 
-goes_cr : (b : Bool) (ls : List Line) (r : List ℕ) → rest_goes_on b (with_cr (starts_with_lf ls) ls) r ≡ rest_goes_on false ls r
-goes_cr b [] r = refl
-goes_cr b (l ∷ ls) r = go (starts_with_lf (l ∷ ls))
-  where
-    go : (t : Bool) → rest_goes_on b (with_cr t (l ∷ ls)) r ≡ not (is_empty r)
-    go true = refl
-    go false = refl
+  after_text : (b c : Bool) (x : ℕ) → ((r : List ℕ) → f b (x ∷ r) ≡ f c r) → (ls : List Line) (r : List ℕ)
+      → rest_by b (with_text x ls r).lines (with_text x ls r).rest ≡ rest_by c ls r
+  after_text b c x same [] r = same r
+  after_text b c x same (l ∷ ls) r = refl
 
-goes_text : (b : Bool) (x : ℕ) (ls : List Line) (r : List ℕ)
-    → rest_goes_on b (with_text x ls r).lines (with_text x ls r).rest ≡ rest_goes_on true ls r
-goes_text b x [] r = or-true b
-goes_text b x (l ∷ ls) r = refl
+-- whether there is a rest, where the line before the bytes goes on or not
+abbrev pub goes : Bool → List ℕ → Bool
+goes b r = b || not (is_empty r)
 
 goes_step : (d : Cutting) (b : Bool) (x : ℕ)
-    → rest_goes_on b (before x d).lines (before x d).rest ≡ rest_goes_on (not (is_end x)) d.lines d.rest
-goes_step d b = by_kind (λ x. rest_goes_on b (before x d).lines (before x d).rest ≡ rest_goes_on (not (is_end x)) d.lines d.rest)
-    (goes_after_end b d.lines d.lines (line [] lf) d.rest)
-    (goes_cr b d.lines d.rest)
-    (λ x e f. ap (λ c. rest_goes_on b c.lines c.rest) (before-text x d e f) ∙ goes_text b x d.lines d.rest
-    ∙ ap₂ (λ p q. rest_goes_on (not (p || q)) d.lines d.rest) (sym e) (sym f))
+    → rest_by goes false b (before x d).lines (before x d).rest ≡ rest_by goes false (not (is_end x)) d.lines d.rest
+goes_step d b =
+    by_kind (λ x. rest_by goes false b (before x d).lines (before x d).rest ≡ rest_by goes false (not (is_end x)) d.lines d.rest)
+    (after_end goes false d.lines d.rest) (after_cr goes false b d.lines d.rest)
+    (λ x e f. ap (λ c. rest_by goes false b c.lines c.rest) (before-text x d e f)
+    ∙ after_text goes false b true x (λ r. or-true b) d.lines d.rest
+    ∙ ap₂ (λ p q. rest_by goes false (not (p || q)) d.lines d.rest) (sym e) (sym f))
 
 -- whether the cutting has a rest is told by the mark
-pub goes_run : (b : Bool) (xs : List ℕ) → rest_after b xs ≡ rest_goes_on b (cut xs).lines (cut xs).rest
+pub goes_run : (b : Bool) (xs : List ℕ) → rest_after b xs ≡ rest_by goes false b (cut xs).lines (cut xs).rest
 goes_run true [] = refl
 goes_run false [] = refl
 goes_run b (x ∷ xs) = goes_run (not (is_end x)) xs ∙ sym (goes_step (cut xs) b x)
 
-blank_after_end : (b : Bool) (ls ms : List Line) (l : Line) (r : List ℕ) → rest_blank b (l ∷ ms) r ≡ rest_blank true ls r
-blank_after_end b [] ms l r = refl
-blank_after_end b (m ∷ ls) ms l r = refl
+-- whether a rest is blank, where the line before the bytes is or not
+abbrev pub is_blank_after : Bool → List ℕ → Bool
+is_blank_after b r = b && is_blank_text r
 
-rest_cr : (b : Bool) (ls : List Line) (r : List ℕ) → rest_blank b (with_cr (starts_with_lf ls) ls) r ≡ rest_blank true ls r
-rest_cr b [] r = refl
-rest_cr b (l ∷ ls) r = go (starts_with_lf (l ∷ ls))
-  where
-    go : (t : Bool) → rest_blank b (with_cr t (l ∷ ls)) r ≡ is_blank_text r
-    go true = refl
-    go false = refl
-
-rest_text : (b : Bool) (x : ℕ) (ls : List Line) (r : List ℕ)
-    → rest_blank b (with_text x ls r).lines (with_text x ls r).rest ≡ rest_blank (b && is_space x) ls r
-rest_text b x [] r = go b (is_space x) (is_blank_text r)
-  where
-    go : (b p q : Bool) → (b && (p && q)) ≡ ((b && p) && q)
-    go true p q = refl
-    go false p q = refl
-rest_text b x (l ∷ ls) r = refl
-
-rest_step : (d : Cutting) (b : Bool) (x : ℕ)
-    → rest_blank b (before x d).lines (before x d).rest ≡ rest_blank (is_end x || (b && is_space x)) d.lines d.rest
-rest_step d b = by_kind (λ x. rest_blank b (before x d).lines (before x d).rest ≡ rest_blank (is_end x || (b && is_space x)) d.lines d.rest)
-    (blank_after_end b d.lines d.lines (line [] lf) d.rest)
-    (rest_cr b d.lines d.rest)
-    (λ x e f. ap (λ c. rest_blank b c.lines c.rest) (before-text x d e f) ∙ rest_text b x d.lines d.rest
-    ∙ ap₂ (λ p q. rest_blank ((p || q) || (b && is_space x)) d.lines d.rest) (sym e) (sym f))
+rest_step : (d : Cutting) (b : Bool) (x : ℕ) → rest_by is_blank_after true b (before x d).lines (before x d).rest
+    ≡ rest_by is_blank_after true (is_end x || (b && is_space x)) d.lines d.rest
+rest_step d b =
+    by_kind (λ x. rest_by is_blank_after true b (before x d).lines (before x d).rest
+    ≡ rest_by is_blank_after true (is_end x || (b && is_space x)) d.lines d.rest)
+    (after_end is_blank_after true d.lines d.rest) (after_cr is_blank_after true b d.lines d.rest)
+    (λ x e f. ap (λ c. rest_by is_blank_after true b c.lines c.rest) (before-text x d e f)
+    ∙ after_text is_blank_after true b (b && is_space x) x (λ r. sym (and_assoc b (is_space x) (is_blank_text r))) d.lines d.rest
+    ∙ ap₂ (λ p q. rest_by is_blank_after true ((p || q) || (b && is_space x)) d.lines d.rest) (sym e) (sym f))
 
 -- whether that rest is blank is told by the scan
-pub rest_run : (s : Scan) (xs : List ℕ) → (after_all s xs).is_blank ≡ rest_blank s.is_blank (cut xs).lines (cut xs).rest
+pub rest_run : (s : Scan) (xs : List ℕ)
+    → (after_all s xs).is_blank ≡ rest_by is_blank_after true s.is_blank (cut xs).lines (cut xs).rest
 rest_run s [] = sym (and-true s.is_blank)
 rest_run s (x ∷ xs) = rest_run (after s x) xs ∙ sym (rest_step (cut xs) s.is_blank x)

@@ -1,6 +1,6 @@
 ghost use Rattle.std.specs.Prelude.{◌≤◌, length};
 
-use lc_census::{Census, CensusFault, Count, Eol, count_in};
+use lc_census::{Census, CensusFault, Count, Eol, count_source};
 
 fn counted_in_two(bytes: &[u8], place: usize) -> Count
     requires within { place ≤ length bytes.now }
@@ -26,7 +26,7 @@ fn counted_by_bytes(bytes: &[u8]) -> Count
 fn counted_by_reads(bytes: &[u8]) -> Result<Count, CensusFault> {
     let mut buffer = [0u8; 3];
     let mut rest = bytes;
-    count_in(&mut buffer, &mut rest, 1_000)
+    count_source(&mut buffer, &mut rest, 1_000)
 }
 
 /// What is shown, the bytes, their lines, how many of them are blank, and their class.

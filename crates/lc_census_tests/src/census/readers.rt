@@ -1,7 +1,7 @@
-use lc_census::trials::{Bytewise, Counted, Endless, Failing};
 use lc_census::{
-    CensusFault, Count, Eol, MAX_TURNS, Source, StdSource, count, count_in, count_within,
+    CensusFault, Count, Eol, MAX_TURNS, Source, StdSource, count, count_source, count_within,
 };
+use lc_tests::readers::{Bytewise, Counted, Endless, Failing};
 use std::alloc::{AllocError, Global};
 use std::io::{Error, ErrorKind, Read, Result as IoResult};
 use std::test::Fail;
@@ -52,7 +52,7 @@ fn answers_in<S: Source + Drop>(source: S, case: &Case) -> bool {
     let (_, _, want, reads) = *case;
     let mut buffer = [0u8; 16];
     let mut reader = Counted::new(source);
-    let found = count_in(&mut buffer, &mut reader, 1_000);
+    let found = count_source(&mut buffer, &mut reader, 1_000);
     found == want && reader.reads == reads
 }
 
@@ -186,7 +186,7 @@ fn only_interrupted_reads_are_tried_again(rt: HostRuntime) {
             period: *period,
             reads: 0,
         });
-        let found = count_in(&mut buffer, &mut reader, 1_000);
+        let found = count_source(&mut buffer, &mut reader, 1_000);
         assert!(&rt; found == *want && reader.0.reads == *reads, "{name}");
     }
 }

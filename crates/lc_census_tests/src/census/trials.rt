@@ -1,7 +1,7 @@
 //! What the readers for tests give, read by read.
 
-use lc_census::trials::{Bytewise, Counted, Endless, Failing};
 use lc_census::{Failed, Source};
+use lc_tests::readers::{Bytewise, Counted, Endless, Failing};
 
 /// The room of a read, at most 8 bytes, and what it gives.
 type Read = (usize, Result<&'static [u8], Failed>);

@@ -1,17 +1,18 @@
 ghost use Rattle.std.specs.Prelude.{◌≡◌, ◌<◌, length};
 
-use lc_census::trials::{Bytewise, Endless, Failing};
+use Reader::{AtOnce, ByByte, Fails, NoEnd};
 use lc_census::{Source, WholeFault, new_buffer, read_whole};
+use lc_tests::readers::{Bytewise, Endless, Failing};
 use std::alloc::AllocError;
 use std::test::Fail;
 
 /// How a reader gives its bytes: one a read, and then its end or a failure; as many as there is room for; or without an end.
 #[derive(Clone, Copy)]
 enum Reader {
-    Bytewise,
-    Failing,
-    Slice,
-    Endless,
+    ByByte,
+    Fails,
+    AtOnce,
+    NoEnd,
 }
 
 /// What is shown, the reader and its bytes, the limit, the answer, and the bytes that are left.
@@ -29,87 +30,24 @@ const TOO_LONG: Result<(), WholeFault> = Err(WholeFault::TooLong);
 const FAILED: Result<(), WholeFault> = Err(WholeFault::Read);
 
 const CASES: &[Case] = &[
-    ("no byte", Reader::Bytewise, b"", 3, Ok(()), b""),
-    ("some bytes", Reader::Bytewise, b"ab", 3, Ok(()), b"ab"),
-    ("at the limit", Reader::Bytewise, b"abc", 3, Ok(()), b"abc"),
-    (
-        "one byte past it",
-        Reader::Bytewise,
-        b"abcd",
-        3,
-        TOO_LONG,
-        b"abcd",
-    ),
-    (
-        "far past it",
-        Reader::Bytewise,
-        b"abcdefg",
-        3,
-        TOO_LONG,
-        b"abcd",
-    ),
-    (
-        "none allowed, none there",
-        Reader::Bytewise,
-        b"",
-        0,
-        Ok(()),
-        b"",
-    ),
-    ("none allowed", Reader::Bytewise, b"ab", 0, TOO_LONG, b"a"),
-    (
-        "a first read that fails",
-        Reader::Failing,
-        b"",
-        3,
-        FAILED,
-        b"",
-    ),
-    ("a second", Reader::Failing, b"a", 3, FAILED, b"a"),
-    (
-        "a failure at the limit",
-        Reader::Failing,
-        b"abc",
-        3,
-        FAILED,
-        b"abc",
-    ),
-    (
-        "a failure past it",
-        Reader::Failing,
-        b"abcd",
-        3,
-        TOO_LONG,
-        b"abcd",
-    ),
-    ("without an end", Reader::Endless, b"", 3, TOO_LONG, b"xxxx"),
-    (
-        "at the end",
-        Reader::Slice,
-        b"*.o\n!a.o",
-        8,
-        Ok(()),
-        b"*.o\n!a.o",
-    ),
-    (
-        "a byte before it",
-        Reader::Slice,
-        b"*.o\n!a.o",
-        7,
-        TOO_LONG,
-        b"*.o\n!a.o",
-    ),
-    (
-        "after a line",
-        Reader::Slice,
-        b"*.o\n!a.o",
-        4,
-        TOO_LONG,
-        b"*.o\n!",
-    ),
+    ("no byte", ByByte, b"", 3, Ok(()), b""),
+    ("some bytes", ByByte, b"ab", 3, Ok(()), b"ab"),
+    ("at the limit", ByByte, b"abc", 3, Ok(()), b"abc"),
+    ("one byte past it", ByByte, b"abcd", 3, TOO_LONG, b"abcd"),
+    ("far past it", ByByte, b"abcdefg", 3, TOO_LONG, b"abcd"),
+    ("none allowed, none there", ByByte, b"", 0, Ok(()), b""),
+    ("none allowed", ByByte, b"ab", 0, TOO_LONG, b"a"),
+    ("a first read that fails", Fails, b"", 3, FAILED, b""),
+    ("a second", Fails, b"a", 3, FAILED, b"a"),
+    ("a failure at the limit", Fails, b"abc", 3, FAILED, b"abc"),
+    ("a failure past it", Fails, b"abcd", 3, TOO_LONG, b"abcd"),
+    ("without an end", NoEnd, b"", 3, TOO_LONG, b"xxxx"),
+    ("at the end", AtOnce, b"*.o\n!a.o", 8, Ok(()), b"*.o\n!a.o"),
+    ("past it", AtOnce, b"*.o\n!a.o", 7, TOO_LONG, b"*.o\n!a.o"),
+    ("after a line", AtOnce, b"*.o\n!a.o", 4, TOO_LONG, b"*.o\n!"),
 ];
 
-const BY_A_NEW_BUFFER: Case = ("a new buffer", Reader::Slice, b"*.o\n", 4, Ok(()), b"*.o\n");
+const BY_A_NEW_BUFFER: Case = ("a new buffer", AtOnce, b"*.o\n", 4, Ok(()), b"*.o\n");
 
 /// Whether this is read of a reader, by a buffer that others used before.
 fn is_read_of<S: Source + Drop>(
@@ -137,10 +75,10 @@ fn is_read(buffer: &mut [u8], bytes: &mut Vec<u8>, case: &Case) -> Result<bool, 
 {
     let given = case.2;
     match case.1 {
-        Reader::Bytewise => is_read_of(buffer, bytes, Bytewise(given), case),
-        Reader::Failing => is_read_of(buffer, bytes, Bytewise(Failing(given)), case),
-        Reader::Slice => is_read_of(buffer, bytes, given, case),
-        Reader::Endless => is_read_of(buffer, bytes, Bytewise(Endless), case),
+        ByByte => is_read_of(buffer, bytes, Bytewise(given), case),
+        Fails => is_read_of(buffer, bytes, Bytewise(Failing(given)), case),
+        AtOnce => is_read_of(buffer, bytes, given, case),
+        NoEnd => is_read_of(buffer, bytes, Bytewise(Endless), case),
     }
 }
 

@@ -1,6 +1,6 @@
 //! Blocks of a text that are written as they fill up.
 
-use lc_text::trials::{Narrow, WhenFull};
+use lc_tests::writers::{Narrow, WhenFull};
 use lc_text::{BLOCK_SIZE, Block, PrintFault};
 use std::alloc::{AllocError, Global};
 use std::process::Abort;

@@ -1,6 +1,6 @@
 //! Writers of std that a signal interrupts.
 
-use lc_census::MAX_TRIES;
+use lc_io::MAX_TRIES;
 use lc_text::{PrintFault, StdSink, print};
 use std::alloc::{AllocError, Global};
 use std::io::{self, ErrorKind, Write};

@@ -1,6 +1,6 @@
 //! Where a rule stands, as it is printed.
 
-use lc_rules::RuleSource;
+use lc_rules::RuleSource::{self, CommandLine, ExcludeFrom, Gitignore, InfoExclude};
 use lc_text::{PathStyle, push_rule_source};
 use std::process::Abort;
 use std::test::Fail;
@@ -9,62 +9,50 @@ use std::test::Fail;
 type Case = (&'static str, &'static [u8], RuleSource, u32, &'static [u8]);
 
 const CASES: &[Case] = &[
-    (
-        "top",
-        b"a.log",
-        RuleSource::Gitignore(0),
-        1,
-        b".gitignore:1",
-    ),
+    ("top", b"a.log", Gitignore(0), 1, b".gitignore:1"),
     (
         "directory_of_the_path",
         b"src/gen",
-        RuleSource::Gitignore(1),
+        Gitignore(1),
         3,
         b"src/.gitignore:3",
     ),
     (
         "directory_further_up",
         b"a/b/c.c",
-        RuleSource::Gitignore(1),
+        Gitignore(1),
         10,
         b"a/.gitignore:10",
     ),
     (
         "two_directories",
         b"a/b/c.c",
-        RuleSource::Gitignore(2),
+        Gitignore(2),
         10,
         b"a/b/.gitignore:10",
     ),
     (
         "escaped",
         b"t\x01/a",
-        RuleSource::Gitignore(1),
+        Gitignore(1),
         2,
         b"t\\x01/.gitignore:2",
     ),
     (
         "git_info",
         b"notes.txt",
-        RuleSource::InfoExclude,
+        InfoExclude,
         2,
         b".git/info/exclude:2",
     ),
     (
         "exclude_file",
         b"d/x.bak",
-        RuleSource::ExcludeFrom,
+        ExcludeFrom,
         4_294_967_295,
         b"--exclude-from:4294967295",
     ),
-    (
-        "command_line",
-        b"d/x.bak",
-        RuleSource::CommandLine,
-        2,
-        b"--exclude:2",
-    ),
+    ("command_line", b"d/x.bak", CommandLine, 2, b"--exclude:2"),
 ];
 
 #[test]
@@ -81,13 +69,7 @@ fn places_of_rules(rt: HostRuntime) -> Result<(), Fail> {
 fn places_for_a_terminal(rt: HostRuntime) -> Result<(), Fail> {
     let mut text = Vec::new(rt.alloc());
     let path = "\u{9b}/\u{e4}/a".as_bytes();
-    push_rule_source(
-        &mut text,
-        PathStyle::Visible,
-        path,
-        RuleSource::Gitignore(2),
-        2,
-    )?;
+    push_rule_source(&mut text, PathStyle::Visible, path, Gitignore(2), 2)?;
     assert!(rt; text.as_slice() == "\\xc2\\x9b/\u{e4}/.gitignore:2".as_bytes());
     Ok(())
 }

@@ -1,9 +1,0 @@
--- What a read of a reader of std may give, by the bytes that it is known to have left.
-use Rattle.std.specs.Prelude.{◌≡◌, ℕ, ◌<◌, List, [], Option}
-use Rattle.std.specs.Io.KnownBytes.{Consumes, IsAtEnd, Keeps}
-use Rattle.lc_census.specs.Reads.{Answer, gave, failed}
-
--- a piece is the first of the known bytes, and none only where none is left; a failure leaves them as they were
-abbrev pub StdGives : Option (List ℕ) → ℕ → Answer → Option (List ℕ) → Type 0
-StdGives old room (gave piece) new = Consumes old new piece × (piece ≡ [] → 0 < room → IsAtEnd new)
-StdGives old room failed new = Keeps old new

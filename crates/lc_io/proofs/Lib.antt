@@ -1,0 +1,5 @@
+mod Exact
+pub mod InPieces
+pub mod KnownWrites
+pub mod Runs
+mod Taking

@@ -1,0 +1,30 @@
+//! Laws of the definitions that the contracts cite. The functions do nothing: their contracts are what is proved.
+ghost use Rattle.std.specs.Prelude.{◌≡◌, ◌++◌, ℕ, List, Vec};
+ghost use Rattle.std.specs.Global.{Global};
+ghost use Rattle.lc_io.specs.Buffers.{buffer_len};
+ghost use Rattle.lc_io.specs.Pieces.{WritesInPieces};
+ghost use Rattle.lc_io.specs.Reads.{GivesBytes, at_end, at_failure, AnyRoom};
+ghost use Rattle.lc_io.specs.Writes.{AppendsAll, Writes};
+
+use crate::buffer::BUFFER_LEN;
+use crate::source::Source;
+
+/// Reads of a slice up to its end give the slice's bytes, however they are cut, and none of them fails.
+pub fn a_slice_gives_its_bytes()
+    ensures whole { (old new : _) (bytes : List ℕ)
+        → GivesBytes ⟦<&'static [u8] as Source>⟧.may_give AnyRoom old bytes at_end new → bytes ≡ old.now }
+    ensures no_failure { (old new : _) (bytes : List ℕ)
+        → GivesBytes ⟦<&'static [u8] as Source>⟧.may_give AnyRoom old bytes at_failure new → ⊥ }
+{}
+
+/// A text that was written to a vector stands at its end, however the writes cut it.
+pub fn a_vector_takes_the_text()
+    ensures whole { (old new : Vec ℕ Global) (text : List ℕ) → Writes AppendsAll old text new → new.items ≡ old.items ++ text }
+    ensures in_pieces { (old new : Vec ℕ Global) (text : List ℕ) → WritesInPieces AppendsAll old text new
+        → new.items ≡ old.items ++ text }
+{}
+
+/// The constant is the length that the definitions name.
+pub fn the_buffer_has_this_length()
+    ensures { BUFFER_LEN ≡ buffer_len }
+{}

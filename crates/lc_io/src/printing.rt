@@ -1,0 +1,53 @@
+//! Writing a text whole.
+
+ghost use Rattle.std.specs.Prelude.{◌≡◌, ◌≢◌};
+ghost use Rattle.lc_io.specs.declared.printing.PrintFault.TheVariants.{Write, Memory};
+ghost use Rattle.lc_io.specs.Writes.{AnswersPrint};
+
+use crate::sink::Sink;
+use crate::source::Failed;
+use std::alloc::AllocError;
+use thiserror::Error;
+
+/// Why a text was not written, or not whole.
+#[derive(Debug, Clone, Copy, PartialEq, Eq, Error)]
+pub enum PrintFault {
+    /// A write failed, or took nothing. What was written is a prefix of the text.
+    #[error("cannot write")]
+    Write,
+    /// An allocation failed. Nothing was written, or a prefix of a text that is written as it is made.
+    #[error("out of memory")]
+    Memory,
+}
+
+impl From<AllocError> for PrintFault {
+    ghost from_gives = { λ _ fault. fault ≡ Memory };
+
+    fn from(_refused: AllocError) -> PrintFault {
+        PrintFault::Memory
+    }
+}
+
+impl From<Failed> for PrintFault {
+    ghost from_gives = { λ _ fault. fault ≡ Write };
+
+    fn from(_failed: Failed) -> PrintFault {
+        PrintFault::Write
+    }
+}
+
+/// Writes a text whole. A write that takes no byte of a rest that is not empty is an error too.
+pub fn print<O: Sink>(out: &mut O, text: &[u8]) -> Result<(), PrintFault>
+    ensures answers { AnswersPrint O.may_take out.old text.now result out.new }
+    ensures no_memory { result ≢ Err PrintFault.Memory }
+{
+    let mut rest = text;
+    while !rest.is_empty() {
+        let count = out.write(rest)?;
+        if count == 0 {
+            return Err(PrintFault::Write);
+        }
+        rest = &rest[count..];
+    }
+    Ok(())
+}

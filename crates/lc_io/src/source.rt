@@ -1,0 +1,37 @@
+//! Where bytes come from.
+ghost use Rattle.std.specs.Prelude.{◌≡◌, ℕ, ◌≤◌, length, take, drop, IfOk};
+ghost use Rattle.lc_io.specs.Reads.{Answer, gave, answer_of};
+
+/// A read failed, for whatever cause.
+#[derive(Clone, Copy, Debug, Drop, PartialEq, Eq)]
+pub struct Failed;
+
+/// A reader of bytes.
+///
+/// Each type says by `may_give` which answers its reads may give; what the reads of a whole call gave is defined
+/// over it (`specs/Reads.antt`).
+pub trait Source {
+    // A read of this reader, into a buffer of this length, may give this answer and leave this reader.
+    ghost may_give: { Self → ℕ → Answer → Self → Type 0 };
+
+    /// Puts the next bytes at the front of the buffer, and says how many there are.
+    ///
+    /// No byte into a buffer that is not empty means that the reader is at its end. After a failure nothing is known
+    /// of the buffer's bytes.
+    fn read(&mut self, buffer: &mut [u8]) -> Result<usize, Failed>
+        ensures within { IfOk result (λ count. count ≤ length buffer.old) }
+        ensures given { may_give self.old (length buffer.old) (answer_of result buffer.new) self.new };
+}
+
+/// A slice gives its bytes from the first on, as many a read as the buffer holds. It never fails and takes no memory.
+impl Source for &[u8] {
+    ghost may_give = { λ old room answer new. (answer ≡ gave (take room old.now)) × (new.now ≡ drop room old.now) };
+
+    fn read(&mut self, buffer: &mut [u8]) -> Result<usize, Failed> {
+        let bytes: &[u8] = *self;
+        let count = bytes.len().min(buffer.len());
+        buffer[..count].copy_from_slice(&bytes[..count]);
+        *self = &bytes[count..];
+        Ok(count)
+    }
+}

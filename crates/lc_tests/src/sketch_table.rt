@@ -1,0 +1,43 @@
+//! A tree of memory as a table writes it.
+ghost use Rattle.std.specs.Prelude.{IfOk};
+ghost use Rattle.lc_tests.specs.Sketches.{IsTreeOf};
+
+use lc_tree::{Node, OtherKind};
+use std::alloc::{AllocError, Global};
+
+/// A tree of memory as a table writes it, for tests and benchmarks.
+///
+/// ```
+/// let top = Sketch::Dir(&[(b"a.c", Sketch::File(b"int a;\n")), (b"b", Sketch::Dir(&[]))]);
+/// let node = top.node(rt.alloc())?;
+/// ```
+#[derive(Clone, Copy)]
+pub enum Sketch<'a> {
+    Dir(&'a [(&'a [u8], Sketch<'a>)]),
+    Closed,
+    File(&'a [u8]),
+    Failing(&'a [u8]),
+    Other(OtherKind),
+}
+
+impl Sketch<'_> {
+    /// Makes the tree: each path has what the sketch has there. If a name occurs twice, the first entry counts.
+    pub fn node(&self, alloc: Global) -> Result<Node, AllocError>
+        ensures { IfOk result (λ node. IsTreeOf self.now node) }
+    {
+        match self {
+            Sketch::Dir(entries) => {
+                let mut children = Vec::with_capacity(alloc, entries.len())?;
+                for entry in *entries {
+                    let (name, sketch) = entry;
+                    children.push((name.to_vec(alloc)?, sketch.node(alloc)?))?;
+                }
+                Ok(Node::Dir(children))
+            }
+            Sketch::Closed => Ok(Node::Closed),
+            Sketch::File(bytes) => Ok(Node::File(bytes.to_vec(alloc)?)),
+            Sketch::Failing(bytes) => Ok(Node::Failing(bytes.to_vec(alloc)?)),
+            Sketch::Other(what) => Ok(Node::Other(*what)),
+        }
+    }
+}

@@ -1,0 +1,11 @@
+//! Trees over other trees: each says by its contract what of the other may differ.
+
+mod bytewise_tree;
+mod failing_call;
+mod failing_file;
+mod failing_tree;
+
+pub use bytewise_tree::BytewiseTree;
+pub use failing_call::FailingCall;
+pub use failing_file::FailingFile;
+pub use failing_tree::FailingTree;

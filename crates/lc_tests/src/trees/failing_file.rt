@@ -1,0 +1,23 @@
+//! A file whose reads are among the calls of which one fails.
+ghost use Rattle.lc_tests.specs.FailingTrees.{MayFail};
+
+use super::failing_call::FailingCall;
+use lc_io::{Failed, Source};
+
+/// A file of another tree, one read of which may fail. After that its reads go on where they were.
+#[derive(Drop)]
+pub struct FailingFile<'a, F> {
+    pub(super) file: F,
+    pub(super) call: &'a FailingCall,
+}
+
+impl<F: Source> Source for FailingFile<'_, F> {
+    ghost may_give = { λ old room answer new. MayFail F.may_give old.file room answer new.file };
+
+    fn read(&mut self, buffer: &mut [u8]) -> Result<usize, Failed> {
+        if self.call.fails() {
+            return Err(Failed);
+        }
+        self.file.read(buffer)
+    }
+}
