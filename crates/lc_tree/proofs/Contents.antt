@@ -3,7 +3,7 @@ use Rattle.std.proofs.Common.{◌≡◌, ◌≢◌, ℕ, zero, suc, ◌<◌, Lis
 use Rattle.std.proofs.Common.{append_assoc, arith}
 use Rattle.std.specs.List.{concat}
 use Rattle.std.proofs.lemmas.List.{append-nil, take-append-drop}
-use Rattle.lc_census.specs.Reads.{Reads, Stop, at_end, at_failure, at_neither}
+use Rattle.lc_io.specs.Reads.{Reads, Stop, at_end, at_failure, at_neither}
 use Rattle.lc_tree.specs.MemTrees.{ReadsContent}
 use Rattle.lc_tree.specs.Trees.{AreSome, Content, FillRooms, GivesContent, IsRoom, Rooms}
 

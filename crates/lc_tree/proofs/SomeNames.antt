@@ -1,11 +1,11 @@
 -- Entries of some names, name by name.
-use Rattle.std.proofs.Common.{ℕ, List, [], ◌∷◌, ◌++◌, Option, Some, None, Result, Ok, Err, Vec, inl, inr, refl, sym, ◌∙◌}
+use Rattle.std.proofs.Common.{◌≡◌, ℕ, List, [], ◌∷◌, ◌++◌, Option, Some, None, Result, Ok, Err, Vec, inl, inr, refl, sym, ◌∙◌}
 use Rattle.std.proofs.Common.{ap, subst, append_assoc}
 use Rattle.std.specs.Global.{Global}
 use Rattle.std.specs.Prelude.{IfOk, MatchResult}
 use Rattle.std.proofs.lemmas.List.{append-nil}
 use Rattle.lc_tree.specs.Listing.{EntryModel, names}
-use Rattle.lc_census.specs.Reads.{Answer}
+use Rattle.lc_io.specs.Reads.{Answer}
 use Rattle.lc_tree.specs.SysLists.{IsListed}
 use Rattle.lc_tree.specs.SysNames.{AreNamesRead}
 use Rattle.lc_tree.specs.SysLooks.{Looks, bytes_of, entry_of, AreEntriesOf, IsEntryOf, IsFaultOf, IsFirstFault}
@@ -63,20 +63,11 @@ module _ (may : List ℕ → Looks) (directory text : List ℕ) where
   memory_fault (n ∷ ns) = inl tt
 
   -- no name is at fault for what entries make no listing for
-  pub no_bad_name : (ns : List (List ℕ)) → IsFirstFault may directory text ns fault.BadName → ⊥
-  no_bad_name [] is = cc
-  no_bad_name (n ∷ ns) (inl is) = is
-  no_bad_name (n ∷ ns) (inr later) = no_bad_name ns later.1
-
-  pub no_twice : (ns : List (List ℕ)) → IsFirstFault may directory text ns fault.Twice → ⊥
-  no_twice [] is = cc
-  no_twice (n ∷ ns) (inl is) = is
-  no_twice (n ∷ ns) (inr later) = no_twice ns later.1
-
-  pub no_too_many : (ns : List (List ℕ)) → IsFirstFault may directory text ns fault.TooMany → ⊥
-  no_too_many [] is = cc
-  no_too_many (n ∷ ns) (inl is) = is
-  no_too_many (n ∷ ns) (inr later) = no_too_many ns later.1
+  pub no_such : (found : ReadFault) → (fault.Memory ≡ found → ⊥) → ((n : List ℕ) → IsFaultOf may directory text n found → ⊥)
+      → (ns : List (List ℕ)) → IsFirstFault may directory text ns found → ⊥
+  no_such found other none [] is = other (sym is)
+  no_such found other none (n ∷ ns) (inl is) = none n is
+  no_such found other none (n ∷ ns) (inr later) = no_such found other none ns later.1
 
 -- a directory is not listed where a name is at fault
 pub not_listed : {D : Type 0} (may_give : D → ℕ → Answer → D → Type 0) (old new : D) (may : List ℕ → Looks) (directory text : List ℕ)
@@ -85,6 +76,9 @@ pub not_listed : {D : Type 0} (may_give : D → ℕ → Answer → D → Type 0)
 not_listed may_give old new may directory text ns fault.Failed read is = tt
 not_listed may_give old new may directory text ns fault.Memory read is = tt
 not_listed may_give old new may directory text ns fault.Unnamed read is = (ns, read, is)
-not_listed may_give old new may directory text ns fault.BadName read is = absurd (no_bad_name may directory text ns is)
-not_listed may_give old new may directory text ns fault.Twice read is = absurd (no_twice may directory text ns is)
-not_listed may_give old new may directory text ns fault.TooMany read is = absurd (no_too_many may directory text ns is)
+not_listed may_give old new may directory text ns fault.BadName read is =
+    absurd (no_such may directory text fault.BadName (λ e. cc) (λ n is. is) ns is)
+not_listed may_give old new may directory text ns fault.Twice read is =
+    absurd (no_such may directory text fault.Twice (λ e. cc) (λ n is. is) ns is)
+not_listed may_give old new may directory text ns fault.TooMany read is =
+    absurd (no_such may directory text fault.TooMany (λ e. cc) (λ n is. is) ns is)

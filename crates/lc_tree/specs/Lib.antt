@@ -1,7 +1,4 @@
 pub mod ByteOrder
-pub mod BytewiseContents
-pub mod FailingContents
-pub mod FailingTrees
 pub mod Kinds
 pub mod Listed
 pub mod ListedAnswers
@@ -13,7 +10,6 @@ pub mod Nodes
 pub mod OneAnswer
 pub mod Parts
 pub mod Paths
-pub mod Sketches
 pub mod SysLists
 pub mod SysLooks
 pub mod SysNames

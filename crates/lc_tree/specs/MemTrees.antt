@@ -1,6 +1,6 @@
 -- The answers of a tree of memory: one listing and one content for each path.
 use Rattle.std.specs.Prelude.{◌≡◌, ℕ, true, false, List, [], take, drop, map, Option, Some, None, Result, Ok, Err, IsTrue, IsFalse}
-use Rattle.lc_census.specs.Reads.{Answer, gave, failed}
+use Rattle.lc_io.specs.Reads.{Answer, gave, failed}
 use Rattle.lc_tree.specs.Listing.{EntryModel, IsListingOf, IsRefusedBy}
 use Rattle.lc_tree.specs.Nodes.{entry_of_child, node_at}
 use Rattle.lc_tree.specs.Trees.{Listings, Contents, Content, GivesContent}

@@ -1,6 +1,6 @@
 -- The listing of a directory of the system.
 use Rattle.std.specs.Prelude.{ℕ, List, Result, Ok, Err}
-use Rattle.lc_census.specs.Reads.{Answer}
+use Rattle.lc_io.specs.Reads.{Answer}
 use Rattle.lc_tree.specs.Listing.{EntryModel, IsListingOf, IsRefusedBy}
 use Rattle.lc_tree.specs.SysLooks.{Looks, AreEntriesOf, IsFirstFault}
 use Rattle.lc_tree.specs.SysNames.{AreNamesRead}

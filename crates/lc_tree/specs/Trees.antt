@@ -3,7 +3,7 @@ use Rattle.std.specs.Prelude.{◌≡◌, ◌≢◌, ◌⊎◌, ℕ, Bool, List, 
 use Rattle.std.specs.Prelude.{IsTrue, IsFalse}
 use Rattle.std.specs.Global.{Global}
 use Rattle.std.specs.List.{concat, AllByRecursion}
-use Rattle.lc_census.specs.Reads.{Answer, AnyRoom, RoomOf, Stop, at_end, at_failure, at_neither, Reads}
+use Rattle.lc_io.specs.Reads.{Answer, AnyRoom, RoomOf, Stop, at_end, at_failure, at_neither, Reads}
 use Rattle.lc_tree.specs.Listing.{EntryModel, IsListing, names}
 use Rattle.lc_tree.specs.declared.read_fault.ReadFault.{ReadFault}
 use Rattle.lc_tree.specs.declared.read_fault.ReadFault.TheVariants as fault

@@ -8,7 +8,6 @@
 //! - `system_call`: calls of the system that signals interrupt
 //! - `list_parts`: the listing of a large directory, with the help of idle threads; `idle_threads`: how many there are
 //! - `node`, `mem_tree`, `mem_file`: a tree of memory
-//! - `sketch`, `trials`: trees for tests of any crate
 //! - `laws`: what is true of the definitions that the contracts cite
 #![tactic(auto)]
 
@@ -22,7 +21,6 @@ mod mem_file;
 mod mem_tree;
 mod node;
 mod read_fault;
-mod sketch;
 mod sys_entries;
 mod sys_list;
 mod sys_looks;
@@ -30,7 +28,6 @@ mod sys_names;
 mod sys_tree;
 mod system_call;
 mod tree;
-pub mod trials;
 
 pub use entry::{Entry, Kind, OtherKind};
 pub use file_systems::FileSystems;
@@ -42,6 +39,5 @@ pub use mem_file::MemFile;
 pub use mem_tree::MemTree;
 pub use node::Node;
 pub use read_fault::ReadFault;
-pub use sketch::Sketch;
 pub use sys_tree::SysTree;
 pub use tree::Tree;

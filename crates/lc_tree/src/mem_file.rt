@@ -3,7 +3,7 @@ ghost use Rattle.std.specs.Prelude.{◌≡◌, MatchOption};
 ghost use Rattle.lc_tree.specs.MemTrees.{content_of, nothing};
 
 use crate::Node;
-use lc_census::{Failed, Source};
+use lc_io::{Failed, Source};
 use std::marker::Model;
 
 /// What is left of a file of a tree of memory. Reads give it from the front, as much as the buffer holds, and take no

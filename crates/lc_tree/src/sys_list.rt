@@ -7,7 +7,7 @@ use crate::sys_entries::look_at_each;
 use crate::sys_looks::Look;
 use crate::sys_names::{read_names, with_slash};
 use crate::{Listing, ReadFault};
-use lc_census::Source;
+use lc_io::Source;
 use std::alloc::Global;
 
 /// Lists the directory at a path of the tree and at one of the system: reads all names in it, and looks at each.

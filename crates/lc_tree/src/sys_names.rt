@@ -7,8 +7,8 @@ ghost use Rattle.lc_tree.specs.SysTrees.{IsFaultOfOpening};
 
 use crate::ReadFault;
 use crate::system_call::uninterrupted;
-use lc_census::{Failed, Source, StdSource};
 use lc_glob::cut_at_first;
+use lc_io::{Failed, Source, StdSource};
 use std::alloc::{AllocError, Global};
 use std::rt::Files;
 

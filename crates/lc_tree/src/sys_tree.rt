@@ -9,7 +9,7 @@ use crate::sys_looks::SysLook;
 use crate::sys_names::{open_dir, read_names, with_slash};
 use crate::system_call::uninterrupted;
 use crate::{Entry, Listing, ReadFault, Tree};
-use lc_census::StdSource;
+use lc_io::StdSource;
 use std::alloc::{AllocError, Global};
 use std::fs::OpenOptions;
 use std::marker::Model;

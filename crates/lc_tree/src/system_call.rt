@@ -2,7 +2,7 @@
 ghost use Rattle.std.specs.Prelude.{◌≢◌, Ok, IfOk, IfErr};
 ghost use Rattle.std.specs.IoError.{error_kind};
 
-use lc_census::MAX_TRIES;
+use lc_io::MAX_TRIES;
 use std::io;
 use std::io::{Error, ErrorKind};
 

@@ -3,7 +3,7 @@ ghost use Rattle.std.specs.Prelude.{ℕ, List, IfOk};
 ghost use Rattle.lc_tree.specs.Trees.{AreOf, Content, Contents, LeavesLooks, Listings, Lists, MayHold, Opens, TellsSome};
 
 use crate::{Entry, Listing, ReadFault};
-use lc_census::Source;
+use lc_io::Source;
 use std::alloc::Global;
 
 /// A tree of directories and files, which several workers ask at the same time.

@@ -1,6 +1,6 @@
 //! What a tree answers, and what is wanted of it.
 
-use lc_census::{Source, WholeFault, read_whole};
+use lc_io::{Source, WholeFault, read_whole};
 use lc_tree::{Kind, Listing, ReadFault, Tree};
 use std::alloc::Global;
 use std::process::Abort;

@@ -1,8 +1,9 @@
 //! Large directories are listed in parts as they are by one thread.
 
 use crate::tree::system::{Reads, Signals, System};
+use lc_tests::Sketch;
 use lc_tree::{
-    FileSystems, IdleThreads, Listing, MemTree, ReadFault, Sketch, SysTree, Tree, list_in_parts,
+    FileSystems, IdleThreads, Listing, MemTree, ReadFault, SysTree, Tree, list_in_parts,
 };
 use std::alloc::Global;
 use std::os::unix::fs::symlink;

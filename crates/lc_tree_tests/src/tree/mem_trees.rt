@@ -1,8 +1,9 @@
 //! What trees of memory answer.
 
 use crate::tree::checks::{Entries, Given, Listed, check_files, check_listings};
-use lc_census::WholeFault;
-use lc_tree::{Kind, MemTree, Node, OtherKind, ReadFault, Sketch};
+use lc_io::WholeFault;
+use lc_tests::Sketch;
+use lc_tree::{Kind, MemTree, Node, OtherKind, ReadFault};
 use std::alloc::Global;
 use std::process::Abort;
 use std::test::Fail;

@@ -2,7 +2,7 @@
 
 use crate::tree::checks::{Entries, Given, Listed, check_files, check_listings};
 use crate::tree::system::{Reads, Signals, System};
-use lc_census::WholeFault;
+use lc_io::WholeFault;
 use lc_tree::{FileSystems, Kind, OtherKind, ReadFault, SysTree, Tree};
 use std::os::unix::fs::symlink;
 use std::process::Abort;

@@ -1,8 +1,9 @@
 //! Which call of a failing tree fails, and what a read of one byte gives.
 
-use lc_census::Source;
-use lc_tree::trials::{BytewiseTree, FailingCall, FailingTree};
-use lc_tree::{MemTree, ReadFault, Sketch, Tree};
+use lc_io::Source;
+use lc_tests::Sketch;
+use lc_tests::trees::{BytewiseTree, FailingCall, FailingTree};
+use lc_tree::{MemTree, ReadFault, Tree};
 use std::alloc::Global;
 use std::test::Fail;
 
