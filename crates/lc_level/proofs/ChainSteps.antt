@@ -11,7 +11,8 @@ use Rattle.lc_rules.specs.IgnoreRules.{RuleModel}
 use Rattle.lc_level.specs.Job.{JobModel}
 use Rattle.lc_level.specs.RuleFiles.{with_file_at, first_of}
 use Rattle.lc_level.specs.RuleReads.{shared}
-use Rattle.lc_level.specs.TopJob.{TopRulesModel, top_job}
+use Rattle.lc_level.specs.Filters.{FiltersModel}
+use Rattle.lc_level.specs.TopJob.{top_job}
 
 module _ {A B : Type 0} (depth : ℕ) where
   module _ (chain below new : ChainModel) (own : Option (Arc (List RuleModel) A)) (info : Option (Arc (List RuleModel) B))
@@ -57,23 +58,14 @@ module _ {A B : Type 0} (depth : ℕ) where
 abbrev parts_of : List ℕ → ChainModel → AttrChainModel → JobModel
 parts_of path ignore attributes = record { path = path; ignore = ignore; attributes = attributes }
 
--- the chain of the top, with these rules beside those of its own files
-pub chain_of_top : {A B : Type 0} (exclude : Option (Arc (List RuleModel) A)) (command_line : Option (Arc (List RuleModel) B))
-    (no_ignore : Bool) → with_no_ignore (with_command_line (with_exclude no_ignore_files exclude) command_line) no_ignore
-    ≡ (top_job (record { exclude = shared exclude; command_line = shared command_line; no_ignore = no_ignore })).ignore
-chain_of_top None None no_ignore = refl
-chain_of_top None (Some patterns) no_ignore = refl
-chain_of_top (Some file) None no_ignore = refl
-chain_of_top (Some file) (Some patterns) no_ignore = refl
-
 -- where a walk begins, by its parts
-pub top_by : {E : Type 0} (rules : TopRulesModel) (path : List ℕ) (ignore : ChainModel) (attributes : AttrChainModel)
-    (r : Result JobModel E) → path ≡ [] → ignore ≡ (top_job rules).ignore → attributes ≡ no_files
-    → IfOk r (λ j. j ≡ parts_of path ignore attributes) → IfOk r (λ j. j ≡ top_job rules)
-top_by rules path ignore attributes r is_path is_ignore is_attributes made =
+pub top_by : {E : Type 0} (f : FiltersModel) (path : List ℕ) (ignore : ChainModel) (attributes : AttrChainModel)
+    (r : Result JobModel E) → path ≡ [] → ignore ≡ (top_job f).ignore → attributes ≡ no_files
+    → IfOk r (λ j. j ≡ parts_of path ignore attributes) → IfOk r (λ j. j ≡ top_job f)
+top_by f path ignore attributes r is_path is_ignore is_attributes made =
     subst (λ (k : JobModel). IfOk r (λ j. j ≡ k)) parts made
   where
-    parts : parts_of path ignore attributes ≡ top_job rules
+    parts : parts_of path ignore attributes ≡ top_job f
     parts =
         ap (λ (p : List ℕ). parts_of p ignore attributes) is_path ∙ ap (λ (i : ChainModel). parts_of [] i attributes) is_ignore
-        ∙ ap (λ (a : AttrChainModel). parts_of [] (top_job rules).ignore a) is_attributes
+        ∙ ap (λ (a : AttrChainModel). parts_of [] (top_job f).ignore a) is_attributes

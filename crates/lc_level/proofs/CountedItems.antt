@@ -10,7 +10,7 @@ use Rattle.lc_level.specs.Job.{JobModel}
 use Rattle.lc_level.specs.Classified.{kept_file, kept_directory, skipped_entry}
 use Rattle.lc_level.specs.Level.{Fate, is_counted}
 use Rattle.lc_level.specs.Level.{file_fate, fates_of, counted_of, failed_of, counted_in, failed_in}
-use Rattle.lc_level.specs.Selection.{SelectionModel}
+use Rattle.lc_level.specs.Filters.{FiltersModel}
 use Rattle.lc_tree.specs.Listing.{EntryModel}
 use Rattle.lc_tree.specs.declared.entry.Kind.TheVariants.{File, Dir, Other}
 use Rattle.lc_level.specs.RuleFiles.{file_named, has_directory}
@@ -38,7 +38,7 @@ results_after true (r ∷ rs) = rs
 abbrev pub taking_part : (EntryModel → Bool) → List Item → List Item
 taking_part t items = filter (λ item. t (entry_of item)) items
 
-module _ (s : SelectionModel) (k : JobModel) (t : EntryModel → Bool) where
+module _ (s : FiltersModel) (k : JobModel) (t : EntryModel → Bool) where
   -- whether a file is counted: it takes part and is left in
   abbrev pub counts : List ℕ → Bool
   counts n = t (record { name = n; kind = File }) && is_counted s k n
@@ -136,7 +136,7 @@ module _ (s : SelectionModel) (k : JobModel) (t : EntryModel → Bool) where
 abbrev pub all_take_part : EntryModel → Bool
 all_take_part e = true
 
-module _ (s : SelectionModel) (k : JobModel) (t : EntryModel → Bool) where
+module _ (s : FiltersModel) (k : JobModel) (t : EntryModel → Bool) where
   -- what takes part has these results, as if there were nothing else
   pub part_counted : (items : List Item) (rs : Results)
       → taking_part t (counted_items s k t items rs) ≡ counted_items s k all_take_part (taking_part t items) rs
@@ -175,7 +175,7 @@ module _ (s : SelectionModel) (k : JobModel) (t : EntryModel → Bool) where
       at true more = ap (λ l. other_item n what ∷ l) more
       at false more = more
 
-module _ (s : SelectionModel) (k : JobModel) where
+module _ (s : FiltersModel) (k : JobModel) where
   abbrev pub counted_all : List Item → Results → List Item
   counted_all items rs = counted_items s k all_take_part items rs
 

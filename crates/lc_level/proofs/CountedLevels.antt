@@ -9,11 +9,11 @@ use Rattle.lc_level.specs.Deep.{is_too_deep, has_too_deep}
 use Rattle.lc_level.specs.Job.{JobModel}
 use Rattle.lc_level.specs.Laws.{parts_with}
 use Rattle.lc_level.specs.Classified.{kept_file, bytes_of}
-use Rattle.lc_level.specs.Level.{SkippedModel, IsLevelOf, listed_level, level, level_of, level_after, absent_faults}
+use Rattle.lc_level.specs.Level.{SkippedLineModel, IsLevelOf, listed_level, level, level_of, level_after, absent_faults}
 use Rattle.lc_level.specs.Level.{fates_of, counted_in, failed_in, walked_in, skipped_in}
 use Rattle.lc_level.specs.Narrowing.{rests, takes_part, part_of, absent_from}
 use Rattle.lc_level.specs.PathSteps.{unled}
-use Rattle.lc_level.specs.Selection.{SelectionModel}
+use Rattle.lc_level.specs.Filters.{FiltersModel}
 use Rattle.lc_tree.specs.Listing.{EntryModel, IsListing}
 use Rattle.lc_level.specs.WellFormed.{IsWellFormed, listed_in}
 use Rattle.lc_level.specs.Opens.{IsOpened}
@@ -31,10 +31,10 @@ use Rattle.lc_level.proofs.CountedItems.{same_children, same_skipped, same_numbe
 use Rattle.lc_level.proofs.CountedItems.{children_of_items, skipped_of_items}
 
 -- what is left out, where that is asked for
-abbrev asked : Bool → List SkippedModel → List SkippedModel
+abbrev asked : Bool → List SkippedLineModel → List SkippedLineModel
 asked left_out skipped = if left_out then skipped else []
 
-module _ (lists : List ℕ → Listings) (gives : List ℕ → Contents) (left_out : Bool) (s : SelectionModel) (j : JobModel) (o : Opened)
+module _ (lists : List ℕ → Listings) (gives : List ℕ → Contents) (left_out : Bool) (s : FiltersModel) (j : JobModel) (o : Opened)
     (c : IsOpened lists gives left_out s j o) where
   abbrev found : List Item
   found = c.inside.items

@@ -11,7 +11,7 @@ use Rattle.lc_level.specs.CountedNames.{AreCounted, file_fates, AddsResult, Adds
 use Rattle.lc_level.specs.FileReads.{IsAnswer}
 use Rattle.lc_level.specs.Job.{JobModel}
 use Rattle.lc_level.specs.Classified.{bytes_of}
-use Rattle.lc_level.specs.Level.{CountedModel, Fate, FileFaultModel, file_fate, counted_of, failed_of, failed_in, text_of}
+use Rattle.lc_level.specs.Level.{FileLineModel, Fate, file_fate, counted_of, failed_of, failed_in, text_of}
 use Rattle.lc_rules.specs.AttrStates.{AttrChainModel, state_of, as_text}
 use Rattle.lc_rules.specs.declared.states.TextState.{TextState}
 use Rattle.lc_tree.specs.Trees.{Contents}
@@ -20,6 +20,7 @@ use Rattle.lc_level.specs.declared.counting.CountedFiles.{CountedFiles}
 use Rattle.lc_level.specs.declared.content_fault.ContentFault.{ContentFault}
 use Rattle.lc_level.specs.declared.content_fault.ContentFault.TheVariants as content_fault
 use Rattle.lc_level.specs.declared.fault_word.FaultWord.{FaultWord}
+use Rattle.lc_level.specs.FaultLines.{FaultLineModel}
 
 module _ (gives : List ℕ → Contents) (j : JobModel) (ms : List (List ℕ)) (ss : List (Result Count FaultWord))
     (later : AreCounted gives j ms ss) where
@@ -57,7 +58,7 @@ module _ (gives : List ℕ → Contents) (j : JobModel) (n : List ℕ) (r : Resu
       ∙ ap (λ l. flat_map f (file_fates j ns rs) ++ l) (append-nil (f (n, file_fate j n r)))
 
   -- the files so far, and that of one name more
-  pub counted_more : (ns : List (List ℕ)) (absent : List FileFaultModel) (old new : CountedFiles) → IsCounted gives j ns absent old →
+  pub counted_more : (ns : List (List ℕ)) (absent : List FaultLineModel) (old new : CountedFiles) → IsCounted gives j ns absent old →
       new.files.items ≡ old.files.items ++ counted_of (n, file_fate j n r)
       → new.faults.items ≡ old.faults.items ++ failed_of (n, file_fate j n r) →
       IsCounted gives j (ns ++ n ∷ []) absent new
@@ -104,7 +105,7 @@ bytes_more (m ∷ ns) n = ap (λ (l : List (List ℕ)). m.items ∷ l) (bytes_mo
 
 -- the files so far, and one more
 pub counted_next : (gives : List ℕ → Contents) (j : JobModel) (ns : List (Vec ℕ Global)) (n : Vec ℕ Global)
-    (absent : List FileFaultModel) (old new : CountedFiles)
+    (absent : List FaultLineModel) (old new : CountedFiles)
     (result : Result (Unit {0}) AllocError) (u : Unit {0}) → result ≡ Ok u →
     IsCounted gives j (bytes_of ns) absent old → AddsCounted gives j n.items old new result
     → IsCounted gives j (bytes_of (ns ++ n ∷ [])) absent new
@@ -114,12 +115,12 @@ counted_next gives j ns n absent old new result u is c added =
     subst (λ (l : List (List ℕ)). IsCounted gives j l absent new) (sym (bytes_more ns n))
     (counted_more gives j n.items a.0 a.1 (bytes_of ns) absent old new c a.2 a.3)
 
-abbrev counted_file : List ℕ → Count → TextState → CountedModel
-counted_file name count text = record { name = name; text = text; count = count }
+abbrev counted_file : List ℕ → Count → TextState → FileLineModel
+counted_file name count text = record { path = name; text = text; count = count }
 
 -- a counted file has the attribute `text` that its path has
 pub adds_text : (j : JobModel) (name path : List ℕ) (count : Count) (attributes : AttrChainModel) (text : TextState)
-    (old new : List CountedModel) → new ≡ old ++ counted_file name count text ∷ []
+    (old new : List FileLineModel) → new ≡ old ++ counted_file name count text ∷ []
     → text ≡ as_text (state_of attributes path false (codes "text")) → attributes ≡ j.attributes → path ≡ path_in j.path name
     → new ≡ old ++ counted_file name count (text_of j (path_in j.path name)) ∷ []
 adds_text j name path count attributes text old new pushed is by at =

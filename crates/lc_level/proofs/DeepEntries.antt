@@ -6,7 +6,7 @@ use Rattle.lc_level.specs.Deep.{is_too_deep, some_too_deep, too_deep_among, has_
 use Rattle.lc_level.specs.Job.{JobModel}
 use Rattle.lc_level.specs.Narrowing.{takes_part, part_of}
 use Rattle.lc_level.specs.RuleFiles.{RuleBytes, rule_bytes, extended}
-use Rattle.lc_level.specs.Selection.{SelectionModel}
+use Rattle.lc_level.specs.Filters.{FiltersModel}
 use Rattle.lc_level.proofs.AskedPaths.{entries_of_part}
 use Rattle.lc_tree.specs.Listing.{EntryModel}
 
@@ -15,7 +15,7 @@ any_entry p [] = refl
 any_entry p (i ∷ is) = ap (λ b. p (entry_of i) || b) (any_entry p is)
 
 -- it has one where an entry that takes part is, by the directory with its rule files
-pub deep_by_entries : (s : SelectionModel) (j k : JobModel) (a : Answers) (items : List Item) (bytes : RuleBytes) → a.here ≡ Ok items
+pub deep_by_entries : (s : FiltersModel) (j k : JobModel) (a : Answers) (items : List Item) (bytes : RuleBytes) → a.here ≡ Ok items
     → rule_bytes j.ignore.no_ignore j.path items a ≡ Ok bytes → k ≡ extended j bytes
     → has_too_deep s j a ≡ list_any (is_too_deep s k) (filter (takes_part s.only j.path) (entries_of items))
 deep_by_entries s j k a items bytes here read extends =

@@ -12,7 +12,7 @@ use Rattle.lc_level.specs.Level.{faulted_level, level, level_after}
 use Rattle.lc_level.specs.Enters.{IsEntered, EntersLevel}
 use Rattle.lc_tree.specs.Listing.{EntryModel, IsListing}
 use Rattle.lc_level.specs.FaultLines.{FaultLineModel}
-use Rattle.lc_level.specs.Selection.{SelectionModel}
+use Rattle.lc_level.specs.Filters.{FiltersModel}
 use Rattle.lc_level.specs.RuleFiles.{Pair, has_git, is_top, and_then, info_items, info_bytes, own_bytes, rule_bytes, extended}
 use Rattle.lc_level.specs.RulePairs.{AreFilesOf, IsReadOf, own_asked, ReadsBoth}
 use Rattle.lc_level.specs.SitePaths.{site_path}
@@ -21,7 +21,7 @@ use Rattle.lc_level.specs.TreeAnswers.{MayAnswer}
 use Rattle.lc_tree.specs.Trees.{Listings, Content, Contents, MayHold}
 use Rattle.lc_level.specs.FileReads.{MayReadRules}
 use Rattle.lc_level.specs.declared.entering.Entered.{Entered}
-use Rattle.lc_level.specs.declared.rule_pair.PairRead.{PairRead}
+use Rattle.lc_level.specs.declared.rule_files.rule_pair.PairRead.{PairRead}
 use Rattle.lc_level.specs.declared.open_fault.OpenFault.{OpenFault}
 use Rattle.lc_level.specs.declared.open_fault.OpenFault.TheVariants.{Faulted, Memory, TooDeep}
 use Rattle.lc_level.specs.declared.fault_word.FaultWord.{FaultWord}
@@ -109,7 +109,7 @@ module _ (lists : List ℕ → Listings) (gives : List ℕ → Contents)
   -- a fault of `.git`, or of the directory's own files, is the level
   fault_level : (given : AsRules) (a : Answers) (path : List ℕ) (word : FaultWord) →
       rule_bytes j.ignore.no_ignore j.path (own_items given) (answers given a) ≡ Err (record { path = path; word = word })
-      → (s : SelectionModel) → level s j (answers given a) ≡ faulted_level path word
+      → (s : FiltersModel) → level s j (answers given a) ≡ faulted_level path word
   fault_level given a path word e s = ap (level_after s j (own_items given)) e
 
   -- a refusal of `.git/info` is one of the directory

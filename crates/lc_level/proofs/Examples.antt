@@ -13,8 +13,8 @@ use Rattle.lc_census.specs.declared.line_count.Eol.TheVariants.{Lf}
 use Rattle.lc_glob.specs.IsMatch as IsMatch
 use Rattle.lc_rules.specs.Decision as Decision
 use Rattle.lc_level.specs.Level.{by_attribute, level_of}
-use Rattle.lc_level.specs.Selection.{SelectionModel}
-use Rattle.lc_level.specs.TopJob.{top_job, own_rules}
+use Rattle.lc_level.specs.Filters.{FiltersModel}
+use Rattle.lc_level.specs.TopJob.{top_job}
 use Rattle.lc_level.specs.FileAnswers.{census}
 use Rattle.lc_level.specs.NodeTrees.{item_by, item_of, listing_within, told_items, items_at, tree_of_node}
 use Rattle.lc_tree.specs.declared.entry.OtherKind.TheVariants.{Special}
@@ -68,8 +68,8 @@ module _ (alloc : Global) where
   top_is = items_are (Node-F.Dir (vec alloc (entries alloc) refl)) ∙ ap (λ l. told_items (listed entry_of l)) each_is
 
   -- what the directory's entries become, by its listing
-  abbrev names_of_listing : SelectionModel → Items → Names
-  names_of_listing s here = names_in (level_of s (top_job own_rules) (tree_of_node (small_node alloc) []) here)
+  abbrev names_of_listing : FiltersModel → Items → Names
+  names_of_listing f here = names_in (level_of f (top_job f) (tree_of_node (small_node alloc) []) here)
 
   -- what its level counts, fails at, walks and leaves out
   pub names_are : small_names alloc as_it_is ≡ small_as_it_is
@@ -78,7 +78,7 @@ module _ (alloc : Global) where
 
   -- what is left out of it where it is exported
   pub unexported_are : (small_names alloc exported).outside
-      ≡ small_outside ++ record { name = codes "s"; kind = File; reason = by_attribute (codes "export-ignore") } ∷ []
+      ≡ small_outside ++ record { path = codes "s"; kind = File; reason = by_attribute (codes "export-ignore") } ∷ []
   unfolding IsMatch.is_match Decision.decide
   unexported_are = ap (λ here. (names_of_listing exported here).outside) top_is
 

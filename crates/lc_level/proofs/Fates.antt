@@ -5,36 +5,37 @@ use Rattle.std.specs.Option.{is_none, option_map_or, option_or}
 use Rattle.lc_census.specs.declared.line_count.Count.{Count}
 use Rattle.lc_level.specs.Answers.{Item, file_item, directory_item, other_item, name_of, entry_of}
 use Rattle.lc_level.specs.Job.{JobModel}
-use Rattle.lc_level.specs.Level.{CountedModel, FileFaultModel, Reason, other_kind, SkippedModel, Fate, walked, skipped, reason_of}
+use Rattle.lc_level.specs.Level.{FileLineModel, Reason, other_kind, SkippedLineModel, Fate, walked, skipped, reason_of}
 use Rattle.lc_level.specs.Level.{file_reason}
 use Rattle.lc_level.specs.Level.{is_taken, is_counted, child_job, file_fate, fate_of, fates_of, counted_of, failed_of, walked_of}
 use Rattle.lc_level.specs.Level.{skipped_of}
 use Rattle.lc_level.specs.Level.{counted_in, failed_in, walked_in, skipped_in}
 use Rattle.lc_level.specs.Classified.{skipped_by, skipped_entry}
-use Rattle.lc_level.specs.Selection.{SelectionModel}
+use Rattle.lc_level.specs.Filters.{FiltersModel}
 use Rattle.lc_tree.specs.declared.entry.Kind.{Kind}
 use Rattle.lc_tree.specs.declared.entry.Kind.TheVariants.{File, Dir, Other}
 use Rattle.lc_level.specs.declared.fault_word.FaultWord.{FaultWord}
+use Rattle.lc_level.specs.FaultLines.{FaultLineModel}
 
 -- what a file that is not left out gives
-abbrev pub counted_by : JobModel → List ℕ → Result Count FaultWord → List CountedModel
+abbrev pub counted_by : JobModel → List ℕ → Result Count FaultWord → List FileLineModel
 counted_by j name count = counted_of (name, file_fate j name count)
 
-abbrev pub fault_by : JobModel → List ℕ → Result Count FaultWord → List FileFaultModel
+abbrev pub fault_by : JobModel → List ℕ → Result Count FaultWord → List FaultLineModel
 fault_by j name count = failed_of (name, file_fate j name count)
 
 -- what an item gives
-abbrev pub files_by : SelectionModel → JobModel → Item → List CountedModel
+abbrev pub files_by : FiltersModel → JobModel → Item → List FileLineModel
 files_by s j (file_item name count rules) = cond (is_counted s j name) (counted_by j name count) []
 files_by s j (directory_item name) = []
 files_by s j (other_item name what) = []
 
-abbrev pub faults_by : SelectionModel → JobModel → Item → List FileFaultModel
+abbrev pub faults_by : FiltersModel → JobModel → Item → List FaultLineModel
 faults_by s j (file_item name count rules) = cond (is_counted s j name) (fault_by j name count) []
 faults_by s j (directory_item name) = []
 faults_by s j (other_item name what) = []
 
-abbrev pub children_by : SelectionModel → JobModel → Item → List (List ℕ × JobModel)
+abbrev pub children_by : FiltersModel → JobModel → Item → List (List ℕ × JobModel)
 children_by s j (file_item name count rules) = []
 children_by s j (directory_item name) = cond (is_taken s j name true) ((name, child_job j name) ∷ []) []
 children_by s j (other_item name what) = []
@@ -53,10 +54,10 @@ nothing : {A : Type 0} (f : List ℕ × Fate → List A) (name : List ℕ) (kind
 nothing f name kind fate none is None = is
 nothing f name kind fate none is (Some reason) = none reason
 
-abbrev pub skipped_by_item : SelectionModel → JobModel → Item → List SkippedModel
+abbrev pub skipped_by_item : FiltersModel → JobModel → Item → List SkippedLineModel
 skipped_by_item s j item = skipped_entry true s j (entry_of item)
 
-module _ (s : SelectionModel) (j : JobModel) where
+module _ (s : FiltersModel) (j : JobModel) where
   counted_one : (item : Item) → counted_of (name_of item, fate_of s j item) ≡ files_by s j item
   counted_one (file_item n r rules) = none_or counted_of n File (file_fate j n r) (λ reason. refl) (file_reason s j n)
   counted_one (directory_item n) = nothing counted_of n Dir (walked (child_job j n)) (λ reason. refl) refl (reason_of s j n true)

@@ -12,7 +12,7 @@ use Rattle.lc_level.specs.RuleReads.{text_if}
 use Rattle.lc_level.specs.TreeAnswers.{FailsBy, MayList}
 use Rattle.lc_tree.specs.Trees.{Listings, Content, Contents, MayHold}
 use Rattle.lc_level.specs.FileReads.{MayCount, MayReadRules}
-use Rattle.lc_level.specs.declared.rule_pair.PairRead.{PairRead}
+use Rattle.lc_level.specs.declared.rule_files.rule_pair.PairRead.{PairRead}
 use Rattle.lc_level.specs.declared.open_fault.OpenFault.{OpenFault}
 use Rattle.lc_level.specs.declared.open_fault.OpenFault.TheVariants.{Faulted, Memory, TooDeep}
 use Rattle.lc_level.specs.declared.fault_word.FaultWord.{FaultWord}

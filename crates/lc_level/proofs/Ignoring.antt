@@ -5,7 +5,7 @@ use Rattle.std.specs.Prelude.{if◌then◌else◌}
 use Rattle.lc_glob.specs.Path.{path_in}
 use Rattle.lc_level.specs.Job.{JobModel}
 use Rattle.lc_level.specs.Level.{by_rule, named_git, other_kind, rule_reason, reason_at, reason_for}
-use Rattle.lc_level.specs.Selection.{SelectionModel}
+use Rattle.lc_level.specs.Filters.{FiltersModel}
 use Rattle.lc_tree.specs.Kinds.{is_dir}
 use Rattle.lc_tree.specs.declared.entry.Kind.{Kind}
 use Rattle.lc_tree.specs.declared.entry.Kind.TheVariants.{Other}
@@ -28,7 +28,7 @@ by_ignoring source rule line decides is ignores at =
     told false e = refl
 
 -- what neither is named `.git` nor has another reason is left out for its kind
-pub by_kind : (s : SelectionModel) (j : JobModel) (name path : List ℕ) (kind : Kind) (what : OtherKind) (dir : Bool) → kind ≡ Other what
+pub by_kind : (s : FiltersModel) (j : JobModel) (name path : List ℕ) (kind : Kind) (what : OtherKind) (dir : Bool) → kind ≡ Other what
     → false ≡ bytes_eq name (codes ".git") → path ≡ path_in j.path name → dir ≡ is_dir kind → None ≡ reason_at s j path dir
     → Some (other_kind what) ≡ reason_for s j name kind
 by_kind s j name path kind what dir other named at as_dir none =

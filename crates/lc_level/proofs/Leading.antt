@@ -11,7 +11,7 @@ use Rattle.std.proofs.Math.Seq.{take-append_seam}
 use Rattle.lc_glob.specs.Bytes.{slash}
 use Rattle.lc_glob.specs.Path.{is_good_name}
 use Rattle.lc_glob.specs.Pieces.{is_byte}
-use Rattle.lc_level.specs.Level.{FileFaultModel, absent_faults}
+use Rattle.lc_level.specs.Level.{absent_faults}
 use Rattle.lc_level.specs.Narrowing.{after, stands_below, leads_to, has_part, WantedModel}
 use Rattle.lc_level.specs.PathSteps.{is_cut_among, is_led_to, unled}
 use Rattle.lc_level.proofs.AskedPaths.{after_is, after_front, filter_all, passes}
@@ -19,6 +19,7 @@ use Rattle.lc_level.proofs.Searching.{is_named, named_tells}
 use Rattle.lc_level.proofs.WellFormed.{same_bytes, bytes_same, clash, good_one, IsGoodName}
 use Rattle.lc_tree.specs.Kinds.{is_dir}
 use Rattle.lc_tree.specs.Listing.{EntryModel, IsListing, have_good_names}
+use Rattle.lc_level.specs.FaultLines.{FaultLineModel}
 
 or_true : (a : Bool) → (a || true) ≡ true
 or_true true = refl
@@ -236,7 +237,7 @@ unled_first es rest rests = at (not (is_led_to es rest))
 
 -- the faults so far, and those of the paths that are left, one path on
 pub faults_step : (es : List EntryModel) (paths : List (Bor (List ℕ))) (i : ℕ) (rest : Bor (List ℕ)) (others : List (Bor (List ℕ)))
-    (old new all : List FileFaultModel) → drop i paths ≡ rest ∷ others → new ≡ old ++ absent_faults (unled es (rest.now ∷ []))
+    (old new all : List FaultLineModel) → drop i paths ≡ rest ∷ others → new ≡ old ++ absent_faults (unled es (rest.now ∷ []))
     → old ++ absent_faults (unled es (map (λ (r : Bor (List ℕ)). r.now) (drop i paths))) ≡ all
     → new ++ absent_faults (unled es (map (λ (r : Bor (List ℕ)). r.now) others)) ≡ all
 faults_step es paths i rest others old new all left gains before =

@@ -1,7 +1,7 @@
 pub mod AskedPaths
 pub mod ByHalves
 pub mod ChainSteps
-pub mod Crossing
+pub mod SentAndShared
 pub mod CountedItems
 pub mod CountedLevels
 pub mod CountedMore
@@ -29,7 +29,7 @@ pub mod PathNames
 pub mod RuleParsing
 pub mod Searching
 pub mod SeenPaths
-pub mod Selecting
+pub mod ValueWords
 pub mod SomeAnswers
 pub mod SomeReads
 pub mod WellFormed

@@ -6,7 +6,7 @@ use Rattle.std.proofs.lemmas.Bool.{cases_lt}
 use Rattle.std.proofs.lemmas.List.Folds.{list_any_none, list_any-from_Any}
 use Rattle.std.proofs.lemmas.List.FromFn.{get_or-range_with_len, length-range_with_len}
 use Rattle.lc_rules.specs.IgnoreRules.{RuleModel}
-use Rattle.lc_level.specs.Selection.{is_matched_parent, has_matched_parent}
+use Rattle.lc_level.specs.Filters.{is_matched_parent, has_matched_parent}
 
 -- a number of a range from 0 stands at the place that it tells
 get_or-range : (n k d : ℕ) → k < n → get_or (range_with_len 0 n) k d ≡ k

@@ -15,7 +15,7 @@ use Rattle.lc_level.specs.Answers.{Item, file_item, directory_item, other_item, 
 use Rattle.lc_level.specs.Job.{JobModel}
 use Rattle.lc_level.specs.Level.{level, level_of, level_after}
 use Rattle.lc_level.specs.OneAnswer.{GivesOne}
-use Rattle.lc_level.specs.Selection.{SelectionModel}
+use Rattle.lc_level.specs.Filters.{FiltersModel}
 use Rattle.lc_level.specs.RuleFiles.{has_directory, has_git, and_then, listing, info_items, info_bytes, own_bytes, rule_bytes}
 use Rattle.lc_level.specs.TreeAnswers.{MayHave, MayList, MayAnswer, items_of}
 
@@ -88,7 +88,7 @@ module _ (lists : List ℕ → Listings) (gives : List ℕ → Contents) (one : 
       let same : Some w ≡ Some v = sym a.1 ∙ ap (word_or None) (one.listing path (Err a.0) (Err b.0) a.2 b.2) ∙ b.1 in
       let word : w ≡ v = cc same in ap Err word
 
-  module _ (s : SelectionModel) (j : JobModel) (a b : Answers) (may : MayAnswer lists gives j.path a)
+  module _ (s : FiltersModel) (j : JobModel) (a b : Answers) (may : MayAnswer lists gives j.path a)
       (also : MayAnswer lists gives j.path b) where
     -- two answers for one directory have the same listing
     pub here : a.here ≡ b.here

@@ -9,11 +9,11 @@ use Rattle.lc_level.specs.Deep.{is_too_deep, has_too_deep}
 use Rattle.lc_level.specs.Enters.{IsEntered, EntersLevel}
 use Rattle.lc_level.specs.Job.{JobModel}
 use Rattle.lc_level.specs.Classified.{kept_file, kept_directory, skipped_entry, ClassifiesAll}
-use Rattle.lc_level.specs.Level.{FileFaultModel, absent_faults}
+use Rattle.lc_level.specs.Level.{absent_faults}
 use Rattle.lc_level.specs.Narrowing.{WantedModel, wanted_in, has_part, rests, takes_part, part_of}
 use Rattle.lc_level.specs.Opens.{IsOpened, OpensLevel}
 use Rattle.lc_level.specs.PathSteps.{unled}
-use Rattle.lc_level.specs.Selection.{SelectionModel}
+use Rattle.lc_level.specs.Filters.{FiltersModel}
 use Rattle.lc_level.specs.WellFormed.{listed_in}
 use Rattle.lc_tree.specs.Listing.{EntryModel, IsListing}
 use Rattle.lc_tree.specs.Trees.{Listings, Contents}
@@ -23,12 +23,13 @@ use Rattle.lc_level.specs.declared.open_fault.OpenFault.{OpenFault}
 use Rattle.lc_level.specs.declared.open_fault.OpenFault.TheVariants.{Faulted, Memory, TooDeep}
 use Rattle.lc_level.proofs.AskedPaths.{absent_is, entries_of_part}
 use Rattle.lc_level.proofs.DeepEntries.{deep_by_entries}
+use Rattle.lc_level.specs.FaultLines.{FaultLineModel}
 
 length_entries : (items : List Item) → length (entries_of items) ≡ length items
 length_entries [] = refl
 length_entries (i ∷ is) = ap suc (length_entries is)
 
-module _ (s : SelectionModel) (e : Entered) (w : WantedModel) (directory : List ℕ) (wanted : w ≡ wanted_in s.only directory)
+module _ (s : FiltersModel) (e : Entered) (w : WantedModel) (directory : List ℕ) (wanted : w ≡ wanted_in s.only directory)
     (at : directory ≡ e.job.path) where
   -- the entries that take part, by what is asked for of the directory that was entered
   pub part_by : (part : List EntryModel) → part ≡ filter (has_part w) e.entries.items
@@ -38,14 +39,14 @@ module _ (s : SelectionModel) (e : Entered) (w : WantedModel) (directory : List 
       ∙ ap (λ d. filter (takes_part s.only d) e.entries.items) at
 
   -- and so the paths that are absent
-  pub absent_by : (absent : List FileFaultModel) (entries : List EntryModel) → entries ≡ e.entries.items
+  pub absent_by : (absent : List FaultLineModel) (entries : List EntryModel) → entries ≡ e.entries.items
       → absent ≡ absent_faults (unled entries w.rests) → absent ≡ absent_faults (unled e.entries.items (rests s.only e.job.path))
   absent_by absent entries are is =
       is ∙ ap (λ es. absent_faults (unled es w.rests)) are
       ∙ ap (λ (v : WantedModel). absent_faults (unled e.entries.items v.rests)) wanted
       ∙ ap (λ d. absent_faults (unled e.entries.items (rests s.only d))) at
 
-module _ (lists : List ℕ → Listings) (gives : List ℕ → Contents) (left_out : Bool) (s : SelectionModel) (j : JobModel) where
+module _ (lists : List ℕ → Listings) (gives : List ℕ → Contents) (left_out : Bool) (s : FiltersModel) (j : JobModel) where
   -- what stops entering a directory stops opening it
   pub enter_refused : (texts : Bool) (u : OpenFault) → EntersLevel lists gives j texts (Err u) → OpensLevel lists gives left_out s j (Err u)
   enter_refused texts (Faulted site word) (a, may, well_formed, is) = (a, may, well_formed, is s)
@@ -103,7 +104,7 @@ module _ (lists : List ℕ → Listings) (gives : List ℕ → Contents) (left_o
     classify_refused TooDeep l = (c.inside.answers, c.inside.may, c.inside.well_formed, deep_is true l)
 
     -- they were classified
-    pub opened : (found : Classified) (absent : Vec FileFaultModel Global) (number : ℕ)
+    pub opened : (found : Classified) (absent : Vec FaultLineModel Global) (number : ℕ)
         → absent.items ≡ absent_faults (unled e.entries.items (rests s.only e.job.path)) → number ≡ length part
         → ClassifiesAll left_out s e.job part (Ok found)
         → IsOpened lists gives left_out s j (record {

@@ -10,11 +10,12 @@ use Rattle.lc_level.specs.CountedNames.{AreCounted, file_fates, IsCounted}
 use Rattle.lc_level.specs.CountedParts.{HaveCounted, Joins, files_of, faults_of, names_of}
 use Rattle.lc_level.specs.Job.{JobModel}
 use Rattle.lc_level.specs.Classified.{bytes_of}
-use Rattle.lc_level.specs.Level.{CountedModel, FileFaultModel, counted_of, failed_of, counted_in, failed_in}
+use Rattle.lc_level.specs.Level.{FileLineModel, counted_of, failed_of, counted_in, failed_in}
 use Rattle.lc_level.specs.declared.counting.CountedFiles.{CountedFiles}
 use Rattle.lc_level.specs.declared.fault_word.FaultWord.{FaultWord}
 use Rattle.lc_level.proofs.CountedMore.{are_appended, appended}
 use Rattle.lc_tree.specs.Trees.{Contents}
+use Rattle.lc_level.specs.FaultLines.{FaultLineModel}
 
 abbrev Run : Type 0
 Run = Vec (Vec ℕ Global) Global
@@ -23,8 +24,8 @@ abbrev Part : Type 0
 Part = Result CountedFiles AllocError
 
 -- these are the files of these names, and their faults
-record AreFound (gives : List ℕ → Contents) (j : JobModel) (names : List (List ℕ)) (files : List CountedModel)
-    (faults : List FileFaultModel) : Type 0 where
+record AreFound (gives : List ℕ → Contents) (j : JobModel) (names : List (List ℕ)) (files : List FileLineModel)
+    (faults : List FaultLineModel) : Type 0 where
   results : List (Result Count FaultWord)
   may : AreCounted gives j names results
   files_are : files ≡ counted_in (file_fates j names results)
@@ -32,7 +33,7 @@ record AreFound (gives : List ℕ → Contents) (j : JobModel) (names : List (Li
 
 module _ (gives : List ℕ → Contents) (j : JobModel) where
   -- consecutive names, counted apart, are counted
-  both_found : (ns ms : List (List ℕ)) (fs hs : List CountedModel) (gs ks : List FileFaultModel) → AreFound gives j ns fs gs
+  both_found : (ns ms : List (List ℕ)) (fs hs : List FileLineModel) (gs ks : List FaultLineModel) → AreFound gives j ns fs gs
       → AreFound gives j ms hs ks → AreFound gives j (ns ++ ms) (fs ++ hs) (gs ++ ks)
   both_found ns ms fs hs gs ks a b = record {
     results = a.results ++ b.results;
@@ -66,7 +67,7 @@ module _ (gives : List ℕ → Contents) (j : JobModel) where
       each.1))
 
   -- the names of all runs are counted, with what all parts found
-  pub parts_counted : (names : List (Vec ℕ Global)) (runs : List Run) (parts : List Part) (absent : List FileFaultModel)
+  pub parts_counted : (names : List (Vec ℕ Global)) (runs : List Run) (parts : List Part) (absent : List FaultLineModel)
       (found : CountedFiles) → names_of runs ≡ names → length parts ≡ length runs → HaveCounted gives j runs parts
       → Joins parts absent found → IsCounted gives j (bytes_of names) absent found
   parts_counted names runs parts absent found cut same have joins =

@@ -7,10 +7,11 @@ use Rattle.lc_level.specs.CountedNames.{AddsCounted, IsCounted, file_fates}
 use Rattle.lc_level.specs.CountedParts.{CountsSome}
 use Rattle.lc_level.specs.Job.{JobModel}
 use Rattle.lc_level.specs.Classified.{bytes_of}
-use Rattle.lc_level.specs.Level.{FileFaultModel, counted_of, failed_of, counted_in, failed_in}
+use Rattle.lc_level.specs.Level.{counted_of, failed_of, counted_in, failed_in}
 use Rattle.lc_level.specs.declared.counting.CountedFiles.{CountedFiles}
 use Rattle.lc_level.proofs.CountedMore.{counted_next, are_appended, appended}
 use Rattle.lc_tree.specs.Trees.{Contents}
+use Rattle.lc_level.specs.FaultLines.{FaultLineModel}
 
 abbrev Names : Type 0
 Names = List (Vec ℕ Global)
@@ -19,7 +20,7 @@ module _ (gives : List ℕ → Contents) (j : JobModel) where
   -- a file more is counted, where none is left
   pub counted_last : (n : Vec ℕ Global) (old new : CountedFiles) (rest : Names) (result : Result (Unit {0}) AllocError) → rest ≡ []
       → AddsCounted gives j n.items old new result
-      → OnOk result ((names : Names) → (absent : List FileFaultModel) → CountsSome gives j names absent rest old
+      → OnOk result ((names : Names) → (absent : List FaultLineModel) → CountsSome gives j names absent rest old
       → CountsSome gives j (names ++ n ∷ []) absent rest new)
   counted_last n old new rest (Err e) none added = tt
   counted_last n old new rest (Ok u) none added = λ names absent s. record {
@@ -30,7 +31,7 @@ module _ (gives : List ℕ → Contents) (j : JobModel) where
   }
 
   -- a name more is left
-  pub rest_last : (n : Vec ℕ Global) (names rest : Names) (absent : List FileFaultModel) (found : CountedFiles)
+  pub rest_last : (n : Vec ℕ Global) (names rest : Names) (absent : List FaultLineModel) (found : CountedFiles)
       → CountsSome gives j names absent rest found → CountsSome gives j (names ++ n ∷ []) absent (rest ++ n ∷ []) found
   rest_last n names rest absent found s = record {
     done = s.done;
@@ -39,7 +40,7 @@ module _ (gives : List ℕ → Contents) (j : JobModel) where
   }
 
   -- what is counted of consecutive names is counted of all
-  pub both_counted : (ns ms : List (List ℕ)) (absent : List FileFaultModel) (before later both : CountedFiles)
+  pub both_counted : (ns ms : List (List ℕ)) (absent : List FaultLineModel) (before later both : CountedFiles)
       → IsCounted gives j ns absent before → IsCounted gives j ms [] later → both.files.items ≡ before.files.items ++ later.files.items
       → both.faults.items ≡ before.faults.items ++ later.faults.items → IsCounted gives j (ns ++ ms) absent both
   both_counted ns ms absent before later both a b files faults = record {
@@ -56,7 +57,7 @@ module _ (gives : List ℕ → Contents) (j : JobModel) where
   }
 
   -- those that were left are counted too
-  pub rest_counted : (names rest : Names) (absent : List FileFaultModel) (found later both : CountedFiles)
+  pub rest_counted : (names rest : Names) (absent : List FaultLineModel) (found later both : CountedFiles)
       → CountsSome gives j names absent rest found → IsCounted gives j (bytes_of rest) [] later
       → both.files.items ≡ found.files.items ++ later.files.items → both.faults.items ≡ found.faults.items ++ later.faults.items
       → IsCounted gives j (bytes_of names) absent both

@@ -8,7 +8,7 @@ use Rattle.std.proofs.lemmas.List.{append-nil, take-append-drop, length-take-le}
 use Rattle.lc_census.specs.TheCutting.{cut}
 use Rattle.lc_census.proofs.OneCutting.{cut_is}
 use Rattle.lc_census.specs.Census.{IsCensus, count_of}
-use Rattle.lc_census.specs.Reads.{at_end, at_failure, at_neither}
+use Rattle.lc_io.specs.Reads.{at_end, at_failure, at_neither}
 use Rattle.lc_census.specs.declared.line_count.Count.{Count}
 use Rattle.lc_level.specs.FileReads.{MayCount, MayReadRules}
 use Rattle.lc_tree.specs.Trees.{Content, Contents, AreSome, FillRooms, GivesContent, MayHold, Rooms}

@@ -1,4 +1,4 @@
--- Which entries of a directory are left in, and which are left out: gitignore(5), PATTERN FORMAT, and what the selection leaves out.
+-- Which entries of a directory are left in, and which are left out: gitignore(5), PATTERN FORMAT, and what the filters leave out.
 use Rattle.std.specs.Prelude.{◌≡◌, ℕ, Bool, true, false, ◌&&◌, cond, if◌then◌else◌, is_none, List, [], ◌∷◌, ◌++◌, map, nat_lt, Vec, Option}
 use Rattle.std.specs.Prelude.{Some, None, Result, Ok, Err, unwrap_or}
 use Rattle.std.specs.List.{flat_map, list_any}
@@ -6,9 +6,9 @@ use Rattle.std.specs.Global.{Global}
 use Rattle.lc_level.specs.Deep.{is_too_deep}
 use Rattle.lc_tree.specs.Kinds.{is_file, is_dir}
 use Rattle.lc_level.specs.Job.{JobModel}
-use Rattle.lc_level.specs.Level.{Reason, other_kind, SkippedModel, reason_for, is_taken, is_counted, child_job, job_at}
+use Rattle.lc_level.specs.Level.{Reason, other_kind, SkippedLineModel, reason_for, is_taken, is_counted, child_job, job_at}
 use Rattle.lc_glob.specs.Path.{depth_of, max_depth}
-use Rattle.lc_level.specs.Selection.{SelectionModel}
+use Rattle.lc_level.specs.Filters.{FiltersModel}
 use Rattle.lc_tree.specs.Listing.{EntryModel}
 use Rattle.lc_level.specs.declared.classify.Classified.{Classified}
 use Rattle.lc_tree.specs.declared.entry.Kind.{Kind}
@@ -18,23 +18,23 @@ use Rattle.lc_level.specs.declared.open_fault.OpenFault.{OpenFault}
 use Rattle.lc_level.specs.declared.open_fault.OpenFault.TheVariants.{Faulted, Memory, TooDeep}
 
 -- the name of an entry, where it is a file that the rules leave in; the child directory, where it is one that they leave in
-abbrev pub kept_file : SelectionModel → JobModel → EntryModel → List (List ℕ)
-kept_file s j e = cond (is_file e.kind && is_counted s j e.name) (e.name ∷ []) []
+abbrev pub kept_file : FiltersModel → JobModel → EntryModel → List (List ℕ)
+kept_file f j e = cond (is_file e.kind && is_counted f j e.name) (e.name ∷ []) []
 
-abbrev pub kept_directory : SelectionModel → JobModel → EntryModel → List (List ℕ × JobModel)
-kept_directory s j e = cond (is_dir e.kind && is_taken s j e.name true) ((e.name, child_job j e.name) ∷ []) []
+abbrev pub kept_directory : FiltersModel → JobModel → EntryModel → List (List ℕ × JobModel)
+kept_directory f j e = cond (is_dir e.kind && is_taken f j e.name true) ((e.name, child_job j e.name) ∷ []) []
 
 -- an entry that is left out for this reason, if it is
-abbrev pub skipped_by : List ℕ → Kind → Option Reason → List SkippedModel
+abbrev pub skipped_by : List ℕ → Kind → Option Reason → List SkippedLineModel
 skipped_by name kind None = []
-skipped_by name kind (Some reason) = record { name = name; kind = kind; reason = reason } ∷ []
+skipped_by name kind (Some reason) = record { path = name; kind = kind; reason = reason } ∷ []
 
 -- the same where entries left out are asked for
-abbrev pub kept_skipped : Bool → List ℕ → Kind → Option Reason → List SkippedModel
+abbrev pub kept_skipped : Bool → List ℕ → Kind → Option Reason → List SkippedLineModel
 kept_skipped left_out name kind reason = if left_out then skipped_by name kind reason else []
 
-abbrev pub skipped_entry : Bool → SelectionModel → JobModel → EntryModel → List SkippedModel
-skipped_entry left_out s j e = kept_skipped left_out e.name e.kind (reason_for s j e.name e.kind)
+abbrev pub skipped_entry : Bool → FiltersModel → JobModel → EntryModel → List SkippedLineModel
+skipped_entry left_out f j e = kept_skipped left_out e.name e.kind (reason_for f j e.name e.kind)
 
 -- the bytes of names
 abbrev pub bytes_of : List (Vec ℕ Global) → List (List ℕ)
@@ -42,7 +42,7 @@ bytes_of names = map (λ (n : Vec ℕ Global). n.items) names
 
 -- what was taken before, and after it these names of files, child directories and entries left out
 pub record Gains (old new : Classified) (files : List (List ℕ)) (children : List (List ℕ × JobModel))
-    (skipped : List SkippedModel) : Type 0 where
+    (skipped : List SkippedLineModel) : Type 0 where
   pub files_are : bytes_of new.files.items ≡ bytes_of old.files.items ++ files
   pub children_are : new.children.items ≡ old.children.items ++ children
   pub skipped_are : new.skipped.items ≡ old.skipped.items ++ skipped
@@ -85,18 +85,18 @@ ClassifiesOther left_out reason what name old new result =
     LeavesOut left_out (unwrap_or reason (other_kind what)) name (Other what) old new result
 
 -- what classifying one entry more answers: none that is too deep is classified
-abbrev pub ClassifiesEntry : Bool → SelectionModel → JobModel → EntryModel → Classified → Classified → Result (Unit {0}) OpenFault → Type 0
-ClassifiesEntry left_out s j e old new (Ok _) =
-    Gains old new (kept_file s j e) (kept_directory s j e) (skipped_entry left_out s j e) × (is_too_deep s j e ≡ false)
-ClassifiesEntry left_out s j e old new (Err Memory) = Unit {0}
-ClassifiesEntry left_out s j e old new (Err TooDeep) = is_too_deep s j e ≡ true
-ClassifiesEntry left_out s j e old new (Err (Faulted site word)) = ⊥
+abbrev pub ClassifiesEntry : Bool → FiltersModel → JobModel → EntryModel → Classified → Classified → Result (Unit {0}) OpenFault → Type 0
+ClassifiesEntry left_out f j e old new (Ok _) =
+    Gains old new (kept_file f j e) (kept_directory f j e) (skipped_entry left_out f j e) × (is_too_deep f j e ≡ false)
+ClassifiesEntry left_out f j e old new (Err Memory) = Unit {0}
+ClassifiesEntry left_out f j e old new (Err TooDeep) = is_too_deep f j e ≡ true
+ClassifiesEntry left_out f j e old new (Err (Faulted site word)) = ⊥
 
 -- what classifying all entries answers: those left in and out, in order, where none is too deep; or one of them is; or memory was refused
-abbrev pub ClassifiesAll : Bool → SelectionModel → JobModel → List EntryModel → Result Classified OpenFault → Type 0
-ClassifiesAll left_out s j es (Ok found) =
-    (bytes_of found.files.items ≡ flat_map (kept_file s j) es) × (found.children.items ≡ flat_map (kept_directory s j) es)
-    × (found.skipped.items ≡ flat_map (skipped_entry left_out s j) es) × (list_any (is_too_deep s j) es ≡ false)
-ClassifiesAll left_out s j es (Err Memory) = Unit {0}
-ClassifiesAll left_out s j es (Err TooDeep) = list_any (is_too_deep s j) es ≡ true
-ClassifiesAll left_out s j es (Err (Faulted site word)) = ⊥
+abbrev pub ClassifiesAll : Bool → FiltersModel → JobModel → List EntryModel → Result Classified OpenFault → Type 0
+ClassifiesAll left_out f j es (Ok found) =
+    (bytes_of found.files.items ≡ flat_map (kept_file f j) es) × (found.children.items ≡ flat_map (kept_directory f j) es)
+    × (found.skipped.items ≡ flat_map (skipped_entry left_out f j) es) × (list_any (is_too_deep f j) es ≡ false)
+ClassifiesAll left_out f j es (Err Memory) = Unit {0}
+ClassifiesAll left_out f j es (Err TooDeep) = list_any (is_too_deep f j) es ≡ true
+ClassifiesAll left_out f j es (Err (Faulted site word)) = ⊥

@@ -4,11 +4,12 @@ use Rattle.std.specs.declared.alloc.AllocError.{AllocError}
 use Rattle.lc_census.specs.declared.line_count.Count.{Count}
 use Rattle.lc_glob.specs.Path.{path_in}
 use Rattle.lc_level.specs.Job.{JobModel}
-use Rattle.lc_level.specs.Level.{Fate, FileFaultModel, file_fate, counted_of, failed_of, counted_in, failed_in}
+use Rattle.lc_level.specs.Level.{Fate, file_fate, counted_of, failed_of, counted_in, failed_in}
 use Rattle.lc_tree.specs.Trees.{Contents}
 use Rattle.lc_level.specs.FileReads.{MayCount}
 use Rattle.lc_level.specs.declared.counting.CountedFiles.{CountedFiles}
 use Rattle.lc_level.specs.declared.fault_word.FaultWord.{FaultWord}
+use Rattle.lc_level.specs.FaultLines.{FaultLineModel}
 
 -- the file of each name may have given its result, in order
 abbrev pub AreCounted : (List ℕ → Contents) → JobModel → List (List ℕ) → List (Result Count FaultWord) → Type 0
@@ -24,7 +25,7 @@ file_fates j (n ∷ ns) [] = []
 file_fates j (n ∷ ns) (r ∷ rs) = (n, file_fate j n r) ∷ file_fates j ns rs
 
 -- these are the files of these names, and their faults behind those of absent paths
-pub record IsCounted (gives : List ℕ → Contents) (j : JobModel) (names : List (List ℕ)) (absent : List FileFaultModel)
+pub record IsCounted (gives : List ℕ → Contents) (j : JobModel) (names : List (List ℕ)) (absent : List FaultLineModel)
     (found : CountedFiles) : Type 0 where
   pub results : List (Result Count FaultWord)
   pub may : AreCounted gives j names results

@@ -6,9 +6,10 @@ use Rattle.std.specs.declared.alloc.AllocError.{AllocError}
 use Rattle.lc_level.specs.CountedNames.{IsCounted}
 use Rattle.lc_level.specs.Job.{JobModel}
 use Rattle.lc_level.specs.Classified.{bytes_of}
-use Rattle.lc_level.specs.Level.{CountedModel, FileFaultModel}
+use Rattle.lc_level.specs.Level.{FileLineModel}
 use Rattle.lc_level.specs.declared.counting.CountedFiles.{CountedFiles}
 use Rattle.lc_tree.specs.Trees.{Contents}
+use Rattle.lc_level.specs.FaultLines.{FaultLineModel}
 
 -- the names of all runs, in order
 abbrev pub names_of : List (Vec (Vec ℕ Global) Global) → List (Vec ℕ Global)
@@ -20,22 +21,22 @@ HaveCounted gives j runs parts = (i : ℕ) (run : Vec (Vec ℕ Global) Global) (
     IfOk (slice_index_or parts i part) (IsCounted gives j (bytes_of (slice_index_or runs i run).items) [])
 
 -- what a part has found
-abbrev pub files_of : Result CountedFiles AllocError → List CountedModel
+abbrev pub files_of : Result CountedFiles AllocError → List FileLineModel
 files_of (Ok found) = found.files.items
 files_of (Err _) = []
 
-abbrev pub faults_of : Result CountedFiles AllocError → List FileFaultModel
+abbrev pub faults_of : Result CountedFiles AllocError → List FaultLineModel
 faults_of (Ok found) = found.faults.items
 faults_of (Err _) = []
 
 -- memory was refused to no part, and these are the files and the faults of all, in order, the faults behind those of absent paths
-pub record Joins (parts : List (Result CountedFiles AllocError)) (absent : List FileFaultModel) (found : CountedFiles) : Type 0 where
+pub record Joins (parts : List (Result CountedFiles AllocError)) (absent : List FaultLineModel) (found : CountedFiles) : Type 0 where
   pub each : AllByRecursion IsOk parts
   pub files : found.files.items ≡ flat_map files_of parts
   pub faults : found.faults.items ≡ absent ++ flat_map faults_of parts
 
 -- the files of these names are counted but for those of the last, which are left
-pub record CountsSome (gives : List ℕ → Contents) (j : JobModel) (names : List (Vec ℕ Global)) (absent : List FileFaultModel)
+pub record CountsSome (gives : List ℕ → Contents) (j : JobModel) (names : List (Vec ℕ Global)) (absent : List FaultLineModel)
     (rest : List (Vec ℕ Global)) (found : CountedFiles) : Type 0 where
   pub done : List (Vec ℕ Global)
   pub all : done ++ rest ≡ names

@@ -10,25 +10,25 @@ use Rattle.lc_level.specs.Level.{is_kept}
 use Rattle.lc_level.specs.FaultLines.{FaultLineModel}
 use Rattle.lc_level.specs.Narrowing.{part_of}
 use Rattle.lc_level.specs.RuleFiles.{RuleBytes, rule_bytes, extended}
-use Rattle.lc_level.specs.Selection.{SelectionModel}
+use Rattle.lc_level.specs.Filters.{FiltersModel}
 
 -- an entry, other than `.git`, whose path has over 4,096 bytes, or a directory of over 256 segments that the rules leave in
-abbrev pub is_too_deep : SelectionModel → JobModel → EntryModel → Bool
-is_too_deep s j e =
+abbrev pub is_too_deep : FiltersModel → JobModel → EntryModel → Bool
+is_too_deep f j e =
     not (bytes_eq e.name (codes ".git"))
     && (nat_lt max_path (length (path_in j.path e.name))
-    || (is_dir e.kind && is_kept s j (path_in j.path e.name) true && nat_lt max_depth (depth_of (path_in j.path e.name))))
+    || (is_dir e.kind && is_kept f j (path_in j.path e.name) true && nat_lt max_depth (depth_of (path_in j.path e.name))))
 
 -- some of these items that take part is, by both chains with the rule files
-abbrev pub some_too_deep : SelectionModel → JobModel → List Item → Result RuleBytes FaultLineModel → Bool
-some_too_deep s j items (Ok files) =
-    list_any (λ item. is_too_deep s (extended j files) (entry_of item)) (part_of s.only j.path items)
-some_too_deep s j items (Err fault) = false
+abbrev pub some_too_deep : FiltersModel → JobModel → List Item → Result RuleBytes FaultLineModel → Bool
+some_too_deep f j items (Ok files) =
+    list_any (λ item. is_too_deep f (extended j files) (entry_of item)) (part_of f.only j.path items)
+some_too_deep f j items (Err fault) = false
 
-abbrev pub too_deep_among : SelectionModel → JobModel → Answers → Items → Bool
-too_deep_among s j a (Ok items) = some_too_deep s j items (rule_bytes j.ignore.no_ignore j.path items a)
-too_deep_among s j a (Err word) = false
+abbrev pub too_deep_among : FiltersModel → JobModel → Answers → Items → Bool
+too_deep_among f j a (Ok items) = some_too_deep f j items (rule_bytes j.ignore.no_ignore j.path items a)
+too_deep_among f j a (Err word) = false
 
 -- a directory that is not at fault has such an entry
-abbrev pub has_too_deep : SelectionModel → JobModel → Answers → Bool
-has_too_deep s j a = too_deep_among s j a a.here
+abbrev pub has_too_deep : FiltersModel → JobModel → Answers → Bool
+has_too_deep f j a = too_deep_among f j a a.here

@@ -6,7 +6,7 @@ use Rattle.lc_level.specs.Level.{faulted_level, level}
 use Rattle.lc_level.specs.SitePaths.{site_path}
 use Rattle.lc_level.specs.RuleFiles.{RuleBytes, rule_bytes, extended}
 use Rattle.lc_level.specs.RuleReads.{text_items, text_if}
-use Rattle.lc_level.specs.Selection.{SelectionModel}
+use Rattle.lc_level.specs.Filters.{FiltersModel}
 use Rattle.lc_level.specs.WellFormed.{IsWellFormed}
 use Rattle.lc_level.specs.TreeAnswers.{MayAnswer}
 use Rattle.lc_tree.specs.Trees.{Listings, Contents}
@@ -37,6 +37,6 @@ module _ (lists : List ℕ → Listings) (gives : List ℕ → Contents) (j : Jo
   abbrev pub EntersLevel : Bool → Result Entered OpenFault → Type 0
   EntersLevel texts (Ok e) = IsEntered texts e
   EntersLevel texts (Err (Faulted site word)) = (a : Answers) × MayAnswer lists gives j.path a × IsWellFormed a
-      × ((s : SelectionModel) → level s j a ≡ faulted_level (site_path j.path site) word)
+      × ((f : FiltersModel) → level f j a ≡ faulted_level (site_path j.path site) word)
   EntersLevel texts (Err Memory) = Unit {0}
   EntersLevel texts (Err TooDeep) = ⊥

@@ -7,11 +7,11 @@ use denote.RawPtr.{null_ptr}
 use Rattle.lc_census.specs.declared.line_count.Eol.TheVariants.{Lf}
 use Rattle.lc_level.specs.Answers.{Item, file_item, directory_item, other_item}
 use Rattle.lc_rules.specs.declared.rule_source.RuleSource.TheVariants.{Gitignore}
-use Rattle.lc_level.specs.Level.{named_git, by_rule, by_attribute, other_kind, SkippedModel, Level, faulted_level, listed_level, level}
+use Rattle.lc_level.specs.Level.{named_git, by_rule, by_attribute, other_kind, SkippedLineModel, Level, faulted_level, listed_level, level}
 use Rattle.lc_level.specs.Level.{counted_in, failed_in, walked_in, skipped_in}
 use Rattle.lc_level.specs.NodeTrees.{tree_of_node}
-use Rattle.lc_level.specs.Selection.{SelectionModel, selection_of}
-use Rattle.lc_level.specs.TopJob.{top_job, own_rules}
+use Rattle.lc_level.specs.Filters.{FiltersModel, leaving_out, no_filters}
+use Rattle.lc_level.specs.TopJob.{top_job}
 use Rattle.lc_level.specs.FileAnswers.{census}
 use Rattle.lc_tree.specs.Nodes.{Child}
 use Rattle.lc_tree.specs.declared.entry.Kind.TheVariants.{File, Other}
@@ -92,34 +92,34 @@ pub record Names : Type 0 where
   pub files : List (List ℕ)
   pub faults : List (List ℕ)
   pub children : List (List ℕ)
-  pub outside : List SkippedModel
+  pub outside : List SkippedLineModel
 
 abbrev pub names_in : Level → Names
 names_in (faulted_level path word) = record { files = []; faults = []; children = []; outside = [] }
 names_in (listed_level fates absent) = record {
-  files = map (λ f. f.name) (counted_in fates);
-  faults = map (λ f. f.name) (failed_in fates);
+  files = map (λ f. f.path) (counted_in fates);
+  faults = map (λ f. f.path) (failed_in fates);
   children = map (λ c. c.0) (walked_in fates);
   outside = skipped_in fates;
 }
 
 -- a tree as it is, and as git exports it
-abbrev pub as_it_is : SelectionModel
-as_it_is = selection_of false []
+abbrev pub as_it_is : FiltersModel
+as_it_is = no_filters
 
-abbrev pub exported : SelectionModel
-exported = selection_of true []
+abbrev pub exported : FiltersModel
+exported = leaving_out no_filters (codes "export-ignore" ∷ [])
 
--- of the small directory, by a selection
-abbrev pub small_names : Global → SelectionModel → Names
-small_names alloc s = names_in (level s (top_job own_rules) (tree_of_node (small_node alloc) []))
+-- of the small directory, by filters
+abbrev pub small_names : Global → FiltersModel → Names
+small_names alloc f = names_in (level f (top_job f) (tree_of_node (small_node alloc) []))
 
 -- what is left out of it in any case
-abbrev pub small_outside : List SkippedModel
+abbrev pub small_outside : List SkippedLineModel
 small_outside =
-    record { name = codes ".git"; kind = File; reason = named_git }
-    ∷ record { name = codes "a.o"; kind = File; reason = by_rule (Gitignore 0) 1 }
-    ∷ record { name = codes "l"; kind = Other Special; reason = other_kind Special } ∷ []
+    record { path = codes ".git"; kind = File; reason = named_git }
+    ∷ record { path = codes "a.o"; kind = File; reason = by_rule (Gitignore 0) 1 }
+    ∷ record { path = codes "l"; kind = Other Special; reason = other_kind Special } ∷ []
 
 abbrev pub small_as_it_is : Names
 small_as_it_is = record {
@@ -136,7 +136,7 @@ pub record LevelExamplesHold (alloc : Global) : Type 0 where
   pub count : census (codes "one\n") ≡ record { lines = 1; blank = 0; bytes = 4; eol = Lf }
   pub names : small_names alloc as_it_is ≡ small_as_it_is
   pub unexported : (small_names alloc exported).outside
-      ≡ small_outside ++ record { name = codes "s"; kind = File; reason = by_attribute (codes "export-ignore") } ∷ []
+      ≡ small_outside ++ record { path = codes "s"; kind = File; reason = by_attribute (codes "export-ignore") } ∷ []
   pub closed_there : (tree_of_node (small_node alloc) (codes "b" ∷ [])).here ≡ Err Read
   pub bad_name_there : (tree_of_node (small_node alloc) (codes "d" ∷ [])).here ≡ Err Name
   pub none_there : (tree_of_node (small_node alloc) (codes "f" ∷ [])).here ≡ Err Read

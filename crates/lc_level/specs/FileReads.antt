@@ -2,8 +2,8 @@
 use Rattle.std.specs.Prelude.{◌≡◌, ℕ, ◌≤◌, ◌<◌, ◌+◌, ◌^◌, List, length, None, Some, Result, Ok, Err}
 use Rattle.std.specs.List.{concat}
 use Rattle.lc_census.specs.Census.{IsCensus}
-use Rattle.lc_census.specs.Limits.{buffer_len}
-use Rattle.lc_census.specs.Reads.{at_end, at_failure, at_neither}
+use Rattle.lc_io.specs.Buffers.{buffer_len}
+use Rattle.lc_io.specs.Reads.{at_end, at_failure, at_neither}
 use Rattle.lc_census.specs.declared.line_count.Count.{Count}
 use Rattle.lc_rules.specs.Limits.{max_rule_bytes}
 use Rattle.lc_tree.specs.MemTrees.{mem_gives}

@@ -7,7 +7,7 @@ use Rattle.lc_level.specs.RulePairs.{IsReadOf}
 use Rattle.lc_level.specs.SitePaths.{site_path}
 use Rattle.lc_level.specs.TreeAnswers.{FailsBy, MayList, items_of}
 use Rattle.lc_tree.specs.Trees.{Listings, Contents}
-use Rattle.lc_level.specs.declared.rule_pair.PairRead.{PairRead}
+use Rattle.lc_level.specs.declared.rule_files.rule_pair.PairRead.{PairRead}
 use Rattle.lc_level.specs.declared.open_fault.OpenFault.{OpenFault}
 use Rattle.lc_level.specs.declared.open_fault.OpenFault.TheVariants.{Faulted, Memory, TooDeep}
 use Rattle.lc_level.specs.declared.fault_site.FaultSite.{FaultSite}

@@ -1,25 +1,22 @@
 -- The laws of one directory's work.
-use Rattle.std.specs.Prelude.{◌≡◌, ℕ, Bool, true, false, List, ◌∷◌, codes}
+use Rattle.std.specs.Prelude.{◌≡◌, ℕ, Bool, false, List}
 use Rattle.lc_tree.specs.Trees.{Listings, Contents}
 use Rattle.lc_level.specs.Answers.{Answers}
 use Rattle.lc_level.specs.CountedNames.{IsCounted}
 use Rattle.lc_level.specs.Deep.{has_too_deep}
 use Rattle.lc_level.specs.Job.{JobModel}
 use Rattle.lc_level.specs.Classified.{bytes_of}
-use Rattle.lc_level.specs.Level.{CountedModel, FileFaultModel, LevelParts, IsLevelOf, level}
+use Rattle.lc_level.specs.Level.{FileLineModel, LevelParts, IsLevelOf, level}
 use Rattle.lc_level.specs.Opens.{IsOpened}
-use Rattle.lc_level.specs.Selection.{SelectionModel, selection_of}
+use Rattle.lc_level.specs.Filters.{FiltersModel}
 use Rattle.lc_level.specs.WellFormed.{IsWellFormed}
 use Rattle.lc_level.specs.TreeAnswers.{MayAnswer}
 use Rattle.lc_level.specs.declared.counting.CountedFiles.{CountedFiles}
 use Rattle.lc_level.specs.declared.opening.Opened.{Opened}
-
--- what is exported is without one more attribute
-abbrev pub ExportLaw : Type 0
-ExportLaw = (names : List (List ℕ)) → selection_of true names ≡ selection_of false (codes "export-ignore" ∷ names)
+use Rattle.lc_level.specs.FaultLines.{FaultLineModel}
 
 -- what is told of a directory that was opened, whose files gave these
-abbrev pub parts_with : Opened → List CountedModel → List FileFaultModel → LevelParts
+abbrev pub parts_with : Opened → List FileLineModel → List FaultLineModel → LevelParts
 parts_with o files faults = record {
   files = files;
   faults = faults;
@@ -33,14 +30,14 @@ module _ (lists : List ℕ → Listings) (gives : List ℕ → Contents) where
   -- entries is too deep
   abbrev pub CountedLaw : Type 0
   CountedLaw =
-      (left_out : Bool) (s : SelectionModel) (j : JobModel) (o : Opened) (found : CountedFiles) →
-      IsOpened lists gives left_out s j o → IsCounted gives o.job (bytes_of o.files.items) o.absent.items found →
+      (left_out : Bool) (f : FiltersModel) (j : JobModel) (o : Opened) (found : CountedFiles) →
+      IsOpened lists gives left_out f j o → IsCounted gives o.job (bytes_of o.files.items) o.absent.items found →
       (a : Answers) × MayAnswer lists gives j.path a × IsWellFormed a
-      × IsLevelOf (level s j a) left_out (parts_with o found.files.items found.faults.items) × (has_too_deep s j a ≡ false)
+      × IsLevelOf (level f j a) left_out (parts_with o found.files.items found.faults.items) × (has_too_deep f j a ≡ false)
 
   -- all but the files of one that was opened is that of its level, whatever its files give
   abbrev pub OpenedLaw : Type 0
   OpenedLaw =
-      (left_out : Bool) (s : SelectionModel) (j : JobModel) (o : Opened) (c : IsOpened lists gives left_out s j o) →
-      (files : List CountedModel) × (faults : List FileFaultModel)
-      × IsLevelOf (level s j c.inside.answers) left_out (parts_with o files faults)
+      (left_out : Bool) (f : FiltersModel) (j : JobModel) (o : Opened) (c : IsOpened lists gives left_out f j o) →
+      (files : List FileLineModel) × (faults : List FaultLineModel)
+      × IsLevelOf (level f j c.inside.answers) left_out (parts_with o files faults)

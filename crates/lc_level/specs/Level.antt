@@ -21,18 +21,13 @@ use Rattle.lc_level.specs.Job.{JobModel}
 use Rattle.lc_level.specs.FaultLines.{FaultLineModel}
 use Rattle.lc_level.specs.Narrowing.{part_of, absent_from}
 use Rattle.lc_level.specs.RuleFiles.{RuleBytes, rule_bytes, extended}
-use Rattle.lc_level.specs.Selection.{SelectionModel, attribute_of, value_of, is_state, patterns_for, is_included}
+use Rattle.lc_level.specs.Filters.{FiltersModel, attribute_of, value_of, is_state, patterns_for, include_rules, is_included}
 
--- a counted file of a directory
-pub record CountedModel : Type 0 where
-  pub name : List ℕ
+-- a counted file, by its path from a directory or from the top
+pub record FileLineModel : Type 0 where
+  pub path : List ℕ
   pub text : TextState
   pub count : Count
-
--- a file of a directory that was not counted
-pub record FileFaultModel : Type 0 where
-  pub name : List ℕ
-  pub word : FaultWord
 
 -- why an entry is left out, the first that holds: it is named `.git`; the rule that decides ignores it, and stands in a file of this
 -- source, on the line with this number; an attribute has the state for it that this word asks for; it is a file that no pattern
@@ -44,16 +39,23 @@ pub data Reason : Type 0 where
   not_included : Reason
   other_kind : OtherKind → Reason
 
--- an entry that is left out: what stands under its name, and why it is
-pub record SkippedModel : Type 0 where
-  pub name : List ℕ
+-- an entry that is left out, by its path: what stands there, and why it is left out
+pub record SkippedLineModel : Type 0 where
+  pub path : List ℕ
   pub kind : Kind
   pub reason : Reason
+
+-- the same of what has its path below a directory
+abbrev pub file_below : List ℕ → FileLineModel → FileLineModel
+file_below directory f = record { path = path_in directory f.path; text = f.text; count = f.count }
+
+abbrev pub skipped_below : List ℕ → SkippedLineModel → SkippedLineModel
+skipped_below directory l = record { path = path_in directory l.path; kind = l.kind; reason = l.reason }
 
 -- what becomes of an entry: a file is counted, or has a fault; a directory is to be walked, by this job; or the entry, of this kind, is
 -- left out
 pub data Fate : Type 0 where
-  counted : CountedModel → Fate
+  counted : FileLineModel → Fate
   failed : FaultWord → Fate
   walked : JobModel → Fate
   skipped : Kind → Reason → Fate
@@ -70,9 +72,9 @@ pub data Level : Type 0 where
 abbrev pub is_met : JobModel → List ℕ → Bool → List ℕ → Bool
 is_met j path is_dir word = is_state (value_of word) (state_of j.attributes path is_dir (attribute_of word))
 
--- the first word of the selection for which one has
-abbrev pub attribute_reason : SelectionModel → JobModel → List ℕ → Bool → Option Reason
-attribute_reason s j path is_dir = option_map by_attribute (find (is_met j path is_dir) s.without)
+-- the first word of the filters for which one has
+abbrev pub attribute_reason : FiltersModel → JobModel → List ℕ → Bool → Option Reason
+attribute_reason f j path is_dir = option_map by_attribute (find (is_met j path is_dir) f.without)
 
 -- the rule that decides, where it ignores
 abbrev pub rule_reason : Option (RuleSource × RuleModel) → Option Reason
@@ -80,37 +82,37 @@ rule_reason None = None
 rule_reason (Some rule) = if rule.1.is_negated then None else Some (by_rule rule.0 rule.1.line)
 
 -- by a path
-abbrev pub reason_at : SelectionModel → JobModel → List ℕ → Bool → Option Reason
-reason_at s j path is_dir =
-    option_or (rule_reason (last_match (rules_in j.ignore) path is_dir)) (attribute_reason s j path is_dir)
+abbrev pub reason_at : FiltersModel → JobModel → List ℕ → Bool → Option Reason
+reason_at f j path is_dir =
+    option_or (rule_reason (last_match (rules_in j.ignore) path is_dir)) (attribute_reason f j path is_dir)
 
 -- by a name in the directory
-abbrev pub reason_of : SelectionModel → JobModel → List ℕ → Bool → Option Reason
-reason_of s j name is_dir = cond (bytes_eq name (codes ".git")) (Some named_git) (reason_at s j (path_in j.path name) is_dir)
+abbrev pub reason_of : FiltersModel → JobModel → List ℕ → Bool → Option Reason
+reason_of f j name is_dir = cond (bytes_eq name (codes ".git")) (Some named_git) (reason_at f j (path_in j.path name) is_dir)
 
 -- of a file that does not match what it must
 abbrev pub include_reason : Option (List RuleModel) → List ℕ → Option Reason
 include_reason patterns path = cond (is_included patterns path) None (Some not_included)
 
 -- of a file by its name in the directory
-abbrev pub file_reason : SelectionModel → JobModel → List ℕ → Option Reason
-file_reason s j name = option_or (reason_of s j name false) (include_reason (patterns_for s.include j.path) (path_in j.path name))
+abbrev pub file_reason : FiltersModel → JobModel → List ℕ → Option Reason
+file_reason f j name = option_or (reason_of f j name false) (include_reason (patterns_for (include_rules f) j.path) (path_in j.path name))
 
 -- of an entry, which may be of a kind that is left out
-abbrev pub reason_for : SelectionModel → JobModel → List ℕ → Kind → Option Reason
-reason_for s j name File = file_reason s j name
-reason_for s j name Dir = reason_of s j name true
-reason_for s j name (Other what) = option_or (reason_of s j name false) (Some (other_kind what))
+abbrev pub reason_for : FiltersModel → JobModel → List ℕ → Kind → Option Reason
+reason_for f j name File = file_reason f j name
+reason_for f j name Dir = reason_of f j name true
+reason_for f j name (Other what) = option_or (reason_of f j name false) (Some (other_kind what))
 
 -- nothing does
-abbrev pub is_kept : SelectionModel → JobModel → List ℕ → Bool → Bool
-is_kept s j path is_dir = is_none (reason_at s j path is_dir)
+abbrev pub is_kept : FiltersModel → JobModel → List ℕ → Bool → Bool
+is_kept f j path is_dir = is_none (reason_at f j path is_dir)
 
-abbrev pub is_taken : SelectionModel → JobModel → List ℕ → Bool → Bool
-is_taken s j name is_dir = is_none (reason_of s j name is_dir)
+abbrev pub is_taken : FiltersModel → JobModel → List ℕ → Bool → Bool
+is_taken f j name is_dir = is_none (reason_of f j name is_dir)
 
-abbrev pub is_counted : SelectionModel → JobModel → List ℕ → Bool
-is_counted s j name = is_none (file_reason s j name)
+abbrev pub is_counted : FiltersModel → JobModel → List ℕ → Bool
+is_counted f j name = is_none (file_reason f j name)
 
 -- ---- fates
 
@@ -126,60 +128,60 @@ child_job j name = job_at j (path_in j.path name)
 
 -- of a file that is not left out, by what counting it gave
 abbrev pub file_fate : JobModel → List ℕ → Result Count FaultWord → Fate
-file_fate j name (Ok count) = counted (record { name = name; text = text_of j (path_in j.path name); count = count })
+file_fate j name (Ok count) = counted (record { path = name; text = text_of j (path_in j.path name); count = count })
 file_fate j name (Err word) = failed word
 
-abbrev pub fate_of : SelectionModel → JobModel → Item → Fate
-fate_of s j (file_item name count rules) = option_map_or (skipped File) (file_reason s j name) (file_fate j name count)
-fate_of s j (directory_item name) = option_map_or (skipped Dir) (reason_of s j name true) (walked (child_job j name))
-fate_of s j (other_item name what) =
-    option_map_or (skipped (Other what)) (reason_of s j name false) (skipped (Other what) (other_kind what))
+abbrev pub fate_of : FiltersModel → JobModel → Item → Fate
+fate_of f j (file_item name count rules) = option_map_or (skipped File) (file_reason f j name) (file_fate j name count)
+fate_of f j (directory_item name) = option_map_or (skipped Dir) (reason_of f j name true) (walked (child_job j name))
+fate_of f j (other_item name what) =
+    option_map_or (skipped (Other what)) (reason_of f j name false) (skipped (Other what) (other_kind what))
 
-abbrev pub fates_of : SelectionModel → JobModel → List Item → List (List ℕ × Fate)
-fates_of s j items = map (λ item. (name_of item, fate_of s j item)) items
+abbrev pub fates_of : FiltersModel → JobModel → List Item → List (List ℕ × Fate)
+fates_of f j items = map (λ item. (name_of item, fate_of f j item)) items
 
 -- ---- what a list of fates holds
 
-abbrev pub counted_of : List ℕ × Fate → List CountedModel
+abbrev pub counted_of : List ℕ × Fate → List FileLineModel
 counted_of (name, counted file) = file ∷ []
 counted_of (name, _) = []
 
-abbrev pub failed_of : List ℕ × Fate → List FileFaultModel
-failed_of (name, failed word) = record { name = name; word = word } ∷ []
+abbrev pub failed_of : List ℕ × Fate → List FaultLineModel
+failed_of (name, failed word) = record { path = name; word = word } ∷ []
 failed_of (name, _) = []
 
 abbrev pub walked_of : List ℕ × Fate → List (List ℕ × JobModel)
 walked_of (name, walked job) = (name, job) ∷ []
 walked_of (name, _) = []
 
-abbrev pub skipped_of : List ℕ × Fate → List SkippedModel
-skipped_of (name, skipped kind reason) = record { name = name; kind = kind; reason = reason } ∷ []
+abbrev pub skipped_of : List ℕ × Fate → List SkippedLineModel
+skipped_of (name, skipped kind reason) = record { path = name; kind = kind; reason = reason } ∷ []
 skipped_of (name, _) = []
 
 -- the counted files, the faults of files, the child directories with their jobs, the entries left out
-abbrev pub counted_in : List (List ℕ × Fate) → List CountedModel
+abbrev pub counted_in : List (List ℕ × Fate) → List FileLineModel
 counted_in fates = flat_map counted_of fates
 
-abbrev pub failed_in : List (List ℕ × Fate) → List FileFaultModel
+abbrev pub failed_in : List (List ℕ × Fate) → List FaultLineModel
 failed_in fates = flat_map failed_of fates
 
 abbrev pub walked_in : List (List ℕ × Fate) → List (List ℕ × JobModel)
 walked_in fates = flat_map walked_of fates
 
-abbrev pub skipped_in : List (List ℕ × Fate) → List SkippedModel
+abbrev pub skipped_in : List (List ℕ × Fate) → List SkippedLineModel
 skipped_in fates = flat_map skipped_of fates
 
 -- the faults of paths that are absent
-abbrev pub absent_faults : List (List ℕ) → List FileFaultModel
-absent_faults absent = map (λ rest. record { name = rest; word = Absent }) absent
+abbrev pub absent_faults : List (List ℕ) → List FaultLineModel
+absent_faults absent = map (λ rest. record { path = rest; word = Absent }) absent
 
 -- what is told of a directory that was listed: its counted files, the faults of absent paths and of files, its child directories, entries
 -- left out, and the number of its entries that take part
 pub record LevelParts : Type 0 where
-  pub files : List CountedModel
-  pub faults : List FileFaultModel
+  pub files : List FileLineModel
+  pub faults : List FaultLineModel
   pub children : List (List ℕ × JobModel)
-  pub skipped : List SkippedModel
+  pub skipped : List SkippedLineModel
   pub entries : ℕ
 
 -- a level that was listed has these parts; the entries left out where they are asked for
@@ -195,19 +197,19 @@ pub record IsLevelOf (l : Level) (left_out : Bool) (parts : LevelParts) : Type 0
 
 -- ---- the whole
 
-abbrev pub level_of_items : SelectionModel → List Item → JobModel → Level
-level_of_items s items j =
-    listed_level (fates_of s j (part_of s.only j.path items)) (absent_from s.only j.path items)
+abbrev pub level_of_items : FiltersModel → List Item → JobModel → Level
+level_of_items f items j =
+    listed_level (fates_of f j (part_of f.only j.path items)) (absent_from f.only j.path items)
 
 -- the level of these items, by what reading the rule files gave
-abbrev pub level_after : SelectionModel → JobModel → List Item → Result RuleBytes FaultLineModel → Level
-level_after s j items (Ok files) = level_of_items s items (extended j files)
-level_after s j items (Err fault) = faulted_level fault.path fault.word
+abbrev pub level_after : FiltersModel → JobModel → List Item → Result RuleBytes FaultLineModel → Level
+level_after f j items (Ok files) = level_of_items f items (extended j files)
+level_after f j items (Err fault) = faulted_level fault.path fault.word
 
-abbrev pub level_of : SelectionModel → JobModel → Answers → Items → Level
-level_of s j a (Ok items) = level_after s j items (rule_bytes j.ignore.no_ignore j.path items a)
-level_of s j a (Err word) = faulted_level j.path word
+abbrev pub level_of : FiltersModel → JobModel → Answers → Items → Level
+level_of f j a (Ok items) = level_after f j items (rule_bytes j.ignore.no_ignore j.path items a)
+level_of f j a (Err word) = faulted_level j.path word
 
 -- the level of a directory whose answers these are
-abbrev pub level : SelectionModel → JobModel → Answers → Level
-level s j a = level_of s j a a.here
+abbrev pub level : FiltersModel → JobModel → Answers → Level
+level f j a = level_of f j a a.here

@@ -27,7 +27,7 @@ pub mod RuleFiles
 pub mod RulePairs
 pub mod RuleReads
 pub mod RuleTextReads
-pub mod Selection
+pub mod Filters
 pub mod WellFormed
 pub mod TopJob
 pub mod TreeAnswers

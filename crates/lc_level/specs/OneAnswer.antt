@@ -14,7 +14,7 @@ use Rattle.lc_level.specs.Answers.{Answers}
 use Rattle.lc_level.specs.Job.{JobModel}
 use Rattle.lc_level.specs.Level.{level}
 use Rattle.lc_level.specs.NodeTrees.{tree_of_node}
-use Rattle.lc_level.specs.Selection.{SelectionModel}
+use Rattle.lc_level.specs.Filters.{FiltersModel}
 use Rattle.lc_level.specs.WellFormed.{IsWellFormed}
 use Rattle.lc_level.specs.TreeAnswers.{MayAnswer}
 
@@ -28,8 +28,8 @@ module _ (lists : List ℕ → Listings) (gives : List ℕ → Contents) where
   -- then each directory has one level
   abbrev pub OneLevelLaw : Type 0
   OneLevelLaw =
-      GivesOne → (s : SelectionModel) (j : JobModel) (a b : Answers) → MayAnswer lists gives j.path a → MayAnswer lists gives j.path b
-      → level s j a ≡ level s j b
+      GivesOne → (f : FiltersModel) (j : JobModel) (a b : Answers) → MayAnswer lists gives j.path a → MayAnswer lists gives j.path b
+      → level f j a ≡ level f j b
 
 -- each file of a tree of memory has under 2^47 bytes, the address space of a program on x86-64
 abbrev pub FitsMemory : Node → Type 0
@@ -46,9 +46,9 @@ NodeAnswersLaw = (top : Node) (path : List ℕ) → MayAnswer (mem_lists top) (m
 -- no others give another level
 abbrev pub NodeLevelsLaw : Type 0
 NodeLevelsLaw =
-    (top : Node) → FitsMemory top → (s : SelectionModel) (j : JobModel) (a : Answers)
+    (top : Node) → FitsMemory top → (f : FiltersModel) (j : JobModel) (a : Answers)
     → MayAnswer (mem_lists top) (mem_gives top) j.path a
-    → level s j a ≡ level s j (tree_of_node top (names_of_path j.path))
+    → level f j a ≡ level f j (tree_of_node top (names_of_path j.path))
 
 -- and its listings are listings
 abbrev pub NodeWellFormedLaw : Type 0

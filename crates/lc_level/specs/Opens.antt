@@ -10,29 +10,29 @@ use Rattle.lc_level.specs.Classified.{kept_file, kept_directory, skipped_entry, 
 use Rattle.lc_level.specs.Level.{absent_faults, faulted_level, level}
 use Rattle.lc_level.specs.Narrowing.{part_of, absent_from}
 use Rattle.lc_level.specs.SitePaths.{site_path}
-use Rattle.lc_level.specs.Selection.{SelectionModel}
+use Rattle.lc_level.specs.Filters.{FiltersModel}
 use Rattle.lc_level.specs.TreeAnswers.{MayAnswer}
 use Rattle.lc_tree.specs.Trees.{Listings, Contents}
 use Rattle.lc_level.specs.declared.opening.Opened.{Opened}
 use Rattle.lc_level.specs.declared.open_fault.OpenFault.{OpenFault}
 use Rattle.lc_level.specs.declared.open_fault.OpenFault.TheVariants.{Faulted, Memory, TooDeep}
 
-module _ (lists : List ℕ → Listings) (gives : List ℕ → Contents) (left_out : Bool) (s : SelectionModel) (j : JobModel) where
+module _ (lists : List ℕ → Listings) (gives : List ℕ → Contents) (left_out : Bool) (f : FiltersModel) (j : JobModel) where
   -- by answers that the tree may give: the directory with its rule files, what of its entries that take part these leave in and out,
   -- the paths that are asked for and absent, and how many entries take part, of which none is too deep
   pub record IsOpened (o : Opened) : Type 0 where
     pub inside : IsInside lists gives j o.job
-    pub files : bytes_of o.files.items ≡ flat_map (kept_file s o.job) (entries_of (part_of s.only j.path inside.items))
-    pub children : o.children.items ≡ flat_map (kept_directory s o.job) (entries_of (part_of s.only j.path inside.items))
-    pub skipped : o.skipped.items ≡ flat_map (skipped_entry left_out s o.job) (entries_of (part_of s.only j.path inside.items))
-    pub absent : o.absent.items ≡ absent_faults (absent_from s.only j.path inside.items)
-    pub entries : o.entries ≡ length (part_of s.only j.path inside.items)
-    pub shallow : has_too_deep s j inside.answers ≡ false
+    pub files : bytes_of o.files.items ≡ flat_map (kept_file f o.job) (entries_of (part_of f.only j.path inside.items))
+    pub children : o.children.items ≡ flat_map (kept_directory f o.job) (entries_of (part_of f.only j.path inside.items))
+    pub skipped : o.skipped.items ≡ flat_map (skipped_entry left_out f o.job) (entries_of (part_of f.only j.path inside.items))
+    pub absent : o.absent.items ≡ absent_faults (absent_from f.only j.path inside.items)
+    pub entries : o.entries ≡ length (part_of f.only j.path inside.items)
+    pub shallow : has_too_deep f j inside.answers ≡ false
 
   -- a directory that is opened, at fault, too deep for a walk, or given up for want of memory
   abbrev pub OpensLevel : Result Opened OpenFault → Type 0
   OpensLevel (Ok o) = IsOpened o
   OpensLevel (Err (Faulted site word)) = (a : Answers) × MayAnswer lists gives j.path a × IsWellFormed a
-      × (level s j a ≡ faulted_level (site_path j.path site) word)
+      × (level f j a ≡ faulted_level (site_path j.path site) word)
   OpensLevel (Err Memory) = Unit {0}
-  OpensLevel (Err TooDeep) = (a : Answers) × MayAnswer lists gives j.path a × IsWellFormed a × (has_too_deep s j a ≡ true)
+  OpensLevel (Err TooDeep) = (a : Answers) × MayAnswer lists gives j.path a × IsWellFormed a × (has_too_deep f j a ≡ true)

@@ -1,4 +1,4 @@
--- What is asked of the paths of a selection, step by step.
+-- What is asked of the paths that alone are asked for, step by step.
 use Rattle.std.specs.Prelude.{ℕ, ◌==◌, Bool, ◌&&◌, not, cond, List, [], ◌∷◌, ◌++◌, get_or, take, bytes_eq}
 use Rattle.std.specs.List.{filter, list_any}
 use Rattle.std.specs.Ordering.{is_lt}

@@ -21,7 +21,7 @@ rule_of (by_attribute word) = None
 rule_of not_included = None
 rule_of (other_kind what) = None
 
--- the word of the selection, where an attribute is the reason
+-- the word of the filters, where an attribute is the reason
 abbrev pub attribute_of : Reason → Option (List ℕ)
 attribute_of named_git = None
 attribute_of (by_rule source line) = None

@@ -8,9 +8,9 @@ use Rattle.lc_level.specs.RuleFiles.{Pair, is_top}
 use Rattle.lc_level.specs.RuleReads.{shared, text_items, text_if, MayGive}
 use Rattle.lc_tree.specs.Listing.{EntryModel}
 use Rattle.lc_tree.specs.Trees.{Contents}
-use Rattle.lc_level.specs.declared.rule_pair.RulePair.{RulePair}
-use Rattle.lc_level.specs.declared.rule_pair.PairNames.{PairNames}
-use Rattle.lc_level.specs.declared.rule_pair.PairRead.{PairRead}
+use Rattle.lc_level.specs.declared.rule_files.rule_pair.RulePair.{RulePair}
+use Rattle.lc_level.specs.declared.rule_files.rule_pair.PairNames.{PairNames}
+use Rattle.lc_level.specs.declared.rule_files.rule_pair.PairRead.{PairRead}
 use Rattle.lc_level.specs.declared.open_fault.OpenFault.{OpenFault}
 use Rattle.lc_level.specs.declared.open_fault.OpenFault.TheVariants.{Faulted, Memory, TooDeep}
 use Rattle.lc_level.specs.declared.content_fault.ContentFault.{ContentFault}

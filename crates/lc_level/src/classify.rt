@@ -1,4 +1,4 @@
-//! The entries of a directory: those that stay by its rules and the selection, and those that are skipped.
+//! The entries of a directory: those that stay by its rules and the filters, and those that are skipped.
 ghost use Rattle.std.specs.Prelude.{◌≡◌, ◌≤◌, true, false, length, nat_lt, option_map};
 ghost use Rattle.std.specs.Option.{option_or};
 ghost use Rattle.lc_glob.specs.Path.{depth_of, max_depth, max_path};
@@ -6,14 +6,15 @@ ghost use Rattle.lc_level.specs.Classified.{IsChild, LeavesOut, ClassifiesFile, 
 ghost use Rattle.lc_level.specs.Classified.{ClassifiesAll};
 ghost use Rattle.lc_level.specs.Level.{include_reason, reason_at, job_at};
 ghost use Rattle.lc_level.specs.Reasons.{reason_ref_model};
-ghost use Rattle.lc_level.specs.Selection.{patterns_for};
+ghost use Rattle.lc_level.specs.Filters.{include_rules, patterns_for};
 
 use crate::OpenFault;
-use crate::included::is_included;
 use crate::job::Job;
 use crate::level_reader::LevelReader;
+use crate::lines::SkippedLine;
+use crate::narrowing::included::is_included;
 use crate::path_buffer::PathBuffer;
-use crate::reason::{ReasonRef, SkippedEntry};
+use crate::reason::ReasonRef;
 use lc_glob::path::is_too_deep;
 use lc_rules::IgnoreFile;
 use lc_tree::{Entry, Kind, OtherKind, Tree};
@@ -25,7 +26,7 @@ use std::marker::Model;
 pub(crate) struct Classified {
     pub(crate) files: Vec<Vec<u8>>,
     pub(crate) children: Vec<ChildDirectory>,
-    pub(crate) skipped: Vec<SkippedEntry>,
+    pub(crate) skipped: Vec<SkippedLine>,
 }
 
 /// A directory that is to be walked.
@@ -77,7 +78,11 @@ impl<T: Tree> LevelReader<'_, T> {
         let Ok(reason) = reason.to_reason(self.alloc) else {
             return Err(OpenFault::Memory);
         };
-        match found.skipped.push(SkippedEntry { name, kind, reason }) {
+        match found.skipped.push(SkippedLine {
+            path: name,
+            kind,
+            reason,
+        }) {
             Ok(()) => Ok(()),
             Err(_) => Err(OpenFault::Memory),
         }
@@ -87,14 +92,14 @@ impl<T: Tree> LevelReader<'_, T> {
     fn classify_file(
         &self,
         job: &Job,
-        include: Option<&IgnoreFile>,
+        patterns: Option<&IgnoreFile>,
         name: Vec<u8>,
         path: &[u8],
         found: &mut Classified,
     ) -> Result<(), OpenFault>
         ensures { ClassifiesFile self.now.options.left_out
-            (option_or (reason_at self.now.selection job.now path.now false)
-            (include_reason (option_map (λ p. p.now) include.entry) path.now))
+            (option_or (reason_at self.now.filters.now job.now path.now false)
+            (include_reason (option_map (λ p. p.now) patterns.entry) path.now))
             name.items found.old found.new result }
     {
         match self.reason_at(job, path, false) {
@@ -102,7 +107,7 @@ impl<T: Tree> LevelReader<'_, T> {
             Ok(Some(reason)) => return self.leave_out(name, Kind::File, reason, found),
             Err(_) => return Err(OpenFault::Memory),
         }
-        if !is_included(include, path) {
+        if !is_included(patterns, path) {
             return self.leave_out(name, Kind::File, ReasonRef::NotIncluded, found);
         }
         match found.files.push(name) {
@@ -120,7 +125,7 @@ impl<T: Tree> LevelReader<'_, T> {
         found: &mut Classified,
     ) -> Result<(), OpenFault>
         requires { length path.now ≤ max_path }
-        ensures { ClassifiesDirectory self.now.options.left_out (reason_at self.now.selection job.now path.now true)
+        ensures { ClassifiesDirectory self.now.options.left_out (reason_at self.now.filters.now job.now path.now true)
             (nat_lt max_depth (depth_of path.now)) (name.items, job_at job.now path.now) found.old found.new result }
     {
         match self.reason_at(job, path, true) {
@@ -144,7 +149,7 @@ impl<T: Tree> LevelReader<'_, T> {
         path: &[u8],
         found: &mut Classified,
     ) -> Result<(), OpenFault>
-        ensures { ClassifiesOther self.now.options.left_out (reason_at self.now.selection job.now path.now false) what name.items
+        ensures { ClassifiesOther self.now.options.left_out (reason_at self.now.filters.now job.now path.now false) what name.items
             found.old found.new result }
     {
         if !self.options.left_out {
@@ -162,22 +167,22 @@ impl<T: Tree> LevelReader<'_, T> {
     fn classify_entry(
         &self,
         job: &Job,
-        include: Option<&IgnoreFile>,
+        patterns: Option<&IgnoreFile>,
         entry: Entry,
         path: &mut PathBuffer,
         found: &mut Classified,
     ) -> Result<(), OpenFault>
         requires at { path.old.directory ≡ job.now.path }
-        requires include { option_map (λ p. p.now) include ≡ patterns_for self.now.selection.include job.now.path }
+        requires patterns { option_map (λ p. p.now) patterns ≡ patterns_for (include_rules self.now.filters.now) job.now.path }
         ensures same { path.new.directory ≡ path.old.directory }
-        ensures entry { ClassifiesEntry self.now.options.left_out self.now.selection job.now entry found.old found.new result }
+        ensures entry { ClassifiesEntry self.now.options.left_out self.now.filters.now job.now entry found.old found.new result }
     {
         if entry.name.as_slice() == b".git".as_slice() {
             return self.leave_out(entry.name, entry.kind, ReasonRef::Git, found);
         }
         path.set_short(&entry.name)?;
         match entry.kind {
-            Kind::File => self.classify_file(job, include, entry.name, path.as_slice(), found),
+            Kind::File => self.classify_file(job, patterns, entry.name, path.as_slice(), found),
             Kind::Dir => self.classify_directory(job, entry.name, path.as_slice(), found),
             Kind::Other(what) => self.classify_other(job, what, entry.name, path.as_slice(), found),
         }
@@ -192,16 +197,16 @@ impl<T: Tree> LevelReader<'_, T> {
     ) -> Result<Classified, OpenFault>
         requires at { path.old.directory ≡ job.now.path }
         ensures same { path.new.directory ≡ path.old.directory }
-        ensures all { ClassifiesAll self.now.options.left_out self.now.selection job.now entries.items result }
+        ensures all { ClassifiesAll self.now.options.left_out self.now.filters.now job.now entries.items result }
     {
         let mut found = Classified {
             files: Vec::new(self.alloc),
             children: Vec::new(self.alloc),
             skipped: Vec::new(self.alloc),
         };
-        let include = self.selection.include_in(job.path());
+        let patterns = self.filters.include_in(job.path());
         for entry in entries {
-            self.classify_entry(job, include, entry, path, &mut found)?;
+            self.classify_entry(job, patterns, entry, path, &mut found)?;
         }
         Ok(found)
     }

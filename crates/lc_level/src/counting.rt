@@ -8,7 +8,7 @@ use crate::content_fault::ContentFault;
 use crate::job::Job;
 use crate::level_reader::LevelReader;
 use crate::scratch::Scratch;
-use crate::{Counted, FaultWord, FileFault};
+use crate::{FaultLine, FaultWord, FileLine};
 use lc_census::Count;
 use lc_tree::Tree;
 use std::alloc::{AllocError, Global};
@@ -16,8 +16,8 @@ use std::alloc::{AllocError, Global};
 /// The counted files of a directory, and those that could not be counted, each in the order of their names.
 #[derive(Drop)]
 pub struct CountedFiles {
-    pub files: Vec<Counted>,
-    pub faults: Vec<FileFault>,
+    pub files: Vec<FileLine>,
+    pub faults: Vec<FaultLine>,
 }
 
 impl CountedFiles {
@@ -34,7 +34,12 @@ impl CountedFiles {
         ensures { AddsResult job.now name.items (Ok count) self.old self.new result }
     {
         let text = job.attributes().text(alloc, path)?;
-        let Ok(()) = self.files.push(Counted { name, text, count }) else {
+        let Ok(()) = self.files.push(FileLine {
+            path: name,
+            text,
+            count,
+        })
+        else {
             return Err(AllocError);
         };
         Ok(())
@@ -44,7 +49,7 @@ impl CountedFiles {
     fn push_fault(&mut self, job: &Job, name: Vec<u8>, word: FaultWord) -> Result<(), AllocError>
         ensures { AddsResult job.now name.items (Err word) self.old self.new result }
     {
-        match self.faults.push(FileFault { name, word }) {
+        match self.faults.push(FaultLine { path: name, word }) {
             Ok(()) => Ok(()),
             Err(_) => Err(AllocError),
         }
@@ -53,7 +58,7 @@ impl CountedFiles {
 
 impl<T: Tree> LevelReader<'_, T> {
     /// Counts the file of a name, which moves to the counted files or to the faults.
-    pub(crate) fn count_one(
+    pub(crate) fn count_named(
         &self,
         job: &Job,
         name: Vec<u8>,
@@ -68,7 +73,7 @@ impl<T: Tree> LevelReader<'_, T> {
             return Err(AllocError);
         };
         let path = scratch.path.as_slice();
-        match self.count_file(path, &mut scratch.buffer) {
+        match self.count_at(path, &mut scratch.buffer) {
             Ok(count) => found.push_file(self.alloc, job, path, name, count),
             Err(ContentFault::Fault(word)) => found.push_fault(job, name, word),
             Err(ContentFault::Memory) => Err(AllocError),
@@ -81,7 +86,7 @@ impl<T: Tree> LevelReader<'_, T> {
         &self,
         job: &Job,
         names: Vec<Vec<u8>>,
-        absent: Vec<FileFault>,
+        absent: Vec<FaultLine>,
         scratch: &mut Scratch,
     ) -> Result<CountedFiles, AllocError>
         requires { scratch.old.path.directory ≡ job.now.path }
@@ -92,7 +97,7 @@ impl<T: Tree> LevelReader<'_, T> {
             faults: absent,
         };
         for name in names {
-            self.count_one(job, name, scratch, &mut found)?;
+            self.count_named(job, name, scratch, &mut found)?;
         }
         Ok(found)
     }

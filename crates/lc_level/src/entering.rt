@@ -8,11 +8,11 @@ ghost use Rattle.lc_level.specs.RulePairs.{AreFilesOf, own_asked, ReadsBoth};
 ghost use Rattle.lc_tree.specs.Trees.{Lists};
 
 use crate::FaultSite;
-use crate::chains::{attributes_below, ignore_below};
 use crate::job::Job;
 use crate::level_reader::LevelReader;
 use crate::open_fault::OpenFault;
-use crate::rule_pair::{PairNames, PairRead, RuleName, RulePair};
+use crate::rule_files::chains::{attributes_below, ignore_below};
+use crate::rule_files::rule_pair::{PairNames, PairRead, RuleName, RulePair};
 use crate::scratch::Scratch;
 use lc_tree::{Entry, Listing, ReadFault, Tree};
 use std::alloc::AllocError;

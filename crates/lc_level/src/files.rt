@@ -1,18 +1,18 @@
 //! Opening one file, to count it or to read it as rules.
 ghost use Rattle.std.specs.Prelude.{◌≡◌, ◌<◌, ◌≤◌, ℕ, List, Ok, length};
-ghost use Rattle.lc_census.specs.Limits.{buffer_len};
+ghost use Rattle.lc_io.specs.Buffers.{buffer_len};
 ghost use Rattle.lc_level.specs.FileReads.{IsAnswer, MayCount, MayReadRules};
 
 use crate::FaultWord;
 use crate::content_fault::ContentFault;
 use crate::level_reader::LevelReader;
-use lc_census::{CensusFault, Count, MAX_TURNS, WholeFault, count_in, read_whole};
+use lc_census::{CensusFault, Count, MAX_TURNS, WholeFault, count_source, read_whole};
 use lc_rules::MAX_RULE_BYTES;
 use lc_tree::{ReadFault, Tree};
 
 impl<T: Tree> LevelReader<'_, T> {
     /// Counts the file at a path by reads into the lent buffer, which has `BUFFER_LEN` bytes.
-    pub(crate) fn count_file(&self, path: &[u8], buffer: &mut [u8]) -> Result<Count, ContentFault>
+    pub(crate) fn count_at(&self, path: &[u8], buffer: &mut [u8]) -> Result<Count, ContentFault>
         requires { length buffer.old ≡ buffer_len }
         ensures { IsAnswer (MayCount (T.gives self.now.tree.now path.now)) (λ count. count) result }
     {
@@ -21,7 +21,7 @@ impl<T: Tree> LevelReader<'_, T> {
             Err(ReadFault::Memory) => return Err(ContentFault::Memory),
             Err(_) => return Err(ContentFault::Fault(FaultWord::Read)),
         };
-        match count_in(buffer, &mut file, MAX_TURNS) {
+        match count_source(buffer, &mut file, MAX_TURNS) {
             Ok(count) => Ok(count),
             Err(CensusFault::Read) => Err(ContentFault::Fault(FaultWord::Read)),
             Err(CensusFault::Endless) => Err(ContentFault::Fault(FaultWord::Endless)),

@@ -7,7 +7,7 @@ ghost use Rattle.lc_level.specs.TopJob.{top_job};
 ghost use Rattle.lc_rules.specs.IgnoreChains.{rules_in};
 ghost use Rattle.lc_rules.specs.Verdicts.{last_match};
 
-use crate::top_rules::TopRules;
+use crate::filters::Filters;
 use lc_glob::path::depth_of;
 use lc_rules::{AttrChain, Chain, Rule, RuleSource};
 use std::alloc::{AllocError, Global};
@@ -18,7 +18,7 @@ use std::sync::Arc;
 /// same rule files. A job is one word long, so that it moves at no cost.
 ///
 /// ```
-/// let top = Job::top(alloc, TopRules::none())?; // its path is empty, and its chains have no rule
+/// let top = Job::top(alloc, &Filters::none(alloc))?; // its path is empty, and its chains have no rule
 /// ```
 #[derive(Drop)]
 pub struct Job {
@@ -54,22 +54,12 @@ impl Model for Job {
     ghost view = { λ j. box_value j.parts };
 }
 
-/// The chain of the top of a tree, with these rules besides those of its own files.
-fn top_chain(rules: TopRules) -> Chain
-    ensures { result ≡ (top_job rules).ignore }
-{
-    let given = Chain::top().with_exclude(rules.exclude);
-    given
-        .with_command_line(rules.command_line)
-        .with_no_ignore(rules.no_ignore)
-}
-
 impl Job {
-    /// Makes the job of the top of a tree, with these rules besides those of its own files.
-    pub fn top(alloc: Global, rules: TopRules) -> Result<Job, AllocError>
-        ensures { IfOk result (λ j. j ≡ top_job rules) }
+    /// Makes the job of the top of a tree, by the rules of these filters for the whole tree.
+    pub fn top(alloc: Global, filters: &Filters<'_>) -> Result<Job, AllocError>
+        ensures { IfOk result (λ j. j ≡ top_job filters.now) }
     {
-        let ignore = top_chain(rules);
+        let ignore = filters.top_chain()?;
         let path = Vec::new(alloc);
         let attributes = Arc::new(alloc, AttrChain::top())?;
         Job::new(alloc, path, Arc::new(alloc, ignore)?, attributes)

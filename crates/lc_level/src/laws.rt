@@ -1,7 +1,7 @@
 //! Laws of one directory's work. The functions do nothing: their contracts are what is proved.
 ghost use Rattle.lc_level.specs.Examples.{LevelExamplesHold};
 ghost use Rattle.lc_level.specs.FileReads.{CountsOnce, ReadsRulesOnce};
-ghost use Rattle.lc_level.specs.Laws.{CountedLaw, ExportLaw, OpenedLaw};
+ghost use Rattle.lc_level.specs.Laws.{CountedLaw, OpenedLaw};
 ghost use Rattle.lc_level.specs.OneAnswer.{MemoryLaw, NodeAnswersLaw, NodeLevelsLaw, NodeWellFormedLaw, OneLevelLaw};
 
 use lc_census::bytes_have_one_cutting;
@@ -15,11 +15,6 @@ pub fn work_is_a_level<T: Tree>(tree: &T)
 {
     let _tree = tree;
 }
-
-/// What is exported is what stays without `export-ignore`: gitattributes(5).
-pub fn export_ignore_is_one_more_attribute()
-    ensures { ExportLaw }
-{}
 
 /// A tree that answers each question in one way has one level for each directory.
 pub fn one_answer_is_one_level<T: Tree>(tree: &T)

@@ -1,25 +1,29 @@
 //! What is lent for the reading of a tree's directories. The methods stand in the modules of what they read.
 ghost use Rattle.std.specs.Prelude.{◌≡◌};
 
-use crate::selection::Selection;
+use crate::filters::Filters;
+use crate::named_attributes::NamedAttributes;
 use std::alloc::Global;
 
 /// What a reader keeps besides what a count needs. What it does not keep costs nothing.
-#[derive(Clone, Copy, Debug, Drop)]
-pub struct ReaderOptions {
+#[derive(Clone, Copy, Drop)]
+pub struct ReaderOptions<'n> {
     /// Whether to keep the skipped entries, with their reasons.
     pub left_out: bool,
     /// Whether to keep the bytes of `.git/info/exclude` and of each `.gitignore`.
     pub texts: bool,
+    /// Where to note which attributes the attribute files of the tree name. It changes no answer.
+    pub named: Option<&'n NamedAttributes>,
 }
 
 /// Reads a tree, a directory at a time: it opens the directory, and counts the files that stay in it.
 ///
 /// ```
-/// let options = ReaderOptions { left_out: false, texts: false };
-/// let reader = LevelReader::new(alloc, &tree, Selection::new(false, &[]), options);
+/// let filters = Filters::none(alloc);
+/// let options = ReaderOptions { left_out: false, texts: false, named: None };
+/// let reader = LevelReader::new(alloc, &tree, &filters, options);
 /// let mut scratch = Scratch::new(alloc)?;
-/// let top = Job::top(alloc, TopRules::none())?;
+/// let top = Job::top(alloc, &filters)?;
 /// let opened = reader.open(&top, &mut scratch)?; // `opened.children` has the directories to be visited
 /// let counted = reader.count(&opened.job, opened.files, opened.absent, &mut scratch)?;
 /// ```
@@ -27,26 +31,26 @@ pub struct ReaderOptions {
 pub struct LevelReader<'t, T> {
     pub(crate) alloc: Global,
     pub(crate) tree: &'t T,
-    pub(crate) selection: Selection<'t>,
-    pub(crate) options: ReaderOptions,
+    pub(crate) filters: &'t Filters<'t>,
+    pub(crate) options: ReaderOptions<'t>,
 }
 
 impl<'t, T> LevelReader<'t, T> {
-    /// Makes the reader of a tree, by a selection. It asks the tree nothing.
+    /// Makes the reader of a tree, by these filters. It asks the tree nothing.
     pub fn new(
         alloc: Global,
         tree: &'t T,
-        selection: Selection<'t>,
-        options: ReaderOptions,
+        filters: &'t Filters<'t>,
+        options: ReaderOptions<'t>,
     ) -> LevelReader<'t, T>
         ensures tree { result.tree.now ≡ tree.entry.now }
-        ensures selection { result.selection ≡ selection.entry }
-        ensures options { result.options ≡ options }
+        ensures filters { result.filters.now ≡ filters.entry.now }
+        ensures options { result.options ≡ options.entry }
     {
         LevelReader {
             alloc,
             tree,
-            selection,
+            filters,
             options,
         }
     }

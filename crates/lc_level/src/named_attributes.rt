@@ -13,8 +13,8 @@ use std::sync::atomic::{AtomicBool, Ordering};
 ///
 /// ```
 /// let named = NamedAttributes::new(alloc, &["linguist-generated=true"])?;
-/// let selection = Selection::new(false, &["linguist-generated=true"]).noting(Some(&named));
-/// // once a tree was read by this selection
+/// let options = ReaderOptions { left_out: false, texts: false, named: Some(&named) };
+/// // once a tree was read with these options
 /// let unnamed = named.unnamed(alloc)?; // `linguist-generated`, if no attribute file has it
 /// ```
 #[derive(Drop)]

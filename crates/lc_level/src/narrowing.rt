@@ -7,11 +7,16 @@ ghost use Rattle.lc_level.specs.PathSteps.{is_led_to, unled};
 ghost use Rattle.lc_tree.specs.ByteOrder.{AreInOrder};
 ghost use Rattle.lc_tree.specs.Listing.{IsListing};
 
+pub(crate) mod below;
+pub(crate) mod included;
+pub(crate) mod only_paths;
+pub(crate) mod sorted_paths;
+
 use crate::FaultWord;
-use crate::below::stands_below;
-use crate::counted::FileFault;
 use crate::entry_looks::entry_named;
-use crate::sorted_paths::{has_below, is_among};
+use crate::lines::FaultLine;
+use crate::narrowing::below::stands_below;
+use crate::narrowing::sorted_paths::{has_below, is_among};
 use lc_glob::cut_at_first;
 use lc_tree::{Entry, Kind};
 use std::alloc::{AllocError, Global};
@@ -82,7 +87,7 @@ fn add_unled(
     alloc: Global,
     rest: &[u8],
     entries: &[Entry],
-    absent: &mut Vec<FileFault>,
+    absent: &mut Vec<FaultLine>,
 ) -> Result<(), AllocError>
     requires { IsListing entries.now }
     ensures { IfOk result (λ _. absent.new.items ≡ absent.old.items ++ absent_faults (unled entries.now (rest.now ∷ []))) }
@@ -90,9 +95,9 @@ fn add_unled(
     if is_led_to(entries, rest) {
         return Ok(());
     }
-    let name = rest.to_vec(alloc)?;
-    match absent.push(FileFault {
-        name,
+    let path = rest.to_vec(alloc)?;
+    match absent.push(FaultLine {
+        path,
         word: FaultWord::Absent,
     }) {
         Ok(()) => Ok(()),
@@ -126,7 +131,7 @@ impl<'o> Wanted<'o> {
         &self,
         alloc: Global,
         entries: &[Entry],
-    ) -> Result<Vec<FileFault>, AllocError>
+    ) -> Result<Vec<FaultLine>, AllocError>
         requires { IsListing entries.now }
         ensures { IfOk result (λ absent. absent.items ≡ absent_faults (unled entries.now self.now.rests)) }
     {

@@ -4,14 +4,13 @@ ghost use Rattle.lc_level.specs.Opens.{OpensLevel};
 ghost use Rattle.lc_tree.specs.Trees.{Lists};
 
 use crate::classify::ChildDirectory;
-use crate::counted::FileFault;
 use crate::entering::Entered;
 use crate::job::Job;
 use crate::level_reader::LevelReader;
+use crate::lines::{FaultLine, SkippedLine};
 use crate::open_fault::OpenFault;
-use crate::reason::SkippedEntry;
 use crate::scratch::Scratch;
-use crate::spare_threads::SpareThreads;
+use crate::threads::spare_threads::SpareThreads;
 use lc_tree::{Listing, ReadFault, Tree, list_in_parts};
 use std::thread::Threads;
 
@@ -25,9 +24,9 @@ pub struct Opened {
     /// The directories that are to be visited.
     pub children: Vec<ChildDirectory>,
     /// The skipped entries, in the order of the listing; none unless they are kept.
-    pub skipped: Vec<SkippedEntry>,
+    pub skipped: Vec<SkippedLine>,
     /// The paths that are asked for and absent, seen from the directory.
-    pub absent: Vec<FileFault>,
+    pub absent: Vec<FaultLine>,
     /// The number of the entries that take part.
     pub entries: u32,
 }
@@ -44,10 +43,10 @@ impl<T: Tree> LevelReader<'_, T> {
         requires { Lists (T.lists self.now.tree.now job.now.path) listing }
         ensures at { IfOk result (λ o. scratch.new.path.directory ≡ o.job.path) }
         ensures opens { OpensLevel (T.lists self.now.tree.now) (T.gives self.now.tree.now) self.now.options.left_out
-            self.now.selection job.now result }
+            self.now.filters.now job.now result }
     {
         let Entered { job, entries, .. } = self.enter_listed(job, listing, scratch)?;
-        let Ok(wanted) = self.selection.wanted_in(self.alloc, job.path()) else {
+        let Ok(wanted) = self.filters.wanted_in(self.alloc, job.path()) else {
             return Err(OpenFault::Memory);
         };
         let Ok(absent) = wanted.absent(self.alloc, &entries) else {
@@ -75,7 +74,7 @@ impl<T: Tree> LevelReader<'_, T> {
     pub fn open(&self, job: &Job, scratch: &mut Scratch) -> Result<Opened, OpenFault>
         ensures at { IfOk result (λ o. scratch.new.path.directory ≡ o.job.path) }
         ensures opens { OpensLevel (T.lists self.now.tree.now) (T.gives self.now.tree.now) self.now.options.left_out
-            self.now.selection job.now result }
+            self.now.filters.now job.now result }
     {
         let listing = self.tree.list(self.alloc, job.path());
         self.open_listed(job, listing, scratch)
@@ -90,7 +89,7 @@ impl<T: Tree> LevelReader<'_, T> {
     ) -> Result<Opened, OpenFault>
         ensures at { IfOk result (λ o. scratch.new.path.directory ≡ o.job.path) }
         ensures opens { OpensLevel (T.lists self.now.tree.now) (T.gives self.now.tree.now) self.now.options.left_out
-            self.now.selection job.now result }
+            self.now.filters.now job.now result }
     {
         let listing = list_in_parts(threads.rt, self.alloc, self.tree, job.path(), threads.idle);
         self.open_listed(job, listing, scratch)

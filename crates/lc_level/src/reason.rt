@@ -5,9 +5,8 @@ ghost use Rattle.lc_level.specs.Reasons.{reason_model, reason_ref_model};
 ghost use Rattle.lc_level.specs.ReasonWords.{attribute_of, reason_word, rule_of};
 
 use lc_rules::RuleSource;
-use lc_tree::{Kind, OtherKind};
+use lc_tree::OtherKind;
 use std::alloc::{AllocError, Global};
-use std::marker::Model;
 
 /// Why an entry is skipped: the first of these that holds.
 #[derive(Debug, Drop)]
@@ -16,9 +15,9 @@ pub enum Reason {
     Git,
     /// The last rule that matches it ignores it. The rule is in the file of this source, on the line with this number, from 1.
     Rule { source: RuleSource, line: u32 },
-    /// An attribute has the state for it that this word of the selection asks for, such as `ATTR` or `ATTR=VALUE`.
+    /// An attribute has the state for it that this word of the filters asks for, such as `ATTR` or `ATTR=VALUE`.
     Attribute(Vec<u8>),
-    /// It is a file, and no pattern of the selection includes it.
+    /// It is a file, and no pattern of the filters includes it.
     NotIncluded,
     /// It is of another kind than the files that are read and the directories that are entered.
     OtherKind(OtherKind),
@@ -65,7 +64,7 @@ impl Reason {
         }
     }
 
-    /// The word of the selection, such as `ATTR` or `ATTR=VALUE`, if an attribute is the reason.
+    /// The word of the filters, such as `ATTR` or `ATTR=VALUE`, if an attribute is the reason.
     pub fn attribute(&self) -> Option<&[u8]>
         ensures { option_map (λ word. word.now) result ≡ attribute_of (reason_model self.entry.now) }
     {
@@ -99,24 +98,4 @@ impl ReasonRef<'_> {
             ReasonRef::OtherKind(what) => Ok(Reason::OtherKind(what)),
         }
     }
-}
-
-/// An entry that is skipped.
-#[derive(Debug, Drop)]
-pub struct SkippedEntry {
-    /// The name of the entry in its directory.
-    pub name: Vec<u8>,
-    /// What the entry is.
-    pub kind: Kind,
-    /// Why the entry is skipped.
-    pub reason: Reason,
-}
-
-impl Model for SkippedEntry {
-    ghost use Rattle.lc_level.specs.Level.{SkippedModel};
-    ghost use Rattle.lc_level.specs.Reasons.{reason_model};
-
-    ghost Value = { SkippedModel };
-
-    ghost view = { λ l. record { name = l.name.items; kind = l.kind; reason = reason_model l.reason } };
 }

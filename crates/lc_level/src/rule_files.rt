@@ -5,6 +5,11 @@ ghost use Rattle.lc_rules.specs.AttrLines.{attribute_file_of};
 ghost use Rattle.lc_level.specs.EntryLooks.{has_file};
 ghost use Rattle.lc_level.specs.RuleReads.{text_items, text_if, IsRead, IsParsed, IsIgnoreRead};
 
+pub(crate) mod chains;
+pub(crate) mod git_info;
+pub(crate) mod rule_pair;
+pub(crate) mod rule_text;
+
 use crate::FaultWord;
 use crate::content_fault::ContentFault;
 use crate::entry_looks::has_file;
@@ -135,7 +140,9 @@ impl<T: Tree> LevelReader<'_, T> {
         if !self.read_named(listing, name, scratch)? {
             return Ok(None);
         }
-        self.selection.note(&scratch.rules);
+        if let Some(named) = self.options.named {
+            named.note(&scratch.rules);
+        }
         match AttrFile::read(self.alloc, &scratch.rules, top) {
             Ok(file) => match Arc::new(self.alloc, file) {
                 Ok(file) => Ok(Some(file)),

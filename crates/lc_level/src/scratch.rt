@@ -1,6 +1,6 @@
 //! The buffers of a worker.
 ghost use Rattle.std.specs.Prelude.{◌≡◌, vec_len};
-ghost use Rattle.lc_census.specs.Limits.{buffer_len};
+ghost use Rattle.lc_io.specs.Buffers.{buffer_len};
 
 use crate::path_buffer::PathBuffer;
 use lc_census::new_buffer;

@@ -1,4 +1,4 @@
-//! Why an entry is skipped, by the rules, the selection and its kind.
+//! Why an entry is skipped, by the rules, the filters and its kind.
 ghost use Rattle.std.specs.Prelude.{◌≡◌, IfOk, option_map};
 ghost use Rattle.lc_glob.specs.Path.{path_in};
 ghost use Rattle.lc_level.specs.Level.{rule_reason, reason_at, reason_for};
@@ -6,9 +6,9 @@ ghost use Rattle.lc_level.specs.Reasons.{reason_model, reason_ref_model};
 ghost use Rattle.lc_rules.specs.IgnoreChains.{rules_in};
 ghost use Rattle.lc_rules.specs.Verdicts.{last_match};
 
-use crate::included::is_included;
 use crate::job::Job;
 use crate::level_reader::LevelReader;
+use crate::narrowing::included::is_included;
 use crate::reason::{Reason, ReasonRef};
 use lc_rules::Verdict;
 use lc_tree::Kind;
@@ -29,19 +29,19 @@ fn ignored_by(job: &Job, path: &[u8], is_dir: bool) -> Option<ReasonRef<'static>
 }
 
 impl<'t, T> LevelReader<'t, T> {
-    /// Why the rules or the selection skip a path, if they do. Memory is taken for attributes' macros alone.
+    /// Why the rules or the filters skip a path, if they do. Memory is taken for attributes' macros alone.
     pub(crate) fn reason_at(
         &self,
         job: &Job,
         path: &[u8],
         is_dir: bool,
     ) -> Result<Option<ReasonRef<'t>>, AllocError>
-        ensures { IfOk result (λ r. option_map reason_ref_model r ≡ reason_at self.now.selection job.now path.now is_dir) }
+        ensures { IfOk result (λ r. option_map reason_ref_model r ≡ reason_at self.now.filters.now job.now path.now is_dir) }
     {
         if let Some(reason) = ignored_by(job, path, is_dir) {
             return Ok(Some(reason));
         }
-        match self.selection.first_met(self.alloc, job, path, is_dir)? {
+        match self.filters.first_met(self.alloc, job, path, is_dir)? {
             Some(word) => Ok(Some(ReasonRef::Attribute(word))),
             None => Ok(None),
         }
@@ -56,7 +56,7 @@ impl<'t, T> LevelReader<'t, T> {
         kind: Kind,
     ) -> Result<Option<Reason>, AllocError>
         requires { path.now ≡ path_in job.now.path name.now }
-        ensures { IfOk result (λ r. option_map reason_model r ≡ reason_for self.now.selection job.now name.now kind) }
+        ensures { IfOk result (λ r. option_map reason_model r ≡ reason_for self.now.filters.now job.now name.now kind) }
     {
         if name == b".git".as_slice() {
             return Ok(Some(Reason::Git));
@@ -65,7 +65,7 @@ impl<'t, T> LevelReader<'t, T> {
             return Ok(Some(reason.to_reason(self.alloc)?));
         }
         match kind {
-            Kind::File => Ok(if is_included(self.selection.include_in(job.path()), path) {
+            Kind::File => Ok(if is_included(self.filters.include_in(job.path()), path) {
                 None
             } else {
                 Some(Reason::NotIncluded)

@@ -1,8 +1,6 @@
 //! What one directory's work answers for trees of memory.
 
 mod after_large;
-mod around_slash;
-mod deep;
 mod entering;
 mod faults;
 mod filters;

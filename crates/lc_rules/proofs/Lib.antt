@@ -1,5 +1,5 @@
 pub mod ChainOrder
-pub mod Crossing
+pub mod SentAndShared
 pub mod Cuts
 pub mod LineEnds
 pub mod LastRule

@@ -1,7 +1,8 @@
 //! A few files after a large one, which idle threads help to count.
 
 use crate::level::in_parts::{check, count_flat};
-use lc_tree::Node;
+use lc_level::Filters;
+use lc_tree::{MemTree, Node};
 use std::alloc::{AllocError, Global};
 use std::test::Fail;
 
@@ -26,7 +27,8 @@ fn files(alloc: Global) -> Result<Node, AllocError> {
 #[test]
 fn files_after_a_large_one_are_counted_in_parts(rt: HostRuntime) -> Result<(), Fail> {
     let node = files(rt.alloc())?;
-    let wanted = count_flat(&rt, rt.alloc(), &node, None)?;
+    let (tree, filters) = (MemTree::new(&node), Filters::none(rt.alloc()));
+    let wanted = count_flat(&rt, rt.alloc(), &tree, &filters, None)?;
     assert!(rt; wanted.files.len() == 4 && wanted.faults.len() == 2);
     for threads in [0, 1, 2, 15] {
         check(&rt, rt.alloc(), &node, &wanted, threads)?;

@@ -1,23 +1,13 @@
 //! Directories that are entered: their entries, the texts of their rules, and what these decide of a path.
 
 use crate::level::work::{NOTHING, job_of};
-use lc_level::{
-    Entered, Job, LevelReader, OpenFault, ReaderOptions, Scratch, Selection, TopRules, path_in,
-};
+use lc_level::{Entered, Filters, Job, LevelReader, OpenFault, ReaderOptions, Scratch, path_in};
 use lc_rules::{RuleSource, Verdict};
-use lc_tests::{has_words, push_name, push_reason, tree};
-use lc_tree::{Kind, MemTree, OtherKind};
+use lc_tests::{Asked, has_words, push_name, push_reason, tree};
+use lc_tree::{Kind, MemTree, Node, OtherKind};
 use std::alloc::{AllocError, Global};
 use std::process::Abort;
 use std::test::Fail;
-
-const TEXTS: ReaderOptions = ReaderOptions {
-    left_out: false,
-    texts: true,
-};
-
-/// What has this attribute is left out.
-const WITHOUT: &[&str] = &["export-ignore"];
 
 const REPOSITORY: &str = "
     s/{ .gitignore=#_none; }
@@ -27,19 +17,19 @@ const REPOSITORY: &str = "
     .gitattributes=docs_export-ignore;
     .git/{ info/{ exclude=*.tmp; attributes=*.c_text; } }";
 
-/// The name of a directory below the top, or of the top, what is kept of it, and what is found.
-type Case = (&'static str, ReaderOptions, &'static str);
+/// The name of a directory below the top, or of the top, whether the texts of its rules are kept, and what is found.
+type Case = (&'static str, bool, &'static str);
 
 const ENTERED: &[Case] = &[
     (
         "",
-        TEXTS,
+        true,
         ".git, .gitattributes, .gitignore, c, s, t, info *.tmp|, own *.log|!keep.log|",
     ),
-    ("s", TEXTS, ".gitignore, own # none|"),
-    ("t", TEXTS, "a, b"),
-    ("", NOTHING, ".git, .gitattributes, .gitignore, c, s, t"),
-    ("c", TEXTS, "Faulted(Directory, Read)"),
+    ("s", true, ".gitignore, own # none|"),
+    ("t", true, "a, b"),
+    ("", false, ".git, .gitattributes, .gitignore, c, s, t"),
+    ("c", true, "Faulted(Directory, Read)"),
 ];
 
 /// Adds the text of a rule file behind this word, if it is kept, with `|` for each line end.
@@ -89,25 +79,32 @@ fn enter(
 fn check_entered(
     rt: &impl Abort,
     alloc: Global,
-    tree: &MemTree,
-    (below, kept, wanted): &Case,
+    node: &Node,
+    filters: &Filters<'_>,
+    (below, texts, wanted): &Case,
 ) -> Result<(), AllocError> {
-    let reader = LevelReader::new(alloc, tree, Selection::new(false, WITHOUT), *kept);
+    let tree = MemTree::new(node);
+    let options = ReaderOptions {
+        texts: *texts,
+        ..NOTHING
+    };
+    let reader = LevelReader::new(alloc, &tree, filters, options);
     let mut scratch = Scratch::new(alloc)?;
-    let job = job_of(alloc, &reader, TopRules::none(), below, &mut scratch)?;
-    assert!(rt; job.is_some(), "there is no {below}");
-    if let Some(job) = job {
-        let found = enter(alloc, &reader, &job, &mut scratch)?;
-        assert!(rt; has_words(&found, wanted), "{below}: {found}");
-    }
+    let Some(job) = job_of(alloc, &reader, filters, below, &mut scratch)? else {
+        assert!(rt; false, "there is no {below}");
+        return Ok(());
+    };
+    let found = enter(alloc, &reader, &job, &mut scratch)?;
+    assert!(rt; has_words(&found, wanted), "{below}: {found}");
     Ok(())
 }
 
 #[test]
 fn entries_and_texts(rt: HostRuntime) -> Result<(), Fail> {
     let node = tree(rt.alloc(), REPOSITORY)?;
+    let filters = Filters::none(rt.alloc());
     for case in ENTERED {
-        check_entered(&rt, rt.alloc(), &MemTree::new(&node), case)?;
+        check_entered(&rt, rt.alloc(), &node, &filters, case)?;
     }
     Ok(())
 }
@@ -182,10 +179,15 @@ fn check_inside(
     )
 }
 
-fn check_top(rt: &impl Abort, alloc: Global, tree: &MemTree) -> Result<(), AllocError> {
-    let reader = LevelReader::new(alloc, tree, Selection::new(false, WITHOUT), NOTHING);
+fn check_top<'t>(
+    rt: &impl Abort,
+    alloc: Global,
+    tree: &'t MemTree<'_>,
+    filters: &'t Filters<'_>,
+) -> Result<(), AllocError> {
+    let reader = LevelReader::new(alloc, tree, filters, NOTHING);
     let mut scratch = Scratch::new(alloc)?;
-    match reader.enter(&Job::top(alloc, TopRules::none())?, &mut scratch) {
+    match reader.enter(&Job::top(alloc, filters)?, &mut scratch) {
         Ok(entered) => check_inside(rt, alloc, &reader, &entered.job),
         Err(OpenFault::Memory) => Err(AllocError),
         Err(open_fault) => {
@@ -198,6 +200,8 @@ fn check_top(rt: &impl Abort, alloc: Global, tree: &MemTree) -> Result<(), Alloc
 #[test]
 fn what_decides_inside(rt: HostRuntime) -> Result<(), Fail> {
     let node = tree(rt.alloc(), REPOSITORY)?;
-    check_top(&rt, rt.alloc(), &MemTree::new(&node))?;
+    let asked = Asked::read(rt.alloc(), "--without=export-ignore")?;
+    let filters = asked.filters(rt.alloc())?;
+    check_top(&rt, rt.alloc(), &MemTree::new(&node), &filters)?;
     Ok(())
 }

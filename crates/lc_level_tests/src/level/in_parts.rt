@@ -2,8 +2,7 @@
 
 use crate::level::work::NOTHING;
 use lc_level::{
-    CountedFiles, FaultWord, FileFault, Job, LevelReader, Opened, Scratch, Selection, SpareThreads,
-    TopRules,
+    CountedFiles, FaultLine, FaultWord, Filters, Job, LevelReader, Opened, Scratch, SpareThreads,
 };
 use lc_tree::{IdleThreads, MemTree, Node};
 use std::alloc::{AllocError, Global};
@@ -31,10 +30,10 @@ fn flat(alloc: Global) -> Result<Node, AllocError> {
 
 fn is_same(found: &CountedFiles, wanted: &CountedFiles) -> bool {
     let files = found.files.iter().zip(&wanted.files).all(|(file, other)| {
-        file.name == other.name && file.text == other.text && file.count == other.count
+        file.path == other.path && file.text == other.text && file.count == other.count
     });
     let faults = found.faults.iter().zip(&wanted.faults).all(|(fault, other)| {
-        fault.name == other.name && fault.word == other.word
+        fault.path == other.path && fault.word == other.word
     });
     files
         && faults
@@ -43,16 +42,16 @@ fn is_same(found: &CountedFiles, wanted: &CountedFiles) -> bool {
 }
 
 /// The files of the directory, and an absent path, counted with the help of these threads or by `count`.
-pub(super) fn count_flat<R: Threads + Sync>(
+pub(super) fn count_flat<'t, R: Threads + Sync>(
     rt: &R,
     alloc: Global,
-    node: &Node,
+    tree: &'t MemTree<'_>,
+    filters: &'t Filters<'_>,
     idle: Option<&IdleThreads>,
 ) -> Result<CountedFiles, AllocError> {
-    let tree = MemTree::new(node);
-    let reader = LevelReader::new(alloc, &tree, Selection::new(false, &[]), NOTHING);
+    let reader = LevelReader::new(alloc, tree, filters, NOTHING);
     let mut scratch = Scratch::new(alloc)?;
-    let Ok(opened) = reader.open(&Job::top(alloc, TopRules::none())?, &mut scratch) else {
+    let Ok(opened) = reader.open(&Job::top(alloc, filters)?, &mut scratch) else {
         return Err(AllocError);
     };
     let Opened {
@@ -61,14 +60,14 @@ pub(super) fn count_flat<R: Threads + Sync>(
         mut absent,
         ..
     } = opened;
-    absent.push(FileFault {
-        name: b"absent".to_vec(alloc)?,
+    absent.push(FaultLine {
+        path: b"absent".to_vec(alloc)?,
         word: FaultWord::Absent,
     })?;
     match idle {
         Some(idle) => {
             let threads = SpareThreads { rt, idle };
-            reader.count_in_parts(&threads, &job, files, absent, &mut scratch)
+            reader.count_divided(&threads, &job, files, absent, &mut scratch)
         }
         None => reader.count(&job, files, absent, &mut scratch),
     }
@@ -86,7 +85,8 @@ pub(super) fn check<R: Threads + Sync + Abort>(
     for _ in 0..threads {
         idle.begin();
     }
-    let counted = count_flat(rt, alloc, node, Some(&idle));
+    let (tree, filters) = (MemTree::new(node), Filters::none(alloc));
+    let counted = count_flat(rt, alloc, &tree, &filters, Some(&idle));
     assert!(rt; idle.take(FILES) == threads, "{threads}");
     assert!(rt; is_same(&counted?, wanted), "{threads}");
     Ok(())
@@ -95,7 +95,8 @@ pub(super) fn check<R: Threads + Sync + Abort>(
 #[test]
 fn many_files_are_counted_in_parts(rt: HostRuntime) -> Result<(), Fail> {
     let node = flat(rt.alloc())?;
-    let wanted = count_flat(&rt, rt.alloc(), &node, None)?;
+    let (tree, filters) = (MemTree::new(&node), Filters::none(rt.alloc()));
+    let wanted = count_flat(&rt, rt.alloc(), &tree, &filters, None)?;
     assert!(rt; wanted.files.len() == 1714 && wanted.faults.len() == 287);
     for threads in [0, 1, 2, 15, 40] {
         check(&rt, rt.alloc(), &node, &wanted, threads)?;

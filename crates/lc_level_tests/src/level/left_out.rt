@@ -59,7 +59,7 @@ const CASES: &[Case] = &[
     (
         "each reason and each kind",
         EACH,
-        "--archive --exclude-from=*.o;*.bak;",
+        "--without=export-ignore --exclude-from=*.o;*.bak;",
         OF_EACH,
     ),
     (
@@ -87,8 +87,6 @@ const ATTRIBUTED: &str = "
     s/
     x.tmp";
 
-const ALL: &str = ".gitattributes, a.tmp, b.y, x.tmp, docs/, s/";
-
 /// Without what has the attribute `export-ignore`.
 const EXPORTED: &str = "
     .gitattributes
@@ -99,14 +97,16 @@ const EXPORTED: &str = "
     left attribute export-ignore docs/";
 
 const BY_ATTRIBUTES: &[Part] = &[
-    ("as an archive", "--archive", EXPORTED),
-    ("as it is", "", ALL),
     (
         "without a second one",
         "--without=text --without=export-ignore",
         EXPORTED,
     ),
-    ("without another", "--without=text", ALL),
+    (
+        "without another",
+        "--without=text",
+        ".gitattributes, a.tmp, b.y, x.tmp, docs/, s/",
+    ),
 ];
 
 #[test]

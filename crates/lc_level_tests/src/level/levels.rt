@@ -10,7 +10,12 @@ const LISTED: &[Case] = &[
         "",
         "f, fault read e, c/, d/, left filesystem m@/, left other o@",
     ),
-    (".git is a directory", ".git/ a", "", "a, left git .git/"),
+    (
+        ".git is a directory",
+        ".git/{ HEAD } a",
+        "",
+        "a, left git .git/",
+    ),
     (".git is a file", ".git a", "", "a, left git .git"),
     (".git is another kind", ".git@ a", "", "a, left git .git@"),
     (
@@ -19,16 +24,9 @@ const LISTED: &[Case] = &[
         "",
         "a, left git .git@/",
     ),
-    (
-        ".git has a file",
-        ".git/{ HEAD } a",
-        "",
-        "a, left git .git/",
-    ),
 ];
 
 const BY_RULES: &[Case] = &[
-    ("no rule", ".gitignore= a b d/", "", ".gitignore, a, b, d/"),
     (
         "a pattern for directories",
         ".gitignore=a/;d/; a b d/",

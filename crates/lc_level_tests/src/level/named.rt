@@ -1,20 +1,28 @@
 //! Which attributes the attribute files of a tree name.
 
 use crate::level::work::NOTHING;
-use lc_level::{Job, LevelReader, NamedAttributes, Scratch, Selection, TopRules};
+use lc_level::{Filters, Job, LevelReader, NamedAttributes, ReaderOptions, Scratch};
 use lc_tests::{push_name, tree};
-use lc_tree::MemTree;
+use lc_tree::{MemTree, Node};
 use std::alloc::{AllocError, Global};
 use std::test::Fail;
 
 const WORDS: &[&str] = &["generated=true", "vendored"];
 
-/// Opens the top of a tree by this selection.
-fn open_top(alloc: Global, selection: Selection<'_>, sketch: &str) -> Result<(), AllocError> {
-    let node = tree(alloc, sketch)?;
-    let tree = MemTree::new(&node);
-    let reader = LevelReader::new(alloc, &tree, selection, NOTHING);
-    let job = Job::top(alloc, TopRules::none())?;
+/// Opens the top of a tree, and notes what its attribute files name.
+fn open_top<'t>(
+    alloc: Global,
+    node: &Node,
+    filters: &'t Filters<'_>,
+    named: &'t NamedAttributes,
+) -> Result<(), AllocError> {
+    let tree = MemTree::new(node);
+    let options = ReaderOptions {
+        named: Some(named),
+        ..NOTHING
+    };
+    let reader = LevelReader::new(alloc, &tree, filters, options);
+    let job = Job::top(alloc, filters)?;
     let mut scratch = Scratch::new(alloc)?;
     match reader.open(&job, &mut scratch) {
         Ok(_) => Ok(()),
@@ -37,12 +45,11 @@ fn attribute_files_name_attributes(rt: HostRuntime) -> Result<(), Fail> {
     let alloc = rt.alloc();
     let named = NamedAttributes::new(alloc, WORDS)?;
     assert_eq!(rt; unnamed(alloc, &named)?.as_str(), "generated vendored ");
-    let selection = Selection::new(false, WORDS).noting(Some(&named));
-    open_top(
-        alloc,
-        selection,
-        ".gitattributes=*.c_generated=true; a.c vendored",
-    )?;
+    let node = tree(alloc, ".gitattributes=*.c_generated=true; a.c vendored")?;
+    // Lent before the filters are, so that both references end together.
+    let noted = &named;
+    let filters = Filters::none(alloc);
+    open_top(alloc, &node, &filters, noted)?;
     assert_eq!(rt; unnamed(alloc, &named)?.as_str(), "vendored ");
     Ok(())
 }

@@ -1,8 +1,8 @@
 //! Files of rules that give little at once, fail, are too long or never end.
 
 use lc_census::Source;
-use lc_census::trials::{Bytewise, Counted, Endless, Failing};
 use lc_level::{RulesFileFault, read_rule_text};
+use lc_tests::readers::{Bytewise, Counted, Endless, Failing};
 use std::alloc::AllocError;
 use std::process::Abort;
 use std::test::Fail;

@@ -1,15 +1,13 @@
 //! One directory's work on a tree of memory, and what is found there as text.
 
 use lc_level::{
-    ChildDirectory, CountedFiles, FaultWord, Job, LevelReader, OnlyPaths, OpenFault, Opened,
-    ReaderOptions, Scratch, Selection, SkippedEntry, TopRules,
+    ChildDirectory, CountedFiles, FaultWord, Filters, Job, LevelReader, OpenFault, Opened,
+    ReaderOptions, Scratch, SkippedLine,
 };
-use lc_rules::IgnoreFile;
 use lc_tests::{Asked, has_words, push_kind, push_name, push_reason, text_word, tree};
 use lc_tree::{MemTree, Node};
 use std::alloc::{AllocError, Global};
 use std::process::Abort;
-use std::sync::Arc;
 
 /// A name, the sketch of a tree, what is asked as on a command line, and what is found, or what stops it.
 pub(crate) type Case<'a> = (&'a str, &'a str, &'a str, &'a str);
@@ -18,14 +16,15 @@ pub(crate) type Case<'a> = (&'a str, &'a str, &'a str, &'a str);
 pub(crate) type Part<'a> = (&'a str, &'a str, &'a str);
 
 /// Nothing beside what a count needs.
-pub(crate) const NOTHING: ReaderOptions = ReaderOptions {
+pub(crate) const NOTHING: ReaderOptions<'static> = ReaderOptions {
     left_out: false,
     texts: false,
+    named: None,
 };
 
-const LEFT_OUT: ReaderOptions = ReaderOptions {
+const LEFT_OUT: ReaderOptions<'static> = ReaderOptions {
     left_out: true,
-    texts: false,
+    ..NOTHING
 };
 
 fn job_named(children: Vec<ChildDirectory>, name: &[u8]) -> Option<Job> {
@@ -37,33 +36,23 @@ fn job_named(children: Vec<ChildDirectory>, name: &[u8]) -> Option<Job> {
     None
 }
 
-/// The job of the directory of this name in another, if it is there.
-pub(crate) fn child_of(
-    reader: &LevelReader<MemTree>,
-    job: &Job,
-    name: &[u8],
-    scratch: &mut Scratch,
-) -> Result<Result<Option<Job>, OpenFault>, AllocError> {
-    match reader.open(job, scratch) {
-        Ok(opened) => Ok(Ok(job_named(opened.children, name))),
-        Err(OpenFault::Memory) => Err(AllocError),
-        Err(open_fault) => Ok(Err(open_fault)),
-    }
-}
-
 /// The job of the top, or of the directory of this name below it, if it is there.
 pub(crate) fn job_of(
     alloc: Global,
     reader: &LevelReader<MemTree>,
-    rules: TopRules,
+    filters: &Filters<'_>,
     below: &str,
     scratch: &mut Scratch,
 ) -> Result<Option<Job>, AllocError> {
-    let top = Job::top(alloc, rules)?;
+    let top = Job::top(alloc, filters)?;
     if below.is_empty() {
         return Ok(Some(top));
     }
-    Ok(child_of(reader, &top, below.as_bytes(), scratch)?.unwrap_or(None))
+    match reader.open(&top, scratch) {
+        Ok(opened) => Ok(job_named(opened.children, below.as_bytes())),
+        Err(OpenFault::Memory) => Err(AllocError),
+        Err(_) => Ok(None),
+    }
 }
 
 /// What the work on a directory found.
@@ -71,7 +60,7 @@ pub(crate) fn job_of(
 struct Found {
     counted: CountedFiles,
     children: Vec<ChildDirectory>,
-    skipped: Vec<SkippedEntry>,
+    skipped: Vec<SkippedLine>,
     entries: u32,
 }
 
@@ -107,7 +96,7 @@ fn work(
 
 fn push_counted(text: &mut String, counted: &CountedFiles) -> Result<(), AllocError> {
     for file in &counted.files {
-        push_name(text, &file.name)?;
+        push_name(text, &file.path)?;
         let word = text_word(file.text);
         if word != "-" {
             write!(text, " {word}")?;
@@ -117,18 +106,18 @@ fn push_counted(text: &mut String, counted: &CountedFiles) -> Result<(), AllocEr
     for fault in &counted.faults {
         let word = fault.word.as_str();
         write!(text, "fault {word} ")?;
-        push_name(text, &fault.name)?;
+        push_name(text, &fault.path)?;
         text.push_str("\n")?;
     }
     Ok(())
 }
 
-fn push_skipped(text: &mut String, entries: &[SkippedEntry]) -> Result<(), AllocError> {
+fn push_skipped(text: &mut String, entries: &[SkippedLine]) -> Result<(), AllocError> {
     for entry in entries {
         text.push_str("left ")?;
         push_reason(text, &entry.reason)?;
         text.push_str(" ")?;
-        push_name(text, &entry.name)?;
+        push_name(text, &entry.path)?;
         push_kind(text, entry.kind)?;
         text.push_str("\n")?;
     }
@@ -158,32 +147,19 @@ fn is_whole(found: &Found) -> bool {
     found.entries as usize == counted.wrapping_add(walked)
 }
 
-fn lent(patterns: &Option<Arc<IgnoreFile, Global>>) -> Option<&IgnoreFile> {
-    match patterns {
-        Some(patterns) => Some(patterns),
-        None => None,
-    }
-}
-
 /// What is found in a directory of a tree, or what stops it; and how many entries take part.
 fn found_in(
     rt: &impl Abort,
     alloc: Global,
     node: &Node,
     below: &str,
-    asked: &Asked,
-    kept: ReaderOptions,
+    filters: &Filters<'_>,
+    kept: ReaderOptions<'_>,
 ) -> Result<(String, u32), AllocError> {
     let tree = MemTree::new(node);
-    let only = OnlyPaths::new(alloc, &asked.only)?;
-    let include = asked.include(alloc)?;
-    let selection = Selection::new(asked.archive, &asked.without)
-        .narrowed(&only)
-        .including(lent(&include));
-    let reader = LevelReader::new(alloc, &tree, selection, kept);
+    let reader = LevelReader::new(alloc, &tree, filters, kept);
     let mut scratch = Scratch::new(alloc)?;
-    let rules = asked.top_rules(alloc)?;
-    let Some(job) = job_of(alloc, &reader, rules, below, &mut scratch)? else {
+    let Some(job) = job_of(alloc, &reader, filters, below, &mut scratch)? else {
         return Ok((String::new(alloc), 0));
     };
     match work(&reader, &job, &mut scratch)? {
@@ -209,9 +185,10 @@ fn check_node(
 ) -> Result<(), AllocError> {
     let asked = Asked::read(alloc, words)?;
     assert!(rt; asked.is_known, "{words}");
-    let (all, entries) = found_in(rt, alloc, node, below, &asked, LEFT_OUT)?;
+    let filters = asked.filters(alloc)?;
+    let (all, entries) = found_in(rt, alloc, node, below, &filters, LEFT_OUT)?;
     assert!(rt; has_words(&all, wanted), "{name}: {all}");
-    let (plain, same_entries) = found_in(rt, alloc, node, below, &asked, NOTHING)?;
+    let (plain, same_entries) = found_in(rt, alloc, node, below, &filters, NOTHING)?;
     let (wanted, _) = wanted.split_once("left ").unwrap_or((wanted, ""));
     assert!(rt;
         has_words(&plain, wanted) && entries == same_entries,

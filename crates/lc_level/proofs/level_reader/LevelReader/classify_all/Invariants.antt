@@ -9,7 +9,7 @@ invariant-loop-entry g l =
     (goal.iterator-loop-entry g).can_next l.entry-iterator
     × (goal.iterator-loop-entry g).is_finite l.entry-iterator
     × (l.path.directory ≡ l.job.path)
-    × (bytes_of l.found.files.items ≡ flat_map (kept_file l.self.selection l.job) l.yielded)
-    × (l.found.children.items ≡ flat_map (kept_directory l.self.selection l.job) l.yielded)
-    × (l.found.skipped.items ≡ flat_map (skipped_entry l.self.options.left_out l.self.selection l.job) l.yielded)
-    × (list_any (is_too_deep l.self.selection l.job) l.yielded ≡ false)
+    × (bytes_of l.found.files.items ≡ flat_map (kept_file l.self.filters.now l.job) l.yielded)
+    × (l.found.children.items ≡ flat_map (kept_directory l.self.filters.now l.job) l.yielded)
+    × (l.found.skipped.items ≡ flat_map (skipped_entry l.self.options.left_out l.self.filters.now l.job) l.yielded)
+    × (list_any (is_too_deep l.self.filters.now l.job) l.yielded ≡ false)

@@ -1,6 +1,6 @@
 use denote.Param.Send.{sendable}
 use Rattle.std.proofs.Crossing as std
-use Rattle.lc_level.proofs.Crossing as level
+use Rattle.lc_level.proofs.SentAndShared as level
 use Rattle.lc_level.proofs.level_reader.LevelReader.count_runs.Goals as goal
 
 pub map_vec-requires-sync-F : goal.map_vec-requires-sync-F

@@ -6,7 +6,7 @@ use Rattle.lc_tree.specs.Listing.{EntryModel, IsListing}
 use Rattle.lc_level.specs.RuleFiles.{is_top}
 use Rattle.lc_level.specs.RulePairs.{own_asked, ReadsBoth}
 use Rattle.lc_tree.specs.Trees.{Listings, Contents}
-use Rattle.lc_level.specs.declared.rule_pair.PairRead.{PairRead}
+use Rattle.lc_level.specs.declared.rule_files.rule_pair.PairRead.{PairRead}
 use Rattle.lc_level.specs.declared.open_fault.OpenFault.{OpenFault}
 use Rattle.lc_level.specs.declared.fault_site.FaultSite.TheVariants.{Directory}
 use Rattle.lc_level.proofs.EnterLevels.{list_refused, info_refused, own_refused, has_read, entered}

@@ -7,11 +7,11 @@ pub absent-requires : goal.absent-requires
 absent-requires g c =
     subst IsListing (sym c.deref.ensures.value)
     (are_listed (g.T.Tree.lists c.args.self.now.tree.now) (g.T.Tree.gives c.args.self.now.tree.now) c.args.self.now.options.left_out
-    c.args.self.now.selection c.args.job.now c.args.self.now.options.texts c.in_ok-job.field-0 c.in_ok-job.ensures.enters)
+    c.args.self.now.filters.now c.args.job.now c.args.self.now.options.texts c.in_ok-job.field-0 c.in_ok-job.ensures.enters)
 
 pub overflow_cast-number : goal.overflow_cast-number
 overflow_cast-number g c =
-    let s = c.args.self.now.selection in
+    let s = c.args.self.now.filters.now in
     let part = part_by s c.in_ok-job.field-0 _ _ c.in-Ok.ensures c.path.ensures c.in-Ok-part_of.entries.items c.in-Ok-part_of.ensures in
     omega (
       arith,
@@ -22,7 +22,7 @@ overflow_cast-number g c =
 
 pub returns-in-Ok-classify_all-clause-opens : goal.returns-in-Ok-classify_all-clause-opens
 returns-in-Ok-classify_all-clause-opens g c =
-    let s = c.args.self.now.selection in
+    let s = c.args.self.now.filters.now in
     let part = part_by s c.in_ok-job.field-0 _ _ c.in-Ok.ensures c.path.ensures c.in-Ok-part_of.entries.items c.in-Ok-part_of.ensures in
     let absent = absent_by s c.in_ok-job.field-0 _ _ c.in-Ok.ensures c.path.ensures c.in-Ok-absent.absent.items _ c.deref.ensures.value
     c.in-Ok-absent.ensures in
@@ -32,7 +32,7 @@ returns-in-Ok-classify_all-clause-opens g c =
 
 pub returns-in-Err-clause-opens : goal.returns-in-Err-clause-opens
 returns-in-Err-clause-opens g c =
-    let s = c.args.self.now.selection in
+    let s = c.args.self.now.filters.now in
     let part = part_by s c.in_ok-job.field-0 _ _ c.in-Ok.ensures c.path.ensures c.in-Ok-part_of.entries.items c.in-Ok-part_of.ensures in
     classify_refused (g.T.Tree.lists c.args.self.now.tree.now) (g.T.Tree.gives c.args.self.now.tree.now) c.args.self.now.options.left_out s
     c.args.job.now c.args.self.now.options.texts c.in_ok-job.field-0 c.in_ok-job.ensures.enters c.in-Ok-part_of.entries.items part

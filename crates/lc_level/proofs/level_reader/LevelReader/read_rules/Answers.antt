@@ -1,5 +1,5 @@
 use Rattle.std.proofs.Common.{None, List, ℕ, ◌≤◌, ◌+◌, ◌≡◌, length, subst, sym}
-use Rattle.lc_census.specs.Reads.{at_end, at_failure, at_neither}
+use Rattle.lc_io.specs.Reads.{at_end, at_failure, at_neither}
 use Rattle.lc_rules.specs.Limits.{max_rule_bytes}
 use Rattle.lc_level.proofs.level_reader.LevelReader.read_rules.Goals as goal
 

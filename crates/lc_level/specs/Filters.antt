@@ -1,0 +1,114 @@
+-- What decides, beside the rule files of a tree, which of its entries take part.
+use Rattle.std.specs.Prelude.{ℕ, Bool, true, false, ◌&&◌, ◌||◌, nat_eq, cond, List, [], ◌∷◌, length, take, slice_index, bytes_eq}
+use Rattle.std.specs.Prelude.{Option, Some, None, option_map}
+use Rattle.std.specs.List.{list_any, before_first, after_first, range_with_len}
+use Rattle.std.specs.Option.{is_none, is_some}
+use Rattle.lc_glob.specs.Bytes.{slash}
+use Rattle.lc_glob.specs.Pieces.{is_byte}
+use Rattle.lc_rules.specs.Attributes.{StateModel, set, unset, value, unspecified}
+use Rattle.lc_rules.specs.Bytes.{equals_sign}
+use Rattle.lc_rules.specs.IgnoreRules.{RuleModel, rules_of}
+use Rattle.lc_rules.specs.Verdicts.{at_depth, last_match}
+
+-- the text of an ignore file that all others override, and the patterns that override all others, one a line; patterns, one a line, where
+-- there are some: only files that they include take part; whether no ignore file of the tree is read; words of attributes: what has the
+-- state that one of them asks for is left out; and paths: where there are some, only what stands at or below one of them takes part
+pub record FiltersModel : Type 0 where
+  pub exclude_from : Option (List ℕ)
+  pub exclude : Option (List ℕ)
+  pub include : Option (List ℕ)
+  pub no_ignore : Bool
+  pub without : List (List ℕ)
+  pub only : List (List ℕ)
+
+-- those by which nothing but a tree's own rules decides
+abbrev pub no_filters : FiltersModel
+no_filters = record { exclude_from = None; exclude = None; include = None; no_ignore = false; without = []; only = [] }
+
+-- the same with these words of attributes
+abbrev pub leaving_out : FiltersModel → List (List ℕ) → FiltersModel
+leaving_out f without = record {
+  exclude_from = f.exclude_from;
+  exclude = f.exclude;
+  include = f.include;
+  no_ignore = f.no_ignore;
+  without = without;
+  only = f.only;
+}
+
+-- the same of these paths alone
+abbrev pub narrowed : FiltersModel → List (List ℕ) → FiltersModel
+narrowed f only = record {
+  exclude_from = f.exclude_from;
+  exclude = f.exclude;
+  include = f.include;
+  no_ignore = f.no_ignore;
+  without = f.without;
+  only = only;
+}
+
+-- the same of files that these patterns include
+abbrev pub including : FiltersModel → Option (List ℕ) → FiltersModel
+including f patterns = record {
+  exclude_from = f.exclude_from;
+  exclude = f.exclude;
+  include = patterns;
+  no_ignore = f.no_ignore;
+  without = f.without;
+  only = f.only;
+}
+
+-- the rules of the patterns for files
+abbrev pub include_rules : FiltersModel → Option (List RuleModel)
+include_rules f = option_map rules_of f.include
+
+-- ---- words of attributes
+
+-- the attribute that a word names: what stands before its first equals sign
+abbrev pub attribute_of : List ℕ → List ℕ
+attribute_of word = before_first (is_byte equals_sign) word
+
+-- the value that it asks for: what follows the sign, if there is one
+abbrev pub value_of : List ℕ → Option (List ℕ)
+value_of word = cond (list_any (is_byte equals_sign) word) (Some (after_first (is_byte equals_sign) word)) None
+
+-- whether a value is the one that is asked for
+abbrev pub is_value : Option (List ℕ) → List ℕ → Bool
+is_value None found = false
+is_value (Some wanted) found = bytes_eq found wanted
+
+-- whether a state is the one that is asked for: exactly this value, or Set where no value is asked for
+abbrev pub is_state : Option (List ℕ) → StateModel → Bool
+is_state wanted set = is_none wanted
+is_state wanted unset = false
+is_state wanted (value found) = is_value wanted found
+is_state wanted unspecified = false
+
+-- ---- patterns of files
+
+-- one of these patterns matches
+abbrev pub matches : List RuleModel → List ℕ → Bool → Bool
+matches patterns path is_dir = is_some (last_match (at_depth 0 patterns) path is_dir)
+
+-- at place k of a path stands a slash, and a pattern matches what stands before it, a directory
+abbrev pub is_matched_parent : List RuleModel → List ℕ → ℕ → Bool
+is_matched_parent patterns path k = nat_eq (slice_index path k) slash && matches patterns (take k path) true
+
+-- a pattern matches a directory above the path, below the top
+abbrev pub has_matched_parent : List RuleModel → List ℕ → Bool
+has_matched_parent patterns path = list_any (is_matched_parent patterns path) (range_with_len 0 (length path))
+
+-- a pattern matches the directory at a path, or one above it, below the top
+abbrev pub is_within : List RuleModel → List ℕ → Bool
+is_within patterns [] = false
+is_within patterns (b ∷ bs) = matches patterns (b ∷ bs) true || has_matched_parent patterns (b ∷ bs)
+
+-- what a file of a directory must match to take part: nothing where all files do, or where the directory is matched, or one above it
+abbrev pub patterns_for : Option (List RuleModel) → List ℕ → Option (List RuleModel)
+patterns_for None directory = None
+patterns_for (Some patterns) directory = cond (is_within patterns directory) None (Some patterns)
+
+-- whether a file matches what it must
+abbrev pub is_included : Option (List RuleModel) → List ℕ → Bool
+is_included None path = true
+is_included (Some patterns) path = matches patterns path false

@@ -1,0 +1,177 @@
+//! Which entries of a tree take part, besides what its own rule files say.
+ghost use Rattle.std.specs.Prelude.{◌≡◌, IfOk, option_map, map};
+ghost use Rattle.lc_level.specs.Filters.{attribute_of, include_rules, is_state, no_filters, patterns_for, value_of};
+ghost use Rattle.lc_level.specs.Level.{attribute_reason, by_attribute, is_met};
+ghost use Rattle.lc_level.specs.Narrowing.{wanted_in};
+ghost use Rattle.lc_level.specs.RuleReads.{shared};
+ghost use Rattle.lc_level.specs.TopJob.{top_job};
+ghost use Rattle.lc_rules.specs.IgnoreRules.{rules_of};
+ghost use Rattle.lc_rules.specs.Models.{state_model};
+
+use crate::job::Job;
+use crate::narrowing::Wanted;
+use crate::narrowing::included::patterns_for;
+use crate::narrowing::only_paths::OnlyPaths;
+use crate::rule_files::rule_text::RuleText;
+use lc_glob::cut_at_first;
+use lc_rules::{Chain, IgnoreFile, State};
+use std::alloc::{AllocError, Global};
+use std::marker::Model;
+use std::sync::Arc;
+
+/// Which entries of a tree take part, besides what its own rule files say. Made once, and lent to all that read the tree.
+///
+/// ```
+/// let as_it_is = Filters::none(alloc);
+/// let only = OnlyPaths::new(alloc, &[b"src"])?;
+/// let sources = Filters { only, ..Filters::none(alloc) }; // of the tree `src` and what is below it
+/// let patterns = read_rule_text(alloc, &mut b"*.rs\n".as_slice())?;
+/// let rust = Filters { include: Some(patterns), ..Filters::none(alloc) }; // of the files those that `*.rs` matches
+/// ```
+#[derive(Drop)]
+pub struct Filters<'p> {
+    /// The ignore file for the whole tree, which every `.gitignore` overrides, like Git's `core.excludesFile` (gitignore(5)).
+    pub exclude_from: Option<RuleText>,
+    /// The patterns of the command line, one a line, which override the rules of all files (gitignore(5)).
+    pub exclude: Option<RuleText>,
+    /// The patterns for files, one a line and none negated; if there are none, all files take part. A file takes part only if a pattern
+    /// matches it, or a directory above it below the top. Directories are visited all the same.
+    pub include: Option<RuleText>,
+    /// Whether no ignore file of the tree is read: no `.gitignore`, and no `.git/info/exclude`.
+    pub no_ignore: bool,
+    /// Files and directories are skipped where an attribute is Set, such as `linguist-vendored`, or has exactly a value, such as
+    /// `linguist-generated=true` (gitattributes(5)). What `git archive` leaves out has `export-ignore`.
+    pub without: Vec<Vec<u8>>,
+    /// The paths that alone take part, with what is under them and the directories above them; if there are none, everything takes part.
+    pub only: OnlyPaths<'p>,
+}
+
+impl<'p> Model for Filters<'p> {
+    ghost use Rattle.std.specs.Prelude.{map};
+    ghost use Rattle.lc_level.specs.Filters.{FiltersModel};
+
+    ghost Value = { FiltersModel };
+
+    ghost view = { λ f. record {
+      exclude_from = f.exclude_from;
+      exclude = f.exclude;
+      include = f.include;
+      no_ignore = f.no_ignore;
+      without = map (λ word. word.items) f.without.items;
+      only = f.only;
+    } };
+}
+
+/// Splits a word at its first `=`: the attribute that it names, and the value that it asks for.
+fn split_word(word: &[u8]) -> (&[u8], Option<&[u8]>)
+    ensures attribute { result.0.now ≡ attribute_of word.now }
+    ensures value { option_map (λ v. v.now) result.1 ≡ value_of word.now }
+{
+    cut_at_first(b'=', word)
+}
+
+/// Whether a state is the one that is asked for: this value, or Set where no value is asked for.
+fn is_state(wanted: Option<&[u8]>, state: State<'_>) -> bool
+    ensures { result ≡ is_state (option_map (λ v. v.now) wanted.entry) (state_model state.entry) }
+{
+    match state {
+        State::Set => wanted.is_none(),
+        State::Unset => false,
+        State::Value(found) => match wanted {
+            Some(wanted) => found == wanted,
+            None => false,
+        },
+        State::Unspecified => false,
+    }
+}
+
+/// Whether an attribute has the state at a path that a word asks for. Memory is taken for the attribute's macros alone.
+fn is_met(
+    alloc: Global,
+    job: &Job,
+    path: &[u8],
+    is_dir: bool,
+    word: &[u8],
+) -> Result<bool, AllocError>
+    ensures { IfOk result (λ met. met ≡ is_met job.now path.now is_dir word.now) }
+{
+    let (attribute, wanted) = split_word(word);
+    let state = job.attributes().state(alloc, path, is_dir, attribute)?;
+    Ok(is_state(wanted, state))
+}
+
+/// Shares the rules of a text, if there is one.
+fn shared_rules(text: &Option<RuleText>) -> Result<Option<Arc<IgnoreFile, Global>>, AllocError>
+    ensures { IfOk result (λ rules. shared rules ≡ option_map rules_of text.now) }
+{
+    match text {
+        None => Ok(None),
+        Some(text) => Ok(Some(text.shared_rules()?)),
+    }
+}
+
+impl<'p> Filters<'p> {
+    /// The filters by which nothing but a tree's own rules decides.
+    pub fn none(alloc: Global) -> Filters<'p>
+        ensures { result ≡ no_filters }
+    {
+        Filters {
+            exclude_from: None,
+            exclude: None,
+            include: None,
+            no_ignore: false,
+            without: Vec::new(alloc),
+            only: OnlyPaths::none(alloc),
+        }
+    }
+
+    /// The chain of the top of a tree, by the rules for the whole tree.
+    pub(crate) fn top_chain(&self) -> Result<Chain, AllocError>
+        ensures { IfOk result (λ chain. chain ≡ (top_job self.now).ignore) }
+    {
+        let given = Chain::top().with_exclude(shared_rules(&self.exclude_from)?);
+        let asked = given.with_command_line(shared_rules(&self.exclude)?);
+        Ok(asked.with_no_ignore(self.no_ignore))
+    }
+
+    /// What the paths select of a directory.
+    pub(crate) fn wanted_in(
+        &self,
+        alloc: Global,
+        directory: &[u8],
+    ) -> Result<Wanted<'p>, AllocError>
+        ensures { IfOk result (λ wanted. wanted ≡ wanted_in self.now.only directory.now) }
+    {
+        let wanted = self.only.wanted_in(alloc, directory)?;
+        Ok(wanted)
+    }
+
+    /// The patterns that a file of a directory must match to take part, if not all its files do.
+    pub(crate) fn include_in(&self, directory: &[u8]) -> Option<&IgnoreFile>
+        ensures { option_map (λ p. p.now) result ≡ patterns_for (include_rules self.now) directory.now }
+    {
+        let text = self.include.as_ref()?;
+        patterns_for(text.rules(), directory)
+    }
+
+    /// The first word for whose attribute a path is skipped. Memory is taken for the attributes' macros alone.
+    pub(crate) fn first_met(
+        &self,
+        alloc: Global,
+        job: &Job,
+        path: &[u8],
+        is_dir: bool,
+    ) -> Result<Option<&[u8]>, AllocError>
+        ensures { IfOk result (λ word. option_map (λ w. by_attribute w.now) word
+            ≡ attribute_reason self.entry.now job.now path.now is_dir) }
+    {
+        let mut rest = self.without.as_slice();
+        'words: while let Some((word, others)) = rest.split_first() {
+            if is_met(alloc, job, path, is_dir, word)? {
+                return Ok(Some(word));
+            }
+            rest = others;
+        }
+        Ok(None)
+    }
+}

@@ -1,0 +1,137 @@
+//! What is said of a counted file, of a fault and of a skipped entry.
+ghost use Rattle.std.specs.Prelude.{◌≡◌, ℕ, List, IfOk};
+ghost use Rattle.lc_level.specs.FaultLines.{fault_below};
+ghost use Rattle.lc_level.specs.Level.{file_below, skipped_below};
+
+use crate::fault_word::FaultWord;
+use crate::paths::path_in;
+use crate::reason::Reason;
+use lc_census::Count;
+use lc_rules::TextState;
+use lc_tree::Kind;
+use std::alloc::{AllocError, Global};
+use std::marker::Model;
+
+/// What is said of something at a path: the names down to it, joined by slashes, from a directory or from the top of a tree.
+pub trait Line: Sized {
+    ghost path_of: { Self → List ℕ };
+
+    ghost below_of: { List ℕ → Self → Self };
+
+    /// Lends the path.
+    fn path(&self) -> &[u8]
+        ensures { result.now ≡ path_of self.now };
+
+    /// Makes the same line of what has its path below a directory.
+    fn below(&self, alloc: Global, directory: &[u8]) -> Result<Self, AllocError>
+        ensures { IfOk result (λ line. line ≡ below_of directory.now self.now) };
+}
+
+/// A counted file.
+#[derive(Debug, Drop)]
+pub struct FileLine {
+    /// The names down to the file, joined by slashes.
+    pub path: Vec<u8>,
+    /// What the attribute `text` is for the file.
+    pub text: TextState,
+    /// The census of the file's bytes.
+    pub count: Count,
+}
+
+impl Model for FileLine {
+    ghost use Rattle.lc_level.specs.Level.{FileLineModel};
+
+    ghost Value = { FileLineModel };
+
+    ghost view = { λ f. record { path = f.path.items; text = f.text; count = f.count } };
+}
+
+impl Line for FileLine {
+    ghost path_of = { λ f. f.path };
+
+    ghost below_of = { file_below };
+
+    fn path(&self) -> &[u8] {
+        &self.path
+    }
+
+    fn below(&self, alloc: Global, directory: &[u8]) -> Result<FileLine, AllocError> {
+        Ok(FileLine {
+            path: path_in(alloc, directory, &self.path)?,
+            text: self.text,
+            count: self.count,
+        })
+    }
+}
+
+/// A file or a directory that was not counted, and why.
+#[derive(Debug, Drop)]
+pub struct FaultLine {
+    /// The names down to the file or directory, joined by slashes; empty for the directory itself from which the path is.
+    pub path: Vec<u8>,
+    /// Why the file or directory was not counted.
+    pub word: FaultWord,
+}
+
+impl Model for FaultLine {
+    ghost use Rattle.lc_level.specs.FaultLines.{FaultLineModel};
+
+    ghost Value = { FaultLineModel };
+
+    ghost view = { λ f. record { path = f.path.items; word = f.word } };
+}
+
+impl Line for FaultLine {
+    ghost path_of = { λ f. f.path };
+
+    ghost below_of = { fault_below };
+
+    fn path(&self) -> &[u8] {
+        &self.path
+    }
+
+    fn below(&self, alloc: Global, directory: &[u8]) -> Result<FaultLine, AllocError> {
+        Ok(FaultLine {
+            path: path_in(alloc, directory, &self.path)?,
+            word: self.word,
+        })
+    }
+}
+
+/// A skipped entry of a listed directory, and why it was skipped.
+#[derive(Debug, Drop)]
+pub struct SkippedLine {
+    /// The names down to the entry, joined by slashes.
+    pub path: Vec<u8>,
+    /// What the entry is.
+    pub kind: Kind,
+    /// The first reason that holds for the entry.
+    pub reason: Reason,
+}
+
+impl Model for SkippedLine {
+    ghost use Rattle.lc_level.specs.Level.{SkippedLineModel};
+    ghost use Rattle.lc_level.specs.Reasons.{reason_model};
+
+    ghost Value = { SkippedLineModel };
+
+    ghost view = { λ l. record { path = l.path.items; kind = l.kind; reason = reason_model l.reason } };
+}
+
+impl Line for SkippedLine {
+    ghost path_of = { λ l. l.path };
+
+    ghost below_of = { skipped_below };
+
+    fn path(&self) -> &[u8] {
+        &self.path
+    }
+
+    fn below(&self, alloc: Global, directory: &[u8]) -> Result<SkippedLine, AllocError> {
+        Ok(SkippedLine {
+            path: path_in(alloc, directory, &self.path)?,
+            kind: self.kind,
+            reason: self.reason.copy(alloc)?,
+        })
+    }
+}

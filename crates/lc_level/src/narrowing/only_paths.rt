@@ -1,0 +1,141 @@
+//! The paths of `--only`, sorted once, and what they select of a directory.
+ghost use Rattle.std.specs.Prelude.{◌≡◌, ◌≤◌, IfOk, [], false, true, length, map};
+ghost use Rattle.std.specs.List.{filter_map, AllByRecursion};
+ghost use Rattle.std.specs.List.Sorted.{IsPartitionPoint};
+ghost use Rattle.lc_level.specs.Narrowing.{each_once, is_whole, rest_from, rests, wanted_in};
+ghost use Rattle.lc_level.specs.PathSteps.{comes_before};
+ghost use Rattle.lc_tree.specs.ByteOrder.{AreInOrder};
+
+use crate::narrowing::Wanted;
+use crate::narrowing::below::{is_before_below, rest_from};
+use crate::narrowing::sorted_paths::is_within;
+use std::alloc::{AllocError, Global};
+use std::marker::Model;
+
+/// The paths of `--only`, sorted once, so that each directory finds those that concern it by a binary search.
+///
+/// ```
+/// let only = OnlyPaths::new(alloc, &[b"src", b"docs/a.md"])?;
+/// let sources = Filters { only, ..Filters::none(alloc) };
+/// ```
+#[derive(Drop)]
+pub struct OnlyPaths<'o> {
+    asked: &'o [&'o [u8]],
+    // Each path once, in the order of their bytes.
+    sorted: Vec<&'o [u8]>,
+}
+
+impl<'o> Model for OnlyPaths<'o> {
+    ghost use Rattle.std.specs.Prelude.{◌≡◌, ℕ, List, map};
+    ghost use Rattle.lc_level.specs.Narrowing.{each_once};
+
+    ghost Value = { List (List ℕ) };
+
+    ghost view = { λ p. map (λ path. path.now) p.asked.now };
+
+    ghost invariant = { λ p. map (λ path. path.now) p.sorted.items ≡ each_once (map (λ path. path.now) p.asked.now) };
+}
+
+/// Paths in the order of their bytes, each once.
+fn sorted_once<'o>(alloc: Global, asked: &[&'o [u8]]) -> Result<Vec<&'o [u8]>, AllocError>
+    ensures { IfOk result (λ paths. map (λ path. path.now) paths.items ≡ each_once (map (λ path. path.now) asked.now)) }
+{
+    let mut paths = asked.to_vec(alloc)?;
+    paths.sort_unstable();
+    paths.dedup();
+    Ok(paths)
+}
+
+/// Whether a path comes before all paths below a directory, in the order of their bytes.
+fn comes_before(path: &[u8], directory: &[u8]) -> bool
+    ensures { result ≡ comes_before directory.now path.now }
+{
+    if directory.is_empty() {
+        return path.is_empty();
+    }
+    is_before_below(path, directory)
+}
+
+/// The place of the first of sorted paths that does not come before those below a directory.
+fn first_past(paths: &[&[u8]], directory: &[u8]) -> usize
+    requires { AreInOrder (map (λ path. path.now) paths.now) }
+    ensures within { result ≤ length paths.now }
+    ensures place { IsPartitionPoint (λ path. comes_before directory.now path.now ≡ true)
+        (λ path. comes_before directory.now path.now ≡ false) paths.now result }
+{
+    paths.partition_point(|path| comes_before(path, directory))
+}
+
+/// The sorted paths below a directory, seen from it, where none of the paths comes before these.
+fn seen_from<'o>(
+    alloc: Global,
+    directory: &[u8],
+    paths: &[&'o [u8]],
+) -> Result<Vec<&'o [u8]>, AllocError>
+    requires order { AreInOrder (map (λ path. path.now) paths.now) }
+    requires past { AllByRecursion (λ path. comes_before directory.now path ≡ false) (map (λ path. path.now) paths.now) }
+    ensures { IfOk result (λ seen. map (λ rest. rest.now) seen.items
+        ≡ filter_map (rest_from directory.now) (map (λ path. path.now) paths.now)) }
+{
+    let mut seen = Vec::new(alloc);
+    for path in paths {
+        let Some(rest) = rest_from(directory, path) else {
+            return Ok(seen);
+        };
+        seen.push(rest)?;
+    }
+    Ok(seen)
+}
+
+impl<'o> OnlyPaths<'o> {
+    /// No path, which selects all of a tree.
+    pub fn none(alloc: Global) -> OnlyPaths<'o>
+        ensures { result ≡ [] }
+    {
+        OnlyPaths {
+            asked: &[],
+            sorted: Vec::new(alloc),
+        }
+    }
+
+    /// Sorts the paths, which are relative to the top, with no slash at the end. Where there are none, all of a tree is selected.
+    pub fn new(alloc: Global, asked: &'o [&'o [u8]]) -> Result<OnlyPaths<'o>, AllocError>
+        ensures { IfOk result (λ only. only ≡ map (λ path. path.now) asked.entry.now) }
+    {
+        let sorted = sorted_once(alloc, asked)?;
+        Ok(OnlyPaths { asked, sorted })
+    }
+
+    /// Whether all of a directory is selected.
+    fn is_whole(&self, directory: &[u8]) -> bool
+        ensures { result ≡ is_whole self.now directory.now }
+    {
+        let sorted = self.sorted.as_slice();
+        self.asked.is_empty() || is_within(sorted, directory)
+    }
+
+    /// The paths below a directory, seen from it. Where there are none, this costs no memory.
+    fn rests(&self, alloc: Global, directory: &[u8]) -> Result<Vec<&'o [u8]>, AllocError>
+        ensures { IfOk result (λ seen. map (λ rest. rest.now) seen.items ≡ rests self.now directory.now) }
+    {
+        let sorted = self.sorted.as_slice();
+        let at = first_past(sorted, directory);
+        let seen = seen_from(alloc, directory, &sorted[at..])?;
+        Ok(seen)
+    }
+
+    /// What the paths select of a directory.
+    pub(crate) fn wanted_in(
+        &self,
+        alloc: Global,
+        directory: &[u8],
+    ) -> Result<Wanted<'o>, AllocError>
+        ensures { IfOk result (λ wanted. wanted ≡ wanted_in self.now directory.now) }
+    {
+        let rests = self.rests(alloc, directory)?;
+        Ok(Wanted {
+            whole: self.is_whole(directory),
+            rests,
+        })
+    }
+}

@@ -1,0 +1,127 @@
+//! Counting the files that are left in a directory after a large one by several threads side by side.
+ghost use Rattle.std.specs.Prelude.{◌≡◌, ◌++◌, ◌∷◌, [], List, ℕ, IfOk, OnOk, Vec};
+ghost use Rattle.std.specs.Global.{Global};
+ghost use Rattle.lc_level.specs.CountedNames.{IsCounted};
+ghost use Rattle.lc_level.specs.CountedParts.{CountsSome};
+ghost use Rattle.lc_level.specs.Classified.{bytes_of};
+ghost use Rattle.lc_level.specs.FaultLines.{FaultLineModel};
+
+use crate::FaultLine;
+use crate::counting::CountedFiles;
+use crate::job::Job;
+use crate::level_reader::LevelReader;
+use crate::scratch::Scratch;
+use crate::threads::in_parts::MOST_HELPERS;
+use crate::threads::spare_threads::SpareThreads;
+use lc_tree::{IdleThreads, Tree};
+use std::alloc::AllocError;
+use std::thread::Threads;
+
+/// A file is large if it has more bytes: the files after it may be large too, and counting one takes some milliseconds, many times as
+/// long as starting a thread.
+const LARGE_FILE: u64 = 16 << 20;
+
+/// Takes as many idle threads as can help with this many files that may be large.
+fn take_helpers(idle: &IdleThreads, files: usize) -> u32 {
+    if files < 2 {
+        return 0;
+    }
+    idle.take((files - 1).min(MOST_HELPERS) as u32)
+}
+
+impl CountedFiles {
+    /// Whether the file that was counted last is large.
+    fn ends_large(&self) -> bool {
+        match self.files.last() {
+            Some(file) => file.count.bytes > LARGE_FILE,
+            None => false,
+        }
+    }
+}
+
+impl<T: Tree> LevelReader<'_, T> {
+    /// Counts the file of a name, or adds the name to the rest where the rest has names already or a large file was counted last.
+    fn count_unless_after_large(
+        &self,
+        job: &Job,
+        name: Vec<u8>,
+        scratch: &mut Scratch,
+        found: &mut CountedFiles,
+        rest: &mut Vec<Vec<u8>>,
+    ) -> Result<(), AllocError>
+        requires { scratch.old.path.directory ≡ job.now.path }
+        ensures same { scratch.new.path.directory ≡ scratch.old.path.directory }
+        ensures more { OnOk result ((names : List (Vec ℕ Global)) → (absent : List FaultLineModel) →
+            CountsSome (T.gives self.now.tree.now) job.now names absent rest.old.items found.old →
+            CountsSome (T.gives self.now.tree.now) job.now (names ++ name ∷ []) absent rest.new.items found.new) }
+    {
+        if rest.is_empty() && !found.ends_large() {
+            return self.count_named(job, name, scratch, found);
+        }
+        rest.push(name)?;
+        Ok(())
+    }
+
+    /// Counts the files of these names, in order, up to the first that is large, and returns the rest of the names.
+    fn count_until_large(
+        &self,
+        job: &Job,
+        names: Vec<Vec<u8>>,
+        absent: Vec<FaultLine>,
+        scratch: &mut Scratch,
+    ) -> Result<(CountedFiles, Vec<Vec<u8>>), AllocError>
+        requires { scratch.old.path.directory ≡ job.now.path }
+        ensures same { scratch.new.path.directory ≡ scratch.old.path.directory }
+        ensures some { IfOk result (λ r. CountsSome (T.gives self.now.tree.now) job.now names.items absent.items r.1.items r.0) }
+    {
+        let mut found = CountedFiles {
+            files: Vec::new(self.alloc),
+            faults: absent,
+        };
+        let mut rest = Vec::new(self.alloc);
+        for name in names {
+            self.count_unless_after_large(job, name, scratch, &mut found, &mut rest)?;
+        }
+        Ok((found, rest))
+    }
+
+    /// Counts the files of these names with the help of this many threads.
+    fn count_by_helpers<R: Threads + Sync>(
+        &self,
+        rt: &R,
+        helpers: u32,
+        job: &Job,
+        names: Vec<Vec<u8>>,
+        scratch: &mut Scratch,
+    ) -> Result<CountedFiles, AllocError>
+        requires { scratch.old.path.directory ≡ job.now.path }
+        ensures { IfOk result (IsCounted (T.gives self.now.tree.now) job.now (bytes_of names.items) []) }
+    {
+        let absent = Vec::new(self.alloc);
+        if helpers == 0 {
+            return self.count(job, names, absent, scratch);
+        }
+        self.count_side_by_side(rt, helpers as usize + 1, job, names, absent)
+    }
+
+    /// Counts the files of these names as `count` does, one after another up to a large one. Those after it are counted in parts where
+    /// threads are idle.
+    pub(crate) fn count_undivided<R: Threads + Sync>(
+        &self,
+        threads: &SpareThreads<'_, R>,
+        job: &Job,
+        names: Vec<Vec<u8>>,
+        absent: Vec<FaultLine>,
+        scratch: &mut Scratch,
+    ) -> Result<CountedFiles, AllocError>
+        requires { scratch.old.path.directory ≡ job.now.path }
+        ensures { IfOk result (IsCounted (T.gives self.now.tree.now) job.now (bytes_of names.items) absent.items) }
+    {
+        let (mut found, rest) = self.count_until_large(job, names, absent, scratch)?;
+        let helpers = take_helpers(threads.idle, rest.len());
+        let later = self.count_by_helpers(threads.rt, helpers, job, rest, scratch);
+        threads.idle.give_back(helpers);
+        found.append(later?)?;
+        Ok(found)
+    }
+}

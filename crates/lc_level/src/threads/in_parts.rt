@@ -1,0 +1,168 @@
+//! Counting the files of a large directory by several threads side by side.
+ghost use Rattle.std.specs.Prelude.{◌≡◌, ◌++◌, [], IfOk, OnOk, vec_len};
+ghost use Rattle.lc_level.specs.CountedNames.{IsCounted};
+ghost use Rattle.lc_level.specs.CountedParts.{HaveCounted, Joins, names_of};
+ghost use Rattle.lc_level.specs.Classified.{bytes_of};
+
+use crate::FaultLine;
+use crate::counting::CountedFiles;
+use crate::job::Job;
+use crate::level_reader::LevelReader;
+use crate::scratch::Scratch;
+use crate::threads::spare_threads::SpareThreads;
+use lc_tree::{IdleThreads, Tree};
+use std::alloc::{AllocError, Global};
+use std::thread::Threads;
+use std::{mem, thread};
+
+/// A part has at least this many files: counting them takes about a millisecond where they are small, several times as long as starting
+/// a thread and waiting for its end. So a directory with fewer than twice as many is counted as a whole.
+const PART_FILES: usize = 256;
+
+/// The most threads that help with one directory: a walk has no more workers besides the one that counts it.
+pub(crate) const MOST_HELPERS: usize = 15;
+
+// Takes as many idle threads as can help with this many files.
+fn take_helpers(idle: &IdleThreads, files: usize) -> u32 {
+    let parts = files / PART_FILES;
+    if parts < 2 {
+        return 0;
+    }
+    idle.take((parts - 1).min(MOST_HELPERS) as u32)
+}
+
+// Ends a run of names that is full, and begins the next.
+fn end_full_run(
+    alloc: Global,
+    length: usize,
+    runs: &mut Vec<Vec<Vec<u8>>>,
+    run: &mut Vec<Vec<u8>>,
+) -> Result<(), AllocError>
+    ensures { OnOk result (names_of runs.new.items ++ run.new.items ≡ names_of runs.old.items ++ run.old.items) }
+{
+    if run.len() < length {
+        return Ok(());
+    }
+    let full = mem::replace(run, Vec::with_capacity(alloc, length)?);
+    runs.push(full)?;
+    Ok(())
+}
+
+// Cuts names into so many consecutive runs, of one length but for the last.
+fn cut(alloc: Global, names: Vec<Vec<u8>>, parts: usize) -> Result<Vec<Vec<Vec<u8>>>, AllocError>
+    ensures { IfOk result (λ runs. names_of runs.items ≡ names.items) }
+{
+    let length = names.len().div_ceil(parts.max(1));
+    let mut runs = Vec::with_capacity(alloc, parts)?;
+    let mut run = Vec::with_capacity(alloc, length)?;
+    for name in names {
+        end_full_run(alloc, length, &mut runs, &mut run)?;
+        run.push(name)?;
+    }
+    runs.push(run)?;
+    Ok(runs)
+}
+
+// What all parts found, in order, after the faults of absent paths.
+fn joined(
+    alloc: Global,
+    parts: Vec<Result<CountedFiles, AllocError>>,
+    absent: Vec<FaultLine>,
+) -> Result<CountedFiles, AllocError>
+    ensures { IfOk result (Joins parts.items absent.items) }
+{
+    let mut found = CountedFiles {
+        files: Vec::new(alloc),
+        faults: absent,
+    };
+    for part in parts {
+        found.append(part?)?;
+    }
+    Ok(found)
+}
+
+impl CountedFiles {
+    // Adds the files that were counted after these.
+    pub(crate) fn append(&mut self, later: CountedFiles) -> Result<(), AllocError>
+        ensures files { OnOk result (self.new.files.items ≡ self.old.files.items ++ later.files.items) }
+        ensures faults { OnOk result (self.new.faults.items ≡ self.old.faults.items ++ later.faults.items) }
+    {
+        let CountedFiles {
+            mut files,
+            mut faults,
+        } = later;
+        self.files.append(&mut files)?;
+        self.faults.append(&mut faults)?;
+        Ok(())
+    }
+}
+
+impl<T: Tree> LevelReader<'_, T> {
+    // Counts the files of one part, with buffers of its own.
+    fn count_part(&self, job: &Job, names: Vec<Vec<u8>>) -> Result<CountedFiles, AllocError>
+        ensures { IfOk result (IsCounted (T.gives self.now.tree.now) job.now (bytes_of names.items) []) }
+    {
+        let mut scratch = Scratch::new(self.alloc)?;
+        let Ok(()) = scratch.path.enter(job.path()) else {
+            return Err(AllocError);
+        };
+        self.count(job, names, Vec::new(self.alloc), &mut scratch)
+    }
+
+    // Counts the files of each run, by a thread for each but one.
+    fn count_runs<R: Threads + Sync>(
+        &self,
+        rt: &R,
+        job: &Job,
+        runs: Vec<Vec<Vec<u8>>>,
+    ) -> Result<Vec<Result<CountedFiles, AllocError>>, AllocError>
+        ensures all { IfOk result (λ parts. vec_len parts ≡ vec_len runs) }
+        ensures each { IfOk result (λ parts. HaveCounted (T.gives self.now.tree.now) job.now runs.items parts.items) }
+    {
+        let run = |names: Vec<Vec<u8>>| -> Result<CountedFiles, AllocError>
+            ensures { IfOk result (IsCounted (T.gives self.entry.now.tree.now) job.entry.now (bytes_of names.items) []) }
+        { self.count_part(job, names) };
+        thread::map_vec(rt, runs, &run)
+    }
+
+    // Counts the files of these names in this many parts.
+    pub(crate) fn count_side_by_side<R: Threads + Sync>(
+        &self,
+        rt: &R,
+        parts: usize,
+        job: &Job,
+        names: Vec<Vec<u8>>,
+        absent: Vec<FaultLine>,
+    ) -> Result<CountedFiles, AllocError>
+        ensures { IfOk result (IsCounted (T.gives self.now.tree.now) job.now (bytes_of names.items) absent.items) }
+    {
+        let runs = cut(self.alloc, names, parts)?;
+        let counted = self.count_runs(rt, job, runs)?;
+        let found = joined(self.alloc, counted, absent)?;
+        Ok(found)
+    }
+
+    /// Counts the files of these names as `count` does, in parts side by side where they are many and threads are idle: a part for each
+    /// idle thread that can be taken, and one more. The few files after one of over 16 MiB are counted in parts too.
+    ///
+    /// Each part takes a buffer of its own.
+    pub fn count_divided<R: Threads + Sync>(
+        &self,
+        threads: &SpareThreads<'_, R>,
+        job: &Job,
+        names: Vec<Vec<u8>>,
+        absent: Vec<FaultLine>,
+        scratch: &mut Scratch,
+    ) -> Result<CountedFiles, AllocError>
+        requires { scratch.old.path.directory ≡ job.now.path }
+        ensures { IfOk result (IsCounted (T.gives self.now.tree.now) job.now (bytes_of names.items) absent.items) }
+    {
+        let helpers = take_helpers(threads.idle, names.len());
+        if helpers == 0 {
+            return self.count_undivided(threads, job, names, absent, scratch);
+        }
+        let found = self.count_side_by_side(threads.rt, helpers as usize + 1, job, names, absent);
+        threads.idle.give_back(helpers);
+        found
+    }
+}
