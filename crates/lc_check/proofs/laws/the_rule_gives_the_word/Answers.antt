@@ -1,5 +1,0 @@
-use Rattle.lc_check.proofs.GivenWords.{rule_gives_word}
-use Rattle.lc_check.proofs.laws.the_rule_gives_the_word.Goals as goal
-
-pub returns : goal.returns
-returns c = rule_gives_word

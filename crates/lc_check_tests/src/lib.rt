@@ -1,5 +1,0 @@
-//! The tests of the check of paths.
-#![tactic(auto)]
-
-#[cfg(test)]
-mod checks;

@@ -1,5 +1,0 @@
-use Rattle.lc_explain.specs.DirStacks.{AreFirstOf}
-use Rattle.lc_explain.proofs.stack_cache.StackCache.drop_beside.Given as goal
-
-abbrev pub invariant-loop-count : goal.invariant-loop-count
-invariant-loop-count l = AreFirstOf l.self l.stack

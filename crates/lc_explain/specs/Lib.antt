@@ -1,7 +1,0 @@
-pub mod OpenDirs
-pub mod Explained
-pub mod Findings
-pub mod ExplainText
-pub mod Explain
-pub mod DirStacks
-pub mod Laws

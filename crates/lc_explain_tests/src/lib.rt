@@ -1,5 +1,0 @@
-//! The tests of explanations.
-#![tactic(auto)]
-
-#[cfg(test)]
-mod explain;

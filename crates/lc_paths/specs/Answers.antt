@@ -1,0 +1,31 @@
+-- What a call answers that reads an input whole, and writes as it makes it what it says of the input's bytes.
+use Rattle.std.specs.Prelude.{◌≡◌, ◌⊎◌, ℕ, List, Result, Ok, Err}
+use Rattle.lc_io.specs.Reads.{Answer}
+use Rattle.lc_io.specs.declared.whole.WholeFault.TheVariants as whole
+use Rattle.lc_text.specs.Input.{AnswersInput}
+use Rattle.lc_text.specs.declared.check_fault.CheckFault.{CheckFault}
+use Rattle.lc_text.specs.declared.check_fault.CheckFault.TheVariants.{Read, InputTooLong, RulesTooLong, Memory, Write}
+use Rattle.lc_io.specs.declared.printing.PrintFault.{PrintFault}
+use Rattle.lc_io.specs.declared.printing.PrintFault.TheVariants as print
+
+-- by what writing it answers
+module _ {I O V : Type 0} (may_give : I → ℕ → Answer → I → Type 0) (AnswersOutput : List ℕ → O → Result V PrintFault → O → Type 0) where
+  abbrev pub AnswersAsMade : I → O → Result V CheckFault → I → O → Type 0
+  -- the input was read whole, and all was written
+  AnswersAsMade input out (Ok v) read wrote =
+      (bytes : List ℕ) × AnswersInput may_give input (Ok tt) bytes read × AnswersOutput bytes out (Ok v) wrote
+  -- a read of the input failed
+  AnswersAsMade input out (Err Read) read wrote =
+      ((bytes : List ℕ) × AnswersInput may_give input (Err whole.Read) bytes read) × (wrote ≡ out)
+  -- the input is too long
+  AnswersAsMade input out (Err InputTooLong) read wrote =
+      ((bytes : List ℕ) × AnswersInput may_give input (Err whole.TooLong) bytes read) × (wrote ≡ out)
+  -- the input has no rules
+  AnswersAsMade input out (Err RulesTooLong) read wrote = ⊥
+  -- nothing was written, or the input was read whole and there was no memory for the rest of what is written
+  AnswersAsMade input out (Err Memory) read wrote =
+      (wrote ≡ out)
+      ⊎ ((bytes : List ℕ) × AnswersInput may_give input (Ok tt) bytes read × AnswersOutput bytes out (Err print.Memory) wrote)
+  -- the input was read whole, and a write failed or took nothing
+  AnswersAsMade input out (Err Write) read wrote =
+      (bytes : List ℕ) × AnswersInput may_give input (Ok tt) bytes read × AnswersOutput bytes out (Err print.Write) wrote

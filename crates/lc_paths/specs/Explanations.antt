@@ -1,0 +1,7 @@
+pub mod OpenDirs
+pub mod Explained
+pub mod Findings
+pub mod ExplainText
+pub mod Answers
+pub mod DirStacks
+pub mod Laws

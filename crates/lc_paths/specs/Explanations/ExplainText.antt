@@ -1,0 +1,84 @@
+-- The text of explanations, in a style: a line of four fields for each path.
+use Rattle.std.specs.Prelude.{ℕ, Bool, true, false, List, [], Option, Some, None, flat_map, codes}
+use Rattle.std.specs.List.{list_any}
+use Rattle.lc_level.specs.FaultLines.{FaultLineModel}
+use Rattle.lc_level.specs.ReasonWords.{reason_word, attribute_of}
+use Rattle.lc_rules.specs.declared.rule_source.RuleSource.{RuleSource}
+use Rattle.lc_text.specs.Names.{NameModel}
+use Rattle.lc_text.specs.PathLines.{path_of, is_dir_line, undotted, or_dot}
+use Rattle.lc_text.specs.RulePlaces.{source_directory, source_name}
+use Rattle.lc_text.specs.Styles.{styled}
+use Rattle.lc_text.specs.declared.style.PathStyle.{PathStyle}
+use Rattle.lc_level.specs.FaultWords.{fault_word}
+use Rattle.lc_paths.specs.AnswerLines.{answer_line}
+use Rattle.lc_paths.specs.Explanations.Explained.{CitedRule, Explanation, bad, faulted, below, ignored, included, unruled, left_out}
+
+-- the path that a line names, and whether as that of a directory: `./` at the beginning of the line means nothing
+abbrev pub named_path : List ℕ → List ℕ
+named_path line = path_of (undotted line)
+
+abbrev pub names_dir : List ℕ → Bool
+names_dir line = is_dir_line (undotted line)
+
+-- where a rule is that decides the path of a line: the directory of its file, the file and the number of the rule's line
+abbrev pub rule_name : List ℕ → RuleSource → ℕ → NameModel
+rule_name path source line = record {
+  front = [];
+  bytes = source_directory path source;
+  end = source_name source;
+  line = Some line;
+}
+
+-- a word in place of a file
+abbrev pub word_name : List ℕ → NameModel
+word_name word = record { front = word; bytes = []; end = []; line = None }
+
+-- why the walk leaves out what no rule leaves out, by the word for it and by the word of an attribute
+abbrev pub reason_name : List ℕ → Option (List ℕ) → NameModel
+reason_name word None = word_name word
+reason_name word (Some attribute) = record { front = codes "attribute:"; bytes = attribute; end = []; line = None }
+
+-- as paths and patterns are printed in a style
+module _ (style : PathStyle) where
+  -- of a directory that is at fault
+  abbrev pub fault_line : FaultLineModel → List ℕ
+  fault_line fault = answer_line (styled style) (codes "fault") (Some (word_name (fault_word fault.word))) None (or_dot fault.path)
+
+  -- of a line that a rule decides: where the rule stands, and the text of its line
+  abbrev pub rule_line : List ℕ → List ℕ → CitedRule → List ℕ
+  rule_line word line rule =
+      answer_line (styled style) word (Some (rule_name (named_path line) rule.source rule.line)) (Some rule.text) line
+
+  -- the word of what is said of a line's path, where it is said by, the pattern, and the line as it came
+  abbrev pub explained_line : List ℕ → Explanation → List ℕ
+  explained_line line bad = answer_line (styled style) (codes "bad") None None line
+  explained_line line (faulted fault) = fault_line fault
+  explained_line line (below rule) = rule_line (codes "below") line rule
+  explained_line line (ignored rule) = rule_line (codes "ignored") line rule
+  explained_line line (included rule) = rule_line (codes "included") line rule
+  explained_line line unruled = answer_line (styled style) (codes "none") None None line
+  explained_line line (left_out reason) =
+      answer_line (styled style) (codes "left") (Some (reason_name (reason_word reason) (attribute_of reason))) None line
+
+-- a line with what is said of it
+abbrev pub Told : Type 0
+Told = List ℕ × Explanation
+
+abbrev pub told_line : PathStyle → Told → List ℕ
+told_line style told = explained_line style told.0 told.1
+
+abbrev pub told_text : PathStyle → List Told → List ℕ
+told_text style told = flat_map (told_line style) told
+
+abbrev pub is_fault : Explanation → Bool
+is_fault bad = false
+is_fault (faulted fault) = true
+is_fault (below rule) = false
+is_fault (ignored rule) = false
+is_fault (included rule) = false
+is_fault unruled = false
+is_fault (left_out reason) = false
+
+-- some directory on the way to some path was at fault
+abbrev pub has_fault : List Told → Bool
+has_fault told = list_any (λ t. is_fault t.1) told

@@ -1,0 +1,5 @@
+pub mod AnswerLines
+pub mod Paths
+pub mod Answers
+pub mod Checks
+pub mod Explanations

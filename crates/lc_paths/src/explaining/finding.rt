@@ -1,0 +1,102 @@
+//! The explanation of one path, before it is printed.
+
+ghost use Rattle.std.specs.Prelude.{◌≡◌, ℕ, Some, None};
+ghost use Rattle.lc_level.specs.Reasons.{reason_model};
+ghost use Rattle.lc_rules.specs.declared.rule_source.RuleSource.{RuleSource};
+ghost use Rattle.lc_paths.specs.Explanations.Explained.{CitedRule, said_for};
+ghost use Rattle.lc_paths.specs.Explanations.Findings.{decided, decision_word, explanation_of};
+
+use lc_level::{FaultSite, FaultWord, Reason};
+use lc_rules::RuleSource;
+
+/// The file of a rule, and the number of its line there, from 1.
+#[derive(Clone, Copy, Debug)]
+pub(crate) struct RulePlace {
+    pub(crate) source: RuleSource,
+    pub(crate) line: u32,
+}
+
+/// A directory that could not be opened: its path, and what is at fault.
+#[derive(Clone, Copy, Debug)]
+pub(crate) struct DirectoryFault<'a> {
+    pub(crate) directory: &'a [u8],
+    pub(crate) site: FaultSite,
+    pub(crate) word: FaultWord,
+}
+
+/// What a rule decides about a path.
+#[derive(Clone, Copy, Debug)]
+pub(crate) enum Decision {
+    /// It ignores the highest ignored directory above the path.
+    Below,
+    /// It is the last that matches, and ignores the path.
+    Ignored,
+    /// It is the last that matches, and includes the path again.
+    Included,
+}
+
+impl Decision {
+    pub(crate) fn word(self) -> &'static str
+        ensures { result.now ≡ decision_word self }
+    {
+        match self {
+            Decision::Below => "below",
+            Decision::Ignored => "ignored",
+            Decision::Included => "included",
+        }
+    }
+}
+
+/// The explanation of one path.
+#[derive(Debug, Drop)]
+pub(crate) enum Finding<'a> {
+    /// No entry of a tree can have this path.
+    Bad,
+    /// A directory above the path is at fault.
+    Fault(DirectoryFault<'a>),
+    /// This rule decides.
+    Ruled(Decision, RulePlace),
+    /// No rule matches, and a walk takes the path.
+    NoRule,
+    /// A walk skips the path, or a directory above it, for this reason, which is no rule.
+    Skipped(Reason),
+}
+
+/// A finding, with the number of the stack of the directories above the path, if any was opened.
+#[derive(Debug, Drop)]
+pub(crate) struct Found<'a> {
+    pub(crate) finding: Finding<'a>,
+    pub(crate) to: Option<usize>,
+}
+
+impl<'a> Found<'a> {
+    /// Makes a finding below the directories of a stack.
+    pub(crate) fn on(at: usize, finding: Finding<'a>) -> Found<'a>
+        ensures { result ≡ record { finding = finding.entry; to = Some at } }
+    {
+        Found {
+            finding,
+            to: Some(at),
+        }
+    }
+
+    /// Makes a finding for which no directory was opened.
+    pub(crate) fn on_none(finding: Finding<'a>) -> Found<'a>
+        ensures { result ≡ record { finding = finding.entry; to = None } }
+    {
+        Found { finding, to: None }
+    }
+}
+
+impl<'a> Finding<'a> {
+    /// Makes the finding of a path that is skipped, or is below a directory that is: where a rule is the reason, it decides so.
+    pub(crate) fn skipped(reason: Reason, decision: Decision) -> Finding<'a>
+        ensures { (cite : RuleSource → ℕ → CitedRule) → explanation_of cite result
+            ≡ said_for cite (decided decision) (reason_model reason) }
+    {
+        match reason.rule() {
+            Some((source, line)) => Finding::Ruled(decision, RulePlace { source, line }),
+            None => Finding::Skipped(reason),
+        }
+    }
+}

@@ -1,0 +1,205 @@
+//! Readers and writers that give or take little, fail or never end: what is written is a prefix, and whole only on success.
+
+use crate::checks::BY_LINES;
+use lc_census::Source;
+use lc_level::read_rule_text;
+use lc_paths::{check, check_explained, check_joined};
+use lc_rules::IgnoreFile;
+use lc_tests::readers::{Bytewise, Counted, Endless, Failing};
+use lc_tests::writers::{Narrow, WRITERS, WhenFull};
+use lc_text::CheckFault;
+use std::alloc::{AllocError, Global};
+use std::process::Abort;
+use std::test::Fail;
+
+const RULES: &[u8] = b"a\n";
+
+const PATHS: &[u8] = b"a\nb\n";
+
+/// How rules and paths come, and what is told of each path.
+#[derive(Clone, Copy)]
+enum Form {
+    /// The rules are read before.
+    Paths,
+    /// The rules come before the paths.
+    Joined,
+    /// The rules are read before, and told of.
+    Explained,
+}
+
+/// A form, its input, and the text.
+type Case = (Form, &'static [u8], &'static [u8]);
+
+const CASES: &[Case] = &[
+    (Form::Joined, b"a\n--\na\nb\n", b"ignored\ta\nnone\tb\n"),
+    (Form::Paths, PATHS, b"ignored\ta\nnone\tb\n"),
+    (
+        Form::Explained,
+        PATHS,
+        b"ignored\tf:1\ta\ta\nnone\t-\t-\tb\n",
+    ),
+];
+
+fn check_paths<S: Source>(
+    alloc: Global,
+    input: &mut S,
+    out: &mut Narrow,
+) -> Result<(), CheckFault> {
+    match IgnoreFile::read(alloc, RULES) {
+        Ok(rules) => check(alloc, &rules, BY_LINES, input, out),
+        Err(_) => Err(CheckFault::Memory),
+    }
+}
+
+fn check_told<S: Source>(alloc: Global, input: &mut S, out: &mut Narrow) -> Result<(), CheckFault> {
+    match read_rule_text(alloc, &mut Bytewise(RULES)) {
+        Ok(rules) => check_explained(alloc, b"f", &rules, BY_LINES, input, out),
+        Err(_) => Err(CheckFault::Memory),
+    }
+}
+
+/// A check of this form, but for want of memory, where nothing is written: the texts are shorter than a block.
+fn checked<S: Source>(
+    rt: &impl Abort,
+    alloc: Global,
+    form: Form,
+    input: &mut S,
+    out: &mut Narrow,
+) -> Result<Result<(), CheckFault>, AllocError> {
+    let answer = match form {
+        Form::Paths => check_paths(alloc, input, out),
+        Form::Joined => check_joined(alloc, BY_LINES, input, out),
+        Form::Explained => check_told(alloc, input, out),
+    };
+    match answer {
+        Err(CheckFault::Memory) => {
+            assert!(rt; out.taken.is_empty());
+            Err(AllocError)
+        }
+        answer => Ok(answer),
+    }
+}
+
+/// Whether a writer with so much room has that much of the text, and the check says whether this is all.
+fn stops_there<R: AllocGlobal + Abort>(
+    rt: &R,
+    (form, bytes, text): &Case,
+    (step, when_full): (usize, WhenFull),
+    room: usize,
+) -> Result<bool, AllocError> {
+    let mut out = Narrow::new(rt.alloc(), step, room, when_full)?;
+    let answer = checked(rt, rt.alloc(), *form, &mut Bytewise(*bytes), &mut out)?;
+    let expected = if room == text.len() {
+        Ok(())
+    } else {
+        Err(CheckFault::Write)
+    };
+    Ok(answer == expected && text.get(..room) == Some(out.taken.as_slice()))
+}
+
+fn compare_writes<R: AllocGlobal + Abort>(
+    rt: &R,
+    case: &Case,
+    writer: (usize, WhenFull),
+) -> Result<(), Fail> {
+    for room in 0..=case.2.len() {
+        assert!(rt; stops_there(rt, case, writer, room)?, "at {room}");
+    }
+    Ok(())
+}
+
+#[test]
+fn writes_stop_at_every_place(rt: HostRuntime) -> Result<(), Fail> {
+    for case in CASES {
+        for writer in WRITERS {
+            compare_writes(&rt, case, *writer)?;
+        }
+    }
+    Ok(())
+}
+
+/// Whether an input of which a read fails is answered by that, and nothing is written.
+fn fails_to_read<R: AllocGlobal + Abort, S: Source>(
+    rt: &R,
+    form: Form,
+    input: &mut S,
+) -> Result<bool, AllocError> {
+    let mut out = Narrow::new(rt.alloc(), 64, 64, WhenFull::Fails)?;
+    let answer = checked(rt, rt.alloc(), form, input, &mut out)?;
+    Ok(answer == Err(CheckFault::Read) && out.taken.is_empty())
+}
+
+fn compare_reads<R: AllocGlobal + Abort>(rt: &R, (form, bytes, _): &Case) -> Result<(), Fail> {
+    for given in 0..=bytes.len() {
+        let front = &bytes[..given];
+        assert!(rt;
+            fails_to_read(rt, *form, &mut Failing(front))?,
+            "at {given}"
+        );
+        assert!(rt;
+            fails_to_read(rt, *form, &mut Bytewise(Failing(front)))?,
+            "at {given}"
+        );
+    }
+    Ok(())
+}
+
+#[test]
+fn reads_fail_at_every_place(rt: HostRuntime) -> Result<(), Fail> {
+    for case in CASES {
+        compare_reads(&rt, case)?;
+    }
+    Ok(())
+}
+
+const ENDLESS: &[Form] = &[Form::Paths, Form::Joined];
+
+#[test]
+fn an_input_without_end_is_too_long(rt: HostRuntime) -> Result<(), Fail> {
+    for form in ENDLESS {
+        let mut input = Counted::new(Endless);
+        let mut out = Narrow::new(rt.alloc(), 64, 64, WhenFull::Fails)?;
+        let answer = checked(&rt, rt.alloc(), *form, &mut input, &mut out)?;
+        // 256 buffers of 65,536 bytes, and the first byte past the limit.
+        assert!(rt;
+            answer == Err(CheckFault::InputTooLong) && input.reads == 257 && out.taken.is_empty(),
+            "{} reads",
+            input.reads
+        );
+    }
+    Ok(())
+}
+
+/// A rule of so many letters, dashes and a path.
+fn one_long_rule(alloc: Global, letters: usize) -> Result<Vec<u8>, AllocError> {
+    let mut joined = vec![in alloc; b'a'; letters]?;
+    joined.extend_from_slice(b"\n--\nb\n")?;
+    Ok(joined)
+}
+
+/// How many letters a rule has, and what is answered. The line feed after it is one of the bytes of the rules.
+const LIMITS: &[(usize, Result<(), CheckFault>)] = &[
+    (1_048_575, Ok(())),
+    (1_048_576, Err(CheckFault::RulesTooLong)),
+];
+
+/// Whether the check of so many letters is answered so, and writes only where it is answered well.
+fn is_answered<R: AllocGlobal + Abort>(
+    rt: &R,
+    letters: usize,
+    wanted: Result<(), CheckFault>,
+) -> Result<bool, AllocError> {
+    let joined = one_long_rule(rt.alloc(), letters)?;
+    let mut out = Narrow::new(rt.alloc(), 64, 64, WhenFull::Fails)?;
+    let mut input = joined.as_slice();
+    let answer = checked(rt, rt.alloc(), Form::Joined, &mut input, &mut out)?;
+    Ok(answer == wanted && out.taken.is_empty() != answer.is_ok())
+}
+
+#[test]
+fn joined_rules_at_their_limit(rt: HostRuntime) -> Result<(), Fail> {
+    for (letters, wanted) in LIMITS {
+        assert!(rt; is_answered(&rt, *letters, *wanted)?, "at {letters}");
+    }
+    Ok(())
+}

@@ -1,0 +1,100 @@
+//! Asking about paths of a tree of memory.
+
+use lc_census::Source;
+use lc_level::{Filters, RuleText, read_rule_text};
+use lc_paths::{ExplainOptions, explain, explain_words};
+use lc_tests::Sketch;
+use lc_tests::writers::{Narrow, WhenFull};
+use lc_text::{CheckFault, Outcome, PathEnd, PathStyle, PrintFault};
+use lc_tree::{MemTree, Tree};
+use std::alloc::{AllocError, Global};
+use std::process::Abort;
+use std::test::Fail;
+
+/// What is shown, the tree, lines of paths, and their text.
+pub(crate) type Case = (&'static str, Sketch<'static>, &'static [u8], &'static [u8]);
+
+/// What is asked by these filters, with paths in this style.
+pub(crate) fn in_style<'o>(filters: &'o Filters<'_>, style: PathStyle) -> ExplainOptions<'o> {
+    ExplainOptions { filters, style }
+}
+
+/// What is asked by these filters, for a pipe.
+pub(crate) fn for_a_pipe<'o>(filters: &'o Filters<'_>) -> ExplainOptions<'o> {
+    in_style(filters, PathStyle::Escaped)
+}
+
+/// Rules for a whole tree.
+pub(crate) fn rule_text(alloc: Global, bytes: &[u8]) -> Result<RuleText, AllocError> {
+    let mut file = bytes;
+    match read_rule_text(alloc, &mut file) {
+        Ok(text) => Ok(text),
+        Err(_) => Err(AllocError),
+    }
+}
+
+/// An explanation of less than a block, but for want of memory, where nothing of it is written.
+pub(crate) fn explained<T: Tree, S: Source>(
+    rt: &impl Abort,
+    alloc: Global,
+    tree: &T,
+    options: &ExplainOptions,
+    input: &mut S,
+    out: &mut Narrow,
+) -> Result<Result<Outcome, CheckFault>, AllocError> {
+    match explain(alloc, tree, options, PathEnd::LineFeed, input, out) {
+        Err(CheckFault::Memory) => {
+            assert!(rt; out.taken.is_empty());
+            Err(AllocError)
+        }
+        answer => Ok(answer),
+    }
+}
+
+/// Explains paths by the rules of the tree alone.
+pub(crate) fn plainly<T: Tree, S: Source>(
+    rt: &impl Abort,
+    alloc: Global,
+    tree: &T,
+    input: &mut S,
+    out: &mut Narrow,
+) -> Result<Result<Outcome, CheckFault>, AllocError> {
+    let filters = Filters::none(alloc);
+    explained(rt, alloc, tree, &for_a_pipe(&filters), input, out)
+}
+
+/// Explains words by the rules of the tree alone.
+pub(crate) fn explained_words<T: Tree>(
+    rt: &impl Abort,
+    alloc: Global,
+    tree: &T,
+    words: &[&str],
+    out: &mut Narrow,
+) -> Result<Result<Outcome, PrintFault>, AllocError> {
+    let filters = Filters::none(alloc);
+    match explain_words(alloc, tree, &for_a_pipe(&filters), words, out) {
+        Err(PrintFault::Memory) => {
+            assert!(rt; out.taken.is_empty());
+            Err(AllocError)
+        }
+        answer => Ok(answer),
+    }
+}
+
+/// The lines of paths give this text, and this outcome.
+pub(crate) fn check<R: Abort + AllocGlobal>(
+    rt: &R,
+    case: &Case,
+    options: &ExplainOptions,
+    outcome: Outcome,
+) -> Result<(), Fail> {
+    let (name, sketch, paths, text) = case;
+    let node = sketch.node(rt.alloc())?;
+    let tree = MemTree::new(&node);
+    let mut input: &[u8] = paths;
+    let mut out = Narrow::new(rt.alloc(), 64, text.len(), WhenFull::Fails)?;
+    let answer = explained(rt, rt.alloc(), &tree, options, &mut input, &mut out)?;
+    assert!(rt; answer == Ok(outcome), "{name}");
+    assert!(rt; out.taken.as_slice() == *text, "{name}");
+    Ok(())
+}

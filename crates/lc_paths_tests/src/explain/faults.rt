@@ -1,0 +1,124 @@
+//! Trees of which a directory on the way is at fault, and trees of which one call fails.
+
+use crate::explain::asking::{Case, check, for_a_pipe, plainly};
+use lc_level::Filters;
+use lc_tests::Sketch;
+use lc_tests::trees::{FailingCall, FailingTree};
+use lc_tests::writers::{Narrow, WhenFull};
+use lc_text::Outcome;
+use lc_tree::MemTree;
+use std::process::Abort;
+use std::test::Fail;
+
+const LINE: Sketch = Sketch::File(b"x\n");
+
+const FAILING: Sketch = Sketch::Failing(b"");
+
+const TREE: Sketch = Sketch::Dir(&[
+    (b".gitignore", Sketch::File(b"out/\n")),
+    (b"a", Sketch::Dir(&[(b".gitignore", FAILING)])),
+    (b"b", Sketch::Dir(&[(b".gitattributes", FAILING)])),
+    (b"closed", Sketch::Closed),
+    (b"out", Sketch::Closed),
+    (b"twice", Sketch::Dir(&[(b"x", LINE), (b"x", LINE)])),
+]);
+
+const NO_INFO: Sketch = Sketch::Dir(&[(b".git", Sketch::Dir(&[(b"info", Sketch::Closed)]))]);
+
+const NO_EXCLUDE: Sketch = Sketch::Dir(&[(
+    b".git",
+    Sketch::Dir(&[(b"info", Sketch::Dir(&[(b"exclude", FAILING)]))]),
+)]);
+
+static CASES: [Case; 4] = [
+    (
+        "a fault is of what stands on the way",
+        TREE,
+        b"a/x\na\nb/x/y\nclosed/x\nclosed/\nout/x\ntwice/x\n",
+        b"fault\tread\t-\ta/.gitignore\n\
+          none\t-\t-\ta\n\
+          fault\tread\t-\tb/.gitattributes\n\
+          fault\tread\t-\tclosed\n\
+          none\t-\t-\tclosed/\n\
+          below\t.gitignore:1\tout/\tout/x\n\
+          fault\ttwice\t-\ttwice\n",
+    ),
+    (
+        "the top can't be listed",
+        Sketch::Closed,
+        b"a\n./a\n.\na//b\n",
+        b"fault\tread\t-\t.\nfault\tread\t-\t.\nnone\t-\t-\t.\nbad\t-\t-\ta//b\n",
+    ),
+    (
+        "nor .git/info",
+        NO_INFO,
+        b"a\n",
+        b"fault\tread\t-\t.git/info\n",
+    ),
+    (
+        "nor its exclude file be read",
+        NO_EXCLUDE,
+        b"a\n",
+        b"fault\tread\t-\t.git/info/exclude\n",
+    ),
+];
+
+#[test]
+fn directories_at_fault(rt: HostRuntime) -> Result<(), Fail> {
+    let filters = Filters::none(rt.alloc());
+    for case in &CASES {
+        check(&rt, case, &for_a_pipe(&filters), Outcome::SomeFaults)?;
+    }
+    Ok(())
+}
+
+const NESTED: Sketch = Sketch::Dir(&[
+    (b".gitignore", Sketch::File(b"*.o\n")),
+    (
+        b"d",
+        Sketch::Dir(&[(b".gitignore", Sketch::File(b"!k.o\n")), (b"k.o", LINE)]),
+    ),
+]);
+
+const PATHS: &[u8] = b"d/a.o\nd/k.o\n";
+
+/// Two listings, and three times each that a file is opened, read, and read to its end: so each is done once.
+const CALLS: u64 = 8;
+
+const WHOLE: &[u8] = b"ignored\t.gitignore:1\t*.o\td/a.o\nincluded\td/.gitignore:1\t!k.o\td/k.o\n";
+
+/// The text where the call at a place fails: the first path's line tells of it, and the second path is asked about anew.
+fn text_at(place: u64) -> &'static [u8] {
+    match place {
+        0 => b"fault\tread\t-\t.\nincluded\td/.gitignore:1\t!k.o\td/k.o\n",
+        1..4 => b"fault\tread\t-\t.gitignore\nincluded\td/.gitignore:1\t!k.o\td/k.o\n",
+        4 => b"fault\tread\t-\td\nincluded\td/.gitignore:1\t!k.o\td/k.o\n",
+        5..8 => b"fault\tread\t-\td/.gitignore\nincluded\td/.gitignore:1\t!k.o\td/k.o\n",
+        _ => WHOLE,
+    }
+}
+
+#[test]
+fn each_call_fails(rt: HostRuntime) -> Result<(), Fail> {
+    let node = NESTED.node(rt.alloc())?;
+    let tree = MemTree::new(&node);
+    for place in 0..CALLS + 1 {
+        let call = FailingCall::new(place);
+        let failing = FailingTree {
+            tree: &tree,
+            call: &call,
+        };
+        let mut input = PATHS;
+        let mut out = Narrow::new(rt.alloc(), 64, 128, WhenFull::Fails)?;
+        let answer = plainly(&rt, rt.alloc(), &failing, &mut input, &mut out)?;
+        let outcome = if place < CALLS {
+            Outcome::SomeFaults
+        } else {
+            Outcome::Clean
+        };
+        assert!(rt; answer == Ok(outcome), "at {place}");
+        assert!(rt; out.taken.as_slice() == text_at(place), "at {place}");
+        assert!(rt; place < CALLS || call.begun() == CALLS, "{}", call.begun());
+    }
+    Ok(())
+}

@@ -1,0 +1,148 @@
+//! Directories that paths come back to: each is listed, and its rules are read, once.
+
+use crate::explain::asking::plainly;
+use lc_paths::MAX_KEPT;
+use lc_tests::Sketch;
+use lc_tests::trees::{FailingCall, FailingTree};
+use lc_tests::writers::{Narrow, WhenFull};
+use lc_text::Outcome;
+use lc_tree::{MemTree, Node};
+use std::alloc::{AllocError, Global};
+use std::process::Abort;
+use std::test::Fail;
+
+const LINE: Sketch = Sketch::File(b"x\n");
+
+const TREE: Sketch = Sketch::Dir(&[
+    (b".gitignore", Sketch::File(b"*.o\nout/\n")),
+    (
+        b"a",
+        Sketch::Dir(&[
+            (b".gitignore", Sketch::File(b"!k.o\n")),
+            (b"b", Sketch::Dir(&[(b"k.o", LINE)])),
+        ]),
+    ),
+    (b"c", Sketch::Dir(&[(b"k.o", LINE)])),
+    (b"out", Sketch::Closed),
+]);
+
+/// Four listings, and two files that are opened, read, and read to their end.
+const CALLS: u64 = 10;
+
+/// Paths in several orders, and their text.
+static ORDERS: [(&[u8], &[u8]); 3] = [
+    (
+        b"k.o\na/k.o\na/b/k.o\nc/k.o\n",
+        b"ignored\t.gitignore:1\t*.o\tk.o\n\
+          included\ta/.gitignore:1\t!k.o\ta/k.o\n\
+          included\ta/.gitignore:1\t!k.o\ta/b/k.o\n\
+          ignored\t.gitignore:1\t*.o\tc/k.o\n",
+    ),
+    (
+        b"a/b/k.o\nc/k.o\na/b/z\nc/k.o\na/b/k.o\nc/z\n",
+        b"included\ta/.gitignore:1\t!k.o\ta/b/k.o\n\
+          ignored\t.gitignore:1\t*.o\tc/k.o\n\
+          none\t-\t-\ta/b/z\n\
+          ignored\t.gitignore:1\t*.o\tc/k.o\n\
+          included\ta/.gitignore:1\t!k.o\ta/b/k.o\n\
+          none\t-\t-\tc/z\n",
+    ),
+    (
+        b"a/gone/x.o\nc/k.o\nout/x\na/b/gone/k.o\na/x.o\nout/a/b\na/gone/k.o\n",
+        b"ignored\t.gitignore:1\t*.o\ta/gone/x.o\n\
+          ignored\t.gitignore:1\t*.o\tc/k.o\n\
+          below\t.gitignore:2\tout/\tout/x\n\
+          included\ta/.gitignore:1\t!k.o\ta/b/gone/k.o\n\
+          ignored\t.gitignore:1\t*.o\ta/x.o\n\
+          below\t.gitignore:2\tout/\tout/a/b\n\
+          included\ta/.gitignore:1\t!k.o\ta/gone/k.o\n",
+    ),
+];
+
+/// How many calls these paths of a tree cost, whose text this is.
+fn calls_of<R: Abort + AllocGlobal>(
+    rt: &R,
+    tree: &MemTree,
+    paths: &[u8],
+    text: &[u8],
+) -> Result<u64, AllocError> {
+    let call = FailingCall::new(u64::MAX);
+    let counted = FailingTree { tree, call: &call };
+    let mut input = paths;
+    let mut out = Narrow::new(rt.alloc(), 1024, text.len(), WhenFull::Fails)?;
+    let answer = plainly(rt, rt.alloc(), &counted, &mut input, &mut out)?;
+    assert!(rt; answer == Ok(Outcome::Clean));
+    assert!(rt; out.taken.as_slice() == text);
+    Ok(call.begun())
+}
+
+#[test]
+fn directories_are_entered_once_in_any_order(rt: HostRuntime) -> Result<(), Fail> {
+    let node = TREE.node(rt.alloc())?;
+    let tree = MemTree::new(&node);
+    for (paths, text) in &ORDERS {
+        let calls = calls_of(&rt, &tree, paths, text)?;
+        assert!(rt; calls == CALLS, "{calls}");
+    }
+    Ok(())
+}
+
+/// A comment of so many bytes, of which seven are kept with the rules that they are read as, and an eighth is too much.
+const COMMENT: usize = 1_000_000;
+
+/// A directory whose rules are one long comment.
+fn commented(alloc: Global) -> Result<Node, AllocError> {
+    let mut comment = Vec::with_capacity(alloc, COMMENT)?;
+    for _ in 0..COMMENT {
+        comment.push(b'#')?;
+    }
+    let mut children = Vec::with_capacity(alloc, 1)?;
+    let name = b".gitignore".to_vec(alloc)?;
+    children.push((name, Node::File(comment)))?;
+    Ok(Node::Dir(children))
+}
+
+/// Eight such directories, named by a digit.
+fn eight_commented(alloc: Global) -> Result<Node, AllocError> {
+    let mut children = Vec::with_capacity(alloc, 8)?;
+    for digit in b"01234567" {
+        let name = [*digit].to_vec(alloc)?;
+        children.push((name, commented(alloc)?))?;
+    }
+    Ok(Node::Dir(children))
+}
+
+/// Paths in these directories in turn, and then in one of them.
+const IN_EACH: &[u8] = b"0/x\n1/x\n2/x\n3/x\n4/x\n5/x\n6/x\n7/x\n";
+
+const TEXT: &[u8] = b"none\t-\t-\t0/x\nnone\t-\t-\t1/x\nnone\t-\t-\t2/x\nnone\t-\t-\t3/x\n\
+                      none\t-\t-\t4/x\nnone\t-\t-\t5/x\nnone\t-\t-\t6/x\nnone\t-\t-\t7/x\n";
+
+/// How many calls it costs to come to each, and then again to the one of a digit.
+fn calls_with<R: Abort + AllocGlobal>(
+    rt: &R,
+    tree: &MemTree,
+    digit: &[u8],
+) -> Result<u64, AllocError> {
+    let mut paths = IN_EACH.to_vec(rt.alloc())?;
+    paths.extend_from_slice(digit)?;
+    paths.extend_from_slice(b"/y\n")?;
+    let mut text = TEXT.to_vec(rt.alloc())?;
+    text.extend_from_slice(b"none\t-\t-\t")?;
+    text.extend_from_slice(digit)?;
+    text.extend_from_slice(b"/y\n")?;
+    calls_of(rt, tree, &paths, &text)
+}
+
+#[test]
+fn what_is_kept_has_a_bound(rt: HostRuntime) -> Result<(), Fail> {
+    assert!(rt; MAX_KEPT / COMMENT / 16 == 6);
+    let node = eight_commented(rt.alloc())?;
+    let tree = MemTree::new(&node);
+    let once = calls_of(&rt, &tree, IN_EACH, TEXT)?;
+    let last = calls_with(&rt, &tree, b"7")?;
+    assert!(rt; last == once, "{last} {once}");
+    let first = calls_with(&rt, &tree, b"0")?;
+    assert!(rt; first > once, "{first} {once}");
+    Ok(())
+}

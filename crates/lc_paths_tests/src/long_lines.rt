@@ -1,0 +1,35 @@
+//! Lines of about a KiB, of which many are more than a block.
+
+use std::alloc::{AllocError, Global};
+
+/// So many lines: three blocks, and what is left.
+pub(crate) const LINES: usize = 200;
+
+/// A pattern of 1,003 bytes that matches `a`.
+pub(crate) fn long_pattern(alloc: Global) -> Result<Vec<u8>, AllocError> {
+    let mut pattern = b"[a".to_vec(alloc)?;
+    for _ in 0..1000 {
+        pattern.push(b'x')?;
+    }
+    pattern.push(b']')?;
+    Ok(pattern)
+}
+
+/// This line so often.
+pub(crate) fn repeated(alloc: Global, line: &[u8]) -> Result<Vec<u8>, AllocError> {
+    let mut text = Vec::new(alloc);
+    for _ in 0..LINES {
+        text.extend_from_slice(line)?;
+    }
+    Ok(text)
+}
+
+/// The text of so many paths `a`, which the pattern in the first line of this file ignores.
+pub(crate) fn expected(alloc: Global, file: &[u8]) -> Result<Vec<u8>, AllocError> {
+    let mut line = b"ignored\t".to_vec(alloc)?;
+    line.extend_from_slice(file)?;
+    line.extend_from_slice(b":1\t")?;
+    line.extend_from_slice(&long_pattern(alloc)?)?;
+    line.extend_from_slice(b"\ta\n")?;
+    repeated(alloc, &line)
+}
