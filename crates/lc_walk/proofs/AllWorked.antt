@@ -16,7 +16,7 @@ use Rattle.lc_walk.specs.WorkerResults.{AreLawful, FoundOver, TalliesFor, files_
 use Rattle.lc_walk.specs.declared.row.Row.{Row}
 use Rattle.lc_walk.specs.declared.worker.StopReason.TheVariants.{Over}
 use Rattle.lc_walk.specs.declared.worker.WorkerResult.{WorkerResult}
-use Rattle.lc_walk.proofs.WalkOn.{mapped}
+use Rattle.lc_walk.proofs.AnswersOfClose.{mapped}
 use Rattle.lc_walk.proofs.Working.{lawful_since}
 
 mapped_at : {A B : Type 0} (f : A → B) (xs : List A) (i : ℕ) → slice_get (map f xs) i ≡ option_map f (slice_get xs i)

@@ -2,7 +2,7 @@
 use Rattle.std.proofs.Common.{◌≡◌, ℕ, List, slice_get, Some, refl}
 use Rattle.lc_board.specs.declared.answers.Ended.{Ended}
 use Rattle.lc_walk.specs.Rows.{row_of, IsWhole}
-use Rattle.lc_walk.specs.Walked.{AreWhole}
+use Rattle.lc_walk.specs.ClosedWalks.{AreWhole}
 use Rattle.lc_walk.specs.Assembled.{IsBrokenBy, RefusesRows}
 use Rattle.lc_walk.specs.Links.{RefusesTree, fault_of_tree}
 use Rattle.lc_walk.specs.declared.broken_cause.BrokenCause.{BrokenCause}

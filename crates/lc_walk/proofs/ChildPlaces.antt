@@ -7,7 +7,7 @@ use Rattle.lc_walk.specs.RowViews.{ChildModel}
 use Rattle.lc_walk.specs.Lawful.{jobs_of, named}
 use Rattle.lc_board.proofs.Parents.{IsIn, IsOnce}
 use Rattle.lc_walk.proofs.Levels.{IsChild}
-use Rattle.lc_walk.proofs.Core.{same_head, same_tail}
+use Rattle.lc_walk.proofs.NumbersReached.{same_head, same_tail}
 
 -- ---- the children that a row names, by their places
 

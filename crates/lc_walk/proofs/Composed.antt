@@ -22,24 +22,24 @@ use Rattle.lc_walk.specs.declared.report.Report.{Report}
 use Rattle.lc_walk.specs.declared.report.findings.Findings.{Findings}
 use Rattle.lc_level.specs.Answers.{Answers, no_answers}
 use Rattle.lc_level.specs.Job.{JobModel}
-use Rattle.lc_level.specs.Level.{counted_in, skipped_in}
+use Rattle.lc_level.specs.Level.{skipped_below, file_below, counted_in, skipped_in}
 use Rattle.lc_walk.specs.Found.{Found, path_of, found_of, found_at}
 use Rattle.lc_walk.specs.Rows.{row_of, job_of, IsWhole}
 use Rattle.lc_walk.specs.Lawful.{Asked, IsLawful, Says, counted_files}
 use Rattle.lc_level.specs.WellFormed.{IsWellFormed}
 use Rattle.lc_walk.specs.TreeOfRows.{numbers_below, child_number, tree_from, children_by_rows, tree_of_rows}
-use Rattle.lc_walk.specs.Walked.{Walked, AreWhole, row_found, rows_found}
-use Rattle.lc_walk.specs.WalkReport.{tallied, line_of, skipped_line, tallied_in, file_in, fault_in, directory_in, skipped_lines_in}
-use Rattle.lc_walk.specs.WalkReport.{entries_in}
-use Rattle.lc_walk.specs.WalkReport.{tallied_of, files_of, faults_of, directories_of, skipped_lines_of, entry_count, IsReportOf}
-use Rattle.lc_walk.specs.Assembled.{fault_line, directories_by_row, files_by_row, faults_by_row, skipped_by_row, entries_by_row}
+use Rattle.lc_walk.specs.ClosedWalks.{Walked, AreWhole, row_found, rows_found}
+use Rattle.lc_walk.specs.FoundReports.{tallied, tallied_in, file_in, fault_in, directory_in, skipped_lines_in}
+use Rattle.lc_walk.specs.FoundReports.{entries_in}
+use Rattle.lc_walk.specs.FoundReports.{tallied_of, files_of, faults_of, directories_of, skipped_lines_of, entry_count, IsReportOf}
+use Rattle.lc_walk.specs.Assembled.{directories_by_row, files_by_row, faults_by_row, skipped_by_row, entries_by_row}
 use Rattle.lc_walk.specs.Assembled.{directories_in_rows, files_in_rows, faults_in_rows, skipped_in_rows, entries_in_rows, AreFindings}
 use Rattle.lc_walk.specs.WorkerResults.{IsLawfulEnd, AreLawful, returned_files, files_given, files_of_pass, files_of_passes}
-use Rattle.lc_walk.proofs.Fuller.{fuller_says, full_pass}
-use Rattle.lc_walk.specs.WalkAnswers.{SomeRows, IsWalkReport}
+use Rattle.lc_walk.proofs.RefusedPosts.{fuller_says, full_pass}
+use Rattle.lc_walk.specs.BoardAnswers.{SomeRows, IsWalkReport}
 use Rattle.std.specs.List.Sorted.{IsStrictlySortedBy}
 use Rattle.lc_tree.specs.Listing.{IsListing}
-use Rattle.lc_walk.specs.Walk.{walk_of}
+use Rattle.lc_walk.specs.RecursiveWalk.{walk_of}
 use Rattle.lc_walk.specs.RowViews.{ChildModel}
 use Rattle.lc_walk.proofs.Reports.{report_law}
 use Rattle.lc_walk.proofs.PathsApart.{paths_once_law, found_apart, file_list_apart, fault_list_apart, skipped_list_apart}
@@ -49,12 +49,13 @@ use Rattle.lc_walk.specs.declared.row.Row.TheVariants.{Listed, Faulted, Broken}
 use Rattle.lc_board.proofs.EndsInPlace.{rows_hold}
 use Rattle.lc_board.proofs.RowsOfWorkers.{rows_are_ends}
 use Rattle.lc_board.proofs.Weights.{each-map, flat_map-on}
-use Rattle.lc_walk.proofs.Moves.{lists_moved}
-use Rattle.lc_walk.proofs.Law.{core_law, one_answer_law}
+use Rattle.lc_walk.proofs.MovedLists.{lists_moved}
+use Rattle.lc_walk.proofs.WalkOfRows.{core_law, one_answer_law}
 use Rattle.lc_walk.proofs.OneTree.{agrees}
 use Rattle.lc_walk.proofs.Listings.{flat_twice, sum_twice, flat_asked, tallied_went, files_went, faults_went, skipped_went}
 use Rattle.lc_walk.proofs.Listings.{directories_went}
 use Rattle.lc_walk.proofs.Listings.{entries_went, got_here, by_number, by_place, sums_by_number, below_all, numbers_from_0}
+use Rattle.lc_level.specs.FaultLines.{fault_below}
 
 -- whether a post of a pass was answered Full
 abbrev pub is_full : Option (Pass JobModel Row) → Bool
@@ -192,12 +193,12 @@ module _ (ask : Asked) (MayAnswer : List ℕ → Answers → Type 0) (capacity w
     -- ---- what one row says is what it found
 
     record RowFinds (e : Ended Row) (a : Answers) : Type 0 where
-      pub tally : files_by_end ask e a ≡ tallied_of (found_at ask.selection (job_of (row_of e)) a)
-      pub files : cond ask.lists.files (files_of (found_at ask.selection (job_of (row_of e)) a)) [] ≡ files_by_row (row_of e)
-      pub faults : faults_of (found_at ask.selection (job_of (row_of e)) a) ≡ faults_by_row (row_of e)
-      pub skipped : cond ask.lists.left_out (skipped_lines_of (found_at ask.selection (job_of (row_of e)) a)) [] ≡ skipped_by_row (row_of e)
-      pub directories : directories_of (found_at ask.selection (job_of (row_of e)) a) ≡ directories_by_row (row_of e)
-      pub entries : entry_count (found_at ask.selection (job_of (row_of e)) a) ≡ entries_by_row (row_of e)
+      pub tally : files_by_end ask e a ≡ tallied_of (found_at ask.filters (job_of (row_of e)) a)
+      pub files : cond ask.lists.files (files_of (found_at ask.filters (job_of (row_of e)) a)) [] ≡ files_by_row (row_of e)
+      pub faults : faults_of (found_at ask.filters (job_of (row_of e)) a) ≡ faults_by_row (row_of e)
+      pub skipped : cond ask.lists.left_out (skipped_lines_of (found_at ask.filters (job_of (row_of e)) a)) [] ≡ skipped_by_row (row_of e)
+      pub directories : directories_of (found_at ask.filters (job_of (row_of e)) a) ≡ directories_by_row (row_of e)
+      pub entries : entry_count (found_at ask.filters (job_of (row_of e)) a) ≡ entries_by_row (row_of e)
 
     row_finds : (e : Ended Row) (a : Answers) (posts : List (ℕ × JobModel)) → Says ask full e a posts → IsWhole (row_of e) → RowFinds e a
     row_finds (ended.Returned (Listed r)) a posts s w =
@@ -206,13 +207,13 @@ module _ (ask : Asked) (MayAnswer : List ℕ → Answers → Type 0) (capacity w
           tally = ap (λ x. map tallied (counted_files x)) l ∙ sym (ap (λ x. tallied_of (f x)) l ∙ tallied_went r.job s.fates s.absent);
           files = ap (λ x. cond ask.lists.files (files_of (f x)) []) l
               ∙ ap (λ xs. cond ask.lists.files xs []) (files_went r.job s.fates s.absent)
-              ∙ sym (mapped_asked (line_of r.job.path) ask.lists.files (counted_in s.fates))
-              ∙ ap (map (line_of r.job.path)) (sym s.files_are);
-          faults = ap (λ x. faults_of (f x)) l ∙ faults_went r.job s.fates s.absent ∙ ap (map (fault_line r.job.path)) (sym s.faults_are);
+              ∙ sym (mapped_asked (file_below r.job.path) ask.lists.files (counted_in s.fates))
+              ∙ ap (map (file_below r.job.path)) (sym s.files_are);
+          faults = ap (λ x. faults_of (f x)) l ∙ faults_went r.job s.fates s.absent ∙ ap (map (fault_below r.job.path)) (sym s.faults_are);
           skipped = ap (λ x. cond ask.lists.left_out (skipped_lines_of (f x)) []) l
               ∙ ap (λ xs. cond ask.lists.left_out xs []) (skipped_went r.job s.fates s.absent)
-              ∙ sym (mapped_asked (skipped_line r.job.path) ask.lists.left_out (skipped_in s.fates))
-              ∙ ap (map (skipped_line r.job.path)) (sym s.skipped_are);
+              ∙ sym (mapped_asked (skipped_below r.job.path) ask.lists.left_out (skipped_in s.fates))
+              ∙ ap (map (skipped_below r.job.path)) (sym s.skipped_are);
           directories = ap (λ x. directories_of (f x)) l ∙ directories_went r.job s.fates s.absent;
           entries = ap (λ x. entry_count (f x)) l ∙ entries_went r.job s.fates s.absent ∙ sym s.entries_are;
         }
@@ -244,7 +245,7 @@ module _ (ask : Asked) (MayAnswer : List ℕ → Answers → Type 0) (capacity w
     spread_out g = flat_twice g (λ i. row_found ask (slice_get rows i) (answers i)) (numbers_below (length rows))
 
     at_row : {B : Type 0} (g : Found → List B) (i : ℕ) (e : Ended Row) → slice_get rows i ≡ Some e →
-        flat_map g (row_found ask (slice_get rows i) (answers i)) ≡ flat_map g (found_at ask.selection (job_of (row_of e)) (answers i))
+        flat_map g (row_found ask (slice_get rows i) (answers i)) ≡ flat_map g (found_at ask.filters (job_of (row_of e)) (answers i))
     at_row g i e is = ap (λ o. flat_map g (row_found ask o (answers i))) is
 
     tally_rows : flat_map by_end (enumerate_from 0 rows) ≡ tallied_of found
@@ -260,7 +261,7 @@ module _ (ask : Asked) (MayAnswer : List ℕ → Answers → Type 0) (capacity w
     -- a list that was asked for, or none
     asked_rows : {B : Type 0} (b : Bool) (g : Found → List B) (f : Row → List B) →
         ((i : ℕ) (e : Ended Row) → slice_get rows i ≡ Some e →
-        cond b (flat_map g (found_at ask.selection (job_of (row_of e)) (answers i))) [] ≡ f (row_of e)) →
+        cond b (flat_map g (found_at ask.filters (job_of (row_of e)) (answers i))) [] ≡ f (row_of e)) →
         cond b (flat_map g found) [] ≡ flat_map (λ e. f (row_of e)) rows
     asked_rows b g f same =
         ap (λ l. cond b l []) (spread_out g)
@@ -332,11 +333,11 @@ module _ (ask : Asked) (MayAnswer : List ℕ → Answers → Type 0) (capacity w
         at None rec = no_entries
         at (Some k) rec = rec k
 
-    moved : IsPermutation (walk_of ask.selection capacity top (tree_of_rows rows answers)) found
+    moved : IsPermutation (walk_of ask.filters capacity top (tree_of_rows rows answers)) found
     moved = core_law ask full capacity workers top history rows answers walked whole capacity (omega arith)
 
     once : AreApart (map path_of found)
-    once = found_apart _ found moved (paths_once_law ask.selection capacity top (tree_of_rows rows answers)
+    once = found_apart _ found moved (paths_once_law ask.filters capacity top (tree_of_rows rows answers)
         (well_formed_from (children_by_rows rows) 0))
 
     -- ---- the report of the walk
@@ -350,7 +351,7 @@ module _ (ask : Asked) (MayAnswer : List ℕ → Answers → Type 0) (capacity w
         record {
           found = some_rows;
           whole = whole;
-          report = λ depth deep. report_law ask.lists found (walk_of ask.selection depth top (tree_of_rows rows answers)) r
+          report = λ depth deep. report_law ask.lists found (walk_of ask.filters depth top (tree_of_rows rows answers)) r
               (IsPermutation-sym _ _ (core_law ask full capacity workers top history rows answers walked whole depth deep)) ours;
           files_once = is.files_strictly
               (subst (λ l. AreApart (file_paths l)) (file_rows ∙ sym tells.files) (file_list_apart found once ask.lists.files));
@@ -360,8 +361,9 @@ module _ (ask : Asked) (MayAnswer : List ℕ → Answers → Type 0) (capacity w
               (subst (λ l. AreApart (skipped_paths l)) (skipped_rows ∙ sym tells.skipped)
               (skipped_list_apart found once ask.lists.left_out));
           apart = all_lists_apart found once ask.lists r ours;
-          one_answer = λ tree one depth deep. report_law ask.lists found (walk_of ask.selection depth top tree) r
+          one_answer = λ tree one depth deep. report_law ask.lists found (walk_of ask.filters depth top tree) r
               (IsPermutation-sym _ _ (one_answer_law tree ask full capacity workers top history rows answers walked whole at_top
-              (agrees ask full capacity workers top history rows answers walked whole at_top MayAnswer (λ i e here. (lawful_here i e here).1) tree one)
+              (agrees ask full capacity workers top history rows answers walked whole at_top MayAnswer
+              (λ i e here. (lawful_here i e here).1) tree one)
               depth deep)) ours;
         }

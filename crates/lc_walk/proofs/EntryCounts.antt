@@ -12,16 +12,16 @@ use Rattle.lc_level.specs.Level.{Fate, counted, failed, walked, skipped, Level, 
 use Rattle.lc_level.specs.Narrowing.{part_of, absent_from}
 use Rattle.lc_level.specs.RuleFiles.{extended}
 use Rattle.lc_level.specs.FaultLines.{FaultLineModel}
-use Rattle.lc_level.specs.Selection.{SelectionModel}
+use Rattle.lc_level.specs.Filters.{FiltersModel}
 use Rattle.lc_tree.specs.Trees.{Listings, Contents}
 use Rattle.lc_level.specs.declared.fault_word.FaultWord.TheVariants.{Absent}
 use Rattle.lc_walk.specs.Accounts.{absent_line, IsAccounted, EntriesLaw}
 use Rattle.lc_walk.specs.Found.{Found, found_file, found_fault, found_directory, found_skipped, found_absent, found_by, found_of, found_at}
 use Rattle.lc_walk.specs.Found.{children_of}
 use Rattle.lc_walk.specs.Found.{children_at}
-use Rattle.lc_walk.specs.Walk.{walks_below, walk_by, walk_of}
+use Rattle.lc_walk.specs.RecursiveWalk.{walks_below, walk_by, walk_of}
 use Rattle.lc_walk.specs.WalkOptions.{asked_by, top_of}
-use Rattle.lc_walk.specs.WalkReport.{entries_in, tallied_of, faults_of, directories_of, skipped_lines_of, entry_count, IsReportOf}
+use Rattle.lc_walk.specs.FoundReports.{entries_in, tallied_of, faults_of, directories_of, skipped_lines_of, entry_count, IsReportOf}
 use Rattle.lc_walk.specs.declared.options.ReportLists.{ReportLists}
 use Rattle.lc_walk.specs.declared.report.Report.{Report}
 use Rattle.lc_walk.proofs.Levels.{level_keeps}
@@ -89,43 +89,43 @@ both_found : (j : JobModel) (l : Level) → found_of j l ≡ map absent_fault (a
 both_found j (faulted_level path word) = refl
 both_found j (listed_level fates absent) = ap (λ l. l ++ own_of j (listed_level fates absent)) (absent_mapped j.path absent)
 
-module _ (selection : SelectionModel) where
+module _ (filters : FiltersModel) where
   abbrev own_at : JobModel → Answers → List Found
-  own_at j a = own_of j (level selection j a)
+  own_at j a = own_of j (level filters j a)
 
   abbrev absent_at : JobModel → Answers → List (List ℕ)
-  absent_at j a = absent_of j (level selection j a)
+  absent_at j a = absent_of j (level filters j a)
 
   -- what a walk finds, but for the paths that are absent; and these
   abbrev own_walk : ℕ → JobModel → Tree → List Found
-  own_walk depth j t = walk_by own_at (children_at selection) depth j t
+  own_walk depth j t = walk_by own_at (children_at filters) depth j t
 
   abbrev absent_walk : ℕ → JobModel → Tree → List (List ℕ)
-  absent_walk depth j t = walk_by absent_at (children_at selection) depth j t
+  absent_walk depth j t = walk_by absent_at (children_at filters) depth j t
 
   two_walks : (depth : ℕ) (j : JobModel) (t : Tree) →
-      IsPermutation (walk_of selection depth j t) (map absent_fault (absent_walk depth j t) ++ own_walk depth j t)
+      IsPermutation (walk_of filters depth j t) (map absent_fault (absent_walk depth j t) ++ own_walk depth j t)
   two_walks depth j t =
-      subst (λ l. IsPermutation (walk_of selection depth j t) (l ++ own_walk depth j t))
-      (walk_maps (children_at selection) absent_fault absent_at depth j t)
-      (walk_splits (children_at selection) (found_at selection) (λ k a. map absent_fault (absent_at k a)) own_at
-      (λ k a. both_found k (level selection k a)) depth j t)
+      subst (λ l. IsPermutation (walk_of filters depth j t) (l ++ own_walk depth j t))
+      (walk_maps (children_at filters) absent_fault absent_at depth j t)
+      (walk_splits (children_at filters) (found_at filters) (λ k a. map absent_fault (absent_at k a)) own_at
+      (λ k a. both_found k (level filters k a)) depth j t)
 
-  absent_here : (j : JobModel) (a : Answers) → AllByRecursion (Contains selection.only) (absent_at j a)
+  absent_here : (j : JobModel) (a : Answers) → AllByRecursion (Contains filters.only) (absent_at j a)
   absent_here j a =
-      level_keeps (λ l. AllByRecursion (Contains selection.only) (absent_of j l)) selection j a (λ p w. tt)
-      (λ es e b. asked_paths (absent_from selection.only j.path es) (absent_asked selection.only j.path es))
+      level_keeps (λ l. AllByRecursion (Contains filters.only) (absent_of j l)) filters j a (λ p w. tt)
+      (λ es e b. asked_paths (absent_from filters.only j.path es) (absent_asked filters.only j.path es))
     where
-      asked_paths : (rests : List (List ℕ)) → AllByRecursion (λ r. In (path_in j.path r) selection.only × (j.path ≡ [] → r ≢ [])) rests
-          → AllByRecursion (Contains selection.only) (map (path_in j.path) rests)
+      asked_paths : (rests : List (List ℕ)) → AllByRecursion (λ r. In (path_in j.path r) filters.only × (j.path ≡ [] → r ≢ [])) rests
+          → AllByRecursion (Contains filters.only) (map (path_in j.path) rests)
       asked_paths [] all = tt
-      asked_paths (r ∷ rs) all = (contains (path_in j.path r) selection.only all.0.0, asked_paths rs all.1)
+      asked_paths (r ∷ rs) all = (contains (path_in j.path r) filters.only all.0.0, asked_paths rs all.1)
 
   abbrev Walks : Type 0
   Walks = JobModel → Tree → List Found
 
   abbrev below : Walks → Tree → List (List ℕ × JobModel) → List Found
-  below walk t cs = walks_below own_at (children_at selection) walk t cs
+  below walk t cs = walks_below own_at (children_at filters) walk t cs
 
   -- what is found in child directories of whose walks this is so
   few_below : (walk : Walks) (t : Tree) (cs : List (List ℕ × JobModel))
@@ -158,15 +158,15 @@ module _ (selection : SelectionModel) where
 
   -- the things and the entries of a listed directory, with those below it
   long_level : (j : JobModel) (es : List Item) (more : List Found)
-      → length ((found_directory j.path (length (fates_of selection j es)) ∷ flat_map (found_by j.path) (fates_of selection j es)) ++ more)
-      ≡ 1 + length (flat_map (found_by j.path) (fates_of selection j es)) + length more
-  long_level j es more = omega (arith, length-append (flat_map (found_by j.path) (fates_of selection j es)) more)
+      → length ((found_directory j.path (length (fates_of filters j es)) ∷ flat_map (found_by j.path) (fates_of filters j es)) ++ more)
+      ≡ 1 + length (flat_map (found_by j.path) (fates_of filters j es)) + length more
+  long_level j es more = omega (arith, length-append (flat_map (found_by j.path) (fates_of filters j es)) more)
 
   counted_level : (j : JobModel) (es : List Item) (more : List Found)
-      → entry_count ((found_directory j.path (length (fates_of selection j es)) ∷ flat_map (found_by j.path) (fates_of selection j es))
-      ++ more) ≡ length (fates_of selection j es) + entry_count more
+      → entry_count ((found_directory j.path (length (fates_of filters j es)) ∷ flat_map (found_by j.path) (fates_of filters j es))
+      ++ more) ≡ length (fates_of filters j es) + entry_count more
   counted_level j es more =
-      let fates : List (List ℕ × Fate) = fates_of selection j es in
+      let fates : List (List ℕ × Fate) = fates_of filters j es in
       let own : List Found = flat_map (found_by j.path) fates in
       omega (
         arith,
@@ -177,19 +177,19 @@ module _ (selection : SelectionModel) where
 
   abbrev level_and : Walks → JobModel → Tree → List Item → List Found
   level_and walk k t es =
-      (found_directory k.path (length (fates_of selection k es)) ∷ flat_map (found_by k.path) (fates_of selection k es))
-      ++ below walk t (walked_in (fates_of selection k es))
+      (found_directory k.path (length (fates_of filters k es)) ∷ flat_map (found_by k.path) (fates_of filters k es))
+      ++ below walk t (walked_in (fates_of filters k es))
 
   few_in_items : (walk : Walks) (t : Tree) → ((k : JobModel) (u : Tree) → length (walk k u) ≤ 1 + entry_count (walk k u)) →
       (k : JobModel) (es : List Item) → length (level_and walk k t es) ≤ 1 + entry_count (level_and walk k t es)
   few_in_items walk t few k es =
-      let more : List Found = below walk t (walked_in (fates_of selection k es)) in
+      let more : List Found = below walk t (walked_in (fates_of filters k es)) in
       omega (
         arith,
         long_level k es more,
         counted_level k es more,
-        each_fate k.path (fates_of selection k es),
-        few_below walk t (walked_in (fates_of selection k es)) few,
+        each_fate k.path (fates_of filters k es),
+        few_below walk t (walked_in (fates_of filters k es)) few,
       )
 
   -- a walk finds no more things than its top and the entries of the directories that it lists
@@ -199,19 +199,19 @@ module _ (selection : SelectionModel) where
       level_keeps
       (λ l. length (own_of j l ++ below (own_walk depth) t (children_of l))
       ≤ 1 + entry_count (own_of j l ++ below (own_walk depth) t (children_of l)))
-      selection j (t [])
+      filters j (t [])
       (λ p w. omega arith)
-      (λ es e b. few_in_items (own_walk depth) t (few depth) (extended j b) (part_of selection.only j.path es))
+      (λ es e b. few_in_items (own_walk depth) t (few depth) (extended j b) (part_of filters.only j.path es))
 
   many_in_items : (walk next : Walks) (t : Tree) → ((k : JobModel) (u : Tree) → 1 + entry_count (walk k u) ≤ length (next k u)) →
       (k : JobModel) (es : List Item) → 1 + entry_count (level_and walk k t es) ≤ length (level_and next k t es)
   many_in_items walk next t many k es =
-      let cs : List (List ℕ × JobModel) = walked_in (fates_of selection k es) in
+      let cs : List (List ℕ × JobModel) = walked_in (fates_of filters k es) in
       omega (
         arith,
         long_level k es (below next t cs),
         counted_level k es (below walk t cs),
-        each_fate k.path (fates_of selection k es),
+        each_fate k.path (fates_of filters k es),
         many_below walk next t cs many,
       )
 
@@ -219,20 +219,20 @@ module _ (selection : SelectionModel) where
   many : (depth : ℕ) (j : JobModel) (t : Tree)
       → 1 + entry_count (own_walk depth j t) ≤ length (own_walk (suc depth) j t)
   many zero j t =
-      level_keeps (λ l. 1 ≤ length (own_of j l ++ below (own_walk zero) t (children_of l))) selection j (t [])
+      level_keeps (λ l. 1 ≤ length (own_of j l ++ below (own_walk zero) t (children_of l))) filters j (t [])
       (λ p w. omega arith)
       (λ es e b. omega (
         arith,
-        long_level (extended j b) (part_of selection.only j.path es)
-            (below (own_walk zero) t (walked_in (fates_of selection (extended j b) (part_of selection.only j.path es)))),
+        long_level (extended j b) (part_of filters.only j.path es)
+            (below (own_walk zero) t (walked_in (fates_of filters (extended j b) (part_of filters.only j.path es)))),
       ))
   many (suc depth) j t =
       level_keeps
       (λ l. 1 + entry_count (own_of j l ++ below (own_walk depth) t (children_of l))
       ≤ length (own_of j l ++ below (own_walk (suc depth)) t (children_of l)))
-      selection j (t [])
+      filters j (t [])
       (λ p w. omega arith)
-      (λ es e b. many_in_items (own_walk depth) (own_walk (suc depth)) t (many depth) (extended j b) (part_of selection.only j.path es))
+      (λ es e b. many_in_items (own_walk depth) (own_walk (suc depth)) t (many depth) (extended j b) (part_of filters.only j.path es))
 
 -- each thing that is found is of one kind
 by_kinds : (xs : List Found)
@@ -302,25 +302,25 @@ tells lists ps xs r asked is =
     }
 
 -- a report of walks to two depths accounts for all entries
-accounted : (lists : ReportLists) (selection : SelectionModel) (depth : ℕ) (top : JobModel) (t : Tree) (r : Report) →
-    lists.left_out ≡ true → IsReportOf lists (walk_of selection depth top t) r → IsReportOf lists (walk_of selection (suc depth) top t) r →
-    AllByRecursion IsPresent (own_walk selection depth top t) → IsAccounted selection.only r
-accounted lists selection depth top t r asked is deeper present =
-    let here = tells lists (absent_walk selection depth top t) (own_walk selection depth top t) r asked
-    (report_law lists _ _ r (two_walks selection depth top t) is) in
-    let below = tells lists (absent_walk selection (suc depth) top t) (own_walk selection (suc depth) top t) r asked
-    (report_law lists _ _ r (two_walks selection (suc depth) top t) deeper) in record {
-      absent = absent_walk selection depth top t;
-      asked = walk_each (children_at selection) (absent_at selection) (Contains selection.only) (absent_here selection) depth top t;
-      others = faults_of (own_walk selection depth top t);
-      present = present_lines (own_walk selection depth top t) present;
+accounted : (lists : ReportLists) (filters : FiltersModel) (depth : ℕ) (top : JobModel) (t : Tree) (r : Report) →
+    lists.left_out ≡ true → IsReportOf lists (walk_of filters depth top t) r → IsReportOf lists (walk_of filters (suc depth) top t) r →
+    AllByRecursion IsPresent (own_walk filters depth top t) → IsAccounted filters.only r
+accounted lists filters depth top t r asked is deeper present =
+    let here = tells lists (absent_walk filters depth top t) (own_walk filters depth top t) r asked
+    (report_law lists _ _ r (two_walks filters depth top t) is) in
+    let below = tells lists (absent_walk filters (suc depth) top t) (own_walk filters (suc depth) top t) r asked
+    (report_law lists _ _ r (two_walks filters (suc depth) top t) deeper) in record {
+      absent = absent_walk filters depth top t;
+      asked = walk_each (children_at filters) (absent_at filters) (Contains filters.only) (absent_here filters) depth top t;
+      others = faults_of (own_walk filters depth top t);
+      present = present_lines (own_walk filters depth top t) present;
       faults = here.faults;
       all = omega (
         arith,
         here.entries,
-        few selection depth top t,
-        many selection depth top t,
-        walk_grows (children_at selection) (absent_at selection) depth top t,
+        few filters depth top t,
+        many filters depth top t,
+        walk_grows (children_at filters) (absent_at filters) depth top t,
         here.many,
         below.many,
         here.all,
@@ -332,7 +332,7 @@ accounted lists selection depth top t r asked is deeper present =
 pub entries_law : (lists : List ℕ → Listings) (gives : List ℕ → Contents) → EntriesLaw lists gives
 entries_law lists gives o r w asked =
     let by = by_answers lists gives o r w in
-    let s : SelectionModel = (asked_by o).selection in
+    let s : FiltersModel = (asked_by o).filters in
     accounted o.lists s o.max_dirs (top_of o) by.answers r asked (by.report o.max_dirs (omega arith))
     (by.report (suc o.max_dirs) (omega arith))
     (each_led s (own_at s) IsPresent o.max_dirs (top_of o) by.answers

@@ -5,7 +5,7 @@ use Rattle.lc_board.proofs.RowsOfWorkers.{legal_for_more}
 use Rattle.lc_level.specs.Answers.{Answers}
 use Rattle.lc_level.specs.Job.{JobModel}
 use Rattle.lc_walk.specs.Lawful.{Asked}
-use Rattle.lc_walk.specs.WalkAnswers.{SomeRows, IsWalkReport, IsTooDeepSomewhere, FillsAll, WalkAnswers}
+use Rattle.lc_walk.specs.BoardAnswers.{SomeRows, IsWalkReport, IsTooDeepSomewhere, FillsAll, WalkAnswers}
 use Rattle.lc_walk.specs.declared.report.Report.{Report}
 use Rattle.lc_walk.specs.declared.walk_fault.WalkFault.{WalkFault}
 use Rattle.lc_walk.specs.declared.walk_fault.WalkFault.TheVariants as fault

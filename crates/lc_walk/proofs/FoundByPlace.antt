@@ -17,12 +17,12 @@ use Rattle.lc_level.specs.Level.{level_after, level_of_items, walked_in, fates_o
 use Rattle.lc_level.specs.Level.{child_job}
 use Rattle.lc_level.specs.Narrowing.{part_of, absent_from}
 use Rattle.lc_level.specs.RuleFiles.{RuleBytes, rule_bytes, extended}
-use Rattle.lc_level.specs.Selection.{SelectionModel}
+use Rattle.lc_level.specs.Filters.{FiltersModel}
 use Rattle.lc_level.specs.declared.fault_word.FaultWord.TheVariants.{Absent}
 use Rattle.lc_walk.specs.Found.{Found, found_file, found_fault, found_directory, found_skipped, found_absent, found_by, found_of, found_at}
 use Rattle.lc_walk.specs.Found.{children_of, children_at}
 use Rattle.lc_walk.specs.FoundAt.{IsListed, WalksInto, LeadsTo, HasEntry, Gives, IsFoundIn, FoundLaw}
-use Rattle.lc_walk.specs.Walk.{walks_below, walk_of}
+use Rattle.lc_walk.specs.RecursiveWalk.{walks_below, walk_of}
 use Rattle.lc_level.proofs.Fates.{children_by, walked_items_are}
 use Rattle.lc_walk.proofs.Elements.{In, is_in, contains, in_skipped, in_right, in_either, in_lists, of_lists, if_cond, cond_if, in_mapped}
 use Rattle.lc_walk.proofs.Elements.{of_mapped}
@@ -30,34 +30,34 @@ use Rattle.lc_walk.proofs.Elements.{of_mapped}
 -- ---- one directory
 
 -- a level is that of items whose rule files were read, or a fault
-level_cases : (P : Level → Type 0) (selection : SelectionModel) (j : JobModel) (a : Answers) →
+level_cases : (P : Level → Type 0) (filters : FiltersModel) (j : JobModel) (a : Answers) →
     ((p : List ℕ) (w : FaultWord) → P (faulted_level p w)) →
     ((items : List Item) → a.here ≡ Ok items → (b : RuleBytes) → rule_bytes j.ignore.no_ignore j.path items a ≡ Ok b
-    → P (level_of_items selection items (extended j b))) → P (level selection j a)
-level_cases P selection j a faults items_are = at a.here refl
+    → P (level_of_items filters items (extended j b))) → P (level filters j a)
+level_cases P filters j a faults items_are = at a.here refl
   where
     after : (items : List Item) → a.here ≡ Ok items → (r : Result RuleBytes FaultLineModel) → rule_bytes j.ignore.no_ignore j.path items a
         ≡ r
-        → P (level_after selection j items r)
+        → P (level_after filters j items r)
     after items e (Ok b) read = items_are items e b read
     after items e (Err f) read = faults f.path f.word
 
-    at : (o : Items) → a.here ≡ o → P (level_of selection j a o)
+    at : (o : Items) → a.here ≡ o → P (level_of filters j a o)
     at (Ok items) e = after items e (rule_bytes j.ignore.no_ignore j.path items a) refl
     at (Err word) e = faults j.path word
 
 -- the level of a directory that is listed without a fault
-listed_is : (selection : SelectionModel) (j : JobModel) (a : Answers) (items : List Item) (inside : JobModel)
-    → IsListed j a items inside → level selection j a
-    ≡ listed_level (fates_of selection inside (part_of selection.only j.path items)) (absent_from selection.only j.path items)
-listed_is selection j a items inside l =
-    ap (level_of selection j a) l.here ∙ ap (level_after selection j items) l.read
-    ∙ ap (λ k. listed_level (fates_of selection k (part_of selection.only j.path items)) (absent_from selection.only j.path items))
+listed_is : (filters : FiltersModel) (j : JobModel) (a : Answers) (items : List Item) (inside : JobModel)
+    → IsListed j a items inside → level filters j a
+    ≡ listed_level (fates_of filters inside (part_of filters.only j.path items)) (absent_from filters.only j.path items)
+listed_is filters j a items inside l =
+    ap (level_of filters j a) l.here ∙ ap (level_after filters j items) l.read
+    ∙ ap (λ k. listed_level (fates_of filters k (part_of filters.only j.path items)) (absent_from filters.only j.path items))
     (sym l.is)
 
 -- the name of a counted file, as its fate has it
 abbrev counted_name : List ℕ → Fate → List ℕ
-counted_name n (counted f) = f.name
+counted_name n (counted f) = f.path
 counted_name n (failed word) = n
 counted_name n (walked job) = n
 counted_name n (skipped kind reason) = n
@@ -72,24 +72,24 @@ named_by_count n k (Ok count) = refl
 named_by_count n k (Err word) = refl
 
 -- it is that of its item
-counted_named : (selection : SelectionModel) (k : JobModel) (item : Item) →
-    counted_name (name_of item) (fate_of selection k item) ≡ name_of item
-counted_named selection k (file_item n c rules) =
-    named_by_reason n (skipped File) (file_fate k n c) (file_reason selection k n) (λ reason. refl) (named_by_count n k c)
-counted_named selection k (directory_item n) =
-    named_by_reason n (skipped Dir) (walked (child_job k n)) (reason_of selection k n true) (λ reason. refl) refl
-counted_named selection k (other_item n what) =
-    named_by_reason n (skipped (Other what)) (skipped (Other what) (other_kind what)) (reason_of selection k n false) (λ reason. refl) refl
+counted_named : (filters : FiltersModel) (k : JobModel) (item : Item) →
+    counted_name (name_of item) (fate_of filters k item) ≡ name_of item
+counted_named filters k (file_item n c rules) =
+    named_by_reason n (skipped File) (file_fate k n c) (file_reason filters k n) (λ reason. refl) (named_by_count n k c)
+counted_named filters k (directory_item n) =
+    named_by_reason n (skipped Dir) (walked (child_job k n)) (reason_of filters k n true) (λ reason. refl) refl
+counted_named filters k (other_item n what) =
+    named_by_reason n (skipped (Other what)) (skipped (Other what) (other_kind what)) (reason_of filters k n false) (λ reason. refl) refl
 
-module _ (selection : SelectionModel) (j : JobModel) (a : Answers) where
+module _ (filters : FiltersModel) (j : JobModel) (a : Answers) where
   abbrev pair_of : JobModel → Item → List ℕ × Fate
-  pair_of inside item = (name_of item, fate_of selection inside item)
+  pair_of inside item = (name_of item, fate_of filters inside item)
 
   abbrev taking_part : List Item → List Item
-  taking_part items = part_of selection.only j.path items
+  taking_part items = part_of filters.only j.path items
 
   entry_here : (items : List Item) (inside : JobModel) → IsListed j a items inside → (item : Item) → In item (taking_part items)
-      → (fate : Fate) → fate_of selection inside item ≡ fate → (n : List ℕ) → name_of item ≡ n → HasEntry selection j a n fate
+      → (fate : Fate) → fate_of filters inside item ≡ fate → (n : List ℕ) → name_of item ≡ n → HasEntry filters j a n fate
   entry_here items inside listed item here fate is n named = record {
     items = items;
     inside = inside;
@@ -102,82 +102,82 @@ module _ (selection : SelectionModel) (j : JobModel) (a : Answers) where
 
   -- what an entry's fate gives, the directory gives
   given_by_entry : (items : List Item) (inside : JobModel) → IsListed j a items inside → (item : Item) → In item (taking_part items)
-      → (x : Found) → In x (found_by j.path (pair_of inside item)) → Gives selection j a x
-  given_by_entry items inside listed item here x = at (fate_of selection inside item) refl
+      → (x : Found) → In x (found_by j.path (pair_of inside item)) → Gives filters j a x
+  given_by_entry items inside listed item here x = at (fate_of filters inside item) refl
     where
-      at : (fate : Fate) → fate_of selection inside item ≡ fate → In x (found_by j.path (name_of item, fate)) → Gives selection j a x
+      at : (fate : Fate) → fate_of filters inside item ≡ fate → In x (found_by j.path (name_of item, fate)) → Gives filters j a x
       at (counted f) e (inl is) =
-          let named : name_of item ≡ f.name = sym (counted_named selection inside item) ∙ ap (counted_name (name_of item)) e in
-          subst (Gives selection j a) is (refl, entry_here items inside listed item here (counted f) e f.name named)
+          let named : name_of item ≡ f.path = sym (counted_named filters inside item) ∙ ap (counted_name (name_of item)) e in
+          subst (Gives filters j a) is (refl, entry_here items inside listed item here (counted f) e f.path named)
       at (counted f) e (inr i) = absurd i
       at (failed word) e (inl is) =
-          subst (Gives selection j a) is
+          subst (Gives filters j a) is
           (inr (inl (name_of item, refl, entry_here items inside listed item here (failed word) e (name_of item) refl)))
       at (failed word) e (inr i) = absurd i
       at (walked job) e i = absurd i
       at (skipped kind reason) e (inl is) =
-          subst (Gives selection j a) is (refl, entry_here items inside listed item here (skipped kind reason) e (name_of item) refl)
+          subst (Gives filters j a) is (refl, entry_here items inside listed item here (skipped kind reason) e (name_of item) refl)
       at (skipped kind reason) e (inr i) = absurd i
 
   -- what is found of a directory it gives
-  pub given_by_found : (x : Found) → In x (found_at selection j a) → Gives selection j a x
+  pub given_by_found : (x : Found) → In x (found_at filters j a) → Gives filters j a x
   given_by_found x i =
-      level_cases (λ l. level selection j a ≡ l → In x (found_of j l) → Gives selection j a x) selection j a
+      level_cases (λ l. level filters j a ≡ l → In x (found_of j l) → Gives filters j a x) filters j a
       (λ p w e f. faulted p w e f)
       (λ items here b read e f.
       either items (extended j b) (record { here = here; bytes = b; read = read; is = refl })
-      (in_either x (map (found_absent j.path) (absent_from selection.only j.path items)) _ f))
+      (in_either x (map (found_absent j.path) (absent_from filters.only j.path items)) _ f))
       refl i
     where
-      faulted : (p : List ℕ) (w : FaultWord) → level selection j a ≡ faulted_level p w → In x (found_fault p w ∷ []) → Gives selection j a x
-      faulted p w e (inl is) = subst (Gives selection j a) is (inl e)
+      faulted : (p : List ℕ) (w : FaultWord) → level filters j a ≡ faulted_level p w → In x (found_fault p w ∷ []) → Gives filters j a x
+      faulted p w e (inl is) = subst (Gives filters j a) is (inl e)
       faulted p w e (inr f) = absurd f
 
       listed : (items : List Item) (inside : JobModel) → IsListed j a items inside
-          → In x (found_directory j.path (length (fates_of selection inside (taking_part items)))
-          ∷ flat_map (found_by j.path) (fates_of selection inside (taking_part items))) → Gives selection j a x
+          → In x (found_directory j.path (length (fates_of filters inside (taking_part items)))
+          ∷ flat_map (found_by j.path) (fates_of filters inside (taking_part items))) → Gives filters j a x
       listed items inside l (inl is) =
-          subst (Gives selection j a) is
+          subst (Gives filters j a) is
           (refl, record { items = items; inside = inside; listed = l; many = length-map (taking_part items) (pair_of inside) })
       listed items inside l (inr f) =
-          let r = in_lists (found_by j.path) x (fates_of selection inside (taking_part items)) f in
+          let r = in_lists (found_by j.path) x (fates_of filters inside (taking_part items)) f in
           let m = in_mapped (pair_of inside) r.0 (taking_part items) r.1 in
           given_by_entry items inside l m.0 m.1 x (subst (λ y. In x (found_by j.path y)) (sym m.2) r.2)
 
       absent : (items : List Item) (inside : JobModel) → IsListed j a items inside
-          → In x (map (found_absent j.path) (absent_from selection.only j.path items)) → Gives selection j a x
+          → In x (map (found_absent j.path) (absent_from filters.only j.path items)) → Gives filters j a x
       absent items inside l i =
-          let m = in_mapped (found_absent j.path) x (absent_from selection.only j.path items) i in
-          subst (Gives selection j a) m.2
+          let m = in_mapped (found_absent j.path) x (absent_from filters.only j.path items) i in
+          subst (Gives filters j a) m.2
           (inr (inr (
             m.0,
             refl,
             refl,
-            record { items = items; inside = inside; listed = l; absent = contains m.0 (absent_from selection.only j.path items) m.1 },
+            record { items = items; inside = inside; listed = l; absent = contains m.0 (absent_from filters.only j.path items) m.1 },
           )))
 
       either : (items : List Item) (inside : JobModel) → IsListed j a items inside
-          → In x (map (found_absent j.path) (absent_from selection.only j.path items))
-          ⊎ In x (found_directory j.path (length (fates_of selection inside (taking_part items)))
-          ∷ flat_map (found_by j.path) (fates_of selection inside (taking_part items))) → Gives selection j a x
+          → In x (map (found_absent j.path) (absent_from filters.only j.path items))
+          ⊎ In x (found_directory j.path (length (fates_of filters inside (taking_part items)))
+          ∷ flat_map (found_by j.path) (fates_of filters inside (taking_part items))) → Gives filters j a x
       either items inside l (inl i) = absent items inside l i
       either items inside l (inr i) = listed items inside l i
 
   -- what is found of a listed directory beside what is absent
   beside_absent : (items : List Item) (inside : JobModel) → IsListed j a items inside → (x : Found)
-      → In x (found_directory j.path (length (fates_of selection inside (taking_part items)))
-      ∷ flat_map (found_by j.path) (fates_of selection inside (taking_part items))) → In x (found_at selection j a)
+      → In x (found_directory j.path (length (fates_of filters inside (taking_part items)))
+      ∷ flat_map (found_by j.path) (fates_of filters inside (taking_part items))) → In x (found_at filters j a)
   beside_absent items inside l x i =
-      subst (λ (v : Level). In x (found_of j v)) (sym (listed_is selection j a items inside l))
-      (in_right x (map (found_absent j.path) (absent_from selection.only j.path items)) _ i)
+      subst (λ (v : Level). In x (found_of j v)) (sym (listed_is filters j a items inside l))
+      (in_right x (map (found_absent j.path) (absent_from filters.only j.path items)) _ i)
 
   -- what the fate of an entry gives is found
-  found_by_entry : (n : List ℕ) (fate : Fate) (x : Found) → HasEntry selection j a n fate → In x (found_by j.path (n, fate))
-      → In x (found_at selection j a)
+  found_by_entry : (n : List ℕ) (fate : Fate) (x : Found) → HasEntry filters j a n fate → In x (found_by j.path (n, fate))
+      → In x (found_at filters j a)
   found_by_entry n fate x h i =
-      let fates : List (List ℕ × Fate) = fates_of selection h.inside (taking_part h.items) in
+      let fates : List (List ℕ × Fate) = fates_of filters h.inside (taking_part h.items) in
       let own : In x (found_by j.path (pair_of h.inside h.item)) =
-      subst (λ m. In x (found_by j.path (m, fate_of selection h.inside h.item))) (sym h.named)
+      subst (λ m. In x (found_by j.path (m, fate_of filters h.inside h.item))) (sym h.named)
       (subst (λ g. In x (found_by j.path (n, g))) (sym h.fate_is) i) in
       let here : In x (flat_map (found_by j.path) fates) =
       of_lists (found_by j.path) x (pair_of h.inside h.item) fates
@@ -185,59 +185,59 @@ module _ (selection : SelectionModel) (j : JobModel) (a : Answers) where
       beside_absent h.items h.inside h.listed x (inr here)
 
   -- what a directory gives is found of it
-  pub found_by_given : (x : Found) → Gives selection j a x → In x (found_at selection j a)
+  pub found_by_given : (x : Found) → Gives filters j a x → In x (found_at filters j a)
   found_by_given (found_directory path entries) (e, h) =
-      let many = length (fates_of selection h.inside (taking_part h.items)) in
+      let many = length (fates_of filters h.inside (taking_part h.items)) in
       let same : found_directory j.path many ≡ found_directory path entries =
       ap (λ p. found_directory p many) (sym e)
       ∙ ap (found_directory path) (sym (h.many ∙ sym (length-map (taking_part h.items) (pair_of h.inside)))) in
       beside_absent h.items h.inside h.listed (found_directory path entries) (inl same)
   found_by_given (found_file directory f) (e, h) =
-      subst (λ d. In (found_file d f) (found_at selection j a)) (sym e)
-      (found_by_entry f.name (counted f) (found_file j.path f) h (inl refl))
+      subst (λ d. In (found_file d f) (found_at filters j a)) (sym e)
+      (found_by_entry f.path (counted f) (found_file j.path f) h (inl refl))
   found_by_given (found_fault path word) (inl e) = subst (λ (l : Level). In (found_fault path word) (found_of j l)) (sym e) (inl refl)
   found_by_given (found_fault path word) (inr (inr h)) =
-      let absent = absent_from selection.only j.path h.3.items in
+      let absent = absent_from filters.only j.path h.3.items in
       let same : found_absent j.path h.0 ≡ found_fault path word =
       ap (λ p. found_fault p Absent) (sym h.1) ∙ ap (found_fault path) (sym h.2) in
-      subst (λ (v : Level). In (found_fault path word) (found_of j v)) (sym (listed_is selection j a h.3.items h.3.inside h.3.listed))
+      subst (λ (v : Level). In (found_fault path word) (found_of j v)) (sym (listed_is filters j a h.3.items h.3.inside h.3.listed))
       (in_skipped (found_fault path word) (map (found_absent j.path) absent) _
       (subst (λ y. In y (map (found_absent j.path) absent)) same
       (of_mapped (found_absent j.path) h.0 absent (is_in h.0 absent h.3.absent))))
   found_by_given (found_fault path word) (inr (inl h)) =
-      subst (λ p. In (found_fault p word) (found_at selection j a)) (sym h.1)
+      subst (λ p. In (found_fault p word) (found_at filters j a)) (sym h.1)
       (found_by_entry h.0 (failed word) (found_fault (path_in j.path h.0) word) h.2 (inl refl))
   found_by_given (found_skipped directory l) (e, h) =
-      subst (λ d. In (found_skipped d l) (found_at selection j a)) (sym e)
-      (found_by_entry l.name (skipped l.kind l.reason) (found_skipped j.path l) h (inl refl))
+      subst (λ d. In (found_skipped d l) (found_at filters j a)) (sym e)
+      (found_by_entry l.path (skipped l.kind l.reason) (found_skipped j.path l) h (inl refl))
 
 -- the child directories
-module _ (selection : SelectionModel) (j : JobModel) (a : Answers) where
-  by_child_item : (k : JobModel) (c : List ℕ × JobModel) (item : Item) → In c (children_by selection k item)
-      → (item ≡ directory_item c.0) × (is_taken selection k c.0 true ≡ true) × (c.1 ≡ child_job k c.0)
+module _ (filters : FiltersModel) (j : JobModel) (a : Answers) where
+  by_child_item : (k : JobModel) (c : List ℕ × JobModel) (item : Item) → In c (children_by filters k item)
+      → (item ≡ directory_item c.0) × (is_taken filters k c.0 true ≡ true) × (c.1 ≡ child_job k c.0)
   by_child_item k c (file_item n count rules) i = absurd i
   by_child_item k c (other_item n what) i = absurd i
-  by_child_item k c (directory_item n) i = at (if_cond (is_taken selection k n true) c ((n, child_job k n) ∷ []) i)
+  by_child_item k c (directory_item n) i = at (if_cond (is_taken filters k n true) c ((n, child_job k n) ∷ []) i)
     where
-      at : (is_taken selection k n true ≡ true) × In c ((n, child_job k n) ∷ [])
-          → (directory_item n ≡ directory_item c.0) × (is_taken selection k c.0 true ≡ true) × (c.1 ≡ child_job k c.0)
+      at : (is_taken filters k n true ≡ true) × In c ((n, child_job k n) ∷ [])
+          → (directory_item n ≡ directory_item c.0) × (is_taken filters k c.0 true ≡ true) × (c.1 ≡ child_job k c.0)
       at (taken, inl e) = (
         ap (λ (x : List ℕ × JobModel). directory_item x.0) e,
-        subst (λ (x : List ℕ × JobModel). is_taken selection k x.0 true ≡ true) e taken,
+        subst (λ (x : List ℕ × JobModel). is_taken filters k x.0 true ≡ true) e taken,
         subst (λ (x : List ℕ × JobModel). x.1 ≡ child_job k x.0) e refl,
       )
       at (taken, inr i) = absurd i
 
   -- a child directory is left in
-  pub child_by_level : (c : List ℕ × JobModel) → In c (children_at selection j a)
-      → (inside : JobModel) × WalksInto selection j a c.0 inside × (c.1 ≡ child_job inside c.0)
+  pub child_by_level : (c : List ℕ × JobModel) → In c (children_at filters j a)
+      → (inside : JobModel) × WalksInto filters j a c.0 inside × (c.1 ≡ child_job inside c.0)
   child_by_level c =
-      level_cases (λ l. In c (children_of l) → (inside : JobModel) × WalksInto selection j a c.0 inside × (c.1 ≡ child_job inside c.0))
-      selection j a
+      level_cases (λ l. In c (children_of l) → (inside : JobModel) × WalksInto filters j a c.0 inside × (c.1 ≡ child_job inside c.0))
+      filters j a
       (λ p w i. absurd i)
       (λ items here b read i.
-      let part = part_of selection.only j.path items in
-      let r = in_lists (children_by selection (extended j b)) c part (subst (In c) (walked_items_are selection (extended j b) part) i) in
+      let part = part_of filters.only j.path items in
+      let r = in_lists (children_by filters (extended j b)) c part (subst (In c) (walked_items_are filters (extended j b) part) i) in
       let s = by_child_item (extended j b) c r.0 r.2 in (
         extended j b,
         record {
@@ -250,114 +250,114 @@ module _ (selection : SelectionModel) (j : JobModel) (a : Answers) where
       ))
 
   -- and the other way round
-  pub level_by_child : (name : List ℕ) (inside : JobModel) → WalksInto selection j a name inside
-      → In (name, child_job inside name) (children_at selection j a)
+  pub level_by_child : (name : List ℕ) (inside : JobModel) → WalksInto filters j a name inside
+      → In (name, child_job inside name) (children_at filters j a)
   level_by_child name inside l =
-      let part = part_of selection.only j.path l.items in
-      let i : In (name, child_job inside name) (walked_in (fates_of selection inside part)) =
-      subst (In (name, child_job inside name)) (sym (walked_items_are selection inside part))
-      (of_lists (children_by selection inside) (name, child_job inside name) (directory_item name) part (is_in _ part l.has)
-      (cond_if (is_taken selection inside name true) (name, child_job inside name)
+      let part = part_of filters.only j.path l.items in
+      let i : In (name, child_job inside name) (walked_in (fates_of filters inside part)) =
+      subst (In (name, child_job inside name)) (sym (walked_items_are filters inside part))
+      (of_lists (children_by filters inside) (name, child_job inside name) (directory_item name) part (is_in _ part l.has)
+      (cond_if (is_taken filters inside name true) (name, child_job inside name)
       ((name, child_job inside name) ∷ []) l.taken (inl refl))) in
-      subst (λ (v : Level). In (name, child_job inside name) (children_of v)) (sym (listed_is selection j a l.items inside l.listed)) i
+      subst (λ (v : Level). In (name, child_job inside name) (children_of v)) (sym (listed_is filters j a l.items inside l.listed)) i
 
 -- ---- the walk
 
-module _ (selection : SelectionModel) where
+module _ (filters : FiltersModel) where
   abbrev Walks : Type 0
   Walks = JobModel → Tree → List Found
 
   in_below : (walk : Walks) (x : Found) (t : Tree) (cs : List (List ℕ × JobModel))
-      → In x (walks_below (found_at selection) (children_at selection) walk t cs) →
+      → In x (walks_below (found_at filters) (children_at filters) walk t cs) →
       (c : List ℕ × JobModel) × In c cs × In x (walk c.1 (λ place. t (c.0 ∷ place)))
   in_below walk x t [] i = absurd i
   in_below walk x t (c ∷ cs) i = at (λ b. in_below walk x t cs b)
-      (in_either x (walk c.1 (λ place. t (c.0 ∷ place))) (walks_below (found_at selection) (children_at selection) walk t cs) i)
+      (in_either x (walk c.1 (λ place. t (c.0 ∷ place))) (walks_below (found_at filters) (children_at filters) walk t cs) i)
     where
-      at : (In x (walks_below (found_at selection) (children_at selection) walk t cs)
+      at : (In x (walks_below (found_at filters) (children_at filters) walk t cs)
           → (e : List ℕ × JobModel) × In e cs × In x (walk e.1 (λ place. t (e.0 ∷ place))))
-          → In x (walk c.1 (λ place. t (c.0 ∷ place))) ⊎ In x (walks_below (found_at selection) (children_at selection) walk t cs) →
+          → In x (walk c.1 (λ place. t (c.0 ∷ place))) ⊎ In x (walks_below (found_at filters) (children_at filters) walk t cs) →
           (d : List ℕ × JobModel) × In d (c ∷ cs) × In x (walk d.1 (λ place. t (d.0 ∷ place)))
       at rest (inl a) = (c, inl refl, a)
       at rest (inr b) = let r = rest b in (r.0, inr r.1, r.2)
 
   of_below : (walk : Walks) (x : Found) (t : Tree) (c : List ℕ × JobModel) (cs : List (List ℕ × JobModel)) → In c cs
       → In x (walk c.1 (λ place. t (c.0 ∷ place))) →
-      In x (walks_below (found_at selection) (children_at selection) walk t cs)
+      In x (walks_below (found_at filters) (children_at filters) walk t cs)
   of_below walk x t c [] i h = absurd i
   of_below walk x t c (e ∷ cs) (inl s) h =
-      in_skipped x (walk e.1 (λ place. t (e.0 ∷ place))) (walks_below (found_at selection) (children_at selection) walk t cs)
+      in_skipped x (walk e.1 (λ place. t (e.0 ∷ place))) (walks_below (found_at filters) (children_at filters) walk t cs)
       (subst (λ (d : List ℕ × JobModel). In x (walk d.1 (λ place. t (d.0 ∷ place)))) (sym s) h)
   of_below walk x t c (e ∷ cs) (inr i) h =
-      in_right x (walk e.1 (λ place. t (e.0 ∷ place))) (walks_below (found_at selection) (children_at selection) walk t cs)
+      in_right x (walk e.1 (λ place. t (e.0 ∷ place))) (walks_below (found_at filters) (children_at filters) walk t cs)
       (of_below walk x t c cs i h)
 
   deeper : (depth : ℕ) (j : JobModel) (t : Tree) (x : Found) (c : List ℕ × JobModel) (inside : JobModel)
-      → WalksInto selection j (t []) c.0 inside → c.1 ≡ child_job inside c.0 →
-      IsFoundIn selection depth c.1 (λ place. t (c.0 ∷ place)) x → IsFoundIn selection (suc depth) j t x
+      → WalksInto filters j (t []) c.0 inside → c.1 ≡ child_job inside c.0 →
+      IsFoundIn filters depth c.1 (λ place. t (c.0 ∷ place)) x → IsFoundIn filters (suc depth) j t x
   deeper depth j t x c inside l e r = record {
     place = c.0 ∷ r.place;
     shallow = omega (arith, r.shallow);
     job = r.job;
-    leads = (inside, l, subst (λ (k : JobModel). LeadsTo selection k (λ place. t (c.0 ∷ place)) r.place r.job) e r.leads);
+    leads = (inside, l, subst (λ (k : JobModel). LeadsTo filters k (λ place. t (c.0 ∷ place)) r.place r.job) e r.leads);
     gives = r.gives;
   }
 
   -- the walks of a directory's children, if what they find is known
   by_below : (depth : ℕ) (j : JobModel) (t : Tree) (x : Found)
-      → ((k : JobModel) (u : Tree) → In x (walk_of selection depth k u) → IsFoundIn selection depth k u x) →
-      In x (walks_below (found_at selection) (children_at selection) (walk_of selection depth) t
-      (children_at selection j (t []))) → IsFoundIn selection (suc depth) j t x
+      → ((k : JobModel) (u : Tree) → In x (walk_of filters depth k u) → IsFoundIn filters depth k u x) →
+      In x (walks_below (found_at filters) (children_at filters) (walk_of filters depth) t
+      (children_at filters j (t []))) → IsFoundIn filters (suc depth) j t x
   by_below depth j t x known b =
-      let r = in_below (walk_of selection depth) x t (children_at selection j (t [])) b in
-      let s = child_by_level selection j (t []) r.0 r.1 in
+      let r = in_below (walk_of filters depth) x t (children_at filters j (t [])) b in
+      let s = child_by_level filters j (t []) r.0 r.1 in
       deeper depth j t x r.0 s.0 s.1 s.2 (known r.0.1 (λ place. t (r.0.0 ∷ place)) r.2)
 
-  by_here : (depth : ℕ) (j : JobModel) (t : Tree) (x : Found) → In x (found_at selection j (t []))
-      → IsFoundIn selection (suc depth) j t x
+  by_here : (depth : ℕ) (j : JobModel) (t : Tree) (x : Found) → In x (found_at filters j (t []))
+      → IsFoundIn filters (suc depth) j t x
   by_here depth j t x a =
-      record { place = []; shallow = omega arith; job = j; leads = refl; gives = given_by_found selection j (t []) x a }
+      record { place = []; shallow = omega arith; job = j; leads = refl; gives = given_by_found filters j (t []) x a }
 
   by_either : (depth : ℕ) (j : JobModel) (t : Tree) (x : Found)
-      → ((k : JobModel) (u : Tree) → In x (walk_of selection depth k u) → IsFoundIn selection depth k u x) →
-      In x (found_at selection j (t []))
-      ⊎ In x (walks_below (found_at selection) (children_at selection) (walk_of selection depth) t
-      (children_at selection j (t []))) → IsFoundIn selection (suc depth) j t x
+      → ((k : JobModel) (u : Tree) → In x (walk_of filters depth k u) → IsFoundIn filters depth k u x) →
+      In x (found_at filters j (t []))
+      ⊎ In x (walks_below (found_at filters) (children_at filters) (walk_of filters depth) t
+      (children_at filters j (t []))) → IsFoundIn filters (suc depth) j t x
   by_either depth j t x known (inl a) = by_here depth j t x a
   by_either depth j t x known (inr b) = by_below depth j t x known b
 
   -- what the walk finds a directory gives that names lead to
   pub place_by_walk : (depth : ℕ) (j : JobModel) (t : Tree) (x : Found)
-      → In x (walk_of selection depth j t) → IsFoundIn selection depth j t x
+      → In x (walk_of filters depth j t) → IsFoundIn filters depth j t x
   place_by_walk zero j t x i = absurd i
   place_by_walk (suc depth) j t x i =
       by_either depth j t x (λ k u h. place_by_walk depth k u x h)
-      (in_either x (found_at selection j (t []))
-      (walks_below (found_at selection) (children_at selection) (walk_of selection depth) t (children_at selection j (t []))) i)
+      (in_either x (found_at filters j (t []))
+      (walks_below (found_at filters) (children_at filters) (walk_of filters depth) t (children_at filters j (t []))) i)
 
   walk_at : (depth : ℕ) (place : List (List ℕ)) → length place < depth → (j k : JobModel) (t : Tree) (x : Found)
-      → LeadsTo selection j t place k → Gives selection k (t place) x → In x (walk_of selection depth j t)
+      → LeadsTo filters j t place k → Gives filters k (t place) x → In x (walk_of filters depth j t)
   walk_at zero place lt j k t x leads g = absurd (omega (arith, lt))
   walk_at (suc depth) [] lt j k t x leads g =
-      in_skipped x (found_at selection j (t []))
-      (walks_below (found_at selection) (children_at selection) (walk_of selection depth) t (children_at selection j (t [])))
-      (found_by_given selection j (t []) x (subst (λ (l : JobModel). Gives selection l (t []) x) (sym leads) g))
+      in_skipped x (found_at filters j (t []))
+      (walks_below (found_at filters) (children_at filters) (walk_of filters depth) t (children_at filters j (t [])))
+      (found_by_given filters j (t []) x (subst (λ (l : JobModel). Gives filters l (t []) x) (sym leads) g))
   walk_at (suc depth) (name ∷ place) lt j k t x leads g =
       let short : length place < depth = omega (arith, lt) in
-      in_right x (found_at selection j (t []))
-      (walks_below (found_at selection) (children_at selection) (walk_of selection depth) t (children_at selection j (t [])))
-      (of_below (walk_of selection depth) x t (name, child_job leads.0 name) (children_at selection j (t []))
-      (level_by_child selection j (t []) name leads.0 leads.1)
+      in_right x (found_at filters j (t []))
+      (walks_below (found_at filters) (children_at filters) (walk_of filters depth) t (children_at filters j (t [])))
+      (of_below (walk_of filters depth) x t (name, child_job leads.0 name) (children_at filters j (t []))
+      (level_by_child filters j (t []) name leads.0 leads.1)
       (walk_at depth place short (child_job leads.0 name) k (λ p. t (name ∷ p)) x leads.2 g))
 
   -- what such a directory gives is found
-  pub walk_by_place : (depth : ℕ) (j : JobModel) (t : Tree) (x : Found) → IsFoundIn selection depth j t x
-      → In x (walk_of selection depth j t)
+  pub walk_by_place : (depth : ℕ) (j : JobModel) (t : Tree) (x : Found) → IsFoundIn filters depth j t x
+      → In x (walk_of filters depth j t)
   walk_by_place depth j t x c = walk_at depth c.place c.shallow j c.job t x c.leads c.gives
 
 -- what a walk finds, by the names that lead to it
 pub found_law : FoundLaw
-found_law selection depth top t x = (
-  λ i. place_by_walk selection depth top t x (is_in x (walk_of selection depth top t) i),
-  λ i. contains x (walk_of selection depth top t) (walk_by_place selection depth top t x i),
+found_law filters depth top t x = (
+  λ i. place_by_walk filters depth top t x (is_in x (walk_of filters depth top t) i),
+  λ i. contains x (walk_of filters depth top t) (walk_by_place filters depth top t x i),
 )

@@ -1,6 +1,7 @@
 -- A walk of included files counts those of all files that are included.
 use Rattle.std.proofs.Common.{◌≡◌, ℕ, zero, suc, Bool, true, false, cond, List, [], ◌∷◌, ◌++◌, filter, length, map, refl, sym, ◌∙◌}
-use Rattle.std.proofs.Common.{ap, ap₂, Option, Some, None, Result, Ok, Err}
+use Rattle.std.proofs.Common.{ap, ap₂, Option, None, Result, Ok, Err, Some}
+use Rattle.std.specs.Prelude.{option_map}
 use Rattle.std.specs.List.{flat_map}
 use Rattle.std.specs.Option.{option_map_or, option_or}
 use Rattle.std.proofs.lemmas.List.Elements.{filter-append}
@@ -10,30 +11,33 @@ use Rattle.lc_glob.specs.Path.{path_in}
 use Rattle.lc_level.specs.Answers.{Item, file_item, directory_item, other_item, name_of, Items, Answers, Tree}
 use Rattle.lc_level.specs.FaultLines.{FaultLineModel}
 use Rattle.lc_level.specs.Job.{JobModel}
-use Rattle.lc_level.specs.Level.{CountedModel, Reason, not_included, other_kind, Fate, counted, failed, walked, skipped, listed_level}
+use Rattle.lc_level.specs.Level.{FileLineModel, Reason, not_included, other_kind, Fate, counted, failed, walked, skipped, listed_level}
 use Rattle.lc_level.specs.Level.{level_of}
 use Rattle.lc_level.specs.Level.{level_after, fate_of, fates_of, file_fate, child_job, reason_of, is_taken}
 use Rattle.lc_level.specs.Narrowing.{part_of, absent_from}
 use Rattle.lc_level.specs.RuleFiles.{RuleBytes, rule_bytes, extended}
-use Rattle.lc_level.specs.Selection.{SelectionModel, including, is_included, patterns_for}
+use Rattle.lc_level.specs.Filters.{FiltersModel, including, is_included, patterns_for}
 use Rattle.lc_level.specs.declared.fault_word.FaultWord.{FaultWord}
 use Rattle.lc_level.proofs.Fates.{children_by, walked_items_are}
-use Rattle.lc_rules.specs.IgnoreRules.{RuleModel}
+use Rattle.lc_rules.specs.IgnoreRules.{RuleModel, rules_of}
 use Rattle.lc_tree.specs.declared.entry.Kind.TheVariants.{File, Dir, Other}
 use Rattle.lc_walk.specs.Found.{Found, found_directory, found_by, found_absent, found_of, found_at, children_of, children_at}
 use Rattle.lc_walk.specs.IncludedFiles.{counted_in, counted_of, includes, IncludeLaw}
-use Rattle.lc_walk.specs.Walk.{walks_below, walk_of}
-use Rattle.lc_walk.specs.WalkReport.{directory_in, directories_of}
+use Rattle.lc_walk.specs.RecursiveWalk.{walks_below, walk_of}
+use Rattle.lc_walk.specs.FoundReports.{directory_in, directories_of}
 
 filter_all : {X : Type 0} (xs : List X) → filter (λ x. true) xs ≡ xs
 filter_all [] = refl
 filter_all (x ∷ xs) = ap (λ l. x ∷ l) (filter_all xs)
 
-module _ (s : SelectionModel) (patterns : Option (List RuleModel)) where
-  abbrev part : SelectionModel
-  part = including s patterns
+module _ (s : FiltersModel) (text : Option (List ℕ)) where
+  abbrev patterns : Option (List RuleModel)
+  patterns = option_map rules_of text
 
-  abbrev whole : SelectionModel
+  abbrev part : FiltersModel
+  part = including s text
+
+  abbrev whole : FiltersModel
   whole = including s None
 
   -- ---- one directory
@@ -74,15 +78,15 @@ module _ (s : SelectionModel) (patterns : Option (List RuleModel)) where
       by None = refl
       by (Some reason) = refl
 
-  abbrev found_in : SelectionModel → List ℕ → JobModel → List Item → List Found
-  found_in selection d j items = flat_map (found_by d) (fates_of selection j items)
+  abbrev found_in : FiltersModel → List ℕ → JobModel → List Item → List Found
+  found_in filters d j items = flat_map (found_by d) (fates_of filters j items)
 
   counted_fates : (d : List ℕ) (j : JobModel) (items : List Item) → j.path ≡ d
       → counted_of (found_in part d j items) ≡ filter (includes patterns) (counted_of (found_in whole d j items))
   counted_fates d j [] at = refl
   counted_fates d j (e ∷ es) at =
       flat_map-append counted_in (found_by d (name_of e, fate_of part j e)) (found_in part d j es)
-      ∙ ap₂ (λ (xs ys : List (List ℕ × CountedModel)). xs ++ ys) (counted_one d j e at) (counted_fates d j es at)
+      ∙ ap₂ (λ (xs ys : List (List ℕ × FileLineModel)). xs ++ ys) (counted_one d j e at) (counted_fates d j es at)
       ∙ sym (filter-append (includes patterns) (flat_map counted_in (found_by d (name_of e, fate_of whole j e)))
       (counted_of (found_in whole d j es)))
       ∙ ap (filter (includes patterns))
@@ -116,12 +120,12 @@ module _ (s : SelectionModel) (patterns : Option (List RuleModel)) where
       at (Err word) = refl
 
   -- the directory itself is listed or at fault in both
-  directories_fates : (d : List ℕ) (j : JobModel) (items : List Item) (selection : SelectionModel)
-      → directories_of (found_in selection d j items) ≡ []
-  directories_fates d j [] selection = refl
-  directories_fates d j (e ∷ es) selection =
-      flat_map-append directory_in (found_by d (name_of e, fate_of selection j e)) (found_in selection d j es)
-      ∙ ap₂ (λ (xs ys : List (List ℕ)). xs ++ ys) (none (fate_of selection j e)) (directories_fates d j es selection)
+  directories_fates : (d : List ℕ) (j : JobModel) (items : List Item) (filters : FiltersModel)
+      → directories_of (found_in filters d j items) ≡ []
+  directories_fates d j [] filters = refl
+  directories_fates d j (e ∷ es) filters =
+      flat_map-append directory_in (found_by d (name_of e, fate_of filters j e)) (found_in filters d j es)
+      ∙ ap₂ (λ (xs ys : List (List ℕ)). xs ++ ys) (none (fate_of filters j e)) (directories_fates d j es filters)
     where
       none : (fate : Fate) → directories_of (by_name d (name_of e) fate) ≡ []
       none (counted f) = refl
@@ -137,12 +141,12 @@ module _ (s : SelectionModel) (patterns : Option (List RuleModel)) where
   directories_here : (j : JobModel) (a : Answers) → directories_of (found_at part j a) ≡ directories_of (found_at whole j a)
   directories_here j a = at a.here
     where
-      own : (selection : SelectionModel) (k : JobModel) (items : List Item) (absent : List (List ℕ))
-          → directories_of (found_of j (listed_level (fates_of selection k items) absent)) ≡ j.path ∷ []
-      own selection k items absent =
+      own : (filters : FiltersModel) (k : JobModel) (items : List Item) (absent : List (List ℕ))
+          → directories_of (found_of j (listed_level (fates_of filters k items) absent)) ≡ j.path ∷ []
+      own filters k items absent =
           directories_absent j.path absent
-          (found_directory j.path (length (fates_of selection k items)) ∷ found_in selection j.path k items)
-          ∙ ap (λ (l : List (List ℕ)). j.path ∷ l) (directories_fates j.path k items selection)
+          (found_directory j.path (length (fates_of filters k items)) ∷ found_in filters j.path k items)
+          ∙ ap (λ (l : List (List ℕ)). j.path ∷ l) (directories_fates j.path k items filters)
 
       after : (items : List Item) (r : Result RuleBytes FaultLineModel)
           → directories_of (found_of j (level_after part j items r)) ≡ directories_of (found_of j (level_after whole j items r))
@@ -217,9 +221,9 @@ module _ (s : SelectionModel) (patterns : Option (List RuleModel)) where
 
 -- so the files are those that are included, and the directories are the same
 pub include_law : IncludeLaw
-include_law s patterns depth top t = record {
-  files = walked_so s patterns counted_in (includes patterns) (counted_here s patterns) depth top t;
-  directories = walked_so s patterns directory_in (λ d. true)
-      (λ j a. directories_here s patterns j a ∙ sym (filter_all (directories_of (found_at (whole s patterns) j a)))) depth top t
-      ∙ filter_all (directories_of (walk_of (whole s patterns) depth top t));
+include_law s text depth top t = record {
+  files = walked_so s text counted_in (includes (option_map rules_of text)) (counted_here s text) depth top t;
+  directories = walked_so s text directory_in (λ d. true)
+      (λ j a. directories_here s text j a ∙ sym (filter_all (directories_of (found_at (whole s text) j a)))) depth top t
+      ∙ filter_all (directories_of (walk_of (whole s text) depth top t));
 }

@@ -14,7 +14,7 @@ use Rattle.lc_level.specs.RuleFiles.{ignore_named, both_read, info_items, info_b
 use Rattle.lc_level.specs.Level.{Level, faulted_level, level, level_of, level_after, level_of_items, is_taken, child_job}
 use Rattle.lc_level.specs.Level.{walked_in, fates_of}
 use Rattle.lc_level.specs.Narrowing.{part_of}
-use Rattle.lc_level.specs.Selection.{SelectionModel}
+use Rattle.lc_level.specs.Filters.{FiltersModel}
 use Rattle.lc_walk.specs.Found.{children_of, children_at}
 use Rattle.lc_level.specs.WellFormed.{IsWellFormed, listed_in}
 use Rattle.lc_level.proofs.WellFormed.{IsGoodName, good_one, Spread, spread}
@@ -22,17 +22,17 @@ use Rattle.lc_level.proofs.Fates.{children_by, walked_items_are}
 use Rattle.lc_walk.proofs.TakingPart.{spread_part}
 
 -- what holds of each fault, and of the level of the items with any chains, holds of the level
-pub level_keeps : (P : Level → Type 0) (selection : SelectionModel) (j : JobModel) (a : Answers)
+pub level_keeps : (P : Level → Type 0) (filters : FiltersModel) (j : JobModel) (a : Answers)
     → ((p : List ℕ) (w : FaultWord) → P (faulted_level p w)) →
-    ((items : List Item) → a.here ≡ Ok items → (b : RuleBytes) → P (level_of_items selection items (extended j b))) →
-    P (level selection j a)
-level_keeps P selection j a faults items_keep = at a.here refl
+    ((items : List Item) → a.here ≡ Ok items → (b : RuleBytes) → P (level_of_items filters items (extended j b))) →
+    P (level filters j a)
+level_keeps P filters j a faults items_keep = at a.here refl
   where
-    after : (items : List Item) → a.here ≡ Ok items → (r : Result RuleBytes FaultLineModel) → P (level_after selection j items r)
+    after : (items : List Item) → a.here ≡ Ok items → (r : Result RuleBytes FaultLineModel) → P (level_after filters j items r)
     after items e (Ok b) = items_keep items e b
     after items e (Err f) = faults f.path f.word
 
-    at : (o : Items) → a.here ≡ o → P (level_of selection j a o)
+    at : (o : Items) → a.here ≡ o → P (level_of filters j a o)
     at (Ok items) e = after items e (rule_bytes j.ignore.no_ignore j.path items a)
     at (Err word) e = faults j.path word
 
@@ -97,18 +97,18 @@ fault_place no_ignore path items a =
     (λ o. tt))
 
 -- the same, where the fault may be known to lie in the directory
-pub own_level_keeps : (P : Level → Type 0) (selection : SelectionModel) (j : JobModel) (a : Answers)
+pub own_level_keeps : (P : Level → Type 0) (filters : FiltersModel) (j : JobModel) (a : Answers)
     → ((p : List ℕ) (w : FaultWord) → IsOwnPlace j.path p → P (faulted_level p w)) →
-    ((items : List Item) → a.here ≡ Ok items → (b : RuleBytes) → P (level_of_items selection items (extended j b))) →
-    P (level selection j a)
-own_level_keeps P selection j a faults items_keep = at a.here refl
+    ((items : List Item) → a.here ≡ Ok items → (b : RuleBytes) → P (level_of_items filters items (extended j b))) →
+    P (level filters j a)
+own_level_keeps P filters j a faults items_keep = at a.here refl
   where
     after : (items : List Item) → a.here ≡ Ok items → (r : Result RuleBytes FaultLineModel) → IfFault (IsOwnPlace j.path) r
-        → P (level_after selection j items r)
+        → P (level_after filters j items r)
     after items e (Ok b) o = items_keep items e b
     after items e (Err f) o = faults f.path f.word o
 
-    at : (o : Items) → a.here ≡ o → P (level_of selection j a o)
+    at : (o : Items) → a.here ≡ o → P (level_of filters j a o)
     at (Ok items) e = after items e (rule_bytes j.ignore.no_ignore j.path items a) (fault_place j.ignore.no_ignore j.path items a)
     at (Err word) e = faults j.path word (inl refl)
 
@@ -128,35 +128,35 @@ each_cond : (P : List ℕ × JobModel → Type 0) (b : Bool) (c : List ℕ × Jo
 each_cond P true c cs a e = (a, e)
 each_cond P false c cs a e = e
 
-each_by_item : (selection : SelectionModel) (j : JobModel) (P : List ℕ × JobModel → Type 0) (Q : List ℕ → Type 0) →
+each_by_item : (filters : FiltersModel) (j : JobModel) (P : List ℕ × JobModel → Type 0) (Q : List ℕ → Type 0) →
     ((n : List ℕ) → Q n → P (n, child_job j n)) →
-    (es : List Item) → AllByRecursion (λ e. Q (name_of e)) es → AllByRecursion P (flat_map (children_by selection j) es)
-each_by_item selection j P Q f [] a = tt
-each_by_item selection j P Q f (file_item n c r ∷ es) a = each_by_item selection j P Q f es a.1
-each_by_item selection j P Q f (other_item n what ∷ es) a = each_by_item selection j P Q f es a.1
-each_by_item selection j P Q f (directory_item n ∷ es) a =
-    each_cond P (is_taken selection j n true) (n, child_job j n) (flat_map (children_by selection j) es) (f n a.0)
-    (each_by_item selection j P Q f es a.1)
+    (es : List Item) → AllByRecursion (λ e. Q (name_of e)) es → AllByRecursion P (flat_map (children_by filters j) es)
+each_by_item filters j P Q f [] a = tt
+each_by_item filters j P Q f (file_item n c r ∷ es) a = each_by_item filters j P Q f es a.1
+each_by_item filters j P Q f (other_item n what ∷ es) a = each_by_item filters j P Q f es a.1
+each_by_item filters j P Q f (directory_item n ∷ es) a =
+    each_cond P (is_taken filters j n true) (n, child_job j n) (flat_map (children_by filters j) es) (f n a.0)
+    (each_by_item filters j P Q f es a.1)
 
 -- what holds of the names of all directories among some items holds of their children
-pub each_child : (selection : SelectionModel) (j : JobModel) (P : List ℕ × JobModel → Type 0) (Q : List ℕ → Type 0) →
+pub each_child : (filters : FiltersModel) (j : JobModel) (P : List ℕ × JobModel → Type 0) (Q : List ℕ → Type 0) →
     ((n : List ℕ) → Q n → P (n, child_job j n)) →
-    (es : List Item) → AllByRecursion (λ e. Q (name_of e)) es → AllByRecursion P (walked_in (fates_of selection j es))
-each_child selection j P Q f es a = subst (AllByRecursion P) (sym (walked_items_are selection j es)) (each_by_item selection j P Q f es a)
+    (es : List Item) → AllByRecursion (λ e. Q (name_of e)) es → AllByRecursion P (walked_in (fates_of filters j es))
+each_child filters j P Q f es a = subst (AllByRecursion P) (sym (walked_items_are filters j es)) (each_by_item filters j P Q f es a)
 
 apart_cond : (b : Bool) (c : List ℕ × JobModel) (cs : List (List ℕ × JobModel)) → AllByRecursion (λ d. bytes_eq d.0 c.0 ≡ false) cs
     → IsApart cs → IsApart (cond b (c ∷ []) [] ++ cs)
 apart_cond true c cs a b = (a, b)
 apart_cond false c cs a b = b
 
-apart_children : (selection : SelectionModel) (j : JobModel) (es : List Item) → Spread es → IsApart (flat_map (children_by selection j) es)
-apart_children selection j [] t = tt
-apart_children selection j (file_item n c r ∷ es) t = apart_children selection j es t.2
-apart_children selection j (other_item n what ∷ es) t = apart_children selection j es t.2
-apart_children selection j (directory_item n ∷ es) t =
-    apart_cond (is_taken selection j n true) (n, child_job j n) (flat_map (children_by selection j) es)
-    (each_by_item selection j (λ d. bytes_eq d.0 n ≡ false) (λ m. bytes_eq m n ≡ false) (λ m e. e) es t.0)
-    (apart_children selection j es t.2)
+apart_children : (filters : FiltersModel) (j : JobModel) (es : List Item) → Spread es → IsApart (flat_map (children_by filters j) es)
+apart_children filters j [] t = tt
+apart_children filters j (file_item n c r ∷ es) t = apart_children filters j es t.2
+apart_children filters j (other_item n what ∷ es) t = apart_children filters j es t.2
+apart_children filters j (directory_item n ∷ es) t =
+    apart_cond (is_taken filters j n true) (n, child_job j n) (flat_map (children_by filters j) es)
+    (each_by_item filters j (λ d. bytes_eq d.0 n ≡ false) (λ m. bytes_eq m n ≡ false) (λ m e. e) es t.0)
+    (apart_children filters j es t.2)
 
 good_names : (es : List Item) → Spread es → AllByRecursion (λ e. IsGoodName (name_of e)) es
 good_names [] t = tt
@@ -172,18 +172,18 @@ pub well_formed_part : (only : List (List ℕ)) (d : List ℕ) (a : Answers) →
 well_formed_part only d a t es e = spread_part only d es (well_formed_items a t es e)
 
 -- and the child directories of a level
-pub apart_level : (selection : SelectionModel) (j : JobModel) (a : Answers) → IsWellFormed a → IsApart (children_at selection j a)
-apart_level selection j a t =
-    level_keeps (λ l. IsApart (children_of l)) selection j a (λ p w. tt)
-    (λ es e b. subst IsApart (sym (walked_items_are selection (extended j b) (part_of selection.only j.path es)))
-    (apart_children selection (extended j b) (part_of selection.only j.path es) (well_formed_part selection.only j.path a t es e)))
+pub apart_level : (filters : FiltersModel) (j : JobModel) (a : Answers) → IsWellFormed a → IsApart (children_at filters j a)
+apart_level filters j a t =
+    level_keeps (λ l. IsApart (children_of l)) filters j a (λ p w. tt)
+    (λ es e b. subst IsApart (sym (walked_items_are filters (extended j b) (part_of filters.only j.path es)))
+    (apart_children filters (extended j b) (part_of filters.only j.path es) (well_formed_part filters.only j.path a t es e)))
 
 -- and each is a child of the directory, by its name
-pub good_level : (selection : SelectionModel) (j : JobModel) (a : Answers) → IsWellFormed a →
-    AllByRecursion (IsChild j.path) (children_at selection j a)
-good_level selection j a t =
-    level_keeps (λ l. AllByRecursion (IsChild j.path) (children_of l)) selection j a (λ p w. tt)
+pub good_level : (filters : FiltersModel) (j : JobModel) (a : Answers) → IsWellFormed a →
+    AllByRecursion (IsChild j.path) (children_at filters j a)
+good_level filters j a t =
+    level_keeps (λ l. AllByRecursion (IsChild j.path) (children_of l)) filters j a (λ p w. tt)
     (λ es e b.
-    let part = part_of selection.only j.path es in
-    each_child selection (extended j b) (IsChild j.path) IsGoodName (λ n g. (g, refl)) part
-    (good_names part (well_formed_part selection.only j.path a t es e)))
+    let part = part_of filters.only j.path es in
+    each_child filters (extended j b) (IsChild j.path) IsGoodName (λ n g. (g, refl)) part
+    (good_names part (well_formed_part filters.only j.path a t es e)))

@@ -7,16 +7,16 @@ use Rattle.std.proofs.lemmas.List.{map-append}
 use Rattle.std.proofs.lemmas.List.Sums.{sum_by-append, sum_by-cons}
 use Rattle.lc_level.specs.Job.{JobModel}
 use Rattle.lc_level.specs.Level.{Fate, counted, failed, walked, skipped, listed_level, counted_of, failed_of, skipped_of, counted_in}
-use Rattle.lc_level.specs.Level.{failed_in}
-use Rattle.lc_level.specs.Level.{FileFaultModel, skipped_in, absent_faults}
+use Rattle.lc_level.specs.Level.{skipped_below, file_below, failed_in}
+use Rattle.lc_level.specs.Level.{skipped_in, absent_faults}
 use Rattle.lc_level.specs.declared.fault_word.FaultWord.TheVariants.{Absent}
 use Rattle.lc_walk.specs.Found.{Found, found_directory, found_absent, found_by, found_of}
-use Rattle.lc_walk.specs.WalkReport.{tallied, line_of, skipped_line, tallied_in, file_in, fault_in, directory_in, skipped_lines_in}
-use Rattle.lc_walk.specs.WalkReport.{entries_in}
-use Rattle.lc_walk.specs.WalkReport.{tallied_of, files_of, faults_of, directories_of, skipped_lines_of, entry_count}
-use Rattle.lc_walk.specs.Assembled.{fault_line}
+use Rattle.lc_walk.specs.FoundReports.{tallied, tallied_in, file_in, fault_in, directory_in, skipped_lines_in}
+use Rattle.lc_walk.specs.FoundReports.{entries_in}
+use Rattle.lc_walk.specs.FoundReports.{tallied_of, files_of, faults_of, directories_of, skipped_lines_of, entry_count}
 use Rattle.lc_walk.specs.TreeOfRows.{numbers_below}
 use Rattle.lc_board.proofs.Weights.{each-map, each-append, flat_map-on}
+use Rattle.lc_level.specs.FaultLines.{fault_below, FaultLineModel}
 
 -- lists of lists of lists
 pub flat_twice : {A B C : Type 0} (g : B → List C) (f : A → List B) (xs : List A)
@@ -60,7 +60,7 @@ tallied_went j fates absent =
     after_absent tallied_in j.path (λ rest. refl) absent _
     ∙ went tallied_in counted_of tallied j.path (tallied_one j.path) fates
 
-file_one : (d : List ℕ) (f : List ℕ × Fate) → flat_map file_in (found_by d f) ≡ map (line_of d) (counted_of f)
+file_one : (d : List ℕ) (f : List ℕ × Fate) → flat_map file_in (found_by d f) ≡ map (file_below d) (counted_of f)
 file_one d (name, counted file) = refl
 file_one d (name, failed word) = refl
 file_one d (name, walked job) = refl
@@ -68,37 +68,37 @@ file_one d (name, skipped kind reason) = refl
 
 -- to the lines of files
 pub files_went : (j : JobModel) (fates : List (List ℕ × Fate)) (absent : List (List ℕ)) →
-    files_of (found_of j (listed_level fates absent)) ≡ map (line_of j.path) (counted_in fates)
+    files_of (found_of j (listed_level fates absent)) ≡ map (file_below j.path) (counted_in fates)
 files_went j fates absent =
     after_absent file_in j.path (λ rest. refl) absent _
-    ∙ went file_in counted_of (line_of j.path) j.path (file_one j.path) fates
+    ∙ went file_in counted_of (file_below j.path) j.path (file_one j.path) fates
 
-fault_one : (d : List ℕ) (f : List ℕ × Fate) → flat_map fault_in (found_by d f) ≡ map (fault_line d) (failed_of f)
+fault_one : (d : List ℕ) (f : List ℕ × Fate) → flat_map fault_in (found_by d f) ≡ map (fault_below d) (failed_of f)
 fault_one d (name, counted file) = refl
 fault_one d (name, failed word) = refl
 fault_one d (name, walked job) = refl
 fault_one d (name, skipped kind reason) = refl
 
 faults_within : (j : JobModel) (fates : List (List ℕ × Fate))
-    → faults_of (found_directory j.path (length fates) ∷ flat_map (found_by j.path) fates) ≡ map (fault_line j.path) (failed_in fates)
-faults_within j fates = went fault_in failed_of (fault_line j.path) j.path (fault_one j.path) fates
+    → faults_of (found_directory j.path (length fates) ∷ flat_map (found_by j.path) fates) ≡ map (fault_below j.path) (failed_in fates)
+faults_within j fates = went fault_in failed_of (fault_below j.path) j.path (fault_one j.path) fates
 
 -- the faults of what is absent come first
-absent_first : (d : List ℕ) (absent : List (List ℕ)) (xs : List Found) (more : List FileFaultModel)
-    → faults_of xs ≡ map (fault_line d) more
-    → faults_of (map (found_absent d) absent ++ xs) ≡ map (fault_line d) (absent_faults absent ++ more)
+absent_first : (d : List ℕ) (absent : List (List ℕ)) (xs : List Found) (more : List FaultLineModel)
+    → faults_of xs ≡ map (fault_below d) more
+    → faults_of (map (found_absent d) absent ++ xs) ≡ map (fault_below d) (absent_faults absent ++ more)
 absent_first d [] xs more e = e
 absent_first d (rest ∷ absent) xs more e =
-    ap (λ l. fault_line d (record { name = rest; word = Absent }) ∷ l) (absent_first d absent xs more e)
+    ap (λ l. fault_below d (record { path = rest; word = Absent }) ∷ l) (absent_first d absent xs more e)
 
 -- to the lines of faults
 pub faults_went : (j : JobModel) (fates : List (List ℕ × Fate)) (absent : List (List ℕ)) →
-    faults_of (found_of j (listed_level fates absent)) ≡ map (fault_line j.path) (absent_faults absent ++ failed_in fates)
+    faults_of (found_of j (listed_level fates absent)) ≡ map (fault_below j.path) (absent_faults absent ++ failed_in fates)
 faults_went j fates absent =
     absent_first j.path absent (found_directory j.path (length fates) ∷ flat_map (found_by j.path) fates) (failed_in fates)
     (faults_within j fates)
 
-skipped_one : (d : List ℕ) (f : List ℕ × Fate) → flat_map skipped_lines_in (found_by d f) ≡ map (skipped_line d) (skipped_of f)
+skipped_one : (d : List ℕ) (f : List ℕ × Fate) → flat_map skipped_lines_in (found_by d f) ≡ map (skipped_below d) (skipped_of f)
 skipped_one d (name, counted file) = refl
 skipped_one d (name, failed word) = refl
 skipped_one d (name, walked job) = refl
@@ -106,10 +106,10 @@ skipped_one d (name, skipped kind reason) = refl
 
 -- to the lines of entries left out
 pub skipped_went : (j : JobModel) (fates : List (List ℕ × Fate)) (absent : List (List ℕ)) →
-    skipped_lines_of (found_of j (listed_level fates absent)) ≡ map (skipped_line j.path) (skipped_in fates)
+    skipped_lines_of (found_of j (listed_level fates absent)) ≡ map (skipped_below j.path) (skipped_in fates)
 skipped_went j fates absent =
     after_absent skipped_lines_in j.path (λ rest. refl) absent _
-    ∙ went skipped_lines_in skipped_of (skipped_line j.path) j.path (skipped_one j.path) fates
+    ∙ went skipped_lines_in skipped_of (skipped_below j.path) j.path (skipped_one j.path) fates
 
 no_directory : (d : List ℕ) (f : List ℕ × Fate) → flat_map directory_in (found_by d f) ≡ []
 no_directory d (name, counted file) = refl

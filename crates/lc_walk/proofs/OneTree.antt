@@ -12,29 +12,29 @@ use Rattle.lc_tree.specs.Paths.{names_of_path}
 use Rattle.lc_level.specs.Answers.{Answers, Tree}
 use Rattle.lc_level.specs.Job.{JobModel}
 use Rattle.lc_level.specs.Level.{level, child_job}
-use Rattle.lc_level.specs.Selection.{SelectionModel}
+use Rattle.lc_level.specs.Filters.{FiltersModel}
 use Rattle.lc_walk.specs.Found.{children_of, children_at}
 use Rattle.lc_walk.specs.FoundAt.{WalksInto, LeadsTo}
 use Rattle.lc_walk.specs.Lawful.{Asked, jobs_of}
 use Rattle.lc_walk.specs.Rows.{row_of, job_of}
-use Rattle.lc_walk.specs.WalkAnswers.{IsOneAnswer}
-use Rattle.lc_walk.specs.Walked.{Walked, AreWhole}
+use Rattle.lc_walk.specs.BoardAnswers.{IsOneAnswer}
+use Rattle.lc_walk.specs.ClosedWalks.{Walked, AreWhole}
 use Rattle.lc_walk.specs.declared.row.Row.{Row}
-use Rattle.lc_walk.proofs.Core.{same_head, same_tail}
+use Rattle.lc_walk.proofs.NumbersReached.{same_head, same_tail}
 use Rattle.lc_walk.proofs.Elements.{In}
 use Rattle.lc_walk.proofs.FoundByPlace.{child_by_level}
-use Rattle.lc_walk.proofs.Law.{row_here, job_or, job_at, inside, there, job_at_top, own_jobs, fits}
+use Rattle.lc_walk.proofs.WalkOfRows.{row_here, job_or, job_at, inside, there, job_at_top, own_jobs, fits}
 use Rattle.lc_walk.proofs.Levels.{IsChild}
 use Rattle.lc_walk.proofs.Places.{names_of_path-path_in}
 
 -- where names lead to a directory that leaves in a child, they lead on to the child
-pub leads_on : (selection : SelectionModel) (place : List (List ℕ)) (j k inside : JobModel) (name : List ℕ) (t : Tree)
-    → LeadsTo selection j t place k → WalksInto selection k (t place) name inside
-    → LeadsTo selection j t (place ++ name ∷ []) (child_job inside name)
-leads_on selection [] j k inside name t e l =
-    (inside, subst (λ (i : JobModel). WalksInto selection i (t []) name inside) (sym e) l, refl)
-leads_on selection (n ∷ place) j k inside name t (i, l, more) leaves =
-    (i, l, leads_on selection place (child_job i n) k inside name (λ p. t (n ∷ p)) more leaves)
+pub leads_on : (filters : FiltersModel) (place : List (List ℕ)) (j k inside : JobModel) (name : List ℕ) (t : Tree)
+    → LeadsTo filters j t place k → WalksInto filters k (t place) name inside
+    → LeadsTo filters j t (place ++ name ∷ []) (child_job inside name)
+leads_on filters [] j k inside name t e l =
+    (inside, subst (λ (i : JobModel). WalksInto filters i (t []) name inside) (sym e) l, refl)
+leads_on filters (n ∷ place) j k inside name t (i, l, more) leaves =
+    (i, l, leads_on filters place (child_job i n) k inside name (λ p. t (n ∷ p)) more leaves)
 
 -- a child directory that was posted at this number
 record PostedChild (d : List ℕ) (cs : List (List ℕ × JobModel)) (job : JobModel) : Type 0 where
@@ -65,7 +65,7 @@ module _ (ask : Asked) (full : Bool) (capacity workers : ℕ) (top : JobModel) (
     (answers : ℕ → Answers) (walked : Walked ask full capacity workers top h rows answers) (whole : AreWhole rows)
     (at_top : top.path ≡ []) (MayAnswer : List ℕ → Answers → Type 0)
     (may : (i : ℕ) (e : Ended Row) → slice_get rows i ≡ Some e → MayAnswer (job_of (row_of e)).path (answers i))
-    (t : Tree) (one : IsOneAnswer ask.selection MayAnswer top t) where
+    (t : Tree) (one : IsOneAnswer ask.filters MayAnswer top t) where
   abbrev job : ℕ → JobModel
   job i = job_at ask full capacity workers top h rows answers walked i
 
@@ -73,11 +73,11 @@ module _ (ask : Asked) (full : Bool) (capacity workers : ℕ) (top : JobModel) (
   place i = names_of_path (job i).path
 
   abbrev IsLed : ℕ → Type 0
-  IsLed i = LeadsTo ask.selection top t (place i) (job i)
+  IsLed i = LeadsTo ask.filters top t (place i) (job i)
 
   -- its level is then that of the tree there
   same_level : (i : ℕ) → status h i ≢ Absent → IsLed i
-      → level ask.selection (job i) (answers i) ≡ level ask.selection (job i) (t (place i))
+      → level ask.filters (job i) (answers i) ≡ level ask.filters (job i) (t (place i))
   same_level i a led =
       let r = row_here rows i (inside ask full capacity workers top h rows answers walked i a) in
       one (place i) (job i) led (answers i)
@@ -87,24 +87,24 @@ module _ (ask : Asked) (full : Bool) (capacity workers : ℕ) (top : JobModel) (
   led_below : (p k : ℕ) → status h p ≢ Absent → IsLed p → IsIn k (posts_under p h) → IsLed k
   led_below p k a led i =
       let f = fits ask full capacity workers top h rows answers walked whole p a in
-      let c = posted_as (job p).path job (children_at ask.selection (job p) (answers p)) (posts_under p h) k f.jobs f.named_so
+      let c = posted_as (job p).path job (children_at ask.filters (job p) (answers p)) (posts_under p h) k f.jobs f.named_so
       (own_jobs ask full capacity workers top h rows answers walked p) i in
-      let among : In c.child (children_at ask.selection (job p) (t (place p))) =
+      let among : In c.child (children_at ask.filters (job p) (t (place p))) =
       subst (λ l. In c.child (children_of l)) (same_level p a led) c.among in
-      let left = child_by_level ask.selection (job p) (t (place p)) c.child among in
+      let left = child_by_level ask.filters (job p) (t (place p)) c.child among in
       let there : place k ≡ place p ++ c.child.0 ∷ [] =
       ap (λ (j : JobModel). names_of_path j.path) (sym c.job_is) ∙ ap names_of_path c.good.1
       ∙ names_of_path-path_in (job p).path c.child.0 c.good.0 in
-      subst (λ x. LeadsTo ask.selection top t x (job k)) (sym there)
-      (subst (LeadsTo ask.selection top t (place p ++ c.child.0 ∷ [])) (sym left.2 ∙ c.job_is)
-      (leads_on ask.selection (place p) top (job p) left.0 c.child.0 t led left.1))
+      subst (λ x. LeadsTo ask.filters top t x (job k)) (sym there)
+      (subst (LeadsTo ask.filters top t (place p ++ c.child.0 ∷ [])) (sym left.2 ∙ c.job_is)
+      (leads_on ask.filters (place p) top (job p) left.0 c.child.0 t led left.1))
 
   led_by : (k : ℕ) → HasParent h k → ((p : ℕ) → p < k → status h p ≢ Absent → IsLed p) → IsLed k
   led_by k (inl first) above =
       subst IsLed (sym first)
-      (subst (λ (j : JobModel). LeadsTo ask.selection top t (names_of_path j.path) j)
+      (subst (λ (j : JobModel). LeadsTo ask.filters top t (names_of_path j.path) j)
       (sym (job_at_top ask full capacity workers top h rows answers walked))
-      (subst (λ p. LeadsTo ask.selection top t (names_of_path p) top) (sym at_top) refl))
+      (subst (λ p. LeadsTo ask.filters top t (names_of_path p) top) (sym at_top) refl))
   led_by k (inr (p, a, i)) above =
       led_below p k a (above p (posted_above capacity workers top h walked.legal p k i) a) i
 
@@ -115,10 +115,10 @@ module _ (ask : Asked) (full : Bool) (capacity workers : ℕ) (top : JobModel) (
 
   -- each row's level is that of the tree
   pub agrees : (i : ℕ) (e : Ended Row) → slice_get rows i ≡ Some e →
-      level ask.selection (job_of (row_of e)) (answers i)
-      ≡ level ask.selection (job_of (row_of e)) (t (names_of_path (job_of (row_of e)).path))
+      level ask.filters (job_of (row_of e)) (answers i)
+      ≡ level ask.filters (job_of (row_of e)) (t (names_of_path (job_of (row_of e)).path))
   agrees i e is =
       let a = there ask full capacity workers top h rows answers walked i (slice_get_within rows i e is) in
-      subst (λ (k : JobModel). level ask.selection k (answers i) ≡ level ask.selection k (t (names_of_path k.path)))
+      subst (λ (k : JobModel). level ask.filters k (answers i) ≡ level ask.filters k (t (names_of_path k.path)))
       (sym (ap (job_or top) (sym is)))
       (same_level i a (led_under (suc i) i (omega arith) a))

@@ -8,7 +8,7 @@ use Rattle.lc_level.specs.Job.{JobModel}
 use Rattle.lc_level.specs.Level.{Reason, other_kind, Fate, counted, failed, walked, skipped, Level, faulted_level, listed_level, level}
 use Rattle.lc_level.specs.Level.{level_of, level_after, fate_of, file_fate, file_reason, reason_of, child_job}
 use Rattle.lc_level.specs.RuleFiles.{RuleBytes, rule_bytes}
-use Rattle.lc_level.specs.Selection.{SelectionModel, narrowed}
+use Rattle.lc_level.specs.Filters.{FiltersModel, narrowed}
 use Rattle.lc_level.proofs.WellFormed.{IsGoodName, Spread}
 use Rattle.lc_tree.specs.declared.entry.Kind.{Kind}
 use Rattle.lc_tree.specs.declared.entry.Kind.TheVariants.{File, Dir, Other}
@@ -32,20 +32,20 @@ fits_count k n (Ok count) = refl
 fits_count k n (Err word) = refl
 
 -- each has one that fits it
-pub fits : (s : SelectionModel) (k : JobModel) (item : Item) → IsFateOf (fate_of s k item) (entry_of item).kind
+pub fits : (s : FiltersModel) (k : JobModel) (item : Item) → IsFateOf (fate_of s k item) (entry_of item).kind
 fits s k (file_item n c rules) = fits_by File (file_fate k n c) (fits_count k n c) (file_reason s k n)
 fits s k (directory_item n) = fits_by Dir (walked (child_job k n)) refl (reason_of s k n true)
 fits s k (other_item n what) = fits_by (Other what) (skipped (Other what) (other_kind what)) refl (reason_of s k n false)
 
 -- the paths that are asked for decide no fate
-pub same_fate : (s : SelectionModel) (one two : List (List ℕ)) (k : JobModel) (item : Item)
+pub same_fate : (s : FiltersModel) (one two : List (List ℕ)) (k : JobModel) (item : Item)
     → fate_of (narrowed s one) k item ≡ fate_of (narrowed s two) k item
 same_fate s one two k (file_item n c rules) = refl
 same_fate s one two k (directory_item n) = refl
 same_fate s one two k (other_item n what) = refl
 
 -- nor whether a directory is at fault
-pub same_fault : (s : SelectionModel) (one two : List (List ℕ)) (j : JobModel) (a : Answers) (p : List ℕ) (w : FaultWord)
+pub same_fault : (s : FiltersModel) (one two : List (List ℕ)) (j : JobModel) (a : Answers) (p : List ℕ) (w : FaultWord)
     → level (narrowed s one) j a ≡ faulted_level p w → level (narrowed s two) j a ≡ faulted_level p w
 same_fault s one two j a p w = at a.here
   where
@@ -63,7 +63,7 @@ fault_path (faulted_level p w) = p
 fault_path (listed_level fates absent) = []
 
 -- and it is so at its own place
-pub fault_at : (s : SelectionModel) (j : JobModel) (a : Answers) (p : List ℕ) (w : FaultWord) → level s j a ≡ faulted_level p w
+pub fault_at : (s : FiltersModel) (j : JobModel) (a : Answers) (p : List ℕ) (w : FaultWord) → level s j a ≡ faulted_level p w
     → IsOwnPlace j.path p
 fault_at s j a p w e =
     own_level_keeps (λ l. l ≡ faulted_level p w → IsOwnPlace j.path p) s j a

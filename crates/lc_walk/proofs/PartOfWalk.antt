@@ -4,10 +4,10 @@ use Rattle.std.specs.List.{Contains, AllByRecursion}
 use Rattle.lc_glob.specs.Path.{path_in, is_good_path}
 use Rattle.lc_level.specs.Answers.{Item, directory_item, entry_of, Answers, Tree}
 use Rattle.lc_level.specs.Job.{JobModel}
-use Rattle.lc_level.specs.Level.{CountedModel, SkippedModel, Fate, counted, failed, skipped}
+use Rattle.lc_level.specs.Level.{FileLineModel, SkippedLineModel, Fate, counted, failed, skipped}
 use Rattle.lc_level.specs.Level.{fate_of, child_job}
 use Rattle.lc_level.specs.Narrowing.{part_of, takes_part}
-use Rattle.lc_level.specs.Selection.{SelectionModel, narrowed}
+use Rattle.lc_level.specs.Filters.{FiltersModel, narrowed}
 use Rattle.lc_level.specs.WellFormed.{IsWellFormed}
 use Rattle.lc_level.proofs.AskedPaths.{all_take_part}
 use Rattle.lc_level.proofs.WellFormed.{IsGoodName}
@@ -34,11 +34,11 @@ use Rattle.lc_walk.proofs.TakingPart.{in_filter, of_filter}
 inside_path : (j inside : JobModel) (a : Answers) (items : List Item) → IsListed j a items inside → inside.path ≡ j.path
 inside_path j inside a items l = ap (λ (k : JobModel). k.path) l.is
 
-module _ (s : SelectionModel) (only : List (List ℕ)) where
-  abbrev part : SelectionModel
+module _ (s : FiltersModel) (only : List (List ℕ)) where
+  abbrev part : FiltersModel
   part = narrowed s only
 
-  abbrev whole : SelectionModel
+  abbrev whole : FiltersModel
   whole = narrowed s []
 
   -- ---- the entries of a directory
@@ -178,57 +178,57 @@ module _ (s : SelectionModel) (only : List (List ℕ)) where
       in_part_walk : (x : Found) → IsFoundIn part depth top t x → Contains (part_walk s only depth top t) x
       in_part_walk x r = (found_law part depth top t x).1 r
 
-      file : (directory : List ℕ) (f : CountedModel) → IsFoundIn part depth top t (found_file directory f) →
-          Contains (whole_walk s only depth top t) (found_file directory f) × IsWithin only (path_in directory f.name)
+      file : (directory : List ℕ) (f : FileLineModel) → IsFoundIn part depth top t (found_file directory f) →
+          Contains (whole_walk s only depth top t) (found_file directory f) × IsWithin only (path_in directory f.path)
       file directory f r =
           let l = leads_whole r.place top r.job t r.leads (inl at_top) in
-          let w = whole_entry r.job (t r.place) f.name (counted f) r.gives.1 in (
+          let w = whole_entry r.job (t r.place) f.path (counted f) r.gives.1 in (
             in_whole_walk _ (record { place = r.place; shallow = r.shallow; job = r.job; leads = l.0; gives = (r.gives.0, w.0) }),
-            within_file only w.1 (path_in directory f.name) w.2
-                (subst (λ d. EntryTakesPart only w.1 (path_in d f.name)) (sym r.gives.0) w.3),
+            within_file only w.1 (path_in directory f.path) w.2
+                (subst (λ d. EntryTakesPart only w.1 (path_in d f.path)) (sym r.gives.0) w.3),
           )
 
-      has_file : (directory : List ℕ) (f : CountedModel) → IsFoundIn whole depth top t (found_file directory f) →
-          IsWithin only (path_in directory f.name) → Contains (part_walk s only depth top t) (found_file directory f)
+      has_file : (directory : List ℕ) (f : FileLineModel) → IsFoundIn whole depth top t (found_file directory f) →
+          IsWithin only (path_in directory f.path) → Contains (part_walk s only depth top t) (found_file directory f)
       has_file directory f r within =
-          let here : IsWithin only (path_in r.job.path f.name) = subst (λ d. IsWithin only (path_in d f.name)) r.gives.0 within in
-          let name = entry_good r.job (t r.place) f.name (counted f) (well_formed r.place r.job r.leads) r.gives.1 in
+          let here : IsWithin only (path_in r.job.path f.path) = subst (λ d. IsWithin only (path_in d f.path)) r.gives.0 within in
+          let name = entry_good r.job (t r.place) f.path (counted f) (well_formed r.place r.job r.leads) r.gives.1 in
           in_part_walk _ (record {
             place = r.place;
             shallow = r.shallow;
             job = r.job;
-            leads = leads_part r.place top r.job t well_formed r.leads (on_way_of_child only r.job.path f.name File name (inl here));
+            leads = leads_part r.place top r.job t well_formed r.leads (on_way_of_child only r.job.path f.path File name (inl here));
             gives = (
               r.gives.0,
-              part_entry r.job (t r.place) f.name (counted f) (well_formed r.place r.job r.leads) r.gives.1 (λ kind is. inl here),
+              part_entry r.job (t r.place) f.path (counted f) (well_formed r.place r.job r.leads) r.gives.1 (λ kind is. inl here),
             );
           })
 
-      left_out : (directory : List ℕ) (l : SkippedModel) → IsFoundIn part depth top t (found_skipped directory l) →
-          Contains (whole_walk s only depth top t) (found_skipped directory l) × EntryTakesPart only l.kind (path_in directory l.name)
+      left_out : (directory : List ℕ) (l : SkippedLineModel) → IsFoundIn part depth top t (found_skipped directory l) →
+          Contains (whole_walk s only depth top t) (found_skipped directory l) × EntryTakesPart only l.kind (path_in directory l.path)
       left_out directory l r =
           let leads = leads_whole r.place top r.job t r.leads (inl at_top) in
-          let w = whole_entry r.job (t r.place) l.name (skipped l.kind l.reason) r.gives.1 in (
+          let w = whole_entry r.job (t r.place) l.path (skipped l.kind l.reason) r.gives.1 in (
             in_whole_walk _ (record { place = r.place; shallow = r.shallow; job = r.job; leads = leads.0; gives = (r.gives.0, w.0) }),
-            subst (λ d. EntryTakesPart only l.kind (path_in d l.name)) (sym r.gives.0)
-                (subst (λ k. EntryTakesPart only k (path_in r.job.path l.name)) w.2 w.3),
+            subst (λ d. EntryTakesPart only l.kind (path_in d l.path)) (sym r.gives.0)
+                (subst (λ k. EntryTakesPart only k (path_in r.job.path l.path)) w.2 w.3),
           )
 
-      has_left_out : (directory : List ℕ) (l : SkippedModel) → IsFoundIn whole depth top t (found_skipped directory l) →
-          EntryTakesPart only l.kind (path_in directory l.name) → Contains (part_walk s only depth top t) (found_skipped directory l)
+      has_left_out : (directory : List ℕ) (l : SkippedLineModel) → IsFoundIn whole depth top t (found_skipped directory l) →
+          EntryTakesPart only l.kind (path_in directory l.path) → Contains (part_walk s only depth top t) (found_skipped directory l)
       has_left_out directory l r takes =
-          let here : EntryTakesPart only l.kind (path_in r.job.path l.name) =
-          subst (λ d. EntryTakesPart only l.kind (path_in d l.name)) r.gives.0 takes in
-          let name = entry_good r.job (t r.place) l.name (skipped l.kind l.reason) (well_formed r.place r.job r.leads) r.gives.1 in
+          let here : EntryTakesPart only l.kind (path_in r.job.path l.path) =
+          subst (λ d. EntryTakesPart only l.kind (path_in d l.path)) r.gives.0 takes in
+          let name = entry_good r.job (t r.place) l.path (skipped l.kind l.reason) (well_formed r.place r.job r.leads) r.gives.1 in
           in_part_walk _ (record {
             place = r.place;
             shallow = r.shallow;
             job = r.job;
-            leads = leads_part r.place top r.job t well_formed r.leads (on_way_of_child only r.job.path l.name l.kind name here);
+            leads = leads_part r.place top r.job t well_formed r.leads (on_way_of_child only r.job.path l.path l.kind name here);
             gives = (
               r.gives.0,
-              part_entry r.job (t r.place) l.name (skipped l.kind l.reason) (well_formed r.place r.job r.leads) r.gives.1
-                  (λ kind is. subst (λ k. EntryTakesPart only k (path_in r.job.path l.name)) (sym is) here),
+              part_entry r.job (t r.place) l.path (skipped l.kind l.reason) (well_formed r.place r.job r.leads) r.gives.1
+                  (λ kind is. subst (λ k. EntryTakesPart only k (path_in r.job.path l.path)) (sym is) here),
             );
           })
 
@@ -344,7 +344,7 @@ module _ (s : SelectionModel) (only : List (List ℕ)) where
       has_fault path word r (inr (inr (rest, e, is, h))) (inl within) = absurd (is_in rest [] h.absent)
 
 -- so a walk of some paths finds of the whole
-of_one_tree : (s : SelectionModel) (only : List (List ℕ)) → only ≢ [] → AllByRecursion (λ path. is_good_path path ≡ true) only →
+of_one_tree : (s : FiltersModel) (only : List (List ℕ)) → only ≢ [] → AllByRecursion (λ path. is_good_path path ≡ true) only →
     (depth : ℕ) (top : JobModel) (t : Tree) → top.path ≡ [] → HasListings (narrowed s []) top t →
     IsPartOfWalk s only depth top t (part_walk s only depth top t)
 of_one_tree s only some good depth top t at_top well_formed =

@@ -12,14 +12,15 @@ use Rattle.lc_level.proofs.WellFormed.{other_bytes, bytes_other}
 use Rattle.lc_board.proofs.Weights.{each-append}
 use Rattle.lc_walk.specs.Found.{Found, found_file, found_fault, found_directory, found_skipped, path_of}
 use Rattle.lc_walk.specs.Laws.{PathsOnceLaw}
-use Rattle.lc_walk.specs.ReportLines.{FileLineModel, SkippedLineModel, file_paths, fault_paths, skipped_paths}
-use Rattle.lc_walk.specs.Walk.{walk_of}
-use Rattle.lc_walk.specs.WalkReport.{files_of, faults_of, skipped_lines_of, IsReportOf}
+use Rattle.lc_walk.specs.ReportLines.{file_paths, fault_paths, skipped_paths}
+use Rattle.lc_walk.specs.RecursiveWalk.{walk_of}
+use Rattle.lc_walk.specs.FoundReports.{files_of, faults_of, skipped_lines_of, IsReportOf}
 use Rattle.lc_walk.specs.declared.options.ReportLists.{ReportLists}
 use Rattle.lc_walk.specs.declared.report.Report.{Report}
 use Rattle.lc_walk.proofs.Distinct.{Distinct, distinct-append, picked, picked_distinct, picked_apart}
 use Rattle.lc_walk.proofs.Listings.{flat_none}
 use Rattle.lc_walk.proofs.PathsOnce.{fine}
+use Rattle.lc_level.specs.Level.{SkippedLineModel, FileLineModel}
 
 apart_all : (x : List ℕ) (ys : List (List ℕ)) → AllByRecursion (λ y. x ≢ y) ys → AllByRecursion (λ y. eq_by_cmp bytes_cmp x y ≡ false) ys
 apart_all x [] a = tt
@@ -47,8 +48,8 @@ apart_moved xs ys = IsDistinct-IsPermutation _ ((eq_by_cmp_equiv nat_list_cmp_to
 
 -- no path stands twice in a walk
 pub paths_once_law : PathsOnceLaw
-paths_once_law selection depth j t well_formed = apart_from_distinct (map path_of (walk_of selection depth j t))
-    (fine selection depth j t well_formed).1
+paths_once_law filters depth j t well_formed = apart_from_distinct (map path_of (walk_of filters depth j t))
+    (fine filters depth j t well_formed).1
 
 -- nor in what was found in another order
 pub found_apart : (xs ys : List Found) → IsPermutation xs ys → AreApart (map path_of xs) → AreApart (map path_of ys)

@@ -20,9 +20,9 @@ use Rattle.lc_level.specs.Level.{child_job}
 use Rattle.lc_level.specs.Level.{fate_of, file_fate}
 use Rattle.lc_level.specs.Level.{listed_level, walked_in, fates_of}
 use Rattle.lc_level.specs.Narrowing.{stands_below, leads_to, part_of, absent_from}
-use Rattle.lc_level.specs.Selection.{SelectionModel}
+use Rattle.lc_level.specs.Filters.{FiltersModel}
 use Rattle.lc_walk.specs.Found.{Found, found_directory, found_absent, path_of, found_by, found_of, found_at, children_of, children_at}
-use Rattle.lc_walk.specs.Walk.{walks_below, walk_by}
+use Rattle.lc_walk.specs.RecursiveWalk.{walks_below, walk_by}
 use Rattle.lc_level.specs.WellFormed.{IsWellFormed}
 use Rattle.lc_board.proofs.Weights.{each-map, each-append}
 use Rattle.lc_level.proofs.WellFormed.{IsGoodName, Spread, bytes_other}
@@ -39,13 +39,13 @@ use Rattle.lc_level.proofs.Fates.{children_by, walked_items_are}
 -- ---- which items are walked
 
 -- an item whose fate is to be walked
-abbrev enters_it : SelectionModel → JobModel → Item → Bool
-enters_it selection j (file_item n c r) = false
-enters_it selection j (directory_item n) = is_taken selection j n true
-enters_it selection j (other_item n what) = false
+abbrev enters_it : FiltersModel → JobModel → Item → Bool
+enters_it filters j (file_item n c r) = false
+enters_it filters j (directory_item n) = is_taken filters j n true
+enters_it filters j (other_item n what) = false
 
-abbrev stays : SelectionModel → JobModel → Item → Bool
-stays selection j e = not (enters_it selection j e)
+abbrev stays : FiltersModel → JobModel → Item → Bool
+stays filters j e = not (enters_it filters j e)
 
 not_both : (b : Bool) → not b ≡ true → b ≡ true → ⊥
 not_both true e t = cc
@@ -72,53 +72,53 @@ always_so : (b : Bool) → cond b true true ≡ true
 always_so true = refl
 always_so false = refl
 
-path_by_item : (selection : SelectionModel) (j : JobModel) (e : Item)
-    → map path_of (found_by j.path (name_of e, fate_of selection j e)) ≡ map (path_in j.path) (picked name_of (stays selection j) (e ∷ []))
-path_by_item selection j (file_item n c r) =
-    path_by_reason j.path n (skipped File) (file_fate j n c) true (file_reason selection j n) (λ reason. refl)
+path_by_item : (filters : FiltersModel) (j : JobModel) (e : Item)
+    → map path_of (found_by j.path (name_of e, fate_of filters j e)) ≡ map (path_in j.path) (picked name_of (stays filters j) (e ∷ []))
+path_by_item filters j (file_item n c r) =
+    path_by_reason j.path n (skipped File) (file_fate j n c) true (file_reason filters j n) (λ reason. refl)
     (path_of_file j.path n j c)
-    ∙ ap (λ b. map (path_in j.path) (cond b (n ∷ []) [])) (always_so (is_counted selection j n))
-path_by_item selection j (directory_item n) =
-    path_by_reason j.path n (skipped Dir) (walked (child_job j n)) false (reason_of selection j n true) (λ reason. refl) refl
-    ∙ ap (λ b. map (path_in j.path) (cond b (n ∷ []) [])) (stays_so (is_taken selection j n true))
-    ∙ ap (map (path_in j.path)) (sym (append-nil (cond (stays selection j (directory_item n)) (n ∷ []) [])))
-path_by_item selection j (other_item n what) =
-    path_by_reason j.path n (skipped (Other what)) (skipped (Other what) (other_kind what)) true (reason_of selection j n false)
+    ∙ ap (λ b. map (path_in j.path) (cond b (n ∷ []) [])) (always_so (is_counted filters j n))
+path_by_item filters j (directory_item n) =
+    path_by_reason j.path n (skipped Dir) (walked (child_job j n)) false (reason_of filters j n true) (λ reason. refl) refl
+    ∙ ap (λ b. map (path_in j.path) (cond b (n ∷ []) [])) (stays_so (is_taken filters j n true))
+    ∙ ap (map (path_in j.path)) (sym (append-nil (cond (stays filters j (directory_item n)) (n ∷ []) [])))
+path_by_item filters j (other_item n what) =
+    path_by_reason j.path n (skipped (Other what)) (skipped (Other what) (other_kind what)) true (reason_of filters j n false)
     (λ reason. refl) refl
-    ∙ ap (λ b. map (path_in j.path) (cond b (n ∷ []) [])) (always_so (is_taken selection j n false))
+    ∙ ap (λ b. map (path_in j.path) (cond b (n ∷ []) [])) (always_so (is_taken filters j n false))
 
-paths_by_items : (selection : SelectionModel) (j : JobModel) (es : List Item)
-    → map path_of (flat_map (found_by j.path) (fates_of selection j es)) ≡ map (path_in j.path) (picked name_of (stays selection j) es)
-paths_by_items selection j [] = refl
-paths_by_items selection j (e ∷ es) =
-    let own : List Found = found_by j.path (name_of e, fate_of selection j e) in
-    map-append path_of own (flat_map (found_by j.path) (fates_of selection j es))
-    ∙ ap (λ l. l ++ map path_of (flat_map (found_by j.path) (fates_of selection j es))) (path_by_item selection j e
-    ∙ ap (map (path_in j.path)) (append-nil (cond (stays selection j e) (name_of e ∷ []) [])))
-    ∙ ap (λ l. map (path_in j.path) (cond (stays selection j e) (name_of e ∷ []) []) ++ l) (paths_by_items selection j es)
-    ∙ sym (map-append (path_in j.path) (cond (stays selection j e) (name_of e ∷ []) []) (picked name_of (stays selection j) es))
+paths_by_items : (filters : FiltersModel) (j : JobModel) (es : List Item)
+    → map path_of (flat_map (found_by j.path) (fates_of filters j es)) ≡ map (path_in j.path) (picked name_of (stays filters j) es)
+paths_by_items filters j [] = refl
+paths_by_items filters j (e ∷ es) =
+    let own : List Found = found_by j.path (name_of e, fate_of filters j e) in
+    map-append path_of own (flat_map (found_by j.path) (fates_of filters j es))
+    ∙ ap (λ l. l ++ map path_of (flat_map (found_by j.path) (fates_of filters j es))) (path_by_item filters j e
+    ∙ ap (map (path_in j.path)) (append-nil (cond (stays filters j e) (name_of e ∷ []) [])))
+    ∙ ap (λ l. map (path_in j.path) (cond (stays filters j e) (name_of e ∷ []) []) ++ l) (paths_by_items filters j es)
+    ∙ sym (map-append (path_in j.path) (cond (stays filters j e) (name_of e ∷ []) []) (picked name_of (stays filters j) es))
 
-child_name : (selection : SelectionModel) (j : JobModel) (e : Item)
-    → map (λ (c : List ℕ × JobModel). c.0) (children_by selection j e) ≡ cond (enters_it selection j e) (name_of e ∷ []) []
-child_name selection j (file_item n c r) = refl
-child_name selection j (directory_item n) = at (is_taken selection j n true)
+child_name : (filters : FiltersModel) (j : JobModel) (e : Item)
+    → map (λ (c : List ℕ × JobModel). c.0) (children_by filters j e) ≡ cond (enters_it filters j e) (name_of e ∷ []) []
+child_name filters j (file_item n c r) = refl
+child_name filters j (directory_item n) = at (is_taken filters j n true)
   where
     at : (b : Bool) → map (λ (c : List ℕ × JobModel). c.0) (cond b ((n, child_job j n) ∷ []) []) ≡ cond b (n ∷ []) []
     at true = refl
     at false = refl
-child_name selection j (other_item n what) = refl
+child_name filters j (other_item n what) = refl
 
-child_names : (selection : SelectionModel) (j : JobModel) (es : List Item)
-    → map (λ (c : List ℕ × JobModel). c.0) (flat_map (children_by selection j) es) ≡ picked name_of (enters_it selection j) es
-child_names selection j [] = refl
-child_names selection j (e ∷ es) =
-    map-append (λ (c : List ℕ × JobModel). c.0) (children_by selection j e) (flat_map (children_by selection j) es)
-    ∙ ap (λ l. l ++ map (λ (c : List ℕ × JobModel). c.0) (flat_map (children_by selection j) es)) (child_name selection j e)
-    ∙ ap (λ l. cond (enters_it selection j e) (name_of e ∷ []) [] ++ l) (child_names selection j es)
+child_names : (filters : FiltersModel) (j : JobModel) (es : List Item)
+    → map (λ (c : List ℕ × JobModel). c.0) (flat_map (children_by filters j) es) ≡ picked name_of (enters_it filters j) es
+child_names filters j [] = refl
+child_names filters j (e ∷ es) =
+    map-append (λ (c : List ℕ × JobModel). c.0) (children_by filters j e) (flat_map (children_by filters j) es)
+    ∙ ap (λ l. l ++ map (λ (c : List ℕ × JobModel). c.0) (flat_map (children_by filters j) es)) (child_name filters j e)
+    ∙ ap (λ l. cond (enters_it filters j e) (name_of e ∷ []) [] ++ l) (child_names filters j es)
 
 -- ---- a walk
 
-module _ (selection : SelectionModel) where
+module _ (filters : FiltersModel) where
   abbrev paths : List Found → List (List ℕ)
   paths xs = map path_of xs
 
@@ -126,14 +126,14 @@ module _ (selection : SelectionModel) where
   IsFine d ps = AllByRecursion (Below d) ps × Distinct ps
 
   abbrev walk : ℕ → JobModel → Tree → List Found
-  walk k j t = walk_by (found_at selection) (children_at selection) k j t
+  walk k j t = walk_by (found_at filters) (children_at filters) k j t
 
   below_groups : (k : ℕ) (t : Tree) (cs : List (List ℕ × JobModel)) →
-      paths (walks_below (found_at selection) (children_at selection) (walk k) t cs) ≡ flat_map (λ (g : Group). g.1)
+      paths (walks_below (found_at filters) (children_at filters) (walk k) t cs) ≡ flat_map (λ (g : Group). g.1)
       (map (λ c. (c.0, paths (walk k c.1 (λ p. t (c.0 ∷ p))))) cs)
   below_groups k t [] = refl
   below_groups k t (c ∷ cs) =
-      map-append path_of (walk k c.1 (λ p. t (c.0 ∷ p))) (walks_below (found_at selection) (children_at selection) (walk k) t cs)
+      map-append path_of (walk k c.1 (λ p. t (c.0 ∷ p))) (walks_below (found_at filters) (children_at filters) (walk k) t cs)
       ∙ ap (λ l. paths (walk k c.1 (λ p. t (c.0 ∷ p))) ++ l) (below_groups k t cs)
 
   own_groups : (d : List ℕ) (ns : List (List ℕ)) → map (path_in d) ns ≡ flat_map (λ (g : Group). g.1) (map (λ n. (n, path_in d n ∷ [])) ns)
@@ -190,13 +190,13 @@ module _ (selection : SelectionModel) where
 
   -- each entry that isn't walked is a group of one path, and each child directory that of its walk
   abbrev own_groups_of : JobModel → List Item → List Group
-  own_groups_of j es = map (λ n. (n, path_in j.path n ∷ [])) (picked name_of (stays selection j) es)
+  own_groups_of j es = map (λ n. (n, path_in j.path n ∷ [])) (picked name_of (stays filters j) es)
 
   abbrev child_groups_of : ℕ → Tree → List (List ℕ × JobModel) → List Group
   child_groups_of k t cs = map (λ c. (c.0, paths (walk k c.1 (λ p. t (c.0 ∷ p))))) cs
 
   abbrev groups_of : ℕ → JobModel → Tree → List Item → List Group
-  groups_of k j t es = own_groups_of j es ++ child_groups_of k t (walked_in (fates_of selection j es))
+  groups_of k j t es = own_groups_of j es ++ child_groups_of k t (walked_in (fates_of filters j es))
 
   -- ---- what is absent
 
@@ -230,32 +230,32 @@ module _ (selection : SelectionModel) where
       (paths (walk k c.1 (λ p. t (c.0 ∷ p)))) groups.0.0)
       (absent_no_child k d r t cs some a.1 groups.1)
 
-  no_child_led : (j : JobModel) (r : List ℕ) (es : List Item) → NoneLeads selection.only j.path es r →
-      AllByRecursion (IsApartFrom r) (flat_map (children_by selection j) es)
+  no_child_led : (j : JobModel) (r : List ℕ) (es : List Item) → NoneLeads filters.only j.path es r →
+      AllByRecursion (IsApartFrom r) (flat_map (children_by filters j) es)
   no_child_led j r [] a = tt
   no_child_led j r (file_item n c rules ∷ es) a = no_child_led j r es a.1
   no_child_led j r (other_item n what ∷ es) a = no_child_led j r es a.1
-  no_child_led j r (directory_item n ∷ es) a = at (is_taken selection j n true) (no_child_led j r es a.1)
+  no_child_led j r (directory_item n ∷ es) a = at (is_taken filters j n true) (no_child_led j r es a.1)
     where
       apart : (bytes_eq n r ≡ false) × (stands_below r n ≡ false)
       apart = or_parts (bytes_eq n r) (stands_below r n) a.0
 
-      at : (b : Bool) → AllByRecursion (IsApartFrom r) (flat_map (children_by selection j) es)
+      at : (b : Bool) → AllByRecursion (IsApartFrom r) (flat_map (children_by filters j) es)
           → AllByRecursion (IsApartFrom r)
-          (cond b ((n, child_job j n) ∷ []) [] ++ flat_map (children_by selection j) es)
+          (cond b ((n, child_job j n) ∷ []) [] ++ flat_map (children_by filters j) es)
       at true rest = (apart, rest)
       at false rest = rest
 
   children_good : (k : ℕ) (j : JobModel) (t : Tree) (es : List Item) → Spread es →
       ((i : JobModel) (u : List ℕ) → IsFine i.path (paths (walk k i (λ p. t (u ∷ p))))) →
-      AllByRecursion (IsGroup j.path) (child_groups_of k t (walked_in (fates_of selection j es)))
+      AllByRecursion (IsGroup j.path) (child_groups_of k t (walked_in (fates_of filters j es)))
   children_good k j t es s rec =
-      children_are k j.path t (walked_in (fates_of selection j es))
-      (each_child selection j (IsChild j.path) IsGoodName (λ n g. (g, refl)) es (good_names es s)) rec
+      children_are k j.path t (walked_in (fates_of filters j es))
+      (each_child filters j (IsChild j.path) IsGoodName (λ n g. (g, refl)) es (good_names es s)) rec
 
   absent_elsewhere : (k : ℕ) (j : JobModel) (t : Tree) (es : List Item) (absent : List (List ℕ)) →
-      AllByRecursion (λ r. j.path ≡ [] → r ≢ []) absent → AllByRecursion (NoneLeads selection.only j.path es) absent →
-      AllByRecursion (IsGroup j.path) (child_groups_of k t (walked_in (fates_of selection j es))) →
+      AllByRecursion (λ r. j.path ≡ [] → r ≢ []) absent → AllByRecursion (NoneLeads filters.only j.path es) absent →
+      AllByRecursion (IsGroup j.path) (child_groups_of k t (walked_in (fates_of filters j es))) →
       AllByRecursion (λ x. AllByRecursion (λ y. x ≢ y) (j.path ∷ flat_map (λ (g : Group). g.1) (groups_of k j t es)))
       (map (path_in j.path) absent)
   absent_elsewhere k j t es [] asked leads groups = tt
@@ -263,15 +263,15 @@ module _ (selection : SelectionModel) where
     (
       not_above j.path r asked.0,
       subst (AllByRecursion (λ y. path_in j.path r ≢ y))
-          (sym (flat_map-append (λ (g : Group). g.1) (own_groups_of j es) (child_groups_of k t (walked_in (fates_of selection j es)))))
+          (sym (flat_map-append (λ (g : Group). g.1) (own_groups_of j es) (child_groups_of k t (walked_in (fates_of filters j es)))))
           (each-append (λ y. path_in j.path r ≢ y) _ _
-          (absent_no_own j.path r (picked name_of (stays selection j) es)
-          (each_picked name_of (stays selection j) (λ n. bytes_eq n r ≡ false) es
+          (absent_no_own j.path r (picked name_of (stays filters j) es)
+          (each_picked name_of (stays filters j) (λ n. bytes_eq n r ≡ false) es
           (each-map (λ item. leads_to (entry_of item) r ≡ false) (λ item. bytes_eq (name_of item) r ≡ false)
           (λ item e. (or_parts (bytes_eq (name_of item) r) (is_dir (entry_of item).kind && stands_below r (name_of item)) e).0)
           es leads.0)))
-          (absent_no_child k j.path r t (walked_in (fates_of selection j es)) asked.0
-          (subst (AllByRecursion (IsApartFrom r)) (sym (walked_items_are selection j es))
+          (absent_no_child k j.path r t (walked_in (fates_of filters j es)) asked.0
+          (subst (AllByRecursion (IsApartFrom r)) (sym (walked_items_are filters j es))
           (no_child_led j r es leads.0)) groups)),
     ),
     absent_elsewhere k j t es rs asked.1 leads.1 groups,
@@ -282,22 +282,22 @@ module _ (selection : SelectionModel) where
       ((i : JobModel) (u : List ℕ) → IsFine i.path (paths (walk k i (λ p. t (u ∷ p))))) →
       IsFine j.path (j.path ∷ flat_map (λ (g : Group). g.1) (groups_of k j t es))
   of_part k j t es s rec =
-      let cs : List (List ℕ × JobModel) = walked_in (fates_of selection j es) in
-      let ns : List (List ℕ) = picked name_of (stays selection j) es in
+      let cs : List (List ℕ × JobModel) = walked_in (fates_of filters j es) in
+      let ns : List (List ℕ) = picked name_of (stays filters j) es in
       let owns : List Group = own_groups_of j es in
       let kids : List Group = child_groups_of k t cs in
       let groups : AllByRecursion (IsGroup j.path) (owns ++ kids) =
-      each-append (IsGroup j.path) owns kids (own_are j.path ns (each_picked name_of (stays selection j) IsGoodName es (good_names es s)))
+      each-append (IsGroup j.path) owns kids (own_are j.path ns (each_picked name_of (stays filters j) IsGoodName es (good_names es s)))
       (children_good k j t es s rec) in
-      let all_names : map (λ (g : Group). g.0) (owns ++ kids) ≡ ns ++ picked name_of (enters_it selection j) es =
+      let all_names : map (λ (g : Group). g.0) (owns ++ kids) ≡ ns ++ picked name_of (enters_it filters j) es =
       map-append (λ (g : Group). g.0) owns kids ∙ ap (λ l. l ++ map (λ (g : Group). g.0) kids) (names_first ns j.path)
-      ∙ ap (λ l. ns ++ l) (names_after k t cs ∙ ap (map (λ (c : List ℕ × JobModel). c.0)) (walked_items_are selection j es)
-      ∙ child_names selection j es) in
+      ∙ ap (λ l. ns ++ l) (names_after k t cs ∙ ap (map (λ (c : List ℕ × JobModel). c.0)) (walked_items_are filters j es)
+      ∙ child_names filters j es) in
       let apart : Distinct (map name_of es) = names_apart_of es s in
       let distinct : Distinct (map (λ (g : Group). g.0) (owns ++ kids)) =
-      subst Distinct (sym all_names) (distinct-append ns (picked name_of (enters_it selection j) es)
-      (picked_distinct name_of (stays selection j) es apart) (picked_distinct name_of (enters_it selection j) es apart)
-      (picked_apart name_of (stays selection j) (enters_it selection j) (λ e. not_both (enters_it selection j e)) es apart)) in
+      subst Distinct (sym all_names) (distinct-append ns (picked name_of (enters_it filters j) es)
+      (picked_distinct name_of (stays filters j) es apart) (picked_distinct name_of (enters_it filters j) es apart)
+      (picked_apart name_of (stays filters j) (enters_it filters j) (λ e. not_both (enters_it filters j e)) es apart)) in
       let own_path : Below j.path j.path = ([], sym (append-nil (names_of_path j.path))) in (
         (own_path, groups_below j.path (owns ++ kids) groups),
         (groups_above j.path (owns ++ kids) groups, groups_distinct j.path (owns ++ kids) groups distinct),
@@ -305,19 +305,19 @@ module _ (selection : SelectionModel) where
 
   -- the paths of all that is found of a level: what is absent, the directory, and what stands below it
   level_paths : (k : ℕ) (j : JobModel) (t : Tree) (es : List Item) (absent : List (List ℕ)) →
-      paths (found_of j (listed_level (fates_of selection j es) absent)
-      ++ walks_below (found_at selection) (children_at selection) (walk k) t (walked_in (fates_of selection j es)))
+      paths (found_of j (listed_level (fates_of filters j es) absent)
+      ++ walks_below (found_at filters) (children_at filters) (walk k) t (walked_in (fates_of filters j es)))
       ≡ map (path_in j.path) absent ++ j.path ∷ flat_map (λ (g : Group). g.1) (groups_of k j t es)
   level_paths k j t es absent =
-      let cs : List (List ℕ × JobModel) = walked_in (fates_of selection j es) in
-      let below : List Found = walks_below (found_at selection) (children_at selection) (walk k) t cs in
-      let own : List Found = flat_map (found_by j.path) (fates_of selection j es) in
-      let here : List Found = found_directory j.path (length (fates_of selection j es)) ∷ own in
+      let cs : List (List ℕ × JobModel) = walked_in (fates_of filters j es) in
+      let below : List Found = walks_below (found_at filters) (children_at filters) (walk k) t cs in
+      let own : List Found = flat_map (found_by j.path) (fates_of filters j es) in
+      let here : List Found = found_directory j.path (length (fates_of filters j es)) ∷ own in
       let rest : paths (here ++ below) ≡ j.path ∷ flat_map (λ (g : Group). g.1) (groups_of k j t es) =
       ap (λ l. j.path ∷ l)
       (map-append path_of own below
       ∙ ap (λ l. l ++ paths below)
-      (paths_by_items selection j es ∙ own_groups j.path (picked name_of (stays selection j) es))
+      (paths_by_items filters j es ∙ own_groups j.path (picked name_of (stays filters j) es))
       ∙ ap (λ l. flat_map (λ (g : Group). g.1) (own_groups_of j es) ++ l) (below_groups k t cs)
       ∙ sym (flat_map-append (λ (g : Group). g.1) (own_groups_of j es) (child_groups_of k t cs))) in
       ap paths (append_assoc (map (found_absent j.path) absent) here below)
@@ -328,22 +328,22 @@ module _ (selection : SelectionModel) where
   -- a level of items, with the walks of its children
   of_items : (k : ℕ) (j : JobModel) (t : Tree) (es : List Item) → Spread es →
       ((i : JobModel) (u : List ℕ) → IsFine i.path (paths (walk k i (λ p. t (u ∷ p))))) →
-      IsFine j.path (paths (found_of j (level_of_items selection es j)
-      ++ walks_below (found_at selection) (children_at selection) (walk k) t (children_of (level_of_items selection es j))))
+      IsFine j.path (paths (found_of j (level_of_items filters es j)
+      ++ walks_below (found_at filters) (children_at filters) (walk k) t (children_of (level_of_items filters es j))))
   of_items k j t es s rec =
-      let part : List Item = part_of selection.only j.path es in
-      let absent : List (List ℕ) = absent_from selection.only j.path es in
+      let part : List Item = part_of filters.only j.path es in
+      let absent : List (List ℕ) = absent_from filters.only j.path es in
       let within : IsFine j.path (j.path ∷ flat_map (λ (g : Group). g.1) (groups_of k j t part)) =
-      of_part k j t part (spread_part selection.only j.path es s) rec in
+      of_part k j t part (spread_part filters.only j.path es s) rec in
       let asked : AllByRecursion (λ r. j.path ≡ [] → r ≢ []) absent =
-      each-map _ (λ r. j.path ≡ [] → r ≢ []) (λ r h. h.1) absent (absent_asked selection.only j.path es) in
+      each-map _ (λ r. j.path ≡ [] → r ≢ []) (λ r h. h.1) absent (absent_asked filters.only j.path es) in
       subst (IsFine j.path) (sym (level_paths k j t part absent)) (
         each-append (Below j.path) (map (path_in j.path) absent) _ (absent_below j.path absent asked) within.0,
-        distinct-append (map (path_in j.path) absent) _ (rests_apart j.path absent (absent_distinct selection.only j.path es)) within.1
+        distinct-append (map (path_in j.path) absent) _ (rests_apart j.path absent (absent_distinct filters.only j.path es)) within.1
             (absent_elsewhere k j t part absent asked
-            (each-map (NoneLeads selection.only j.path es) (NoneLeads selection.only j.path part)
-            (λ r a. each_filter _ _ es a) absent (absent_leads selection.only j.path es))
-            (children_good k j t part (spread_part selection.only j.path es s) rec)),
+            (each-map (NoneLeads filters.only j.path es) (NoneLeads filters.only j.path part)
+            (λ r a. each_filter _ _ es a) absent (absent_leads filters.only j.path es))
+            (children_good k j t part (spread_part filters.only j.path es s) rec)),
       )
 
   own_below : (d p : List ℕ) → IsOwnPlace d p → Below d p
@@ -356,8 +356,8 @@ module _ (selection : SelectionModel) where
   fine zero j t well_formed = (tt, tt)
   fine (suc k) j t well_formed =
       own_level_keeps
-      (λ l. IsFine j.path (paths (found_of j l ++ walks_below (found_at selection) (children_at selection) (walk k) t (children_of l))))
-      selection j (t [])
+      (λ l. IsFine j.path (paths (found_of j l ++ walks_below (found_at filters) (children_at filters) (walk k) t (children_of l))))
+      filters j (t [])
       (λ p w o. ((own_below j.path p o, tt), (tt, tt)))
       (λ es e b. of_items k (extended j b) t es (well_formed_items (t []) (well_formed []) es e)
       (λ i u. fine k i (λ p. t (u ∷ p)) (λ p. well_formed (u ∷ p))))

@@ -13,11 +13,11 @@ use Rattle.lc_walk.specs.RowViews.{ChildModel}
 use Rattle.lc_walk.specs.Rows.{row_of, job_of, children_in}
 use Rattle.lc_walk.specs.Lawful.{Asked, named}
 use Rattle.lc_walk.specs.TreeOfRows.{children_at_row}
-use Rattle.lc_walk.specs.Walked.{Walked, AreWhole}
+use Rattle.lc_walk.specs.ClosedWalks.{Walked, AreWhole}
 use Rattle.lc_walk.specs.Assembled.{IsLinkedOnce, IsPlaced}
 use Rattle.lc_walk.specs.declared.row.Row.{Row}
 use Rattle.lc_board.proofs.PostedNumbers.{start}
-use Rattle.lc_walk.proofs.Law.{row_here, job_or, job_at, inside, there, job_at_top, own_jobs, fits}
+use Rattle.lc_walk.proofs.WalkOfRows.{row_here, job_or, job_at, inside, there, job_at_top, own_jobs, fits}
 use Rattle.lc_board.proofs.Parents.{IsIn, parent, one_parent, posts_once, posted_above}
 use Rattle.lc_walk.proofs.ChildPlaces.{child_posted, one_place, posted_child}
 
@@ -28,7 +28,7 @@ module _ (ask : Asked) (full : Bool) (capacity workers : ℕ) (top : JobModel) (
   job i = job_at ask full capacity workers top h rows answers walked i
 
   abbrev children_of_number : ℕ → List (List ℕ × JobModel)
-  children_of_number i = children_at ask.selection (job i) (answers i)
+  children_of_number i = children_at ask.filters (job i) (answers i)
 
   job_here : (i : ℕ) (e : Ended Row) → slice_get rows i ≡ Some e → job_of (row_of e) ≡ job i
   job_here i e is = ap (job_or top) (sym is)

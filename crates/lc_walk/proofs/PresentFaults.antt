@@ -16,7 +16,7 @@ use Rattle.lc_level.specs.Level.{level_of, level_after, fates_of, file_fate, fil
 use Rattle.lc_level.specs.Narrowing.{part_of, takes_part}
 use Rattle.lc_level.specs.RuleFiles.{RuleBytes, file_named, ignore_named, has_directory, has_git, and_then, reading, listing, both_read}
 use Rattle.lc_level.specs.RuleFiles.{info_items, info_bytes, own_bytes, rule_bytes, extended}
-use Rattle.lc_level.specs.Selection.{SelectionModel}
+use Rattle.lc_level.specs.Filters.{FiltersModel}
 use Rattle.lc_level.specs.TreeAnswers.{MayHave, MayList, MayAnswer, items_of}
 use Rattle.lc_tree.specs.Trees.{Listings, Contents}
 use Rattle.lc_tree.specs.declared.entry.Kind.{Kind}
@@ -27,7 +27,7 @@ use Rattle.lc_level.specs.declared.fault_word.FaultWord.{FaultWord}
 use Rattle.lc_level.specs.declared.fault_word.FaultWord.TheVariants as word
 use Rattle.lc_walk.specs.Found.{children_at}
 use Rattle.lc_walk.specs.FoundAt.{LeadsTo}
-use Rattle.lc_walk.specs.Walk.{walks_below, walk_by}
+use Rattle.lc_walk.specs.RecursiveWalk.{walks_below, walk_by}
 use Rattle.lc_walk.proofs.Elements.{In}
 use Rattle.lc_walk.proofs.FoundByPlace.{child_by_level}
 use Rattle.lc_walk.proofs.TakingPart.{each_filter}
@@ -188,7 +188,7 @@ fine_or : (kind : Kind) (o : Option Reason) (own : Fate) → IsFineFate own → 
 fine_or kind None own fine = fine
 fine_or kind (Some reason) own fine = tt
 
-module _ (lists : List ℕ → Listings) (gives : List ℕ → Contents) (s : SelectionModel) where
+module _ (lists : List ℕ → Listings) (gives : List ℕ → Contents) (s : FiltersModel) where
   count_fine : (k : JobModel) (path name : List ℕ) (c : Result Count FaultWord) → MayCount (gives (path_in path name)) c
       → IsFineFate (file_fate k name c)
   count_fine k path name (Ok count) may = tt
@@ -224,7 +224,7 @@ module _ (lists : List ℕ → Listings) (gives : List ℕ → Contents) (s : Se
 
 -- ---- the walk
 
-module _ {X : Type 0} (s : SelectionModel) (found : JobModel → Answers → List X) (P : X → Type 0) where
+module _ {X : Type 0} (s : FiltersModel) (found : JobModel → Answers → List X) (P : X → Type 0) where
   abbrev walk_there : ℕ → JobModel → Tree → List X
   walk_there depth j t = walk_by found (children_at s) depth j t
 

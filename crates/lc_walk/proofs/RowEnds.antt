@@ -29,7 +29,7 @@ use Rattle.lc_walk.specs.Posting.{HasPosted, RefusesPost}
 use Rattle.lc_walk.specs.RowViews.{ListedRowModel}
 use Rattle.lc_walk.specs.Serving.{HoldsJob, BreaksOff, AddsFiles, WorksOn, Serves}
 use Rattle.lc_walk.specs.Tally.{TallyModel, CountedFile, StandsFor}
-use Rattle.lc_walk.specs.WalkReport.{tallied}
+use Rattle.lc_walk.specs.FoundReports.{tallied}
 use Rattle.lc_walk.specs.WorkerResults.{IsLawfulEnd}
 use Rattle.lc_walk.proofs.Joining.{stands_permuted}
 use Rattle.lc_walk.proofs.Posted.{posts_come, job_stays}
@@ -72,7 +72,7 @@ module _ (ask : Asked) (lists : List ℕ → Listings) (gives : List ℕ → Con
 
   -- or since one of its entries is too deep
   pub serves_too_deep : (p : Pass JobModel Row) (j : JobModel) (t : TallyModel) (result : Result (Unit {0}) AllocError)
-      → HoldsJob j p → OpensLevel lists gives ask.lists.left_out ask.selection j (Err open_fault.TooDeep) → BreaksOff TooDeep result →
+      → HoldsJob j p → OpensLevel lists gives ask.lists.left_out ask.filters j (Err open_fault.TooDeep) → BreaksOff TooDeep result →
       Serves ask (MayAnswer lists gives) p (after_give p (Broken (record { job = j; cause = TooDeep }))) t t result
   serves_too_deep p j t result h o g =
       serves_broken ask (MayAnswer lists gives) p j TooDeep o.0 t t result (record {
@@ -84,7 +84,7 @@ module _ (ask : Asked) (lists : List ℕ → Listings) (gives : List ℕ → Con
 
   -- a directory at fault
   pub serves_faulted : (p : Pass JobModel Row) (j : JobModel) (site : FaultSite) (word : FaultWord) (t : TallyModel) → HoldsJob j p →
-      OpensLevel lists gives ask.lists.left_out ask.selection j (Err (open_fault.Faulted site word)) →
+      OpensLevel lists gives ask.lists.left_out ask.filters j (Err (open_fault.Faulted site word)) →
       WorksOn ask (MayAnswer lists gives) p (after_fault p (Faulted (record { job = j; site = site; word = word }))) (Some t) (Some t)
   serves_faulted p j site word t h o = works_fault ask (MayAnswer lists gives) p _ o.0 (Some t) (record {
     job_is = h.job_is;
@@ -95,9 +95,9 @@ module _ (ask : Asked) (lists : List ℕ → Listings) (gives : List ℕ → Con
 
   -- a directory was opened, and child directories were posted
   module _ (p q : Pass JobModel Row) (j : JobModel) (o : Opened) (h : HoldsJob j p)
-      (c : IsOpened lists gives ask.lists.left_out ask.selection j o) where
-    same_children : children_at ask.selection j c.inside.answers ≡ o.children.items
-    same_children = let l = opened_level lists gives ask.lists.left_out ask.selection j o c in ap children_of l.listed ∙ l.walks
+      (c : IsOpened lists gives ask.lists.left_out ask.filters j o) where
+    same_children : children_at ask.filters j c.inside.answers ≡ o.children.items
+    same_children = let l = opened_level lists gives ask.lists.left_out ask.filters j o c in ap children_of l.listed ∙ l.walks
 
     job_now : (jobs : List JobModel) → HasPosted p q jobs → job_held q.mine ≡ Some j
     job_now jobs x = ap job_held x.mine ∙ job_stays x.since p.mine x.only ∙ h.job_is
@@ -121,7 +121,7 @@ module _ (ask : Asked) (lists : List ℕ → Listings) (gives : List ℕ → Con
 
     -- fewer than all were posted
     fewer : (n : ℕ) → HasPosted p q (take n (jobs_of o.children.items)) → n < length (jobs_of o.children.items)
-        → length (posts_held q.mine) < length (children_at ask.selection j c.inside.answers)
+        → length (posts_held q.mine) < length (children_at ask.filters j c.inside.answers)
     fewer n x few = omega (
       arith,
       few,
@@ -176,16 +176,16 @@ module _ (ask : Asked) (lists : List ℕ → Listings) (gives : List ℕ → Con
         (works_posts ask (MayAnswer lists gives) p q _ (Some t) x first w)
       where
         counted : (a : Answers) × MayAnswer lists gives j.path a × IsWellFormed a
-            × IsLevelOf (level ask.selection j a) ask.lists.left_out (parts_with o found.files.items found.faults.items)
-            × (has_too_deep ask.selection j a ≡ false)
-        counted = counted_level lists gives ask.lists.left_out ask.selection j o c found f
+            × IsLevelOf (level ask.filters j a) ask.lists.left_out (parts_with o found.files.items found.faults.items)
+            × (has_too_deep ask.filters j a ≡ false)
+        counted = counted_level lists gives ask.lists.left_out ask.filters j o c found f
 
-        here : IsLevelOf (level ask.selection row.job counted.0) ask.lists.left_out (parts_with o found.files.items found.faults.items)
+        here : IsLevelOf (level ask.filters row.job counted.0) ask.lists.left_out (parts_with o found.files.items found.faults.items)
         here =
-            subst (λ k. IsLevelOf (level ask.selection k counted.0) ask.lists.left_out
+            subst (λ k. IsLevelOf (level ask.filters k counted.0) ask.lists.left_out
             (parts_with o found.files.items found.faults.items)) (sym is.job) counted.3
 
-        own_files : files_at ask.selection row.job counted.0 ≡ found.files.items
+        own_files : files_at ask.filters row.job counted.0 ≡ found.files.items
         own_files = ap counted_files here.listed ∙ here.counts
 
         lawful : IsLawfulEnd ask q.full (MayAnswer lists gives) (job_held q.mine) (posts_held q.mine) (ended.Returned (Listed row))
@@ -204,12 +204,12 @@ module _ (ask : Asked) (lists : List ℕ → Listings) (gives : List ℕ → Con
             posts_are = ap jobs_of (posts_now _ x) ∙ x.jobs_are ∙ ap jobs_of (sym here.walks);
             children_are = is.children ∙ ap (λ cs. named cs (posts_held x.since)) (sym here.walks)
                 ∙ ap (named (walked_in here.fates)) (sym (posts_now _ x));
-            shallow = ap (λ k. has_too_deep ask.selection k counted.0) is.job ∙ counted.4;
+            shallow = ap (λ k. has_too_deep ask.filters k counted.0) is.job ∙ counted.4;
           };
           may = subst (λ (k : JobModel). MayAnswer lists gives k.path counted.0) (sym is.job) counted.1;
         }
 
-        gains : (fs : List CountedFile) → StandsFor t fs → StandsFor u (map tallied (files_at ask.selection row.job counted.0) ++ fs)
+        gains : (fs : List CountedFile) → StandsFor t fs → StandsFor u (map tallied (files_at ask.filters row.job counted.0) ++ fs)
         gains fs s =
             subst (λ xs. StandsFor u (map tallied xs ++ fs)) (sym own_files)
             (stands_permuted u (fs ++ map tallied found.files.items) (map tallied found.files.items ++ fs)

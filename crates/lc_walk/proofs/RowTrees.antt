@@ -17,13 +17,13 @@ use Rattle.lc_walk.specs.GivenAnswers.{ByAnswersLaw}
 use Rattle.lc_walk.specs.Lawful.{Asked, jobs_of}
 use Rattle.lc_walk.specs.Rows.{row_of, job_of}
 use Rattle.lc_walk.specs.TreeOfRows.{tree_from, children_by_rows, tree_of_rows}
-use Rattle.lc_walk.specs.Walked.{AreWhole}
-use Rattle.lc_walk.specs.WalkAnswers.{SomeRows}
+use Rattle.lc_walk.specs.ClosedWalks.{AreWhole}
+use Rattle.lc_walk.specs.BoardAnswers.{SomeRows}
 use Rattle.lc_walk.specs.WalkOptions.{asked_by, top_of}
-use Rattle.lc_walk.proofs.Core.{Under, under_rows, same_head, same_tail}
+use Rattle.lc_walk.proofs.NumbersReached.{Under, under_rows, same_head, same_tail}
 use Rattle.lc_walk.proofs.Elements.{In}
 use Rattle.lc_walk.proofs.FoundByPlace.{level_by_child}
-use Rattle.lc_walk.proofs.Law.{row_here, job_or, job_at, inside, posted_at, job_at_top, fits}
+use Rattle.lc_walk.proofs.WalkOfRows.{row_here, job_or, job_at, inside, posted_at, job_at_top, fits}
 
 same_some : {A : Type 0} (x y : A) → Some x ≡ Some y → x ≡ y
 same_some x y e = cc
@@ -75,17 +75,17 @@ module _ (lists : List ℕ → Listings) (gives : List ℕ → Contents) (ask : 
     job_is : job number ≡ k
     answers_are : tree i place ≡ found.answers number
 
-  number_at : (place : List (List ℕ)) (i : ℕ) (k : JobModel) → IsThere i → LeadsTo ask.selection (job i) (tree i) place k
+  number_at : (place : List (List ℕ)) (i : ℕ) (k : JobModel) → IsThere i → LeadsTo ask.filters (job i) (tree i) place k
       → NumberAt i place k
   number_at [] i k there leads = record { number = i; there = there; job_is = leads; answers_are = refl }
   number_at (name ∷ place) i k there (within, leaves, leads) =
       let f = fits ask found.full capacity workers top found.history found.rows found.answers found.walked whole i there in
       let c = child_number_of i _ (posts_under i found.history)
       (under_rows no_answers found.answers (children_by_rows found.rows) i _ (posts_under i found.history) f.looked) f.jobs (own_posts i)
-      (name, child_job within name) (level_by_child ask.selection (job i) (tree i []) name within leaves) in
-      let on : LeadsTo ask.selection (job c.number) (tree c.number) place k =
-      subst (λ (j : JobModel). LeadsTo ask.selection j (tree c.number) place k) (sym c.job_is)
-      (subst (λ (t : Tree). LeadsTo ask.selection (child_job within name) t place k) c.below leads) in
+      (name, child_job within name) (level_by_child ask.filters (job i) (tree i []) name within leaves) in
+      let on : LeadsTo ask.filters (job c.number) (tree c.number) place k =
+      subst (λ (j : JobModel). LeadsTo ask.filters j (tree c.number) place k) (sym c.job_is)
+      (subst (λ (t : Tree). LeadsTo ask.filters (child_job within name) t place k) c.below leads) in
       let n = number_at place c.number k c.there on in
       record {
         number = n.number;
@@ -95,13 +95,13 @@ module _ (lists : List ℕ → Listings) (gives : List ℕ → Contents) (ask : 
       }
 
   -- so the tree of the rows answers as the tree may, with listings
-  pub rows_given : (place : List (List ℕ)) (k : JobModel) → LeadsTo ask.selection top (tree_of_rows found.rows found.answers) place k
+  pub rows_given : (place : List (List ℕ)) (k : JobModel) → LeadsTo ask.filters top (tree_of_rows found.rows found.answers) place k
       → MayAnswer lists gives k.path (tree_of_rows found.rows found.answers place)
       × IsWellFormed (tree_of_rows found.rows found.answers place)
   rows_given place k leads =
       let first : job 0 ≡ top = job_at_top ask found.full capacity workers top found.history found.rows found.answers found.walked in
       let n = number_at place 0 k (start found.history)
-      (subst (λ (j : JobModel). LeadsTo ask.selection j (tree 0) place k) (sym first) leads) in
+      (subst (λ (j : JobModel). LeadsTo ask.filters j (tree 0) place k) (sym first) leads) in
       let r = row_here found.rows n.number
       (inside ask found.full capacity workers top found.history found.rows found.answers found.walked n.number n.there) in
       let same : job_of (row_of r.row) ≡ k = ap (job_or top) (sym r.is) ∙ n.job_is in (

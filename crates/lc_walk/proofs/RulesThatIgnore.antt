@@ -14,10 +14,11 @@ use Rattle.lc_tree.specs.declared.entry.OtherKind.TheVariants.{Special}
 use Rattle.lc_level.specs.declared.fault_word.FaultWord.{FaultWord}
 use Rattle.lc_level.specs.Answers.{Item, file_item, directory_item, other_item, name_of, entry_of}
 use Rattle.lc_level.specs.Job.{JobModel}
-use Rattle.lc_level.specs.Level.{SkippedModel, Reason, named_git, by_rule, by_attribute, not_included, other_kind, Fate, counted, failed}
+use Rattle.lc_level.specs.Level.{Reason, named_git, by_rule, by_attribute, not_included, other_kind, Fate, counted, failed}
+use Rattle.lc_level.specs.Level.{SkippedLineModel}
 use Rattle.lc_level.specs.Level.{walked, skipped, is_met, attribute_reason, rule_reason, reason_at, reason_of, file_reason, file_fate}
-use Rattle.lc_level.specs.Level.{fate_of, child_job}
-use Rattle.lc_level.specs.Selection.{SelectionModel, is_included, patterns_for}
+use Rattle.lc_level.specs.Level.{skipped_below, fate_of, child_job}
+use Rattle.lc_level.specs.Filters.{FiltersModel, include_rules, is_included, patterns_for}
 use Rattle.lc_rules.specs.IgnoreChains.{rules_in}
 use Rattle.lc_rules.specs.IgnoreLaws.{IsLastMatch, LastMatchLaw}
 use Rattle.lc_rules.specs.IgnoreRules.{RuleModel}
@@ -26,9 +27,8 @@ use Rattle.lc_rules.specs.declared.rule_source.RuleSource.{RuleSource}
 use Rattle.lc_walk.specs.Accounts.{IsIgnoredBy, RuleLaw}
 use Rattle.lc_walk.specs.FoundAt.{LeadsTo, Gives}
 use Rattle.lc_walk.specs.Found.{Found, found_file, found_fault, found_directory, found_skipped}
-use Rattle.lc_walk.specs.ReportLines.{SkippedLineModel}
-use Rattle.lc_walk.specs.Walk.{walk_of}
-use Rattle.lc_walk.specs.WalkReport.{skipped_line, skipped_lines_in, skipped_lines_of}
+use Rattle.lc_walk.specs.RecursiveWalk.{walk_of}
+use Rattle.lc_walk.specs.FoundReports.{skipped_lines_in, skipped_lines_of}
 use Rattle.lc_walk.proofs.Elements.{In, is_in, contains, in_lists, if_cond}
 use Rattle.lc_walk.proofs.FoundByPlace.{place_by_walk}
 use Rattle.lc_walk.proofs.TakingPart.{in_filter}
@@ -64,7 +64,7 @@ no_attribute (Some name) source line e = let h : Some (by_attribute name) ≡ So
 same_reason : (x y : Reason) → Some x ≡ Some y → x ≡ y
 same_reason x y e = cc
 
-module _ (s : SelectionModel) (k : JobModel) (path : List ℕ) (is_dir : Bool) (source : RuleSource) (line : ℕ) where
+module _ (s : FiltersModel) (k : JobModel) (path : List ℕ) (is_dir : Bool) (source : RuleSource) (line : ℕ) where
   abbrev Decided : Type 0
   Decided = Decides (rules_in k.ignore) path is_dir source line
 
@@ -91,7 +91,7 @@ module _ (s : SelectionModel) (k : JobModel) (path : List ℕ) (is_dir : Bool) (
   decided_at e = by_last_match (last_match (rules_in k.ignore) path is_dir) refl e
 
 -- and by a name
-decided_of : (s : SelectionModel) (k : JobModel) (n : List ℕ) (is_dir : Bool) (source : RuleSource) (line : ℕ) →
+decided_of : (s : FiltersModel) (k : JobModel) (n : List ℕ) (is_dir : Bool) (source : RuleSource) (line : ℕ) →
     reason_of s k n is_dir ≡ Some (by_rule source line) → Decides (rules_in k.ignore) (path_in k.path n) is_dir source line
 decided_of s k n is_dir source line = at (bytes_eq n (codes ".git"))
   where
@@ -101,10 +101,11 @@ decided_of s k n is_dir source line = at (bytes_eq n (codes ".git"))
     at false e = decided_at s k (path_in k.path n) is_dir source line e
 
 -- and of a file, which may be skipped since no pattern includes it
-decided_file : (s : SelectionModel) (k : JobModel) (n : List ℕ) (source : RuleSource) (line : ℕ) →
+decided_file : (s : FiltersModel) (k : JobModel) (n : List ℕ) (source : RuleSource) (line : ℕ) →
     file_reason s k n ≡ Some (by_rule source line) → Decides (rules_in k.ignore) (path_in k.path n) false source line
 decided_file s k n source line e =
-    decided_of s k n false source line (by (reason_of s k n false) (is_included (patterns_for s.include k.path) (path_in k.path n)) e)
+    decided_of s k n false source line
+    (by (reason_of s k n false) (is_included (patterns_for (include_rules s) k.path) (path_in k.path n)) e)
   where
     by : (o : Option Reason) (b : Bool) → option_or o (cond b None (Some not_included)) ≡ Some (by_rule source line)
         → o ≡ Some (by_rule source line)
@@ -134,7 +135,7 @@ counting_leaves_none k n (Ok count) = refl
 counting_leaves_none k n (Err word) = refl
 
 -- an entry that is left out by a rule
-decided_item : (s : SelectionModel) (k : JobModel) (item : Item) (kind : Kind) (source : RuleSource) (line : ℕ) →
+decided_item : (s : FiltersModel) (k : JobModel) (item : Item) (kind : Kind) (source : RuleSource) (line : ℕ) →
     fate_of s k item ≡ skipped kind (by_rule source line) →
     Decides (rules_in k.ignore) (path_in k.path (name_of item)) (is_dir (entry_of item).kind) source line
 decided_item s k (file_item n c rules) kind source line e =
@@ -157,7 +158,7 @@ is_last_match law rules path is_dir rule e =
 
 -- the thing of which a line was made
 skipped_found : (x : Found) (entry : SkippedLineModel) → In entry (skipped_lines_in x)
-    → (directory : List ℕ) × (l : SkippedModel) × (x ≡ found_skipped directory l) × (skipped_line directory l ≡ entry)
+    → (directory : List ℕ) × (l : SkippedLineModel) × (x ≡ found_skipped directory l) × (skipped_below directory l ≡ entry)
 skipped_found (found_file directory f) entry i = absurd i
 skipped_found (found_fault path word) entry i = absurd i
 skipped_found (found_directory path entries) entry i = absurd i
@@ -166,22 +167,22 @@ skipped_found (found_skipped directory l) entry (inr i) = absurd i
 
 -- each entry that is left out by a rule has that rule
 pub rule_law : LastMatchLaw → RuleLaw
-rule_law law lists selection depth top t r is entry source line has by =
-    let there : In entry (cond lists.left_out (skipped_lines_of (walk_of selection depth top t)) []) =
+rule_law law lists filters depth top t r is entry source line has by =
+    let there : In entry (cond lists.left_out (skipped_lines_of (walk_of filters depth top t)) []) =
     is_in _ _ (Contains-permutation _ _ entry (IsPermutation-sym _ _ is.skipped_are) has) in
-    let x = in_lists skipped_lines_in entry (walk_of selection depth top t) (if_cond lists.left_out entry _ there).1 in
+    let x = in_lists skipped_lines_in entry (walk_of filters depth top t) (if_cond lists.left_out entry _ there).1 in
     let f = skipped_found x.0 entry x.2 in
-    let p = place_by_walk selection depth top t x.0 x.1 in
-    at p.place p.job p.leads f.0 f.1 f.3 (subst (Gives selection p.job (t p.place)) f.2 p.gives)
+    let p = place_by_walk filters depth top t x.0 x.1 in
+    at p.place p.job p.leads f.0 f.1 f.3 (subst (Gives filters p.job (t p.place)) f.2 p.gives)
   where
-    at : (place : List (List ℕ)) (job : JobModel) → LeadsTo selection top t place job → (directory : List ℕ) (l : SkippedModel) →
-        skipped_line directory l ≡ entry → Gives selection job (t place) (found_skipped directory l) →
-        IsIgnoredBy selection top t entry.path source line
+    at : (place : List (List ℕ)) (job : JobModel) → LeadsTo filters top t place job → (directory : List ℕ) (l : SkippedLineModel) →
+        skipped_below directory l ≡ entry → Gives filters job (t place) (found_skipped directory l) →
+        IsIgnoredBy filters top t entry.path source line
     at place job leads directory l same (d, h) =
         let reason : l.reason ≡ by_rule source line = ap (λ (e : SkippedLineModel). e.reason) same ∙ by in
-        let decided = decided_item selection h.inside h.item l.kind source line (h.fate_is ∙ ap (skipped l.kind) reason) in
+        let decided = decided_item filters h.inside h.item l.kind source line (h.fate_is ∙ ap (skipped l.kind) reason) in
         let path : entry.path ≡ path_in h.inside.path (name_of h.item) =
-        sym (ap (λ (e : SkippedLineModel). e.path) same) ∙ ap (λ p. path_in p l.name) (d ∙ sym (ap (λ (j : JobModel). j.path) h.listed.is))
+        sym (ap (λ (e : SkippedLineModel). e.path) same) ∙ ap (λ p. path_in p l.path) (d ∙ sym (ap (λ (j : JobModel). j.path) h.listed.is))
         ∙ ap (path_in h.inside.path) (sym h.named) in
         record {
           place = place;

@@ -4,21 +4,21 @@ use Rattle.lc_level.specs.Answers.{Item, directory_item, Answers, Tree}
 use Rattle.lc_level.specs.Job.{JobModel}
 use Rattle.lc_level.specs.Level.{level}
 use Rattle.lc_level.specs.Narrowing.{part_of}
-use Rattle.lc_level.specs.Selection.{SelectionModel, narrowed}
+use Rattle.lc_level.specs.Filters.{FiltersModel, narrowed}
 use Rattle.lc_level.proofs.AskedPaths.{all_take_part}
 use Rattle.lc_walk.specs.Found.{Found, found_of, found_at, children_of, children_at}
 use Rattle.lc_walk.specs.FoundAt.{WalksInto, LeadsTo}
 use Rattle.lc_walk.specs.PartOfWalk.{AnswerAlike, part_walk}
-use Rattle.lc_walk.specs.Walk.{walks_below, walk_of}
+use Rattle.lc_walk.specs.RecursiveWalk.{walks_below, walk_of}
 use Rattle.lc_walk.proofs.Elements.{In, is_in, contains}
 use Rattle.lc_walk.proofs.FoundByPlace.{child_by_level}
 use Rattle.lc_walk.proofs.TakingPart.{in_filter}
 
-module _ (s : SelectionModel) (only : List (List ℕ)) where
-  abbrev part : SelectionModel
+module _ (s : FiltersModel) (only : List (List ℕ)) where
+  abbrev part : FiltersModel
   part = narrowed s only
 
-  abbrev whole : SelectionModel
+  abbrev whole : FiltersModel
   whole = narrowed s []
 
   -- a directory that a walk of some paths goes into the walk of the whole tree goes into
@@ -74,6 +74,6 @@ module _ (s : SelectionModel) (only : List (List ℕ)) where
       (alike_below j t u alike c has (subst (In c) (sym children) has))))
 
 -- so it is of answers that are alike
-pub same_walk : (s : SelectionModel) (only : List (List ℕ)) (depth : ℕ) (top : JobModel) (t u : Tree) → AnswerAlike s only depth top t u
+pub same_walk : (s : FiltersModel) (only : List (List ℕ)) (depth : ℕ) (top : JobModel) (t u : Tree) → AnswerAlike s only depth top t u
     → part_walk s only depth top u ≡ part_walk s only depth top t
 same_walk s only depth top t u alike = same_from s only depth top t u alike

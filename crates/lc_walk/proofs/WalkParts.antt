@@ -6,7 +6,7 @@ use Rattle.std.proofs.lemmas.List.{map-append}
 use Rattle.std.proofs.lemmas.List.Sorted.{IsPermutation-refl, IsPermutation-trans, IsPermutation-append, IsPermutation-append_comm}
 use Rattle.std.proofs.lemmas.List.Sorted.{IsPermutation-append_left, IsPermutation-append_right}
 use Rattle.lc_board.proofs.Weights.{each-append}
-use Rattle.lc_walk.specs.Walk.{walks_below, walk_by}
+use Rattle.lc_walk.specs.RecursiveWalk.{walks_below, walk_by}
 
 -- two lists of two parts each, part by part
 interchange : {X : Type 0} (a b c d : List X) → IsPermutation ((a ++ b) ++ (c ++ d)) ((a ++ c) ++ (b ++ d))

@@ -20,7 +20,7 @@ use Rattle.lc_walk.specs.Tally.{TallyModel, CountedFile, StandsFor}
 use Rattle.lc_walk.specs.WorkerResults.{IsLawfulEnd, AreLawful, AreLawfulSince, HasWorked, TalliesFor, RanOutOfMemory, files_given}
 use Rattle.lc_walk.specs.WorkerResults.{returned_files}
 use Rattle.lc_walk.specs.Assembled.{IsBrokenBy}
-use Rattle.lc_walk.proofs.Fuller.{fuller_since}
+use Rattle.lc_walk.proofs.RefusedPosts.{fuller_since}
 use Rattle.lc_walk.specs.declared.broken_cause.BrokenCause.{BrokenCause}
 use Rattle.lc_walk.specs.declared.broken_cause.BrokenCause.TheVariants.{Memory, TooManyDirs, TooDeep}
 use Rattle.lc_walk.specs.declared.row.Row.{Row}

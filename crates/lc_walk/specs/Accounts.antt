@@ -6,8 +6,8 @@ use Rattle.lc_glob.specs.Path.{path_in}
 use Rattle.lc_level.specs.Answers.{Item, entry_of, name_of, Tree}
 use Rattle.lc_level.specs.FaultLines.{FaultLineModel}
 use Rattle.lc_level.specs.Job.{JobModel}
-use Rattle.lc_level.specs.Level.{by_rule}
-use Rattle.lc_level.specs.Selection.{SelectionModel}
+use Rattle.lc_level.specs.Level.{SkippedLineModel, by_rule}
+use Rattle.lc_level.specs.Filters.{FiltersModel}
 use Rattle.lc_rules.specs.IgnoreChains.{rules_in}
 use Rattle.lc_rules.specs.IgnoreLaws.{IsLastMatch}
 use Rattle.lc_rules.specs.IgnoreRules.{RuleModel}
@@ -16,10 +16,9 @@ use Rattle.lc_tree.specs.Kinds.{is_dir}
 use Rattle.lc_tree.specs.Trees.{Listings, Contents}
 use Rattle.lc_level.specs.declared.fault_word.FaultWord.TheVariants.{Absent}
 use Rattle.lc_walk.specs.FoundAt.{IsListed, LeadsTo}
-use Rattle.lc_walk.specs.ReportLines.{SkippedLineModel}
-use Rattle.lc_walk.specs.Walk.{walk_of}
+use Rattle.lc_walk.specs.RecursiveWalk.{walk_of}
 use Rattle.lc_walk.specs.WalkOptions.{asked_by}
-use Rattle.lc_walk.specs.WalkReport.{IsReportOf}
+use Rattle.lc_walk.specs.FoundReports.{IsReportOf}
 use Rattle.lc_walk.specs.Walks.{Walks}
 use Rattle.lc_walk.specs.declared.options.ReportLists.{ReportLists}
 use Rattle.lc_walk.specs.declared.options.Options.{Options}
@@ -43,15 +42,15 @@ pub record IsAccounted (only : List (List ℕ)) (r : Report) : Type 0 where
 -- so is the report of each walk that was asked for entries left out
 abbrev pub EntriesLaw : (List ℕ → Listings) → (List ℕ → Contents) → Type 0
 EntriesLaw lists gives =
-    (o : Options) (r : Report) → Walks lists gives o (Ok r) → o.lists.left_out ≡ true → IsAccounted (asked_by o).selection.only r
+    (o : Options) (r : Report) → Walks lists gives o (Ok r) → o.lists.left_out ≡ true → IsAccounted (asked_by o).filters.only r
 
 -- an entry at this path stands in a directory to which names lead, and the last rule that matches it among those that hold there
 -- ignores it, and stands in a file of this source, on the line with this number
-pub record IsIgnoredBy (selection : SelectionModel) (top : JobModel) (t : Tree) (path : List ℕ) (source : RuleSource) (line : ℕ)
+pub record IsIgnoredBy (filters : FiltersModel) (top : JobModel) (t : Tree) (path : List ℕ) (source : RuleSource) (line : ℕ)
     : Type 0 where
   pub place : List (List ℕ)
   pub job : JobModel
-  pub leads : LeadsTo selection top t place job
+  pub leads : LeadsTo filters top t place job
   pub items : List Item
   pub inside : JobModel
   pub listed : IsListed job (t place) items inside
@@ -66,7 +65,7 @@ pub record IsIgnoredBy (selection : SelectionModel) (top : JobModel) (t : Tree) 
 -- so is each entry that a report has as left out by a rule
 abbrev pub RuleLaw : Type 0
 RuleLaw =
-    (lists : ReportLists) (selection : SelectionModel) (depth : ℕ) (top : JobModel) (t : Tree) (r : Report) →
-    IsReportOf lists (walk_of selection depth top t) r →
+    (lists : ReportLists) (filters : FiltersModel) (depth : ℕ) (top : JobModel) (t : Tree) (r : Report) →
+    IsReportOf lists (walk_of filters depth top t) r →
     (entry : SkippedLineModel) (source : RuleSource) (line : ℕ) → Contains r.skipped.items entry → entry.reason ≡ by_rule source line →
-    IsIgnoredBy selection top t entry.path source line
+    IsIgnoredBy filters top t entry.path source line

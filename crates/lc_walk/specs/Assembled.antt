@@ -2,25 +2,23 @@
 use Rattle.std.specs.Prelude.{◌≡◌, ℕ, zero, suc, ◌<◌, List, [], ◌∷◌, length, map, flat_map, sum_by, slice_get, Some, Result, Ok, Err}
 use Rattle.lc_board.specs.declared.answers.Ended.{Ended}
 use Rattle.lc_walk.specs.Tally.{TallyModel}
-use Rattle.lc_walk.specs.ReportLines.{FileLineModel, SkippedLineModel}
-use Rattle.lc_level.specs.FaultLines.{FaultLineModel}
+use Rattle.lc_level.specs.FaultLines.{FaultLineModel, fault_below}
 use Rattle.lc_walk.specs.Report.{IsReport}
 use Rattle.lc_walk.specs.declared.options.ReportLists.{ReportLists}
 use Rattle.lc_walk.specs.declared.report.Report.{Report}
 use Rattle.lc_walk.specs.declared.report.findings.Findings.{Findings}
 use Rattle.lc_glob.specs.Path.{path_in}
-use Rattle.lc_level.specs.Level.{FileFaultModel}
 use Rattle.lc_walk.specs.RowViews.{ChildModel}
 use Rattle.lc_walk.specs.Rows.{row_of, job_of, children_in}
 use Rattle.lc_level.specs.SitePaths.{site_path}
-use Rattle.lc_walk.specs.WalkReport.{line_of, skipped_line}
-use Rattle.lc_walk.specs.Walked.{AreWhole}
+use Rattle.lc_walk.specs.ClosedWalks.{AreWhole}
 use Rattle.lc_walk.specs.declared.broken_cause.BrokenCause.{BrokenCause}
 use Rattle.lc_walk.specs.declared.broken_cause.BrokenCause.TheVariants.{Memory, TooManyDirs, TooDeep}
 use Rattle.lc_walk.specs.declared.row.Row.{Row}
 use Rattle.lc_walk.specs.declared.row.Row.TheVariants.{Listed, Faulted, Broken}
 use Rattle.lc_walk.specs.declared.walk_fault.WalkFault.{WalkFault}
 use Rattle.lc_walk.specs.declared.walk_fault.WalkFault.TheVariants as fault
+use Rattle.lc_level.specs.Level.{skipped_below, file_below, SkippedLineModel, FileLineModel}
 
 -- ---- what the rows themselves say
 
@@ -30,20 +28,17 @@ directories_by_row (Faulted r) = []
 directories_by_row (Broken r) = []
 
 abbrev pub files_by_row : Row → List FileLineModel
-files_by_row (Listed r) = map (line_of r.job.path) r.files
+files_by_row (Listed r) = map (file_below r.job.path) r.files
 files_by_row (Faulted r) = []
 files_by_row (Broken r) = []
 
-abbrev pub fault_line : List ℕ → FileFaultModel → FaultLineModel
-fault_line directory f = record { path = path_in directory f.name; word = f.word }
-
 abbrev pub faults_by_row : Row → List FaultLineModel
-faults_by_row (Listed r) = map (fault_line r.job.path) r.faults
+faults_by_row (Listed r) = map (fault_below r.job.path) r.faults
 faults_by_row (Faulted r) = record { path = site_path r.job.path r.site; word = r.word } ∷ []
 faults_by_row (Broken r) = []
 
 abbrev pub skipped_by_row : Row → List SkippedLineModel
-skipped_by_row (Listed r) = map (skipped_line r.job.path) r.skipped
+skipped_by_row (Listed r) = map (skipped_below r.job.path) r.skipped
 skipped_by_row (Faulted r) = []
 skipped_by_row (Broken r) = []
 

@@ -1,5 +1,5 @@
 -- The definitions of a level, computed on a small directory.
-use Rattle.std.specs.Prelude.{◌≡◌, false, [], ◌∷◌, Ok, None, map, codes}
+use Rattle.std.specs.Prelude.{◌≡◌, [], ◌∷◌, Ok, None, map, codes}
 use Rattle.lc_census.specs.declared.line_count.Count.{Count}
 use Rattle.lc_census.specs.declared.line_count.Eol.TheVariants.{Lf}
 use Rattle.lc_level.specs.Answers.{file_item, directory_item, other_item, Answers}
@@ -7,16 +7,12 @@ use Rattle.lc_rules.specs.IgnoreChains.{no_ignore_files}
 use Rattle.lc_tree.specs.declared.entry.OtherKind.TheVariants.{Special}
 use Rattle.lc_walk.specs.Found.{children_at}
 use Rattle.lc_level.specs.Job.{JobModel}
-use Rattle.lc_level.specs.Selection.{SelectionModel, selection_of}
+use Rattle.lc_level.specs.Filters.{no_filters}
 use Rattle.lc_walk.specs.Lawful.{files_at}
 
 -- the census of an empty file with one line
 abbrev pub one_line : Count
 one_line = record { lines = 1; blank = 1; bytes = 1; eol = Lf }
-
--- the selection by which no attribute leaves anything out
-abbrev pub as_it_is : SelectionModel
-as_it_is = selection_of false []
 
 abbrev pub example_top : JobModel
 example_top = record { path = []; ignore = no_ignore_files; attributes = record { tree = []; info = None } }
@@ -36,5 +32,5 @@ small_directory = record {
 
 -- the rules of the directory's own file go before those of `.git/info`, and nothing of `.git` is counted
 pub record WalkExamplesHold : Type 0 where
-  pub counted : map (λ f. f.name) (files_at as_it_is example_top small_directory) ≡ codes ".gitignore" ∷ codes "c" ∷ []
-  pub below : map (λ c. c.0) (children_at as_it_is example_top small_directory) ≡ codes "d" ∷ []
+  pub counted : map (λ f. f.path) (files_at no_filters example_top small_directory) ≡ codes ".gitignore" ∷ codes "c" ∷ []
+  pub below : map (λ c. c.0) (children_at no_filters example_top small_directory) ≡ codes "d" ∷ []

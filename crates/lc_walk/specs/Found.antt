@@ -6,31 +6,32 @@ use Rattle.lc_level.specs.declared.fault_word.FaultWord.TheVariants.{Absent}
 use Rattle.lc_glob.specs.Path.{path_in}
 use Rattle.lc_level.specs.Answers.{Answers}
 use Rattle.lc_level.specs.Job.{JobModel}
-use Rattle.lc_level.specs.Level.{CountedModel, SkippedModel, Fate, counted, failed, walked, skipped, Level, faulted_level, listed_level}
+use Rattle.lc_level.specs.Level.{FileLineModel, SkippedLineModel, Fate, counted, failed, walked, skipped, Level}
+use Rattle.lc_level.specs.Level.{faulted_level, listed_level}
 use Rattle.lc_level.specs.Level.{level, walked_in}
-use Rattle.lc_level.specs.Selection.{SelectionModel}
+use Rattle.lc_level.specs.Filters.{FiltersModel}
 
 -- a counted file of the directory at a path, a fault at a path, a listed directory at a path with the number of its entries that take
 -- part, an entry left out of the directory at a path
 pub data Found : Type 0 where
-  found_file : (directory : List ℕ) → CountedModel → Found
+  found_file : (directory : List ℕ) → FileLineModel → Found
   found_fault : (path : List ℕ) → FaultWord → Found
   found_directory : (path : List ℕ) → (entries : ℕ) → Found
-  found_skipped : (directory : List ℕ) → SkippedModel → Found
+  found_skipped : (directory : List ℕ) → SkippedLineModel → Found
 
 -- by the fate of an entry of the directory at a path; what a child directory gives is found in its own level
 abbrev pub found_by : List ℕ → List ℕ × Fate → List Found
 found_by directory (name, counted file) = found_file directory file ∷ []
 found_by directory (name, failed word) = found_fault (path_in directory name) word ∷ []
 found_by directory (name, walked job) = []
-found_by directory (name, skipped kind reason) = found_skipped directory (record { name = name; kind = kind; reason = reason }) ∷ []
+found_by directory (name, skipped kind reason) = found_skipped directory (record { path = name; kind = kind; reason = reason }) ∷ []
 
 -- where it stands
 abbrev pub path_of : Found → List ℕ
-path_of (found_file directory f) = path_in directory f.name
+path_of (found_file directory f) = path_in directory f.path
 path_of (found_fault path word) = path
 path_of (found_directory path entries) = path
-path_of (found_skipped directory l) = path_in directory l.name
+path_of (found_skipped directory l) = path_in directory l.path
 
 -- a path that is asked for and absent, seen from the directory at a path
 abbrev pub found_absent : List ℕ → List ℕ → Found
@@ -46,8 +47,8 @@ children_of (faulted_level path word) = []
 children_of (listed_level fates absent) = walked_in fates
 
 -- what a directory of these answers gives
-abbrev pub found_at : SelectionModel → JobModel → Answers → List Found
-found_at selection j a = found_of j (level selection j a)
+abbrev pub found_at : FiltersModel → JobModel → Answers → List Found
+found_at filters j a = found_of j (level filters j a)
 
-abbrev pub children_at : SelectionModel → JobModel → Answers → List (List ℕ × JobModel)
-children_at selection j a = children_of (level selection j a)
+abbrev pub children_at : FiltersModel → JobModel → Answers → List (List ℕ × JobModel)
+children_at filters j a = children_of (level filters j a)

@@ -7,10 +7,10 @@ use Rattle.lc_level.specs.Job.{JobModel}
 use Rattle.lc_level.specs.Level.{Fate, counted, failed, skipped, faulted_level, level, fate_of, is_taken, child_job}
 use Rattle.lc_level.specs.Narrowing.{part_of, absent_from}
 use Rattle.lc_level.specs.RuleFiles.{RuleBytes, rule_bytes, extended}
-use Rattle.lc_level.specs.Selection.{SelectionModel}
+use Rattle.lc_level.specs.Filters.{FiltersModel}
 use Rattle.lc_level.specs.declared.fault_word.FaultWord.TheVariants.{Absent}
 use Rattle.lc_walk.specs.Found.{Found, found_file, found_fault, found_directory, found_skipped}
-use Rattle.lc_walk.specs.Walk.{walk_of}
+use Rattle.lc_walk.specs.RecursiveWalk.{walk_of}
 
 -- the directory of a job is listed without a fault, and so are its rule files read: its items, and its job with these files
 pub record IsListed (j : JobModel) (a : Answers) (items : List Item) (inside : JobModel) : Type 0 where
@@ -19,21 +19,21 @@ pub record IsListed (j : JobModel) (a : Answers) (items : List Item) (inside : J
   pub read : rule_bytes j.ignore.no_ignore j.path items a ≡ Ok bytes
   pub is : inside ≡ extended j bytes
 
-module _ (selection : SelectionModel) where
+module _ (filters : FiltersModel) where
   -- so many of its entries take part
   pub record HasEntries (j : JobModel) (a : Answers) (entries : ℕ) : Type 0 where
     pub items : List Item
     pub inside : JobModel
     pub listed : IsListed j a items inside
-    pub many : entries ≡ length (part_of selection.only j.path items)
+    pub many : entries ≡ length (part_of filters.only j.path items)
 
   -- it has a directory of this name that takes part, which is not `.git`, which the last rule that matches it does not ignore, and
-  -- which the selection does not leave out
+  -- which the filters does not leave out
   pub record WalksInto (j : JobModel) (a : Answers) (name : List ℕ) (inside : JobModel) : Type 0 where
     pub items : List Item
     pub listed : IsListed j a items inside
-    pub has : Contains (part_of selection.only j.path items) (directory_item name)
-    pub taken : is_taken selection inside name true ≡ true
+    pub has : Contains (part_of filters.only j.path items) (directory_item name)
+    pub taken : is_taken filters inside name true ≡ true
 
   -- each directory down these names leaves in the next; the job of the last
   abbrev pub LeadsTo : JobModel → Tree → List (List ℕ) → JobModel → Type 0
@@ -41,33 +41,33 @@ module _ (selection : SelectionModel) where
   LeadsTo j t (name ∷ place) k =
       (inside : JobModel) × WalksInto j (t []) name inside × LeadsTo (child_job inside name) (λ p. t (name ∷ p)) place k
 
-  -- it has an entry of this name that takes part, whose fate is this under its rule files and the selection
+  -- it has an entry of this name that takes part, whose fate is this under its rule files and the filters
   pub record HasEntry (j : JobModel) (a : Answers) (name : List ℕ) (fate : Fate) : Type 0 where
     pub items : List Item
     pub inside : JobModel
     pub listed : IsListed j a items inside
     pub item : Item
-    pub has : Contains (part_of selection.only j.path items) item
+    pub has : Contains (part_of filters.only j.path items) item
     pub named : name_of item ≡ name
-    pub fate_is : fate_of selection inside item ≡ fate
+    pub fate_is : fate_of filters inside item ≡ fate
 
   -- a path is asked for that stands below it, seen from it, and none of its entries leads there
   pub record HasAbsent (j : JobModel) (a : Answers) (rest : List ℕ) : Type 0 where
     pub items : List Item
     pub inside : JobModel
     pub listed : IsListed j a items inside
-    pub absent : Contains (absent_from selection.only j.path items) rest
+    pub absent : Contains (absent_from filters.only j.path items) rest
 
   -- what a directory gives: itself with the number of its entries that take part; its counted files; the faults of its files, of itself,
   -- or of what is absent; what is left out of it
   abbrev pub Gives : JobModel → Answers → Found → Type 0
   Gives j a (found_directory path entries) = (path ≡ j.path) × HasEntries j a entries
-  Gives j a (found_file directory f) = (directory ≡ j.path) × HasEntry j a f.name (counted f)
+  Gives j a (found_file directory f) = (directory ≡ j.path) × HasEntry j a f.path (counted f)
   Gives j a (found_fault path word) =
-      (level selection j a ≡ faulted_level path word)
+      (level filters j a ≡ faulted_level path word)
       ⊎ ((name : List ℕ) × (path ≡ path_in j.path name) × HasEntry j a name (failed word))
       ⊎ ((rest : List ℕ) × (path ≡ path_in j.path rest) × (word ≡ Absent) × HasAbsent j a rest)
-  Gives j a (found_skipped directory l) = (directory ≡ j.path) × HasEntry j a l.name (skipped l.kind l.reason)
+  Gives j a (found_skipped directory l) = (directory ≡ j.path) × HasEntry j a l.path (skipped l.kind l.reason)
 
   -- a directory that such names lead to gives it
   pub record IsFoundIn (depth : ℕ) (top : JobModel) (t : Tree) (x : Found) : Type 0 where
@@ -80,6 +80,6 @@ module _ (selection : SelectionModel) where
 -- what the recursive walk of a tree finds is this, and nothing else
 abbrev pub FoundLaw : Type 0
 FoundLaw =
-    (selection : SelectionModel) (depth : ℕ) (top : JobModel) (t : Tree) (x : Found) →
-    (Contains (walk_of selection depth top t) x → IsFoundIn selection depth top t x)
-    × (IsFoundIn selection depth top t x → Contains (walk_of selection depth top t) x)
+    (filters : FiltersModel) (depth : ℕ) (top : JobModel) (t : Tree) (x : Found) →
+    (Contains (walk_of filters depth top t) x → IsFoundIn filters depth top t x)
+    × (IsFoundIn filters depth top t x → Contains (walk_of filters depth top t) x)

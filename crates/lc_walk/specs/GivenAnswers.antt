@@ -2,36 +2,36 @@
 use Rattle.std.specs.Prelude.{ℕ, ◌≤◌, List, Ok}
 use Rattle.lc_level.specs.Answers.{Tree}
 use Rattle.lc_level.specs.Job.{JobModel}
-use Rattle.lc_level.specs.Selection.{SelectionModel}
+use Rattle.lc_level.specs.Filters.{FiltersModel}
 use Rattle.lc_level.specs.TreeAnswers.{MayAnswer}
 use Rattle.lc_level.specs.WellFormed.{IsWellFormed}
 use Rattle.lc_tree.specs.Trees.{Listings, Contents}
 use Rattle.lc_walk.specs.FoundAt.{LeadsTo}
-use Rattle.lc_walk.specs.Walk.{walk_of}
+use Rattle.lc_walk.specs.RecursiveWalk.{walk_of}
 use Rattle.lc_walk.specs.WalkOptions.{asked_by, top_of}
-use Rattle.lc_walk.specs.WalkReport.{IsReportOf}
+use Rattle.lc_walk.specs.FoundReports.{IsReportOf}
 use Rattle.lc_walk.specs.Walks.{Walks}
 use Rattle.lc_walk.specs.declared.options.Options.{Options}
 use Rattle.lc_walk.specs.declared.report.Report.{Report}
 
 -- each directory to which names lead has a listing that is one
-abbrev pub HasListings : SelectionModel → JobModel → Tree → Type 0
-HasListings selection j t = (place : List (List ℕ)) (k : JobModel) → LeadsTo selection j t place k → IsWellFormed (t place)
+abbrev pub HasListings : FiltersModel → JobModel → Tree → Type 0
+HasListings filters j t = (place : List (List ℕ)) (k : JobModel) → LeadsTo filters j t place k → IsWellFormed (t place)
 
 -- and answers that a tree may give, whose listings and files may be these
-abbrev pub IsGiven : (List ℕ → Listings) → (List ℕ → Contents) → SelectionModel → JobModel → Tree → Type 0
-IsGiven lists gives selection j t =
-    (place : List (List ℕ)) (k : JobModel) → LeadsTo selection j t place k → MayAnswer lists gives k.path (t place)
+abbrev pub IsGiven : (List ℕ → Listings) → (List ℕ → Contents) → FiltersModel → JobModel → Tree → Type 0
+IsGiven lists gives filters j t =
+    (place : List (List ℕ)) (k : JobModel) → LeadsTo filters j t place k → MayAnswer lists gives k.path (t place)
 
 -- the report of a walk by these options, where each directory answers as `t` does
 abbrev pub IsReportBy : Tree → Options → Report → Type 0
-IsReportBy t o r = (depth : ℕ) → o.max_dirs ≤ depth → IsReportOf o.lists (walk_of (asked_by o).selection depth (top_of o) t) r
+IsReportBy t o r = (depth : ℕ) → o.max_dirs ≤ depth → IsReportOf o.lists (walk_of (asked_by o).filters depth (top_of o) t) r
 
 -- it is the report by some answers that the tree may give
 pub record IsByAnswers (lists : List ℕ → Listings) (gives : List ℕ → Contents) (o : Options) (r : Report) : Type 0 where
   pub answers : Tree
-  pub listings : HasListings (asked_by o).selection (top_of o) answers
-  pub given : IsGiven lists gives (asked_by o).selection (top_of o) answers
+  pub listings : HasListings (asked_by o).filters (top_of o) answers
+  pub given : IsGiven lists gives (asked_by o).filters (top_of o) answers
   pub report : IsReportBy answers o r
 
 -- so is each report of a walk

@@ -1,29 +1,29 @@
 -- What a walk of included files finds, by what the walk of all files finds.
-use Rattle.std.specs.Prelude.{◌≡◌, ℕ, Bool, List, [], ◌∷◌, filter, Option, None}
+use Rattle.std.specs.Prelude.{◌≡◌, ℕ, Bool, List, [], ◌∷◌, filter, Option, None, option_map}
 use Rattle.std.specs.List.{flat_map}
 use Rattle.lc_glob.specs.Path.{path_in}
 use Rattle.lc_level.specs.Answers.{Tree}
 use Rattle.lc_level.specs.Job.{JobModel}
-use Rattle.lc_level.specs.Level.{CountedModel}
-use Rattle.lc_level.specs.Selection.{SelectionModel, including, is_included, patterns_for}
-use Rattle.lc_rules.specs.IgnoreRules.{RuleModel}
+use Rattle.lc_level.specs.Level.{FileLineModel}
+use Rattle.lc_level.specs.Filters.{FiltersModel, including, is_included, patterns_for}
+use Rattle.lc_rules.specs.IgnoreRules.{RuleModel, rules_of}
 use Rattle.lc_walk.specs.Found.{Found, found_file, found_fault, found_directory, found_skipped}
-use Rattle.lc_walk.specs.Walk.{walk_of}
-use Rattle.lc_walk.specs.WalkReport.{directories_of}
+use Rattle.lc_walk.specs.RecursiveWalk.{walk_of}
+use Rattle.lc_walk.specs.FoundReports.{directories_of}
 
 -- the counted files, each with its directory
-abbrev pub counted_in : Found → List (List ℕ × CountedModel)
+abbrev pub counted_in : Found → List (List ℕ × FileLineModel)
 counted_in (found_file directory f) = (directory, f) ∷ []
 counted_in (found_fault path word) = []
 counted_in (found_directory path entries) = []
 counted_in (found_skipped directory l) = []
 
-abbrev pub counted_of : List Found → List (List ℕ × CountedModel)
+abbrev pub counted_of : List Found → List (List ℕ × FileLineModel)
 counted_of xs = flat_map counted_in xs
 
 -- whether patterns include one of them
-abbrev pub includes : Option (List RuleModel) → List ℕ × CountedModel → Bool
-includes patterns file = is_included (patterns_for patterns file.0) (path_in file.0 file.1.name)
+abbrev pub includes : Option (List RuleModel) → List ℕ × FileLineModel → Bool
+includes patterns file = is_included (patterns_for patterns file.0) (path_in file.0 file.1.path)
 
 -- of the counted files of all those that are included, in the same order, and the same directories
 pub record IsIncludedPart (patterns : Option (List RuleModel)) (all part : List Found) : Type 0 where
@@ -33,5 +33,6 @@ pub record IsIncludedPart (patterns : Option (List RuleModel)) (all part : List 
 -- so it is of each walk
 abbrev pub IncludeLaw : Type 0
 IncludeLaw =
-    (s : SelectionModel) (patterns : Option (List RuleModel)) (depth : ℕ) (top : JobModel) (t : Tree)
-    → IsIncludedPart patterns (walk_of (including s None) depth top t) (walk_of (including s patterns) depth top t)
+    (filters : FiltersModel) (patterns : Option (List ℕ)) (depth : ℕ) (top : JobModel) (t : Tree)
+    → IsIncludedPart (option_map rules_of patterns) (walk_of (including filters None) depth top t)
+    (walk_of (including filters patterns) depth top t)

@@ -8,9 +8,9 @@ use Rattle.lc_board.specs.declared.answers.Ended.TheVariants as ended
 use Rattle.lc_level.specs.Answers.{Answers}
 use Rattle.lc_level.specs.WellFormed.{IsWellFormed}
 use Rattle.lc_level.specs.Job.{JobModel}
-use Rattle.lc_level.specs.Level.{CountedModel, Fate, Level, faulted_level, listed_level, level, absent_faults, counted_in, failed_in}
+use Rattle.lc_level.specs.Level.{FileLineModel, Fate, Level, faulted_level, listed_level, level, absent_faults, counted_in, failed_in}
 use Rattle.lc_level.specs.Level.{walked_in, skipped_in}
-use Rattle.lc_level.specs.Selection.{SelectionModel}
+use Rattle.lc_level.specs.Filters.{FiltersModel}
 use Rattle.lc_walk.specs.Found.{children_at}
 use Rattle.lc_level.specs.Deep.{has_too_deep}
 use Rattle.lc_walk.specs.RowViews.{ChildModel, ListedRowModel}
@@ -27,15 +27,15 @@ use Rattle.lc_walk.specs.declared.row.Row.TheVariants.{Listed, Faulted, Broken}
 -- what was asked of a walk: the lists of its report, and what decides beside the rules which entries are left out
 pub record Asked : Type 0 where
   pub lists : ReportLists
-  pub selection : SelectionModel
+  pub filters : FiltersModel
 
-abbrev pub counted_files : Level → List CountedModel
+abbrev pub counted_files : Level → List FileLineModel
 counted_files (faulted_level path word) = []
 counted_files (listed_level fates absent) = counted_in fates
 
 -- the counted files of a directory of these answers
-abbrev pub files_at : SelectionModel → JobModel → Answers → List CountedModel
-files_at selection j a = counted_files (level selection j a)
+abbrev pub files_at : FiltersModel → JobModel → Answers → List FileLineModel
+files_at filters j a = counted_files (level filters j a)
 
 -- the jobs, of children or of posts
 abbrev pub jobs_of : {A : Type 0} → List (A × JobModel) → List JobModel
@@ -52,30 +52,30 @@ named (c ∷ cs) (p ∷ ps) = record { name = c.0; number = p.0 } ∷ named cs p
 pub record SaysListed (ask : Asked) (r : ListedRowModel) (a : Answers) (posts : List (ℕ × JobModel)) : Type 0 where
   pub fates : List (List ℕ × Fate)
   pub absent : List (List ℕ)
-  pub level_is : level ask.selection r.job a ≡ listed_level fates absent
+  pub level_is : level ask.filters r.job a ≡ listed_level fates absent
   pub entries_are : r.entries ≡ length fates
   pub files_are : r.files ≡ (if ask.lists.files then counted_in fates else [])
   pub faults_are : r.faults ≡ absent_faults absent ++ failed_in fates
   pub skipped_are : r.skipped ≡ (if ask.lists.left_out then skipped_in fates else [])
   pub posts_are : jobs_of posts ≡ jobs_of (walked_in fates)
   pub children_are : r.children ≡ named (walked_in fates) posts
-  pub shallow : has_too_deep ask.selection r.job a ≡ false
+  pub shallow : has_too_deep ask.filters r.job a ≡ false
 
 -- a directory at fault: nothing was posted
 pub record SaysFaulted (ask : Asked) (r : FaultedRow) (a : Answers) (posts : List (ℕ × JobModel)) : Type 0 where
-  pub level_is : level ask.selection r.job a ≡ faulted_level (site_path r.job.path r.site) r.word
+  pub level_is : level ask.filters r.job a ≡ faulted_level (site_path r.job.path r.site) r.word
   pub posts_are : posts ≡ []
 
 -- why a directory was broken off, by what was posted; `full` says whether a post of the row's pass was answered Full
 abbrev pub IsCause : Asked → Bool → JobModel → Answers → List (ℕ × JobModel) → BrokenCause → Type 0
 IsCause ask full j a posts Memory = Unit {0}
-IsCause ask full j a posts TooManyDirs = (full ≡ true) × (length posts < length (children_at ask.selection j a))
-IsCause ask full j a posts TooDeep = has_too_deep ask.selection j a ≡ true
+IsCause ask full j a posts TooManyDirs = (full ≡ true) × (length posts < length (children_at ask.filters j a))
+IsCause ask full j a posts TooDeep = has_too_deep ask.filters j a ≡ true
 
 -- a directory that was broken off: the first of its children were posted
 pub record SaysBroken (ask : Asked) (full : Bool) (r : BrokenRow) (a : Answers) (posts : List (ℕ × JobModel)) : Type 0 where
   pub posted : ℕ
-  pub posts_are : jobs_of posts ≡ take posted (jobs_of (children_at ask.selection r.job a))
+  pub posts_are : jobs_of posts ≡ take posted (jobs_of (children_at ask.filters r.job a))
   pub cause_is : IsCause ask full r.job a posts r.cause
 
 -- a Faulted row is given by Fault, the others by Return

@@ -9,15 +9,15 @@ use Rattle.lc_tree.specs.Paths.{names_of_path}
 use Rattle.lc_level.specs.Answers.{Answers, no_answers, Tree}
 use Rattle.lc_level.specs.Job.{JobModel}
 use Rattle.lc_level.specs.Level.{level}
-use Rattle.lc_level.specs.Selection.{SelectionModel}
+use Rattle.lc_level.specs.Filters.{FiltersModel}
 use Rattle.lc_walk.specs.Found.{path_of, children_at}
-use Rattle.lc_walk.specs.Walk.{walk_by, walk_of}
+use Rattle.lc_walk.specs.RecursiveWalk.{walk_by, walk_of}
 use Rattle.lc_walk.specs.Rows.{row_of, job_of}
 use Rattle.lc_tree.specs.ByteOrder.{AreApart}
 use Rattle.lc_walk.specs.Lawful.{Asked, IsLawful}
 use Rattle.lc_level.specs.WellFormed.{IsWellFormed}
 use Rattle.lc_walk.specs.TreeOfRows.{tree_from, children_by_rows, tree_of_rows, numbers_below}
-use Rattle.lc_walk.specs.Walked.{Walked, AreWhole, rows_found}
+use Rattle.lc_walk.specs.ClosedWalks.{Walked, AreWhole, rows_found}
 use Rattle.lc_walk.specs.declared.row.Row.{Row}
 
 -- what a walk of the tree of rows finds is what the rows found, for every depth that the capacity allows
@@ -26,12 +26,12 @@ CoreLaw =
     (ask : Asked) (full : Bool) (capacity workers : ℕ) (top : JobModel)
     (h : List (Event JobModel Row)) (rows : List (Ended Row)) (answers : ℕ → Answers) →
     Walked ask full capacity workers top h rows answers → AreWhole rows → (depth : ℕ) → capacity ≤ depth →
-    IsPermutation (walk_of ask.selection depth top (tree_of_rows rows answers)) (rows_found ask rows answers)
+    IsPermutation (walk_of ask.filters depth top (tree_of_rows rows answers)) (rows_found ask rows answers)
 
 -- a walk of that tree that notes each directory's number
 abbrev pub walk_numbers : Asked → ℕ → JobModel → List (Ended Row) → (ℕ → Answers) → List ℕ
 walk_numbers ask depth top rows answers =
-    walk_by (λ j (a : ℕ × Answers). a.0 ∷ []) (λ j (a : ℕ × Answers). children_at ask.selection j a.1) depth top
+    walk_by (λ j (a : ℕ × Answers). a.0 ∷ []) (λ j (a : ℕ × Answers). children_at ask.filters j a.1) depth top
     (tree_from (0, no_answers) (λ i. (i, answers i)) (children_by_rows rows) 0)
 
 -- each number stands once in the tree of rows
@@ -50,10 +50,10 @@ OneAnswerLaw =
     (h : List (Event JobModel Row)) (rows : List (Ended Row)) (answers : ℕ → Answers) →
     Walked ask full capacity workers top h rows answers → AreWhole rows → top.path ≡ [] →
     ((i : ℕ) (e : Ended Row) → slice_get rows i ≡ Some e →
-    level ask.selection (job_of (row_of e)) (answers i)
-    ≡ level ask.selection (job_of (row_of e)) (t (names_of_path (job_of (row_of e)).path))) →
+    level ask.filters (job_of (row_of e)) (answers i)
+    ≡ level ask.filters (job_of (row_of e)) (t (names_of_path (job_of (row_of e)).path))) →
     (depth : ℕ) → capacity ≤ depth →
-    IsPermutation (walk_of ask.selection depth top t) (rows_found ask rows answers)
+    IsPermutation (walk_of ask.filters depth top t) (rows_found ask rows answers)
 
 -- a row that is lawful in a worker's part is lawful in the whole history
 abbrev pub PartLaw : Type 0
@@ -64,5 +64,5 @@ PartLaw =
 -- no path stands twice in what a walk of a tree with well-formed listings finds: files, faults, directories and entries left out
 abbrev pub PathsOnceLaw : Type 0
 PathsOnceLaw =
-    (selection : SelectionModel) (depth : ℕ) (j : JobModel) (t : Tree) → ((place : List (List ℕ)) → IsWellFormed (t place)) →
-    AreApart (map path_of (walk_of selection depth j t))
+    (filters : FiltersModel) (depth : ℕ) (j : JobModel) (t : Tree) → ((place : List (List ℕ)) → IsWellFormed (t place)) →
+    AreApart (map path_of (walk_of filters depth j t))

@@ -25,12 +25,12 @@ pub mod Sums
 pub mod Tally
 pub mod TallyRows
 pub mod TreeOfRows
-pub mod Walk
-pub mod WalkAnswers
-pub mod WalkOn
+pub mod RecursiveWalk
+pub mod BoardAnswers
+pub mod CloseFaults
 pub mod WalkOptions
-pub mod WalkReport
-pub mod Walked
+pub mod FoundReports
+pub mod ClosedWalks
 pub mod Walks
 pub mod WorkerResults
 pub mod IncludedFiles

@@ -4,25 +4,25 @@ use Rattle.lc_board.specs.ClosedBoard.{Promises}
 use Rattle.lc_level.specs.Job.{JobModel}
 use Rattle.lc_level.specs.NodeTrees.{tree_of_node}
 use Rattle.lc_level.specs.OneAnswer.{FitsMemory}
-use Rattle.lc_level.specs.Selection.{SelectionModel}
+use Rattle.lc_level.specs.Filters.{FiltersModel}
 use Rattle.lc_level.specs.TreeAnswers.{MayAnswer}
 use Rattle.lc_tree.specs.MemTrees.{mem_lists, mem_gives}
 use Rattle.lc_tree.specs.declared.node.Node.{Node}
 use Rattle.lc_walk.specs.Lawful.{Asked}
-use Rattle.lc_walk.specs.Walk.{walk_of}
-use Rattle.lc_walk.specs.WalkAnswers.{IsOneAnswer, WalkAnswers}
-use Rattle.lc_walk.specs.WalkReport.{IsReportOf}
+use Rattle.lc_walk.specs.RecursiveWalk.{walk_of}
+use Rattle.lc_walk.specs.BoardAnswers.{IsOneAnswer, WalkAnswers}
+use Rattle.lc_walk.specs.FoundReports.{IsReportOf}
 use Rattle.lc_walk.specs.declared.report.Report.{Report}
 
 -- a tree of memory answers as the one tree that its node stands for
 abbrev pub NodeOneAnswerLaw : Type 0
 NodeOneAnswerLaw =
-    (top : Node) → FitsMemory top → (selection : SelectionModel) (job : JobModel) →
-    IsOneAnswer selection (MayAnswer (mem_lists top) (mem_gives top)) job (tree_of_node top)
+    (top : Node) → FitsMemory top → (filters : FiltersModel) (job : JobModel) →
+    IsOneAnswer filters (MayAnswer (mem_lists top) (mem_gives top)) job (tree_of_node top)
 
 -- the report of its walk, for which it may have answered in any way that it may, is that of the recursive walk of that one tree
 abbrev pub NodeReportLaw : Type 0
 NodeReportLaw =
     (top : Node) → FitsMemory top → (ask : Asked) (capacity workers : ℕ) (job : JobModel) (promises : Promises) (r : Report) →
     WalkAnswers (MayAnswer (mem_lists top) (mem_gives top)) ask capacity workers job promises (Ok r) → promises.keeps ≡ true →
-    (depth : ℕ) → capacity ≤ depth → IsReportOf ask.lists (walk_of ask.selection depth job (tree_of_node top)) r
+    (depth : ℕ) → capacity ≤ depth → IsReportOf ask.lists (walk_of ask.filters depth job (tree_of_node top)) r

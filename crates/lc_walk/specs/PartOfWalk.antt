@@ -5,8 +5,8 @@ use Rattle.lc_glob.specs.Bytes.{slash}
 use Rattle.lc_glob.specs.Path.{path_in, is_good_path}
 use Rattle.lc_level.specs.Answers.{Tree}
 use Rattle.lc_level.specs.Job.{JobModel}
-use Rattle.lc_level.specs.Level.{CountedModel, SkippedModel, faulted_level, level}
-use Rattle.lc_level.specs.Selection.{SelectionModel, narrowed}
+use Rattle.lc_level.specs.Level.{FileLineModel, SkippedLineModel, faulted_level, level}
+use Rattle.lc_level.specs.Filters.{FiltersModel, narrowed}
 use Rattle.lc_level.specs.WellFormed.{IsWellFormed}
 use Rattle.lc_tree.specs.Kinds.{is_dir}
 use Rattle.lc_tree.specs.declared.entry.Kind.{Kind}
@@ -15,7 +15,7 @@ use Rattle.lc_level.specs.declared.fault_word.FaultWord.TheVariants.{Absent}
 use Rattle.lc_walk.specs.Found.{Found, found_file, found_fault, found_directory, found_skipped}
 use Rattle.lc_walk.specs.FoundAt.{LeadsTo}
 use Rattle.lc_walk.specs.GivenAnswers.{HasListings}
-use Rattle.lc_walk.specs.Walk.{walk_of}
+use Rattle.lc_walk.specs.RecursiveWalk.{walk_of}
 
 -- a path stands below another
 abbrev pub IsBelow : List ℕ → List ℕ → Type 0
@@ -42,34 +42,34 @@ module _ (only : List (List ℕ)) where
 abbrev pub ListsPath : List Found → List ℕ → Type 0
 ListsPath xs path = (entries : ℕ) × Contains xs (found_directory path entries)
 
-module _ (selection : SelectionModel) (only : List (List ℕ)) (depth : ℕ) (top : JobModel) (t : Tree) where
+module _ (filters : FiltersModel) (only : List (List ℕ)) (depth : ℕ) (top : JobModel) (t : Tree) where
   -- what is found in the whole tree, and of these paths
   abbrev pub whole_walk : List Found
-  whole_walk = walk_of (narrowed selection []) depth top t
+  whole_walk = walk_of (narrowed filters []) depth top t
 
   abbrev pub part_walk : List Found
-  part_walk = walk_of (narrowed selection only) depth top t
+  part_walk = walk_of (narrowed filters only) depth top t
 
   -- a directory that is on the way is at fault, or one of its rule files is
   pub record IsFaultOnWay (path : List ℕ) (word : FaultWord) : Type 0 where
     pub place : List (List ℕ)
     pub shallow : length place < depth
     pub job : JobModel
-    pub leads : LeadsTo (narrowed selection []) top t place job
+    pub leads : LeadsTo (narrowed filters []) top t place job
     pub on_way : IsOnWay only job.path
-    pub fault : level (narrowed selection []) job (t place) ≡ faulted_level path word
+    pub fault : level (narrowed filters []) job (t place) ≡ faulted_level path word
 
   -- of the whole the part has the counted files that stand within, the entries left out that take part, the directories on the way, and
   -- the faults within or of directories on the way, and all of these; each other fault is of a path that is asked for and absent
   pub record IsPartOfWalk (part : List Found) : Type 0 where
-    pub file : (directory : List ℕ) (f : CountedModel) → Contains part (found_file directory f) →
-        Contains whole_walk (found_file directory f) × IsWithin only (path_in directory f.name)
-    pub has_file : (directory : List ℕ) (f : CountedModel) → Contains whole_walk (found_file directory f) →
-        IsWithin only (path_in directory f.name) → Contains part (found_file directory f)
-    pub skipped : (directory : List ℕ) (l : SkippedModel) → Contains part (found_skipped directory l) →
-        Contains whole_walk (found_skipped directory l) × EntryTakesPart only l.kind (path_in directory l.name)
-    pub has_skipped : (directory : List ℕ) (l : SkippedModel) → Contains whole_walk (found_skipped directory l) →
-        EntryTakesPart only l.kind (path_in directory l.name) → Contains part (found_skipped directory l)
+    pub file : (directory : List ℕ) (f : FileLineModel) → Contains part (found_file directory f) →
+        Contains whole_walk (found_file directory f) × IsWithin only (path_in directory f.path)
+    pub has_file : (directory : List ℕ) (f : FileLineModel) → Contains whole_walk (found_file directory f) →
+        IsWithin only (path_in directory f.path) → Contains part (found_file directory f)
+    pub skipped : (directory : List ℕ) (l : SkippedLineModel) → Contains part (found_skipped directory l) →
+        Contains whole_walk (found_skipped directory l) × EntryTakesPart only l.kind (path_in directory l.path)
+    pub has_skipped : (directory : List ℕ) (l : SkippedLineModel) → Contains whole_walk (found_skipped directory l) →
+        EntryTakesPart only l.kind (path_in directory l.path) → Contains part (found_skipped directory l)
     pub directory : (path : List ℕ) → ListsPath part path → ListsPath whole_walk path × IsOnWay only path
     pub has_directory : (path : List ℕ) → ListsPath whole_walk path → IsOnWay only path → ListsPath part path
     pub fault : (path : List ℕ) (word : FaultWord) → Contains part (found_fault path word) →
@@ -82,20 +82,20 @@ module _ (selection : SelectionModel) (only : List (List ℕ)) (depth : ℕ) (to
   -- latter one level: they may differ in what it doesn't read, as in a file that is left out
   abbrev pub AnswerAlike : Tree → Type 0
   AnswerAlike u =
-      (place : List (List ℕ)) (k : JobModel) → LeadsTo (narrowed selection []) top t place k
-      → LeadsTo (narrowed selection only) top u place k
-      → level (narrowed selection only) k (u place) ≡ level (narrowed selection only) k (t place)
+      (place : List (List ℕ)) (k : JobModel) → LeadsTo (narrowed filters []) top t place k
+      → LeadsTo (narrowed filters only) top u place k
+      → level (narrowed filters only) k (u place) ≡ level (narrowed filters only) k (t place)
 
 -- so it is of two such walks, for some paths that entries can have
 abbrev pub TwoWalksLaw : Type 0
 TwoWalksLaw =
-    (selection : SelectionModel) (only : List (List ℕ)) → only ≢ [] → AllByRecursion (λ path. is_good_path path ≡ true) only →
-    (depth : ℕ) (top : JobModel) (t u : Tree) → top.path ≡ [] → HasListings (narrowed selection []) top t →
-    AnswerAlike selection only depth top t u → IsPartOfWalk selection only depth top t (part_walk selection only depth top u)
+    (filters : FiltersModel) (only : List (List ℕ)) → only ≢ [] → AllByRecursion (λ path. is_good_path path ≡ true) only →
+    (depth : ℕ) (top : JobModel) (t u : Tree) → top.path ≡ [] → HasListings (narrowed filters []) top t →
+    AnswerAlike filters only depth top t u → IsPartOfWalk filters only depth top t (part_walk filters only depth top u)
 
 -- and of each tree with well-formed listings
 abbrev pub PartOfWalkLaw : Type 0
 PartOfWalkLaw =
-    (selection : SelectionModel) (only : List (List ℕ)) → only ≢ [] → AllByRecursion (λ path. is_good_path path ≡ true) only →
+    (filters : FiltersModel) (only : List (List ℕ)) → only ≢ [] → AllByRecursion (λ path. is_good_path path ≡ true) only →
     (depth : ℕ) (top : JobModel) (t : Tree) → top.path ≡ [] → ((place : List (List ℕ)) → IsWellFormed (t place)) →
-    IsPartOfWalk selection only depth top t (part_walk selection only depth top t)
+    IsPartOfWalk filters only depth top t (part_walk filters only depth top t)

@@ -5,7 +5,7 @@ use Rattle.lc_board.specs.Pass.{Pass}
 use Rattle.lc_walk.specs.Tally.{TallyModel, StandsFor}
 use Rattle.lc_level.specs.Answers.{Answers}
 use Rattle.lc_level.specs.Job.{JobModel}
-use Rattle.lc_level.specs.Selection.{SelectionModel}
+use Rattle.lc_level.specs.Filters.{FiltersModel}
 use Rattle.lc_walk.specs.Lawful.{Asked}
 use Rattle.lc_walk.specs.WorkerResults.{AreLawful, FoundOver, files_of_passes}
 use Rattle.lc_walk.specs.declared.options.ReportLists.{ReportLists}
@@ -29,5 +29,5 @@ pub record HaveWorked (ask : Asked) (MayAnswer : List ℕ → Answers → Type 0
   pub ended : (w : ℕ) (p : Pass JobModel Row) → slice_get passes w ≡ Some p → (p.worker ≡ w) × FoundOver p
   pub tallied : StandsFor tally (files_of_passes ask given passes)
 
-abbrev pub asked : ReportLists → SelectionModel → Asked
-asked lists selection = record { lists = lists; selection = selection }
+abbrev pub asked : ReportLists → FiltersModel → Asked
+asked lists filters = record { lists = lists; filters = filters }

@@ -3,12 +3,13 @@ use Rattle.std.specs.Prelude.{◌≡◌, List}
 use Rattle.std.specs.List.Sorted.{IsPermutation, IsSortedByKey}
 use Rattle.lc_walk.specs.Tally.{TallyModel, CountedFile, StandsFor, IsTally}
 use Rattle.lc_walk.specs.TallyRows.{AddsUp}
-use Rattle.lc_walk.specs.ReportLines.{FileLineModel, SkippedLineModel, file_paths, fault_paths, skipped_paths}
+use Rattle.lc_walk.specs.ReportLines.{file_paths, fault_paths, skipped_paths}
 use Rattle.lc_level.specs.FaultLines.{FaultLineModel}
 use Rattle.lc_tree.specs.ByteOrder.{bytes_cmp, AreApart, AreInOrder}
 use Rattle.lc_walk.specs.declared.options.ReportLists.{ReportLists}
 use Rattle.lc_walk.specs.declared.report.Report.{Report}
 use Rattle.lc_walk.specs.declared.report.findings.Findings.{Findings}
+use Rattle.lc_level.specs.Level.{SkippedLineModel, FileLineModel}
 
 -- the report of a tally and of findings, by the lists that were asked for: each list of lines in order of their paths' bytes,
 -- strictly where no path stands twice in it

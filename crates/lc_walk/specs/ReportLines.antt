@@ -1,22 +1,7 @@
--- The lines of a report.
+-- The paths of a report's lines.
 use Rattle.std.specs.Prelude.{ℕ, List, map}
-use Rattle.lc_rules.specs.declared.states.TextState.{TextState}
-use Rattle.lc_census.specs.declared.line_count.Count.{Count}
 use Rattle.lc_level.specs.FaultLines.{FaultLineModel}
-use Rattle.lc_level.specs.Level.{Reason}
-use Rattle.lc_tree.specs.declared.entry.Kind.{Kind}
-
--- a counted file
-pub record FileLineModel : Type 0 where
-  pub path : List ℕ
-  pub text : TextState
-  pub count : Count
-
--- an entry that was left out
-pub record SkippedLineModel : Type 0 where
-  pub path : List ℕ
-  pub kind : Kind
-  pub reason : Reason
+use Rattle.lc_level.specs.Level.{FileLineModel, SkippedLineModel}
 
 -- the paths of files, in order
 abbrev pub file_paths : List FileLineModel → List (List ℕ)

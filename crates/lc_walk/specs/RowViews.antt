@@ -1,7 +1,8 @@
 -- The parts of a row that was listed, as contracts see them.
 use Rattle.std.specs.Prelude.{ℕ, List}
 use Rattle.lc_level.specs.Job.{JobModel}
-use Rattle.lc_level.specs.Level.{CountedModel, FileFaultModel, SkippedModel}
+use Rattle.lc_level.specs.Level.{FileLineModel, SkippedLineModel}
+use Rattle.lc_level.specs.FaultLines.{FaultLineModel}
 
 -- a child directory: its name, and the number of its post
 pub record ChildModel : Type 0 where
@@ -13,7 +14,7 @@ pub record ChildModel : Type 0 where
 pub record ListedRowModel : Type 0 where
   pub job : JobModel
   pub entries : ℕ
-  pub files : List CountedModel
-  pub faults : List FileFaultModel
-  pub skipped : List SkippedModel
+  pub files : List FileLineModel
+  pub faults : List FaultLineModel
+  pub skipped : List SkippedLineModel
   pub children : List ChildModel

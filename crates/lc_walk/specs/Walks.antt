@@ -3,7 +3,7 @@ use Rattle.std.specs.Prelude.{ℕ, List, Result, Ok, Err}
 use Rattle.lc_board.specs.WordClose.{words_promises}
 use Rattle.lc_level.specs.TreeAnswers.{MayAnswer}
 use Rattle.lc_tree.specs.Trees.{Listings, Contents}
-use Rattle.lc_walk.specs.WalkAnswers.{IsWalkReport, IsTooDeepSomewhere, FillsAll}
+use Rattle.lc_walk.specs.BoardAnswers.{IsWalkReport, IsTooDeepSomewhere, FillsAll}
 use Rattle.lc_walk.specs.WalkOptions.{asked_by, top_of}
 use Rattle.lc_walk.specs.declared.options.Options.{Options}
 use Rattle.lc_walk.specs.declared.report.Report.{Report}

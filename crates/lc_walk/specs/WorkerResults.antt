@@ -14,7 +14,7 @@ use Rattle.lc_walk.specs.Rows.{row_of, job_of}
 use Rattle.lc_walk.specs.Lawful.{Asked, Says, files_at}
 use Rattle.lc_level.specs.WellFormed.{IsWellFormed}
 use Rattle.lc_walk.specs.TreeOfRows.{numbers_below}
-use Rattle.lc_walk.specs.WalkReport.{tallied}
+use Rattle.lc_walk.specs.FoundReports.{tallied}
 use Rattle.lc_walk.specs.Assembled.{IsBrokenBy}
 use Rattle.lc_walk.specs.declared.broken_cause.BrokenCause.TheVariants.{Memory}
 use Rattle.lc_walk.specs.declared.row.Row.{Row}
@@ -22,7 +22,7 @@ use Rattle.lc_walk.specs.declared.row.Row.TheVariants.{Listed, Faulted, Broken}
 
 -- the counted files of a returned row, by its answers
 abbrev pub returned_files : Asked → Row → Answers → List CountedFile
-returned_files ask (Listed r) a = map tallied (files_at ask.selection r.job a)
+returned_files ask (Listed r) a = map tallied (files_at ask.filters r.job a)
 returned_files ask (Faulted r) a = []
 returned_files ask (Broken r) a = []
 

@@ -1,10 +1,10 @@
 //! The end of a walk over any shared board: the board is closed, and its rows are assembled.
 ghost use Rattle.std.specs.Prelude.{◌≡◌, [], map};
 ghost use Rattle.lc_walk.specs.Passes.{HaveWorked, IsClosable, asked};
-ghost use Rattle.lc_level.specs.Selection.{SelectionModel};
+ghost use Rattle.lc_level.specs.Filters.{FiltersModel};
 ghost use Rattle.lc_level.specs.TreeAnswers.{MayAnswer};
-ghost use Rattle.lc_walk.specs.WalkAnswers.{WalkAnswers};
-ghost use Rattle.lc_walk.specs.WalkOn.{fault_of_close};
+ghost use Rattle.lc_walk.specs.BoardAnswers.{WalkAnswers};
+ghost use Rattle.lc_walk.specs.CloseFaults.{fault_of_close};
 ghost use Rattle.lc_level.specs.Job.{JobModel};
 
 use crate::options::ReportLists;
@@ -19,7 +19,7 @@ use std::alloc::Global;
 
 impl From<CloseFault> for WalkFault {
     ghost use Rattle.std.specs.Prelude.{◌≡◌};
-    ghost use Rattle.lc_walk.specs.WalkOn.{fault_of_close};
+    ghost use Rattle.lc_walk.specs.CloseFaults.{fault_of_close};
 
     ghost from_gives = { λ fault result. result ≡ fault_of_close fault };
 
@@ -41,10 +41,10 @@ pub fn finish<B: Shared<Job, Row>, T: Tree>(
     tally: Tally,
 ) -> Result<Report, WalkFault>
     requires { IsClosable (B.capacity_of board) (B.workers_of board) (B.is_root board) (B.owns board) B.Pass.view passes.items }
-    ensures { (tree : T) (selection : SelectionModel) →
-        HaveWorked (asked lists selection) (MayAnswer (T.lists tree) (T.gives tree)) (map (λ p. B.Pass.view p) passes.items) tally →
+    ensures { (tree : T) (filters : FiltersModel) →
+        HaveWorked (asked lists filters) (MayAnswer (T.lists tree) (T.gives tree)) (map (λ p. B.Pass.view p) passes.items) tally →
         (root : JobModel) → B.is_root board root → root.path ≡ [] →
-        WalkAnswers (MayAnswer (T.lists tree) (T.gives tree)) (asked lists selection)
+        WalkAnswers (MayAnswer (T.lists tree) (T.gives tree)) (asked lists filters)
         (B.capacity_of board) (B.workers_of board) root B.promises result }
 {
     match board.close(passes) {

@@ -10,7 +10,7 @@ ghost use Rattle.lc_walk.specs.Laws.{CoreLaw, NumbersLaw, OneAnswerLaw, PartLaw,
 ghost use Rattle.lc_walk.specs.NodeWalks.{NodeOneAnswerLaw, NodeReportLaw};
 ghost use Rattle.lc_walk.specs.PartOfWalk.{PartOfWalkLaw, TwoWalksLaw};
 ghost use Rattle.lc_walk.specs.Tally.{TallyModel, CountedFile, StandsFor};
-ghost use Rattle.lc_walk.specs.WalkReport.{ReportLaw};
+ghost use Rattle.lc_walk.specs.FoundReports.{ReportLaw};
 
 use lc_level::a_node_is_one_tree;
 use lc_rules::the_last_match_decides;

@@ -5,7 +5,7 @@
 //! - `report`: what a walk reports, and how the rows of a closed board make it
 //! - `worker`, with what is below it: one worker; `workers`: all workers at the same time
 //! - `closing`: the end of a walk; `walking`: the whole walk; `walk_fault`: why there is no report
-//! - `options`: the options of a walk; `prepared_options`: with their paths sorted, for all workers
+//! - `options`: the options of a walk
 //! - `laws`: what is true of the definitions that the contracts cite
 #![tactic(auto)]
 
@@ -13,7 +13,6 @@ mod broken_cause;
 mod closing;
 mod laws;
 mod options;
-mod prepared_options;
 mod report;
 mod row;
 mod served_job;
@@ -33,7 +32,6 @@ pub use laws::{
     rows_are_the_walk_of_their_tree, the_rule_of_a_line_ignores_it, walk_examples_hold,
 };
 pub use options::{Options, ReportLists};
-pub use prepared_options::PreparedOptions;
 pub use report::{FaultLine, FileLine, Findings, Report, SkippedLine, assemble};
 pub use row::{BrokenRow, Child, FaultedRow, ListedParts, ListedRow, Row};
 pub use served_job::ServedJob;

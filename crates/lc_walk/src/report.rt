@@ -1,18 +1,14 @@
 //! The report of a walk.
 //!
-//! - `report_lines`: what it says of a file, of a fault and of a skipped entry
 //! - `findings`: what a walk has found besides the sums
 //! - `assembly`, with `row_lines` and `tree_check`: the report that the rows of a closed board make
-ghost use Rattle.std.specs.Prelude.{◌≡◌};
+ghost use Rattle.std.specs.Prelude.{map};
 ghost use Rattle.std.specs.List.Sorted.{IsPermutation, IsSortedByKey};
 ghost use Rattle.lc_walk.specs.Report.{IsReport};
-ghost use Rattle.lc_walk.specs.ReportLines.{FileLineModel, SkippedLineModel, file_paths, fault_paths, skipped_paths};
-ghost use Rattle.lc_level.specs.FaultLines.{FaultLineModel};
 ghost use Rattle.lc_tree.specs.ByteOrder.{bytes_cmp, AreApart, AreInOrder};
 
 mod assembly;
 mod findings;
-mod report_lines;
 mod row_lines;
 mod tree_check;
 
@@ -20,7 +16,8 @@ use crate::options::ReportLists;
 use crate::tally::{Sums, Tally, TallyRow};
 pub use assembly::assemble;
 pub use findings::Findings;
-pub use report_lines::{FaultLine, FileLine, SkippedLine};
+use lc_level::Line;
+pub use lc_level::{FaultLine, FileLine, SkippedLine};
 
 /// What a walk found.
 #[derive(Debug, Drop)]
@@ -61,9 +58,9 @@ impl Report {
             mut faults,
             mut skipped,
         } = findings;
-        sort_files(&mut files);
-        sort_faults(&mut faults);
-        sort_skipped(&mut skipped);
+        sort_lines(&mut files);
+        sort_lines(&mut faults);
+        sort_lines(&mut skipped);
         Report {
             totals: tally.totals(),
             rows: tally.into_rows(),
@@ -77,26 +74,11 @@ impl Report {
     }
 }
 
-fn sort_files(files: &mut Vec<FileLine>)
-    ensures same { IsPermutation files.old.items files.new.items }
-    ensures order { IsSortedByKey (λ (f : FileLineModel). f.path) bytes_cmp files.new.items }
-    ensures strict { AreApart (file_paths files.old.items) → AreInOrder (file_paths files.new.items) }
+/// Sorts lines by the bytes of their paths, in place.
+fn sort_lines<L: Line>(lines: &mut Vec<L>)
+    ensures same { IsPermutation lines.old.items lines.new.items }
+    ensures order { IsSortedByKey L.path_of bytes_cmp lines.new.items }
+    ensures strict { AreApart (map L.path_of lines.old.items) → AreInOrder (map L.path_of lines.new.items) }
 {
-    files.sort_unstable_by(|a, b| a.path.cmp(&b.path));
-}
-
-fn sort_faults(faults: &mut Vec<FaultLine>)
-    ensures same { IsPermutation faults.old.items faults.new.items }
-    ensures order { IsSortedByKey (λ (f : FaultLineModel). f.path) bytes_cmp faults.new.items }
-    ensures strict { AreApart (fault_paths faults.old.items) → AreInOrder (fault_paths faults.new.items) }
-{
-    faults.sort_unstable_by(|a, b| a.path.cmp(&b.path));
-}
-
-fn sort_skipped(skipped: &mut Vec<SkippedLine>)
-    ensures same { IsPermutation skipped.old.items skipped.new.items }
-    ensures order { IsSortedByKey (λ (l : SkippedLineModel). l.path) bytes_cmp skipped.new.items }
-    ensures strict { AreApart (skipped_paths skipped.old.items) → AreInOrder (skipped_paths skipped.new.items) }
-{
-    skipped.sort_unstable_by(|a, b| a.path.cmp(&b.path));
+    lines.sort_unstable_by(|a, b| a.path().cmp(b.path()));
 }

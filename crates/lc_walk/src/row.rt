@@ -4,7 +4,7 @@ ghost use Rattle.lc_walk.specs.RowParts.{listed_in};
 
 use crate::broken_cause::BrokenCause;
 use crate::served_job::ServedJob;
-use lc_level::{Counted, FaultSite, FaultWord, FileFault, SkippedEntry};
+use lc_level::{FaultLine, FaultSite, FaultWord, FileLine, SkippedLine};
 use std::alloc::Global;
 use std::marker::Model;
 
@@ -31,11 +31,11 @@ pub struct ListedParts {
     /// The number of the directory's entries that take part.
     pub entries: u32,
     /// The counted files, in the order of their names, where the report is to have them.
-    pub files: Vec<Counted>,
+    pub files: Vec<FileLine>,
     /// The paths that are asked for and absent, then the files that were not counted, in the order of their names.
-    pub faults: Vec<FileFault>,
+    pub faults: Vec<FaultLine>,
     /// The skipped entries, in the order of their names, where the report is to have them.
-    pub skipped: Vec<SkippedEntry>,
+    pub skipped: Vec<SkippedLine>,
     /// The posted child directories, in the order of their names.
     pub children: Vec<Child>,
 }
@@ -142,7 +142,7 @@ impl ListedRow {
     }
 
     /// The counted files, in the order of their names, where the report is to have them.
-    pub fn files(&self) -> &[Counted]
+    pub fn files(&self) -> &[FileLine]
         ensures { result.now ≡ self.now.files }
     {
         match &*self.parts {
@@ -152,7 +152,7 @@ impl ListedRow {
     }
 
     /// The paths that are asked for and absent, then the files that were not counted, in the order of their names.
-    pub fn faults(&self) -> &[FileFault]
+    pub fn faults(&self) -> &[FaultLine]
         ensures { result.now ≡ self.now.faults }
     {
         match &*self.parts {
@@ -162,7 +162,7 @@ impl ListedRow {
     }
 
     /// The skipped entries, in the order of their names, where the report is to have them.
-    pub fn skipped(&self) -> &[SkippedEntry]
+    pub fn skipped(&self) -> &[SkippedLine]
         ensures { result.now ≡ self.now.skipped }
     {
         match &*self.parts {

@@ -1,50 +1,22 @@
 //! The walk over a tree.
-ghost use Rattle.std.specs.Prelude.{◌≡◌, ◌≤◌, IfOk};
-ghost use Rattle.lc_level.specs.RuleReads.{shared};
+ghost use Rattle.std.specs.Prelude.{◌≤◌};
 ghost use Rattle.lc_level.specs.TreeAnswers.{MayAnswer};
-ghost use Rattle.lc_walk.specs.WalkAnswers.{WalkAnswers};
+ghost use Rattle.lc_walk.specs.BoardAnswers.{WalkAnswers};
 ghost use Rattle.lc_walk.specs.WalkOptions.{AreWithinLimits, asked_by, top_of};
 ghost use Rattle.lc_walk.specs.Walks.{Walks};
 
 use crate::closing::finish;
 use crate::options::Options;
-use crate::prepared_options::PreparedOptions;
 use crate::report::Report;
 use crate::row::Row;
 use crate::walk_fault::WalkFault;
 use crate::workers::{Gathered, gather, run_all};
 use lc_board::{Shared, Words};
-use lc_level::{Job, TopRules};
-use lc_rules::IgnoreFile;
+use lc_level::Job;
 use lc_tree::Tree;
-use std::alloc::{AllocError, Global};
-use std::sync::{Arc, Wait};
+use std::alloc::Global;
+use std::sync::Wait;
 use std::thread::Threads;
-
-/// Adds an owner to a file of rules, if there is one.
-fn shared(
-    rules: &Option<Arc<IgnoreFile, Global>>,
-) -> Result<Option<Arc<IgnoreFile, Global>>, AllocError>
-    ensures { IfOk result (λ same. shared same ≡ shared rules.now) }
-{
-    match rules {
-        Some(rules) => Ok(Some(Arc::try_clone(rules)?)),
-        None => Ok(None),
-    }
-}
-
-/// The job of the top, with the rules for the whole tree.
-fn top_of(alloc: Global, options: &Options<'_>) -> Result<Job, AllocError>
-    ensures { IfOk result (λ job. job ≡ top_of options.now) }
-{
-    let rules = TopRules {
-        exclude: shared(&options.exclude)?,
-        command_line: shared(&options.command_line)?,
-        no_ignore: options.no_ignore,
-    };
-    let top = Job::top(alloc, rules)?;
-    Ok(top)
-}
 
 /// Walks a tree over a board of this type, with this many workers.
 fn walk_by<B: Shared<Job, Row>, T: Tree, R: Threads + Wait + Sync>(
@@ -59,16 +31,13 @@ fn walk_by<B: Shared<Job, Row>, T: Tree, R: Threads + Wait + Sync>(
     ensures { WalkAnswers (MayAnswer (T.lists tree.now) (T.gives tree.now)) (asked_by options.now)
         options.now.max_dirs workers (top_of options.now) B.promises result }
 {
-    let Ok(top) = top_of(alloc, options) else {
-        return Err(WalkFault::Memory);
-    };
-    let Ok(prepared) = PreparedOptions::new(alloc, options) else {
+    let Ok(top) = Job::top(alloc, options.filters) else {
         return Err(WalkFault::Memory);
     };
     let Ok((board, passes)) = B::start(alloc, options.max_dirs, workers, top) else {
         return Err(WalkFault::Memory);
     };
-    let Ok(workers) = run_all(rt, alloc, &board, tree, passes, &prepared) else {
+    let Ok(workers) = run_all(rt, alloc, &board, tree, passes, options) else {
         return Err(WalkFault::Memory);
     };
     let Some(gathered) = gather(alloc, workers) else {

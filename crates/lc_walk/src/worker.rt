@@ -15,7 +15,7 @@ mod backoff;
 mod posting;
 mod serving;
 
-use crate::prepared_options::PreparedOptions;
+use crate::options::Options;
 use crate::row::Row;
 use crate::tally::Tally;
 use crate::worker::backoff::Backoff;
@@ -47,7 +47,7 @@ pub struct WorkerResult<P> {
 /// A worker, with what is lent to it for all its directories.
 ///
 /// ```
-/// let options = PreparedOptions::new(alloc, &options)?;
+/// let options = Options::new(1, 65_536, &filters);
 /// let idle = IdleThreads::all_idle(1);
 /// let worker = Worker::new(&rt, alloc, &board, &tree, &options, &idle);
 /// let WorkerResult { pass, end, tally } = worker.run(pass);
@@ -58,9 +58,9 @@ pub struct Worker<'w, 'o, B, T, W> {
     alloc: Global,
     board: &'w B,
     reader: LevelReader<'w, T>,
-    options: &'w PreparedOptions<'o>,
+    options: &'w Options<'o>,
     idle: &'w IdleThreads,
-    ghost selects: { reader.selection ≡ (asked_by options.now).selection },
+    ghost selects: { reader.filters.now ≡ (asked_by options.now).filters },
     ghost keeps: { reader.options.left_out ≡ options.now.lists.left_out },
 }
 
@@ -71,7 +71,7 @@ impl<'w, 'o, B, T, W> Worker<'w, 'o, B, T, W> {
         alloc: Global,
         board: &'w B,
         tree: &'w T,
-        options: &'w PreparedOptions<'o>,
+        options: &'w Options<'o>,
         idle: &'w IdleThreads,
     ) -> Worker<'w, 'o, B, T, W>
         ensures board { result.board.now ≡ board.entry.now }
@@ -79,14 +79,15 @@ impl<'w, 'o, B, T, W> Worker<'w, 'o, B, T, W> {
         ensures options { result.options.now ≡ options.entry.now }
     {
         let reading = ReaderOptions {
-            left_out: options.lists().left_out,
+            left_out: options.lists.left_out,
             texts: false,
+            named: options.named,
         };
         Worker {
             rt,
             alloc,
             board,
-            reader: LevelReader::new(alloc, tree, options.selection(), reading),
+            reader: LevelReader::new(alloc, tree, options.filters, reading),
             options,
             idle,
         }

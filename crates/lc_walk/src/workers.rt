@@ -8,7 +8,7 @@ ghost use Rattle.lc_walk.specs.declared.worker.StopReason.TheVariants.{Over};
 ghost use Rattle.lc_walk.specs.Tally.{CountedFile, StandsFor};
 ghost use Rattle.lc_walk.specs.WalkOptions.{asked_by};
 
-use crate::prepared_options::PreparedOptions;
+use crate::options::Options;
 use crate::row::Row;
 use crate::tally::{MAX_FILES, Tally};
 use crate::worker::{StopReason, Worker, WorkerResult};
@@ -34,7 +34,7 @@ pub(crate) fn run_all<B: Shared<Job, Row>, T: Tree, R: Threads + Wait + Sync>(
     board: &B,
     tree: &T,
     passes: Vec<B::Pass>,
-    options: &PreparedOptions<'_>,
+    options: &Options<'_>,
 ) -> Result<Vec<WorkerResult<B::Pass>>, AllocError>
     requires { AreFree B.owns B.Pass.view board.now passes.items }
     ensures all { IfOk result (λ v. vec_len v ≡ vec_len passes) }

@@ -1,6 +1,5 @@
 //! What extensions, tallies and reports say of values from outside, and that each call can succeed.
 
-mod boards;
 mod drawn;
 mod failures;
 mod filters;
@@ -11,8 +10,6 @@ mod limits;
 mod named;
 mod names;
 mod narrowed;
-mod other_boards;
-mod reports;
 mod rows;
 mod stress;
 mod tallies;

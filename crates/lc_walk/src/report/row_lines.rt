@@ -1,14 +1,13 @@
 //! The lines of a report, made of the rows.
 ghost use Rattle.std.specs.Prelude.{◌≡◌, ℕ, ◌+◌, ◌≤◌, ◌<◌, ◌^◌, List, ◌++◌, map, length, IfOk, OnOk};
 ghost use Rattle.lc_walk.specs.Rows.{row_of};
-ghost use Rattle.lc_walk.specs.WalkReport.{skipped_line, line_of};
-ghost use Rattle.lc_walk.specs.Assembled.{fault_line, directories_by_row, entries_by_row, files_by_row, faults_by_row, skipped_by_row};
+ghost use Rattle.lc_walk.specs.Assembled.{directories_by_row, entries_by_row, files_by_row, faults_by_row, skipped_by_row};
 ghost use Rattle.lc_walk.specs.Assembled.{AreFindings};
 
-use crate::report::{FaultLine, FileLine, Findings, SkippedLine};
+use crate::report::{FaultLine, Findings};
 use crate::row::{FaultedRow, ListedRow, Row};
 use lc_board::Ended;
-use lc_level::{Counted, FileFault, SkippedEntry, path_in};
+use lc_level::Line;
 use std::alloc::{AllocError, Global};
 
 /// The row by which a number ended.
@@ -21,63 +20,18 @@ pub fn row_of(ended: &Ended<Row>) -> &Row
     }
 }
 
-/// Adds the lines of the counted files of a directory.
-pub fn push_files(
+/// Adds lines whose paths are from a directory, by their paths from the top.
+fn push_below<L: Line + Drop>(
     alloc: Global,
     directory: &[u8],
-    files: &[Counted],
-    lines: &mut Vec<FileLine>,
+    found: &[L],
+    lines: &mut Vec<L>,
 ) -> Result<(), AllocError>
-    ensures { OnOk result (lines.new.items ≡ lines.old.items ++ map (line_of directory.now) files.now) }
+    ensures { OnOk result (lines.new.items ≡ lines.old.items ++ map (L.below_of directory.now) found.now) }
 {
-    let mut rest = files;
-    'files: while let Some((file, others)) = rest.split_first() {
-        lines.push(FileLine {
-            path: path_in(alloc, directory, &file.name)?,
-            text: file.text,
-            count: file.count,
-        })?;
-        rest = others;
-    }
-    Ok(())
-}
-
-/// Adds the lines of the files of a directory that were not counted.
-pub fn push_faults(
-    alloc: Global,
-    directory: &[u8],
-    faults: &[FileFault],
-    lines: &mut Vec<FaultLine>,
-) -> Result<(), AllocError>
-    ensures { OnOk result (lines.new.items ≡ lines.old.items ++ map (fault_line directory.now) faults.now) }
-{
-    let mut rest = faults;
-    'faults: while let Some((fault, others)) = rest.split_first() {
-        lines.push(FaultLine {
-            path: path_in(alloc, directory, &fault.name)?,
-            word: fault.word,
-        })?;
-        rest = others;
-    }
-    Ok(())
-}
-
-/// Adds the lines of the skipped entries of a directory.
-pub fn push_skipped(
-    alloc: Global,
-    directory: &[u8],
-    skipped: &[SkippedEntry],
-    lines: &mut Vec<SkippedLine>,
-) -> Result<(), AllocError>
-    ensures { OnOk result (lines.new.items ≡ lines.old.items ++ map (skipped_line directory.now) skipped.now) }
-{
-    let mut rest = skipped;
-    'entries: while let Some((entry, others)) = rest.split_first() {
-        lines.push(SkippedLine {
-            path: path_in(alloc, directory, &entry.name)?,
-            kind: entry.kind,
-            reason: entry.reason.copy(alloc)?,
-        })?;
+    let mut rest = found;
+    'lines: while let Some((line, others)) = rest.split_first() {
+        lines.push(line.below(alloc, directory)?)?;
         rest = others;
     }
     Ok(())
@@ -97,9 +51,9 @@ pub fn push_row(alloc: Global, row: &Row, found: &mut Findings) -> Result<(), Al
     match row {
         Row::Listed(row) => {
             let directory = row.job().path();
-            push_files(alloc, directory, row.files(), &mut found.files)?;
-            push_faults(alloc, directory, row.faults(), &mut found.faults)?;
-            push_skipped(alloc, directory, row.skipped(), &mut found.skipped)?;
+            push_below(alloc, directory, row.files(), &mut found.files)?;
+            push_below(alloc, directory, row.faults(), &mut found.faults)?;
+            push_below(alloc, directory, row.skipped(), &mut found.skipped)?;
             found.directories += 1;
             found.entries += u64::from(row.entries());
         }

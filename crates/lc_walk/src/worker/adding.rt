@@ -1,24 +1,24 @@
 //! Adding the counted files of a directory to a tally.
 ghost use Rattle.std.specs.Prelude.{◌∷◌, [], map};
 ghost use Rattle.lc_walk.specs.Serving.{AddsFiles};
-ghost use Rattle.lc_walk.specs.WalkReport.{tallied};
+ghost use Rattle.lc_walk.specs.FoundReports.{tallied};
 
 use crate::tally::{MAX_FILES, Tally, extension};
-use lc_level::Counted;
+use lc_level::FileLine;
 use std::alloc::AllocError;
 
 /// Adds a file to the tally.
-fn add_file(tally: &mut Tally, file: &Counted) -> Result<(), AllocError>
+fn add_file(tally: &mut Tally, file: &FileLine) -> Result<(), AllocError>
     ensures { AddsFiles (tallied file.now ∷ []) tally.old tally.new result }
 {
     if tally.totals().files >= MAX_FILES {
         return Err(AllocError);
     }
-    tally.add(extension(&file.name), file.text, file.count)
+    tally.add(extension(&file.path), file.text, file.count)
 }
 
 /// Adds files to the tally. After a refusal it stands for nothing.
-pub(crate) fn add_files(tally: &mut Tally, files: &[Counted]) -> Result<(), AllocError>
+pub(crate) fn add_files(tally: &mut Tally, files: &[FileLine]) -> Result<(), AllocError>
     ensures { AddsFiles (map tallied files.now) tally.old tally.new result }
 {
     for file in files {

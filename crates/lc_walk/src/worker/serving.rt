@@ -15,7 +15,7 @@ use crate::tally::Tally;
 use crate::worker::Worker;
 use crate::worker::adding::add_files;
 use lc_board::Shared;
-use lc_level::{Counted, CountedFiles, Job, OpenFault, Opened, Scratch};
+use lc_level::{CountedFiles, FileLine, Job, OpenFault, Opened, Scratch};
 use lc_tree::Tree;
 use std::alloc::AllocError;
 use std::sync::Wait;
@@ -44,10 +44,10 @@ impl<B: Shared<Job, Row>, T: Tree, W: Threads + Wait + Sync> Worker<'_, '_, B, T
     }
 
     /// The counted files of a directory, where the report is to have them.
-    fn if_asked(&self, files: Vec<Counted>) -> Vec<Counted>
+    fn if_asked(&self, files: Vec<FileLine>) -> Vec<FileLine>
         ensures { result.items ≡ (if self.now.options.now.lists.files then files.items else []) }
     {
-        if self.options.lists().files {
+        if self.options.lists.files {
             return files;
         }
         Vec::new(self.alloc)
@@ -65,7 +65,7 @@ impl<B: Shared<Job, Row>, T: Tree, W: Threads + Wait + Sync> Worker<'_, '_, B, T
     ) -> Result<(), AllocError>
         requires pass { IsPassOf B.owns B.Pass.view self.now.board.now (HoldsJob job) pass.old }
         requires opened { IsOpened (T.lists self.now.reader.tree.now) (T.gives self.now.reader.tree.now) self.now.options.now.lists.left_out
-            (asked_by self.now.options.now).selection job opened }
+            (asked_by self.now.options.now).filters job opened }
         requires scratch { scratch.old.path.directory ≡ opened.job.path }
         ensures pass { IsPassOf B.owns B.Pass.view self.now.board.now IsFree pass.new }
         ensures serves { Serves (asked_by self.now.options.now)
@@ -86,7 +86,7 @@ impl<B: Shared<Job, Row>, T: Tree, W: Threads + Wait + Sync> Worker<'_, '_, B, T
         };
         let Ok(found) = self
             .reader
-            .count_in_parts(&self.threads(), &inside, files, absent, scratch)
+            .count_divided(&self.threads(), &inside, files, absent, scratch)
         else {
             return self.break_off(pass, job, BrokenCause::Memory);
         };

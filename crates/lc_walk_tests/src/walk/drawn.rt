@@ -1,10 +1,10 @@
 //! Trees of memory that are drawn from a seed, with what is known of them while they are made.
 ghost use Rattle.std.specs.Prelude.{◌<◌};
-ghost use Rattle.lc_walk.specs.WalkOptions.{AreWithinLimits};
 
-use crate::walk::walked::{Board, NO_LISTS, report_of, walk_options};
+use crate::walk::walked::{Board, ONLY_FILES, report_of, walk_options};
+use lc_level::Filters;
 use lc_tree::{MemTree, Node};
-use lc_walk::{Options, Report, ReportLists, Sums, WalkFault};
+use lc_walk::{Report, Sums};
 use std::alloc::{AllocError, Global};
 use std::process::Abort;
 use std::sync::Wait;
@@ -16,8 +16,8 @@ type Entries = Vec<(Vec<u8>, Node)>;
 #[derive(Drop)]
 pub(super) struct Drawn {
     pub(super) top: Node,
-    pub(super) directories: u32,
-    pub(super) sums: Sums,
+    directories: u32,
+    sums: Sums,
 }
 
 /// Numbers drawn by xorshift.
@@ -125,12 +125,7 @@ fn hang_all(
 /// A tree of so many directories, one at least, with a rule file in every tenth.
 pub(super) fn draw_tree(alloc: Global, seed: u64, directories: u32) -> Result<Drawn, AllocError> {
     let mut draws = Draws { state: seed };
-    let mut sums = Sums {
-        files: 0,
-        lines: 0,
-        blank: 0,
-        bytes: 0,
-    };
+    let mut sums = Sums::none();
     let top = draw_files(alloc, &mut draws, &mut sums, true)?;
     let mut skipped = Vec::new(alloc);
     for number in 1..directories {
@@ -152,25 +147,17 @@ impl Drawn {
             && report.faults.is_empty()
     }
 
-    /// What is asked of its walks: its files, with room for so many directories.
-    pub(super) fn options(&self, rt: &impl Abort, threads: u32, max_dirs: u32) -> Options<'static>
-        ensures { AreWithinLimits result }
-    {
-        Options {
-            lists: ReportLists {
-                files: true,
-                ..NO_LISTS
-            },
-            ..walk_options(rt, threads, max_dirs)
-        }
-    }
-
-    /// The report of a walk that finds what is known of the tree, and no fault.
-    pub(super) fn report_of(
+    /// What a walk by so many workers finds, with room for just its directories: what is known of the tree, and no fault.
+    pub(super) fn walk<R: Threads + Wait + Sync + Abort>(
         &self,
-        rt: &impl Abort,
-        answer: Result<Report, WalkFault>,
+        rt: &R,
+        alloc: Global,
+        board: Board,
+        threads: u32,
     ) -> Result<Report, AllocError> {
+        let filters = Filters::none(alloc);
+        let options = walk_options(rt, threads, self.directories, ONLY_FILES, &filters);
+        let answer = board.walk(rt, alloc, &MemTree::new(&self.top), &options);
         let report = report_of(rt, answer)?;
         assert!(rt;
             self.is_told(&report),
@@ -180,20 +167,5 @@ impl Drawn {
             report.faults
         );
         Ok(report)
-    }
-
-    /// What a walk by so many workers finds, with room for just its directories.
-    pub(super) fn walk<R: Threads + Wait + Sync + Abort>(
-        &self,
-        rt: &R,
-        alloc: Global,
-        board: Board,
-        threads: u32,
-    ) -> Result<Report, AllocError> {
-        let options = self.options(rt, threads, self.directories);
-        self.report_of(
-            rt,
-            board.walk(rt, alloc, &MemTree::new(&self.top), &options),
-        )
     }
 }

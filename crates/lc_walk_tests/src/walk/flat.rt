@@ -1,9 +1,10 @@
 //! A directory with many files, which the other workers help to count.
 
 use crate::walk::told::report_text;
-use crate::walk::walked::{BOARDS, Board, NO_LISTS, report_of, walk_options};
+use crate::walk::walked::{BOARDS, Board, ONLY_FILES, report_of, walk_options};
+use lc_level::Filters;
 use lc_tree::{MemTree, Node};
-use lc_walk::{Options, Report, ReportLists, Sums};
+use lc_walk::{Report, Sums};
 use std::alloc::{AllocError, Global};
 use std::process::Abort;
 use std::sync::Wait;
@@ -44,13 +45,8 @@ fn walk_flat<R: Threads + Wait + Sync + Abort>(
     board: Board,
     workers: u32,
 ) -> Result<Report, AllocError> {
-    let options = Options {
-        lists: ReportLists {
-            files: true,
-            ..NO_LISTS
-        },
-        ..walk_options(rt, workers, 1)
-    };
+    let filters = Filters::none(alloc);
+    let options = walk_options(rt, workers, 1, ONLY_FILES, &filters);
     report_of(rt, board.walk(rt, alloc, &MemTree::new(tree), &options))
 }
 

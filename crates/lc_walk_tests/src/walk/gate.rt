@@ -1,7 +1,8 @@
 //! Several workers list directories at the same time.
 
 use crate::walk::told::report_text;
-use crate::walk::walked::{Board, report_of, walk_options};
+use crate::walk::walked::{Board, NO_LISTS, report_of, walk_options};
+use lc_level::Filters;
 use lc_tests::{has_words, tree};
 use lc_tree::{Listing, MemFile, MemTree, ReadFault, Tree};
 use std::alloc::{AllocError, Global};
@@ -102,7 +103,8 @@ fn check<R: Threads + Wait + Sync + Abort>(
         begun: AtomicUsize::new(0),
         directories: *directories,
     };
-    let options = walk_options(rt, *threads, 100);
+    let filters = Filters::none(alloc);
+    let options = walk_options(rt, *threads, 100, NO_LISTS, &filters);
     let report = report_of(rt, board.walk(rt, alloc, &gate, &options))?;
     // Where memory is refused, for a thread or for the reserve, one worker lists after another, which finds the gate shut.
     if *threads > 1 && !report.faults.is_empty() {

@@ -14,20 +14,7 @@ const EXPORTED: &str = "
 const ARCHIVE: &str =
     "- - lf 2 5 0 83, .tmp - lf 1 1 0 2, .y - lf 1 1 0 2, directories 2 entries 7";
 
-const WITH_EXPORTS: &[Part] = &[
-    ("an archive", "--archive", ARCHIVE),
-    (
-        "the tree of an archive",
-        "",
-        "- - lf 3 6 0 85, .tmp - lf 2 2 0 4, .y - lf 1 1 0 2, directories 3 entries 8",
-    ),
-];
-
-#[test]
-fn an_archive_leaves_out_what_is_not_exported(rt: HostRuntime) -> Result<(), Fail> {
-    check_parts(&rt, rt.alloc(), EXPORTED, WITH_EXPORTS)?;
-    Ok(())
-}
+const WITH_EXPORTS: &[Part] = &[("an archive", "--without=export-ignore", ARCHIVE)];
 
 /// Attributes of files and directories: Set, Unset, a value, and Set by a macro.
 const MARKED: &str = "
@@ -38,28 +25,16 @@ const MARKED: &str = "
     src/{ lib n.y }
     x.y";
 
-const WITHOUT_ATTRIBUTES: &[Part] = &[
-    (
-        "without what is vendored",
-        "--without=vendored",
-        "- - lf 2 6 0 76, .v - lf 1 1 0 2, .y - lf 3 3 0 6, directories 2 entries 8",
-    ),
-    (
-        "without what is vendored or generated",
-        "--without=vendored --without=generated",
-        "- - lf 2 6 0 76, .v - lf 1 1 0 2, .y - lf 1 1 0 2, directories 2 entries 8",
-    ),
-];
+const WITHOUT_ATTRIBUTES: &[Part] = &[(
+    "without what is vendored or generated",
+    "--without=vendored --without=generated",
+    "- - lf 2 6 0 76, .v - lf 1 1 0 2, .y - lf 1 1 0 2, directories 2 entries 8",
+)];
 
 #[test]
 fn attributes_leave_out_what_they_are_set_for(rt: HostRuntime) -> Result<(), Fail> {
+    check_parts(&rt, rt.alloc(), EXPORTED, WITH_EXPORTS)?;
     check_parts(&rt, rt.alloc(), MARKED, WITHOUT_ATTRIBUTES)?;
-    check_parts(
-        &rt,
-        rt.alloc(),
-        EXPORTED,
-        &[("as any other attribute", "--without=export-ignore", ARCHIVE)],
-    )?;
     Ok(())
 }
 
@@ -83,7 +58,7 @@ const REASONED: &str = "
 const WITH_REASONS: &[Part] = &[
     (
         "reasons of an archive",
-        "--archive --left-out --max-dirs=4 --exclude-from=#;#;#;#;#;#;*.bak;",
+        "--without=export-ignore --left-out --max-dirs=4 --exclude-from=#;#;#;#;#;#;*.bak;",
         "- - lf 3 5 1 34
          .c - lf 2 2 0 4
          directories 2 entries 15
@@ -112,11 +87,6 @@ const WITH_REASONS: &[Part] = &[
          left rule */.gitignore:3 src/gen/
          left rule --exclude-from:7 x.bak
          left rule .gitignore:1 z.log@/",
-    ),
-    (
-        "an archive without reasons",
-        "--archive --max-dirs=4 --exclude-from=#;#;#;#;#;#;*.bak;",
-        "- - lf 3 5 1 34, .c - lf 2 2 0 4, directories 2 entries 15",
     ),
 ];
 

@@ -77,6 +77,7 @@ const NESTS: &[Nest] = &[
     ),
     (15, 255, (257, "="), "", "path too deep"),
     (15, 255, (257, "@"), "", "path too deep"),
+    (15, 255, (257, "/!"), "", "path too deep"),
     (15, 255, (257, "="), ".gitignore=*;!*/;", "path too deep"),
 ];
 

@@ -1,13 +1,26 @@
 //! Which attributes a walk notes that the attribute files of its tree name.
 
-use crate::walk::walked::{Board, report_of, walk_options};
-use lc_level::NamedAttributes;
+ghost use Rattle.lc_walk.specs.WalkOptions.{AreWithinLimits};
+
+use crate::walk::walked::{Board, NO_LISTS, report_of, walk_options};
+use lc_level::{Filters, NamedAttributes};
 use lc_tests::{push_name, tree};
 use lc_tree::MemTree;
 use lc_walk::Options;
+use std::process::Abort;
 use std::test::Fail;
 
 const WORDS: &[&str] = &["generated", "vendored=true"];
+
+/// A walk that notes what the attribute files of its tree name.
+fn noting<'o>(rt: &impl Abort, filters: &'o Filters<'_>, named: &'o NamedAttributes) -> Options<'o>
+    ensures { AreWithinLimits result }
+{
+    Options {
+        named: Some(named),
+        ..walk_options(rt, 2, 3, NO_LISTS, filters)
+    }
+}
 
 #[test]
 fn attribute_files_of_a_walk_name_attributes(rt: HostRuntime) -> Result<(), Fail> {
@@ -17,11 +30,8 @@ fn attribute_files_of_a_walk_name_attributes(rt: HostRuntime) -> Result<(), Fail
         "a/{ .gitattributes=*.c_vendored=true; m.c } generated",
     )?;
     let named = NamedAttributes::new(alloc, WORDS)?;
-    let options = Options {
-        without: WORDS,
-        named: Some(&named),
-        ..walk_options(&rt, 2, 3)
-    };
+    let filters = Filters::none(alloc);
+    let options = noting(&rt, &filters, &named);
     let answer = Board::Words.walk(&rt, alloc, &MemTree::new(&node), &options);
     report_of(&rt, answer)?;
     let mut unnamed = String::new(alloc);

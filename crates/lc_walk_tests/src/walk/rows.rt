@@ -4,12 +4,12 @@ ghost use Rattle.lc_board.specs.Pass.{holding, new_pass};
 
 use crate::walk::walked::{Board, walk_options};
 use lc_board::{Claim, CloseFault, Closed, Ended, Locked, Shared, Words};
-use lc_level::{Job, LevelReader, ReaderOptions, Scratch, Selection, TopRules};
+use lc_level::{Filters, Job};
 use lc_tests::tree;
 use lc_tree::{IdleThreads, MemTree, Node};
 use lc_walk::{
-    BrokenCause, BrokenRow, Options, PreparedOptions, ReportLists, Row, ServedJob, StopReason,
-    Tally, Worker, WorkerResult, assemble,
+    BrokenCause, BrokenRow, ReportLists, Row, ServedJob, StopReason, Tally, Worker, WorkerResult,
+    assemble,
 };
 use std::alloc::{AllocError, Global};
 use std::process::Abort;
@@ -31,7 +31,7 @@ fn words_of(alloc: Global, row: &Ended<Row>) -> Result<String, AllocError> {
     }
 }
 
-/// A tree whose top one worker serves, or was given up after a post of its last child; what the rows say, by their numbers; the order
+/// A tree whose top one worker serves, or was given up after a post of its child `d`; what the rows say, by their numbers; the order
 /// in which the worker claims them over `Words` and over `Locked`; and the files, entries and lines of what is left out of the report.
 struct Case<'a> {
     tree: &'a str,
@@ -47,7 +47,7 @@ fn start_one<B: Shared<Job, Row>>(alloc: Global) -> Result<(B, B::Pass), AllocEr
     ensures workers { IfOk result (λ b. B.workers_of b.0 ≡ 1) }
     ensures pass { IfOk result (λ b. B.owns b.0 b.1 × (B.Pass.view b.1 ≡ new_pass 0)) }
 {
-    let (board, mut passes) = B::start(alloc, 4, 1, Job::top(alloc, TopRules::none())?)?;
+    let (board, mut passes) = B::start(alloc, 4, 1, Job::top(alloc, &Filters::none(alloc))?)?;
     let pass = passes.remove(0);
     Ok((board, pass))
 }
@@ -73,30 +73,12 @@ fn close_one<B: Shared<Job, Row>>(
     }
 }
 
-/// The last child directory of a job's.
-fn last_child(alloc: Global, tree: &MemTree, job: &Job) -> Result<Job, AllocError> {
-    let kept = ReaderOptions {
-        left_out: false,
-        texts: false,
-    };
-    let reader = LevelReader::new(alloc, tree, Selection::new(false, &[]), kept);
-    let mut scratch = Scratch::new(alloc)?;
-    let Ok(mut opened) = reader.open(job, &mut scratch) else {
-        return Err(AllocError);
-    };
-    match opened.children.pop() {
-        Some(child) => Ok(child.job),
-        None => Err(AllocError),
-    }
-}
-
-/// Posts a child of the top, and then gives the top up as where memory is refused, if it is to be broken.
+/// Posts the child `d` of the top, and then gives the top up as where memory is refused, if it is to be broken.
 fn begin<B: Shared<Job, Row>, W: Wait>(
     rt: &W,
     alloc: Global,
     board: &B,
     pass: &mut B::Pass,
-    tree: &MemTree,
     is_broken: bool,
 ) -> Result<(), AllocError>
     requires pass { B.owns board.now pass.old }
@@ -111,7 +93,7 @@ fn begin<B: Shared<Job, Row>, W: Wait>(
     let Claim::Got(_, job) = board.claim(rt, pass) else {
         return Err(AllocError);
     };
-    let child = last_child(alloc, tree, &job)?;
+    let child = job.at(alloc, b"d")?;
     if board.post(rt, pass, child).is_err() {
         return Err(AllocError);
     }
@@ -123,18 +105,24 @@ fn begin<B: Shared<Job, Row>, W: Wait>(
 /// What one worker leaves: its rows, and its tally where memory was not refused.
 type Skipped = (Closed<Row>, Option<Tally>);
 
+/// Both lists.
+const LISTS: ReportLists = ReportLists {
+    files: true,
+    left_out: true,
+};
+
 /// What one worker leaves of a tree on a board of this type.
 fn work<B: Shared<Job, Row>, R: Threads + Wait + Sync + Abort>(
     rt: &R,
     alloc: Global,
     case: &Case,
-    options: &Options<'_>,
 ) -> Result<Skipped, AllocError> {
     let node = node_of(alloc, case.tree)?;
     let tree = MemTree::new(&node);
     let (board, mut pass) = start_one::<B>(alloc)?;
-    begin(rt, alloc, &board, &mut pass, &tree, case.is_broken)?;
-    let options = PreparedOptions::new(alloc, options)?;
+    begin(rt, alloc, &board, &mut pass, case.is_broken)?;
+    let filters = Filters::none(alloc);
+    let options = walk_options(rt, 1, 4, LISTS, &filters);
     let idle = IdleThreads::all_idle(1);
     let worker = Worker::new(rt, alloc, &board, &tree, &options, &idle);
     let WorkerResult { pass, end, tally } = worker.run(pass);
@@ -149,11 +137,10 @@ fn work_over<R: Threads + Wait + Sync + Abort>(
     alloc: Global,
     board: Board,
     case: &Case,
-    options: &Options<'_>,
 ) -> Result<Skipped, AllocError> {
     match board {
-        Board::Words => work::<Words<Job, Row>, R>(rt, alloc, case, options),
-        Board::Locked => work::<Locked<Job, Row>, R>(rt, alloc, case, options),
+        Board::Words => work::<Words<Job, Row>, R>(rt, alloc, case),
+        Board::Locked => work::<Locked<Job, Row>, R>(rt, alloc, case),
     }
 }
 
@@ -230,12 +217,6 @@ fn some_refused(
     Ok(refused)
 }
 
-/// Both lists.
-const LISTS: ReportLists = ReportLists {
-    files: true,
-    left_out: true,
-};
-
 /// There is such a report of the rows and of their tally, and none where memory was refused.
 fn check_report(
     rt: &impl Abort,
@@ -275,11 +256,7 @@ fn check<R: Threads + Wait + Sync + Abort>(
     board: Board,
     case: &Case,
 ) -> Result<(), AllocError> {
-    let options = Options {
-        lists: LISTS,
-        ..walk_options(rt, 1, 4)
-    };
-    let skipped = work_over(rt, alloc, board, case, &options)?;
+    let skipped = work_over(rt, alloc, board, case)?;
     let claims = match board {
         Board::Words => case.words,
         Board::Locked => case.locked,

@@ -1,8 +1,7 @@
 //! The rows of tallies: their keys, their order and their sums.
 
 use crate::walk::told::push_row;
-use lc_census::{Count, Eol};
-use lc_rules::TextState;
+use lc_census::Count;
 use lc_tests::{eol_of_word, has_words, text_of_word};
 use lc_walk::{Tally, TallyRow};
 use std::alloc::{AllocError, Global};
@@ -28,7 +27,7 @@ fn add_row(rt: &impl Abort, tally: &mut Tally, row: &str) -> Result<(), AllocErr
 }
 
 /// The tally of files, each written as a row of it alone, which are added from the last to the first.
-pub(super) fn tally_of(rt: &impl Abort, alloc: Global, rows: &[&str]) -> Result<Tally, AllocError> {
+fn tally_of(rt: &impl Abort, alloc: Global, rows: &[&str]) -> Result<Tally, AllocError> {
     let mut tally = Tally::new(alloc);
     for row in rows.iter().rev() {
         add_row(rt, &mut tally, row)?;
@@ -128,41 +127,6 @@ fn check(
 fn rows_of_tallies(rt: HostRuntime) -> Result<(), Fail> {
     for case in CASES {
         check(&rt, rt.alloc(), case)?;
-    }
-    Ok(())
-}
-
-/// The tally of two files of each extension of one byte, which come from the last extension to the first.
-fn falling(rt: &impl Abort, alloc: Global) -> Result<Tally, AllocError> {
-    let mut tally = Tally::new(alloc);
-    for _turn in 0..2 {
-        for byte in (0..=255u8).rev() {
-            assert!(rt; tally.totals().files < 512);
-            let count = Count {
-                lines: 1,
-                blank: 0,
-                bytes: 2,
-                eol: Eol::Lf,
-            };
-            tally.add(Some(&[byte]), TextState::Unspecified, count)?;
-        }
-    }
-    Ok(tally)
-}
-
-fn is_row_of(row: &TallyRow, byte: u8) -> bool {
-    let Some(ext) = &row.ext else {
-        return false;
-    };
-    ext.as_slice() == [byte].as_slice() && (row.files, row.lines, row.bytes) == (2, 2, 4)
-}
-
-#[test]
-fn rows_of_many_keys_rise(rt: HostRuntime) -> Result<(), Fail> {
-    let rows = falling(&rt, rt.alloc())?.into_rows();
-    assert!(rt; rows.len() == 256);
-    for (row, byte) in rows.iter().zip(0..=255u8) {
-        assert!(rt; is_row_of(row, byte), "{row:?}");
     }
     Ok(())
 }

@@ -43,7 +43,7 @@ fn push_skipped(text: &mut String, report: &Report) -> Result<(), AllocError> {
 }
 
 /// Adds the faults of a report.
-pub(super) fn push_faults(text: &mut String, report: &Report) -> Result<(), AllocError> {
+fn push_faults(text: &mut String, report: &Report) -> Result<(), AllocError> {
     for fault in &report.faults {
         let word = fault.word.as_str();
         write!(text, "fault {word} ")?;

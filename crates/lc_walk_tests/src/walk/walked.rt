@@ -1,12 +1,11 @@
 //! Walks of trees of memory, over both shared boards, with 1, 2 and 16 workers.
-ghost use Rattle.std.specs.Prelude.{IfOk};
 ghost use Rattle.lc_walk.specs.WalkOptions.{AreWithinLimits};
 
 use crate::walk::told::report_text;
 use lc_board::Locked;
-use lc_level::Job;
+use lc_level::{Filters, Job};
+use lc_tests::trees::{FailingCall, FailingTree};
 use lc_tests::{Asked, has_words, tree};
-use lc_tree::trials::{FailingCall, FailingTree};
 use lc_tree::{MemTree, Node, Tree};
 use lc_walk::{Options, Report, ReportLists, Row, WalkFault, walk, walk_on};
 use std::alloc::{AllocError, Global};
@@ -20,6 +19,12 @@ pub(super) const NO_LISTS: ReportLists = ReportLists {
     left_out: false,
 };
 
+/// The files alone.
+pub(super) const ONLY_FILES: ReportLists = ReportLists {
+    files: true,
+    left_out: false,
+};
+
 /// A name, the sketch of a tree, what is asked as on a command line, and what a walk finds, or why it finds nothing.
 pub(super) type Case<'a> = (&'a str, &'a str, &'a str, &'a str);
 
@@ -27,41 +32,22 @@ pub(super) type Case<'a> = (&'a str, &'a str, &'a str, &'a str);
 /// read to its end.
 pub(super) type Part<'a> = (&'a str, &'a str, &'a str);
 
-/// A walk of the whole tree by so many workers.
-pub(super) fn walk_options(rt: &impl Abort, threads: u32, max_dirs: u32) -> Options<'static>
+/// A walk by so many workers, with these lists and by these filters.
+pub(super) fn walk_options<'o>(
+    rt: &impl Abort,
+    threads: u32,
+    max_dirs: u32,
+    lists: ReportLists,
+    filters: &'o Filters<'_>,
+) -> Options<'o>
     ensures { AreWithinLimits result }
 {
     assert!(rt; 1 <= threads && threads <= 16);
     assert!(rt; 1 <= max_dirs && max_dirs <= 1_048_576);
-    Options::new(threads, max_dirs)
-}
-
-/// What is asked, of so many workers.
-fn options_of<'a>(
-    rt: &impl Abort,
-    alloc: Global,
-    asked: &'a Asked<'_>,
-    threads: u32,
-) -> Result<Options<'a>, AllocError>
-    ensures { IfOk result (λ options. AreWithinLimits options) }
-{
-    let exclude = asked.exclude_file(alloc)?;
-    let command_line = asked.command_line(alloc)?;
-    let include = asked.include(alloc)?;
-    Ok(Options {
-        lists: ReportLists {
-            files: asked.files,
-            left_out: asked.left_out,
-        },
-        exclude,
-        command_line,
-        no_ignore: asked.no_ignore,
-        archive: asked.archive,
-        without: &asked.without,
-        include,
-        only: &asked.only,
-        ..walk_options(rt, threads, asked.max_dirs)
-    })
+    Options {
+        lists,
+        ..Options::new(threads, max_dirs, filters)
+    }
 }
 
 /// A board over which walks are tried.
@@ -134,7 +120,7 @@ fn without_calls(wanted: &str) -> (&str, Option<u64>) {
 
 /// A walk that asked its tree so often answers as is wanted. One that asked more often began again, since several workers were refused
 /// memory.
-pub(super) fn check_answer(
+fn check_answer(
     rt: &impl Abort,
     alloc: Global,
     (name, wanted): (&str, &str),
@@ -154,23 +140,24 @@ pub(super) fn check_answer(
     Ok(())
 }
 
-/// The walk of this tree finds what is wanted, over this board and by this number of workers.
+/// The walk of this tree finds what is wanted, over this board.
 fn check_run<R: Threads + Wait + Sync + Abort>(
     rt: &R,
     alloc: Global,
     top: &Node,
-    asked: &Asked<'_>,
+    options: &Options<'_>,
     wanted: (&str, &str),
-    (board, threads): &(Board, u32),
-) -> Result<(), AllocError> {
-    let options = options_of(rt, alloc, asked, *threads)?;
+    board: Board,
+) -> Result<(), AllocError>
+    requires { AreWithinLimits options.now }
+{
     let tree = MemTree::new(top);
     let call = FailingCall::new(u64::MAX);
     let counted = FailingTree {
         tree: &tree,
         call: &call,
     };
-    let answer = board.walk(rt, alloc, &counted, &options);
+    let answer = board.walk(rt, alloc, &counted, options);
     check_answer(rt, alloc, wanted, &answer, call.begun())
 }
 
@@ -183,8 +170,14 @@ pub(super) fn check_node<R: Threads + Wait + Sync + Abort>(
 ) -> Result<(), AllocError> {
     let asked = Asked::read(alloc, words)?;
     assert!(rt; asked.is_known, "{words}");
-    for run in RUNS {
-        check_run(rt, alloc, top, &asked, (name, wanted), run)?;
+    let filters = asked.filters(alloc)?;
+    let lists = ReportLists {
+        files: asked.files,
+        left_out: asked.left_out,
+    };
+    for (board, threads) in RUNS {
+        let options = walk_options(rt, *threads, asked.max_dirs, lists, &filters);
+        check_run(rt, alloc, top, &options, (name, wanted), *board)?;
     }
     Ok(())
 }

@@ -1,8 +1,8 @@
 use Rattle.std.proofs.Common.{map, sym, ◌∙◌, subst, arith, Err}
 use Rattle.lc_walk.specs.Passes.{asked}
 use Rattle.lc_level.specs.TreeAnswers.{MayAnswer}
-use Rattle.lc_walk.specs.WalkAnswers.{WalkAnswers}
-use Rattle.lc_walk.proofs.WalkOn.{assembled_walk, refused_walk, few_rows, mapped}
+use Rattle.lc_walk.specs.BoardAnswers.{WalkAnswers}
+use Rattle.lc_walk.proofs.AnswersOfClose.{assembled_walk, refused_walk, few_rows, mapped}
 use Rattle.lc_walk.proofs.closing.finish.Goals as goal
 
 pub close-requires-clause-all : goal.close-requires-clause-all
@@ -17,8 +17,8 @@ assemble-requires g c =
     omega (arith, few, c.requires.room.1)
 
 pub returns-in-Ok : goal.returns-in-Ok
-returns-in-Ok g c tree selection worked root is at_top =
-    assembled_walk (asked c.args.lists selection) (MayAnswer (g.T.Tree.lists tree) (g.T.Tree.gives tree))
+returns-in-Ok g c tree filters worked root is at_top =
+    assembled_walk (asked c.args.lists filters) (MayAnswer (g.T.Tree.lists tree) (g.T.Tree.gives tree))
     (g.B.Shared.capacity_of c.args.board) (g.B.Shared.workers_of c.args.board) root g.B.Shared.promises
     (map (λ p. g.B.Pass.Token.view p) c.args.passes.items) c.requires.room.0
     (mapped (λ p. g.B.Pass.Token.view p) c.args.passes.items ∙ c.requires.all) at_top
@@ -26,11 +26,11 @@ returns-in-Ok g c tree selection worked root is at_top =
     c.assemble.result c.assemble.ensures
 
 pub returns-in-Err : goal.returns-in-Err
-returns-in-Err g c tree selection worked root is at_top =
-    subst (λ f. WalkAnswers (MayAnswer (g.T.Tree.lists tree) (g.T.Tree.gives tree)) (asked c.args.lists selection)
+returns-in-Err g c tree filters worked root is at_top =
+    subst (λ f. WalkAnswers (MayAnswer (g.T.Tree.lists tree) (g.T.Tree.gives tree)) (asked c.args.lists filters)
     (g.B.Shared.capacity_of c.args.board) (g.B.Shared.workers_of c.args.board) root g.B.Shared.promises (Err f))
     (sym c.from.ensures)
-    (refused_walk (asked c.args.lists selection) (MayAnswer (g.T.Tree.lists tree) (g.T.Tree.gives tree))
+    (refused_walk (asked c.args.lists filters) (MayAnswer (g.T.Tree.lists tree) (g.T.Tree.gives tree))
     (g.B.Shared.capacity_of c.args.board) (g.B.Shared.workers_of c.args.board) root g.B.Shared.promises
     (map (λ p. g.B.Pass.Token.view p) c.args.passes.items) c.requires.room.0
     (mapped (λ p. g.B.Pass.Token.view p) c.args.passes.items ∙ c.requires.all) at_top

@@ -9,7 +9,7 @@ use Rattle.lc_walk.specs.Running.{HaveRunOn}
 use Rattle.lc_walk.specs.WalkOptions.{asked_by}
 use Rattle.lc_walk.specs.declared.options.Options.{Options}
 use Rattle.lc_walk.proofs.AllWorked.{have_worked}
-use Rattle.lc_walk.proofs.WalkOn.{mapped}
+use Rattle.lc_walk.proofs.AnswersOfClose.{mapped}
 use Rattle.lc_walk.proofs.walking.walk_by.Goals as goal
 
 pub run_all-requires-after_bounds : goal.run_all-requires-after_bounds
@@ -44,12 +44,10 @@ returns g c =
     let ask = asked_by c.args.options.now in
     let may = MayAnswer (g.T.Tree.lists c.args.tree.now) (g.T.Tree.gives c.args.tree.now) in
     let same = sym c.in-Ok-run_all.workers.ok.0 ∙ c.in-Ok-run_all.ensures.all ∙ c.in-Ok-start.passes.ok.0 in
-    let each = subst (λ (o : Options). HaveRunOn g.B.Shared.owns view c.in-Ok-start.board (asked_by o) may c.in-Ok-start.passes.items
-    c.in-Ok-run_all.workers.items) c.in-Ok-new.ensures c.in-Ok-run_all.ensures.each in
-    let told = c.finish.ensures c.args.tree.now (asked_by c.args.options.now).selection
+    let told = c.finish.ensures c.args.tree.now (asked_by c.args.options.now).filters
     (subst (λ ps. HaveWorked ask may (map view ps) c.in-Some.gathered.tally) (sym c.in-Some.ensures.passes)
     (have_worked view ask may c.in-Ok-start.passes.items c.in-Ok-run_all.workers.items same
     (λ w p is. (c.in-Ok-start.ensures.passes w p is).1)
-    (λ i q x low. (each i q x low).1)
+    (λ i q x low. (c.in-Ok-run_all.ensures.each i q x low).1)
     c.in-Some.ensures.over c.in-Some.gathered.tally c.in-Some.ensures.tally)) in
     search (rules, told)

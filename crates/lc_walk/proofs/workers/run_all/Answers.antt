@@ -1,6 +1,6 @@
 use denote.Param.Send.{sendable}
 use Rattle.std.proofs.Crossing as std
-use Rattle.lc_rules.proofs.Crossing as rules
+use Rattle.lc_rules.proofs.SentAndShared as rules
 use Rattle.lc_walk.proofs.workers.run_all.Goals as goal
 
 pub map_vec-requires-sync-F : goal.map_vec-requires-sync-F

@@ -15,7 +15,7 @@ returns-in-Err-Faulted-clause-serves g c =
     (serves_faulted ask (g.T.Tree.lists tree) (g.T.Tree.gives tree) _ c.args.job c.in-Err-Faulted.site c.in-Err-Faulted.word
     c.args.tally.now c.requires.1
     (subst (λ s. OpensLevel (g.T.Tree.lists tree) (g.T.Tree.gives tree) ask.lists.left_out s c.args.job at_fault) c.args.self.now.selects
-    (subst (λ k. OpensLevel (g.T.Tree.lists tree) (g.T.Tree.gives tree) k c.args.self.now.reader.selection c.args.job at_fault)
+    (subst (λ k. OpensLevel (g.T.Tree.lists tree) (g.T.Tree.gives tree) k c.args.self.now.reader.filters.now c.args.job at_fault)
     c.args.self.now.keeps (rw c.in-Err-Faulted.field-0-is at c.in-Err-Faulted.ensures.opens))))
 
 pub returns-in-Err-Memory-clause-serves : goal.returns-in-Err-Memory-clause-serves
@@ -37,6 +37,6 @@ returns-in-Err-TooDeep-clause-serves g c =
     (serves_too_deep ask (g.T.Tree.lists tree) (g.T.Tree.gives tree) _ c.args.job c.args.tally.now
     c.break_off-in-Err-TooDeep.result c.requires.1
     (subst (λ s. OpensLevel (g.T.Tree.lists tree) (g.T.Tree.gives tree) ask.lists.left_out s c.args.job deep) c.args.self.now.selects
-    (subst (λ k. OpensLevel (g.T.Tree.lists tree) (g.T.Tree.gives tree) k c.args.self.now.reader.selection c.args.job deep)
+    (subst (λ k. OpensLevel (g.T.Tree.lists tree) (g.T.Tree.gives tree) k c.args.self.now.reader.filters.now c.args.job deep)
     c.args.self.now.keeps (rw c.in-Err-TooDeep.field-0-is at c.in-Err-TooDeep.ensures.opens)))
     c.break_off-in-Err-TooDeep.ensures.memory)

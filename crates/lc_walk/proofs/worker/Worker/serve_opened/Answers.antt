@@ -3,7 +3,7 @@ use Rattle.lc_level.specs.CountedNames.{IsCounted}
 use Rattle.lc_level.specs.Classified.{bytes_of}
 use Rattle.lc_walk.specs.Serving.{AddsFiles}
 use Rattle.lc_walk.specs.RowViews.{ListedRowModel}
-use Rattle.lc_walk.specs.WalkReport.{tallied}
+use Rattle.lc_walk.specs.FoundReports.{tallied}
 use Rattle.lc_walk.specs.WalkOptions.{asked_by}
 use Rattle.lc_walk.proofs.RowEnds.{serves_refused, serves_uncounted, serves_listed}
 use Rattle.lc_walk.proofs.worker.Worker.serve_opened.Goals as goal
@@ -42,13 +42,13 @@ returns-in-Ok-new-clause-serves g c =
     let lists = g.T.Tree.lists c.args.self.now.reader.tree.now in
     let gives = g.T.Tree.gives c.args.self.now.reader.tree.now in
     let counted : IsCounted gives c.args.opened.job (bytes_of c.args.opened.files.items) c.args.opened.absent.items
-    c.in-Ok-count_in_parts.found = c.in-Ok-count_in_parts.ensures in
-    let added : AddsFiles (map tallied c.in-Ok-count_in_parts.found.files.items) c.args.tally.now c.add_files.new.tally (Ok tt) = rw
+    c.in-Ok-count_divided.found = c.in-Ok-count_divided.ensures in
+    let added : AddsFiles (map tallied c.in-Ok-count_divided.found.files.items) c.args.tally.now c.add_files.new.tally (Ok tt) = rw
     c.deref.ensures.value at c.in-Ok-add_files.ensures in
     let row : c.in-Ok-new.row ≡ _ = c.in-Ok-new.ensures.row in
     rw c.give.ensures.mine
     (serves_listed ask lists gives _ _ c.args.job c.args.opened c.requires.pass.1 c.requires.opened
-    c.in-Ok-count_in_parts.found c.args.tally.now c.add_files.new.tally c.in-Ok-new.row c.in-Ok.ensures.posts.0 counted added
+    c.in-Ok-count_divided.found c.args.tally.now c.add_files.new.tally c.in-Ok-new.row c.in-Ok.ensures.posts.0 counted added
     (record {
       job = ap (λ (r : ListedRowModel). r.job) row;
       entries = ap (λ (r : ListedRowModel). r.entries) row;

@@ -1,5 +1,5 @@
 use denote.Param.Send.{sendable}
-use Rattle.lc_walk.proofs.Crossing.{crosses}
+use Rattle.lc_walk.proofs.SentAndShared.{crosses}
 use Rattle.lc_walk_tests.proofs.walk.rows.work_over.Goals as goal
 
 pub work-requires-send-B-Pass : goal.work-requires-send-B-Pass

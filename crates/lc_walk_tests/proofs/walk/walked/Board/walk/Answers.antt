@@ -1,5 +1,5 @@
 use denote.Param.Send.{sendable}
-use Rattle.lc_walk.proofs.Crossing.{crosses}
+use Rattle.lc_walk.proofs.SentAndShared.{crosses}
 use Rattle.lc_walk_tests.proofs.walk.walked.Board.walk.Goals as goal
 
 pub walk_on-requires-sync-B : goal.walk_on-requires-sync-B

@@ -30,7 +30,7 @@ AreWhole rows = (i : ℕ) (e : Ended Row) → slice_get rows i ≡ Some e → Is
 -- what the row of a number found, by the answers with which it is lawful
 abbrev pub row_found : Asked → Option (Ended Row) → Answers → List Found
 row_found ask None a = []
-row_found ask (Some e) a = found_at ask.selection (job_of (row_of e)) a
+row_found ask (Some e) a = found_at ask.filters (job_of (row_of e)) a
 
 -- what the rows found, by number
 abbrev pub rows_found : Asked → List (Ended Row) → (ℕ → Answers) → List Found

@@ -11,26 +11,26 @@ use Rattle.lc_tree.specs.Paths.{names_of_path}
 use Rattle.lc_level.specs.Answers.{Answers, Tree}
 use Rattle.lc_level.specs.Job.{JobModel}
 use Rattle.lc_level.specs.Level.{level}
-use Rattle.lc_level.specs.Selection.{SelectionModel}
+use Rattle.lc_level.specs.Filters.{FiltersModel}
 use Rattle.lc_walk.specs.Found.{children_at}
 use Rattle.lc_walk.specs.FoundAt.{LeadsTo}
-use Rattle.lc_walk.specs.Walk.{walk_of}
+use Rattle.lc_walk.specs.RecursiveWalk.{walk_of}
 use Rattle.lc_level.specs.Deep.{has_too_deep}
 use Rattle.lc_walk.specs.Rows.{row_of, job_of}
 use Rattle.lc_walk.specs.Lawful.{Asked}
 use Rattle.lc_walk.specs.TreeOfRows.{tree_of_rows}
-use Rattle.lc_walk.specs.Walked.{Walked, AreWhole}
-use Rattle.lc_walk.specs.WalkReport.{IsReportOf}
+use Rattle.lc_walk.specs.ClosedWalks.{Walked, AreWhole}
+use Rattle.lc_walk.specs.FoundReports.{IsReportOf}
 use Rattle.lc_walk.specs.declared.row.Row.{Row}
 use Rattle.lc_walk.specs.declared.walk_fault.WalkFault.{WalkFault}
 use Rattle.lc_walk.specs.declared.walk_fault.WalkFault.TheVariants.{Memory, TooManyDirs, TooDeep, Torn, Mismatch}
 
 -- a tree that answers as one tree does, as far as a level tells, for each directory that names lead to in that one: nothing is asked of
 -- what stands below a directory that is left out or can't be listed
-abbrev pub IsOneAnswer : SelectionModel → (List ℕ → Answers → Type 0) → JobModel → Tree → Type 0
-IsOneAnswer selection MayAnswer top t =
-    (place : List (List ℕ)) (j : JobModel) → LeadsTo selection top t place j → (a : Answers) → MayAnswer j.path a →
-    level selection j a ≡ level selection j (t (names_of_path j.path))
+abbrev pub IsOneAnswer : FiltersModel → (List ℕ → Answers → Type 0) → JobModel → Tree → Type 0
+IsOneAnswer filters MayAnswer top t =
+    (place : List (List ℕ)) (j : JobModel) → LeadsTo filters top t place j → (a : Answers) → MayAnswer j.path a →
+    level filters j a ≡ level filters j (t (names_of_path j.path))
 
 -- over a board of these promises
 module _ (MayAnswer : List ℕ → Answers → Type 0) (ask : Asked) (capacity workers : ℕ) (top : JobModel) (promises : Promises) where
@@ -51,13 +51,13 @@ module _ (MayAnswer : List ℕ → Answers → Type 0) (ask : Asked) (capacity w
     pub found : SomeRows
     pub whole : AreWhole found.rows
     pub report : (depth : ℕ) → capacity ≤ depth →
-        IsReportOf ask.lists (walk_of ask.selection depth top (tree_of_rows found.rows found.answers)) r
+        IsReportOf ask.lists (walk_of ask.filters depth top (tree_of_rows found.rows found.answers)) r
     pub files_once : AreInOrder (file_paths r.files.items)
     pub faults_once : AreInOrder (fault_paths r.faults.items)
     pub skipped_once : AreInOrder (skipped_paths r.skipped.items)
     pub apart : AreApart (file_paths r.files.items ++ fault_paths r.faults.items ++ skipped_paths r.skipped.items)
-    pub one_answer : (t : Tree) → IsOneAnswer ask.selection MayAnswer top t →
-        (depth : ℕ) → capacity ≤ depth → IsReportOf ask.lists (walk_of ask.selection depth top t) r
+    pub one_answer : (t : Tree) → IsOneAnswer ask.filters MayAnswer top t →
+        (depth : ℕ) → capacity ≤ depth → IsReportOf ask.lists (walk_of ask.filters depth top t) r
 
   -- such rows, Broken ones allowed, of which one's listing has an entry that is too deep
   pub record IsTooDeepSomewhere : Type 0 where
@@ -65,7 +65,7 @@ module _ (MayAnswer : List ℕ → Answers → Type 0) (ask : Asked) (capacity w
     pub number : ℕ
     pub row : Ended Row
     pub is : slice_get found.rows number ≡ Some row
-    pub deep : has_too_deep ask.selection (job_of (row_of row)) (found.answers number) ≡ true
+    pub deep : has_too_deep ask.filters (job_of (row_of row)) (found.answers number) ≡ true
 
   -- such rows, Broken ones allowed, that fill all numbers, and of which one's directory has more child directories than were posted
   pub record FillsAll : Type 0 where
@@ -75,7 +75,7 @@ module _ (MayAnswer : List ℕ → Answers → Type 0) (ask : Asked) (capacity w
     pub row : Ended Row
     pub is : slice_get found.rows number ≡ Some row
     pub more : length (posts_under number found.history)
-        < length (children_at ask.selection (job_of (row_of row)) (found.answers number))
+        < length (children_at ask.filters (job_of (row_of row)) (found.answers number))
 
   -- what a walk answers
   abbrev pub WalkAnswers : Result Report WalkFault → Type 0

@@ -9,7 +9,7 @@ use Rattle.lc_board.specs.LegalHistory.{posts_under, IsLegal}
 use Rattle.lc_board.specs.RowsInPlace.{job_posted}
 use Rattle.lc_board.specs.declared.event.Event.{Event}
 use Rattle.lc_level.specs.Job.{JobModel}
-use Rattle.lc_walk.specs.Walk.{walks_below, walk_by}
+use Rattle.lc_walk.specs.RecursiveWalk.{walks_below, walk_by}
 use Rattle.lc_walk.specs.RowViews.{ChildModel}
 use Rattle.lc_walk.specs.Lawful.{jobs_of, named}
 use Rattle.lc_walk.specs.TreeOfRows.{child_number, tree_from}

@@ -3,25 +3,16 @@ use Rattle.std.specs.Prelude.{◌≡◌, ℕ, if◌then◌else◌, List, [], ◌
 use Rattle.std.specs.List.Sorted.{IsPermutation, IsSortedByKey}
 use Rattle.lc_walk.specs.Extension.{extension_of}
 use Rattle.lc_walk.specs.Tally.{CountedFile, counted, sums_of_files, IsTally}
-use Rattle.lc_walk.specs.ReportLines.{FileLineModel, SkippedLineModel}
 use Rattle.lc_level.specs.FaultLines.{FaultLineModel}
 use Rattle.lc_tree.specs.ByteOrder.{bytes_cmp}
 use Rattle.lc_walk.specs.declared.options.ReportLists.{ReportLists}
 use Rattle.lc_walk.specs.declared.report.Report.{Report}
-use Rattle.lc_glob.specs.Path.{path_in}
-use Rattle.lc_level.specs.Level.{CountedModel, SkippedModel}
+use Rattle.lc_level.specs.Level.{FileLineModel, SkippedLineModel, file_below, skipped_below}
 use Rattle.lc_walk.specs.Found.{Found, found_file, found_fault, found_directory, found_skipped}
 
--- what the tally needs of a counted file, and its line
-abbrev pub tallied : CountedModel → CountedFile
-tallied f = counted (extension_of f.name) f.text f.count
-
-abbrev pub line_of : List ℕ → CountedModel → FileLineModel
-line_of directory f = record { path = path_in directory f.name; text = f.text; count = f.count }
-
--- the line of an entry left out
-abbrev pub skipped_line : List ℕ → SkippedModel → SkippedLineModel
-skipped_line directory l = record { path = path_in directory l.name; kind = l.kind; reason = l.reason }
+-- what the tally needs of a counted file
+abbrev pub tallied : FileLineModel → CountedFile
+tallied f = counted (extension_of f.path) f.text f.count
 
 abbrev pub tallied_in : Found → List CountedFile
 tallied_in (found_file directory f) = tallied f ∷ []
@@ -30,7 +21,7 @@ tallied_in (found_directory path entries) = []
 tallied_in (found_skipped directory l) = []
 
 abbrev pub file_in : Found → List FileLineModel
-file_in (found_file directory f) = line_of directory f ∷ []
+file_in (found_file directory f) = file_below directory f ∷ []
 file_in (found_fault path word) = []
 file_in (found_directory path entries) = []
 file_in (found_skipped directory l) = []
@@ -51,7 +42,7 @@ abbrev pub skipped_lines_in : Found → List SkippedLineModel
 skipped_lines_in (found_file directory f) = []
 skipped_lines_in (found_fault path word) = []
 skipped_lines_in (found_directory path entries) = []
-skipped_lines_in (found_skipped directory l) = skipped_line directory l ∷ []
+skipped_lines_in (found_skipped directory l) = skipped_below directory l ∷ []
 
 abbrev pub entries_in : Found → ℕ
 entries_in (found_file directory f) = 0

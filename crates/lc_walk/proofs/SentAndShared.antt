@@ -1,12 +1,12 @@
 -- The boards of a walk may be shared among its threads, and their passes sent to them, as a set for `search`.
 use denote.Param.Send.{IsSend, IsSync, sendable}
 use Rattle.std.proofs.Crossing as below
-use Rattle.lc_board.proofs.Crossing as board
+use Rattle.lc_board.proofs.SentAndShared as board
 use Rattle.lc_board.specs.contracts.locked.Locked as Locked
 use Rattle.lc_board.specs.contracts.locked.pass.LockedPass as LockedPass
 use Rattle.lc_board.specs.contracts.words.Words as Words
 use Rattle.lc_board.specs.contracts.words.pass.WordsPass as WordsPass
-use Rattle.lc_level.proofs.Crossing as level
+use Rattle.lc_level.proofs.SentAndShared as level
 use Rattle.lc_level.specs.contracts.job.Job as Job
 use Rattle.lc_walk.specs.contracts.row.Row as Row
 

@@ -17,12 +17,12 @@ use Rattle.lc_level.specs.Answers.{Answers, no_answers, Tree}
 use Rattle.lc_level.specs.Job.{JobModel}
 use Rattle.lc_level.specs.Level.{level, walked_in}
 use Rattle.lc_walk.specs.Found.{Found, found_of, found_at, children_of, children_at}
-use Rattle.lc_walk.specs.Walk.{walk_of}
+use Rattle.lc_walk.specs.RecursiveWalk.{walk_of}
 use Rattle.lc_walk.specs.RowViews.{ChildModel}
 use Rattle.lc_walk.specs.Rows.{row_of, job_of, children_in, IsWhole}
 use Rattle.lc_walk.specs.Lawful.{Asked, Says, named, jobs_of}
 use Rattle.lc_walk.specs.TreeOfRows.{child_number, tree_from, children_at_row, children_by_rows, tree_of_rows, numbers_below}
-use Rattle.lc_walk.specs.Walked.{Walked, AreWhole, row_found, rows_found}
+use Rattle.lc_walk.specs.ClosedWalks.{Walked, AreWhole, row_found, rows_found}
 use Rattle.lc_walk.specs.Laws.{CoreLaw, NumbersLaw, OneAnswerLaw, PartLaw, walk_numbers}
 use Rattle.lc_walk.specs.declared.row.Row.{Row}
 use Rattle.lc_walk.specs.declared.row.Row.TheVariants.{Listed, Faulted, Broken}
@@ -31,7 +31,7 @@ use Rattle.lc_board.proofs.PostedNumbers.{start, top_posted, Known, known}
 use Rattle.lc_walk.proofs.Reach.{reach, reach_times}
 use Rattle.lc_walk.proofs.Levels.{apart_level, good_level, IsChild}
 use Rattle.lc_walk.proofs.Places.{names_of_path-path_in}
-use Rattle.lc_walk.proofs.Core.{Grows, walk_is, Finds, finds, under_rows, PlacedUnder, under_places, same_head, same_tail}
+use Rattle.lc_walk.proofs.NumbersReached.{Grows, walk_is, Finds, finds, under_rows, PlacedUnder, under_places, same_head, same_tail}
 
 same_some : {A : Type 0} (x y : A) → Some x ≡ Some y → x ≡ y
 same_some x y e = cc
@@ -41,21 +41,21 @@ same_some x y e = cc
 -- what a row that is not Broken says of its directory
 pub record Parts (ask : Asked) (e : Ended Row) (a : Answers) (posts : List (ℕ × JobModel)) : Type 0 where
   -- what was posted is its child directories
-  pub jobs : jobs_of posts ≡ jobs_of (children_at ask.selection (job_of (row_of e)) a)
+  pub jobs : jobs_of posts ≡ jobs_of (children_at ask.filters (job_of (row_of e)) a)
   -- and its children have the posts' numbers
-  pub children : children_in (row_of e) ≡ named (children_at ask.selection (job_of (row_of e)) a) posts
+  pub children : children_in (row_of e) ≡ named (children_at ask.filters (job_of (row_of e)) a) posts
 
 -- a whole row that says the truth has these parts
 pub parts : (ask : Asked) (full : Bool) (e : Ended Row) (a : Answers) (posts : List (ℕ × JobModel)) → Says ask full e a posts
     → IsWhole (row_of e) → Parts ask e a posts
 parts ask full (ended.Returned (Listed r)) a posts s w =
-    let walked : walked_in s.fates ≡ children_at ask.selection r.job a = sym (ap children_of s.level_is) in
+    let walked : walked_in s.fates ≡ children_at ask.filters r.job a = sym (ap children_of s.level_is) in
     record { jobs = s.posts_are ∙ ap jobs_of walked; children = s.children_are ∙ ap (λ cs. named cs posts) walked }
 parts ask full (ended.Returned (Faulted r)) a posts s w = absurd s
 parts ask full (ended.Returned (Broken r)) a posts s w = absurd w
 parts ask full (ended.Faulted (Listed r)) a posts s w = absurd s
 parts ask full (ended.Faulted (Faulted r)) a posts s w =
-    let none : children_at ask.selection r.job a ≡ [] = ap children_of s.level_is in
+    let none : children_at ask.filters r.job a ≡ [] = ap children_of s.level_is in
     record { jobs = ap jobs_of s.posts_are ∙ ap jobs_of (sym none); children = ap (λ cs. named cs posts) (sym none) }
 parts ask full (ended.Faulted (Broken r)) a posts s w = absurd w
 
@@ -113,7 +113,7 @@ module _ (ask : Asked) (full : Bool) (capacity workers : ℕ) (top : JobModel) (
 
   module _ (whole : AreWhole rows) where
     abbrev children_of_number : ℕ → List (List ℕ × JobModel)
-    children_of_number i = children_at ask.selection (job_at i) (answers i)
+    children_of_number i = children_at ask.filters (job_at i) (answers i)
 
     pub record HasItsChildren (i : ℕ) : Type 0 where
       pub jobs : jobs_of (posts_under i h) ≡ jobs_of (children_of_number i)
@@ -129,18 +129,18 @@ module _ (ask : Asked) (full : Bool) (capacity workers : ℕ) (top : JobModel) (
         let p = parts ask full r.row (answers i) (posts_under i h) lawful.says (whole i r.row r.is) in
         let job : job_of (row_of r.row) ≡ job_at i = ap (job_or top) (sym r.is) in
         let children : children_by_rows rows i ≡ named (children_of_number i) (posts_under i h) =
-        ap children_at_row r.is ∙ p.children ∙ ap (λ j. named (children_at ask.selection j (answers i)) (posts_under i h)) job in
+        ap children_at_row r.is ∙ p.children ∙ ap (λ j. named (children_at ask.filters j (answers i)) (posts_under i h)) job in
         record {
-          jobs = p.jobs ∙ ap (λ j. jobs_of (children_at ask.selection j (answers i))) job;
+          jobs = p.jobs ∙ ap (λ j. jobs_of (children_at ask.filters j (answers i))) job;
           children = children;
           looked = subst (λ (cs : List ChildModel). Finds (λ m. child_number m cs) (children_of_number i) (posts_under i h)) (sym children)
-              (finds (children_of_number i) (posts_under i h) (apart_level ask.selection (job_at i) (answers i) lawful.well_formed));
-          named_so = good_level ask.selection (job_at i) (answers i) lawful.well_formed;
+              (finds (children_of_number i) (posts_under i h) (apart_level ask.filters (job_at i) (answers i) lawful.well_formed));
+          named_so = good_level ask.filters (job_at i) (answers i) lawful.well_formed;
         }
 
     -- ---- the tree of rows
 
-    grows : Grows (found_at ask.selection) (children_at ask.selection) h job_at answers
+    grows : Grows (found_at ask.filters) (children_at ask.filters) h job_at answers
         (tree_from no_answers answers (children_by_rows rows))
     grows = record {
       same_found = λ i a. refl;
@@ -152,7 +152,7 @@ module _ (ask : Asked) (full : Bool) (capacity workers : ℕ) (top : JobModel) (
     times_same depth deep p = reach_times capacity workers top h walked.room walked.legal (length rows) walked.numbers depth deep p
 
     abbrev gives_number : ℕ → List Found
-    gives_number i = found_at ask.selection (job_at i) (answers i)
+    gives_number i = found_at ask.filters (job_at i) (answers i)
 
     all_below : (n : ℕ) → AllByRecursion (λ i. i < n) (numbers_below n)
     all_below zero = tt
@@ -162,7 +162,7 @@ module _ (ask : Asked) (full : Bool) (capacity workers : ℕ) (top : JobModel) (
     one_found : (i : ℕ) → i < length rows → gives_number i ≡ row_found ask (slice_get rows i) (answers i)
     one_found i b =
         let r = row_here rows i b in
-        ap (λ o. found_at ask.selection (job_or top o) (answers i)) r.is ∙ sym (ap (λ o. row_found ask o (answers i)) r.is)
+        ap (λ o. found_at ask.filters (job_or top o) (answers i)) r.is ∙ sym (ap (λ o. row_found ask o (answers i)) r.is)
 
     found_by_number : flat_map gives_number (numbers_below (length rows)) ≡ rows_found ask rows answers
     found_by_number =
@@ -180,11 +180,11 @@ module _ (ask : Asked) (full : Bool) (capacity workers : ℕ) (top : JobModel) (
 
     -- the walk of the tree of rows finds what the rows found
     pub of_rows : (depth : ℕ) → capacity ≤ depth
-        → IsPermutation (walk_of ask.selection depth top (tree_of_rows rows answers)) (rows_found ask rows answers)
+        → IsPermutation (walk_of ask.filters depth top (tree_of_rows rows answers)) (rows_found ask rows answers)
     of_rows depth deep =
         by_reach depth deep _
-        (ap (λ j. walk_of ask.selection depth j (tree_of_rows rows answers)) (sym job_at_top)
-        ∙ walk_is (found_at ask.selection) (children_at ask.selection) capacity workers top h job_at answers
+        (ap (λ j. walk_of ask.filters depth j (tree_of_rows rows answers)) (sym job_at_top)
+        ∙ walk_is (found_at ask.filters) (children_at ask.filters) capacity workers top h job_at answers
         (tree_from no_answers answers (children_by_rows rows)) walked.legal
         posted_at (λ i a. (fits i a).jobs) grows depth 0 (start h))
 
@@ -194,7 +194,7 @@ module _ (ask : Asked) (full : Bool) (capacity workers : ℕ) (top : JobModel) (
     number_found j a = a.0 ∷ []
 
     abbrev number_children : JobModel → (ℕ × Answers) → List (List ℕ × JobModel)
-    number_children j a = children_at ask.selection j a.1
+    number_children j a = children_at ask.filters j a.1
 
     numbers_grow : Grows number_found number_children h job_at (λ i. (i, answers i))
         (tree_from (0, no_answers) (λ i. (i, answers i)) (children_by_rows rows))
@@ -246,14 +246,14 @@ module _ (ask : Asked) (full : Bool) (capacity workers : ℕ) (top : JobModel) (
     -- a tree that answers each place as the rows were answered is walked as theirs is
     pub of_one_tree : (t : Tree) → top.path ≡ [] →
         ((i : ℕ) (e : Ended Row) → slice_get rows i ≡ Some e →
-        level ask.selection (job_of (row_of e)) (answers i) ≡ level ask.selection (job_of (row_of e))
+        level ask.filters (job_of (row_of e)) (answers i) ≡ level ask.filters (job_of (row_of e))
         (t (names_of_path (job_of (row_of e)).path))) →
-        (depth : ℕ) → capacity ≤ depth → IsPermutation (walk_of ask.selection depth top t) (rows_found ask rows answers)
+        (depth : ℕ) → capacity ≤ depth → IsPermutation (walk_of ask.filters depth top t) (rows_found ask rows answers)
     of_one_tree t at_top agree depth deep =
         by_reach depth deep _
-        (ap (λ j. walk_of ask.selection depth j t) (sym job_at_top)
-        ∙ ap (λ (u : List (List ℕ) → Answers). walk_of ask.selection depth (job_at 0) u) (sym whole_tree)
-        ∙ walk_is (found_at ask.selection) (children_at ask.selection) capacity workers top h job_at answers
+        (ap (λ j. walk_of ask.filters depth j t) (sym job_at_top)
+        ∙ ap (λ (u : List (List ℕ) → Answers). walk_of ask.filters depth (job_at 0) u) (sym whole_tree)
+        ∙ walk_is (found_at ask.filters) (children_at ask.filters) capacity workers top h job_at answers
         (λ i p. t (place_at i ++ p)) walked.legal
         posted_at (λ i a. (fits i a).jobs) tree_grows depth 0 (start h))
       where
@@ -261,15 +261,15 @@ module _ (ask : Asked) (full : Bool) (capacity workers : ℕ) (top : JobModel) (
         nil_end xs = append-nil xs
 
         at_level : (i : ℕ) → status h i ≢ Absent
-            → level ask.selection (job_at i) (t (place_at i ++ [])) ≡ level ask.selection (job_at i) (answers i)
+            → level ask.filters (job_at i) (t (place_at i ++ [])) ≡ level ask.filters (job_at i) (answers i)
         at_level i a =
             let r = row_here rows i (inside i a) in
             let job : job_of (row_of r.row) ≡ job_at i = ap (job_or top) (sym r.is) in
-            ap (λ p. level ask.selection (job_at i) (t p)) (nil_end (place_at i))
-            ∙ subst (λ j. level ask.selection j (t (names_of_path j.path)) ≡ level ask.selection j (answers i)) job
+            ap (λ p. level ask.filters (job_at i) (t p)) (nil_end (place_at i))
+            ∙ subst (λ j. level ask.filters j (t (names_of_path j.path)) ≡ level ask.filters j (answers i)) job
             (sym (agree i r.row r.is))
 
-        tree_grows : Grows (found_at ask.selection) (children_at ask.selection) h job_at answers (λ i p. t (place_at i ++ p))
+        tree_grows : Grows (found_at ask.filters) (children_at ask.filters) h job_at answers (λ i p. t (place_at i ++ p))
         tree_grows = record {
           same_found = λ i a. ap (found_of (job_at i)) (at_level i a);
           same_children = λ i a. ap children_of (at_level i a);

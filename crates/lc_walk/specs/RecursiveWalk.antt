@@ -2,7 +2,7 @@
 use Rattle.std.specs.Prelude.{ℕ, zero, suc, List, [], ◌∷◌, ◌++◌}
 use Rattle.lc_level.specs.Answers.{Tree}
 use Rattle.lc_level.specs.Job.{JobModel}
-use Rattle.lc_level.specs.Selection.{SelectionModel}
+use Rattle.lc_level.specs.Filters.{FiltersModel}
 use Rattle.lc_walk.specs.Found.{Found, found_at, children_at}
 
 -- for any kind of answers: what the directory gives, then the walks of its child directories, one after another
@@ -18,5 +18,5 @@ module _ {J N A X : Type 0} (found : J → A → List X) (children : J → A →
   walk_by (suc depth) j tree = found j (tree []) ++ walks_below (walk_by depth) tree (children j (tree []))
 
 -- what the recursive walk of a tree finds
-abbrev pub walk_of : SelectionModel → ℕ → JobModel → Tree → List Found
-walk_of selection depth top tree = walk_by (found_at selection) (children_at selection) depth top tree
+abbrev pub walk_of : FiltersModel → ℕ → JobModel → Tree → List Found
+walk_of filters depth top tree = walk_by (found_at filters) (children_at filters) depth top tree

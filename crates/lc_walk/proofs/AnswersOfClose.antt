@@ -21,8 +21,8 @@ use Rattle.lc_walk.specs.Rows.{row_of, job_of}
 use Rattle.lc_walk.specs.Lawful.{Asked, Says, IsCause}
 use Rattle.lc_walk.specs.Assembled.{IsBrokenBy, Assembles}
 use Rattle.lc_walk.specs.WorkerResults.{AreLawful, files_of_passes, FoundOver}
-use Rattle.lc_walk.specs.WalkAnswers.{SomeRows, WalkAnswers}
-use Rattle.lc_walk.specs.WalkOn.{fault_of_close}
+use Rattle.lc_walk.specs.BoardAnswers.{SomeRows, WalkAnswers}
+use Rattle.lc_walk.specs.CloseFaults.{fault_of_close}
 use Rattle.lc_board.specs.WordClose.{words_promises}
 use Rattle.lc_level.specs.TreeAnswers.{MayAnswer}
 use Rattle.lc_tree.specs.Trees.{Listings, Contents}
