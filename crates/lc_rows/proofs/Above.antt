@@ -3,9 +3,9 @@ use Rattle.std.proofs.Common.{◌≡◌, ℕ, ◌+◌, List, [], ◌∷◌, ◌+
 use Rattle.std.specs.List.{range_with_len}
 use Rattle.std.proofs.lemmas.List.FromFn.{map-range_with_len_more}
 use Rattle.lc_sheet.specs.declared.table_options.Columns.{Columns}
-use Rattle.lc_walk.specs.ReportLines.{FileLineModel}
 use Rattle.lc_rows.specs.RowKeys.{ShownRowModel}
 use Rattle.lc_rows.specs.ShownRows.{part_of_file}
+use Rattle.lc_level.specs.Level.{FileLineModel}
 
 -- one directory more
 pub above_more : (by : Columns) (f : FileLineModel) (before now after : List ShownRowModel) (n : ℕ) (p : ShownRowModel)

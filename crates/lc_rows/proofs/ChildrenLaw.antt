@@ -10,7 +10,6 @@ use Rattle.lc_sheet.specs.declared.table_options.Columns.{Columns}
 use Rattle.lc_walk.proofs.Filtered.{part, sum_by-filter}
 use Rattle.lc_walk.proofs.RowSums.{same_sums}
 use Rattle.lc_walk.specs.Key.{Key, same_key}
-use Rattle.lc_walk.specs.ReportLines.{FileLineModel}
 use Rattle.lc_walk.specs.Sums.{one_file, plus}
 use Rattle.lc_walk.specs.declared.tally.sums.Sums.{Sums}
 use Rattle.lc_rows.specs.Directories.{directory_of, parent_of}
@@ -21,6 +20,7 @@ use Rattle.lc_rows.specs.TreeRows.{is_child, is_in, parts_above, tree_parts}
 use Rattle.lc_rows.proofs.Folding.{alike_permuted, alike_sums}
 use Rattle.lc_rows.proofs.Levels.{above_parent, depth_above, last_above, some_depth}
 use Rattle.lc_rows.proofs.TreeLaw.{key_parts, one_more}
+use Rattle.lc_level.specs.Level.{FileLineModel}
 
 -- where each number of one sum is the one before it of another, only the last is missing
 module _ {X : Type 0} (g h : X → ℕ) (f : ℕ → X) (none : h (f 0) ≡ 0) where

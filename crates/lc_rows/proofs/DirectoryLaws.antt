@@ -14,7 +14,6 @@ use Rattle.lc_sheet.specs.declared.table_options.Columns.{Columns}
 use Rattle.lc_walk.proofs.Filtered.{part, sum_by-filter}
 use Rattle.lc_walk.proofs.Keys.{equal_if}
 use Rattle.lc_walk.proofs.RowSums.{same_sums}
-use Rattle.lc_walk.specs.ReportLines.{FileLineModel}
 use Rattle.lc_walk.specs.Sums.{one_file}
 use Rattle.lc_walk.specs.declared.tally.sums.Sums.{Sums}
 use Rattle.lc_rows.specs.Laws.{DirectoriesLaw, OneRowLaw, file_row_key, sums_of_lines}
@@ -24,6 +23,7 @@ use Rattle.lc_rows.specs.ShownRows.{part_of_file}
 use Rattle.lc_rows.proofs.Folding.{alike_permuted, alike_sums}
 use Rattle.lc_rows.proofs.RowLaws.{moved, sum_by-map}
 use Rattle.lc_rows.proofs.SameKeys.{row_key_cmp_total}
+use Rattle.lc_level.specs.Level.{FileLineModel}
 
 -- the sums over the parts of a set of keys are those over their files
 file_sums : (n : ℕ) (by : Columns) (keys : RowKey → Bool) (fs : List FileLineModel)

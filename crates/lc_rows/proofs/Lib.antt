@@ -10,6 +10,8 @@ pub mod TreeLaw
 pub mod ChildrenLaw
 pub mod ViewLaws
 pub mod ClassLaw
+pub mod KeptMade
+pub mod KeptParts
 pub mod SheetMade
 pub mod RowParts
 pub mod SheetLawProofs

@@ -10,13 +10,13 @@ use Rattle.lc_sheet.specs.declared.table_options.Columns.{Columns}
 use Rattle.lc_sheet.specs.declared.column.Number.{Number}
 use Rattle.lc_walk.proofs.RowSums.{same_sums}
 use Rattle.lc_walk.specs.Key.{Key, key_cmp}
-use Rattle.lc_walk.specs.ReportLines.{FileLineModel}
 use Rattle.lc_walk.specs.Sums.{one_file}
 use Rattle.lc_walk.specs.TallyRows.{TallyRowModel, IsInOrder}
 use Rattle.lc_walk.specs.declared.tally.sums.Sums.{Sums}
 use Rattle.lc_rows.specs.Laws.{PermutationLaw, TotalsLaw, WholeLaw, all_columns, totals_of}
 use Rattle.lc_rows.specs.RowKeys.{RowKey, ShownRowModel, row_key, row_key_cmp, rows_within, sums_of_shown}
 use Rattle.lc_rows.specs.ShownRows.{AreAddedUp, AreSorted, keeps_all, part_of_file, part_of_row, parts_in, parts_of}
+use Rattle.lc_level.specs.Level.{FileLineModel}
 
 -- sorted or not, the rows are the same
 pub moved : (sort : Option Number) (rs sorted : List ShownRowModel) → AreSorted sort rs sorted → IsPermutation rs sorted

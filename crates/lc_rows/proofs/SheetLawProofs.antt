@@ -15,7 +15,6 @@ use Rattle.lc_sheet.specs.declared.table_options.Format.{Format}
 use Rattle.lc_sheet.specs.declared.table_options.Format.TheVariants.{Tsv, Table, Json, Csv, Markdown, Html}
 use Rattle.lc_sheet.specs.declared.table_options.TableOptions.{TableOptions}
 use Rattle.lc_walk.proofs.RowSums.{same_sums}
-use Rattle.lc_walk.specs.ReportLines.{FileLineModel}
 use Rattle.lc_walk.specs.Sums.{no_files, one_file, plus}
 use Rattle.lc_walk.specs.TallyRows.{TallyRowModel}
 use Rattle.lc_walk.specs.declared.report.Report.{Report}
@@ -33,6 +32,7 @@ use Rattle.lc_rows.specs.ShownFiles.{AreFilesSorted}
 use Rattle.lc_rows.specs.Views.{view_of}
 use Rattle.lc_rows.proofs.ClassLaw.{classes_law}
 use Rattle.lc_rows.proofs.ViewLaws.{cut_totals_law, sorted_files_law}
+use Rattle.lc_level.specs.Level.{FileLineModel}
 
 -- ---- the column of a number
 

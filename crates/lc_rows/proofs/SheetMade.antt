@@ -6,7 +6,6 @@ use Rattle.lc_sheet.specs.Sheets.{SheetModel}
 use Rattle.lc_sheet.specs.declared.column.Column.{Column}
 use Rattle.lc_sheet.specs.declared.form.Form.{Form}
 use Rattle.lc_sheet.specs.declared.table_options.TableOptions.{TableOptions}
-use Rattle.lc_walk.specs.ReportLines.{FileLineModel}
 use Rattle.lc_walk.specs.declared.report.Report.{Report}
 use Rattle.lc_rows.specs.Kinds.{NamedSumsModel}
 use Rattle.lc_rows.specs.RowKeys.{ShownRowModel}
@@ -14,6 +13,7 @@ use Rattle.lc_rows.specs.SheetColumns.{row_columns}
 use Rattle.lc_rows.specs.Sheets.{HasFiles, IsSheetOf, form_of, others_lines, sheet_of, sheet_with, totals_lines}
 use Rattle.lc_rows.specs.ShownFiles.{AreFilesSorted}
 use Rattle.lc_rows.specs.Views.{ViewModel}
+use Rattle.lc_level.specs.Level.{FileLineModel}
 
 -- where each part is that of a view, the sheet is that of the view
 pub made : (options : TableOptions) (r : Report) (v : ViewModel) (form : Form) (columns : List Column) (rows : List ShownRowModel)

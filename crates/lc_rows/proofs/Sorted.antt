@@ -5,13 +5,13 @@ use Rattle.std.specs.Ordering.{is_lt}
 use Rattle.std.proofs.lemmas.Cmp.{back_total, lists_total, nat_cmp_total, nat_list_cmp_total, on_total, then_total}
 use Rattle.std.proofs.lemmas.List.Sorted.{ranks_by}
 use Rattle.lc_sheet.specs.declared.column.Number.{Number}
-use Rattle.lc_walk.specs.ReportLines.{FileLineModel}
 use Rattle.lc_walk.proofs.Keys.{key_cmp_total}
 use Rattle.lc_rows.specs.RowKeys.{RowKey, ShownRowModel, row_key}
 use Rattle.lc_rows.specs.ShownFiles.{file_cmp, file_number}
 use Rattle.lc_rows.specs.ShownRows.{number_in, row_cmp}
 use Rattle.lc_rows.specs.TreeRows.{byte_place, depth_first_cmp}
 use Rattle.lc_rows.proofs.SameKeys.{row_key_cmp_total}
+use Rattle.lc_level.specs.Level.{FileLineModel}
 
 row_cmp_total : (n : Number) → IsTotalOrder (row_cmp n)
 row_cmp_total n =

@@ -17,7 +17,6 @@ use Rattle.lc_sheet.specs.declared.table_options.Columns.{Columns}
 use Rattle.lc_walk.proofs.Filtered.{part, sum_by-filter}
 use Rattle.lc_walk.proofs.RowSums.{same_sums}
 use Rattle.lc_walk.specs.Key.{Key, key_cmp, same_key}
-use Rattle.lc_walk.specs.ReportLines.{FileLineModel}
 use Rattle.lc_walk.specs.Sums.{one_file}
 use Rattle.lc_walk.specs.declared.tally.sums.Sums.{Sums}
 use Rattle.lc_rows.specs.Directories.{directory_of}
@@ -27,6 +26,7 @@ use Rattle.lc_rows.specs.ShownRows.{file_key, key_in, part_of_file}
 use Rattle.lc_rows.specs.TreeRows.{is_below, parts_above, tree_parts}
 use Rattle.lc_rows.proofs.Folding.{alike_permuted, alike_sums}
 use Rattle.lc_rows.proofs.Levels.{depth_above, some_depth}
+use Rattle.lc_level.specs.Level.{FileLineModel}
 
 -- sums over a range of numbers of which none counts, and of which one counts
 module _ {X : Type 0} (g : X → ℕ) (f : ℕ → X) where

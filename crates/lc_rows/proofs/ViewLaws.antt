@@ -13,7 +13,6 @@ use Rattle.std.proofs.lemmas.List.Sorted.{IsPermutation-refl, sorted_far}
 use Rattle.std.proofs.lemmas.Map.Keys.{ge_from_not_lt}
 use Rattle.lc_sheet.specs.declared.column.Number.{Number}
 use Rattle.lc_walk.proofs.RowSums.{same_sums}
-use Rattle.lc_walk.specs.ReportLines.{FileLineModel}
 use Rattle.lc_walk.specs.Sums.{no_files, plus}
 use Rattle.lc_rows.specs.RowKeys.{ShownRowModel, sums_of_shown}
 use Rattle.lc_rows.specs.Laws.{CutTotalsLaw, FirstFilesLaw, SortedFilesLaw}
@@ -21,6 +20,7 @@ use Rattle.lc_rows.specs.ShownFiles.{AreFilesSorted, file_cmp, file_number}
 use Rattle.lc_rows.specs.Views.{first_of, rest_of, sums_of_some}
 use Rattle.lc_rows.proofs.RowLaws.{totals_law}
 use Rattle.lc_rows.proofs.Sorted.{files_rank}
+use Rattle.lc_level.specs.Level.{FileLineModel}
 
 -- the sums over some rows, or over none
 some_sums : (rs : List ShownRowModel) → unwrap_or (sums_of_some rs) no_files ≡ sums_of_shown rs

@@ -3,7 +3,7 @@ use Rattle.std.specs.Prelude.{ℕ, Bool, if◌then◌else◌, List, [], ◌∷�
 use Rattle.lc_census.specs.EolWords.{eol_word}
 use Rattle.lc_level.specs.FaultLines.{FaultLineModel}
 use Rattle.lc_level.specs.FaultWords.{fault_word}
-use Rattle.lc_level.specs.Level.{Reason as SkipReason}
+use Rattle.lc_level.specs.Level.{SkippedLineModel, FileLineModel, Reason as SkipReason}
 use Rattle.lc_level.specs.ReasonWords.{attribute_of, reason_word, rule_of}
 use Rattle.lc_rules.specs.TextWords.{text_word}
 use Rattle.lc_rules.specs.declared.rule_source.RuleSource.{RuleSource}
@@ -15,7 +15,6 @@ use Rattle.lc_sheet.specs.declared.form.Form.{Form}
 use Rattle.lc_sheet.specs.declared.form.Shares.{Shares}
 use Rattle.lc_text.specs.RulePlaces.{source_directory, source_name}
 use Rattle.lc_walk.specs.Extension.{extension_of}
-use Rattle.lc_walk.specs.ReportLines.{FileLineModel, SkippedLineModel}
 use Rattle.lc_walk.specs.declared.tally.sums.Sums.{Sums}
 use Rattle.lc_rows.specs.Directories.{directory_of, name_of}
 use Rattle.lc_rows.specs.RowKeys.{ShownRowModel}

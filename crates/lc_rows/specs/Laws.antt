@@ -6,7 +6,6 @@ use Rattle.lc_sheet.specs.declared.table_options.Columns.{Columns}
 use Rattle.lc_sheet.specs.declared.column.Number.{Number}
 use Rattle.lc_glob.specs.Path.{is_good_path}
 use Rattle.lc_walk.specs.Key.{Key, same_key}
-use Rattle.lc_walk.specs.ReportLines.{FileLineModel}
 use Rattle.lc_walk.specs.Sums.{no_files, one_file, plus}
 use Rattle.lc_walk.specs.TallyRows.{TallyRowModel, sums_of_rows, IsInOrder}
 use Rattle.lc_walk.specs.declared.tally.sums.Sums.{Sums}
@@ -17,6 +16,7 @@ use Rattle.lc_rows.specs.ShownFiles.{AreFilesSorted, file_number}
 use Rattle.lc_rows.specs.ShownRows.{AreAddedUp, AreShown, AreSummed, file_key, key_in, part_of_row}
 use Rattle.lc_rows.specs.TreeRows.{AreTreeRows, is_below, is_child, is_in}
 use Rattle.lc_rows.specs.Views.{first_of, rest_of, view_of}
+use Rattle.lc_level.specs.Level.{FileLineModel}
 
 -- they are the summed ones, each once
 abbrev pub PermutationLaw : Type 0

@@ -10,6 +10,8 @@ pub mod Classes
 pub mod Laws
 pub mod Words
 pub mod Kinds
+pub mod Kept
+pub mod KeptLaws
 pub mod SheetColumns
 pub mod Sheets
 pub mod SheetLaws

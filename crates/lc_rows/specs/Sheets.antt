@@ -10,7 +10,6 @@ use Rattle.lc_sheet.specs.declared.form.Form.{Form}
 use Rattle.lc_sheet.specs.declared.form.Shares.{Shares}
 use Rattle.lc_sheet.specs.declared.table_options.Format.{Format}
 use Rattle.lc_sheet.specs.declared.table_options.TableOptions.{TableOptions}
-use Rattle.lc_walk.specs.ReportLines.{FileLineModel}
 use Rattle.lc_walk.specs.declared.report.Report.{Report}
 use Rattle.lc_walk.specs.declared.tally.sums.Sums.{Sums}
 use Rattle.lc_rows.specs.Classes.{binary_sums, is_binary, text_sums}
@@ -20,6 +19,7 @@ use Rattle.lc_rows.specs.SheetColumns.{fault_columns, file_columns, first_key, k
 use Rattle.lc_rows.specs.ShownFiles.{AreFilesSorted}
 use Rattle.lc_rows.specs.ShownRows.{AreShown, number_in}
 use Rattle.lc_rows.specs.Views.{ViewModel, view_of}
+use Rattle.lc_level.specs.Level.{FileLineModel}
 
 -- ---- the form of lines
 

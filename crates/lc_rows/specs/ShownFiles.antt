@@ -5,9 +5,9 @@ use Rattle.std.specs.Ordering.{nat_cmp, on, then_cmp}
 use Rattle.std.specs.declared.cmp.Ordering.{Ordering}
 use Rattle.lc_tree.specs.ByteOrder.{bytes_cmp}
 use Rattle.lc_sheet.specs.declared.column.Number.{Number}
-use Rattle.lc_walk.specs.ReportLines.{FileLineModel}
 use Rattle.lc_walk.specs.Sums.{one_file}
 use Rattle.lc_rows.specs.ShownRows.{number_in}
+use Rattle.lc_level.specs.Level.{FileLineModel}
 
 -- the number that files are sorted by; each is one file
 abbrev pub file_number : Number → FileLineModel → ℕ

@@ -11,12 +11,12 @@ use Rattle.lc_sheet.specs.declared.column.Number.{Number}
 use Rattle.lc_sheet.specs.declared.column.Number.TheVariants.{Files, Lines, Blank, Bytes}
 use Rattle.lc_walk.specs.Extension.{extension_of}
 use Rattle.lc_walk.specs.Key.{Key}
-use Rattle.lc_walk.specs.ReportLines.{FileLineModel}
 use Rattle.lc_walk.specs.Sums.{one_file}
 use Rattle.lc_walk.specs.TallyRows.{TallyRowModel}
 use Rattle.lc_walk.specs.declared.tally.sums.Sums.{Sums}
 use Rattle.lc_rows.specs.Directories.{directory_of, name_of}
 use Rattle.lc_rows.specs.RowKeys.{RowKey, ShownRowModel, AreInRowOrder, has_within, row_key, row_key_cmp, rows_within, sums_of_shown}
+use Rattle.lc_level.specs.Level.{FileLineModel}
 
 -- the key in the columns that are kept; a column that is left out is the same in all keys
 abbrev pub key_in : Columns → Key → Key

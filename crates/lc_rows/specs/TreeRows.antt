@@ -10,10 +10,10 @@ use Rattle.lc_glob.specs.Bytes.{slash}
 use Rattle.lc_glob.specs.Path.{depth_of}
 use Rattle.lc_sheet.specs.declared.table_options.Columns.{Columns}
 use Rattle.lc_walk.specs.Key.{key_cmp}
-use Rattle.lc_walk.specs.ReportLines.{FileLineModel}
 use Rattle.lc_rows.specs.Directories.{directory_of, parent_of}
 use Rattle.lc_rows.specs.RowKeys.{RowKey, ShownRowModel, row_key}
 use Rattle.lc_rows.specs.ShownRows.{AreAddedUp, part_of_file}
+use Rattle.lc_level.specs.Level.{FileLineModel}
 
 -- whether a file is in a directory or below it: the directory that holds the file is cut to this one
 abbrev pub is_below : List ℕ → List ℕ → Bool

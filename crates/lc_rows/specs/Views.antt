@@ -1,8 +1,8 @@
 -- What a table shows of the rows and files that it has: as many as are asked for.
 use Rattle.std.specs.Prelude.{ℕ, List, [], ◌∷◌, take, drop, Option, Some, None}
 use Rattle.lc_rows.specs.RowKeys.{ShownRowModel, sums_of_shown}
-use Rattle.lc_walk.specs.ReportLines.{FileLineModel}
 use Rattle.lc_walk.specs.declared.tally.sums.Sums.{Sums}
+use Rattle.lc_level.specs.Level.{FileLineModel}
 
 -- rows, the sums over those that are cut off where some are, and files
 pub record ViewModel : Type 0 where

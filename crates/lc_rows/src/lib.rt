@@ -4,10 +4,11 @@
 //! - `shown_row`, `row_key`: a row, and its key; `parts`, `adding_up`: what rows add up, and how
 //! - `directories`: the directories of files; `directory_tree`, `depth_first`: the rows of a tree of directories, and their order
 //! - `files`: the files that it lists, sorted; `cut`: its first rows and files, and the sums over the other rows
+//! - `kept`: the part of a report that meets conditions
 //! - `classes`: the sums over all files, over binary ones and over others
 //! - `kinds`: what a line of a sheet has in a column; `values`, `words`: values that several kinds have, and their words; `columns`: which
 //!   columns a section has; `shown_sheet`: what is shown of a report, and its sheet
-//! - `laws`, `sheet_laws`: what is true of the definitions that the contracts cite
+//! - `laws`, `sheet_laws`, `kept_laws`: what is true of the definitions that the contracts cite
 #![tactic(auto)]
 
 mod adding_up;
@@ -18,6 +19,8 @@ mod depth_first;
 mod directories;
 mod directory_tree;
 mod files;
+mod kept;
+mod kept_laws;
 mod kinds;
 mod laws;
 mod parts;
@@ -32,6 +35,8 @@ mod words;
 pub use directories::{directory_at, name_of};
 pub use directory_tree::tree_rows;
 pub use files::sort_files;
+pub use kept::keep;
+pub use kept_laws::{conditions_have_no_order, no_condition_keeps_all, opposite_conditions_add_up};
 pub use kinds::{Faults, Files, NamedSums, Rows, Skipped, Totals};
 pub use laws::{
     a_directory_is_its_files_and_its_children, classes_add_up_to_all_rows, each_file_is_in_one_row,

@@ -1,3 +1,4 @@
 pub mod ColumnWords
 pub mod Values
 pub mod Sheets
+pub mod Conditions

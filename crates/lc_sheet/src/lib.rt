@@ -3,9 +3,11 @@
 //! - `column`: the columns; `value`: what a line has in a column
 //! - `form`: what every line depends on; `lines`: kinds of lines; `section`: lines of one kind in columns; `sheet`: the sections of a report
 //! - `table_options`: the format of a table, its columns, its order, and where it is cut
+//! - `condition`: which files a table shows
 #![tactic(auto)]
 
 mod column;
+mod condition;
 mod form;
 mod lines;
 mod section;
@@ -14,9 +16,10 @@ mod table_options;
 mod value;
 
 pub use column::{Column, Number, Side};
+pub use condition::{Comparison, Condition, Test, needs_files};
 pub use form::{Form, Shares};
 pub use lines::Lines;
 pub use section::Section;
 pub use sheet::Sheet;
-pub use table_options::{Columns, Format, Order, TableOptions};
+pub use table_options::{Columns, Format, Order, ReportOptions, TableOptions};
 pub use value::Value;

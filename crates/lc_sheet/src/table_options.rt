@@ -1,6 +1,7 @@
-//! The options of a table: its format, its columns, its order, and where it is cut.
+//! The options of a table: its format, its columns, its order, where it is cut, and which files it shows.
 
 use crate::column::Number;
+use crate::condition::Condition;
 
 /// The format in which a table is written.
 #[derive(Debug, Clone, Copy, PartialEq, Eq)]
@@ -71,4 +72,13 @@ pub struct TableOptions {
     pub files: bool,
     /// Whether each row shows its share of the total, in the formats `Table` and `Markdown`.
     pub share: bool,
+}
+
+/// The options of a report: which of its files are shown, and in which table.
+#[derive(Clone, Copy)]
+pub struct ReportOptions<'c> {
+    /// The options of the table.
+    pub table: TableOptions,
+    /// Only the files that meet all of these are shown and summed.
+    pub conditions: &'c [Condition<'c>],
 }

@@ -1,10 +1,10 @@
 use Rattle.std.proofs.Common.{rules}
 use Rattle.std.specs.Ordering.{is_lt}
 use Rattle.std.proofs.lemmas.Fn.{always_returns_same}
-use Rattle.lc_walk.specs.ReportLines.{FileLineModel}
 use Rattle.lc_rows.specs.ShownFiles.{file_cmp}
 use Rattle.lc_rows.proofs.Sorted.{files_rank}
 use Rattle.lc_rows.proofs.files.sort.Goals as goal
+use Rattle.lc_level.specs.Level.{FileLineModel}
 
 pub returns-clause-order : goal.returns-clause-order
 returns-clause-order c =

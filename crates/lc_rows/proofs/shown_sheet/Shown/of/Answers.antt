@@ -1,8 +1,8 @@
 use Rattle.std.proofs.Common.{List, subst}
-use Rattle.lc_walk.specs.ReportLines.{FileLineModel}
 use Rattle.lc_walk.specs.TallyRows.{TallyRowModel}
 use Rattle.lc_rows.specs.ShownRows.{AreShown}
 use Rattle.lc_rows.proofs.shown_sheet.Shown.of.Goals as goal
+use Rattle.lc_level.specs.Level.{FileLineModel}
 
 pub returns : goal.returns
 returns c =

@@ -1,0 +1,68 @@
+-- The part of a report that meets conditions.
+use Rattle.std.specs.Prelude.{◌≡◌, Bool, if◌then◌else◌, List, [], ◌∷◌, map, filter, None}
+use Rattle.std.specs.Bool.{MatchBool}
+use Rattle.std.specs.List.{list_all}
+use Rattle.lc_sheet.specs.Conditions.{ConditionModel, meets, needs_files}
+use Rattle.lc_sheet.specs.Values.{ValueModel}
+use Rattle.lc_sheet.specs.declared.column.Column.{Column}
+use Rattle.lc_sheet.specs.declared.column.Column.TheVariants.{Ext}
+use Rattle.lc_sheet.specs.declared.form.Form.{Form}
+use Rattle.lc_level.specs.Level.{FileLineModel}
+use Rattle.lc_walk.specs.Tally.{CountedFile, IsTally, counted, sums_of_files}
+use Rattle.lc_walk.specs.TallyRows.{TallyRowModel, sums_of_rows}
+use Rattle.lc_walk.specs.Extension.{extension_of}
+use Rattle.lc_walk.specs.declared.report.Report.{Report}
+use Rattle.lc_walk.specs.declared.tally.sums.Sums.{Sums}
+use Rattle.lc_rows.specs.Directories.{name_of}
+use Rattle.lc_rows.specs.Kinds.{file_value, row_value}
+use Rattle.lc_rows.specs.Laws.{all_columns}
+use Rattle.lc_rows.specs.ShownRows.{part_of_row}
+
+-- lines with a value in each of a report's columns
+abbrev pub whole_form : Form
+whole_form = record { by = all_columns; first = Ext; shares = None }
+
+-- what a file has in a column, and what the files of a row have in common there
+abbrev pub value_of_file : FileLineModel → Column → ValueModel
+value_of_file f column = file_value whole_form f column
+
+abbrev pub value_of_row : TallyRowModel → Column → ValueModel
+value_of_row r column = row_value whole_form (part_of_row all_columns r) column
+
+-- all conditions hold of a line with these values
+abbrev pub holds_all : (Column → ValueModel) → List ConditionModel → Bool
+holds_all value cs = list_all (λ (c : ConditionModel). meets c.test (value c.column)) cs
+
+abbrev pub file_meets : List ConditionModel → FileLineModel → Bool
+file_meets cs f = holds_all (value_of_file f) cs
+
+abbrev pub row_meets : List ConditionModel → TallyRowModel → Bool
+row_meets cs r = holds_all (value_of_row r) cs
+
+-- a file, as a tally counts it
+abbrev pub counted_line : FileLineModel → CountedFile
+counted_line f = counted (extension_of (name_of f.path)) f.text f.count
+
+-- the rows are those that meet the conditions; where these are on what only files have, the rows of the files that do
+abbrev pub AreKeptRows : Bool → List ConditionModel → Report → List FileLineModel → List TallyRowModel → Type 0
+AreKeptRows by_file cs r files rows =
+    MatchBool by_file (IsTally (map counted_line files) rows) (rows ≡ filter (row_meets cs) r.rows.items)
+
+abbrev pub kept_totals : Bool → List FileLineModel → List TallyRowModel → Sums
+kept_totals by_file files rows = if by_file then sums_of_files (map counted_line files) else sums_of_rows rows
+
+-- of a report, what meets some conditions: files, rows and sums; all else is of the walk, and stays
+pub record IsPart (cs : List ConditionModel) (r part : Report) : Type 0 where
+  pub files : part.files.items ≡ filter (file_meets cs) r.files.items
+  pub rows : AreKeptRows (needs_files cs) cs r part.files.items part.rows.items
+  pub totals : part.totals ≡ kept_totals (needs_files cs) part.files.items part.rows.items
+  pub directories : part.directories ≡ r.directories
+  pub entries : part.entries ≡ r.entries
+  pub lists : part.lists ≡ r.lists
+  pub faults : part.faults ≡ r.faults
+  pub skipped : part.skipped ≡ r.skipped
+
+-- without conditions, all of a report
+abbrev pub IsKept : List ConditionModel → Report → Report → Type 0
+IsKept [] r part = part ≡ r
+IsKept (c ∷ cs) r part = IsPart (c ∷ cs) r part

@@ -1,0 +1,47 @@
+-- What is true of the parts of a report that meet conditions.
+use Rattle.std.specs.Prelude.{◌≡◌, Bool, if◌then◌else◌, List, [], ◌∷◌, map}
+use Rattle.std.specs.List.Sorted.{IsPermutation}
+use Rattle.lc_sheet.specs.Conditions.{ConditionModel, TestModel, compared, is_on_number, none_of, one_of}
+use Rattle.lc_sheet.specs.declared.condition.Comparison.{Comparison}
+use Rattle.lc_sheet.specs.declared.condition.Comparison.TheVariants.{Less, AtMost, Equal, Unequal, AtLeast, Greater}
+use Rattle.lc_walk.specs.Sums.{plus}
+use Rattle.lc_walk.specs.Tally.{sums_of_files}
+use Rattle.lc_walk.specs.TallyRows.{sums_of_rows}
+use Rattle.lc_walk.specs.declared.report.Report.{Report}
+use Rattle.lc_walk.specs.declared.tally.sums.Sums.{Sums}
+use Rattle.lc_rows.specs.Kept.{IsKept, counted_line}
+
+-- no condition changes nothing
+abbrev pub NoConditionLaw : Type 0
+NoConditionLaw = (r part : Report) → IsKept [] r part → part ≡ r
+
+-- the order of conditions is of no account
+abbrev pub OrderLaw : Type 0
+OrderLaw = (cs ds : List ConditionModel) (r part : Report) → IsPermutation cs ds → IsKept cs r part → IsKept ds r part
+
+-- the test that a value passes where it does not pass another
+abbrev pub opposite_of : Comparison → Comparison
+opposite_of Less = AtLeast
+opposite_of AtMost = Greater
+opposite_of Equal = Unequal
+opposite_of Unequal = Equal
+opposite_of AtLeast = Less
+opposite_of Greater = AtMost
+
+abbrev pub opposite_test : TestModel → TestModel
+opposite_test (one_of texts) = none_of texts
+opposite_test (none_of texts) = one_of texts
+opposite_test (compared comparison n) = compared (opposite_of comparison) n
+
+abbrev pub opposite : ConditionModel → ConditionModel
+opposite c = record { column = c.column; test = opposite_test c.test }
+
+-- the sums over all that a condition is tested on: the files for a condition on a number, and otherwise the rows
+abbrev pub tested_sums : Bool → Report → Sums
+tested_sums by_file r = if by_file then sums_of_files (map counted_line r.files.items) else sums_of_rows r.rows.items
+
+-- the totals with a condition and with its opposite add up to those without
+abbrev pub OppositesLaw : Type 0
+OppositesLaw =
+    (c : ConditionModel) (r with_it without_it : Report) → r.totals ≡ tested_sums (is_on_number c) r
+    → IsKept (c ∷ []) r with_it → IsKept (opposite c ∷ []) r without_it → plus with_it.totals without_it.totals ≡ r.totals

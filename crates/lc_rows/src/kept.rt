@@ -1,0 +1,172 @@
+//! The part of a report that meets conditions.
+
+ghost use Rattle.std.specs.Prelude.{◌≡◌, ◌∷◌, ◌++◌, [], true, false, List, map, filter, IfOk, OnOk};
+ghost use Rattle.lc_sheet.specs.Conditions.{meets, needs_files};
+ghost use Rattle.lc_walk.specs.Tally.{CountedFile, StandsFor};
+ghost use Rattle.lc_walk.specs.TallyRows.{sums_of_rows};
+ghost use Rattle.lc_rows.specs.Kept.{IsKept, IsPart, counted_line, file_meets, row_meets, value_of_file, whole_form};
+ghost use Rattle.lc_rows.specs.Kinds.{row_value};
+ghost use Rattle.lc_rows.specs.Laws.{all_columns};
+ghost use Rattle.lc_rows.specs.ShownRows.{part_of_row};
+
+use crate::directories::name_of;
+use crate::kinds::{Files, Rows};
+use crate::shown_row::ShownRow;
+use lc_sheet::{Column, Columns, Condition, Form, Lines, needs_files};
+use lc_walk::{FileLine, Report, Sums, Tally, TallyRow, extension};
+use std::alloc::{AllocError, Global};
+
+/// The form of lines with a value in each of a report's columns.
+fn whole_form() -> Form
+    ensures { result ≡ whole_form }
+{
+    Form {
+        by: Columns::ALL,
+        first: Column::Ext,
+        shares: None,
+    }
+}
+
+/// Returns whether a condition holds of a file.
+fn holds_of_file(condition: &Condition<'_>, file: &FileLine) -> bool
+    ensures { result ≡ meets condition.now.test (value_of_file file.now condition.now.column) }
+{
+    condition.holds(Files::value(file, whole_form(), condition.column))
+}
+
+/// Returns whether a file meets all conditions.
+fn file_meets(conditions: &[Condition<'_>], file: &FileLine) -> bool
+    ensures { result ≡ file_meets conditions.now file.now }
+{
+    conditions
+        .iter()
+        .all(|condition| holds_of_file(condition, file))
+}
+
+/// Makes the line of a row that shows all columns.
+fn shown_row(row: &TallyRow) -> ShownRow<'_>
+    ensures { result ≡ part_of_row all_columns row.entry.now }
+{
+    let key = row.key();
+    ShownRow {
+        directory: None,
+        extension: key.extension,
+        text: key.text,
+        eol: key.eol,
+        sums: row.sums(),
+    }
+}
+
+/// Returns whether a condition holds of the files of a row.
+fn holds_of_row(condition: &Condition<'_>, row: &ShownRow<'_>) -> bool
+    ensures { result ≡ meets condition.now.test (row_value whole_form row.now condition.now.column) }
+{
+    condition.holds(Rows::value(row, whole_form(), condition.column))
+}
+
+/// Returns whether the files of a row meet all conditions.
+fn row_meets(conditions: &[Condition<'_>], row: &TallyRow) -> bool
+    ensures { result ≡ row_meets conditions.now row.now }
+{
+    let line = shown_row(row);
+    conditions
+        .iter()
+        .all(|condition| holds_of_row(condition, &line))
+}
+
+/// Keeps the files that meet all conditions.
+fn keep_files(conditions: &[Condition<'_>], files: &mut Vec<FileLine>)
+    ensures { files.new.items ≡ filter (file_meets conditions.now) files.old.items }
+{
+    files.retain(|file| file_meets(conditions, file));
+}
+
+/// Keeps the rows whose files meet all conditions.
+fn keep_rows(conditions: &[Condition<'_>], rows: &mut Vec<TallyRow>)
+    ensures { rows.new.items ≡ filter (row_meets conditions.now) rows.old.items }
+{
+    rows.retain(|row| row_meets(conditions, row));
+}
+
+/// Adds up rows. It stops with an error for rows that no walk has, whose sums overflow.
+fn sums_of_rows(rows: &[TallyRow]) -> Result<Sums, AllocError>
+    ensures { IfOk result (λ sums. sums ≡ sums_of_rows rows.now) }
+{
+    let mut sums = Sums::none();
+    for row in rows {
+        sums = sums.checked_add(row.sums()).ok_or(AllocError)?;
+    }
+    Ok(sums)
+}
+
+/// Adds a file to a tally. A tally of as many files as no walk has takes no more.
+fn add_file(tally: &mut Tally, file: &FileLine) -> Result<(), AllocError>
+    ensures { OnOk result ((fs : List CountedFile) → StandsFor tally.old fs → StandsFor tally.new (fs ++ counted_line file.now ∷ [])) }
+{
+    if tally.totals().files >= 1 << 63 {
+        return Err(AllocError);
+    }
+    tally.add(extension(name_of(&file.path)), file.text, file.count)
+}
+
+/// Counts files by their keys.
+fn tally_of(alloc: Global, files: &[FileLine]) -> Result<Tally, AllocError>
+    ensures { IfOk result (λ tally. StandsFor tally (map counted_line files.now)) }
+{
+    let mut tally = Tally::new(alloc);
+    for file in files {
+        add_file(&mut tally, file)?;
+    }
+    Ok(tally)
+}
+
+/// Keeps what meets conditions of which one is on what only files have, and counts the files that are kept.
+fn keep_by_files(
+    alloc: Global,
+    conditions: &[Condition<'_>],
+    report: &mut Report,
+) -> Result<(), AllocError>
+    requires by_files { needs_files conditions.now ≡ true }
+    ensures kept { OnOk result (IsPart conditions.now report.old report.new) }
+    ensures faults { report.new.faults ≡ report.old.faults }
+{
+    keep_files(conditions, &mut report.files);
+    let tally = tally_of(alloc, &report.files)?;
+    report.totals = tally.totals();
+    report.rows = tally.into_rows();
+    Ok(())
+}
+
+/// Keeps what meets conditions on what the files of a row have in common.
+fn keep_by_rows(conditions: &[Condition<'_>], report: &mut Report) -> Result<(), AllocError>
+    requires by_rows { needs_files conditions.now ≡ false }
+    ensures kept { OnOk result (IsPart conditions.now report.old report.new) }
+    ensures faults { report.new.faults ≡ report.old.faults }
+{
+    keep_files(conditions, &mut report.files);
+    keep_rows(conditions, &mut report.rows);
+    report.totals = sums_of_rows(&report.rows)?;
+    Ok(())
+}
+
+/// Keeps of a report what meets all conditions: it drops files, and drops rows or counts the files that are left, in place.
+///
+/// Skipped entries, errors and the numbers of directories and entries stay. For a condition on a number the report must have its files. It
+/// stops with an error if there is no memory, and for sums that no walk has.
+pub fn keep(
+    alloc: Global,
+    conditions: &[Condition<'_>],
+    report: &mut Report,
+) -> Result<(), AllocError>
+    ensures kept { OnOk result (IsKept conditions.now report.old report.new) }
+    ensures faults { report.new.faults ≡ report.old.faults }
+{
+    if conditions.is_empty() {
+        return Ok(());
+    }
+    if needs_files(conditions) {
+        keep_by_files(alloc, conditions, report)
+    } else {
+        keep_by_rows(conditions, report)
+    }
+}

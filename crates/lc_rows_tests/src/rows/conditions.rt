@@ -1,0 +1,122 @@
+//! What meets conditions: files, rows and sums of a report.
+
+use crate::rows::files::{File, NONE, file_lines};
+use lc_census::Eol;
+use lc_rows::{keep, name_of};
+use lc_rules::TextState;
+use lc_sheet::{Column, Comparison, Condition, Number, Test};
+use lc_walk::{FileLine, Findings, Report, ReportLists, Tally, extension};
+use std::alloc::{AllocError, Global};
+use std::process::Abort;
+use std::test::Fail;
+
+const FILES: &[File] = &[
+    (b"Makefile", NONE, Eol::Lf, [4, 1, 9]),
+    (b"picture.png", TextState::Unset, Eol::Nul, [2, 0, 900]),
+    (b"src/main.c", TextState::Set, Eol::CrLf, [7, 0, 50]),
+    (b"test/rows.c", NONE, Eol::Lf, [3, 1, 15]),
+];
+
+fn report(alloc: Global) -> Result<Report, AllocError> {
+    let files = file_lines(alloc, FILES)?;
+    let mut tally = Tally::new(alloc);
+    for file in &files {
+        if tally.totals().files >= 512 {
+            return Err(AllocError);
+        }
+        tally.add(extension(name_of(&file.path)), file.text, file.count)?;
+    }
+    let lists = ReportLists {
+        files: true,
+        left_out: false,
+    };
+    let findings = Findings {
+        directories: 3,
+        entries: 6,
+        files,
+        faults: Vec::new(alloc),
+        skipped: Vec::new(alloc),
+    };
+    Ok(Report::new(tally, lists, findings))
+}
+
+fn push_files(text: &mut String, files: &[FileLine]) -> Result<(), AllocError> {
+    for file in files {
+        let path = str::from_utf8(&file.path).unwrap_or("?");
+        write!(text, "{path} ")?;
+    }
+    Ok(())
+}
+
+/// Returns what meets conditions: files, the lines of each row, and the totals.
+fn kept(alloc: Global, conditions: &[Condition<'_>]) -> Result<String, AllocError> {
+    let mut report = report(alloc)?;
+    keep(alloc, conditions, &mut report)?;
+    let mut text = String::new(alloc);
+    push_files(&mut text, &report.files)?;
+    for row in &report.rows {
+        let lines = row.lines;
+        write!(text, "{lines} ")?;
+    }
+    let (files, lines) = (report.totals.files, report.totals.lines);
+    let (directories, entries) = (report.directories, report.entries);
+    write!(text, "of {files} {lines} {directories} {entries}")?;
+    Ok(text)
+}
+
+fn check(
+    rt: &impl Abort,
+    alloc: Global,
+    conditions: &[Condition<'_>],
+    wanted: &str,
+) -> Result<(), AllocError> {
+    let found = kept(alloc, conditions)?;
+    assert!(rt; found.as_str() == wanted, "{found}");
+    Ok(())
+}
+
+const C: Condition<'static> = Condition {
+    column: Column::Ext,
+    test: Test::OneOf(b".c"),
+};
+
+const NOT_C: Condition<'static> = Condition {
+    column: Column::Ext,
+    test: Test::NoneOf(b".c"),
+};
+
+const LONG: Condition<'static> = Condition {
+    column: Column::Number(Number::Lines),
+    test: Test::Compared(Comparison::AtLeast, 4),
+};
+
+const SHORT: Condition<'static> = Condition {
+    column: Column::Number(Number::Lines),
+    test: Test::Compared(Comparison::Less, 4),
+};
+
+const NOT_BINARY: Condition<'static> = Condition {
+    column: Column::Eol,
+    test: Test::NoneOf(b"nul"),
+};
+
+#[test]
+fn what_meets_conditions(rt: HostRuntime) -> Result<(), Fail> {
+    let alloc = rt.alloc();
+    let all = "Makefile picture.png src/main.c test/rows.c 4 7 3 2 of 4 16 3 6";
+    check(&rt, alloc, &[], all)?;
+    check(&rt, alloc, &[C], "src/main.c test/rows.c 7 3 of 2 10 3 6")?;
+    check(&rt, alloc, &[NOT_C], "Makefile picture.png 4 2 of 2 6 3 6")?;
+    check(&rt, alloc, &[LONG], "Makefile src/main.c 4 7 of 2 11 3 6")?;
+    check(
+        &rt,
+        alloc,
+        &[SHORT],
+        "picture.png test/rows.c 3 2 of 2 5 3 6",
+    )?;
+    check(&rt, alloc, &[LONG, C], "src/main.c 7 of 1 7 3 6")?;
+    check(&rt, alloc, &[C, LONG], "src/main.c 7 of 1 7 3 6")?;
+    check(&rt, alloc, &[NOT_BINARY, SHORT], "test/rows.c 3 of 1 3 3 6")?;
+    check(&rt, alloc, &[C, NOT_C], "of 0 0 3 6")?;
+    Ok(())
+}

@@ -1,0 +1,2 @@
+pub mod BytesLeft
+pub mod SameTexts

@@ -1,0 +1,67 @@
+-- Conditions on files: a column, and a test of what a file has there.
+use Rattle.std.specs.Prelude.{ℕ, Bool, true, false, not, nat_le, nat_eq, List, ◌++◌, codes}
+use Rattle.std.specs.List.{list_any}
+use Rattle.std.specs.Str.{bytes_eq}
+use Rattle.lc_glob.specs.Pieces.{pieces_of}
+use Rattle.lc_sheet.specs.Values.{ValueModel, missing, summed, blank, word, name, path, number, share, bar}
+use Rattle.lc_sheet.specs.declared.column.Column.{Column}
+use Rattle.lc_sheet.specs.declared.column.Column.TheVariants as column
+use Rattle.lc_sheet.specs.declared.condition.Comparison.{Comparison}
+use Rattle.lc_sheet.specs.declared.condition.Comparison.TheVariants.{Less, AtMost, Equal, Unequal, AtLeast, Greater}
+use Rattle.lc_sheet.specs.declared.condition.Test.{Test}
+use Rattle.lc_sheet.specs.declared.condition.Test.TheVariants.{OneOf, NoneOf, Compared}
+
+-- a value is one of some, or none of them; or a number compares so with another
+pub data TestModel : Type 0 where
+  one_of : List (List ℕ) → TestModel
+  none_of : List (List ℕ) → TestModel
+  compared : Comparison → ℕ → TestModel
+
+pub record ConditionModel : Type 0 where
+  pub column : Column
+  pub test : TestModel
+
+-- values have commas between them
+abbrev pub comma : ℕ
+comma = 44
+
+abbrev pub test_model : Test → TestModel
+test_model (OneOf texts) = one_of (pieces_of comma texts.now)
+test_model (NoneOf texts) = none_of (pieces_of comma texts.now)
+test_model (Compared comparison n) = compared comparison n
+
+abbrev pub compares : Comparison → ℕ → ℕ → Bool
+compares Less n m = not (nat_le m n)
+compares AtMost n m = nat_le n m
+compares Equal n m = nat_eq n m
+compares Unequal n m = not (nat_eq n m)
+compares AtLeast n m = nat_le m n
+compares Greater n m = not (nat_le n m)
+
+-- a command line names a value by a text: a hyphen where there is none; the word; or an extension with its dot
+abbrev pub has_text : ValueModel → List ℕ → Bool
+has_text missing text = bytes_eq text (codes "-")
+has_text (word w) text = bytes_eq text w
+has_text (name n) text = bytes_eq text (n.front ++ n.bytes)
+has_text other text = false
+
+abbrev pub number_of : ValueModel → ℕ
+number_of (number n) = n
+number_of other = 0
+
+-- a value passes a test
+abbrev pub meets : TestModel → ValueModel → Bool
+meets (one_of texts) value = list_any (has_text value) texts
+meets (none_of texts) value = not (list_any (has_text value) texts)
+meets (compared comparison m) value = compares comparison (number_of value) m
+
+abbrev pub is_number : Column → Bool
+is_number (column.Number n) = true
+is_number other = false
+
+-- a condition on a number is on what only a file has by itself
+abbrev pub is_on_number : ConditionModel → Bool
+is_on_number c = is_number c.column
+
+abbrev pub needs_files : List ConditionModel → Bool
+needs_files cs = list_any is_on_number cs
