@@ -12,7 +12,8 @@ _lc_columns() {
 _lc_options() {
   case $1 in
     count) echo --exclude --exclude-from --include --no-ignore --archive --without --only --only-from --null -0 \
-      --one-file-system -x --files --left-out --format --by --depth --sort --top --share --threads -j --max-dirs ;;
+      --one-file-system -x --files --left-out --where --no-binary --format --by --depth --sort --top --share --threads \
+      -j --max-dirs ;;
     explain) echo --exclude --exclude-from --include --no-ignore --archive --without --null -0 ;;
     check) echo --explain --null -0 ;;
   esac
@@ -27,6 +28,7 @@ _lc_value() {
     --without) mapfile -t COMPREPLY < <(compgen -W 'linguist-vendored linguist-generated linguist-documentation' -- "$2") ;;
     --only) mapfile -t COMPREPLY < <(compgen -f -- "$2") ;;
     --only-from) mapfile -t COMPREPLY < <(compgen -f -- "$2") ;;
+    --where) ;;
     --format) mapfile -t COMPREPLY < <(compgen -W 'tsv table json csv markdown html' -- "$2") ;;
     --by) mapfile -t COMPREPLY < <(compgen -W "$(_lc_columns "$2" dir ext text eol)" -- "$2") ;;
     --depth) mapfile -t COMPREPLY < <(compgen -W '1 2 3' -- "$2") ;;

@@ -41,6 +41,8 @@ complete -c lc -n '__lc_command_is count' -l null -s 0 -d 'Paths that are read e
 complete -c lc -n '__lc_command_is count' -l one-file-system -s x -d 'Skip directories on other file systems'
 complete -c lc -n '__lc_command_is count' -l files -d 'Also print a line for each counted file'
 complete -c lc -n '__lc_command_is count' -l left-out -d 'Also print each skipped entry, and why'
+complete -c lc -n '__lc_command_is count' -l where -x -d 'Show only files that meet a condition'
+complete -c lc -n '__lc_command_is count' -l no-binary -d 'Show only files without a NUL byte'
 complete -c lc -n '__lc_command_is count' -l format -x -a "tsv\t'Fields between tabs' table\t'Columns for reading' json\t'One object' csv\t'Records of one kind' markdown\t'Tables for a page' html\t'A picture for a browser'" -d 'How to print'
 complete -c lc -n '__lc_command_is count' -l by -x -a '(__lc_columns dir ext text eol)' -d 'Sum rows by these columns'
 complete -c lc -n '__lc_command_is count' -l depth -x -a '1 2 3' -d 'Cut the directories of --by dir to so many segments'

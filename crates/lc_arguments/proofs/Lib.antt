@@ -1,4 +1,5 @@
 mod AskedPaths
+mod ConditionsRead
 mod Misnaming
 mod CommandRules
 mod ReadValues

@@ -9,7 +9,8 @@ use Rattle.std.specs.Prelude.{Some, codes, option_map, unwrap_or}
 use Rattle.clap.specs.Walk.{Row}
 use Rattle.lc_arguments.specs.Combinations.{fit_together}
 use Rattle.lc_arguments.specs.CommandLine.{count_app, explain_app}
-use Rattle.lc_arguments.specs.Explained.{AnswersBy, AnswersCountIn, AnswersCountWords, AnswersExclusions, AnswersExplainWords}
+use Rattle.lc_arguments.specs.Explained.{AnswersBy, AnswersConditions, AnswersCountIn}
+use Rattle.lc_arguments.specs.Explained.{AnswersCountWords, AnswersFilters, AnswersExplainWords}
 use Rattle.lc_arguments.specs.Explained.{AnswersRepeated, AnswersRepeatedIn, AnswersTable, AnswersTableIn}
 use Rattle.lc_arguments.specs.Explained.{AnswersPathsIn, IsRefusal}
 use Rattle.lc_arguments.specs.Repeated.{are_allowed, is_allowed}
@@ -51,9 +52,9 @@ refused_for option values (Shown text) refusal bad = refusal
 refused_for option values (Refused text) refusal bad = bad
 refused_for option values Memory refusal bad = tt
 
--- and so are the exclusions by them
+-- and so are the filters by them
 pub misnamed_by : (option : Repeated) (rows : List Row) (why : ParseExit) → AnswersRepeatedIn rows option (Err why)
-    → AnswersExclusions rows (Err why)
+    → AnswersFilters rows (Err why)
 misnamed_by option rows (Shown text) bad = absurd bad
 misnamed_by option rows (Refused text) bad = (option, bad)
 misnamed_by option rows Memory bad = tt
@@ -73,17 +74,31 @@ nothing_for Is Memory refusal none = tt
 
 -- the words after `explain` that have such values
 pub explain_refused_for : (words : List (List ℕ)) (why : ParseExit) → fault_of explain_app words ≡ []
-    → AnswersExclusions (matches_of explain_app words) (Err why) → AnswersExplainWords words (Err why)
+    → AnswersFilters (matches_of explain_app words) (Err why) → AnswersExplainWords words (Err why)
 explain_refused_for words (Shown text) fine bad = absurd bad
 explain_refused_for words (Refused text) fine bad = inr (fine, bad)
 explain_refused_for words Memory fine bad = tt
 
 -- what was read with such values asks for no count
-pub exclusions_refused : (rows : List Row) (numbers : Numbers) (why : ParseExit) → AnswersExclusions rows (Err why)
+pub filters_refused : (rows : List Row) (numbers : Numbers) (why : ParseExit) → AnswersFilters rows (Err why)
     → AnswersCountIn rows numbers (Err why)
-exclusions_refused rows numbers (Shown text) bad = bad
-exclusions_refused rows numbers (Refused text) bad = λ _. inl bad
-exclusions_refused rows numbers Memory bad = tt
+filters_refused rows numbers (Shown text) bad = bad
+filters_refused rows numbers (Refused text) bad = λ _. inl bad
+filters_refused rows numbers Memory bad = tt
+
+-- nor does what was read with what is no condition
+pub conditions_refused : (rows : List Row) (numbers : Numbers) (why : ParseExit) → AnswersConditions rows (Err why)
+    → AnswersCountIn rows numbers (Err why)
+conditions_refused rows numbers (Shown text) bad = bad
+conditions_refused rows numbers (Refused text) bad = λ _. inl bad
+conditions_refused rows numbers Memory bad = tt
+
+-- what no conditions are made of makes none
+pub no_conditions : (option : Repeated) (rows : List Row) (why : ParseExit) → AnswersRepeatedIn rows option (Err why)
+    → AnswersConditions rows (Err why)
+no_conditions option rows (Shown text) bad = absurd bad
+no_conditions option rows (Refused text) bad = (option, bad)
+no_conditions option rows Memory bad = tt
 
 -- nor does what was read with what can be no path
 pub paths_refused : (rows : List Row) (numbers : Numbers) (why : ParseExit) → AnswersPathsIn rows (Err why)

@@ -10,8 +10,9 @@ use Rattle.clap.specs.declared.error.kind.ErrorKind.TheVariants.{OutOfMemory}
 use Rattle.std.specs.Borrow.{Bor}
 use Rattle.lc_arguments.specs.CommandLine.{count_app, check_app, explain_app, lc_app}
 use Rattle.lc_arguments.specs.Words.{IsText, IsNoRequestBy, IsCheckOf, IsCountOf, IsExplainOf, MayRefuse, MayShow}
-use Rattle.lc_arguments.specs.Words.{AskForNoCount, AskForNoExplanation, AsksNoCount, AreExclusionsOf, AreNumbersIn, IsFitCountOf}
-use Rattle.lc_arguments.specs.Words.{IsTableAt, Misvalue, is_bad_part, part_of, texts_read, values_read}
+use Rattle.lc_arguments.specs.Words.{AskForNoCount, AskForNoExplanation, AsksNoCount, AreFiltersOf, AreNumbersIn, IsFitCountOf}
+use Rattle.lc_sheet.specs.Conditions.{ConditionModel}
+use Rattle.lc_arguments.specs.Words.{AreConditionsOf, IsTableAt, Misvalue, is_bad_part, part_of, texts_read, values_read}
 use Rattle.lc_arguments.specs.Repeated.{are_allowed}
 use Rattle.clap.specs.Walk.{Row}
 use Rattle.lc_sheet.specs.declared.table_options.Columns.{Columns}
@@ -27,7 +28,7 @@ use Rattle.lc_arguments.specs.declared.request.Request.{Request}
 use Rattle.lc_arguments.specs.declared.request.Request.TheVariants.{CheckJoined}
 use Rattle.lc_arguments.specs.declared.check.CheckRequest.{CheckRequest}
 use Rattle.lc_arguments.specs.declared.count.CountRequest.{CountRequest}
-use Rattle.lc_arguments.specs.declared.exclusions.Exclusions.{Exclusions}
+use Rattle.lc_arguments.specs.declared.filter_request.FilterRequest.{FilterRequest}
 use Rattle.lc_arguments.specs.declared.explain.ExplainRequest.{ExplainRequest}
 
 -- a text that was asked for is shown; any other is why words are refused
@@ -57,11 +58,18 @@ AnswersExplainWords words (Err (Refused _)) = MayRefuse (fault_of explain_app wo
 AnswersExplainWords words (Err Memory) = Unit {0}
 
 -- what leaves entries out by what was read; or an option has values that it may not have
-abbrev pub AnswersExclusions : List Row → Result Exclusions ParseExit → Type 0
-AnswersExclusions rows (Ok e) = AreExclusionsOf rows e
-AnswersExclusions rows (Err (Shown _)) = ⊥
-AnswersExclusions rows (Err (Refused _)) = Misvalue rows
-AnswersExclusions rows (Err Memory) = Unit {0}
+abbrev pub AnswersFilters : List Row → Result FilterRequest ParseExit → Type 0
+AnswersFilters rows (Ok e) = AreFiltersOf rows e
+AnswersFilters rows (Err (Shown _)) = ⊥
+AnswersFilters rows (Err (Refused _)) = Misvalue rows
+AnswersFilters rows (Err Memory) = Unit {0}
+
+-- the conditions that were read; or an option has values that it may not have
+abbrev pub AnswersConditions : List Row → Result (Vec ConditionModel) ParseExit → Type 0
+AnswersConditions rows (Ok conditions) = AreConditionsOf rows conditions.items
+AnswersConditions rows (Err (Shown _)) = ⊥
+AnswersConditions rows (Err (Refused _)) = Misvalue rows
+AnswersConditions rows (Err Memory) = Unit {0}
 
 -- the values of an option, in their order, which it may have
 abbrev pub AnswersRepeated : Repeated → List (List ℕ) → Result (Vec (Bor (List ℕ))) ParseExit → Type 0

@@ -1,5 +1,6 @@
 pub mod Combinations
 pub mod CommandLine
+pub mod ConditionWords
 pub mod CountArgs
 pub mod Explained
 pub mod Options

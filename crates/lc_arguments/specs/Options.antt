@@ -81,6 +81,8 @@ options =
     ∷ option (codes "one-file-system") (Some 120) Flag None count
     ∷ option (codes "files") None Flag None count
     ∷ option (codes "left-out") None Flag None count
+    ∷ option (codes "where") None Texts None count
+    ∷ option (codes "no-binary") None Flag None count
     ∷ option (codes "format") None Text None count
     ∷ option (codes "by") None Text None count
     ∷ option (codes "depth") None (Number max_depth) None count

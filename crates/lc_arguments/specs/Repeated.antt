@@ -1,13 +1,14 @@
--- The values of options that may stand several times: attributes, and patterns.
-use Rattle.std.specs.Prelude.{◌++◌, ◌&&◌, ℕ, Bool, true, not, nat_le, List, [], ◌∷◌, length, flat_map, codes}
+-- The values of options that may stand several times: attributes, patterns, and conditions.
+use Rattle.std.specs.Prelude.{◌++◌, ◌&&◌, ℕ, Bool, true, not, nat_le, List, [], ◌∷◌, length, flat_map, is_some, codes}
 use Rattle.std.specs.List.{before_first, list_all, list_any}
 use Rattle.lc_glob.specs.Pieces.{is_byte}
 use Rattle.lc_rules.specs.AttrLines.{is_negated}
 use Rattle.lc_rules.specs.AttrWords.{is_name}
 use Rattle.lc_rules.specs.Bytes.{equals_sign, line_feed}
 use Rattle.lc_rules.specs.Limits.{max_rule_bytes}
+use Rattle.lc_arguments.specs.ConditionWords.{condition_of}
 use Rattle.lc_arguments.specs.declared.repeated.Repeated.{Repeated}
-use Rattle.lc_arguments.specs.declared.repeated.Repeated.TheVariants.{Attributes, Excluded, Included}
+use Rattle.lc_arguments.specs.declared.repeated.Repeated.TheVariants.{Attributes, Excluded, Included, Conditions}
 
 -- `ATTR` or `ATTR=VALUE`: an attribute can have the name (gitattributes(5), DESCRIPTION)
 abbrev pub has_attribute_name : List ℕ → Bool
@@ -26,16 +27,19 @@ abbrev pub id_of : Repeated → List ℕ
 id_of Attributes = codes "without"
 id_of Excluded = codes "exclude"
 id_of Included = codes "include"
+id_of Conditions = codes "where"
 
 -- what one value of it may be
 abbrev pub is_allowed : Repeated → List ℕ → Bool
 is_allowed Attributes word = has_attribute_name word
 is_allowed Excluded pattern = has_one_line pattern
 is_allowed Included pattern = has_one_line pattern && not (is_negated pattern)
+is_allowed Conditions text = is_some (condition_of text)
 
--- all its patterns are the lines of one ignore file
+-- all its patterns are the lines of one ignore file, where it has patterns
 abbrev pub are_short : Repeated → List (List ℕ) → Bool
 are_short Attributes words = true
+are_short Conditions texts = true
 are_short Excluded patterns = nat_le (length (lines_text patterns)) max_rule_bytes
 are_short Included patterns = nat_le (length (lines_text patterns)) max_rule_bytes
 

@@ -24,20 +24,22 @@ use Rattle.lc_glob.specs.Pieces.{is_byte}
 use Rattle.lc_arguments.specs.CommandLine.{count_app, check_app, explain_app, lc_app}
 use Rattle.lc_arguments.specs.Options.{max_depth, max_dirs, max_threads, max_top}
 use Rattle.lc_arguments.specs.Combinations.{fit_together}
+use Rattle.lc_arguments.specs.ConditionWords.{all_conditions}
 use Rattle.lc_arguments.specs.Repeated.{are_allowed, id_of}
 use Rattle.lc_arguments.specs.declared.repeated.Repeated.{Repeated}
-use Rattle.lc_arguments.specs.declared.repeated.Repeated.TheVariants.{Attributes, Excluded, Included}
+use Rattle.lc_arguments.specs.declared.repeated.Repeated.TheVariants.{Attributes, Excluded, Included, Conditions}
 use Rattle.lc_arguments.specs.declared.numbers.Numbers.{Numbers}
 use Rattle.lc_arguments.specs.declared.request.ParseExit.{ParseExit}
 use Rattle.lc_arguments.specs.declared.request.ParseExit.TheVariants.{Shown, Refused, Memory}
 use Rattle.lc_arguments.specs.declared.request.Request.{Request}
 use Rattle.lc_arguments.specs.declared.request.Request.TheVariants.{CheckJoined, Check, Count, Explain}
+use Rattle.lc_sheet.specs.Conditions.{ConditionModel}
 use Rattle.lc_text.specs.PathLines.{is_bad_path, is_top, path_of, undotted}
 use Rattle.lc_arguments.specs.declared.table.TableRequest.{TableRequest}
 use Rattle.lc_arguments.specs.TableWords.{IsTableBy}
 use Rattle.lc_arguments.specs.declared.check.CheckRequest.{CheckRequest}
 use Rattle.lc_arguments.specs.declared.count.CountRequest.{CountRequest}
-use Rattle.lc_arguments.specs.declared.exclusions.Exclusions.{Exclusions}
+use Rattle.lc_arguments.specs.declared.filter_request.FilterRequest.{FilterRequest}
 use Rattle.lc_arguments.specs.declared.explain.ExplainRequest.{ExplainRequest}
 
 -- what was read of this argument is a number from the one to the other
@@ -114,7 +116,7 @@ abbrev pub AreValuesOf : List Row → Repeated → List (Bor (List ℕ)) → Typ
 AreValuesOf rows option values =
     (map (λ value. value.now) values ≡ values_read rows option) × (are_allowed option (values_read rows option) ≡ true)
 
--- values were read that an option may not have: what is no attribute's name, or no line of an ignore file
+-- values were read that an option may not have: what is no attribute's name, no line of an ignore file, or no condition
 abbrev pub Misvalue : List Row → Type 0
 Misvalue rows = (option : Repeated) × (are_allowed option (values_read rows option) ≡ false)
 
@@ -138,14 +140,21 @@ Misplace rows = list_any is_bad_part (paths_read rows) ≡ true
 abbrev pub ArePathsOf : List Row → List (Bor (List ℕ)) → Type 0
 ArePathsOf rows paths = (map (λ path. path.now) paths ≡ paths_read rows) × (list_any is_bad_part (paths_read rows) ≡ false)
 
--- what leaves entries out, by what was read
-pub record AreExclusionsOf (rows : List Row) (e : Exclusions) : Type 0 where
-  pub from : option_map (λ s. s.now) e.from ≡ first_of (codes "exclude-from") rows
+-- the filters that were asked for
+pub record AreFiltersOf (rows : List Row) (e : FilterRequest) : Type 0 where
+  pub exclude_from : option_map (λ s. s.now) e.exclude_from ≡ first_of (codes "exclude-from") rows
   pub archive : IsFlag (codes "archive") rows e.archive
   pub without : AreValuesOf rows Attributes e.without.items
   pub exclude : AreValuesOf rows Excluded e.exclude.items
   pub include : AreValuesOf rows Included e.include.items
   pub no_ignore : IsFlag (codes "no-ignore") rows e.no_ignore
+
+-- the conditions that were asked for
+pub record AreConditionsOf (rows : List Row) (cs : List ConditionModel) : Type 0 where
+  pub allowed : are_allowed Conditions (values_read rows Conditions) ≡ true
+  pub no_binary : Bool
+  pub flag : IsFlag (codes "no-binary") rows no_binary
+  pub are : cs ≡ all_conditions (values_read rows Conditions) no_binary
 
 -- the table that was asked for, with directories of this depth in its rows
 abbrev pub IsTableAt : List Row → Option ℕ → TableRequest → Type 0
@@ -163,7 +172,7 @@ pub record IsCountOf (rows : List Row) (c : CountRequest) : Type 0 where
   pub max_dirs : IsNumber (codes "max-dirs") (codes "65536") rows c.max_dirs
   pub files : IsFlag (codes "files") rows c.table.files
   pub left_out : IsFlag (codes "left-out") rows c.left_out
-  pub exclusions : AreExclusionsOf rows c.exclusions
+  pub filters : AreFiltersOf rows c.filters
   pub only : ArePathsOf rows c.only.items
   pub only_from : option_map (λ s. s.now) c.only_from ≡ first_of (codes "only-from") rows
   pub null : IsFlag (codes "null") rows c.null
@@ -171,6 +180,7 @@ pub record IsCountOf (rows : List Row) (c : CountRequest) : Type 0 where
   pub table : IsTableIn rows c.table
   pub top : c.table.top ≡ number_if_given (codes "top") rows
   pub share : IsFlag (codes "share") rows c.table.share
+  pub conditions : AreConditionsOf rows c.conditions.items
   pub directory : c.directory.now ≡ unwrap_or (first_of (codes "DIR") rows) (codes ".")
 
 -- the count that was asked for, whose options go together
@@ -193,7 +203,7 @@ pub record IsCheckOf (rows : List Row) (c : CheckRequest) : Type 0 where
 
 -- the explanation that was asked for
 pub record IsExplainOf (rows : List Row) (c : ExplainRequest) : Type 0 where
-  pub exclusions : AreExclusionsOf rows c.exclusions
+  pub filters : AreFiltersOf rows c.filters
   pub null : IsFlag (codes "null") rows c.null
   pub directory : c.directory.now ≡ unwrap_or (first_of (codes "DIR") rows) []
   pub paths : map (λ path. path.now) c.paths.items ≡ texts_read (codes "PATH") rows

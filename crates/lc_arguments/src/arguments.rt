@@ -70,7 +70,7 @@ fn with_help<'a>(arg: Arg<'a>, row: &'static OptionRow) -> Arg<'a>
     if row.heading.is_empty() {
         return arg;
     }
-    arg.long_help(row.long_help).help_heading(row.heading)
+    arg.long_help(row.long_help()).help_heading(row.heading)
 }
 
 /// Makes the argument of a row.

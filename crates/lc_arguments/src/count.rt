@@ -8,8 +8,9 @@ ghost use Rattle.lc_arguments.specs.Explained.{AnswersCountIn, AnswersCountWords
 
 use crate::arguments::{args, bare};
 use crate::combinations::misfit;
+use crate::conditions::conditions_in;
 use crate::error_text::problem_of;
-use crate::exclusions::Exclusions;
+use crate::filter_request::FilterRequest;
 use crate::numbers::Numbers;
 use crate::option_row::Subcommand;
 use crate::paths::paths_in;
@@ -17,6 +18,7 @@ use crate::request::{ParseExit, explained, unfit};
 use crate::table::{TableRequest, table_in};
 use crate::{help, suggestions};
 use clap::{ArgMatches, Command, Error};
+use lc_sheet::Condition;
 use std::alloc::{AllocError, Global};
 use std::convert::AsStr;
 
@@ -30,7 +32,7 @@ pub struct CountRequest<'w> {
     /// List each entry that is skipped, and print the number of entries.
     pub left_out: bool,
     /// What is skipped beside what the directory's own rules ignore.
-    pub exclusions: Exclusions<'w>,
+    pub filters: FilterRequest<'w>,
     /// The paths to count, relative to DIR, without `./` at the beginning and a slash at the end. `.` is all of DIR, which is also counted
     /// if there are none here and in `only_from`.
     pub only: Vec<&'w [u8]>,
@@ -42,6 +44,8 @@ pub struct CountRequest<'w> {
     pub one_file_system: bool,
     /// How the table is printed.
     pub table: TableRequest,
+    /// Only files that meet all of these are shown.
+    pub conditions: Vec<Condition<'w>>,
     /// The path of DIR, as it was given: `.`, the directory that the program runs in, where none is.
     pub directory: &'w str,
 }
@@ -76,8 +80,8 @@ fn request_in<'w>(
 ) -> Result<CountRequest<'w>, ParseExit>
     ensures { AnswersCountIn (rows_of (found_of matches.now)) numbers result }
 {
-    let exclusions = match Exclusions::read(alloc, matches) {
-        Ok(exclusions) => exclusions,
+    let filters = match FilterRequest::read(alloc, matches) {
+        Ok(filters) => filters,
         Err(no) => return Err(no),
     };
     let only = match paths_in(alloc, matches) {
@@ -88,11 +92,15 @@ fn request_in<'w>(
         Ok(table) => table,
         Err(no) => return Err(no),
     };
+    let conditions = match conditions_in(alloc, matches) {
+        Ok(conditions) => conditions,
+        Err(no) => return Err(no),
+    };
     Ok(CountRequest {
         threads: numbers.threads,
         max_dirs: numbers.max_dirs,
         left_out: matches.get_flag("left-out"),
-        exclusions,
+        filters,
         only,
         only_from: matches.get_str("only-from"),
         null: matches.get_flag("null"),
@@ -103,6 +111,7 @@ fn request_in<'w>(
             share: matches.get_flag("share"),
             ..table
         },
+        conditions,
         directory: matches.get_str("DIR").unwrap_or("."),
     })
 }

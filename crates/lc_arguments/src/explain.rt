@@ -7,7 +7,7 @@ ghost use Rattle.lc_arguments.specs.Explained.{AnswersExplainWords, Explains};
 
 use crate::arguments::{args, bare};
 use crate::error_text::problem_of;
-use crate::exclusions::Exclusions;
+use crate::filter_request::FilterRequest;
 use crate::option_row::Subcommand;
 use crate::request::{ParseExit, explained};
 use crate::{help, suggestions};
@@ -19,7 +19,7 @@ use std::convert::AsStr;
 #[derive(Drop)]
 pub struct ExplainRequest<'w> {
     /// What is skipped beside what the directory's own rules ignore.
-    pub exclusions: Exclusions<'w>,
+    pub filters: FilterRequest<'w>,
     /// Each path on standard input ends with NUL.
     pub null: bool,
     /// The path of DIR, as it was given.
@@ -65,15 +65,15 @@ impl<'w> ExplainRequest<'w> {
             Ok(matches) => matches,
             Err(error) => return Err(explained_explanation(alloc, &error, words)),
         };
-        let exclusions = match Exclusions::read(alloc, &matches) {
-            Ok(exclusions) => exclusions,
+        let filters = match FilterRequest::read(alloc, &matches) {
+            Ok(filters) => filters,
             Err(no) => return Err(no),
         };
         let Ok(paths) = matches.get_strs("PATH").unwrap_or(&[]).to_vec(alloc) else {
             return Err(ParseExit::Memory);
         };
         Ok(ExplainRequest {
-            exclusions,
+            filters,
             null: matches.get_flag("null"),
             directory: matches.get_str("DIR").unwrap_or(""),
             paths,

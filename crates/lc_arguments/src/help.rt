@@ -76,6 +76,9 @@ Each row is for the files of one kind:
          the sums over these files. A line ends with LF, CR LF or CR; the last
          one needs no end. A blank line holds only spaces and tabs.
 
+In table, markdown and json, text and binary are the sums over the files without
+and with a NUL byte. A file without one counts as text, whatever its bytes.
+
 The lines below the rows begin with total, directories, entries, file, left (a
 skipped entry, and why) or fault (what could not be read). man lc and
 docs/OUTPUT.md describe each.
@@ -94,6 +97,7 @@ Examples:
   lc count --by ext .
   lc count --left-out .
   lc count --files --top 10 .
+  lc count --files --where 'lines>1000' --where ext=.c,.h .
   lc count --by dir --depth 2 --share .
   lc count --format csv --files .
   lc count -j 8 src

@@ -4,23 +4,27 @@
 //! - `first_word`: what the first argument asks for
 //! - `count`, `check`, `explain`: the options of each command; `table`: those of the table; `paths`: those of `--only`
 //! - `numbers`: the numbers of a count; `combinations`: options that do not go together
-//! - `exclusions`: what counts and explanations skip; `repeated`: options that may be given several times
+//! - `filter_request`: which entries counts and explanations skip; `repeated`: options that may be given several times
+//! - `conditions`: which files are shown; `condition_text`: a condition, as it is typed
 //! - `options_table`: the table of options; `option_row`: what a row of it says; `arguments`: clap's arguments, made of the rows
 //! - `refusals`: the text of a refusal, as a terminal shows it; `error_text`: the texts of usage errors
 //! - `suggestions`: what refused arguments may have meant; `near`: names that are close to a word
-//! - `limits`: the largest values of options; `help`: the texts of help and of the version
+//! - `limits`: the largest values of options; `help`, `long_help`: the texts of help and of the version
 #![tactic(auto)]
 
 mod arguments;
 mod check;
 mod combinations;
+mod condition_text;
+mod conditions;
 mod count;
 mod error_text;
-mod exclusions;
 mod explain;
+mod filter_request;
 mod first_word;
 mod help;
 mod limits;
+mod long_help;
 mod near;
 mod numbers;
 mod option_row;
@@ -34,8 +38,8 @@ mod table;
 
 pub use check::CheckRequest;
 pub use count::CountRequest;
-pub use exclusions::Exclusions;
 pub use explain::ExplainRequest;
+pub use filter_request::FilterRequest;
 pub use first_word::count_words;
 pub use limits::{MAX_DIRS, MAX_THREADS};
 pub use option_row::{Commands, Completes, Kind, OptionRow};

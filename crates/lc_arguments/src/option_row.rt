@@ -126,8 +126,6 @@ pub struct OptionRow {
     pub heading: &'static str,
     /// The line of `-h`.
     pub help: &'static str,
-    /// The paragraph of `--help`.
-    pub long_help: &'static str,
     /// What completions show beside the option, if it is not `help`.
     pub brief: &'static str,
     /// A count with it, which usage errors of `lc count` suggest.
@@ -146,7 +144,6 @@ pub(crate) const FLAG: OptionRow = OptionRow {
     of: COUNT,
     heading: "",
     help: "",
-    long_help: "",
     brief: "",
     example: "",
     completes: Completes::Nothing,

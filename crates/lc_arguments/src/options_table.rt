@@ -1,6 +1,6 @@
 //! The table of options: a row for each argument of the commands, in the order of help.
 //!
-//! An argument whose help or kind differs by command has a row for each.
+//! An argument whose help or kind differs by command has a row for each. What `--help` says of an option is in `long_help`.
 
 ghost use Rattle.std.specs.Prelude.{◌≡◌, map};
 ghost use Rattle.lc_arguments.specs.Options.{option_model, options};
@@ -9,16 +9,16 @@ use crate::limits::{MAX_DEPTH, MAX_DIRS, MAX_THREADS, MAX_TOP};
 use crate::option_row::{CHECK, Completes, EXPLAIN, FILTERS, FLAG, INPUT, Kind, OptionRow};
 
 /// The heading of the options that choose files.
-const WHICH_FILES: &str = "Which files";
+pub(crate) const WHICH_FILES: &str = "Which files";
 
 /// The heading of the options that say what standard input has.
-const ON_INPUT: &str = "Input";
+pub(crate) const ON_INPUT: &str = "Input";
 
 /// The heading of the options that choose what is printed.
-const WHAT_IS_PRINTED: &str = "What is printed";
+pub(crate) const WHAT_IS_PRINTED: &str = "What is printed";
 
 /// The heading of the options that limit a count.
-const LIMITS: &str = "Limits";
+pub(crate) const LIMITS: &str = "Limits";
 
 const OPTIONS: &[OptionRow] = &[
     OptionRow {
@@ -28,9 +28,6 @@ const OPTIONS: &[OptionRow] = &[
         of: FILTERS,
         heading: WHICH_FILES,
         help: "Skip what PATTERN matches",
-        long_help: "Skip what PATTERN matches. PATTERN is a line of a .gitignore, relative
-to DIR, and overrides every rule file. !PATTERN includes again. May be
-repeated; the last one that matches decides",
         example: "lc count --exclude '*.min.js' .",
         ..FLAG
     },
@@ -41,9 +38,6 @@ repeated; the last one that matches decides",
         of: FILTERS,
         heading: WHICH_FILES,
         help: "Skip what the patterns in FILE match",
-        long_help: "Skip what the patterns in FILE match. FILE has the syntax of a
-.gitignore and its patterns are relative to DIR; every .gitignore
-overrides it",
         example: "lc count .",
         completes: Completes::Files,
         ..FLAG
@@ -55,9 +49,6 @@ overrides it",
         of: FILTERS,
         heading: WHICH_FILES,
         help: "Skip files that no PATTERN of --include matches",
-        long_help: "Skip files unless PATTERN matches them or a directory above them.
-PATTERN is a line of a .gitignore, relative to DIR. May be repeated;
-one that matches is enough",
         brief: "Count only files that PATTERN matches",
         example: "lc count --include '*.c' .",
         ..FLAG
@@ -67,8 +58,6 @@ one that matches is enough",
         of: FILTERS,
         heading: WHICH_FILES,
         help: "Read no .gitignore and no .git/info/exclude",
-        long_help: "Read no .gitignore and no .git/info/exclude. --exclude, --exclude-from
-and .gitattributes still apply, and .git is still skipped",
         brief: "Read no .gitignore",
         example: "lc count --no-ignore .",
         ..FLAG
@@ -78,8 +67,6 @@ and .gitattributes still apply, and .git is still skipped",
         of: FILTERS,
         heading: WHICH_FILES,
         help: "Skip what has the attribute export-ignore",
-        long_help: "Skip files and directories that have the attribute export-ignore in
-.gitattributes, as git archive does",
         example: "lc count --archive .",
         ..FLAG
     },
@@ -90,10 +77,6 @@ and .gitattributes still apply, and .git is still skipped",
         of: FILTERS,
         heading: WHICH_FILES,
         help: "Skip what has the attribute ATTR, or has this value of it",
-        long_help: "Skip files and directories that have the attribute ATTR in
-.gitattributes, such as linguist-vendored. The line `* ATTR` sets it.
-The line `* ATTR=true` gives it a value, which ATTR=true means. May be
-repeated",
         brief: "Skip what has this attribute",
         example: "lc count --without linguist-vendored .",
         completes: Completes::Words(&[
@@ -109,9 +92,6 @@ repeated",
         kind: Kind::Texts,
         heading: WHICH_FILES,
         help: "Count only PATH, under the rules of all of DIR",
-        long_help: "Count only what is at or under PATH, under the rules of all of DIR.
-PATH is relative to DIR, such as src/lib; . is all of DIR. May be
-repeated",
         brief: "Count only what is at or under PATH",
         example: "lc count .",
         completes: Completes::Files,
@@ -123,9 +103,6 @@ repeated",
         kind: Kind::Text,
         heading: WHICH_FILES,
         help: "Count only the paths in FILE, one a line",
-        long_help: "Count only what is at or under the paths in FILE, as --only counts
-them. They come one a line; FILE - is standard input. Paths may begin
-with ./, as find prints them",
         brief: "Count only the paths that FILE lists",
         example: "find . | lc count --only-from - .",
         completes: Completes::Files,
@@ -136,7 +113,6 @@ with ./, as find prints them",
         short: Some('0'),
         heading: WHICH_FILES,
         help: "Paths of --only-from end with NUL",
-        long_help: "The paths of --only-from end with NUL, as git ls-files -z prints them",
         brief: "Paths that are read end with NUL",
         example: "find . -print0 | lc count --only-from - -0 .",
         ..FLAG
@@ -146,8 +122,6 @@ with ./, as find prints them",
         short: Some('x'),
         heading: WHICH_FILES,
         help: "Skip directories on other file systems",
-        long_help: "Skip directories on another file system than DIR, such as /proc
-below /",
         example: "lc count --one-file-system .",
         ..FLAG
     },
@@ -155,7 +129,6 @@ below /",
         name: "files",
         heading: WHAT_IS_PRINTED,
         help: "Also print a line for each counted file",
-        long_help: "Also print a line for each counted file",
         example: "lc count --files .",
         ..FLAG
     },
@@ -163,10 +136,25 @@ below /",
         name: "left-out",
         heading: WHAT_IS_PRINTED,
         help: "Also print a line for each skipped entry, and why",
-        long_help: "Also print the number of entries, and a line for each skipped entry
-with the rule or the reason",
         brief: "Also print each skipped entry, and why",
         example: "lc count --left-out .",
+        ..FLAG
+    },
+    OptionRow {
+        name: "where",
+        value: "CONDITION",
+        kind: Kind::Texts,
+        heading: WHAT_IS_PRINTED,
+        help: "Show only files that meet CONDITION, such as 'lines>1000'",
+        brief: "Show only files that meet a condition",
+        example: "lc count --where 'lines>1000' .",
+        ..FLAG
+    },
+    OptionRow {
+        name: "no-binary",
+        heading: WHAT_IS_PRINTED,
+        help: "Show only files without a NUL byte",
+        example: "lc count --no-binary .",
         ..FLAG
     },
     OptionRow {
@@ -175,12 +163,6 @@ with the rule or the reason",
         kind: Kind::Text,
         heading: WHAT_IS_PRINTED,
         help: "tsv, table, json, csv, markdown or html",
-        long_help: "How to print: table aligns columns for reading and is the default on
-a terminal; tsv separates fields by tabs and is the default
-elsewhere; json is for programs; csv has one kind of record and no
-totals, for databases and spreadsheets; markdown is for a page on
-GitHub; html is a page for a browser with a box for each directory
-that has a thousandth of the lines or more",
         brief: "How to print",
         example: "lc count --format table .",
         completes: Completes::Meanings(&[
@@ -199,9 +181,6 @@ that has a thousandth of the lines or more",
         kind: Kind::Text,
         heading: WHAT_IS_PRINTED,
         help: "Sum rows by some of dir,ext,text,eol",
-        long_help: "Sum rows by some of dir, ext, text and eol, separated by commas: --by
-ext prints one row for each extension, --by dir one for each directory
-right under DIR, or as deep as --depth says",
         brief: "Sum rows by these columns",
         example: "lc count --by ext .",
         completes: Completes::List(&["dir", "ext", "text", "eol"]),
@@ -213,8 +192,6 @@ right under DIR, or as deep as --depth says",
         kind: Kind::Number(MAX_DEPTH),
         heading: WHAT_IS_PRINTED,
         help: "Cut directories of --by dir to N segments [default: 1]",
-        long_help: "Cut the directories of --by dir to their first N segments, 1 to 256
-[default: 1]",
         brief: "Cut the directories of --by dir to so many segments",
         example: "lc count --by dir --depth 2 .",
         completes: Completes::Words(&["1", "2", "3"]),
@@ -226,9 +203,6 @@ right under DIR, or as deep as --depth says",
         kind: Kind::Text,
         heading: WHAT_IS_PRINTED,
         help: "Sort by files, lines, blank, bytes or name",
-        long_help: "Sort rows and the lines of --files: by files, lines, blank or bytes,
-largest first, or by name. The default is lines in table and markdown
-and with --top, and else name",
         brief: "Sort rows and files, largest first, or by name",
         example: "lc count --sort bytes .",
         completes: Completes::Meanings(&[
@@ -246,9 +220,6 @@ and with --top, and else name",
         kind: Kind::Number(MAX_TOP),
         heading: WHAT_IS_PRINTED,
         help: "Print only the first N rows and files",
-        long_help: "Print only the first N rows, with a row `others` for the sums of the
-rest, and the first N lines of --files. Without --sort, these have the
-most lines",
         brief: "Print only the first rows and files",
         example: "lc count --top 10 .",
         completes: Completes::Words(&["10", "20", "50"]),
@@ -258,8 +229,6 @@ most lines",
         name: "share",
         heading: WHAT_IS_PRINTED,
         help: "Show each row's share, in table and markdown",
-        long_help: "Show each row's share of the total: of the column of --sort, or of
-lines. The default format is then table; markdown has shares, too",
         brief: "Also print the share of each row in the total",
         example: "lc count --share .",
         ..FLAG
@@ -272,7 +241,6 @@ lines. The default format is then table; markdown has shares, too",
         default: Some("4"),
         heading: LIMITS,
         help: "Number of threads, 1 to 16",
-        long_help: "Number of threads, 1 to 16",
         example: "lc count --threads 8 .",
         completes: Completes::Words(&["1", "2", "4", "8", "16"]),
         ..FLAG
@@ -284,8 +252,6 @@ lines. The default format is then table; markdown has shares, too",
         default: Some("65536"),
         heading: LIMITS,
         help: "Limit of directories, 1 to 1048576",
-        long_help: "Limit of directories, DIR included, 1 to 1048576. Past it there is no
-table",
         example: "lc count --max-dirs 1000000 .",
         completes: Completes::Words(&["65536", "1048576"]),
         ..FLAG
@@ -302,8 +268,6 @@ table",
         of: CHECK,
         heading: WHAT_IS_PRINTED,
         help: "Also print the rule that decides, and its line",
-        long_help: "Also print the rule that decides: FILE with the number of its line,
-and its pattern; - and - if no rule decides",
         brief: "Also print the rule that decides",
         ..FLAG
     },
@@ -313,8 +277,6 @@ and its pattern; - and - if no rule decides",
         of: INPUT,
         heading: ON_INPUT,
         help: "Paths on standard input end with NUL",
-        long_help: "The paths on standard input end with NUL, as git ls-files -z prints
-them, so that a path may contain a line feed",
         brief: "Paths that are read end with NUL",
         ..FLAG
     },

@@ -1,4 +1,5 @@
-//! The values of options that may be given several times: attributes of `--without`, patterns of `--exclude` and `--include`.
+//! The values of options that may be given several times: attributes of `--without`, patterns of `--exclude` and `--include`, conditions of
+//! `--where`.
 
 ghost use Rattle.std.specs.Prelude.{◌≡◌, map, not, is_some, IfOk};
 ghost use Rattle.std.specs.List.{list_all};
@@ -8,6 +9,7 @@ ghost use Rattle.lc_rules.specs.AttrLines.{is_negated};
 ghost use Rattle.lc_arguments.specs.Repeated.{are_short, has_attribute_name, has_one_line, id_of, is_allowed, lines_text};
 ghost use Rattle.lc_arguments.specs.Explained.{AnswersRepeated, AnswersRepeatedIn, IsRefusal};
 
+use crate::condition_text::{condition_of, why_no_condition};
 use crate::request::{ParseExit, refused};
 use clap::ArgMatches;
 use lc_glob::cut_at_first;
@@ -23,6 +25,8 @@ pub(crate) enum Repeated {
     Excluded,
     /// `--include PATTERN`
     Included,
+    /// `--where CONDITION`
+    Conditions,
 }
 
 /// Returns whether the name of an attribute comes before the first equals sign, or is the whole word.
@@ -53,6 +57,7 @@ impl Repeated {
             Repeated::Attributes => "without",
             Repeated::Excluded => "exclude",
             Repeated::Included => "include",
+            Repeated::Conditions => "where",
         }
     }
 
@@ -63,6 +68,7 @@ impl Repeated {
             Repeated::Attributes => has_attribute_name(value),
             Repeated::Excluded => has_one_line(value),
             Repeated::Included => has_one_line(value) && !is_negated(value),
+            Repeated::Conditions => condition_of(value.as_bytes()).is_some(),
         }
     }
 
@@ -80,6 +86,7 @@ impl Repeated {
             Repeated::Included => {
                 ": a pattern has no line feed and does not begin with '!', and all of them have at most 1048576 bytes"
             }
+            Repeated::Conditions => why_no_condition(value.as_bytes()),
         };
         refused(alloc, self.name(), value, why)
     }
@@ -102,7 +109,7 @@ fn are_short(alloc: Global, option: Repeated, values: &[&str]) -> Result<bool, A
     ensures { IfOk result (λ short. short ≡ are_short option (map (λ value. value.now) values.now)) }
 {
     match option {
-        Repeated::Attributes => Ok(true),
+        Repeated::Attributes | Repeated::Conditions => Ok(true),
         Repeated::Excluded | Repeated::Included => {
             let text = lines_text(alloc, values)?;
             Ok(text.len() <= MAX_RULE_BYTES)

@@ -1,7 +1,7 @@
 //! The words of a command line, and what they ask for.
 
 use lc_arguments::{
-    CheckRequest, CountRequest, Exclusions, ExplainRequest, ParseExit, Request, TableRequest,
+    CheckRequest, CountRequest, ExplainRequest, FilterRequest, ParseExit, Request, TableRequest,
     count_words,
 };
 use lc_sheet::{Columns, Format, Number};
@@ -308,23 +308,23 @@ const DIRECTORIES: &[Case] = &[
     ("it's", "lc count 'it'\\''s'"),
 ];
 
-fn push_exclusions(text: &mut String, exclusions: &Exclusions) -> Result<(), AllocError> {
-    if exclusions.archive {
+fn push_filters(text: &mut String, filters: &FilterRequest) -> Result<(), AllocError> {
+    if filters.archive {
         text.push_str(", archive")?;
     }
-    if let Some(file) = exclusions.from {
+    if let Some(file) = filters.exclude_from {
         write!(text, ", excludes {file}")?;
     }
-    for name in &exclusions.without {
+    for name in &filters.without {
         write!(text, ", without {name}")?;
     }
-    for pattern in &exclusions.exclude {
+    for pattern in &filters.exclude {
         write!(text, ", excluding {pattern}")?;
     }
-    for pattern in &exclusions.include {
+    for pattern in &filters.include {
         write!(text, ", including {pattern}")?;
     }
-    if exclusions.no_ignore {
+    if filters.no_ignore {
         text.push_str(", no ignore files")?;
     }
     Ok(())
@@ -389,7 +389,7 @@ fn count_text(alloc: Global, request: &CountRequest) -> Result<String, AllocErro
     if request.left_out {
         text.push_str(", left out")?;
     }
-    push_exclusions(&mut text, &request.exclusions)?;
+    push_filters(&mut text, &request.filters)?;
     push_paths(&mut text, request)?;
     Ok(text)
 }
@@ -409,7 +409,7 @@ fn check_text(alloc: Global, request: &CheckRequest) -> Result<String, AllocErro
 fn explain_text(alloc: Global, request: &ExplainRequest) -> Result<String, AllocError> {
     let directory = request.directory;
     let mut text = format!(in alloc; "explain {directory}")?;
-    push_exclusions(&mut text, &request.exclusions)?;
+    push_filters(&mut text, &request.filters)?;
     if request.null {
         text.push_str(", ended by NUL")?;
     }

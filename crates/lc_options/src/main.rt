@@ -88,7 +88,13 @@ fn line_of(alloc: Global, row: &OptionRow) -> Result<String, AllocError> {
     line.push_str(row.default.unwrap_or(""))?;
     line.push('\t')?;
     push_commands(&mut line, row.of)?;
-    for text in [row.heading, row.help, row.long_help, row.brief, row.example] {
+    for text in [
+        row.heading,
+        row.help,
+        row.long_help(),
+        row.brief,
+        row.example,
+    ] {
         line.push('\t')?;
         push_joined(&mut line, text)?;
     }

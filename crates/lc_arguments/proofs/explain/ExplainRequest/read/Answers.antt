@@ -4,8 +4,8 @@ use Rattle.clap.specs.Matches.{found_of}
 use Rattle.clap.specs.Simple.{matches_of}
 use Rattle.clap.specs.Walk.{Row}
 use Rattle.lc_arguments.specs.CommandLine.{explain_app}
-use Rattle.lc_arguments.specs.Explained.{AnswersExclusions}
-use Rattle.lc_arguments.specs.Words.{AreExclusionsOf}
+use Rattle.lc_arguments.specs.Explained.{AnswersFilters}
+use Rattle.lc_arguments.specs.Words.{AreFiltersOf}
 use Rattle.lc_arguments.proofs.WordFaults.{explain_is_free, explain_is_simple, fails_as, flag_of, matches_as, no_explanation_by}
 use Rattle.lc_arguments.proofs.WordFaults.{no_request_of, text_or, texts_of}
 use Rattle.lc_arguments.proofs.Misnaming.{explain_refused_for}
@@ -26,7 +26,7 @@ returns-in-Err-read g c =
     let are = matches_as c.in-Ok.command explain_app words m is explain_is_simple parse.matches in
     let why = c.in-Err-read.no in
     explain_refused_for words why (fails_as c.in-Ok.command explain_app words (Ok m) is explain_is_free parse.kinds)
-    (subst (λ (rows : List Row). AnswersExclusions rows (Err why)) are c.in-Err-read.ensures)
+    (subst (λ (rows : List Row). AnswersFilters rows (Err why)) are c.in-Err-read.ensures)
 
 pub returns : goal.returns
 returns g c =
@@ -39,7 +39,7 @@ returns g c =
     let are = matches_as command explain_app words m is explain_is_simple parse.matches in (
       fails_as command explain_app words (Ok m) is explain_is_free parse.kinds,
       record {
-        exclusions = subst (λ (rs : List Row). AreExclusionsOf rs c.in-Ok-read.exclusions) are c.in-Ok-read.ensures;
+        filters = subst (λ (rs : List Row). AreFiltersOf rs c.in-Ok-read.filters) are c.in-Ok-read.ensures;
         null = flag_of rows (found_of m) (codes "null") c.get_flag.result are c.get_flag.ensures.value c.get_flag.ensures.other;
         directory = text_or rows (found_of m) (codes "DIR") c.get_str.result _ c.unwrap_or-2.result are c.get_str.ensures refl
             c.unwrap_or-2.ensures;

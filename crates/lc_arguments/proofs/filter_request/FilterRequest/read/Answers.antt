@@ -4,7 +4,7 @@ use Rattle.clap.specs.Walk.{rows_of}
 use Rattle.lc_arguments.specs.declared.repeated.Repeated.TheVariants.{Attributes, Excluded, Included}
 use Rattle.lc_arguments.proofs.Misnaming.{misnamed_by}
 use Rattle.lc_arguments.proofs.WordFaults.{flag_of, text_of}
-use Rattle.lc_arguments.proofs.exclusions.Exclusions.read.Goals as goal
+use Rattle.lc_arguments.proofs.filter_request.FilterRequest.read.Goals as goal
 
 pub returns-in-Err : goal.returns-in-Err
 returns-in-Err c = misnamed_by Attributes (rows_of (found_of c.args.matches.now)) c.in-Err.no c.in-Err.ensures
@@ -21,7 +21,7 @@ pub returns : goal.returns
 returns c =
     let f = found_of c.args.matches.now in
     record {
-      from = text_of (rows_of f) f (codes "exclude-from") c.get_str.result refl c.get_str.ensures;
+      exclude_from = text_of (rows_of f) f (codes "exclude-from") c.get_str.result refl c.get_str.ensures;
       archive = flag_of (rows_of f) f (codes "archive") c.get_flag.result refl c.get_flag.ensures.value c.get_flag.ensures.other;
       without = c.in-Ok.ensures;
       exclude = c.in-Ok-values_in.ensures;

@@ -2,7 +2,7 @@
 
 ghost use Rattle.clap.specs.Matches.{found_of};
 ghost use Rattle.clap.specs.Walk.{rows_of};
-ghost use Rattle.lc_arguments.specs.Explained.{AnswersExclusions};
+ghost use Rattle.lc_arguments.specs.Explained.{AnswersFilters};
 
 use crate::repeated::{Repeated, values_in};
 use crate::request::ParseExit;
@@ -11,9 +11,9 @@ use std::alloc::Global;
 
 /// What is skipped beside what a directory's own rules ignore, as by `--exclude '*.log' --without linguist-vendored`.
 #[derive(Drop)]
-pub struct Exclusions<'w> {
+pub struct FilterRequest<'w> {
     /// The path of an ignore file for the whole tree, as it was given: relative to the directory that the program runs in.
-    pub from: Option<&'w str>,
+    pub exclude_from: Option<&'w str>,
     /// Skip what has the attribute `export-ignore`.
     pub archive: bool,
     /// Skip what has one of these attributes: `ATTR` has it Set, `ATTR=VALUE` with this value.
@@ -26,10 +26,13 @@ pub struct Exclusions<'w> {
     pub no_ignore: bool,
 }
 
-impl<'w> Exclusions<'w> {
+impl<'w> FilterRequest<'w> {
     /// Takes the values that clap read.
-    pub(crate) fn read(alloc: Global, matches: &ArgMatches<'w>) -> Result<Exclusions<'w>, ParseExit>
-        ensures { AnswersExclusions (rows_of (found_of matches.now)) result }
+    pub(crate) fn read(
+        alloc: Global,
+        matches: &ArgMatches<'w>,
+    ) -> Result<FilterRequest<'w>, ParseExit>
+        ensures { AnswersFilters (rows_of (found_of matches.now)) result }
     {
         let without = match values_in(alloc, matches, Repeated::Attributes) {
             Ok(without) => without,
@@ -43,8 +46,8 @@ impl<'w> Exclusions<'w> {
             Ok(include) => include,
             Err(no) => return Err(no),
         };
-        Ok(Exclusions {
-            from: matches.get_str("exclude-from"),
+        Ok(FilterRequest {
+            exclude_from: matches.get_str("exclude-from"),
             archive: matches.get_flag("archive"),
             without,
             exclude,

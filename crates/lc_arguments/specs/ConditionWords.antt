@@ -1,0 +1,160 @@
+-- The conditions that words ask for: a column, an operator and values, as in `eol=crlf,mixed` and `lines > 1000`.
+use Rattle.std.specs.Prelude.{ℕ, ◌==◌, ◌&&◌, ◌||◌, ◌+◌, ◌*◌, ◌-◌, Bool, true, false}
+use Rattle.std.specs.Prelude.{not, nat_le, cond, List, [], ◌∷◌, ◌++◌, length, take, drop, codes}
+use Rattle.std.specs.Prelude.{Option, Some, None}
+use Rattle.std.specs.List.{filter_map, list_all, list_any}
+use Rattle.std.specs.Str.{bytes_eq}
+use Rattle.lc_glob.specs.Bytes.{slash}
+use Rattle.lc_glob.specs.Pieces.{is_byte, pieces_of}
+use Rattle.lc_rules.specs.Bytes.{equals_sign, space}
+use Rattle.lc_sheet.specs.ColumnWords.{column_name}
+use Rattle.lc_sheet.specs.Conditions.{ConditionModel, comma, compared, none_of, one_of}
+use Rattle.lc_sheet.specs.declared.column.Column.{Column}
+use Rattle.lc_sheet.specs.declared.column.Column.TheVariants.{Ext, Text, Eol, Number}
+use Rattle.lc_sheet.specs.declared.column.Number.TheVariants.{Lines, Blank, Bytes}
+use Rattle.lc_sheet.specs.declared.condition.Comparison.{Comparison}
+use Rattle.lc_sheet.specs.declared.condition.Comparison.TheVariants.{Less, AtMost, Equal, Unequal, AtLeast, Greater}
+
+abbrev pub exclamation_mark : ℕ
+exclamation_mark = 33
+
+abbrev pub less_sign : ℕ
+less_sign = 60
+
+abbrev pub greater_sign : ℕ
+greater_sign = 62
+
+abbrev pub dot : ℕ
+dot = 46
+
+-- what follows these bytes, where a text begins with them
+abbrev pub after_front : List ℕ → List ℕ → Option (List ℕ)
+after_front front text = cond (bytes_eq (take (length front) text) front) (Some (drop (length front) text)) None
+
+abbrev pub without_spaces : List ℕ → List ℕ
+without_spaces [] = []
+without_spaces (b ∷ bs) = cond (b == space) (without_spaces bs) (b ∷ bs)
+
+-- ---- columns
+
+-- the columns that a condition may be on
+abbrev pub condition_columns : List Column
+condition_columns = Ext ∷ Text ∷ Eol ∷ Number Lines ∷ Number Blank ∷ Number Bytes ∷ []
+
+abbrev pub or_column : Column → Option (List ℕ) → Option (Column × List ℕ) → Option (Column × List ℕ)
+or_column column (Some rest) other = Some (column, rest)
+or_column column None other = other
+
+-- the first of some columns with whose name a text begins, and what follows the name
+abbrev pub column_among : List Column → List ℕ → Option (Column × List ℕ)
+column_among [] text = None
+column_among (c ∷ cs) text = or_column c (after_front (column_name c) text) (column_among cs text)
+
+-- ---- operators
+
+-- the operator of a byte that an equals sign follows, or does not
+abbrev pub comparison_of : ℕ → Bool → Option Comparison
+comparison_of b true =
+    cond (b == exclamation_mark) (Some Unequal) (cond (b == less_sign) (Some AtMost) (cond (b == greater_sign) (Some AtLeast) None))
+comparison_of b false =
+    cond (b == equals_sign) (Some Equal) (cond (b == less_sign) (Some Less) (cond (b == greater_sign) (Some Greater) None))
+
+abbrev pub with_rest : Option Comparison → List ℕ → Option (Comparison × List ℕ)
+with_rest None rest = None
+with_rest (Some comparison) rest = Some (comparison, rest)
+
+abbrev pub operator_by : ℕ → List ℕ → Option (List ℕ) → Option (Comparison × List ℕ)
+operator_by b bs (Some rest) = with_rest (comparison_of b true) rest
+operator_by b bs None = with_rest (comparison_of b false) bs
+
+-- the operator with which a text begins, and what follows it
+abbrev pub operator_at : List ℕ → Option (Comparison × List ℕ)
+operator_at [] = None
+operator_at (b ∷ bs) = operator_by b bs (after_front (equals_sign ∷ []) bs)
+
+-- ---- values
+
+-- what follows the dot of an extension: something without a further dot and without a slash
+abbrev pub is_after_dot : Option (List ℕ) → Bool
+is_after_dot None = false
+is_after_dot (Some []) = false
+is_after_dot (Some (b ∷ bs)) = not (list_any (is_byte dot) (b ∷ bs)) && not (list_any (is_byte slash) (b ∷ bs))
+
+-- a value that a column can have; a hyphen is none
+abbrev pub can_have : Column → List ℕ → Bool
+can_have Ext text = bytes_eq text (codes "-") || is_after_dot (after_front (dot ∷ []) text)
+can_have Text text =
+    bytes_eq text (codes "set") || bytes_eq text (codes "unset") || bytes_eq text (codes "auto") || bytes_eq text (codes "other")
+    || bytes_eq text (codes "-")
+can_have Eol text =
+    bytes_eq text (codes "none") || bytes_eq text (codes "lf") || bytes_eq text (codes "crlf") || bytes_eq text (codes "cr")
+    || bytes_eq text (codes "mixed") || bytes_eq text (codes "nul")
+can_have other text = false
+
+-- all values between commas are such
+abbrev pub can_have_all : Column → List ℕ → Bool
+can_have_all column texts = list_all (can_have column) (pieces_of comma texts)
+
+abbrev pub is_digit : ℕ → Bool
+is_digit b = nat_le 48 b && nat_le b 57
+
+-- the largest number of a condition
+abbrev pub max_number : ℕ
+max_number = 18446744073709551615
+
+-- a number, and one digit more
+abbrev pub with_digit : ℕ → ℕ → Option ℕ
+with_digit n b = cond (is_digit b && nat_le (n * 10 + (b - 48)) max_number) (Some (n * 10 + (b - 48))) None
+
+abbrev pub digits_from : Option ℕ → List ℕ → Option ℕ
+digits_from None bs = None
+digits_from (Some n) [] = Some n
+digits_from (Some n) (b ∷ bs) = digits_from (with_digit n b) bs
+
+-- the number that digits write, which is not over the largest
+abbrev pub number_in : List ℕ → Option ℕ
+number_in [] = None
+number_in (b ∷ bs) = digits_from (Some 0) (b ∷ bs)
+
+-- ---- conditions
+
+-- values are among some, or are not
+abbrev pub list_condition : Column → Comparison → List ℕ → Option ConditionModel
+list_condition column Equal texts =
+    cond (can_have_all column texts) (Some (record { column = column; test = one_of (pieces_of comma texts) })) None
+list_condition column Unequal texts =
+    cond (can_have_all column texts) (Some (record { column = column; test = none_of (pieces_of comma texts) })) None
+list_condition column other texts = None
+
+abbrev pub number_condition : Column → Comparison → Option ℕ → Option ConditionModel
+number_condition column comparison None = None
+number_condition column comparison (Some n) = Some (record { column = column; test = compared comparison n })
+
+-- the condition of a column, an operator and what follows it
+abbrev pub condition_with : Column → Comparison → List ℕ → Option ConditionModel
+condition_with (Number n) comparison values = number_condition (Number n) comparison (number_in values)
+condition_with column comparison values = list_condition column comparison values
+
+abbrev pub condition_by : Column → Option (Comparison × List ℕ) → Option ConditionModel
+condition_by column None = None
+condition_by column (Some operator) = condition_with column operator.0 (without_spaces operator.1)
+
+abbrev pub condition_on : Option (Column × List ℕ) → Option ConditionModel
+condition_on None = None
+condition_on (Some column) = condition_by column.0 (operator_at (without_spaces column.1))
+
+-- the condition that a text writes; there may be spaces before and after the operator
+abbrev pub condition_of : List ℕ → Option ConditionModel
+condition_of text = condition_on (column_among condition_columns text)
+
+-- all that texts write
+abbrev pub conditions_of : List (List ℕ) → List ConditionModel
+conditions_of texts = filter_map condition_of texts
+
+-- the condition of files that are not binary
+abbrev pub not_binary : ConditionModel
+not_binary = record { column = Eol; test = none_of (codes "nul" ∷ []) }
+
+-- what texts write, and that files are not binary where this is asked for
+abbrev pub all_conditions : List (List ℕ) → Bool → List ConditionModel
+all_conditions texts asked = conditions_of texts ++ cond asked (not_binary ∷ []) []

@@ -1,0 +1,257 @@
+//! The text of a condition on files: a column, an operator and values.
+
+ghost use Rattle.std.specs.Prelude.{◌≡◌, option_map};
+ghost use Rattle.lc_arguments.specs.ConditionWords.{after_front, can_have, can_have_all};
+ghost use Rattle.lc_arguments.specs.ConditionWords.{column_among, comparison_of, condition_columns, condition_of};
+ghost use Rattle.lc_arguments.specs.ConditionWords.{condition_with, is_after_dot, list_condition, number_condition, number_in, operator_at};
+ghost use Rattle.lc_arguments.specs.ConditionWords.{digits_from, is_digit, with_digit, without_spaces};
+
+use lc_glob::cut_at_first;
+use lc_sheet::{Column, Comparison, Condition, Number, Test};
+
+/// Returns what follows `front`, where a text begins with it.
+fn after_front<'w>(front: &[u8], text: &'w [u8]) -> Option<&'w [u8]>
+    ensures { option_map (λ rest. rest.now) result ≡ after_front front.now text.entry.now }
+{
+    text.strip_prefix(front)
+}
+
+/// Drops the spaces at the beginning of a text.
+fn without_spaces(text: &[u8]) -> &[u8]
+    ensures { result.now ≡ without_spaces text.entry.now }
+{
+    let mut left = text;
+    'spaces: while let [b' ', rest @ ..] = left {
+        left = rest;
+    }
+    left
+}
+
+/// Returns the columns that a condition may be on.
+fn condition_columns() -> &'static [Column]
+    ensures { result.now ≡ condition_columns }
+{
+    &[
+        Column::Ext,
+        Column::Text,
+        Column::Eol,
+        Column::Number(Number::Lines),
+        Column::Number(Number::Blank),
+        Column::Number(Number::Bytes),
+    ]
+}
+
+/// Finds the column with whose name a text begins, and returns what follows the name too.
+fn column_at(text: &[u8]) -> Option<(Column, &[u8])>
+    ensures { option_map (λ found. (found.0, found.1.now)) result ≡ column_among condition_columns text.entry.now }
+{
+    let mut columns = condition_columns();
+    'columns: while let [column, others @ ..] = columns {
+        if let Some(rest) = after_front(column.name().as_bytes(), text) {
+            return Some((*column, rest));
+        }
+        columns = others;
+    }
+    None
+}
+
+/// Returns the operator of a byte that an equals sign follows, or does not.
+fn comparison_of(byte: u8, equals: bool) -> Option<Comparison>
+    ensures { result ≡ comparison_of byte equals }
+{
+    if equals {
+        match byte {
+            b'!' => Some(Comparison::Unequal),
+            b'<' => Some(Comparison::AtMost),
+            b'>' => Some(Comparison::AtLeast),
+            _ => None,
+        }
+    } else {
+        match byte {
+            b'=' => Some(Comparison::Equal),
+            b'<' => Some(Comparison::Less),
+            b'>' => Some(Comparison::Greater),
+            _ => None,
+        }
+    }
+}
+
+/// Reads the operator with which a text begins, and returns what follows it too.
+fn operator_at(text: &[u8]) -> Option<(Comparison, &[u8])>
+    ensures { option_map (λ found. (found.0, found.1.now)) result ≡ operator_at text.entry.now }
+{
+    let (first, rest) = text.split_first()?;
+    match after_front(b"=", rest) {
+        Some(values) => Some((comparison_of(*first, true)?, values)),
+        None => Some((comparison_of(*first, false)?, rest)),
+    }
+}
+
+/// Returns whether this follows the dot of an extension.
+fn is_after_dot(rest: Option<&[u8]>) -> bool
+    ensures { result ≡ is_after_dot (option_map (λ r. r.now) rest.entry) }
+{
+    match rest {
+        None => false,
+        Some(rest) => !rest.is_empty() && !rest.contains(&b'.') && !rest.contains(&b'/'),
+    }
+}
+
+/// Returns whether a column can have a value.
+fn can_have(column: Column, text: &[u8]) -> bool
+    ensures { result ≡ can_have column text.now }
+{
+    match column {
+        Column::Ext => text == b"-".as_slice() || is_after_dot(after_front(b".", text)),
+        Column::Text => {
+            text == b"set".as_slice()
+                || text == b"unset".as_slice()
+                || text == b"auto".as_slice()
+                || text == b"other".as_slice()
+                || text == b"-".as_slice()
+        }
+        Column::Eol => {
+            text == b"none".as_slice()
+                || text == b"lf".as_slice()
+                || text == b"crlf".as_slice()
+                || text == b"cr".as_slice()
+                || text == b"mixed".as_slice()
+                || text == b"nul".as_slice()
+        }
+        _ => false,
+    }
+}
+
+/// Returns whether a column can have each of some values, which have commas between them.
+fn can_have_all(column: Column, texts: &[u8]) -> bool
+    ensures { result ≡ can_have_all column texts.now }
+{
+    let mut left = Some(texts);
+    'texts: while let Some(rest) = left {
+        let (text, others) = cut_at_first(b',', rest);
+        if !can_have(column, text) {
+            return false;
+        }
+        left = others;
+    }
+    true
+}
+
+/// Appends a digit to a number, if the byte is one and the number does not become too large.
+fn with_digit(number: u64, byte: u8) -> Option<u64>
+    ensures { result ≡ with_digit number byte }
+{
+    if !byte.is_ascii_digit() {
+        return None;
+    }
+    number.checked_mul(10)?.checked_add(u64::from(byte - b'0'))
+}
+
+/// Reads a number of digits alone, below 2^64.
+fn number_in(text: &[u8]) -> Option<u64>
+    ensures { result ≡ number_in text.now }
+{
+    if text.is_empty() {
+        return None;
+    }
+    let mut number = 0;
+    let mut left = text;
+    'digits: while let [byte, rest @ ..] = left {
+        number = with_digit(number, *byte)?;
+        left = rest;
+    }
+    Some(number)
+}
+
+/// Makes the condition that a value is among some, or is not.
+fn list_condition(column: Column, comparison: Comparison, texts: &[u8]) -> Option<Condition<'_>>
+    ensures { result ≡ list_condition column comparison texts.entry.now }
+{
+    if !can_have_all(column, texts) {
+        return None;
+    }
+    match comparison {
+        Comparison::Equal => Some(Condition {
+            column,
+            test: Test::OneOf(texts),
+        }),
+        Comparison::Unequal => Some(Condition {
+            column,
+            test: Test::NoneOf(texts),
+        }),
+        _ => None,
+    }
+}
+
+/// Makes the condition on a number.
+fn number_condition<'w>(
+    column: Column,
+    comparison: Comparison,
+    number: Option<u64>,
+) -> Option<Condition<'w>>
+    ensures { result ≡ number_condition column comparison number }
+{
+    match number {
+        None => None,
+        Some(number) => Some(Condition {
+            column,
+            test: Test::Compared(comparison, number),
+        }),
+    }
+}
+
+fn condition_with(column: Column, comparison: Comparison, values: &[u8]) -> Option<Condition<'_>>
+    ensures { result ≡ condition_with column comparison values.entry.now }
+{
+    match column {
+        Column::Number(_) => number_condition(column, comparison, number_in(values)),
+        _ => list_condition(column, comparison, values),
+    }
+}
+
+/// Reads a condition, such as `eol=crlf,mixed` or `lines > 1000`.
+pub(crate) fn condition_of(text: &[u8]) -> Option<Condition<'_>>
+    ensures { result ≡ condition_of text.entry.now }
+{
+    let (column, rest) = column_at(text)?;
+    let (comparison, values) = operator_at(without_spaces(rest))?;
+    condition_with(column, comparison, without_spaces(values))
+}
+
+/// Returns whether an operator has a byte.
+fn is_operator_byte(byte: u8) -> bool {
+    matches!(byte, b'!' | b'<' | b'=' | b'>')
+}
+
+/// Returns what the values of a column may be.
+fn values_of(column: Column) -> &'static str {
+    match column {
+        Column::Ext => {
+            ": ext takes '=' or '!=', and extensions such as .c, separated by commas; - is none"
+        }
+        Column::Text => {
+            ": text takes '=' or '!=', and set, unset, auto, other or -, separated by commas"
+        }
+        Column::Eol => {
+            ": eol takes '=' or '!=', and none, lf, crlf, cr, mixed or nul, separated by commas"
+        }
+        _ => ": a number has digits alone, and is below 18446744073709551616",
+    }
+}
+
+/// Returns why a text writes no condition.
+pub(crate) fn why_no_condition(text: &[u8]) -> &'static str {
+    if text.starts_with(b"dir") || text.starts_with(b"path") {
+        return ": --only and --include choose directories and paths";
+    }
+    if !text.iter().any(|byte| is_operator_byte(*byte)) {
+        return ": it has no operator; quote a condition, as in --where 'lines>1000'";
+    }
+    let Some((column, rest)) = column_at(text) else {
+        return ": the columns are ext, text, eol, lines, blank and bytes";
+    };
+    match operator_at(without_spaces(rest)) {
+        None => ": after the column comes one of =, !=, <, <=, > and >=",
+        Some(_) => values_of(column),
+    }
+}

@@ -1,0 +1,70 @@
+//! The conditions of `--where` and `--no-binary`.
+
+ghost use Rattle.std.specs.Prelude.{◌≡◌, ◌∷◌, ◌++◌, [], map, IfOk, OnOk};
+ghost use Rattle.clap.specs.Matches.{found_of};
+ghost use Rattle.clap.specs.Walk.{rows_of};
+ghost use Rattle.lc_arguments.specs.ConditionWords.{all_conditions, conditions_of, not_binary};
+ghost use Rattle.lc_arguments.specs.Explained.{AnswersConditions};
+
+use crate::condition_text::condition_of;
+use crate::repeated::{Repeated, values_in};
+use crate::request::ParseExit;
+use clap::ArgMatches;
+use lc_sheet::{Column, Condition, Test};
+use std::alloc::{AllocError, Global};
+
+/// Appends the condition that a text writes, if it writes one.
+fn push_condition<'w>(conditions: &mut Vec<Condition<'w>>, text: &'w str) -> Result<(), AllocError>
+    ensures { OnOk result (conditions.new.items ≡ conditions.old.items ++ conditions_of (text.entry.now ∷ [])) }
+{
+    if let Some(condition) = condition_of(text.as_bytes()) {
+        conditions.push(condition)?;
+    }
+    Ok(())
+}
+
+/// Makes the condition of files that are not binary.
+fn not_binary<'w>() -> Condition<'w>
+    ensures { result ≡ not_binary }
+{
+    Condition {
+        column: Column::Eol,
+        test: Test::NoneOf(b"nul"),
+    }
+}
+
+/// Reads the conditions that texts write, and adds that of `--no-binary` if it is asked for.
+fn all_conditions<'w>(
+    alloc: Global,
+    texts: &[&'w str],
+    no_binary: bool,
+) -> Result<Vec<Condition<'w>>, AllocError>
+    ensures { IfOk result (λ conditions. conditions.items ≡ all_conditions (map (λ text. text.now) texts.now) no_binary) }
+{
+    let mut conditions = Vec::new(alloc);
+    for text in texts {
+        push_condition(&mut conditions, text)?;
+    }
+    if no_binary {
+        conditions.push(not_binary())?;
+    }
+    Ok(conditions)
+}
+
+/// Takes the conditions that clap read.
+pub(crate) fn conditions_in<'w>(
+    alloc: Global,
+    matches: &ArgMatches<'w>,
+) -> Result<Vec<Condition<'w>>, ParseExit>
+    ensures { AnswersConditions (rows_of (found_of matches.now)) result }
+{
+    let texts = match values_in(alloc, matches, Repeated::Conditions) {
+        Ok(texts) => texts,
+        Err(no) => return Err(no),
+    };
+    let no_binary = matches.get_flag("no-binary");
+    match all_conditions(alloc, &texts, no_binary) {
+        Ok(conditions) => Ok(conditions),
+        Err(AllocError) => Err(ParseExit::Memory),
+    }
+}

@@ -1,0 +1,172 @@
+//! What `--help` says of the options, by their names and headings.
+//!
+//! These texts are no part of the table of options: what is proved of the table is proved by computing with all of it.
+
+use crate::option_row::OptionRow;
+use crate::options_table::{LIMITS, ON_INPUT, WHAT_IS_PRINTED, WHICH_FILES};
+
+const LONG_HELP: &[(&str, &str, &str)] = &[
+    (
+        "exclude",
+        WHICH_FILES,
+        "Skip what PATTERN matches. PATTERN is a line of a .gitignore, relative
+to DIR, and overrides every rule file. !PATTERN includes again. May be
+repeated; the last one that matches decides",
+    ),
+    (
+        "exclude-from",
+        WHICH_FILES,
+        "Skip what the patterns in FILE match. FILE has the syntax of a
+.gitignore and its patterns are relative to DIR; every .gitignore
+overrides it",
+    ),
+    (
+        "include",
+        WHICH_FILES,
+        "Skip files unless PATTERN matches them or a directory above them.
+PATTERN is a line of a .gitignore, relative to DIR. May be repeated;
+one that matches is enough",
+    ),
+    (
+        "no-ignore",
+        WHICH_FILES,
+        "Read no .gitignore and no .git/info/exclude. --exclude, --exclude-from
+and .gitattributes still apply, and .git is still skipped",
+    ),
+    (
+        "archive",
+        WHICH_FILES,
+        "Skip files and directories that have the attribute export-ignore in
+.gitattributes, as git archive does",
+    ),
+    (
+        "without",
+        WHICH_FILES,
+        "Skip files and directories that have the attribute ATTR in
+.gitattributes, such as linguist-vendored. The line `* ATTR` sets it.
+The line `* ATTR=true` gives it a value, which ATTR=true means. May be
+repeated",
+    ),
+    (
+        "only",
+        WHICH_FILES,
+        "Count only what is at or under PATH, under the rules of all of DIR.
+PATH is relative to DIR, such as src/lib; . is all of DIR. May be
+repeated",
+    ),
+    (
+        "only-from",
+        WHICH_FILES,
+        "Count only what is at or under the paths in FILE, as --only counts
+them. They come one a line; FILE - is standard input. Paths may begin
+with ./, as find prints them",
+    ),
+    (
+        "null",
+        WHICH_FILES,
+        "The paths of --only-from end with NUL, as git ls-files -z prints them",
+    ),
+    (
+        "one-file-system",
+        WHICH_FILES,
+        "Skip directories on another file system than DIR, such as /proc
+below /",
+    ),
+    (
+        "left-out",
+        WHAT_IS_PRINTED,
+        "Also print the number of entries, and a line for each skipped entry
+with the rule or the reason",
+    ),
+    (
+        "where",
+        WHAT_IS_PRINTED,
+        "Show and sum only files that meet CONDITION, such as ext=.c,.h or
+eol!=lf or 'lines>1000', in quotes. The columns are ext, text, eol,
+lines, blank and bytes; the operators = and !=, and for numbers <, <=,
+> and >=. May be repeated; all must hold. Skipped entries stay",
+    ),
+    (
+        "no-binary",
+        WHAT_IS_PRINTED,
+        "Show and sum only files without a NUL byte, as --where eol!=nul does.
+A file without one counts as text, whatever its bytes",
+    ),
+    (
+        "format",
+        WHAT_IS_PRINTED,
+        "How to print: table aligns columns for reading and is the default on
+a terminal; tsv separates fields by tabs and is the default
+elsewhere; json is for programs; csv has one kind of record and no
+totals, for databases and spreadsheets; markdown is for a page on
+GitHub; html is a page for a browser with a box for each directory
+that has a thousandth of the lines or more",
+    ),
+    (
+        "by",
+        WHAT_IS_PRINTED,
+        "Sum rows by some of dir, ext, text and eol, separated by commas: --by
+ext prints one row for each extension, --by dir one for each directory
+right under DIR, or as deep as --depth says",
+    ),
+    (
+        "depth",
+        WHAT_IS_PRINTED,
+        "Cut the directories of --by dir to their first N segments, 1 to 256
+[default: 1]",
+    ),
+    (
+        "sort",
+        WHAT_IS_PRINTED,
+        "Sort rows and the lines of --files: by files, lines, blank or bytes,
+largest first, or by name. The default is lines in table and markdown
+and with --top, and else name",
+    ),
+    (
+        "top",
+        WHAT_IS_PRINTED,
+        "Print only the first N rows, with a row `others` for the sums of the
+rest, and the first N lines of --files. Without --sort, these have the
+most lines",
+    ),
+    (
+        "share",
+        WHAT_IS_PRINTED,
+        "Show each row's share of the total: of the column of --sort, or of
+lines. The default format is then table; markdown has shares, too",
+    ),
+    (
+        "max-dirs",
+        LIMITS,
+        "Limit of directories, DIR included, 1 to 1048576. Past it there is no
+table",
+    ),
+    (
+        "explain",
+        WHAT_IS_PRINTED,
+        "Also print the rule that decides: FILE with the number of its line,
+and its pattern; - and - if no rule decides",
+    ),
+    (
+        "null",
+        ON_INPUT,
+        "The paths on standard input end with NUL, as git ls-files -z prints
+them, so that a path may contain a line feed",
+    ),
+];
+
+fn texts() -> &'static [(&'static str, &'static str, &'static str)] {
+    LONG_HELP
+}
+
+impl OptionRow {
+    /// Returns what `--help` says of the option, without a full stop at its end. That is what `-h` says if there is no longer text.
+    pub fn long_help(&self) -> &'static str {
+        for (name, heading, text) in texts() {
+            if *name == self.name && *heading == self.heading {
+                return text;
+            }
+        }
+        self.help
+    }
+}

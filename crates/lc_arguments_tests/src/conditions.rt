@@ -1,0 +1,191 @@
+//! The conditions of `--where` and `--no-binary`.
+
+use lc_arguments::{CountRequest, ParseExit, Request};
+use lc_sheet::{Condition, Test, Value, needs_files};
+use std::alloc::{AllocError, Global};
+use std::io::Write;
+use std::process::Abort;
+use std::test::Fail;
+
+/// A value of `--where`, and the condition that it writes, or why it writes none.
+type Case = (&'static str, &'static str);
+
+const CONDITIONS: &[Case] = &[
+    ("ext=.c", "ext one of .c"),
+    ("ext=.c,.h", "ext one of .c,.h"),
+    ("ext!=-", "ext none of -"),
+    ("ext=-,.\u{e9}", "ext one of -,.\u{e9}"),
+    ("ext = .c ", "ext one of .c "),
+    (
+        "text=set,unset,auto,other,-",
+        "text one of set,unset,auto,other,-",
+    ),
+    ("eol!=nul", "eol none of nul"),
+    (
+        "eol=none,lf,crlf,cr,mixed",
+        "eol one of none,lf,crlf,cr,mixed",
+    ),
+    ("lines>1000", "lines Greater 1000"),
+    ("lines > 1000", "lines Greater 1000"),
+    ("lines>=007", "lines AtLeast 7"),
+    ("blank=0", "blank Equal 0"),
+    ("bytes<10", "bytes Less 10"),
+    (
+        "bytes<= 18446744073709551615",
+        "bytes AtMost 18446744073709551615",
+    ),
+    ("bytes!=1", "bytes Unequal 1"),
+];
+
+const REFUSED: &[Case] = &[
+    ("", ": it has no operator; quote a condition"),
+    ("lines", ": it has no operator; quote a condition"),
+    (
+        "=.c",
+        ": the columns are ext, text, eol, lines, blank and bytes",
+    ),
+    (
+        " lines>1",
+        ": the columns are ext, text, eol, lines, blank and bytes",
+    ),
+    (
+        "files>1",
+        ": the columns are ext, text, eol, lines, blank and bytes",
+    ),
+    (
+        "dir=src",
+        ": --only and --include choose directories and paths",
+    ),
+    (
+        "path=src/a.c",
+        ": --only and --include choose directories and paths",
+    ),
+    (
+        "linesx>1",
+        ": after the column comes one of =, !=, <, <=, > and >=",
+    ),
+    (
+        "ext==.c",
+        ": after the column comes one of =, !=, <, <=, > and >=",
+    ),
+    (
+        "lines!1",
+        ": after the column comes one of =, !=, <, <=, > and >=",
+    ),
+    ("ext", ": it has no operator; quote a condition"),
+    ("ext=", ": ext takes '=' or '!='"),
+    ("ext=gz", ": ext takes '=' or '!='"),
+    ("ext=.tar.gz", ": ext takes '=' or '!='"),
+    ("ext=.", ": ext takes '=' or '!='"),
+    ("ext=.c,", ": ext takes '=' or '!='"),
+    ("ext=.a/b", ": ext takes '=' or '!='"),
+    ("ext<.c", ": ext takes '=' or '!='"),
+    ("text=binary", ": text takes '=' or '!='"),
+    ("eol=LF", ": eol takes '=' or '!='"),
+    ("eol=-", ": eol takes '=' or '!='"),
+    ("lines>", ": a number has digits alone"),
+    ("lines>+1", ": a number has digits alone"),
+    ("lines>1,000", ": a number has digits alone"),
+    ("bytes>1k", ": a number has digits alone"),
+    ("bytes>1 ", ": a number has digits alone"),
+    ("bytes=18446744073709551616", ": a number has digits alone"),
+];
+
+fn push_condition(text: &mut String, condition: &Condition<'_>) -> Result<(), AllocError> {
+    text.push_str(condition.column.name())?;
+    match condition.test {
+        Test::OneOf(values) => {
+            let values = str::from_utf8(values).unwrap_or("?");
+            write!(text, " one of {values}")
+        }
+        Test::NoneOf(values) => {
+            let values = str::from_utf8(values).unwrap_or("?");
+            write!(text, " none of {values}")
+        }
+        Test::Compared(comparison, number) => write!(text, " {comparison:?} {number}"),
+    }
+}
+
+fn conditions_text(alloc: Global, request: &CountRequest<'_>) -> Result<String, AllocError> {
+    let mut text = String::new(alloc);
+    for condition in &request.conditions {
+        push_condition(&mut text, condition)?;
+    }
+    Ok(text)
+}
+
+fn answer_text(
+    alloc: Global,
+    answer: Result<Request<'_>, ParseExit>,
+) -> Result<String, AllocError> {
+    match answer {
+        Ok(Request::CheckJoined) => Ok(String::new(alloc)),
+        Ok(Request::Check(_request)) => Ok(String::new(alloc)),
+        Ok(Request::Count(request)) => conditions_text(alloc, &request),
+        Ok(Request::Explain(_request)) => Ok(String::new(alloc)),
+        Err(ParseExit::Shown(text)) => format!(in alloc; "{text}"),
+        Err(ParseExit::Refused(text)) => format!(in alloc; "{text}"),
+        Err(ParseExit::Memory) => Err(AllocError),
+    }
+}
+
+/// Returns the conditions of a count with these arguments, or why there is none.
+fn text_of(alloc: Global, words: &[&str]) -> Result<String, AllocError> {
+    answer_text(alloc, Request::read(alloc, words))
+}
+
+#[test]
+fn conditions_that_texts_write(rt: HostRuntime) -> Result<(), Fail> {
+    for (typed, wanted) in CONDITIONS {
+        let found = text_of(rt.alloc(), &["count", "--where", typed])?;
+        assert!(rt; found.as_str() == *wanted, "{typed}: {found}");
+    }
+    let found = text_of(rt.alloc(), &["--where", "blank>1", "--no-binary"])?;
+    assert!(rt; found.as_str() == "blank Greater 1eol none of nul");
+    let found = text_of(rt.alloc(), &["count", "."])?;
+    assert!(rt; found.is_empty());
+    Ok(())
+}
+
+#[test]
+fn texts_that_write_none(rt: HostRuntime) -> Result<(), Fail> {
+    for (typed, wanted) in REFUSED {
+        let found = text_of(rt.alloc(), &["count", "--where", typed])?;
+        let start = format!(in rt.alloc();
+            "error: invalid value '{typed}' for '--where <CONDITION>'{wanted}"
+        )?;
+        assert!(rt; found.starts_with(start.as_str()), "{typed}: {found}");
+    }
+    Ok(())
+}
+
+/// Returns whether the condition that a text writes holds of a value, and whether it is on a number.
+fn holds(alloc: Global, typed: &str, value: Value<'_>) -> Result<(bool, bool), AllocError> {
+    let words = ["count", "--where", typed];
+    match Request::read(alloc, words.as_slice()) {
+        Ok(Request::Count(request)) => {
+            let holds = request
+                .conditions
+                .iter()
+                .all(|condition| condition.holds(value));
+            Ok((holds, needs_files(&request.conditions)))
+        }
+        _ => Err(AllocError),
+    }
+}
+
+#[test]
+fn conditions_on_values(rt: HostRuntime) -> Result<(), Fail> {
+    let alloc = rt.alloc();
+    assert!(rt; holds(alloc, "eol=lf,crlf", Value::Word("crlf"))? == (true, false));
+    assert!(rt; holds(alloc, "eol!=lf,crlf", Value::Word("crlf"))? == (false, false));
+    assert!(rt; holds(alloc, "eol=lf,crlf", Value::Word("cr"))? == (false, false));
+    assert!(rt; holds(alloc, "text=-", Value::Missing)? == (true, false));
+    assert!(rt; holds(alloc, "text!=auto", Value::Missing)? == (true, false));
+    assert!(rt; holds(alloc, "lines<10", Value::Number(9))? == (true, true));
+    assert!(rt; holds(alloc, "lines<10", Value::Number(10))? == (false, true));
+    assert!(rt; holds(alloc, "lines<=10", Value::Number(10))? == (true, true));
+    assert!(rt; holds(alloc, "lines>=10", Value::Number(9))? == (false, true));
+    assert!(rt; holds(alloc, "lines>10", Value::Number(1 << 64))? == (true, true));
+    Ok(())
+}
