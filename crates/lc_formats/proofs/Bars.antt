@@ -1,66 +1,28 @@
--- Shares and bars: they are in one line, in UTF-8, and as long as they are to be.
-use Rattle.std.proofs.Common.{◌≡◌, ◌<◌, ◌-◌, ◌+◌, ◌/◌, ◌%◌, ℕ, zero, suc, Bool, true, false, ◌==◌, if◌then◌else◌, List, [], ◌∷◌}
-use Rattle.std.proofs.Common.{◌++◌, length, codes, decimal, encode_utf8, refl, sym, ap, ◌∙◌, arith, append-nil, length-append}
+-- Bars: what holds of them, and how long they are.
+use Rattle.std.proofs.Common.{◌≡◌, ◌<◌, ◌≤◌, ◌-◌, ◌+◌, ◌/◌, ◌%◌, ℕ, zero, suc, Bool, true, false, ◌==◌, if◌then◌else◌, List, [], ◌∷◌}
+use Rattle.std.proofs.Common.{◌++◌, length, encode_utf8, refl, sym, ap, ◌∙◌, arith, append-nil, length-append}
 use Rattle.std.specs.Str.{IsUtf8, chars}
 use Rattle.std.proofs.lemmas.Bool.{eqb-true, eqb-false}
 use Rattle.std.proofs.lemmas.Str.{IsUtf8-append, IsUtf8-encode, IsUtf8-nil, chars-append, chars-encodes, chars-nil}
 use lib.Utf8.{encodes, low_scalar, scalar, scalars}
-use Rattle.json.proofs.Printed.Utf8.{IsUtf8-are_ascii}
-use Rattle.lc_formats.specs.Shares.{bar, blocks, last_block, share_word}
-use Rattle.lc_formats.proofs.OneLine.{is_one_line, one_line-append, one_line-decimal, one_line-encode}
+use Rattle.lc_formats.specs.Shares.{bar, blocks, last_block}
 
--- ---- a share
+-- what holds of nothing, of joined texts and of each character of a bar holds of the bar
+module _ (P : List ℕ → Type 0) (nothing : P []) (joined : (a b : List ℕ) → P a → P b → P (a ++ b))
+    (each : (c : ℕ) → 0x2588 ≤ c → c ≤ 0x2590 → P (encode_utf8 c)) where
+  pub of_blocks : (n : ℕ) → P (blocks n)
+  of_blocks zero = nothing
+  of_blocks (suc n) = joined (encode_utf8 0x2588) (blocks n) (each 0x2588 (omega arith) (omega arith)) (of_blocks n)
 
-pub one_line-share : (tenths : ℕ) → is_one_line (share_word tenths) ≡ true
-one_line-share tenths =
-    let a = decimal (tenths / 10) in
-    let b = decimal (tenths % 10) in
-    one_line-append ((a ++ codes ".") ++ b) (codes "%")
-    (one_line-append (a ++ codes ".") b (one_line-append a (codes ".") (one_line-decimal (tenths / 10)).0 refl)
-    (one_line-decimal (tenths % 10)).0) refl
-
-pub utf8-share : (tenths : ℕ) → IsUtf8 (share_word tenths)
-utf8-share tenths =
-    let a = decimal (tenths / 10) in
-    let b = decimal (tenths % 10) in
-    IsUtf8-append ((a ++ codes ".") ++ b) (codes "%")
-    (IsUtf8-append (a ++ codes ".") b (IsUtf8-append a (codes ".") (one_line-decimal (tenths / 10)).1 (IsUtf8-are_ascii (codes ".") refl))
-    (one_line-decimal (tenths % 10)).1) (IsUtf8-are_ascii (codes "%") refl)
-
--- ---- a bar
-
-one_line_blocks : (n : ℕ) → is_one_line (blocks n) ≡ true
-one_line_blocks zero = refl
-one_line_blocks (suc n) =
-    one_line-append (encode_utf8 0x2588) (blocks n) (one_line-encode 0x2588 (λ e. omega arith)) (one_line_blocks n)
+  pub of_bar : (eighths : ℕ) → P (bar eighths)
+  of_bar eighths = joined (blocks (eighths / 8)) (last_block (eighths % 8)) (of_blocks (eighths / 8)) (at (eighths % 8 == 0))
+    where
+      at : (b : Bool) → P (if b then [] else encode_utf8 (0x2590 - eighths % 8))
+      at true = nothing
+      at false = each (0x2590 - eighths % 8) (omega arith) (omega arith)
 
 utf8_blocks : (n : ℕ) → IsUtf8 (blocks n)
-utf8_blocks zero = IsUtf8-nil
-utf8_blocks (suc n) =
-    IsUtf8-append (encode_utf8 0x2588) (blocks n) (IsUtf8-encode 0x2588 (low_scalar 0x2588 (omega arith))) (utf8_blocks n)
-
--- a part of a block is no block, or one character
-abbrev part_or : (b : Bool) → ℕ → List ℕ
-part_or b c = if b then [] else encode_utf8 c
-
-one_line_part : (b : Bool) (c : ℕ) → (c ≡ 10 → ⊥) → is_one_line (part_or b c) ≡ true
-one_line_part true c other = refl
-one_line_part false c other = one_line-encode c other
-
-utf8_part : (b : Bool) (c : ℕ) → c < 55296 → IsUtf8 (part_or b c)
-utf8_part true c low = IsUtf8-nil
-utf8_part false c low = IsUtf8-encode c (low_scalar c low)
-
-pub one_line-bar : (eighths : ℕ) → is_one_line (bar eighths) ≡ true
-one_line-bar eighths =
-    let e = eighths % 8 in
-    one_line-append (blocks (eighths / 8)) (last_block e) (one_line_blocks (eighths / 8))
-    (one_line_part (e == 0) (0x2590 - e) (λ h. omega arith))
-
-pub utf8-bar : (eighths : ℕ) → IsUtf8 (bar eighths)
-utf8-bar eighths =
-    let e = eighths % 8 in
-    IsUtf8-append (blocks (eighths / 8)) (last_block e) (utf8_blocks (eighths / 8)) (utf8_part (e == 0) (0x2590 - e) (omega arith))
+utf8_blocks n = of_blocks IsUtf8 IsUtf8-nil IsUtf8-append (λ c low high. IsUtf8-encode c (low_scalar c (omega (arith, high)))) n
 
 -- ---- its length
 
@@ -88,7 +50,7 @@ length_blocks (suc n) =
 length_last : (e : ℕ) → length (chars (last_block e)) ≡ (if e == 0 then 0 else 1)
 length_last e = at (e == 0)
   where
-    at : (b : Bool) → length (chars (part_or b (0x2590 - e))) ≡ (if b then 0 else 1)
+    at : (b : Bool) → length (chars (if b then [] else encode_utf8 (0x2590 - e))) ≡ (if b then 0 else 1)
     at true = ap length chars-nil
     at false = one_char (0x2590 - e) (omega arith)
 

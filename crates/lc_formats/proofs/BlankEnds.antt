@@ -1,17 +1,17 @@
 -- Texts without the blanks at their ends.
-use Rattle.std.proofs.Common.{◌≡◌, ℕ, zero, suc, ◌<◌, ◌-◌, ◌/◌, ◌%◌, Bool, true, false, not, ◌==◌, ◌&&◌, if◌then◌else◌}
-use Rattle.std.proofs.Common.{List, [], ◌∷◌, ◌++◌, length, get_or, codes, decimal, encode_utf8, refl, sym, ap, ap₂, ◌∙◌, arith, append-nil}
+use Rattle.std.proofs.Common.{◌≡◌, ℕ, zero, suc, ◌-◌, ◌/◌, ◌%◌, Bool, true, false, not, ◌==◌, ◌&&◌, if◌then◌else◌}
+use Rattle.std.proofs.Common.{List, [], ◌∷◌, ◌++◌, codes, decimal, refl, ap, ap₂, ◌∙◌, arith}
 use Rattle.std.specs.Fmt.{digit_glyph, digits, digits_onto}
 use Rattle.std.specs.List.{list_all}
-use Rattle.std.proofs.lemmas.Bool.{and_parts, and_from, ne_eqb, not-true}
+use Rattle.std.proofs.lemmas.Bool.{and_parts, and_from, not-true}
 use Rattle.std.proofs.lemmas.Bool.Decides.{nat_tests}
 use Rattle.std.proofs.lemmas.List.Folds.{list_all-append}
-use Rattle.std.proofs.lemmas.Str.{inside_one}
 use Rattle.lc_formats.specs.Blanks.{char_before, ends_in_blank, without_blanks}
 use Rattle.lc_formats.specs.CellWords.{with_commas}
 use Rattle.lc_formats.specs.Columns.{has_text, spaces}
-use Rattle.lc_formats.specs.Shares.{bar, blocks, last_block, share_word}
-use Rattle.lc_formats.proofs.OneLine.{is_no_feed, is_numeral, is_one_line, numerals}
+use Rattle.lc_formats.specs.Shares.{bar, share_word}
+use Rattle.lc_formats.proofs.Bars.{of_bar}
+use Rattle.lc_formats.proofs.OneLine.{all_weaker, encode_without, is_no_feed, is_numeral, is_one_line, numerals}
 
 -- whether there is nothing
 abbrev pub is_none : {X : Type 0} → List X → Bool
@@ -95,14 +95,10 @@ none_both a b x y = list_all-append no_blank a b ∙ ap₂ (λ p q. p && q) x y
 no_blank_digit : (d : ℕ) → is_numeral d ≡ true → no_blank d ≡ true
 no_blank_digit d e = grind (arith, nat_tests)
 
-none_numeral : (ds : List ℕ) → list_all is_numeral ds ≡ true → list_all no_blank ds ≡ true
-none_numeral [] e = refl
-none_numeral (d ∷ ds) e =
-    let parts = and_parts (is_numeral d) (list_all is_numeral ds) e in and_from _ _ (no_blank_digit d parts.0) (none_numeral ds parts.1)
-
 -- a number ends in no blank
 pub ends_number : (n : ℕ) → ends_in_blank (with_commas (decimal n)) ≡ false
-ends_number n = ends_none (with_commas (decimal n)) (none_numeral (with_commas (decimal n)) (numerals n))
+ends_number n = ends_none (with_commas (decimal n))
+    (all_weaker is_numeral no_blank no_blank_digit (with_commas (decimal n)) (numerals n))
 
 text_chosen : (b : Bool) (d : ℕ) (ds ts : List ℕ) → has_text ts ≡ true → has_text (if b then d ∷ ds else ts) ≡ true
 text_chosen true d ds ts e = refl
@@ -128,38 +124,13 @@ text_commas (d ∷ ds) e = refl
 pub shown_number : (n : ℕ) → has_text (with_commas (decimal n)) ≡ true
 shown_number n = text_commas (decimal n) (text_decimal n)
 
--- whether there is a text, by its length
-pub has_text-length : (t : List ℕ) → has_text t ≡ not (length t == 0)
-has_text-length [] = refl
-has_text-length (c ∷ cs) = sym (ap not (ne_eqb (length (c ∷ cs)) 0 (λ e. omega arith)))
-
 -- a share ends with its sign
 pub ends_share : (tenths : ℕ) → ends_in_blank (share_word tenths) ≡ false
 ends_share tenths =
     ends-append (decimal (tenths / 10) ++ codes "." ++ decimal (tenths % 10)) (codes "%") (λ e. absurd (cc))
 
-from_each : (l : List ℕ) → ((k : ℕ) → k < length l → get_or l k 0 ≡ 32 → ⊥) → list_all no_blank l ≡ true
-from_each [] h = refl
-from_each (x ∷ l) h =
-    and_from _ _ (ap not (ne_eqb x 32 (h 0 (omega arith)))) (from_each l (λ k below. h (suc k) (omega arith)))
-
-none_encode : (c : ℕ) → (c ≡ 32 → ⊥) → list_all no_blank (encode_utf8 c) ≡ true
-none_encode c other = from_each (encode_utf8 c) at
-  where
-    at : (k : ℕ) → k < length (encode_utf8 c) → get_or (encode_utf8 c) k 0 ≡ 32 → ⊥
-    at k below e = other (inside_one c [] (encode_utf8 c) k (sym (append-nil _)) below (omega arith) ∙ e)
-
-none_blocks : (n : ℕ) → list_all no_blank (blocks n) ≡ true
-none_blocks zero = refl
-none_blocks (suc n) = none_both (encode_utf8 0x2588) (blocks n) (none_encode 0x2588 (λ e. omega arith)) (none_blocks n)
-
-none_part : (b : Bool) (c : ℕ) → (c ≡ 32 → ⊥) → list_all no_blank (if b then [] else encode_utf8 c) ≡ true
-none_part true c other = refl
-none_part false c other = none_encode c other
-
 -- a bar ends in no blank
 pub ends_bar : (eighths : ℕ) → ends_in_blank (bar eighths) ≡ false
 ends_bar eighths =
-    let e = eighths % 8 in
-    ends_none (bar eighths) (none_both (blocks (eighths / 8)) (last_block e) (none_blocks (eighths / 8))
-    (none_part (e == 0) (0x2590 - e) (λ h. omega arith)))
+    ends_none (bar eighths) (of_bar (λ t. list_all no_blank t ≡ true) refl none_both
+    (λ c low high. encode_without 32 c (omega arith) (λ e. omega (arith, e, low))) eighths)

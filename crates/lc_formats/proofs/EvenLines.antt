@@ -3,7 +3,7 @@ use Rattle.std.proofs.Common.{◌≡◌, ℕ, suc, ◌+◌, ◌-◌, ◌≤◌, 
 use Rattle.std.proofs.Common.{slice_index, refl, sym, ap, ap₂, ◌∙◌, arith, append_assoc, append-nil}
 use Rattle.std.specs.List.{All, AllZip}
 use Rattle.std.specs.Str.{IsUtf8}
-use Rattle.std.proofs.lemmas.List.Elements.{All-cons, All-head, All-nil, All-tail, All-weaker}
+use Rattle.std.proofs.lemmas.List.Elements.{All-cons, All-head, All-nil, All-tail}
 use Rattle.std.proofs.lemmas.List.{length-map}
 use Rattle.std.proofs.lemmas.Str.{IsUtf8-append, IsUtf8-nil}
 use Rattle.lc_formats.specs.Blanks.{padded_from, padded_line}
@@ -193,16 +193,13 @@ length_wider_same (w ∷ ws) (v ∷ vs) same = let rest = length_wider_same ws v
 length_cells : (cells : List CellModel) → length (cell_widths cells) ≡ length cells
 length_cells cells = length-map cells (λ (c : CellModel). width_at c.side c.text)
 
-fit_widened : (lines : List (List CellModel)) (ws : List ℕ) (cells : List CellModel) → Fit ws cells
-    → All (λ l. length l ≡ length cells) lines → Fit (widened ws lines) cells
-fit_widened [] ws cells fits all = fits
-fit_widened (l ∷ ls) ws cells fits all =
-    let same = All-head (λ (x : List CellModel). length x ≡ length cells) l ls all in
-    fit_widened ls (wider ws (cell_widths l)) cells (fit_wider ws (cell_widths l) cells fits (length_cells l ∙ same))
-    (All-tail (λ (x : List CellModel). length x ≡ length cells) l ls all)
-
-all_of_length : (n m : ℕ) (ls : List (List CellModel)) → n ≡ m → All (λ l. length l ≡ n) ls → All (λ l. length l ≡ m) ls
-all_of_length n m ls e = All-weaker (λ (l : List CellModel). length l ≡ n) (λ (l : List CellModel). length l ≡ m) (λ l x. x ∙ e) ls
+fit_widened : (n : ℕ) (lines : List (List CellModel)) (ws : List ℕ) (cells : List CellModel) → Fit ws cells → length cells ≡ n
+    → All (λ l. length l ≡ n) lines → Fit (widened ws lines) cells
+fit_widened n [] ws cells fits long all = fits
+fit_widened n (l ∷ ls) ws cells fits long all =
+    let P : List CellModel → Type 0 = λ x. length x ≡ n in
+    fit_widened n ls (wider ws (cell_widths l)) cells
+    (fit_wider ws (cell_widths l) cells fits (length_cells l ∙ All-head P l ls all ∙ sym long)) long (All-tail P l ls all)
 
 fit_each : (n : ℕ) (lines : List (List CellModel)) (ws : List ℕ) → length ws ≡ n → All (λ l. length l ≡ n) lines
     → All (Fit (widened ws lines)) lines × (length (widened ws lines) ≡ n)
@@ -214,8 +211,7 @@ fit_each n (l ∷ ls) ws long all =
     let next = wider ws (cell_widths l) in
     let longer : length next ≡ n = length_wider_same ws (cell_widths l) (omega (arith, length_cells l)) ∙ long in
     let rest = fit_each n ls next longer later in (
-      All-cons (Fit (widened next ls)) l ls
-          (fit_widened ls next l (fit_wider_own ws l (omega arith)) (all_of_length n (length l) ls (sym same) later)) rest.0,
+      All-cons (Fit (widened next ls)) l ls (fit_widened n ls next l (fit_wider_own ws l (omega arith)) same later) rest.0,
       rest.1,
     )
 
@@ -228,4 +224,4 @@ widths_fit n l ls all =
     let later = All-tail P l ls all in
     let ws = cell_widths l in
     let rest = fit_each n ls ws (length_cells l ∙ same) later in
-    (All-cons (Fit (widened ws ls)) l ls (fit_widened ls ws l (fit_own l) (all_of_length n (length l) ls (sym same) later)) rest.0, rest.1)
+    (All-cons (Fit (widened ws ls)) l ls (fit_widened n ls ws l (fit_own l) same later) rest.0, rest.1)

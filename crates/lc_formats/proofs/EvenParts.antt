@@ -88,16 +88,6 @@ no_end (c ∷ cs) closed =
 padded_is : (ws : List ℕ) (l : List CellModel) → has_no_end (sides l) ≡ true → shown ws l ≡ front ws l
 padded_is ws l closed = ap (λ e. front ws l ++ e) (no_end l closed) ∙ append-nil (front ws l)
 
--- all lines of such a layout have its width
-wide_lines : (ss : List Side) (ws : List ℕ) (ls : List (List CellModel)) → has_no_end ss ≡ true → All (Fit ws) ls → All (IsLike ss) ls
-    → All (λ line. width_of line ≡ span ss ws) (map (shown ws) ls)
-wide_lines ss ws [] closed fits like = All-nil (λ line. width_of line ≡ span ss ws)
-wide_lines ss ws (l ∷ ls) closed fits like =
-    let here = All-head (IsLike ss) l ls like in
-    All-cons (λ line. width_of line ≡ span ss ws) (shown ws l) (map (shown ws) ls)
-    (ap width_of (padded_is ws l (ap has_no_end here.0 ∙ closed)) ∙ width_of-like ss ws l (All-head (Fit ws) l ls fits) here)
-    (wide_lines ss ws ls closed (All-tail (Fit ws) l ls fits) (All-tail (IsLike ss) l ls like))
-
 printed_line : (ws : List ℕ) (l : List CellModel) → Fit ws l → has_no_end (sides l) ≡ true → AreSound l → EndsBare l
     → IsLined (without_blanks (shown ws l) ∷ []) (line_in ws l)
 printed_line ws l fits closed sound bare =
@@ -106,15 +96,6 @@ printed_line ws l fits closed sound bare =
           ∙ ap (λ (t : List ℕ). without_blanks t ++ codes "\n") (sym (padded_is ws l closed)) ∙ one.text_is;
       each = one.each;
     }
-
-printed_lines : (ss : List Side) (ws : List ℕ) (ls : List (List CellModel)) → has_no_end ss ≡ true → All (Fit ws) ls → All (IsLike ss) ls
-    → All EndsBare ls → IsLined (map without_blanks (map (shown ws) ls)) (lines_in ws ls)
-printed_lines ss ws [] closed fits like bare = record { text_is = refl; each = All-nil (λ l. is_one_line l ≡ true) }
-printed_lines ss ws (l ∷ ls) closed fits like bare =
-    let here = All-head (IsLike ss) l ls like in
-    lined-append (without_blanks (shown ws l) ∷ []) (map without_blanks (map (shown ws) ls)) (line_in ws l) (lines_in ws ls)
-    (printed_line ws l (All-head (Fit ws) l ls fits) (ap has_no_end here.0 ∙ closed) here.1 (All-head EndsBare l ls bare))
-    (printed_lines ss ws ls closed (All-tail (Fit ws) l ls fits) (All-tail (IsLike ss) l ls like) (All-tail EndsBare l ls bare))
 
 hyphens_joined : (w n : ℕ) → replicate w 45 ++ (codes "--" ++ (replicate n 45 ++ codes "\n")) ≡ replicate (w + (2 + n)) 45 ++ codes "\n"
 hyphens_joined w n =
@@ -158,25 +139,32 @@ even-append n xs ys a b s t first second = record {
   wide = All-append (λ line. width_of line ≡ n) xs ys first.wide second.wide;
 }
 
--- the lines of a layout without an open end
-pub even_lines : (ss : List Side) (ws : List ℕ) (ls : List (List CellModel)) → has_no_end ss ≡ true → All (Fit ws) ls → All (IsLike ss) ls
-    → All EndsBare ls → IsEven (span ss ws) (map (shown ws) ls) (padded_lines ws ls) (lines_in ws ls)
-even_lines ss ws ls closed fits like bare = record {
-  with_blanks = lined_lines ss ws ls (layout_from ss closed) fits like;
-  printed = printed_lines ss ws ls closed fits like bare;
-  wide = wide_lines ss ws ls closed fits like;
-}
+-- a line whose cells are at these sides, and which shows no blank at its end
+abbrev pub IsRow : List Side → List CellModel → Type 0
+IsRow ss l = IsLike ss l × EndsBare l
 
--- one of them
-pub even_line : (ss : List Side) (ws : List ℕ) (l : List CellModel) → has_no_end ss ≡ true → Fit ws l → IsLike ss l → EndsBare l
+-- a line of a layout without an open end
+pub even_line : (ss : List Side) (ws : List ℕ) (l : List CellModel) → has_no_end ss ≡ true → Fit ws l → IsRow ss l
     → IsEven (span ss ws) (shown ws l ∷ []) (padded_line ws l) (line_in ws l)
-even_line ss ws l closed fits like bare =
+even_line ss ws l closed fits is =
     let W : List ℕ → Type 0 = λ line. width_of line ≡ span ss ws in
+    let like = is.0 in
     let own = ap has_no_end like.0 ∙ closed in record {
       with_blanks = lined_line ws l fits (ap is_layout like.0 ∙ layout_from ss closed) like.1;
-      printed = printed_line ws l fits own like.1 bare;
+      printed = printed_line ws l fits own like.1 is.1;
       wide = All-cons W (shown ws l) [] (ap width_of (padded_is ws l own) ∙ width_of-like ss ws l fits like) (All-nil W);
     }
+
+-- the lines of such a layout
+pub even_lines : (ss : List Side) (ws : List ℕ) (ls : List (List CellModel)) → has_no_end ss ≡ true → All (Fit ws) ls → All (IsRow ss) ls
+    → IsEven (span ss ws) (map (shown ws) ls) (padded_lines ws ls) (lines_in ws ls)
+even_lines ss ws [] closed fits are =
+    let none : IsLined [] [] = record { text_is = refl; each = All-nil (λ l. is_one_line l ≡ true) } in
+    record { with_blanks = none; printed = none; wide = All-nil (λ line. width_of line ≡ span ss ws) }
+even_lines ss ws (l ∷ ls) closed fits are =
+    even-append (span ss ws) (shown ws l ∷ []) (map (shown ws) ls) (padded_line ws l) (padded_lines ws ls) (line_in ws l) (lines_in ws ls)
+    (even_line ss ws l closed (All-head (Fit ws) l ls fits) (All-head (IsRow ss) l ls are))
+    (even_lines ss ws ls closed (All-tail (Fit ws) l ls fits) (All-tail (IsRow ss) l ls are))
 
 ends_hyphens : (n : ℕ) → ends_in_blank (replicate n 45) ≡ false
 ends_hyphens zero = refl
@@ -249,85 +237,60 @@ like_fit ss l ls like =
     (All-weaker (IsLike ss) (λ (x : List CellModel). length x ≡ length ss)
     (λ x is. sym (length-map x (λ (c : CellModel). c.side)) ∙ ap length is.0) (l ∷ ls) like)
 
+pub rows_fit : (ss : List Side) (l : List CellModel) (ls : List (List CellModel)) → All (IsRow ss) (l ∷ ls)
+    → All (Fit (widths_of (l ∷ ls))) (l ∷ ls) × (length (widths_of (l ∷ ls)) ≡ length ss)
+rows_fit ss l ls are = like_fit ss l ls (All-weaker (IsRow ss) (IsLike ss) (λ x is. is.0) (l ∷ ls) are)
+
 -- ---- lines with an open end
 
-module _ {A : Type 0} (cells : A → List CellModel) (end : A → List ℕ) (ends : (x : A) → end_of (cells x) ≡ end x) where
-  aligned : (ss : List Side) (ws : List ℕ) (xs : List A) → All (Fit ws) (map cells xs) → All (IsLike ss) (map cells xs)
-      → AllZip (λ line end. (front : List ℕ) × (line ≡ front ++ end) × (width_of front ≡ span ss ws))
-      (map (shown ws) (map cells xs)) (map end xs)
-  aligned ss ws [] fits like = tt
-  aligned ss ws (x ∷ xs) fits like =
-      let l = cells x in
-      let ls = map cells xs in (
-        (
-          front ws l,
-          ap (λ e. front ws l ++ e) (ends x),
-          width_of-like ss ws l (All-head (Fit ws) l ls fits) (All-head (IsLike ss) l ls like),
-        ),
-        aligned ss ws xs (All-tail (Fit ws) l ls fits) (All-tail (IsLike ss) l ls like),
-      )
+aligned : (ss : List Side) (ws : List ℕ) (ls : List (List CellModel)) → All (Fit ws) ls → All (IsLike ss) ls
+    → AllZip (λ line end. (front : List ℕ) × (line ≡ front ++ end) × (width_of front ≡ span ss ws)) (map (shown ws) ls) (map end_of ls)
+aligned ss ws [] fits like = tt
+aligned ss ws (l ∷ ls) fits like = (
+  (front ws l, refl, width_of-like ss ws l (All-head (Fit ws) l ls fits) (All-head (IsLike ss) l ls like)),
+  aligned ss ws ls (All-tail (Fit ws) l ls fits) (All-tail (IsLike ss) l ls like),
+)
 
-  lined_listing : (ss : List Side) (headings : List CellModel) → is_open ss ≡ true → (x : A) (xs : List A)
-      → All (IsLike ss) (headings ∷ map cells (x ∷ xs))
-      → IsLined (map (shown (widths_of (headings ∷ map cells (x ∷ xs)))) (headings ∷ map cells (x ∷ xs)) ++ [] ∷ [])
-      (listing headings (map cells (x ∷ xs)))
-  lined_listing ss headings layout x xs like =
-      let ls = map cells (x ∷ xs) in
-      let ws = widths_of (headings ∷ ls) in
-      let lines = map (shown ws) (headings ∷ ls) in
-      lined-append lines ([] ∷ []) (lines_in ws (headings ∷ ls)) (codes "\n")
-      (subst (IsLined lines) (lines_open ss ws (headings ∷ ls) layout like)
-      (lined_lines ss ws (headings ∷ ls) (layout_open ss layout) (like_fit ss headings ls like).0 like)) (lined-one [] refl)
+-- what is listed, and an empty line
+lined_listing : (ss : List Side) (l : List CellModel) (ls : List (List CellModel)) → is_open ss ≡ true → All (IsLike ss) (l ∷ ls)
+    → IsLined (map (shown (widths_of (l ∷ ls))) (l ∷ ls) ++ [] ∷ []) (lines_in (widths_of (l ∷ ls)) (l ∷ ls) ++ codes "\n")
+lined_listing ss l ls layout like =
+    let ws = widths_of (l ∷ ls) in
+    let lines = map (shown ws) (l ∷ ls) in
+    lined-append lines ([] ∷ []) (lines_in ws (l ∷ ls)) (codes "\n")
+    (subst (IsLined lines) (lines_open ss ws (l ∷ ls) layout like)
+    (lined_lines ss ws (l ∷ ls) (layout_open ss layout) (like_fit ss l ls like).0 like)) (lined-one [] refl)
 
-  -- a part that lists something
-  pub listing_aligned : (ss : List Side) (headings : List CellModel) (heading : List ℕ) → is_open ss ≡ true → end_of headings ≡ heading
-      → (xs : List A) → All (IsLike ss) (headings ∷ map cells xs) → IsAlignedListing heading (map end xs) (listing headings (map cells xs))
-  listing_aligned ss headings heading layout named [] like = refl
-  listing_aligned ss headings heading layout named (x ∷ xs) like =
-      let ls = map cells (x ∷ xs) in
-      let ws = widths_of (headings ∷ ls) in
-      let fits = (like_fit ss headings ls like).0 in
-      let lines = map (shown ws) (headings ∷ ls) in
-      let whole = lined_listing ss headings layout x xs like in (
-        lines,
-        input_lines_of-lined (lines ++ [] ∷ []) (lines_in ws (headings ∷ ls) ++ codes "\n") whole,
-        (
-          span ss ws,
-          (
-            (
-              front ws headings,
-              ap (λ e. front ws headings ++ e) named,
-              width_of-like ss ws headings (All-head (Fit ws) headings ls fits) (All-head (IsLike ss) headings ls like),
-            ),
-            aligned ss ws (x ∷ xs) (All-tail (Fit ws) headings ls fits) (All-tail (IsLike ss) headings ls like),
-          ),
-        ),
-      )
+-- a part that lists something
+pub listing_aligned : (ss : List Side) (headings : List CellModel) (ls : List (List CellModel)) → is_open ss ≡ true
+    → All (IsLike ss) (headings ∷ ls) → IsAlignedListing (end_of headings) (map end_of ls) (listing headings ls)
+listing_aligned ss headings [] layout like = refl
+listing_aligned ss headings (l ∷ ls) layout like =
+    let ws = widths_of (headings ∷ l ∷ ls) in
+    let lines = map (shown ws) (headings ∷ l ∷ ls) in (
+      lines,
+      input_lines_of-lined (lines ++ [] ∷ []) (lines_in ws (headings ∷ l ∷ ls) ++ codes "\n")
+          (lined_listing ss headings (l ∷ ls) layout like),
+      (span ss ws, aligned ss ws (headings ∷ l ∷ ls) (like_fit ss headings (l ∷ ls) like).0 like),
+    )
 
-  own_end : (ws : List ℕ) (l : List CellModel) (own : List ℕ) → end_of l ≡ own → HasEnd own → ends_in_blank (shown ws l) ≡ false
-  own_end ws l own is has =
-      ap (λ e. ends_in_blank (front ws l ++ e)) is ∙ ends-append (front ws l) own has.0 ∙ has.1
+own_ends : (ws : List ℕ) (ls : List (List CellModel)) → All (λ l. HasEnd (end_of l)) ls
+    → All (λ line. ends_in_blank line ≡ false) (map (shown ws) ls)
+own_ends ws [] has = All-nil (λ line. ends_in_blank line ≡ false)
+own_ends ws (l ∷ ls) has =
+    let own = All-head (λ l. HasEnd (end_of l)) l ls has in
+    All-cons (λ line. ends_in_blank line ≡ false) (shown ws l) (map (shown ws) ls) (ends-append (front ws l) (end_of l) own.0 ∙ own.1)
+    (own_ends ws ls (All-tail (λ l. HasEnd (end_of l)) l ls has))
 
-  own_ends : (ws : List ℕ) (xs : List A) → All (λ x. HasEnd (end x)) xs
-      → All (λ line. ends_in_blank line ≡ false) (map (shown ws) (map cells xs))
-  own_ends ws [] has = All-nil (λ line. ends_in_blank line ≡ false)
-  own_ends ws (x ∷ xs) has =
-      All-cons (λ line. ends_in_blank line ≡ false) (shown ws (cells x)) (map (shown ws) (map cells xs))
-      (own_end ws (cells x) (end x) (ends x) (All-head (λ x. HasEnd (end x)) x xs has))
-      (own_ends ws xs (All-tail (λ x. HasEnd (end x)) x xs has))
-
-  -- and whose lines end in no blank
-  pub listing_clean : (ss : List Side) (headings : List CellModel) (heading : List ℕ) → is_open ss ≡ true → end_of headings ≡ heading
-      → HasEnd heading → (xs : List A) → All (IsLike ss) (headings ∷ map cells xs) → All (λ x. HasEnd (end x)) xs
-      → IsClean (listing headings (map cells xs))
-  listing_clean ss headings heading layout named own [] like has = clean_nothing
-  listing_clean ss headings heading layout named own (x ∷ xs) like has =
-      let ls = map cells (x ∷ xs) in
-      let ws = widths_of (headings ∷ ls) in
-      let E : List ℕ → Type 0 = λ line. ends_in_blank line ≡ false in record {
-        lines = map (shown ws) (headings ∷ ls) ++ [] ∷ [];
-        lined = lined_listing ss headings layout x xs like;
-        ends = All-append E (map (shown ws) (headings ∷ ls)) ([] ∷ [])
-            (All-cons E (shown ws headings) (map (shown ws) ls) (own_end ws headings heading named own) (own_ends ws (x ∷ xs) has))
-            (All-cons E [] [] refl (All-nil E));
-      }
+-- and whose lines end in no blank
+pub listing_clean : (ss : List Side) (headings : List CellModel) (ls : List (List CellModel)) → is_open ss ≡ true
+    → All (IsLike ss) (headings ∷ ls) → All (λ l. HasEnd (end_of l)) (headings ∷ ls) → IsClean (listing headings ls)
+listing_clean ss headings [] layout like has = clean_nothing
+listing_clean ss headings (l ∷ ls) layout like has =
+    let lines = map (shown (widths_of (headings ∷ l ∷ ls))) (headings ∷ l ∷ ls) in
+    let E : List ℕ → Type 0 = λ line. ends_in_blank line ≡ false in record {
+      lines = lines ++ [] ∷ [];
+      lined = lined_listing ss headings (l ∷ ls) layout like;
+      ends = All-append E lines ([] ∷ []) (own_ends (widths_of (headings ∷ l ∷ ls)) (headings ∷ l ∷ ls) has)
+          (All-cons E [] [] refl (All-nil E));
+    }

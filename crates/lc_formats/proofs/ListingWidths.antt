@@ -50,11 +50,8 @@ end_values (c ∷ d ∷ ds) (v ∷ w ∷ ws) e own =
     ap₂ (λ (x y : List ℕ). x ++ y) front.0 (end_values (d ∷ ds) (w ∷ ws) front.1 own.1)
 
 -- the open ends of lines in these columns
-abbrev ends_in : List Column → List ValueModel → List ℕ
-ends_in columns values = end_of (line_cells columns values)
-
 last_texts : (columns : List Column) (lines : List (List ValueModel)) → is_open (map side_of columns) ≡ true
-    → All (AreReadable columns) lines → map (ends_in columns) lines ≡ map last_text lines
+    → All (AreReadable columns) lines → map end_of (map (line_cells columns) lines) ≡ map last_text lines
 last_texts columns [] e own = refl
 last_texts columns (l ∷ ls) e own =
     ap₂ (λ (x : List ℕ) (xs : List (List ℕ)). x ∷ xs) (end_values columns l e (All-head (AreReadable columns) l ls own))
@@ -70,10 +67,10 @@ like_section s is =
 -- the lines of a section
 pub listing_law : ListingWidthLaw
 listing_law s is =
-    subst (λ (ends : List (List ℕ)). IsAlignedListing (last_heading s.columns) ends (section_listing s))
+    subst (λ (end : List ℕ). IsAlignedListing end (map last_text s.lines) (section_listing s)) (end_headings s.columns is.opened)
+    (subst (λ (ends : List (List ℕ)). IsAlignedListing (end_of (heading_cells s.columns)) ends (section_listing s))
     (last_texts s.columns s.lines is.opened is.readable)
-    (listing_aligned (line_cells s.columns) (ends_in s.columns) (λ values. refl) (map side_of s.columns) (heading_cells s.columns)
-    (last_heading s.columns) is.opened (end_headings s.columns is.opened) s.lines (like_section s is))
+    (listing_aligned (map side_of s.columns) (heading_cells s.columns) (section_cells s) is.opened (like_section s is)))
 
 -- ---- and their ends
 
@@ -89,11 +86,12 @@ last_heading_end (c ∷ []) e = heading_end c e
 last_heading_end (c ∷ d ∷ ds) e = last_heading_end (d ∷ ds) (end_before (side_of c) (side_of d) (map side_of ds) [] e).1
 
 open_ends : (columns : List Column) (lines : List (List ValueModel)) → is_open (map side_of columns) ≡ true
-    → All (AreReadable columns) lines → All (λ line. HasEnd (last_text line)) lines → All (λ line. HasEnd (ends_in columns line)) lines
-open_ends columns [] e own has = All-nil (λ line. HasEnd (ends_in columns line))
+    → All (AreReadable columns) lines → All (λ line. HasEnd (last_text line)) lines
+    → All (λ cells. HasEnd (end_of cells)) (map (line_cells columns) lines)
+open_ends columns [] e own has = All-nil (λ cells. HasEnd (end_of cells))
 open_ends columns (l ∷ ls) e own has =
     let T : List ValueModel → Type 0 = λ line. HasEnd (last_text line) in
-    All-cons (λ line. HasEnd (ends_in columns line)) l ls
+    All-cons (λ cells. HasEnd (end_of cells)) (line_cells columns l) (map (line_cells columns) ls)
     (subst HasEnd (sym (end_values columns l e (All-head (AreReadable columns) l ls own))) (All-head T l ls has))
     (open_ends columns ls e (All-tail (AreReadable columns) l ls own) (All-tail T l ls has))
 
@@ -101,6 +99,7 @@ open_ends columns (l ∷ ls) e own has =
 pub section_clean : (s : SectionModel) → HasEnds s → IsClean (section_listing s)
 section_clean s has =
     let is = has.0 in
-    listing_clean (line_cells s.columns) (ends_in s.columns) (λ values. refl) (map side_of s.columns) (heading_cells s.columns)
-    (last_heading s.columns) is.opened (end_headings s.columns is.opened) (last_heading_end s.columns is.opened) s.lines
-    (like_section s is) (open_ends s.columns s.lines is.opened is.readable has.1)
+    listing_clean (map side_of s.columns) (heading_cells s.columns) (section_cells s) is.opened (like_section s is)
+    (All-cons (λ cells. HasEnd (end_of cells)) (heading_cells s.columns) (section_cells s)
+    (subst HasEnd (sym (end_headings s.columns is.opened)) (last_heading_end s.columns is.opened))
+    (open_ends s.columns s.lines is.opened is.readable has.1))

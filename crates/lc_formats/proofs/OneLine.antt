@@ -35,9 +35,33 @@ one_line_each f each (x ∷ xs) = one_line-append (f x) (flat_map f xs) (each x)
 no_feed : (b : ℕ) → (b ≡ 10 → ⊥) → is_no_feed b ≡ true
 no_feed b other = ap not (ne_eqb b 10 other)
 
-from_each : (l : List ℕ) → ((k : ℕ) → k < length l → get_or l k 0 ≡ 10 → ⊥) → is_one_line l ≡ true
-from_each [] h = refl
-from_each (x ∷ l) h = and_from _ _ (no_feed x (h 0 (omega arith))) (from_each l (λ k below. h (suc k) (omega arith)))
+-- what holds of each byte that passes holds of each that passes more
+pub all_weaker : (p q : ℕ → Bool) → ((x : ℕ) → p x ≡ true → q x ≡ true) → (xs : List ℕ) → list_all p xs ≡ true → list_all q xs ≡ true
+all_weaker p q more [] e = refl
+all_weaker p q more (x ∷ xs) e =
+    let parts = and_parts (p x) (list_all p xs) e in and_from _ _ (more x parts.0) (all_weaker p q more xs parts.1)
+
+-- a text of bytes that are ASCII and no line feeds
+pub low_text : (p : ℕ → Bool) → ((b : ℕ) → p b ≡ true → (is_no_feed b ≡ true) × (nat_lt b 128 ≡ true)) → (t : List ℕ)
+    → list_all p t ≡ true → (is_one_line t ≡ true) × (are_ascii t ≡ true)
+low_text p low [] e = (refl, refl)
+low_text p low (b ∷ bs) e =
+    let parts = and_parts (p b) (list_all p bs) e in
+    let here = low b parts.0 in
+    let rest = low_text p low bs parts.1 in
+    (and_from _ _ here.0 rest.0, and_from _ _ here.1 rest.1)
+
+without_each : (b : ℕ) (l : List ℕ) → ((k : ℕ) → k < length l → get_or l k 0 ≡ b → ⊥) → list_all (λ x. not (x == b)) l ≡ true
+without_each b [] h = refl
+without_each b (x ∷ l) h =
+    and_from _ _ (ap not (ne_eqb x b (h 0 (omega arith)))) (without_each b l (λ k below. h (suc k) (omega arith)))
+
+-- an encoded character has no byte of ASCII but its own
+pub encode_without : (b c : ℕ) → b < 128 → (c ≡ b → ⊥) → list_all (λ x. not (x == b)) (encode_utf8 c) ≡ true
+encode_without b c low other = without_each b (encode_utf8 c) at
+  where
+    at : (k : ℕ) → k < length (encode_utf8 c) → get_or (encode_utf8 c) k 0 ≡ b → ⊥
+    at k below e = other (inside_one c [] (encode_utf8 c) k (sym (append-nil _)) below (omega (arith, e, low)) ∙ e)
 
 -- ---- characters and bytes as a terminal shows them
 
@@ -49,10 +73,7 @@ one_line_hex b = and_from _ _ (no_feed_digit (b / 16)) (and_from _ _ (no_feed_di
 
 -- an encoded character other than a line feed is in one line
 pub one_line-encode : (c : ℕ) → (c ≡ 10 → ⊥) → is_one_line (encode_utf8 c) ≡ true
-one_line-encode c other = from_each (encode_utf8 c) at
-  where
-    at : (k : ℕ) → k < length (encode_utf8 c) → get_or (encode_utf8 c) k 0 ≡ 10 → ⊥
-    at k below e = other (inside_one c [] (encode_utf8 c) k (sym (append-nil _)) below (omega arith) ∙ e)
+one_line-encode c other = encode_without 10 c (omega arith) other
 
 one_line_char : (c : ℕ) → is_one_line (visible_char c) ≡ true
 one_line_char c = at (nat_eq c backslash) (is_hidden c) refl refl
@@ -186,14 +207,6 @@ numeral_commas (d ∷ ds) e =
 numeral_byte : (d : ℕ) → is_numeral d ≡ true → (is_no_feed d ≡ true) × (nat_lt d 128 ≡ true)
 numeral_byte d e = (grind (arith, nat_tests), grind (arith, nat_tests))
 
-one_line_numeral : (ds : List ℕ) → list_all is_numeral ds ≡ true → (is_one_line ds ≡ true) × (are_ascii ds ≡ true)
-one_line_numeral [] e = (refl, refl)
-one_line_numeral (d ∷ ds) e =
-    let parts = and_parts (is_numeral d) (list_all is_numeral ds) e in
-    let here = numeral_byte d parts.0 in
-    let rest = one_line_numeral ds parts.1 in
-    (and_from _ _ here.0 rest.0, and_from _ _ here.1 rest.1)
-
 -- a number has digits and commas
 pub numerals : (n : ℕ) → list_all is_numeral (with_commas (decimal n)) ≡ true
 numerals n = numeral_commas (decimal n) (decimal_digits n)
@@ -201,17 +214,12 @@ numerals n = numeral_commas (decimal n) (decimal_digits n)
 -- a number is in one line, and UTF-8
 pub one_line-number : (n : ℕ) → (is_one_line (with_commas (decimal n)) ≡ true) × IsUtf8 (with_commas (decimal n))
 one_line-number n =
-    let both = one_line_numeral (with_commas (decimal n)) (numerals n) in
+    let both = low_text is_numeral numeral_byte (with_commas (decimal n)) (numerals n) in
     (both.0, IsUtf8-are_ascii (with_commas (decimal n)) both.1)
 
--- a number is on one line, in UTF-8
+-- and so is one without commas
 pub one_line-decimal : (n : ℕ) → (is_one_line (decimal n) ≡ true) × IsUtf8 (decimal n)
 one_line-decimal n =
-    let both = one_line_numeral (decimal n) (all_numeral (decimal n) (decimal_digits n)) in
+    let digits_are = all_weaker is_digit is_numeral (λ d e. or_left (is_digit d) (d == 44) e) (decimal n) (decimal_digits n) in
+    let both = low_text is_numeral numeral_byte (decimal n) digits_are in
     (both.0, IsUtf8-are_ascii (decimal n) both.1)
-  where
-    all_numeral : (ds : List ℕ) → list_all is_digit ds ≡ true → list_all is_numeral ds ≡ true
-    all_numeral [] e = refl
-    all_numeral (d ∷ ds) e =
-        let parts = and_parts (is_digit d) (list_all is_digit ds) e in
-        and_from _ _ (or_left (is_digit d) (d == 44) parts.0) (all_numeral ds parts.1)

@@ -21,7 +21,7 @@ use Rattle.lc_formats.specs.TableText.{shown_totals, summary, summary_widths}
 use Rattle.lc_formats.specs.WidthLaws.{CountsWidthLaw, SummaryWidthLaw}
 use Rattle.lc_formats.proofs.BlankEnds.{ends_bar, ends_number, ends_share, shown_number}
 use Rattle.lc_formats.proofs.EvenLines.{Fit, IsSound, span}
-use Rattle.lc_formats.proofs.EvenParts.{IsEven, IsLike, are_even, even-append, even_line, even_lines, even_rule, like_fit, shown}
+use Rattle.lc_formats.proofs.EvenParts.{IsEven, IsRow, are_even, even-append, even_line, even_lines, even_rule, rows_fit, shown}
 use Rattle.lc_formats.proofs.PrintedLines.{EndsBare}
 use Rattle.lc_formats.proofs.SoundValues.{like_headings, like_line, sound_ascii, sound_value}
 
@@ -128,57 +128,39 @@ even_rows_lines ss ws headings rows sums =
     ++ map (shown ws) sums
 
 rows_even : (ss : List Side) (headings : List CellModel) (rows sums : List (List CellModel)) (ws : List ℕ) → has_no_end ss ≡ true
-    → All (Fit ws) (headings ∷ (rows ++ sums)) → length ws ≡ length ss → All (IsLike ss) (headings ∷ (rows ++ sums))
-    → All EndsBare (headings ∷ (rows ++ sums))
+    → All (Fit ws) (headings ∷ (rows ++ sums)) → length ws ≡ length ss → All (IsRow ss) (headings ∷ (rows ++ sums))
     → IsEven (span ss ws) (even_rows_lines ss ws headings rows sums) (padded_rows ws headings rows sums)
     (rows_in_columns ws headings rows sums)
-rows_even ss headings rows sums ws closed fits long like bare =
+rows_even ss headings rows sums ws closed fits long are =
     let n = span ss ws in
-    let L = IsLike ss in
-    let F = Fit ws in
-    let rest = rows ++ sums in
-    let rest_fits = All-tail F headings rest fits in
-    let rest_like = All-tail L headings rest like in
-    let rest_bare = All-tail EndsBare headings rest bare in
+    let rest_fits = All-tail (Fit ws) headings (rows ++ sums) fits in
+    let rest_are = All-tail (IsRow ss) headings (rows ++ sums) are in
     let rule = even_rule ss ws closed long in
-    let top = even_line ss ws headings closed (All-head F headings rest fits) (All-head L headings rest like)
-    (All-head EndsBare headings rest bare) in
-    let middle = even_lines ss ws rows closed (All-front F rows sums rest_fits) (All-front L rows sums rest_like)
-    (All-front EndsBare rows sums rest_bare) in
-    let last = even_lines ss ws sums closed (All-back F rows sums rest_fits) (All-back L rows sums rest_like)
-    (All-back EndsBare rows sums rest_bare) in
+    let top = even_line ss ws headings closed (All-head (Fit ws) headings (rows ++ sums) fits)
+    (All-head (IsRow ss) headings (rows ++ sums) are) in
+    let middle = even_lines ss ws rows closed (All-front (Fit ws) rows sums rest_fits) (All-front (IsRow ss) rows sums rest_are) in
+    let last = even_lines ss ws sums closed (All-back (Fit ws) rows sums rest_fits) (All-back (IsRow ss) rows sums rest_are) in
     even-append n _ _ _ _ _ _ (even-append n _ _ _ _ _ _ (even-append n _ _ _ _ _ _ (even-append n _ _ _ _ _ _ top rule) middle) rule) last
 
 -- ---- the rows and their sums
 
--- the lines of a section in these columns are alike, and end in no blank
-pub record AreAlike (columns : List Column) (lines : List (List CellModel)) : Type 0 where
-  pub like : All (IsLike (map side_of columns)) lines
-  pub bare : All EndsBare lines
+-- the lines of a section in these columns
+abbrev AreRowsIn : List Column → List (List CellModel) → Type 0
+AreRowsIn columns lines = All (IsRow (map side_of columns)) lines
 
-alike_lines : (columns : List Column) (lines : List (List ValueModel)) → All (AreReadable columns) lines → All EndsInNumbers lines
-    → AreAlike columns (map (line_cells columns) lines)
-alike_lines columns [] own ends = record { like = All-nil (IsLike (map side_of columns)); bare = All-nil EndsBare }
-alike_lines columns (l ∷ ls) own ends =
-    let L = IsLike (map side_of columns) in
+rows_of_lines : (columns : List Column) (lines : List (List ValueModel)) → All (AreReadable columns) lines → All EndsInNumbers lines
+    → AreRowsIn columns (map (line_cells columns) lines)
+rows_of_lines columns [] own ends = All-nil (IsRow (map side_of columns))
+rows_of_lines columns (l ∷ ls) own ends =
     let here = All-head (AreReadable columns) l ls own in
-    let rest = alike_lines columns ls (All-tail (AreReadable columns) l ls own) (All-tail EndsInNumbers l ls ends) in record {
-      like = All-cons L (line_cells columns l) (map (line_cells columns) ls) (like_line columns l here) rest.like;
-      bare = All-cons EndsBare (line_cells columns l) (map (line_cells columns) ls)
-          (bare_line columns l here (All-head EndsInNumbers l ls ends)) rest.bare;
-    }
+    All-cons (IsRow (map side_of columns)) (line_cells columns l) (map (line_cells columns) ls)
+    (like_line columns l here, bare_line columns l here (All-head EndsInNumbers l ls ends))
+    (rows_of_lines columns ls (All-tail (AreReadable columns) l ls own) (All-tail EndsInNumbers l ls ends))
 
-alike_section : (columns : List Column) (s : SectionModel) → AreRows columns s → AreAlike columns (section_cells s)
-alike_section columns s are =
-    subst (λ (cs : List Column). AreAlike columns (map (line_cells cs) s.lines)) (sym are.in_columns)
-    (alike_lines columns s.lines are.readable are.numbers)
-
-alike-append : (columns : List Column) (xs ys : List (List CellModel)) → AreAlike columns xs → AreAlike columns ys
-    → AreAlike columns (xs ++ ys)
-alike-append columns xs ys a b = record {
-  like = All-append (IsLike (map side_of columns)) xs ys a.like b.like;
-  bare = All-append EndsBare xs ys a.bare b.bare;
-}
+rows_of_section : (columns : List Column) (s : SectionModel) → AreRows columns s → AreRowsIn columns (section_cells s)
+rows_of_section columns s are =
+    subst (λ (cs : List Column). AreRowsIn columns (map (line_cells cs) s.lines)) (sym are.in_columns)
+    (rows_of_lines columns s.lines are.readable are.numbers)
 
 -- and so are the first of its lines alone
 rows_shown : (all : Bool) (columns : List Column) (s : SectionModel) → AreRows columns s → AreRows columns (shown_lines all s)
@@ -200,18 +182,17 @@ summary_lines s =
 pub even_summary : (s : SheetModel) → IsTabular s → IsEven (summary_span s) (summary_lines s) (padded_summary s) (summary s)
 even_summary s is =
     let columns = s.rows.columns in
-    let ss = map side_of columns in
+    let R = IsRow (map side_of columns) in
     let headings = heading_cells columns in
     let rows = row_lines s.rows s.others in
     let sums = section_cells (shown_totals s) in
-    let seen = alike-append columns (section_cells s.rows) (section_cells s.others) (alike_section columns s.rows is.rows)
-    (alike_section columns s.others is.others) in
-    let all = alike-append columns rows sums seen
-    (alike_section columns (shown_totals s) (rows_shown s.some_binary columns s.totals is.totals)) in
-    let like = All-cons (IsLike ss) headings (rows ++ sums) (like_headings columns) all.like in
-    let bare = All-cons EndsBare headings (rows ++ sums) (bare_ends headings (bare_headings columns)) all.bare in
-    let fits = like_fit ss headings (rows ++ sums) like in
-    rows_even ss headings rows sums (summary_widths s.rows s.others (shown_totals s)) is.closed fits.0 fits.1 like bare
+    let seen = All-append R (section_cells s.rows) (section_cells s.others) (rows_of_section columns s.rows is.rows)
+    (rows_of_section columns s.others is.others) in
+    let all = All-append R rows sums seen
+    (rows_of_section columns (shown_totals s) (rows_shown s.some_binary columns s.totals is.totals)) in
+    let are = All-cons R headings (rows ++ sums) (like_headings columns, bare_ends headings (bare_headings columns)) all in
+    let fits = rows_fit (map side_of columns) headings (rows ++ sums) are in
+    rows_even (map side_of columns) headings rows sums (summary_widths s.rows s.others (shown_totals s)) is.closed fits.0 fits.1 are
 
 -- the lines of rows and sums
 pub summary_law : SummaryWidthLaw
@@ -222,22 +203,14 @@ summary_law s is = are_even (summary_span s) (summary_lines s) (padded_summary s
 abbrev pub count_sides : List Side
 count_sides = Left ∷ Right ∷ []
 
-like_count : (t : List ℕ) (n : ℕ) → IsSound Left t → IsLike count_sides (count_cells t n)
-like_count t n sound = (refl, (sound, (sound_value Right (number n) tt, tt)))
+row_count : (t : List ℕ) (n : ℕ) → IsSound Left t → ends_in_blank t ≡ false → IsRow count_sides (count_cells t n)
+row_count t n sound own = ((refl, (sound, (sound_value Right (number n) tt, tt))), ((λ none. own), ((λ none. ends_number n), tt)))
 
-like_entries : (entries : Option ℕ) → All (IsLike count_sides) (entries_line entries)
-like_entries None = All-nil (IsLike count_sides)
-like_entries (Some n) =
-    All-cons (IsLike count_sides) (count_cells (codes "entries") n) []
-    (like_count (codes "entries") n (sound_ascii Left (codes "entries") refl refl)) (All-nil (IsLike count_sides))
-
-bare_count : (t : List ℕ) (n : ℕ) → ends_in_blank t ≡ false → EndsBare (count_cells t n)
-bare_count t n own = ((λ none. own), ((λ none. ends_number n), tt))
-
-bare_entries : (entries : Option ℕ) → All EndsBare (entries_line entries)
-bare_entries None = All-nil EndsBare
-bare_entries (Some n) =
-    All-cons EndsBare (count_cells (codes "entries") n) [] (bare_count (codes "entries") n refl) (All-nil EndsBare)
+rows_entries : (entries : Option ℕ) → All (IsRow count_sides) (entries_line entries)
+rows_entries None = All-nil (IsRow count_sides)
+rows_entries (Some n) =
+    All-cons (IsRow count_sides) (count_cells (codes "entries") n) []
+    (row_count (codes "entries") n (sound_ascii Left (codes "entries") refl refl) refl) (All-nil (IsRow count_sides))
 
 abbrev pub count_widths : SheetModel → List ℕ
 count_widths s = widths_of (count_lines s.directories s.entries)
@@ -249,10 +222,9 @@ pub even_counts : (s : SheetModel) → IsEven (span count_sides (count_widths s)
 even_counts s =
     let first = count_cells (codes "directories") s.directories in
     let more = entries_line s.entries in
-    let like = All-cons (IsLike count_sides) first more
-    (like_count (codes "directories") s.directories (sound_ascii Left (codes "directories") refl refl)) (like_entries s.entries) in
-    even_lines count_sides (count_widths s) (first ∷ more) refl (like_fit count_sides first more like).0 like
-    (All-cons EndsBare first more (bare_count (codes "directories") s.directories refl) (bare_entries s.entries))
+    let are = All-cons (IsRow count_sides) first more
+    (row_count (codes "directories") s.directories (sound_ascii Left (codes "directories") refl refl) refl) (rows_entries s.entries) in
+    even_lines count_sides (count_widths s) (first ∷ more) refl (rows_fit count_sides first more are).0 are
 
 -- the lines of directories and entries
 pub counts_law : CountsWidthLaw

@@ -1,11 +1,10 @@
 -- The texts of values are in one line, and UTF-8.
-use Rattle.std.proofs.Common.{◌≡◌, ℕ, nat_lt, true, List, [], ◌∷◌, ◌++◌, map, codes, decimal, Option, Some, None}
-use Rattle.std.proofs.Common.{refl, ap, arith}
-use Rattle.std.specs.List.{list_all}
+use Rattle.std.proofs.Common.{◌≡◌, ℕ, ◌/◌, ◌%◌, nat_lt, true, List, [], ◌∷◌, ◌++◌, map, codes, decimal, encode_utf8, Option}
+use Rattle.std.proofs.Common.{Some, None, refl, ap, arith}
 use Rattle.std.specs.Str.{IsUtf8}
-use Rattle.std.proofs.lemmas.Bool.{and_parts, and_from}
 use Rattle.std.proofs.lemmas.Bool.Decides.{nat_tests}
-use Rattle.std.proofs.lemmas.Str.{IsUtf8-append}
+use Rattle.std.proofs.lemmas.Str.{IsUtf8-append, IsUtf8-encode}
+use lib.Utf8.{low_scalar}
 use Rattle.json.proofs.Printed.Utf8.{are_ascii, IsUtf8-are_ascii}
 use Rattle.lc_text.specs.Names.{NameModel, line_end}
 use Rattle.lc_text.specs.Visible.{visible_bytes, visible_path}
@@ -18,11 +17,11 @@ use Rattle.lc_formats.specs.CellWords.{with_commas}
 use Rattle.lc_formats.specs.Cells.{heading_cells, line_cells, shown_text}
 use Rattle.lc_formats.specs.Readable.{AreReadable, HasBytes, IsPlain, IsReadable, is_printable}
 use Rattle.lc_formats.specs.Shares.{bar as bar_text, rounded_parts, share_word}
-use Rattle.lc_formats.proofs.Bars.{one_line-bar, one_line-share, utf8-bar, utf8-share}
+use Rattle.lc_formats.proofs.Bars.{of_bar}
 use Rattle.lc_formats.proofs.EvenLines.{IsSound}
 use Rattle.lc_formats.proofs.EvenParts.{IsLike}
-use Rattle.lc_formats.proofs.OneLine.{is_no_feed, is_one_line, one_line-append, one_line-decimal, one_line-number, one_line-visible}
-use Rattle.lc_formats.proofs.OneLine.{utf8-visible}
+use Rattle.lc_formats.proofs.OneLine.{is_no_feed, is_one_line, low_text, one_line-append, one_line-decimal, one_line-encode}
+use Rattle.lc_formats.proofs.OneLine.{one_line-number, one_line-visible, utf8-visible}
 
 -- ---- texts at a side
 
@@ -42,16 +41,8 @@ sound_join End a b x y = one_line-append a b x y
 plain_byte : (b : ℕ) → is_printable b ≡ true → (is_no_feed b ≡ true) × (nat_lt b 128 ≡ true)
 plain_byte b e = (grind (arith, nat_tests), grind (arith, nat_tests))
 
-plain_text : (t : List ℕ) → IsPlain t → (is_one_line t ≡ true) × (are_ascii t ≡ true)
-plain_text [] e = (refl, refl)
-plain_text (b ∷ bs) e =
-    let parts = and_parts (is_printable b) (list_all is_printable bs) e in
-    let here = plain_byte b parts.0 in
-    let rest = plain_text bs parts.1 in
-    (and_from _ _ here.0 rest.0, and_from _ _ here.1 rest.1)
-
 sound_plain : (side : Side) (t : List ℕ) → IsPlain t → IsSound side t
-sound_plain side t e = let low = plain_text t e in sound_ascii side t low.0 low.1
+sound_plain side t e = let low = low_text is_printable plain_byte t e in sound_ascii side t low.0 low.1
 
 sound_visible : (side : Side) (bs : List ℕ) → HasBytes side bs → IsSound side (visible_bytes bs)
 sound_visible Left bs small = (one_line-visible bs, utf8-visible bs small)
@@ -62,11 +53,13 @@ sound_path : (side : Side) (p : List ℕ) → HasBytes side p → IsSound side (
 sound_path side [] small = sound_ascii side (codes ".") refl refl
 sound_path side (b ∷ bs) small = sound_visible side (b ∷ bs) small
 
+sound_decimal : (side : Side) (n : ℕ) → IsSound side (decimal n)
+sound_decimal side n = sound_text side (decimal n) (one_line-decimal n).0 (one_line-decimal n).1
+
 sound_line : (side : Side) (line : Option ℕ) → IsSound side (line_end line)
 sound_line side None = sound_ascii side [] refl refl
 sound_line side (Some n) =
-    sound_join side (codes ":") (decimal n) (sound_ascii side (codes ":") refl refl)
-    (sound_text side (decimal n) (one_line-decimal n).0 (one_line-decimal n).1)
+    sound_join side (codes ":") (decimal n) (sound_ascii side (codes ":") refl refl) (sound_decimal side n)
 
 sound_name : (side : Side) (n : NameModel) → IsReadable side (name n) → IsSound side (shown_text (name n))
 sound_name side n own =
@@ -80,10 +73,19 @@ sound_number : (side : Side) (n : ℕ) → IsSound side (with_commas (decimal n)
 sound_number side n = sound_text side (with_commas (decimal n)) (one_line-number n).0 (one_line-number n).1
 
 sound_share : (side : Side) (tenths : ℕ) → IsSound side (share_word tenths)
-sound_share side tenths = sound_text side (share_word tenths) (one_line-share tenths) (utf8-share tenths)
+sound_share side tenths =
+    let a = decimal (tenths / 10) in
+    let b = decimal (tenths % 10) in
+    sound_join side ((a ++ codes ".") ++ b) (codes "%")
+    (sound_join side (a ++ codes ".") b
+    (sound_join side a (codes ".") (sound_decimal side (tenths / 10)) (sound_ascii side (codes ".") refl refl))
+    (sound_decimal side (tenths % 10))) (sound_ascii side (codes "%") refl refl)
 
 sound_bar : (side : Side) (eighths : ℕ) → IsSound side (bar_text eighths)
-sound_bar side eighths = sound_text side (bar_text eighths) (one_line-bar eighths) (utf8-bar eighths)
+sound_bar side eighths =
+    of_bar (IsSound side) (sound_ascii side [] refl refl) (sound_join side)
+    (λ c low high. sound_text side (encode_utf8 c) (one_line-encode c (λ e. omega (arith, e, low)))
+    (IsUtf8-encode c (low_scalar c (omega (arith, high))))) eighths
 
 -- the text of a value
 pub sound_value : (side : Side) (v : ValueModel) → IsReadable side v → IsSound side (shown_text v)

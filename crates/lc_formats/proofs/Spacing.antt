@@ -1,12 +1,14 @@
 -- The width of a text with spaces: a space takes one column, whatever is before it and after it.
-use Rattle.std.proofs.Common.{◌≡◌, ℕ, zero, suc, ◌+◌, Bool, true, false, List, [], ◌∷◌, ◌++◌, replicate, refl, sym, ap, ◌∙◌, arith}
+use Rattle.std.proofs.Common.{◌≡◌, ℕ, zero, suc, ◌+◌, ◌<◌, Bool, true, false, List, [], ◌∷◌, ◌++◌, replicate, refl, sym, ap, ◌∙◌, arith}
 use Rattle.std.specs.Int.{is_in_range}
 use Rattle.std.specs.List.{list_all}
 use Rattle.std.proofs.lemmas.List.{length-replicate}
-use Rattle.std.specs.Str.{IsUtf8, chars}
-use Rattle.std.proofs.lemmas.Str.{chars-append, chars-nil, IsUtf8-append, IsUtf8-nil}
+use Rattle.std.specs.Str.{IsAscii, IsUtf8, chars}
+use Rattle.std.proofs.lemmas.Bool.{and_from}
+use Rattle.std.proofs.lemmas.Str.{chars-append, chars-IsAscii, chars-nil, IsUtf8-append, IsUtf8-nil}
+use Rattle.std.proofs.lemmas.Str.Ascii.{IsAscii-cons, IsAscii-nil}
 use Rattle.json.proofs.Printed.Utf8.{IsUtf8-are_ascii}
-use Rattle.lc_formats.proofs.OneLine.{is_one_line}
+use Rattle.lc_formats.proofs.OneLine.{is_no_feed, is_one_line}
 use Rattle.unicode_width.specs.declared.state.State.{State}
 use Rattle.unicode_width.specs.Width.{is_emoji_variation_base, Reading, plain, step, past_emoji, read_before, str_width}
 use Rattle.unicode_width.proofs.Computing.{unicode_width}
@@ -30,9 +32,14 @@ read_spaces : (n : ℕ) → read_before false (spaces n) (0, plain) ≡ (n, plai
 read_spaces zero = refl
 read_spaces (suc n) = ap (step false 32) (read_spaces n) ∙ step_space n plain ∙ ap (λ m. (m, plain)) (omega arith)
 
-simple_spaces : (n : ℕ) → list_all is_simple (spaces n) ≡ true
-simple_spaces zero = refl
-simple_spaces (suc n) = simple_spaces n
+-- what holds of a byte holds of its copies
+pub copies_pass : (p : ℕ → Bool) (c : ℕ) → p c ≡ true → (n : ℕ) → list_all p (replicate n c) ≡ true
+copies_pass p c is zero = refl
+copies_pass p c is (suc n) = and_from _ _ is (copies_pass p c is n)
+
+ascii_copies : (c n : ℕ) → c < 128 → IsAscii (replicate n c)
+ascii_copies c zero low = IsAscii-nil
+ascii_copies c (suc n) low = IsAscii-cons c (replicate n c) low (ascii_copies c n low)
 
 read_before-append : (xs ys : List ℕ) (r : Reading) → read_before false (xs ++ ys) r ≡ read_before false xs (read_before false ys r)
 read_before-append [] ys r = refl
@@ -43,7 +50,8 @@ unfolding str_width
 width_spaces n = ap (λ r. r.0) (read_spaces n)
 
 after_spaces : (xs : List ℕ) (n : ℕ) → str_width false (xs ++ spaces n) ≡ str_width false xs + n
-after_spaces xs n = str_width-append_simple false xs (spaces n) (simple_spaces n) ∙ ap (λ m. str_width false xs + m) (width_spaces n)
+after_spaces xs n =
+    str_width-append_simple false xs (spaces n) (copies_pass is_simple 32 refl n) ∙ ap (λ m. str_width false xs + m) (width_spaces n)
 
 -- what a space and more reads as is what as many spaces do
 space_and : (ys : List ℕ) → read_before false (32 ∷ ys) (0, plain) ≡ read_before false (spaces (str_width false ys + 1)) (0, plain)
@@ -70,22 +78,16 @@ width_of-space a b is =
     ap (str_width false) (chars-append a (32 ∷ b) is ∙ ap (λ l. chars a ++ l) (chars_space b)) ∙ around_space (chars a) (chars b)
     ∙ omega arith
 
-utf8_space : IsUtf8 (32 ∷ [])
-utf8_space = IsUtf8-are_ascii (32 ∷ []) refl
-
 -- spaces are UTF-8
 pub utf8_spaces : (n : ℕ) → IsUtf8 (spaces n)
 utf8_spaces zero = IsUtf8-nil
-utf8_spaces (suc n) = IsUtf8-append (32 ∷ []) (spaces n) utf8_space (utf8_spaces n)
-
-chars_spaces : (n : ℕ) → chars (spaces n) ≡ spaces n
-chars_spaces zero = chars-nil
-chars_spaces (suc n) = chars_space (spaces n) ∙ ap (λ (l : List ℕ). 32 ∷ l) (chars_spaces n)
+utf8_spaces (suc n) = IsUtf8-append (32 ∷ []) (spaces n) (IsUtf8-are_ascii (32 ∷ []) refl) (utf8_spaces n)
 
 -- spaces after a text
 pub width_of-after : (t : List ℕ) (n : ℕ) → IsUtf8 t → width_of (t ++ spaces n) ≡ width_of t + n
 width_of-after t n is =
-    ap (str_width false) (chars-append t (spaces n) is ∙ ap (λ l. chars t ++ l) (chars_spaces n)) ∙ after_spaces (chars t) n
+    ap (str_width false) (chars-append t (spaces n) is ∙ ap (λ l. chars t ++ l) (chars-IsAscii (spaces n) (ascii_copies 32 n (omega arith))))
+    ∙ after_spaces (chars t) n
 
 -- nothing has no width
 pub width_of-nil : width_of [] ≡ 0
@@ -103,28 +105,14 @@ width_of-before (suc n) t = width_of-next (spaces n ++ t) ∙ ap (λ m. 1 + m) (
 
 -- spaces are on one line
 pub one_line_spaces : (n : ℕ) → is_one_line (spaces n) ≡ true
-one_line_spaces zero = refl
-one_line_spaces (suc n) = one_line_spaces n
-
-chars_hyphen : (bs : List ℕ) → chars (45 ∷ bs) ≡ 45 ∷ chars bs
-unfolding chars
-chars_hyphen [] = refl
-chars_hyphen (b ∷ bs) = refl
-
-chars_hyphens : (n : ℕ) → chars (replicate n 45) ≡ replicate n 45
-chars_hyphens zero = chars-nil
-chars_hyphens (suc n) = chars_hyphen (replicate n 45) ∙ ap (λ (l : List ℕ). 45 ∷ l) (chars_hyphens n)
-
-printable_hyphens : (n : ℕ) → list_all (is_in_range 0x20 0x7E) (replicate n 45) ≡ true
-printable_hyphens zero = refl
-printable_hyphens (suc n) = printable_hyphens n
+one_line_spaces n = copies_pass is_no_feed 32 refl n
 
 -- a hyphen is one column wide
 pub width_of-hyphens : (n : ℕ) → width_of (replicate n 45) ≡ n
 width_of-hyphens n =
-    ap (str_width false) (chars_hyphens n) ∙ str_width-printable false (replicate n 45) (printable_hyphens n) ∙ length-replicate n 45
+    ap (str_width false) (chars-IsAscii (replicate n 45) (ascii_copies 45 n (omega arith)))
+    ∙ str_width-printable false (replicate n 45) (copies_pass (is_in_range 0x20 0x7E) 45 refl n) ∙ length-replicate n 45
 
 -- hyphens are on one line
 pub one_line_hyphens : (n : ℕ) → is_one_line (replicate n 45) ≡ true
-one_line_hyphens zero = refl
-one_line_hyphens (suc n) = one_line_hyphens n
+one_line_hyphens n = copies_pass is_no_feed 45 refl n

@@ -1,7 +1,8 @@
 -- The tokens of arrays and objects by their parts.
-use Rattle.std.proofs.Common.{◌≡◌, ℕ, Bool, true, false, if◌then◌else◌, List, [], ◌∷◌, ◌++◌, map}
+use Rattle.std.proofs.Common.{◌≡◌, ℕ, if◌then◌else◌, List, [], ◌∷◌, ◌++◌, map}
 use Rattle.std.proofs.Common.{refl, sym, ◌∙◌, ap, append_assoc, append-nil, Some}
 use Rattle.std.specs.List.{flat_map}
+use Rattle.std.proofs.lemmas.Bool.{false_from_ne_true}
 use Rattle.std.proofs.lemmas.List.Concat.{flat_map-append}
 use Rattle.std.specs.Str.{IsUtf8, is_utf8}
 use Rattle.std.proofs.lemmas.Str.{IsUtf8-from_is_utf8, is_utf8-from_IsUtf8}
@@ -55,16 +56,12 @@ text_tokens name bytes is =
     ap (λ b. member_tokens (if b then (name, string bytes) else (bytes_name name, array_with (map integer bytes))))
     (is_utf8-from_IsUtf8 bytes is)
 
-false_if : (b : Bool) → (b ≡ true → ⊥) → b ≡ false
-false_if true h = absurd (h refl)
-false_if false h = refl
-
 -- bytes that are none
 pub listed_tokens : (name bytes : List ℕ) → ¬ (IsUtf8 bytes)
     → member_tokens (bytes_member name bytes) ≡ member_tokens (bytes_name name, array_with (map integer bytes))
 listed_tokens name bytes none =
     ap (λ b. member_tokens (if b then (name, string bytes) else (bytes_name name, array_with (map integer bytes))))
-    (false_if (is_utf8 bytes) (λ e. none (IsUtf8-from_is_utf8 bytes e)))
+    (false_from_ne_true (is_utf8 bytes) (λ e. none (IsUtf8-from_is_utf8 bytes e)))
 
 -- lists that were appended in turn
 pub in_turn_3 : {A : Type 0} (a b c d : List A) → ((a ++ b) ++ c) ++ d ≡ a ++ (b ++ (c ++ d))

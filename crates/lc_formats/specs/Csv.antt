@@ -5,7 +5,7 @@ use Rattle.lc_sheet.specs.ColumnWords.{column_name}
 use Rattle.lc_sheet.specs.Sheets.{SectionModel, SheetModel}
 use Rattle.lc_sheet.specs.Values.{ValueModel, missing, summed, blank, word, name, path, number, share, bar}
 use Rattle.lc_text.specs.Names.{named}
-use Rattle.lc_formats.specs.CsvText.{raw, record_text}
+use Rattle.lc_formats.specs.CsvText.{record_text}
 
 -- a value as a field, with the bytes of names and of paths as they are
 abbrev pub field_of : ValueModel → List ℕ
@@ -13,7 +13,7 @@ field_of missing = []
 field_of summed = []
 field_of blank = []
 field_of (word w) = w
-field_of (name n) = named raw n
+field_of (name n) = named (λ bytes. bytes) n
 field_of (path p) = p
 field_of (number n) = decimal n
 field_of (share part whole) = []

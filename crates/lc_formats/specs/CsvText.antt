@@ -4,10 +4,6 @@ use Rattle.std.specs.Global.{Global}
 use Rattle.csv.specs.Writing.{default_writer, fields_written, has_written, row_text, writer_setup}
 use Rattle.csv.specs.declared.writer.Writer.{Writer}
 
--- bytes as they are
-abbrev pub raw : List ℕ → List ℕ
-raw bytes = bytes
-
 -- a record of these fields (RFC 4180), with a line feed at its end
 abbrev pub record_text : List (List ℕ) → List ℕ
 record_text fields = row_text default_writer fields

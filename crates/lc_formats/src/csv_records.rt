@@ -2,7 +2,7 @@
 
 ghost use Rattle.std.specs.Prelude.{◌≡◌, [], ◌∷◌, ◌++◌, decimal, IfOk, OnOk};
 ghost use Rattle.csv.specs.Records.{fields_of, partial_of};
-ghost use Rattle.lc_formats.specs.CsvText.{raw, record_text};
+ghost use Rattle.lc_formats.specs.CsvText.{record_text};
 ghost use Rattle.lc_text.specs.Names.{name_model, named};
 
 use crate::joined::{has_bytes_alone, join_name};
@@ -68,7 +68,7 @@ impl Fields {
 
     /// Appends a name as one field, with its bytes as they are.
     pub(crate) fn push_name(&mut self, name: Name<'_>) -> Result<(), AllocError>
-        ensures { OnOk result (self.new ≡ self.old ++ named raw (name_model name.entry) ∷ []) }
+        ensures { OnOk result (self.new ≡ self.old ++ named (λ bytes. bytes) (name_model name.entry) ∷ []) }
     {
         if has_bytes_alone(name) {
             return self.push(name.bytes);

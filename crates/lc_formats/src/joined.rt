@@ -3,6 +3,7 @@
 ghost use Rattle.std.specs.Prelude.{◌≡◌, ◌++◌, IsTrue, OnOk};
 ghost use Rattle.lc_text.specs.Names.{line_end, name_model, named};
 
+use crate::numbers::push_digits;
 use lc_text::Name;
 use std::alloc::AllocError;
 
@@ -12,9 +13,8 @@ fn join_line(text: &mut Vec<u8>, line: Option<u32>) -> Result<(), AllocError>
     let Some(line) = line else {
         return Ok(());
     };
-    let mut buffer = itoa::Buffer::new();
     text.push(b':')?;
-    text.extend_from_slice(buffer.format(line).as_bytes())
+    push_digits(text, u128::from(line))
 }
 
 /// Appends the parts of a name, with its bytes as they are.

@@ -1,9 +1,17 @@
-//! Numbers for reading.
+//! Numbers in digits, for programs and for reading.
 
 ghost use Rattle.std.specs.Prelude.{◌≡◌, ◌++◌, IsAscii, OnOk, decimal, string_bytes};
 ghost use Rattle.lc_formats.specs.CellWords.{comma, with_commas};
 
 use std::alloc::AllocError;
+
+/// Appends the digits of a number.
+pub(crate) fn push_digits(text: &mut Vec<u8>, n: u128) -> Result<(), AllocError>
+    ensures { OnOk result (text.new.items ≡ text.old.items ++ decimal n) }
+{
+    let mut buffer = itoa::Buffer::new();
+    text.extend_from_slice(buffer.format(n).as_bytes())
+}
 
 fn push_comma(text: &mut String, digits: &[u8]) -> Result<(), AllocError>
     ensures { OnOk result (string_bytes text.new ≡ string_bytes text.old ++ comma digits.now) }

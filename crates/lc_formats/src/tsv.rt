@@ -1,6 +1,6 @@
 //! The text of a sheet with a tab between fields.
 
-ghost use Rattle.std.specs.Prelude.{◌≡◌, ◌++◌, OnOk, IfOk, map, take, decimal};
+ghost use Rattle.std.specs.Prelude.{◌≡◌, ◌++◌, OnOk, IfOk, map, take};
 ghost use Rattle.std.specs.List.{flat_map};
 ghost use Rattle.lc_sheet.specs.ColumnWords.{column_name};
 ghost use Rattle.lc_sheet.specs.Sheets.{line_of, lines_of};
@@ -9,20 +9,13 @@ ghost use Rattle.lc_formats.specs.Tsv.{entries_line, field_of, file_lines, heade
 ghost use Rattle.lc_formats.specs.Tsv.{values_line};
 ghost use Rattle.lc_formats.specs.TsvParts.{after_tab};
 
-use itoa::Buffer;
+use crate::numbers::push_digits;
 use lc_sheet::{Column, Form, Lines, Section, Sheet, Value};
 use lc_text::{push_name, push_path};
 use std::alloc::{AllocError, Global};
 
 /// About what the line of a file takes, in bytes. Room for all lines at once spares most copies of the text while it grows.
 const LINE_ROOM: usize = 64;
-
-fn push_number(text: &mut Vec<u8>, number: u128) -> Result<(), AllocError>
-    ensures { OnOk result (text.new.items ≡ text.old.items ++ decimal number) }
-{
-    let mut buffer = Buffer::new();
-    text.extend_from_slice(buffer.format(number).as_bytes())
-}
 
 /// Appends a value as a field.
 // It is inlined, so that a value that is made where its column is known is appended without being stored.
@@ -36,7 +29,7 @@ fn push_value(text: &mut Vec<u8>, value: Value<'_>) -> Result<(), AllocError>
         Value::Word(word) => text.extend_from_slice(word.as_bytes()),
         Value::Name(name) => push_name(text, name),
         Value::Path(path) => push_path(text, path),
-        Value::Number(number) => push_number(text, number),
+        Value::Number(number) => push_digits(text, number),
         Value::Blank | Value::Share { .. } | Value::Bar { .. } => Ok(()),
     }
 }
@@ -215,7 +208,7 @@ fn push_number_line(text: &mut Vec<u8>, tag: &'static str, number: u64) -> Resul
 {
     text.extend_from_slice(tag.as_bytes())?;
     text.extend_from_slice(b"\t")?;
-    push_number(text, u128::from(number))?;
+    push_digits(text, u128::from(number))?;
     text.extend_from_slice(b"\n")
 }
 

@@ -3,16 +3,16 @@ use Rattle.std.proofs.Common.{◌≡◌, ℕ, ◌+◌, ◌<◌, ◌≤◌, Bool,
 use Rattle.std.proofs.Common.{sym, ◌∙◌, ap, subst, arith, Some, ◌⊎◌, inl, inr, length-append, append_assoc, codes}
 use Rattle.std.proofs.Math.Seq.{get_or-append_seam, take-append_seam}
 use Rattle.std.specs.List.{Contains}
-use Rattle.lc_explain.specs.OpenDirs.{kind_in}
-use Rattle.lc_explain.proofs.PathSegments.{names_below}
+use Rattle.lc_paths.specs.Explanations.OpenDirs.{kind_in}
+use Rattle.lc_paths.proofs.Explanations.PathSegments.{names_below}
 use Rattle.lc_glob.proofs.Naming.{has_first, segments_apart}
 use Rattle.lc_glob.specs.Bytes.{slash}
 use Rattle.lc_glob.specs.Path.{path_in, segments_of}
 use Rattle.lc_level.specs.Answers.{Item, name_of, entry_of, entries_of, Tree}
 use Rattle.lc_level.specs.Job.{JobModel}
-use Rattle.lc_level.specs.Level.{by_rule}
-use Rattle.lc_level.specs.Selection.{SelectionModel}
-use Rattle.lc_level.specs.TopJob.{TopRulesModel, top_job, own_rules}
+use Rattle.lc_level.specs.Level.{SkippedLineModel, by_rule}
+use Rattle.lc_level.specs.Filters.{FiltersModel, no_filters}
+use Rattle.lc_level.specs.TopJob.{top_job}
 use Rattle.lc_level.proofs.WellFormed.{Spread}
 use Rattle.lc_rules.specs.IgnoreChains.{rules_in}
 use Rattle.lc_rules.specs.IgnoreLaws.{LastMatchLaw}
@@ -21,9 +21,9 @@ use Rattle.lc_rules.specs.Verdicts.{at_depth, last_match, verdict_from}
 use Rattle.lc_rules.specs.declared.rule_source.RuleSource.{RuleSource}
 use Rattle.lc_rules.specs.declared.verdicts.Verdict.{Verdict}
 use Rattle.lc_rules.specs.declared.verdicts.Verdict.TheVariants.{Ignored, Included, NoRule}
-use Rattle.lc_check.specs.CheckText.{file_verdict, is_ignored, has_ignored_parent, verdict_word, path_word}
+use Rattle.lc_paths.specs.Checks.CheckText.{file_verdict, is_ignored, has_ignored_parent, verdict_word, path_word}
 use Rattle.lc_text.specs.PathLines.{is_bad_path}
-use Rattle.lc_check.proofs.Directories.{is_ignored_parent-slash, has_ignored_parent-some}
+use Rattle.lc_paths.proofs.Checks.Directories.{is_ignored_parent-slash, has_ignored_parent-some}
 use Rattle.lc_tree.specs.Kinds.{is_dir}
 use Rattle.lc_tree.specs.Paths.{names_of_path}
 use Rattle.lc_tree.specs.Trees.{Listings, Contents}
@@ -31,11 +31,10 @@ use Rattle.lc_tree.specs.declared.entry.Kind.{Kind}
 use Rattle.lc_tree.specs.declared.entry.Kind.TheVariants.{Dir}
 use Rattle.lc_walk.specs.Accounts.{RuleLaw}
 use Rattle.lc_walk.specs.FoundAt.{IsListed, LeadsTo}
-use Rattle.lc_walk.specs.ReportLines.{SkippedLineModel}
 use Rattle.lc_walk.specs.GivenAnswers.{HasListings, IsGiven}
-use Rattle.lc_walk.specs.Walk.{walk_of}
+use Rattle.lc_walk.specs.RecursiveWalk.{walk_of}
 use Rattle.lc_walk.specs.WalkOptions.{asked_by, top_of}
-use Rattle.lc_walk.specs.WalkReport.{IsReportOf}
+use Rattle.lc_walk.specs.FoundReports.{IsReportOf}
 use Rattle.lc_walk.specs.declared.options.Options.{Options}
 use Rattle.lc_walk.specs.declared.options.ReportLists.{ReportLists}
 use Rattle.lc_walk.specs.declared.report.Report.{Report}
@@ -46,7 +45,7 @@ use Rattle.lc_laws.specs.ByAnswers.{kind_before, IsEntryBy}
 use Rattle.lc_laws.specs.CountsChecked.{ReadsTopRules, AsksRulesAlone, IsCheckedOut, IsRuledOut, CheckAgrees, AnswersCheckedLaw}
 use Rattle.lc_laws.specs.CountsChecked.{CheckedLaw}
 use Rattle.lc_laws.specs.ReportedPaths.{IsSkipped}
-use Rattle.lc_laws.proofs.Checking.{plain, decided}
+use Rattle.lc_laws.proofs.Checking.{decided}
 use Rattle.lc_laws.proofs.Items.{named_item, entry_by_lists}
 use Rattle.lc_laws.proofs.OneWay.{kind_found, good_name, one_segment, place_names}
 use Rattle.lc_laws.proofs.TopRules.{rules_at, reads_by_lists}
@@ -102,7 +101,7 @@ module _ (verdict : List ℕ → Bool → Verdict) (path : List ℕ) (as_dir : B
 -- ---- the kind of an entry
 
 -- an item of a directory to which names lead has the kind of the entry
-kind_same : (s : SelectionModel) (top : JobModel) (t : Tree) → top.path ≡ [] → HasListings s top t → (place : List (List ℕ)) (k : JobModel)
+kind_same : (s : FiltersModel) (top : JobModel) (t : Tree) → top.path ≡ [] → HasListings s top t → (place : List (List ℕ)) (k : JobModel)
     → LeadsTo s top t place k → (items : List Item) (inside : JobModel) → IsListed k (t place) items inside → (item : Item)
     → In item items → (path : List ℕ) → path ≡ path_in inside.path (name_of item) → (kind : Kind) → IsEntryBy s top t path kind
     → (entry_of item).kind ≡ kind
@@ -127,7 +126,7 @@ kind_above kind [] next others = refl
 kind_above kind (n ∷ names) next others = refl
 
 -- a directory above an entry is one
-entry_above : (s : SelectionModel) (top : JobModel) (t : Tree) (path directory next : List ℕ) (others : List (List ℕ)) (kind : Kind)
+entry_above : (s : FiltersModel) (top : JobModel) (t : Tree) (path directory next : List ℕ) (others : List (List ℕ)) (kind : Kind)
     → segments_of path ≡ segments_of directory ++ next ∷ others → IsEntryBy s top t path kind → IsEntryBy s top t directory Dir
 entry_above s top t path directory next others kind is entry place name names k items cut leads here =
     let longer : segments_of path ≡ place ++ name ∷ (names ++ next ∷ others) =
@@ -137,17 +136,18 @@ entry_above s top t path directory next others kind is entry place name names k 
 
 -- ---- by the report
 
-module _ (law : RuleLaw) (last : LastMatchLaw) (t : Tree) (listings : HasListings plain (top_job own_rules) t) (asked : ReportLists)
-    (depth : ℕ) (r : Report) (report : IsReportOf asked (walk_of plain depth (top_job own_rules) t) r) (rules : List RuleModel)
-    (chain : (place : List (List ℕ)) (k : JobModel) → LeadsTo plain (top_job own_rules) t place k → (items : List Item) (inside : JobModel)
+module _ (law : RuleLaw) (last : LastMatchLaw) (t : Tree) (listings : HasListings no_filters (top_job no_filters) t) (asked : ReportLists)
+    (depth : ℕ) (r : Report) (report : IsReportOf asked (walk_of no_filters depth (top_job no_filters) t) r) (rules : List RuleModel)
+    (chain : (place : List (List ℕ)) (k : JobModel) → LeadsTo no_filters (top_job no_filters) t place k → (items : List Item)
+    (inside : JobModel)
     → IsListed k (t place) items inside → rules_in inside.ignore ≡ at_depth 0 rules) where
   -- what a rule leaves out is ignored by the check
-  ignored_there : (path : List ℕ) (kind : Kind) (source : RuleSource) (line : ℕ) → IsEntryBy plain (top_job own_rules) t path kind
+  ignored_there : (path : List ℕ) (kind : Kind) (source : RuleSource) (line : ℕ) → IsEntryBy no_filters (top_job no_filters) t path kind
       → IsSkipped r path (by_rule source line) → is_ignored (file_verdict rules path (is_dir kind)) ≡ true
   ignored_there path kind source line entry has =
       let skipped : SkippedLineModel = record { path = path; kind = has.0; reason = by_rule source line } in
-      let by = law asked plain depth (top_job own_rules) t r report skipped source line has.1 refl in
-      let own = kind_same plain (top_job own_rules) t refl listings by.place by.job by.leads by.items by.inside by.listed by.item
+      let by = law asked no_filters depth (top_job no_filters) t r report skipped source line has.1 refl in
+      let own = kind_same no_filters (top_job no_filters) t refl listings by.place by.job by.leads by.items by.inside by.listed by.item
       (is_in by.item by.items by.has) path by.path_is kind entry in
       let decides = (last (rules_in by.inside.ignore) path (is_dir (entry_of by.item).kind)).1 (source, by.rule) by.decides in
       ap (λ rs. is_ignored (verdict_from (last_match rs path (is_dir kind))))
@@ -156,7 +156,7 @@ module _ (law : RuleLaw) (last : LastMatchLaw) (t : Tree) (listings : HasListing
       ∙ ap (λ found. is_ignored (verdict_from found)) decides ∙ ap (λ b. is_ignored (cond b Included Ignored)) by.ignores
 
   -- what a report says to be ruled out, itself or by a directory above it, a check calls ignored or below
-  checked_out : (path : List ℕ) (kind : Kind) → IsEntryBy plain (top_job own_rules) t path kind → is_bad_path path ≡ false
+  checked_out : (path : List ℕ) (kind : Kind) → IsEntryBy no_filters (top_job no_filters) t path kind → is_bad_path path ≡ false
       → IsRuledOut r path → IsCheckedOut rules path kind
   checked_out path kind entry good (source, line, inl has) =
       out_itself (file_verdict rules) path (is_dir kind) good (ignored_there path kind source line entry has)
@@ -164,15 +164,15 @@ module _ (law : RuleLaw) (last : LastMatchLaw) (t : Tree) (listings : HasListing
       let next = has_first rest in
       let names : segments_of path ≡ segments_of directory ++ next.first ∷ next.others =
       ap segments_of is ∙ segments_apart directory rest ∙ ap (λ l. segments_of directory ++ l) next.are in
-      let above = entry_above plain (top_job own_rules) t path directory next.first next.others kind names entry in
+      let above = entry_above no_filters (top_job no_filters) t path directory next.first next.others kind names entry in
       out_below (file_verdict rules) path (is_dir kind) good directory rest is (ignored_there directory Dir source line above has)
 
   -- and the other way round, where nothing is at fault
   agrees : asked.left_out ≡ true → (path : List ℕ) (kind : Kind) → length (segments_of path) ≤ depth
-      → IsEntryBy plain (top_job own_rules) t path kind → CheckAgrees r rules path kind
+      → IsEntryBy no_filters (top_job no_filters) t path kind → CheckAgrees r rules path kind
   agrees left_out path kind deep entry faultless good no_git = (
     λ out. by out (decided t listings asked depth r report left_out faultless rules chain path kind entry
-        (segments_of path) [] [] (top_job own_rules) refl (omega (arith, deep)) path refl refl (λ m. refl)
+        (segments_of path) [] [] (top_job no_filters) refl (omega (arith, deep)) path refl refl (λ m. refl)
         (record { within = omega arith; clear = λ k low. absurd (omega (arith, low)) })
         (λ i. no_git (contains (codes ".git") (segments_of path) i)) refl),
     checked_out path kind entry good,
@@ -184,12 +184,11 @@ module _ (law : RuleLaw) (last : LastMatchLaw) (t : Tree) (listings : HasListing
       by out (inl ruled) = ruled
       by out (inr (clear, kept)) = absurd (not_out (file_verdict rules) path (is_dir kind) good clear kept out)
 
--- a count by the rules of a tree alone is plain, and begins with no rules
-plainly : (o : Options) → AsksRulesAlone o → (Q : SelectionModel → JobModel → Type 0) → Q (asked_by o).selection (top_of o)
-    → Q plain (top_job own_rules)
+-- a count by the rules of a tree alone is no_filters, and begins with no rules
+plainly : (o : Options) → AsksRulesAlone o → (Q : FiltersModel → JobModel → Type 0) → Q (asked_by o).filters (top_of o)
+    → Q no_filters (top_job no_filters)
 plainly o asks Q holds =
-    subst (λ (s : SelectionModel). Q s (top_job own_rules)) asks.selection
-    (subst (λ (rules : TopRulesModel). Q (asked_by o).selection (top_job rules)) asks.rules holds)
+    subst (λ (f : FiltersModel). Q f (top_job f)) asks.filters holds
 
 -- so does the report by some answers
 pub answers_checked_law : RuleLaw → LastMatchLaw → AnswersCheckedLaw
@@ -211,4 +210,4 @@ checked_law law last lists gives one bytes has o r asks walks path kind entry =
     agrees law last t listings o.lists depth r
     (plainly o asks (λ s top. IsReportOf o.lists (walk_of s depth top t) r) (by.report depth (omega arith))) (rules_of bytes)
     (rules_at t bytes (reads_by_lists lists gives one bytes has t listings given)) asks.left_out path kind (omega arith)
-    (entry_by_lists lists gives one plain (top_job own_rules) t refl given path kind entry)
+    (entry_by_lists lists gives one no_filters (top_job no_filters) t refl given path kind entry)

@@ -6,8 +6,8 @@ use Rattle.std.proofs.Common.{append-nil, codes}
 use Rattle.std.specs.List.{Contains, AllByRecursion}
 use Rattle.std.specs.Option.{is_none, option_map_or, option_or}
 use Rattle.std.proofs.Math.Seq.{get_or-append_seam, take-append_seam}
-use Rattle.lc_explain.specs.OpenDirs.{OpenDirModel, open_dir}
-use Rattle.lc_explain.proofs.PathSegments.{below_child, joined_end}
+use Rattle.lc_paths.specs.Explanations.OpenDirs.{OpenDirModel, open_dir}
+use Rattle.lc_paths.proofs.Explanations.PathSegments.{below_child, joined_end}
 use Rattle.lc_glob.proofs.Naming.{some_segment}
 use Rattle.lc_glob.specs.Bytes.{slash}
 use Rattle.lc_glob.specs.Path.{path_in, segments_of}
@@ -17,8 +17,8 @@ use Rattle.lc_level.specs.Job.{JobModel}
 use Rattle.lc_level.specs.Level.{Reason, named_git, by_rule, other_kind, walked, include_reason}
 use Rattle.lc_level.specs.Level.{skipped, rule_reason, reason_at, reason_of, file_fate, fate_of}
 use Rattle.lc_level.specs.Level.{child_job}
-use Rattle.lc_level.specs.Selection.{SelectionModel, patterns_for, selection_of}
-use Rattle.lc_level.specs.TopJob.{top_job, own_rules}
+use Rattle.lc_level.specs.Filters.{FiltersModel, include_rules, no_filters, patterns_for}
+use Rattle.lc_level.specs.TopJob.{top_job}
 use Rattle.lc_level.proofs.WellFormed.{Spread, other_bytes}
 use Rattle.lc_rules.specs.IgnoreChains.{rules_in}
 use Rattle.lc_rules.specs.IgnoreRules.{RuleModel}
@@ -26,15 +26,15 @@ use Rattle.lc_rules.specs.Verdicts.{at_depth, last_match, verdict_from}
 use Rattle.lc_rules.specs.declared.rule_source.RuleSource.{RuleSource}
 use Rattle.lc_rules.specs.declared.verdicts.Verdict.{Verdict}
 use Rattle.lc_rules.specs.declared.verdicts.Verdict.TheVariants.{Ignored, Included}
-use Rattle.lc_check.specs.CheckText.{file_verdict, is_ignored, is_ignored_parent, has_ignored_parent, IsClearTo}
-use Rattle.lc_check.proofs.Directories.{is_ignored_parent-slash, has_ignored_parent-clear, clear-more}
+use Rattle.lc_paths.specs.Checks.CheckText.{file_verdict, is_ignored, is_ignored_parent, has_ignored_parent, IsClearTo}
+use Rattle.lc_paths.proofs.Checks.Directories.{is_ignored_parent-slash, has_ignored_parent-clear, clear-more}
 use Rattle.lc_tree.specs.Kinds.{is_dir}
 use Rattle.lc_tree.specs.declared.entry.Kind.{Kind}
 use Rattle.lc_tree.specs.declared.entry.Kind.TheVariants.{File, Dir, Other}
 use Rattle.lc_walk.specs.FoundAt.{IsListed, WalksInto, LeadsTo}
 use Rattle.lc_walk.specs.GivenAnswers.{HasListings}
-use Rattle.lc_walk.specs.Walk.{walk_of}
-use Rattle.lc_walk.specs.WalkReport.{IsReportOf}
+use Rattle.lc_walk.specs.RecursiveWalk.{walk_of}
+use Rattle.lc_walk.specs.FoundReports.{IsReportOf}
 use Rattle.lc_walk.specs.declared.options.ReportLists.{ReportLists}
 use Rattle.lc_walk.specs.declared.report.Report.{Report}
 use Rattle.lc_walk.proofs.Elements.{In, is_in}
@@ -97,53 +97,51 @@ ruled (Some rule) = at rule.1.is_negated
     at true = inr (refl, refl)
     at false = inl (rule.0, rule.1.line, refl)
 
--- without attributes
-abbrev pub plain : SelectionModel
-plain = selection_of false []
-
 reason_ruled : (inside : JobModel) (rules : List RuleModel) → rules_in inside.ignore ≡ at_depth 0 rules → (name : List ℕ) (as_dir : Bool)
     → name ≢ codes ".git"
-    → ((source : RuleSource) × (line : ℕ) × (reason_of plain inside name as_dir ≡ Some (by_rule source line)))
-    ⊎ ((reason_of plain inside name as_dir ≡ None) × (is_ignored (file_verdict rules (path_in inside.path name) as_dir) ≡ false))
+    → ((source : RuleSource) × (line : ℕ) × (reason_of no_filters inside name as_dir ≡ Some (by_rule source line)))
+    ⊎ ((reason_of no_filters inside name as_dir ≡ None) × (is_ignored (file_verdict rules (path_in inside.path name) as_dir) ≡ false))
 reason_ruled inside rules chain name as_dir other = at (ruled (last_match (at_depth 0 rules) path as_dir))
   where
     path : List ℕ
     path = path_in inside.path name
 
-    shown : reason_of plain inside name as_dir ≡ option_or
+    shown : reason_of no_filters inside name as_dir ≡ option_or
         (rule_reason (last_match (at_depth 0 rules) (path_in inside.path name) as_dir)) None
     shown =
-        ap (λ b. cond b (Some named_git) (reason_at plain inside (path_in inside.path name) as_dir)) (other_bytes name (codes ".git") other)
+        ap (λ b. cond b (Some named_git) (reason_at no_filters inside (path_in inside.path name) as_dir))
+        (other_bytes name (codes ".git") other)
         ∙ ap (λ rs. option_or (rule_reason (last_match rs (path_in inside.path name) as_dir)) None) chain
 
     at : ((source : RuleSource) × (line : ℕ)
         × (option_or (rule_reason (last_match (at_depth 0 rules) (path_in inside.path name) as_dir)) None ≡ Some (by_rule source line)))
         ⊎ ((option_or (rule_reason (last_match (at_depth 0 rules) (path_in inside.path name) as_dir)) None ≡ None)
         × (is_ignored (verdict_from (last_match (at_depth 0 rules) (path_in inside.path name) as_dir)) ≡ false))
-        → ((source : RuleSource) × (line : ℕ) × (reason_of plain inside name as_dir ≡ Some (by_rule source line)))
-        ⊎ ((reason_of plain inside name as_dir ≡ None) × (is_ignored (file_verdict rules (path_in inside.path name) as_dir) ≡ false))
+        → ((source : RuleSource) × (line : ℕ) × (reason_of no_filters inside name as_dir ≡ Some (by_rule source line)))
+        ⊎ ((reason_of no_filters inside name as_dir ≡ None) × (is_ignored (file_verdict rules (path_in inside.path name) as_dir) ≡ false))
     at (inl (source, line, e)) = inl (source, line, shown ∙ e)
     at (inr (none, kept)) = inr (shown ∙ none, kept)
 
 -- what has a reason is left out for it
-fate_skipped : (s : SelectionModel) (inside : JobModel) (item : Item) (reason : Reason)
+fate_skipped : (s : FiltersModel) (inside : JobModel) (item : Item) (reason : Reason)
     → reason_of s inside (name_of item) (is_dir (entry_of item).kind) ≡ Some reason
     → fate_of s inside item ≡ skipped (entry_of item).kind reason
 fate_skipped s inside (file_item n c rules) reason e =
     ap (λ o. option_map_or (skipped File)
-    (option_or o (include_reason (patterns_for s.include inside.path) (path_in inside.path n))) (file_fate inside n c)) e
+    (option_or o (include_reason (patterns_for (include_rules s) inside.path) (path_in inside.path n))) (file_fate inside n c)) e
 fate_skipped s inside (directory_item n) reason e = ap (λ o. option_map_or (skipped Dir) o (walked (child_job inside n))) e
 fate_skipped s inside (other_item n what) reason e =
     ap (λ o. option_map_or (skipped (Other what)) o (skipped (Other what) (other_kind what))) e
 
 -- ---- down to the entry
 
-module _ (t : Tree) (listings : HasListings plain (top_job own_rules) t) (asked : ReportLists) (depth : ℕ) (r : Report)
-    (report : IsReportOf asked (walk_of plain depth (top_job own_rules) t) r) (skipped_ones : asked.left_out ≡ true)
+module _ (t : Tree) (listings : HasListings no_filters (top_job no_filters) t) (asked : ReportLists) (depth : ℕ) (r : Report)
+    (report : IsReportOf asked (walk_of no_filters depth (top_job no_filters) t) r) (skipped_ones : asked.left_out ≡ true)
     (faultless : r.faults.items ≡ []) (rules : List RuleModel)
-    (chain : (place : List (List ℕ)) (k : JobModel) → LeadsTo plain (top_job own_rules) t place k → (items : List Item) (inside : JobModel)
+    (chain : (place : List (List ℕ)) (k : JobModel) → LeadsTo no_filters (top_job no_filters) t place k → (items : List Item)
+    (inside : JobModel)
     → IsListed k (t place) items inside → rules_in inside.ignore ≡ at_depth 0 rules)
-    (path : List ℕ) (kind : Kind) (entry : IsEntryBy plain (top_job own_rules) t path kind) where
+    (path : List ℕ) (kind : Kind) (entry : IsEntryBy no_filters (top_job no_filters) t path kind) where
   -- the report leaves it out by a rule, or it is not ignored and stands below nothing that is
   abbrev pub IsDecided : Type 0
   IsDecided =
@@ -155,19 +153,19 @@ module _ (t : Tree) (listings : HasListings plain (top_job own_rules) t) (asked 
     inside : JobModel
     listed : IsListed k (t place) items inside
 
-  met : (place : List (List ℕ)) (k : JobModel) → LeadsTo plain (top_job own_rules) t place k → length place < depth → IsMet k place
+  met : (place : List (List ℕ)) (k : JobModel) → LeadsTo no_filters (top_job no_filters) t place k → length place < depth → IsMet k place
   met place k leads shallow = by (open_dir k (t place)) refl
     where
       by : (w : Result OpenDirModel FaultLineModel) → open_dir k (t place) ≡ w → IsMet k place
       by (Ok here) is =
           let l = entered_listed k (t place) here is in record { items = l.items; inside = here.job; listed = l.listed }
       by (Err fault) is =
-          let there = fault_there plain refl (top_job own_rules) t asked depth r report place k leads shallow fault is in
+          let there = fault_there no_filters refl (top_job no_filters) t asked depth r report place k leads shallow fault is in
           absurd (is_in fault [] (subst (λ l. Contains l fault) faultless there))
 
   abbrev Decides : List (List ℕ) → Type 0
   Decides names =
-      (front : List ℕ) (place : List (List ℕ)) (k : JobModel) → LeadsTo plain (top_job own_rules) t place k
+      (front : List ℕ) (place : List (List ℕ)) (k : JobModel) → LeadsTo no_filters (top_job no_filters) t place k
       → length place + length names ≤ depth → (rest : List ℕ) → segments_of rest ≡ names → path ≡ front ++ rest
       → ((m : List ℕ) → front ++ m ≡ path_in k.path m) → IsClearTo (file_verdict rules) path (length front)
       → (In (codes ".git") names → ⊥) → segments_of path ≡ place ++ names → IsDecided
@@ -197,14 +195,15 @@ module _ (t : Tree) (listings : HasListings plain (top_job own_rules) t) (asked 
       inside_path : m.inside.path ≡ k.path
       inside_path = ap (λ (j : JobModel). j.path) m.listed.is
 
-      by : ((source : RuleSource) × (line : ℕ) × (reason_of plain m.inside name (is_dir kind) ≡ Some (by_rule source line)))
-          ⊎ ((reason_of plain m.inside name (is_dir kind) ≡ None)
+      by : ((source : RuleSource) × (line : ℕ) × (reason_of no_filters m.inside name (is_dir kind) ≡ Some (by_rule source line)))
+          ⊎ ((reason_of no_filters m.inside name (is_dir kind) ≡ None)
           × (is_ignored (file_verdict rules (path_in m.inside.path name) (is_dir kind)) ≡ false)) → IsDecided
       by (inl (source, line, e)) =
-          let fate = fate_skipped plain m.inside i.item (by_rule source line)
-          (ap (λ n. reason_of plain m.inside n (is_dir (entry_of i.item).kind)) i.named
-          ∙ ap (λ (d : Kind). reason_of plain m.inside name (is_dir d)) i.kind_is ∙ e) in
-          let there = skipped_there plain refl (top_job own_rules) t asked depth r report place k leads shallow m.items m.inside m.listed
+          let fate = fate_skipped no_filters m.inside i.item (by_rule source line)
+          (ap (λ n. reason_of no_filters m.inside n (is_dir (entry_of i.item).kind)) i.named
+          ∙ ap (λ (d : Kind). reason_of no_filters m.inside name (is_dir d)) i.kind_is ∙ e) in
+          let there = skipped_there no_filters refl (top_job no_filters) t asked depth r report place k leads shallow m.items m.inside
+          m.listed
           skipped_ones i.item i.has (entry_of i.item).kind (by_rule source line) fate in
           inl (source, line, inl (subst (λ p. IsSkipped r p (by_rule source line)) (ap (path_in k.path) i.named ∙ sym path_is) there))
       by (inr (none, kept)) =
@@ -250,13 +249,14 @@ module _ (t : Tree) (listings : HasListings plain (top_job own_rules) t) (asked 
       inside_path : m.inside.path ≡ k.path
       inside_path = ap (λ (j : JobModel). j.path) m.listed.is
 
-      by : ((source : RuleSource) × (line : ℕ) × (reason_of plain m.inside name true ≡ Some (by_rule source line)))
-          ⊎ ((reason_of plain m.inside name true ≡ None)
+      by : ((source : RuleSource) × (line : ℕ) × (reason_of no_filters m.inside name true ≡ Some (by_rule source line)))
+          ⊎ ((reason_of no_filters m.inside name true ≡ None)
           × (is_ignored (file_verdict rules (path_in m.inside.path name) true) ≡ false)) → IsDecided
       by (inl (source, line, e)) =
-          let there = skipped_there plain refl (top_job own_rules) t asked depth r report place k leads shallow m.items m.inside m.listed
+          let there = skipped_there no_filters refl (top_job no_filters) t asked depth r report place k leads shallow m.items m.inside
+          m.listed
           skipped_ones (directory_item name) has Dir (by_rule source line)
-          (fate_skipped plain m.inside (directory_item name) (by_rule source line) e) in
+          (fate_skipped no_filters m.inside (directory_item name) (by_rule source line) e) in
           inl (
             source,
             line,
@@ -269,10 +269,10 @@ module _ (t : Tree) (listings : HasListings plain (top_job own_rules) t) (asked 
             ),
           )
       by (inr (none, kept)) =
-          let leaves : WalksInto plain k (t place) name m.inside = record {
+          let leaves : WalksInto no_filters k (t place) name m.inside = record {
             items = m.items;
             listed = m.listed;
-            has = part_has plain refl k.path (directory_item name) m.items has;
+            has = part_has no_filters refl k.path (directory_item name) m.items has;
             taken = ap is_none none;
           } in
           let longer : List ℕ = (front ++ name) ++ slash ∷ [] in
@@ -282,7 +282,7 @@ module _ (t : Tree) (listings : HasListings plain (top_job own_rules) t) (asked 
           let clear = clear_slash (file_verdict rules) path (front ++ name) parts.0 same
           (ap (λ d. is_ignored (file_verdict rules d true)) directory ∙ kept) named in
           below_decides longer (place ++ name ∷ []) (child_job m.inside name)
-          (leads_on plain place (top_job own_rules) k m.inside name t leads leaves)
+          (leads_on no_filters place (top_job no_filters) k m.inside name t leads leaves)
           (omega (arith, deep, length-append place (name ∷ []))) parts.0 parts.2
           (same ∙ sym (append_assoc (front ++ name) (slash ∷ []) parts.0))
           (λ l. append_assoc (front ++ name) (slash ∷ []) l ∙ append_assoc front name (slash ∷ l) ∙ joined (name ++ slash ∷ l)

@@ -3,11 +3,11 @@ use Rattle.std.proofs.Common.{◌≡◌, ℕ, ◌+◌, ◌<◌, ◌≤◌, Bool,
 use Rattle.std.proofs.Common.{Option, Some, None, Result, Ok, Err, MatchResult, ◌⊎◌, inl, inr, length-append, append_assoc}
 use Rattle.std.specs.List.{Contains}
 use Rattle.std.specs.Option.{is_none, option_map_or, option_or}
-use Rattle.lc_explain.specs.Explained.{CitedRule, Explanation, faulted, below, ignored, cited, said_for, said_by}
-use Rattle.lc_explain.specs.Explained.{said_of, kind_asked, is_directory, OnTheWay, IsSaid}
-use Rattle.lc_explain.specs.Laws.{IsSaidKept}
-use Rattle.lc_explain.specs.OpenDirs.{OpenDirModel, DirStack, open_dir, kind_in, TopTextsModel}
-use Rattle.lc_explain.proofs.PathSegments.{below_child, joined_end}
+use Rattle.lc_paths.specs.Explanations.Explained.{CitedRule, Explanation, faulted, below, ignored, cited, said_for, said_by}
+use Rattle.lc_paths.specs.Explanations.Explained.{said_of, kind_asked, is_directory, OnTheWay, IsSaid}
+use Rattle.lc_paths.specs.Explanations.Laws.{IsSaidKept}
+use Rattle.lc_paths.specs.Explanations.OpenDirs.{OpenDirModel, DirStack, open_dir, kind_in}
+use Rattle.lc_paths.proofs.Explanations.PathSegments.{below_child, joined_end}
 use Rattle.lc_glob.proofs.Naming.{some_segment}
 use Rattle.lc_glob.specs.Bytes.{slash}
 use Rattle.lc_glob.specs.Path.{path_in, segments_of}
@@ -16,7 +16,7 @@ use Rattle.lc_level.specs.FaultLines.{FaultLineModel}
 use Rattle.lc_level.specs.Job.{JobModel}
 use Rattle.lc_level.specs.Level.{Reason, named_git, by_rule, by_attribute, not_included, other_kind, walked, skipped, file_fate}
 use Rattle.lc_level.specs.Level.{fate_of, file_reason, reason_of, reason_for, child_job}
-use Rattle.lc_level.specs.Selection.{SelectionModel}
+use Rattle.lc_level.specs.Filters.{FiltersModel}
 use Rattle.lc_level.proofs.WellFormed.{Spread}
 use Rattle.lc_rules.specs.IgnoreChains.{rules_in}
 use Rattle.lc_rules.specs.IgnoreRules.{RuleModel}
@@ -28,8 +28,8 @@ use Rattle.lc_tree.specs.declared.entry.Kind.TheVariants.{File, Dir, Other}
 use Rattle.lc_walk.specs.Found.{Found}
 use Rattle.lc_walk.specs.FoundAt.{IsListed, WalksInto, LeadsTo}
 use Rattle.lc_walk.specs.ReportLines.{skipped_paths}
-use Rattle.lc_walk.specs.Walk.{walk_of}
-use Rattle.lc_walk.specs.WalkReport.{IsReportOf}
+use Rattle.lc_walk.specs.RecursiveWalk.{walk_of}
+use Rattle.lc_walk.specs.FoundReports.{IsReportOf}
 use Rattle.lc_walk.specs.declared.options.ReportLists.{ReportLists}
 use Rattle.lc_walk.specs.declared.report.Report.{Report}
 use Rattle.lc_walk.proofs.Elements.{In}
@@ -56,15 +56,15 @@ taken cite (Some rule) = inr (cite rule.0 rule.1.line, refl)
 
 -- ---- by what is said
 
-module _ (r : Report) (path : List ℕ) (kind : Kind) (top_texts : TopTextsModel) (stack : DirStack) where
-  skipped_told : (reason : Reason) → IsSkipped r path reason → TellsOf r path kind (said_for (cited top_texts stack) ignored reason)
+module _ (r : Report) (path : List ℕ) (kind : Kind) (s : FiltersModel) (stack : DirStack) where
+  skipped_told : (reason : Reason) → IsSkipped r path reason → TellsOf r path kind (said_for (cited s stack) ignored reason)
   skipped_told named_git has = inl has
   skipped_told (by_rule source line) has = has
   skipped_told (by_attribute name) has = inl has
   skipped_told not_included has = inl has
   skipped_told (other_kind what) has = inl has
 
-  above_told : (reason : Reason) → IsSkippedAbove r path reason → TellsOf r path kind (said_for (cited top_texts stack) below reason)
+  above_told : (reason : Reason) → IsSkippedAbove r path reason → TellsOf r path kind (said_for (cited s stack) below reason)
   above_told named_git has = inr has
   above_told (by_rule source line) has = has
   above_told (by_attribute name) has = inr has
@@ -72,12 +72,11 @@ module _ (r : Report) (path : List ℕ) (kind : Kind) (top_texts : TopTextsModel
   above_told (other_kind what) has = inr has
 
   taken_told : (rule : Option (RuleSource × RuleModel)) → IsKept r path kind
-      → TellsOf r path kind (said_by (cited top_texts stack) None rule)
+      → TellsOf r path kind (said_by (cited s stack) None rule)
   taken_told None has = has
   taken_told (Some rule) has = has
 
-module _ (Enters : Entering) (s : SelectionModel) (whole : s.only ≡ []) (top_texts : TopTextsModel) (x : Explanation) (top : JobModel)
-    (t : Tree)
+module _ (Enters : Entering) (s : FiltersModel) (whole : s.only ≡ []) (x : Explanation) (top : JobModel) (t : Tree)
     (known : IsKnown Enters s top t) (asked : ReportLists) (depth : ℕ) (r : Report)
     (report : IsReportOf asked (walk_of s depth top t) r) (files : asked.files ≡ true) (skipped_ones : asked.left_out ≡ true)
     (path : List ℕ) (kind : Kind) (entry : IsEntryBy s top t path kind)
@@ -102,18 +101,18 @@ module _ (Enters : Entering) (s : SelectionModel) (whole : s.only ≡ []) (top_t
 
         -- what is said of an entry there, by itself
         entry_told : (item : Item) → In item items → path ≡ path_in k.path (name_of item) → kind ≡ (entry_of item).kind
-            → x ≡ said_of s top_texts stack inside (name_of item) (entry_of item).kind → TellsOf r path kind x
+            → x ≡ said_of s stack inside (name_of item) (entry_of item).kind → TellsOf r path kind x
         entry_told (file_item n c rules) has at own is = by (file_reason s inside n) refl
           where
             by : (o : Option Reason) → file_reason s inside n ≡ o → TellsOf r path kind x
             by (Some reason) e =
-                subst (TellsOf r path kind) (sym (is ∙ ap (λ o. said_by (cited top_texts stack) o (rule_for n false)) e))
-                (skipped_told r path kind top_texts stack reason
+                subst (TellsOf r path kind) (sym (is ∙ ap (λ o. said_by (cited s stack) o (rule_for n false)) e))
+                (skipped_told r path kind s stack reason
                 (subst (λ p. IsSkipped r p reason) (sym at)
                 (is_skipped (file_item n c rules) has File reason (ap (λ o. option_map_or (skipped File) o (file_fate inside n c)) e))))
             by None e =
-                subst (TellsOf r path kind) (sym (is ∙ ap (λ o. said_by (cited top_texts stack) o (rule_for n false)) e))
-                (taken_told r path kind top_texts stack (rule_for n false)
+                subst (TellsOf r path kind) (sym (is ∙ ap (λ o. said_by (cited s stack) o (rule_for n false)) e))
+                (taken_told r path kind s stack (rule_for n false)
                 (subst (λ (d : Kind). IsKept r path d) (sym own)
                 (subst (λ p. IsKept r p File) (sym at)
                 (file_there s whole top t asked depth r report place k leads shallow items inside listed files n c rules has e))))
@@ -121,33 +120,33 @@ module _ (Enters : Entering) (s : SelectionModel) (whole : s.only ≡ []) (top_t
           where
             by : (o : Option Reason) → reason_of s inside n true ≡ o → TellsOf r path kind x
             by (Some reason) e =
-                subst (TellsOf r path kind) (sym (is ∙ ap (λ o. said_by (cited top_texts stack) o (rule_for n true)) e))
-                (skipped_told r path kind top_texts stack reason
+                subst (TellsOf r path kind) (sym (is ∙ ap (λ o. said_by (cited s stack) o (rule_for n true)) e))
+                (skipped_told r path kind s stack reason
                 (subst (λ p. IsSkipped r p reason) (sym at)
                 (is_skipped (directory_item n) has Dir reason (ap (λ o. option_map_or (skipped Dir) o (walked (child_job inside n))) e))))
             by None e =
-                let same : x ≡ said_by (cited top_texts stack) None (rule_for n true) =
-                is ∙ ap (λ o. said_by (cited top_texts stack) o (rule_for n true)) e in
+                let same : x ≡ said_by (cited s stack) None (rule_for n true) =
+                is ∙ ap (λ o. said_by (cited s stack) o (rule_for n true)) e in
                 subst (TellsOf r path kind) (sym same)
-                (taken_told r path kind top_texts stack (rule_for n true)
+                (taken_told r path kind s stack (rule_for n true)
                 (subst (λ (d : Kind). IsKept r path d) (sym own)
-                (kept (subst IsSaidKept (sym same) (taken (cited top_texts stack) (rule_for n true))))))
+                (kept (subst IsSaidKept (sym same) (taken (cited s stack) (rule_for n true))))))
         entry_told (other_item n what) has at own is = by (reason_of s inside n false) refl
           where
-            told : (reason : Reason) → x ≡ said_for (cited top_texts stack) ignored reason
+            told : (reason : Reason) → x ≡ said_for (cited s stack) ignored reason
                 → fate_of s inside (other_item n what) ≡ skipped (Other what) reason → TellsOf r path kind x
             told reason same fate =
                 subst (TellsOf r path kind) (sym same)
-                (skipped_told r path kind top_texts stack reason
+                (skipped_told r path kind s stack reason
                 (subst (λ p. IsSkipped r p reason) (sym at) (is_skipped (other_item n what) has (Other what) reason fate)))
 
             by : (o : Option Reason) → reason_of s inside n false ≡ o → TellsOf r path kind x
             by (Some reason) e =
-                told reason (is ∙ ap (λ o. said_by (cited top_texts stack) (option_or o (Some (other_kind what))) (rule_for n false)) e)
+                told reason (is ∙ ap (λ o. said_by (cited s stack) (option_or o (Some (other_kind what))) (rule_for n false)) e)
                 (ap (λ o. option_map_or (skipped (Other what)) o (skipped (Other what) (other_kind what))) e)
             by None e =
                 told (other_kind what)
-                (is ∙ ap (λ o. said_by (cited top_texts stack) (option_or o (Some (other_kind what))) (rule_for n false)) e)
+                (is ∙ ap (λ o. said_by (cited s stack) (option_or o (Some (other_kind what))) (rule_for n false)) e)
                 (ap (λ o. option_map_or (skipped (Other what)) o (skipped (Other what) (other_kind what))) e)
 
   -- ---- down to the entry
@@ -157,16 +156,16 @@ module _ (Enters : Entering) (s : SelectionModel) (whole : s.only ≡ []) (top_t
     items : List Item
     inside : JobModel
     listed : IsListed k (t place) items inside
-    says : IsSaidIn Enters s top_texts x stack items inside names
+    says : IsSaidIn Enters s x stack items inside names
 
   met : (stack : DirStack) (place : List (List ℕ)) (k : JobModel) (names : List (List ℕ)) → LeadsTo s top t place k
-      → IsSaidBelow Enters s top_texts x stack k names
+      → IsSaidBelow Enters s x stack k names
       → ((fault : FaultLineModel) × (open_dir k (t place) ≡ Err fault) × (x ≡ faulted fault)) ⊎ IsMet stack place k names
   met stack place k names leads (entered, enters, said) =
       by (open_dir k (t place)) refl ((known place k leads).0 entered enters)
     where
       Holds : Result OpenDirModel FaultLineModel → Type 0
-      Holds w = MatchResult w (λ here. IsSaid Enters s top_texts (stack ++ here ∷ []) here names false x)
+      Holds w = MatchResult w (λ here. IsSaid Enters s (stack ++ here ∷ []) here names false x)
           (λ fault. x ≡ faulted fault)
 
       by : (w : Result OpenDirModel FaultLineModel) → open_dir k (t place) ≡ w → entered ≡ open_dir k (t place)
@@ -177,7 +176,7 @@ module _ (Enters : Entering) (s : SelectionModel) (whole : s.only ≡ []) (top_t
             items = l.items;
             inside = here.job;
             listed = l.listed;
-            says = said_in Enters s top_texts x stack k (t place) l.items here.job names (known place k leads).0 l.listed
+            says = said_in Enters s x stack k (t place) l.items here.job names (known place k leads).0 l.listed
                 (entered, enters, said);
           })
       by (Err fault) is same = inl (fault, is, subst Holds (same ∙ is) said)
@@ -187,7 +186,7 @@ module _ (Enters : Entering) (s : SelectionModel) (whole : s.only ≡ []) (top_t
   Tells names =
       (stack : DirStack) (place : List (List ℕ)) (k : JobModel) → LeadsTo s top t place k → length place + length names ≤ depth
       → (rest : List ℕ) → segments_of rest ≡ names → path ≡ path_in k.path rest → segments_of path ≡ place ++ names
-      → IsSaidBelow Enters s top_texts x stack k names → TellsOf r path kind x
+      → IsSaidBelow Enters s x stack k names → TellsOf r path kind x
 
   last_tells : (name : List ℕ) → Tells (name ∷ [])
   last_tells name stack place k leads deep rest cut at down said = by (met stack place k (name ∷ []) leads said)
@@ -201,14 +200,14 @@ module _ (Enters : Entering) (s : SelectionModel) (whole : s.only ≡ []) (top_t
       by (inr m) =
           let i = named_item m.items name kind (entry place name [] k m.items down leads m.listed.here) in
           let spread : Spread m.items = well_formed_items (t place) (known place k leads).1 m.items m.listed.here in
-          let e = said_at_end Enters s top_texts x stack m.items m.inside name m.says in
+          let e = said_at_end Enters s x stack m.items m.inside name m.says in
           let found_kind : kind_in (entries_of m.items) name ≡ Some (entry_of i.item).kind =
           subst (λ n. kind_in (entries_of m.items) n ≡ Some (entry_of i.item).kind) i.named (kind_found m.items spread i.item i.has) in
           entry_told place k leads shallow m.items m.inside m.listed e.stack i.item i.has
           (at ∙ ap (path_in k.path) (first_cut rest name [] cut ∙ sym i.named)) (sym i.kind_is)
-          (e.is ∙ ap (λ (o : Option Kind). said_of s top_texts e.stack m.inside name (kind_asked false o)) found_kind
-          ∙ ap (said_of s top_texts e.stack m.inside name) (asked_as_it_is (entry_of i.item).kind)
-          ∙ ap (λ n. said_of s top_texts e.stack m.inside n (entry_of i.item).kind) (sym i.named))
+          (e.is ∙ ap (λ (o : Option Kind). said_of s e.stack m.inside name (kind_asked false o)) found_kind
+          ∙ ap (said_of s e.stack m.inside name) (asked_as_it_is (entry_of i.item).kind)
+          ∙ ap (λ n. said_of s e.stack m.inside n (entry_of i.item).kind) (sym i.named))
 
   on_the_way_tells : (name next : List ℕ) (names : List (List ℕ)) → Tells (next ∷ names) → Tells (name ∷ next ∷ names)
   on_the_way_tells name next names below_tells stack place k leads deep rest cut at down said =
@@ -252,9 +251,9 @@ module _ (Enters : Entering) (s : SelectionModel) (whole : s.only ≡ []) (top_t
           onward : (o : Option Reason) → reason_of s m.inside name true ≡ o → TellsOf r path kind x
           onward (Some reason) e =
               let same = skipped_on_the_way _ _ _ _ _ reason (reason_is ∙ e)
-              (on_the_way Enters s top_texts x (stack ++ m.says.here ∷ []) m.says.here name (next ∷ names) (λ n. cc n) m.says.says) in
+              (on_the_way Enters s x (stack ++ m.says.here ∷ []) m.says.here name (next ∷ names) (λ n. cc n) m.says.says) in
               subst (TellsOf r path kind) (sym same)
-              (above_told r path kind top_texts (stack ++ m.says.here ∷ []) reason (
+              (above_told r path kind s (stack ++ m.says.here ∷ []) reason (
                 path_in k.path name,
                 parts.0,
                 at ∙ ap (path_in k.path) parts.1 ∙ joined_end k.path name parts.0,
@@ -263,7 +262,7 @@ module _ (Enters : Entering) (s : SelectionModel) (whole : s.only ≡ []) (top_t
               ))
           onward None e =
               let into = went_into _ _ _ _ _ (reason_is ∙ e) (ap is_directory there)
-              (on_the_way Enters s top_texts x (stack ++ m.says.here ∷ []) m.says.here name (next ∷ names) (λ n. cc n) m.says.says) in
+              (on_the_way Enters s x (stack ++ m.says.here ∷ []) m.says.here name (next ∷ names) (λ n. cc n) m.says.says) in
               let leaves : WalksInto s k (t place) name m.inside = record {
                 items = m.items;
                 listed = m.listed;
@@ -276,7 +275,7 @@ module _ (Enters : Entering) (s : SelectionModel) (whole : s.only ≡ []) (top_t
               (at ∙ ap (path_in k.path) parts.1 ∙ below_child k.path name parts.0 some_name
               ∙ ap (λ d. path_in (path_in d name) parts.0) (sym inside_path))
               (down ∙ sym (append_assoc place (name ∷ []) (next ∷ names)))
-              (subst (λ (j : JobModel). IsSaidBelow Enters s top_texts x (stack ++ m.says.here ∷ []) (child_job j name) (next ∷ names))
+              (subst (λ (j : JobModel). IsSaidBelow Enters s x (stack ++ m.says.here ∷ []) (child_job j name) (next ∷ names))
               m.says.job into)
 
   -- for each number of names below a directory

@@ -2,18 +2,18 @@
 use Rattle.std.proofs.Common.{◌≡◌, ℕ, Bool, true, false, cond, List, [], ◌∷◌, ◌++◌, refl, sym, ◌∙◌, ap, subst, Option, Some, None, Result}
 use Rattle.std.proofs.Common.{MatchResult}
 use Rattle.std.specs.Option.{is_none}
-use Rattle.lc_explain.specs.Explained.{Explanation, faulted, below, cited, said_for, said_of, said_beside, kind_asked, is_directory}
-use Rattle.lc_explain.specs.Explained.{said_of_none}
-use Rattle.lc_explain.specs.Explained.{OnTheWay, OnEntering, IsSaid, IsExplained}
-use Rattle.lc_explain.specs.Laws.{Agrees, EntryLaw}
-use Rattle.lc_explain.specs.OpenDirs.{OpenDirModel, DirStack, open_dir, kind_in, TopTextsModel}
-use Rattle.lc_explain.proofs.PathSegments.{names_below}
+use Rattle.lc_paths.specs.Explanations.Explained.{Explanation, faulted, below, cited, said_for, said_of, said_beside, kind_asked}
+use Rattle.lc_paths.specs.Explanations.Explained.{is_directory, said_of_none}
+use Rattle.lc_paths.specs.Explanations.Explained.{OnTheWay, OnEntering, IsSaid, IsExplained}
+use Rattle.lc_paths.specs.Explanations.Laws.{Agrees, EntryLaw}
+use Rattle.lc_paths.specs.Explanations.OpenDirs.{OpenDirModel, DirStack, open_dir, kind_in}
+use Rattle.lc_paths.proofs.Explanations.PathSegments.{names_below}
 use Rattle.lc_glob.specs.Path.{path_in, segments_of}
 use Rattle.lc_level.specs.Answers.{Item, directory_item, name_of, entry_of, entries_of, Answers, Tree}
 use Rattle.lc_level.specs.FaultLines.{FaultLineModel}
 use Rattle.lc_level.specs.Job.{JobModel}
 use Rattle.lc_level.specs.Level.{Reason, Fate, fate_of, reason_of, reason_for, child_job}
-use Rattle.lc_level.specs.Selection.{SelectionModel}
+use Rattle.lc_level.specs.Filters.{FiltersModel}
 use Rattle.lc_level.proofs.WellFormed.{Spread}
 use Rattle.lc_text.specs.PathLines.{is_bad_path}
 use Rattle.lc_tree.specs.Listing.{EntryModel}
@@ -26,6 +26,7 @@ use Rattle.lc_walk.proofs.Levels.{well_formed_items}
 use Rattle.lc_laws.proofs.OneWay.{listed_entered, kind_found, good_name, one_segment, place_names, Entering, IsKnown, known_below}
 use Rattle.lc_laws.proofs.OneWay.{known_listings}
 use Rattle.lc_laws.proofs.TakingPart.{in_part}
+use Rattle.lc_level.specs.TopJob.{top_job}
 
 -- what is none has no reason
 pub none_is : {A : Type 0} (o : Option A) → is_none o ≡ true → o ≡ None
@@ -49,17 +50,17 @@ some_end : (place : List (List ℕ)) (name : List ℕ) → place ++ name ∷ [] 
 some_end [] name e = cc
 some_end (n ∷ place) name e = cc
 
-module _ (Enters : Entering) (s : SelectionModel) (top_texts : TopTextsModel) (x : Explanation) where
+module _ (Enters : Entering) (s : FiltersModel) (x : Explanation) where
   -- so it is said of names below a directory that is entered at the end of a way
   abbrev pub IsSaidBelow : DirStack → JobModel → List (List ℕ) → Type 0
-  IsSaidBelow stack j names = OnEntering Enters j x (λ here. IsSaid Enters s top_texts (stack ++ here ∷ []) here names false x)
+  IsSaidBelow stack j names = OnEntering Enters j x (λ here. IsSaid Enters s (stack ++ here ∷ []) here names false x)
 
   -- the directory that was entered
   pub record IsSaidIn (stack : DirStack) (items : List Item) (inside : JobModel) (names : List (List ℕ)) : Type 0 where
     pub here : OpenDirModel
     pub job : here.job ≡ inside
     pub entries : here.entries ≡ entries_of items
-    pub says : IsSaid Enters s top_texts (stack ++ here ∷ []) here names false x
+    pub says : IsSaid Enters s (stack ++ here ∷ []) here names false x
 
   -- a listed directory is entered, and says it
   pub said_in : (stack : DirStack) (j : JobModel) (a : Answers) (items : List Item) (inside : JobModel) (names : List (List ℕ))
@@ -72,23 +73,23 @@ module _ (Enters : Entering) (s : SelectionModel) (top_texts : TopTextsModel) (x
         job = e.job;
         entries = e.entries;
         says = subst (λ (r : Result OpenDirModel FaultLineModel). MatchResult r
-            (λ here. IsSaid Enters s top_texts (stack ++ here ∷ []) here names false x) (λ fault. x ≡ faulted fault))
+            (λ here. IsSaid Enters s (stack ++ here ∷ []) here names false x) (λ fault. x ≡ faulted fault))
             (known entered enters ∙ e.is) said;
       }
 
   -- a name before others
   pub on_the_way : (stack : DirStack) (here : OpenDirModel) (name : List ℕ) (names : List (List ℕ)) → (names ≡ [] → ⊥)
-      → IsSaid Enters s top_texts stack here (name ∷ names) false x →
+      → IsSaid Enters s stack here (name ∷ names) false x →
       OnTheWay (reason_for s here.job name (kind_asked true (kind_in here.entries name))) (is_directory (kind_in here.entries name))
-      (λ reason. x ≡ said_for (cited top_texts stack) below reason) (IsSaidBelow stack (child_job here.job name) names)
-      (x ≡ said_beside s top_texts stack (child_job here.job name) names false)
+      (λ reason. x ≡ said_for (cited s stack) below reason) (IsSaidBelow stack (child_job here.job name) names)
+      (x ≡ said_beside s stack (child_job here.job name) names false)
   on_the_way stack here name [] some said = absurd (some refl)
   on_the_way stack here name (next ∷ names) some said = said
 
   -- what is said of a name in a directory of these items
   pub record IsSaidOf (items : List Item) (inside : JobModel) (name : List ℕ) : Type 0 where
     pub stack : DirStack
-    pub is : x ≡ said_of s top_texts stack inside name (kind_asked false (kind_in (entries_of items) name))
+    pub is : x ≡ said_of s stack inside name (kind_asked false (kind_in (entries_of items) name))
 
   -- what is said at the end of a path is said of its last name
   pub said_at_end : (stack : DirStack) (items : List Item) (inside : JobModel) (name : List ℕ)
@@ -96,8 +97,8 @@ module _ (Enters : Entering) (s : SelectionModel) (top_texts : TopTextsModel) (x
   said_at_end stack items inside name a = record {
     stack = stack ++ a.here ∷ [];
     is = a.says
-        ∙ ap (λ (j : JobModel). said_of s top_texts (stack ++ a.here ∷ []) j name (kind_asked false (kind_in a.here.entries name))) a.job
-        ∙ ap (λ (es : List EntryModel). said_of s top_texts (stack ++ a.here ∷ []) inside name (kind_asked false (kind_in es name)))
+        ∙ ap (λ (j : JobModel). said_of s (stack ++ a.here ∷ []) j name (kind_asked false (kind_in a.here.entries name))) a.job
+        ∙ ap (λ (es : List EntryModel). said_of s (stack ++ a.here ∷ []) inside name (kind_asked false (kind_in es name)))
         a.entries;
   }
 
@@ -126,33 +127,33 @@ module _ (Enters : Entering) (s : SelectionModel) (top_texts : TopTextsModel) (x
       (subst (λ (i : JobModel). IsSaidBelow (stack ++ a.here ∷ []) (child_job i n) (place ++ name ∷ [])) a.job into)
 
   -- so what is said of an entry agrees with its fate
-  pub entry_agrees : EntryLaw → (top : JobModel) (t : Tree) → top.path ≡ [] → IsKnown Enters s top t → (place : List (List ℕ))
-      (k : JobModel) → LeadsTo s top t place k → (name : List ℕ) (fate : Fate) → HasEntry s k (t place) name fate → (path : List ℕ)
-      → path ≡ path_in k.path name → is_bad_path path ≡ false → IsExplained Enters s top_texts top path false x
-      → (stack : DirStack) × Agrees (cited top_texts stack) fate x
-  entry_agrees law top t at_top known place k leads name fate h path path_is good said =
+  pub entry_agrees : EntryLaw → (t : Tree) → IsKnown Enters s (top_job s) t → (place : List (List ℕ))
+      (k : JobModel) → LeadsTo s (top_job s) t place k → (name : List ℕ) (fate : Fate) → HasEntry s k (t place) name fate → (path : List ℕ)
+      → path ≡ path_in k.path name → is_bad_path path ≡ false → IsExplained Enters s path false x
+      → (stack : DirStack) × Agrees (cited s stack) fate x
+  entry_agrees law t known place k leads name fate h path path_is good said =
       let spread : Spread h.items = well_formed_items (t place) (known place k leads).1 h.items h.listed.here in
       let item : In h.item h.items = in_part s k.path h.item h.items h.has in
       let named : segments_of name ≡ name ∷ [] =
       subst (λ n. segments_of n ≡ n ∷ []) h.named (one_segment (name_of h.item) (good_name h.items spread h.item item)) in
       let names : segments_of path ≡ place ++ name ∷ [] =
       ap segments_of path_is ∙ names_below k.path name
-      ∙ ap (λ l. l ++ segments_of name) (place_names s place top k t (known_listings Enters s top t known) leads
-      ∙ ap (λ p. names_of_path p ++ place) at_top)
+      ∙ ap (λ l. l ++ segments_of name) (place_names s place (top_job s) k t (known_listings Enters s (top_job s) t known) leads)
       ∙ ap (λ l. place ++ l) named in
-      let below_top : IsSaidBelow [] top (segments_of path) =
-      subst (λ b. cond b (x ≡ said_of_none path) (IsSaidBelow [] top (segments_of path))) good said in
-      let at = followed place [] top k t h.items h.inside name known leads h.listed (subst (IsSaidBelow [] top) names below_top) in
+      let below_top : IsSaidBelow [] (top_job s) (segments_of path) =
+      subst (λ b. cond b (x ≡ said_of_none path) (IsSaidBelow [] (top_job s) (segments_of path))) good said in
+      let at = followed place [] (top_job s) k t h.items h.inside name known leads h.listed
+      (subst (IsSaidBelow [] (top_job s)) names below_top) in
       let kind : kind_in (entries_of h.items) name ≡ Some (entry_of h.item).kind =
       subst (λ n. kind_in (entries_of h.items) n ≡ Some (entry_of h.item).kind) h.named (kind_found h.items spread h.item item) in
-      let is : x ≡ said_of s top_texts at.stack h.inside name (entry_of h.item).kind =
-      at.is ∙ ap (λ (o : Option Kind). said_of s top_texts at.stack h.inside name (kind_asked false o)) kind
-      ∙ ap (said_of s top_texts at.stack h.inside name) (asked_as_it_is (entry_of h.item).kind) in
-      let agrees : Agrees (cited top_texts at.stack) (fate_of s h.inside h.item)
-      (said_of s top_texts at.stack h.inside (name_of h.item) (entry_of h.item).kind) = law s top_texts at.stack h.inside h.item in (
+      let is : x ≡ said_of s at.stack h.inside name (entry_of h.item).kind =
+      at.is ∙ ap (λ (o : Option Kind). said_of s at.stack h.inside name (kind_asked false o)) kind
+      ∙ ap (said_of s at.stack h.inside name) (asked_as_it_is (entry_of h.item).kind) in
+      let agrees : Agrees (cited s at.stack) (fate_of s h.inside h.item)
+      (said_of s at.stack h.inside (name_of h.item) (entry_of h.item).kind) = law s at.stack h.inside h.item in (
         at.stack,
-        subst (Agrees (cited top_texts at.stack) fate) (sym is)
-            (subst (λ n. Agrees (cited top_texts at.stack) fate (said_of s top_texts at.stack h.inside n (entry_of h.item).kind)) h.named
-            (subst (λ (f : Fate). Agrees (cited top_texts at.stack) f
-            (said_of s top_texts at.stack h.inside (name_of h.item) (entry_of h.item).kind)) h.fate_is agrees)),
+        subst (Agrees (cited s at.stack) fate) (sym is)
+            (subst (λ n. Agrees (cited s at.stack) fate (said_of s at.stack h.inside n (entry_of h.item).kind)) h.named
+            (subst (λ (f : Fate). Agrees (cited s at.stack) f
+            (said_of s at.stack h.inside (name_of h.item) (entry_of h.item).kind)) h.fate_is agrees)),
       )

@@ -6,7 +6,7 @@ use Rattle.lc_level.specs.Answers.{Item, file_item, directory_item, other_item, 
 use Rattle.lc_level.specs.Job.{JobModel}
 use Rattle.lc_level.specs.Level.{child_job}
 use Rattle.lc_level.specs.OneAnswer.{GivesOne}
-use Rattle.lc_level.specs.Selection.{SelectionModel}
+use Rattle.lc_level.specs.Filters.{FiltersModel}
 use Rattle.lc_level.specs.TreeAnswers.{MayList}
 use Rattle.lc_tree.specs.Listing.{EntryModel}
 use Rattle.lc_tree.specs.Trees.{Listings, Contents}
@@ -62,7 +62,7 @@ listed_first : (lists : List ℕ → Listings) (directory name : List ℕ) (name
 listed_first lists directory name [] kind down = down
 listed_first lists directory name (next ∷ names) kind down = down.0
 
-module _ (lists : List ℕ → Listings) (gives : List ℕ → Contents) (one : GivesOne lists gives) (s : SelectionModel) where
+module _ (lists : List ℕ → Listings) (gives : List ℕ → Contents) (one : GivesOne lists gives) (s : FiltersModel) where
   listed_at : (place : List (List ℕ)) (j k : JobModel) (t : Tree) (name : List ℕ) (names : List (List ℕ)) (kind : Kind)
       → LeadsTo s j t place k → LeadDown lists j.path (place ++ name ∷ names) kind
       → HasListed lists k.path name (kind_before kind names)

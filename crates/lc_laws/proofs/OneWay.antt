@@ -2,7 +2,7 @@
 use Rattle.std.proofs.Common.{◌≡◌, ℕ, false, List, [], ◌∷◌, ◌++◌, refl, sym, ◌∙◌, ap, subst, Option, Some, None, Result, Ok, Err}
 use Rattle.std.proofs.Common.{find, bytes_eq, cond, append_assoc, append-nil, inl, inr}
 use Rattle.std.specs.List.{AllByRecursion}
-use Rattle.lc_explain.specs.OpenDirs.{OpenDirModel, open_dir, open_dir_of, open_dir_after, MayEnter, kind_in}
+use Rattle.lc_paths.specs.Explanations.OpenDirs.{OpenDirModel, open_dir, open_dir_of, open_dir_after, MayEnter, kind_in}
 use Rattle.lc_glob.specs.Path.{segments_of}
 use Rattle.lc_level.specs.Answers.{Item, directory_item, name_of, entry_of, entries_of, Items, Answers, Tree}
 use Rattle.lc_level.specs.FaultLines.{FaultLineModel}
@@ -10,7 +10,7 @@ use Rattle.lc_level.specs.Job.{JobModel}
 use Rattle.lc_level.specs.Level.{faulted_level, level, level_of, level_after, child_job}
 use Rattle.lc_level.specs.OneAnswer.{GivesOne}
 use Rattle.lc_level.specs.RuleFiles.{RuleBytes, rule_bytes, extended}
-use Rattle.lc_level.specs.Selection.{SelectionModel}
+use Rattle.lc_level.specs.Filters.{FiltersModel}
 use Rattle.lc_level.specs.WellFormed.{IsWellFormed}
 use Rattle.lc_level.specs.TreeAnswers.{MayAnswer}
 use Rattle.lc_level.proofs.OneLevel.{here, same_rules}
@@ -87,7 +87,7 @@ entered_listed j a here = at a.here refl
     at (Err word) e is = absurd (cc is)
 
 -- what can't be entered has its fault as its level
-pub fault_level : (s : SelectionModel) (j : JobModel) (a : Answers) (fault : FaultLineModel) → open_dir j a ≡ Err fault
+pub fault_level : (s : FiltersModel) (j : JobModel) (a : Answers) (fault : FaultLineModel) → open_dir j a ≡ Err fault
     → level s j a ≡ faulted_level fault.path fault.word
 fault_level s j a fault = at a.here
   where
@@ -101,7 +101,7 @@ fault_level s j a fault = at a.here
     at (Err word) is =
         ap (λ (g : FaultLineModel). faulted_level g.path g.word) (same_err (record { path = j.path; word = word }) fault is)
 
-module _ (lists : List ℕ → Listings) (gives : List ℕ → Contents) (one : GivesOne lists gives) (s : SelectionModel) where
+module _ (lists : List ℕ → Listings) (gives : List ℕ → Contents) (one : GivesOne lists gives) (s : FiltersModel) where
   -- any two answers are entered as the same
   pub one_open_dir : (j : JobModel) (a b : Answers) → MayAnswer lists gives j.path a → MayAnswer lists gives j.path b
       → open_dir j a ≡ open_dir j b
@@ -151,7 +151,7 @@ one_segment (b ∷ bs) good = names_of_path-path_in [] (b ∷ bs) good
 
 -- ---- the directories to which names lead
 
-module _ (s : SelectionModel) where
+module _ (s : FiltersModel) where
   -- below a directory with listings are others
   pub listings_below : (j : JobModel) (t : Tree) (name : List ℕ) (inside : JobModel) → HasListings s j t
       → WalksInto s j (t []) name inside → HasListings s (child_job inside name) (λ p. t (name ∷ p))
@@ -176,7 +176,7 @@ module _ (s : SelectionModel) where
 abbrev pub Entering : Type 1
 Entering = JobModel → Result OpenDirModel FaultLineModel → Type 0
 
-module _ (Enters : Entering) (s : SelectionModel) where
+module _ (Enters : Entering) (s : FiltersModel) where
   -- each directory to which names lead is entered by its answers alone, and has a listing that is one
   abbrev pub IsKnown : JobModel → Tree → Type 0
   IsKnown j t =
@@ -192,7 +192,7 @@ module _ (Enters : Entering) (s : SelectionModel) where
   known_listings j t known place k leads = (known place k leads).1
 
 -- a tree of answers is known so by itself
-pub known_by_tree : (s : SelectionModel) (top : JobModel) (t : Tree) → top.path ≡ [] → HasListings s top t → IsKnown (EntersBy t) s top t
+pub known_by_tree : (s : FiltersModel) (top : JobModel) (t : Tree) → top.path ≡ [] → HasListings s top t → IsKnown (EntersBy t) s top t
 known_by_tree s top t at_top listings place k leads =
     let there : names_of_path k.path ≡ place =
     place_names s place top k t listings leads ∙ ap (λ p. names_of_path p ++ place) at_top in (
@@ -201,7 +201,7 @@ known_by_tree s top t at_top listings place k leads =
     )
 
 -- and by a tree that answers in one way
-pub known_by_one : (lists : List ℕ → Listings) (gives : List ℕ → Contents) → GivesOne lists gives → (s : SelectionModel) (top : JobModel)
+pub known_by_one : (lists : List ℕ → Listings) (gives : List ℕ → Contents) → GivesOne lists gives → (s : FiltersModel) (top : JobModel)
     (t : Tree) → HasListings s top t → IsGiven lists gives s top t → IsKnown (MayEnter lists gives) s top t
 known_by_one lists gives one s top t listings given place k leads =
     (λ entered. entered_by lists gives one s k (t place) entered (given place k leads), listings place k leads)

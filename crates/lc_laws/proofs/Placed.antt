@@ -3,20 +3,20 @@ use Rattle.std.proofs.Common.{◌≡◌, ℕ, ◌<◌, true, List, [], length, r
 use Rattle.std.specs.List.{Contains}
 use Rattle.std.specs.Option.{option_map_or}
 use Rattle.lc_census.specs.declared.line_count.Count.{Count}
-use Rattle.lc_explain.specs.OpenDirs.{open_dir}
+use Rattle.lc_paths.specs.Explanations.OpenDirs.{open_dir}
 use Rattle.lc_glob.specs.Path.{path_in}
 use Rattle.lc_level.specs.Answers.{Item, file_item, name_of, Tree}
 use Rattle.lc_level.specs.FaultLines.{FaultLineModel}
 use Rattle.lc_level.specs.Job.{JobModel}
 use Rattle.lc_level.specs.Level.{Reason, Fate, skipped, file_fate, fate_of, file_reason}
-use Rattle.lc_level.specs.Selection.{SelectionModel}
+use Rattle.lc_level.specs.Filters.{FiltersModel}
 use Rattle.lc_tree.specs.declared.entry.Kind.{Kind}
 use Rattle.lc_tree.specs.declared.entry.Kind.TheVariants.{File}
 use Rattle.lc_level.specs.declared.fault_word.FaultWord.{FaultWord}
 use Rattle.lc_walk.specs.Found.{Found, found_file, found_fault, found_skipped}
 use Rattle.lc_walk.specs.FoundAt.{IsListed, LeadsTo, HasEntry, Gives}
-use Rattle.lc_walk.specs.Walk.{walk_of}
-use Rattle.lc_walk.specs.WalkReport.{IsReportOf}
+use Rattle.lc_walk.specs.RecursiveWalk.{walk_of}
+use Rattle.lc_walk.specs.FoundReports.{IsReportOf}
 use Rattle.lc_walk.specs.declared.options.ReportLists.{ReportLists}
 use Rattle.lc_walk.specs.declared.report.Report.{Report}
 use Rattle.lc_walk.proofs.Elements.{In}
@@ -26,7 +26,7 @@ use Rattle.lc_laws.proofs.OneWay.{fault_level}
 use Rattle.lc_laws.proofs.ReportLists.{found_counted, found_is_skipped, found_faults, found_at_fault}
 use Rattle.lc_laws.proofs.TakingPart.{part_has}
 
-module _ (s : SelectionModel) (whole : s.only ≡ []) (top : JobModel) (t : Tree) (asked : ReportLists) (depth : ℕ) (r : Report)
+module _ (s : FiltersModel) (whole : s.only ≡ []) (top : JobModel) (t : Tree) (asked : ReportLists) (depth : ℕ) (r : Report)
     (report : IsReportOf asked (walk_of s depth top t) r) where
   abbrev xs : List Found
   xs = walk_of s depth top t
@@ -60,8 +60,8 @@ module _ (s : SelectionModel) (whole : s.only ≡ []) (top : JobModel) (t : Tree
           → fate_of s inside item ≡ skipped own reason
           → IsSkipped r (path_in k.path (name_of item)) reason
       skipped_there skipped_ones item has own reason is =
-          found_is_skipped asked xs r report skipped_ones k.path (record { name = name_of item; kind = own; reason = reason })
-          (found (found_skipped k.path (record { name = name_of item; kind = own; reason = reason }))
+          found_is_skipped asked xs r report skipped_ones k.path (record { path = name_of item; kind = own; reason = reason })
+          (found (found_skipped k.path (record { path = name_of item; kind = own; reason = reason }))
           (refl, entry_has item has (skipped own reason) is))
 
       -- a file that is taken

@@ -5,13 +5,13 @@ use Rattle.std.specs.List.Sorted.{IsPermutation}
 use Rattle.std.proofs.lemmas.List.Sorted.{Contains-permutation, IsPermutation-sym}
 use Rattle.lc_glob.specs.Path.{path_in}
 use Rattle.lc_level.specs.FaultLines.{FaultLineModel}
-use Rattle.lc_level.specs.Level.{CountedModel, SkippedModel, Reason}
+use Rattle.lc_level.specs.Level.{skipped_below, file_below, FileLineModel, SkippedLineModel, Reason}
 use Rattle.lc_tree.specs.declared.entry.Kind.{Kind}
 use Rattle.lc_level.specs.declared.fault_word.FaultWord.{FaultWord}
 use Rattle.lc_walk.specs.Found.{Found, found_file, found_fault, found_directory, found_skipped}
-use Rattle.lc_walk.specs.ReportLines.{FileLineModel, SkippedLineModel, file_paths, fault_paths, skipped_paths}
-use Rattle.lc_walk.specs.WalkReport.{line_of, skipped_line, file_in, fault_in, skipped_lines_in, files_of, faults_of}
-use Rattle.lc_walk.specs.WalkReport.{skipped_lines_of, IsReportOf}
+use Rattle.lc_walk.specs.ReportLines.{file_paths, fault_paths, skipped_paths}
+use Rattle.lc_walk.specs.FoundReports.{file_in, fault_in, skipped_lines_in, files_of, faults_of}
+use Rattle.lc_walk.specs.FoundReports.{skipped_lines_of, IsReportOf}
 use Rattle.lc_walk.specs.declared.options.ReportLists.{ReportLists}
 use Rattle.lc_walk.specs.declared.report.Report.{Report}
 use Rattle.lc_walk.proofs.Elements.{In, is_in, contains, in_lists, of_lists, in_mapped, of_mapped}
@@ -20,16 +20,16 @@ use Rattle.lc_laws.specs.ReportedPaths.{IsCounted, IsAtFault, IsSkipped}
 -- a counted file of a path
 pub record CountedAt (xs : List Found) (path : List ℕ) : Type 0 where
   pub directory : List ℕ
-  pub file : CountedModel
+  pub file : FileLineModel
   pub found : In (found_file directory file) xs
-  pub path_is : path ≡ path_in directory file.name
+  pub path_is : path ≡ path_in directory file.path
 
 -- an entry of a path that is left out for a reason
 pub record SkippedAt (xs : List Found) (path : List ℕ) (reason : Reason) : Type 0 where
   pub directory : List ℕ
-  pub entry : SkippedModel
+  pub entry : SkippedLineModel
   pub found : In (found_skipped directory entry) xs
-  pub path_is : path ≡ path_in directory entry.name
+  pub path_is : path ≡ path_in directory entry.path
   pub reason_is : entry.reason ≡ reason
 
 counted_by : (xs : List Found) (path : List ℕ) (line : FileLineModel) → line.path ≡ path → (x : Found) → In x xs → In line (file_in x)
@@ -71,11 +71,11 @@ module _ (lists : ReportLists) (xs : List Found) (r : Report) (is : IsReportOf l
         counted_by xs path line.0 line.2 x.0 x.1 x.2
 
     -- and the other way round
-    pub found_counted : (directory : List ℕ) (f : CountedModel) → In (found_file directory f) xs → IsCounted r (path_in directory f.name)
+    pub found_counted : (directory : List ℕ) (f : FileLineModel) → In (found_file directory f) xs → IsCounted r (path_in directory f.path)
     found_counted directory f has =
-        let line : FileLineModel = line_of directory f in
+        let line : FileLineModel = file_below directory f in
         let there : In line (files_of xs) = of_lists file_in line (found_file directory f) xs has (inl refl) in
-        contains (path_in directory f.name) (file_paths r.files.items)
+        contains (path_in directory f.path) (file_paths r.files.items)
         (of_mapped (λ (l : FileLineModel). l.path) line r.files.items
         (is_in line r.files.items (Contains-permutation _ _ line files (contains line (files_of xs) there))))
 
@@ -93,10 +93,10 @@ module _ (lists : ReportLists) (xs : List Found) (r : Report) (is : IsReportOf l
         skipped_by xs path kind reason x.0 x.1 x.2
 
     -- and the other way round
-    pub found_is_skipped : (directory : List ℕ) (l : SkippedModel) → In (found_skipped directory l) xs
-        → IsSkipped r (path_in directory l.name) l.reason
+    pub found_is_skipped : (directory : List ℕ) (l : SkippedLineModel) → In (found_skipped directory l) xs
+        → IsSkipped r (path_in directory l.path) l.reason
     found_is_skipped directory l has =
-        let line : SkippedLineModel = skipped_line directory l in (
+        let line : SkippedLineModel = skipped_below directory l in (
           l.kind,
           Contains-permutation _ _ line skipped_ones
               (contains line (skipped_lines_of xs) (of_lists skipped_lines_in line (found_skipped directory l) xs has (inl refl))),

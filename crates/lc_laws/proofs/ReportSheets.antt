@@ -7,7 +7,7 @@ use Rattle.std.proofs.lemmas.List.{map-append}
 use Rattle.std.proofs.lemmas.List.Elements.{All-cons, All-head, All-map, All-nil, All-tail, All-take, All-weaker}
 use Rattle.lc_level.specs.FaultLines.{FaultLineModel}
 use Rattle.lc_level.specs.FaultWords.{fault_word}
-use Rattle.lc_level.specs.Level.{Reason as SkipReason, named_git, by_rule, by_attribute, not_included, other_kind}
+use Rattle.lc_level.specs.Level.{FileLineModel, Reason as SkipReason, named_git, by_rule, by_attribute, not_included, other_kind}
 use Rattle.lc_level.specs.declared.fault_word.FaultWord.{FaultWord}
 use Rattle.lc_census.specs.declared.line_count.Eol.{Eol}
 use Rattle.lc_census.specs.declared.line_count.Eol.TheVariants as eol
@@ -34,7 +34,6 @@ use Rattle.lc_sheet.specs.declared.table_options.Columns.{Columns}
 use Rattle.lc_sheet.specs.declared.table_options.Format.TheVariants.{Table}
 use Rattle.lc_sheet.specs.declared.table_options.Format.{Format}
 use Rattle.lc_sheet.specs.declared.table_options.TableOptions.{TableOptions}
-use Rattle.lc_walk.specs.ReportLines.{FileLineModel, SkippedLineModel}
 use Rattle.lc_walk.specs.declared.report.Report.{Report}
 use Rattle.lc_walk.specs.declared.tally.sums.Sums.{Sums}
 use Rattle.lc_rows.specs.Kinds.{NamedSumsModel, directory_value, extension_value, fault_value, file_value, kept_value, named_in, place_value}
@@ -51,6 +50,7 @@ use Rattle.lc_rows.specs.Words.{skipped_end}
 use Rattle.lc_formats.specs.Layouts.{has_no_end}
 use Rattle.lc_formats.specs.Readable.{AreBytes, AreReadable, AreRows, EndsInNumbers, IsListed, IsNumeral, IsPlain, IsReadable, IsTabular}
 use Rattle.lc_laws.specs.SheetReadable.{HasByteName, HasByteNames, HasSkippedBytes, IsReadableSheet, ReadableSheetLaw}
+use Rattle.lc_level.specs.Level.{SkippedLineModel}
 
 -- ---- words
 

@@ -3,18 +3,17 @@ use Rattle.std.proofs.Common.{◌≡◌, ℕ, zero, suc, ◌+◌, Bool, true, fa
 use Rattle.std.proofs.Common.{arith, Option, Some, None, Result, Ok, Err, length-append}
 use Rattle.std.proofs.lemmas.Bool.{and_parts}
 use Rattle.std.specs.List.{list_all, AllByRecursion}
-use Rattle.lc_explain.specs.Explain.{top_texts_of}
-use Rattle.lc_explain.specs.Explained.{Explanation, below, cited, said_for, said_beside, kind_asked, is_directory, OnTheWay, said_of_none}
-use Rattle.lc_explain.specs.Explained.{OnEntering, IsSaid}
-use Rattle.lc_explain.specs.OpenDirs.{OpenDirModel, DirStack, open_dir, MayEnter, kind_in, TopTextsModel}
-use Rattle.lc_explain.specs.declared.explain_options.ExplainOptions.{ExplainOptions}
-use Rattle.lc_explain.proofs.PathSegments.{good_path}
+use Rattle.lc_paths.specs.Explanations.Explained.{Explanation, below, cited, said_for, said_beside, kind_asked, is_directory, OnTheWay}
+use Rattle.lc_paths.specs.Explanations.Explained.{said_of_none, OnEntering, IsSaid}
+use Rattle.lc_paths.specs.Explanations.OpenDirs.{OpenDirModel, DirStack, open_dir, MayEnter, kind_in}
+use Rattle.lc_paths.specs.declared.explaining.explain_options.ExplainOptions.{ExplainOptions}
+use Rattle.lc_paths.proofs.Explanations.PathSegments.{good_path}
 use Rattle.lc_glob.specs.Path.{segments_of, is_good_name}
 use Rattle.lc_level.specs.Answers.{Answers, no_answers, Tree}
 use Rattle.lc_level.specs.FaultLines.{FaultLineModel}
 use Rattle.lc_level.specs.Job.{JobModel}
 use Rattle.lc_level.specs.Level.{Reason, reason_for, child_job}
-use Rattle.lc_level.specs.Selection.{SelectionModel}
+use Rattle.lc_level.specs.Filters.{FiltersModel}
 use Rattle.lc_level.specs.TreeAnswers.{MayAnswer}
 use Rattle.lc_level.specs.WellFormed.{IsWellFormed}
 use Rattle.lc_level.proofs.WellFormed.{IsGoodName, good_one}
@@ -61,10 +60,10 @@ good_names (n ∷ names) good =
 
 -- ---- down the path
 
-module _ (lists : List ℕ → Listings) (gives : List ℕ → Contents) (s : SelectionModel) (top_texts : TopTextsModel) (as_dir : Bool)
+module _ (lists : List ℕ → Listings) (gives : List ℕ → Contents) (s : FiltersModel) (as_dir : Bool)
     (x : Explanation) where
   abbrev Says : Entering → DirStack → OpenDirModel → List (List ℕ) → Type 0
-  Says E stack here names = IsSaid E s top_texts stack here names as_dir x
+  Says E stack here names = IsSaid E s stack here names as_dir x
 
   abbrev SaysBelow : Entering → DirStack → JobModel → List (List ℕ) → Type 0
   SaysBelow E stack j names = OnEntering E j x (λ here. Says E (stack ++ here ∷ []) here names)
@@ -115,10 +114,10 @@ module _ (lists : List ℕ → Listings) (gives : List ℕ → Contents) (s : Se
   found_on : (name next : List ℕ) (names : List (List ℕ)) → IsGoodName name → Found (next ∷ names) → Found (name ∷ next ∷ names)
   found_on name next names good rest stack here depth deep =
       on_way (reason_for s here.job name (kind_asked true (kind_in here.entries name))) (is_directory (kind_in here.entries name))
-      (λ reason. x ≡ said_for (cited top_texts stack) below reason)
+      (λ reason. x ≡ said_for (cited s stack) below reason)
       (SaysBelow (MayEnter lists gives) stack (child_job here.job name) (next ∷ names))
       (λ u. SaysBelow (EntersGiven lists gives u) stack (child_job here.job name) (next ∷ names))
-      (x ≡ said_beside s top_texts stack (child_job here.job name) (next ∷ names) as_dir) (suc depth)
+      (x ≡ said_beside s stack (child_job here.job name) (next ∷ names) as_dir) (suc depth)
       (by_entering (next ∷ names) rest stack (child_job here.job name) (suc depth)
       (ap length (names_of_path-path_in here.job.path name good)
       ∙ omega (arith, length-append (names_of_path here.job.path) (name ∷ []), deep)))
@@ -131,14 +130,14 @@ module _ (lists : List ℕ → Listings) (gives : List ℕ → Contents) (s : Se
 -- ---- by any answers
 
 module _ (Enters Onto : Entering) (more : (j : JobModel) (entered : Result OpenDirModel FaultLineModel) → Enters j entered → Onto j entered)
-    (s : SelectionModel) (top_texts : TopTextsModel) (as_dir : Bool) (x : Explanation) where
+    (s : FiltersModel) (as_dir : Bool) (x : Explanation) where
   abbrev Carried : List (List ℕ) → Type 0
   Carried names =
-      (stack : DirStack) (here : OpenDirModel) → IsSaid Enters s top_texts stack here names as_dir x
-      → IsSaid Onto s top_texts stack here names as_dir x
+      (stack : DirStack) (here : OpenDirModel) → IsSaid Enters s stack here names as_dir x
+      → IsSaid Onto s stack here names as_dir x
 
   abbrev SaidBelow : Entering → DirStack → JobModel → List (List ℕ) → Type 0
-  SaidBelow E stack j names = OnEntering E j x (λ here. IsSaid E s top_texts (stack ++ here ∷ []) here names as_dir x)
+  SaidBelow E stack j names = OnEntering E j x (λ here. IsSaid E s (stack ++ here ∷ []) here names as_dir x)
 
   pub carry_below : (names : List (List ℕ)) → Carried names → (stack : DirStack) (j : JobModel) → SaidBelow Enters stack j names
       → SaidBelow Onto stack j names
@@ -148,9 +147,9 @@ module _ (Enters Onto : Entering) (more : (j : JobModel) (entered : Result OpenD
   carry_on : (name next : List ℕ) (names : List (List ℕ)) → Carried (next ∷ names) → Carried (name ∷ next ∷ names)
   carry_on name next names rest stack here =
       map_way (reason_for s here.job name (kind_asked true (kind_in here.entries name))) (is_directory (kind_in here.entries name))
-      (λ reason. x ≡ said_for (cited top_texts stack) below reason) (SaidBelow Enters stack (child_job here.job name) (next ∷ names))
+      (λ reason. x ≡ said_for (cited s stack) below reason) (SaidBelow Enters stack (child_job here.job name) (next ∷ names))
       (SaidBelow Onto stack (child_job here.job name) (next ∷ names))
-      (x ≡ said_beside s top_texts stack (child_job here.job name) (next ∷ names) as_dir)
+      (x ≡ said_beside s stack (child_job here.job name) (next ∷ names) as_dir)
       (λ none there. carry_below (next ∷ names) rest stack (child_job here.job name))
 
   -- what is said by the one is said by the other
@@ -163,11 +162,8 @@ module _ (Enters Onto : Entering) (more : (j : JobModel) (entered : Result OpenD
 
 module _ (lists : List ℕ → Listings) (gives : List ℕ → Contents) (q : ExplainOptions) (path : List ℕ) (as_dir : Bool) (x : Explanation)
   where
-    abbrev top_texts : TopTextsModel
-    top_texts = top_texts_of q
-
     abbrev FromTop : Entering → Type 0
-    FromTop E = OnEntering E (top_asked q) x (λ here. IsSaid E q.selection top_texts (here ∷ []) here (segments_of path) as_dir x)
+    FromTop E = OnEntering E (top_asked q) x (λ here. IsSaid E q.filters.now (here ∷ []) here (segments_of path) as_dir x)
 
     abbrev FromTopOr : Entering → Bool → Type 0
     FromTopOr E b = cond b (x ≡ said_of_none path) (FromTop E)
@@ -180,16 +176,16 @@ module _ (lists : List ℕ → Listings) (gives : List ℕ → Contents) (q : Ex
     }
     by_path false is said =
         let good = good_names (segments_of path) (good_path path is) in
-        let r = by_entering lists gives q.selection top_texts as_dir x (segments_of path)
-        (found lists gives q.selection top_texts as_dir x (segments_of path) good) [] (top_asked q) 0 refl said in
+        let r = by_entering lists gives q.filters.now as_dir x (segments_of path)
+        (found lists gives q.filters.now as_dir x (segments_of path) good) [] (top_asked q) 0 refl said in
         let u : Tree = by_depth r.answers in
         let given : FromTop (EntersGiven lists gives u) = r.so u (by_depth_follows r.answers) in
         record {
           answers = u;
           says = subst (FromTopOr (EntersBy u)) (sym is)
-              (carry_below (EntersGiven lists gives u) (EntersBy u) (λ j entered e. e.enters) q.selection top_texts as_dir x
+              (carry_below (EntersGiven lists gives u) (EntersBy u) (λ j entered e. e.enters) q.filters.now as_dir x
               (segments_of path)
-              (carried (EntersGiven lists gives u) (EntersBy u) (λ j entered e. e.enters) q.selection top_texts as_dir x
+              (carried (EntersGiven lists gives u) (EntersBy u) (λ j entered e. e.enters) q.filters.now as_dir x
               (segments_of path)) [] (top_asked q) given);
           given = subst (FromTopOr (EntersGiven lists gives u)) (sym is) given;
         }

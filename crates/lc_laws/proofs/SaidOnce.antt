@@ -1,16 +1,15 @@
 -- Of each path one thing is said.
 use Rattle.std.proofs.Common.{◌≡◌, ℕ, Bool, true, false, cond, List, [], ◌∷◌, ◌++◌, refl, sym, ◌∙◌, subst, Option, Some, None, Result}
 use Rattle.std.proofs.Common.{Ok, Err, MatchResult}
-use Rattle.lc_explain.specs.Explain.{top_rules_of, top_texts_of}
-use Rattle.lc_explain.specs.Explained.{Explanation, faulted, below, cited, said_for, said_beside, kind_asked, is_directory, OnTheWay}
-use Rattle.lc_explain.specs.Explained.{said_of_none}
-use Rattle.lc_explain.specs.Explained.{OnEntering, IsSaid, IsExplained}
-use Rattle.lc_explain.specs.OpenDirs.{OpenDirModel, DirStack, MayEnter, kind_in, TopTextsModel}
+use Rattle.lc_paths.specs.Explanations.Explained.{Explanation, faulted, below, cited, said_for, said_beside, kind_asked, is_directory}
+use Rattle.lc_paths.specs.Explanations.Explained.{OnTheWay, said_of_none}
+use Rattle.lc_paths.specs.Explanations.Explained.{OnEntering, IsSaid, IsExplained}
+use Rattle.lc_paths.specs.Explanations.OpenDirs.{OpenDirModel, DirStack, MayEnter, kind_in}
 use Rattle.lc_glob.specs.Path.{segments_of}
 use Rattle.lc_level.specs.FaultLines.{FaultLineModel}
 use Rattle.lc_level.specs.Job.{JobModel}
 use Rattle.lc_level.specs.Level.{Reason, reason_for, child_job}
-use Rattle.lc_level.specs.Selection.{SelectionModel}
+use Rattle.lc_level.specs.Filters.{FiltersModel}
 use Rattle.lc_level.specs.TopJob.{top_job}
 use Rattle.lc_text.specs.PathLines.{is_bad_path}
 use Rattle.lc_tree.specs.Trees.{Listings, Contents}
@@ -28,7 +27,7 @@ on_one_way x y None true Skipped Other Into Onto Beside Near skipped_ones ins be
 on_one_way x y None false Skipped Other Into Onto Beside Near skipped_ones ins besides a b = besides a b
 
 module _ (Enters : Entering) (same_entered : (j : JobModel) (a b : Result OpenDirModel FaultLineModel) → Enters j a → Enters j b → a ≡ b)
-    (s : SelectionModel) (top_texts : TopTextsModel) (as_dir : Bool) (x y : Explanation) where
+    (s : FiltersModel) (as_dir : Bool) (x y : Explanation) where
   once_entered : (j : JobModel) (IsSaidBelow Tells : OpenDirModel → Type 0)
       → ((here : OpenDirModel) → IsSaidBelow here → Tells here → x ≡ y)
       → OnEntering Enters j x IsSaidBelow → OnEntering Enters j y Tells → x ≡ y
@@ -41,45 +40,45 @@ module _ (Enters : Entering) (same_entered : (j : JobModel) (a b : Result OpenDi
       ∙ sym (subst (λ (r : Result OpenDirModel FaultLineModel). MatchResult r Tells (λ f. y ≡ faulted f))
       (same_entered j other (Err fault) enters_too enters) told)
 
-  said_once : (names : List (List ℕ)) (stack : DirStack) (here : OpenDirModel) → IsSaid Enters s top_texts stack here names as_dir x
-      → IsSaid Enters s top_texts stack here names as_dir y → x ≡ y
+  said_once : (names : List (List ℕ)) (stack : DirStack) (here : OpenDirModel) → IsSaid Enters s stack here names as_dir x
+      → IsSaid Enters s stack here names as_dir y → x ≡ y
   said_once [] stack here a b = absurd a
   said_once (name ∷ []) stack here a b = a ∙ sym b
   said_once (name ∷ next ∷ names) stack here a b =
       on_one_way x y (reason_for s here.job name (kind_asked true (kind_in here.entries name))) (is_directory (kind_in here.entries name))
-      (λ r. x ≡ said_for (cited top_texts stack) below r) (λ r. y ≡ said_for (cited top_texts stack) below r)
+      (λ r. x ≡ said_for (cited s stack) below r) (λ r. y ≡ said_for (cited s stack) below r)
       (OnEntering Enters (child_job here.job name) x
-      (λ child. IsSaid Enters s top_texts (stack ++ child ∷ []) child (next ∷ names) as_dir x))
+      (λ child. IsSaid Enters s (stack ++ child ∷ []) child (next ∷ names) as_dir x))
       (OnEntering Enters (child_job here.job name) y
-      (λ child. IsSaid Enters s top_texts (stack ++ child ∷ []) child (next ∷ names) as_dir y))
-      (x ≡ said_beside s top_texts stack (child_job here.job name) (next ∷ names) as_dir)
-      (y ≡ said_beside s top_texts stack (child_job here.job name) (next ∷ names) as_dir)
+      (λ child. IsSaid Enters s (stack ++ child ∷ []) child (next ∷ names) as_dir y))
+      (x ≡ said_beside s stack (child_job here.job name) (next ∷ names) as_dir)
+      (y ≡ said_beside s stack (child_job here.job name) (next ∷ names) as_dir)
       (λ r e f. e ∙ sym f)
       (λ e f. once_entered (child_job here.job name) _ _ (λ child. said_once (next ∷ names) (stack ++ child ∷ []) child) e f)
       (λ e f. e ∙ sym f) a b
 
-  explained_once : (top : JobModel) (path : List ℕ) → IsExplained Enters s top_texts top path as_dir x
-      → IsExplained Enters s top_texts top path as_dir y → x ≡ y
-  explained_once top path = at (is_bad_path path)
+  explained_once : (path : List ℕ) → IsExplained Enters s path as_dir x
+      → IsExplained Enters s path as_dir y → x ≡ y
+  explained_once path = at (is_bad_path path)
     where
       at : (b : Bool)
-          → cond b (x ≡ said_of_none path) (OnEntering Enters top x
-          (λ here. IsSaid Enters s top_texts (here ∷ []) here (segments_of path) as_dir x))
-          → cond b (y ≡ said_of_none path) (OnEntering Enters top y
-          (λ here. IsSaid Enters s top_texts (here ∷ []) here (segments_of path) as_dir y)) → x ≡ y
+          → cond b (x ≡ said_of_none path) (OnEntering Enters (top_job s) x
+          (λ here. IsSaid Enters s (here ∷ []) here (segments_of path) as_dir x))
+          → cond b (y ≡ said_of_none path) (OnEntering Enters (top_job s) y
+          (λ here. IsSaid Enters s (here ∷ []) here (segments_of path) as_dir y)) → x ≡ y
       at true e f = e ∙ sym f
-      at false e f = once_entered top _ _ (λ here. said_once (segments_of path) (here ∷ []) here) e f
+      at false e f = once_entered (top_job s) _ _ (λ here. said_once (segments_of path) (here ∷ []) here) e f
 
 -- so it is by answers of which the same is read on the way
 pub answers_one_explanation : AnswersOneExplanationLaw
 answers_one_explanation t u q path as_dir x y listings agree said told =
-    explained_once (EntersBy t) (λ j a b one other. sym one ∙ other) q.selection (top_texts_of q) as_dir x y (top_asked q) path
-    said (said_by_way q.selection (top_texts_of q) as_dir y (top_asked q) refl t listings u path agree told)
+    explained_once (EntersBy t) (λ j a b one other. sym one ∙ other) q.filters.now as_dir x y path
+    said (said_by_way q.filters.now as_dir y t listings u path agree told)
 
 -- and of what may be said, where the tree answers in one way
 pub one_explanation : (lists : List ℕ → Listings) (gives : List ℕ → Contents) → OneExplanationLaw lists gives
 one_explanation lists gives one q path as_dir x y said told =
     explained_once (MayEnter lists gives)
     (λ j a b one_way other. sym one_way.gives_it
-    ∙ one_open_dir lists gives one q.selection j one_way.answers other.answers one_way.may other.may ∙ other.gives_it)
-    q.selection (top_texts_of q) as_dir x y (top_job (top_rules_of q)) path said told
+    ∙ one_open_dir lists gives one q.filters.now j one_way.answers other.answers one_way.may other.may ∙ other.gives_it)
+    q.filters.now as_dir x y path said told

@@ -2,9 +2,9 @@
 use Rattle.std.proofs.Common.{◌≡◌, ℕ, Bool, true, false, cond, List, [], ◌∷◌, ◌++◌, refl, sym, ◌∙◌, ap, subst, Option, Some, None, Result}
 use Rattle.std.proofs.Common.{Ok, Err, option_map, find, bytes_eq, append_assoc, inl, inr}
 use Rattle.std.specs.Option.{is_none}
-use Rattle.lc_explain.specs.Explained.{Explanation, below, cited, said_for, said_beside, kind_asked, is_directory, OnTheWay, said_of_none}
-use Rattle.lc_explain.specs.Explained.{OnEntering, IsSaid, IsExplained}
-use Rattle.lc_explain.specs.OpenDirs.{OpenDirModel, DirStack, open_dir, open_dir_of, open_dir_after, kind_in, TopTextsModel}
+use Rattle.lc_paths.specs.Explanations.Explained.{Explanation, below, cited, said_for, said_beside, kind_asked, is_directory, OnTheWay}
+use Rattle.lc_paths.specs.Explanations.Explained.{said_of_none, OnEntering, IsSaid, IsExplained}
+use Rattle.lc_paths.specs.Explanations.OpenDirs.{OpenDirModel, DirStack, open_dir, open_dir_of, open_dir_after, kind_in}
 use Rattle.lc_glob.proofs.Naming.{has_first}
 use Rattle.lc_glob.specs.Path.{segments_of}
 use Rattle.lc_level.specs.Answers.{Item, directory_item, name_of, entry_of, entries_of, Items, Answers, Tree}
@@ -12,7 +12,7 @@ use Rattle.lc_level.specs.FaultLines.{FaultLineModel}
 use Rattle.lc_level.specs.Job.{JobModel}
 use Rattle.lc_level.specs.Level.{Reason, reason_for, child_job}
 use Rattle.lc_level.specs.RuleFiles.{RuleBytes, rule_bytes, extended}
-use Rattle.lc_level.specs.Selection.{SelectionModel, narrowed}
+use Rattle.lc_level.specs.Filters.{FiltersModel, narrowed}
 use Rattle.lc_level.proofs.WellFormed.{same_bytes}
 use Rattle.lc_text.specs.PathLines.{is_bad_path}
 use Rattle.lc_tree.specs.Listing.{EntryModel}
@@ -27,6 +27,7 @@ use Rattle.lc_laws.specs.ByAnswers.{EntersBy, read_after, read_of, what_is_read,
 use Rattle.lc_laws.proofs.Items.{directory_is}
 use Rattle.lc_laws.proofs.OneWay.{Entering, entered_listed, place_names}
 use Rattle.lc_laws.proofs.TakingPart.{part_has}
+use Rattle.lc_level.specs.TopJob.{top_job}
 
 -- ---- one directory
 
@@ -69,7 +70,7 @@ dir_there (Some Dir) e = refl
 dir_there (Some (Other what)) e = absurd (cc e)
 
 -- where an explanation goes into a directory a walk of the whole tree does
-pub walked_into : (s : SelectionModel) (k : JobModel) (a : Answers) (here : OpenDirModel) → open_dir k a ≡ Ok here → (name : List ℕ)
+pub walked_into : (s : FiltersModel) (k : JobModel) (a : Answers) (here : OpenDirModel) → open_dir k a ≡ Ok here → (name : List ℕ)
     → kind_in here.entries name ≡ Some Dir → reason_for s here.job name (kind_asked true (kind_in here.entries name)) ≡ None
     → WalksInto (narrowed s []) k a name here.job
 walked_into s k a here is name kind none =
@@ -92,23 +93,23 @@ map_way (Some r) is_there Skipped Into Onto Beside on a = a
 map_way None true Skipped Into Onto Beside on a = on refl refl a
 map_way None false Skipped Into Onto Beside on a = a
 
-module _ (s : SelectionModel) (top_texts : TopTextsModel) (as_dir : Bool) (x : Explanation) (top : JobModel) (t : Tree) (path : List ℕ)
+module _ (s : FiltersModel) (as_dir : Bool) (x : Explanation) (t : Tree) (path : List ℕ)
     (Enters Onto : Entering)
     (known : (place : List (List ℕ)) (name : List ℕ) (names : List (List ℕ)) (k : JobModel) → segments_of path ≡ place ++ name ∷ names
-    → LeadsTo (narrowed s []) top t place k → (entered : Result OpenDirModel FaultLineModel) → Enters k entered
+    → LeadsTo (narrowed s []) (top_job s) t place k → (entered : Result OpenDirModel FaultLineModel) → Enters k entered
     → Onto k entered × (entered ≡ open_dir k (t place))) where
   -- what is said in a directory to which names lead, by the one, is said by the other
   abbrev Carried : List (List ℕ) → Type 0
   Carried names =
-      (place : List (List ℕ)) (stack : DirStack) (k : JobModel) (here : OpenDirModel) → LeadsTo (narrowed s []) top t place k
-      → open_dir k (t place) ≡ Ok here → segments_of path ≡ place ++ names → IsSaid Enters s top_texts stack here names as_dir x
-      → IsSaid Onto s top_texts stack here names as_dir x
+      (place : List (List ℕ)) (stack : DirStack) (k : JobModel) (here : OpenDirModel) → LeadsTo (narrowed s []) (top_job s) t place k
+      → open_dir k (t place) ≡ Ok here → segments_of path ≡ place ++ names → IsSaid Enters s stack here names as_dir x
+      → IsSaid Onto s stack here names as_dir x
 
   abbrev SaidBelow : Entering → DirStack → JobModel → List (List ℕ) → Type 0
-  SaidBelow E stack k names = OnEntering E k x (λ child. IsSaid E s top_texts (stack ++ child ∷ []) child names as_dir x)
+  SaidBelow E stack k names = OnEntering E k x (λ child. IsSaid E s (stack ++ child ∷ []) child names as_dir x)
 
   enter_on : (next : List ℕ) (names : List (List ℕ)) → Carried (next ∷ names) → (place : List (List ℕ)) (stack : DirStack)
-      (k : JobModel) → LeadsTo (narrowed s []) top t place k → segments_of path ≡ place ++ next ∷ names
+      (k : JobModel) → LeadsTo (narrowed s []) (top_job s) t place k → segments_of path ≡ place ++ next ∷ names
       → SaidBelow Enters stack k (next ∷ names) → SaidBelow Onto stack k (next ∷ names)
   enter_on next names rest place stack k leads cut (Ok child, enters, said) =
       let e = known place next names k cut leads (Ok child) enters in
@@ -119,13 +120,13 @@ module _ (s : SelectionModel) (top_texts : TopTextsModel) (as_dir : Bool) (x : E
   carry_on : (name next : List ℕ) (names : List (List ℕ)) → Carried (next ∷ names) → Carried (name ∷ next ∷ names)
   carry_on name next names rest place stack k here leads is cut =
       map_way (reason_for s here.job name (kind_asked true (kind_in here.entries name))) (is_directory (kind_in here.entries name))
-      (λ reason. x ≡ said_for (cited top_texts stack) below reason) (SaidBelow Enters stack (child_job here.job name) (next ∷ names))
+      (λ reason. x ≡ said_for (cited s stack) below reason) (SaidBelow Enters stack (child_job here.job name) (next ∷ names))
       (SaidBelow Onto stack (child_job here.job name) (next ∷ names))
-      (x ≡ said_beside s top_texts stack (child_job here.job name) (next ∷ names) as_dir)
+      (x ≡ said_beside s stack (child_job here.job name) (next ∷ names) as_dir)
       (λ none there.
       let leaves = walked_into s k (t place) here is name (dir_there (kind_in here.entries name) there) none in
       enter_on next names rest (place ++ name ∷ []) stack (child_job here.job name)
-      (leads_on (narrowed s []) place top k here.job name t leads leaves)
+      (leads_on (narrowed s []) place (top_job s) k here.job name t leads leaves)
       (cut ∙ sym (append_assoc place (name ∷ []) (next ∷ names))))
 
   carried : (names : List (List ℕ)) → Carried names
@@ -134,39 +135,39 @@ module _ (s : SelectionModel) (top_texts : TopTextsModel) (as_dir : Bool) (x : E
   carried (name ∷ next ∷ names) = carry_on name next names (carried (next ∷ names))
 
   -- so it is of the path
-  pub explained_on : IsExplained Enters s top_texts top path as_dir x → IsExplained Onto s top_texts top path as_dir x
+  pub explained_on : IsExplained Enters s path as_dir x → IsExplained Onto s path as_dir x
   explained_on = at (is_bad_path path)
     where
-      at : (b : Bool) → cond b (x ≡ said_of_none path) (SaidBelow Enters [] top (segments_of path))
-          → cond b (x ≡ said_of_none path) (SaidBelow Onto [] top (segments_of path))
+      at : (b : Bool) → cond b (x ≡ said_of_none path) (SaidBelow Enters [] (top_job s) (segments_of path))
+          → cond b (x ≡ said_of_none path) (SaidBelow Onto [] (top_job s) (segments_of path))
       at true e = e
       at false e =
           let h = has_first path in
-          subst (SaidBelow Onto [] top) (sym h.are)
-          (enter_on h.first h.others (carried (h.first ∷ h.others)) [] [] top refl h.are (subst (SaidBelow Enters [] top) h.are e))
+          subst (SaidBelow Onto [] (top_job s)) (sym h.are)
+          (enter_on h.first h.others (carried (h.first ∷ h.others)) [] [] (top_job s) refl h.are
+          (subst (SaidBelow Enters [] (top_job s)) h.are e))
 
 -- ---- two trees of answers
 
 -- what is said by one is said by another, where the same is read on the way
-pub said_by_way : (s : SelectionModel) (top_texts : TopTextsModel) (as_dir : Bool) (x : Explanation) (top : JobModel) → top.path ≡ []
-    → (t : Tree)
-    → HasListings (narrowed s []) top t → (u : Tree) (path : List ℕ) → AgreeOnWay (narrowed s []) top t u path
-    → IsExplained (EntersBy u) s top_texts top path as_dir x → IsExplained (EntersBy t) s top_texts top path as_dir x
-said_by_way s top_texts as_dir x top at_top t listings u path agree =
-    explained_on s top_texts as_dir x top t path (EntersBy u) (EntersBy t)
+pub said_by_way : (s : FiltersModel) (as_dir : Bool) (x : Explanation) (t : Tree)
+    → HasListings (narrowed s []) (top_job s) t → (u : Tree) (path : List ℕ) → AgreeOnWay (narrowed s []) (top_job s) t u path
+    → IsExplained (EntersBy u) s path as_dir x → IsExplained (EntersBy t) s path as_dir x
+said_by_way s as_dir x t listings u path agree =
+    explained_on s as_dir x t path (EntersBy u) (EntersBy t)
     (λ place name names k cut leads entered enters.
     let there : names_of_path k.path ≡ place =
-    place_names (narrowed s []) place top k t listings leads ∙ ap (λ p. names_of_path p ++ place) at_top in
+    place_names (narrowed s []) place (top_job s) k t listings leads in
     let same : entered ≡ open_dir k (t place) =
     sym enters ∙ ap (λ p. open_dir k (u p)) there ∙ as_read k (u place)
     ∙ ap (opened k) (sym (agree place name names k cut leads)) ∙ sym (as_read k (t place)) in
     (ap (λ p. open_dir k (t p)) there ∙ sym same, same))
 
 -- so it is where no path alone is asked for
-pub said_by_other : (s : SelectionModel) → s.only ≡ [] → (top_texts : TopTextsModel) (as_dir : Bool) (x : Explanation) (top : JobModel)
-    → top.path ≡ [] → (t : Tree) → HasListings s top t → (u : Tree) (path : List ℕ) → AgreeOnWay s top t u path
-    → IsExplained (EntersBy u) s top_texts top path as_dir x → IsExplained (EntersBy t) s top_texts top path as_dir x
-said_by_other s whole top_texts as_dir x top at_top t listings u path agree =
+pub said_by_other : (s : FiltersModel) → s.only ≡ [] → (as_dir : Bool) (x : Explanation) (t : Tree) → HasListings s (top_job s) t
+    → (u : Tree) (path : List ℕ) → AgreeOnWay s (top_job s) t u path
+    → IsExplained (EntersBy u) s path as_dir x → IsExplained (EntersBy t) s path as_dir x
+said_by_other s whole as_dir x t listings u path agree =
     let same : s ≡ narrowed s [] = ap (narrowed s) whole in
-    said_by_way s top_texts as_dir x top at_top t (subst (λ (w : SelectionModel). HasListings w top t) same listings) u path
-    (subst (λ (w : SelectionModel). AgreeOnWay w top t u path) same agree)
+    said_by_way s as_dir x t (subst (λ (w : FiltersModel). HasListings w (top_job s) t) same listings) u path
+    (subst (λ (w : FiltersModel). AgreeOnWay w (top_job s) t u path) same agree)

@@ -2,16 +2,15 @@
 use Rattle.std.proofs.Common.{◌≡◌, ℕ, Bool, true, false, cond, List, [], ◌∷◌, ◌++◌, refl, sym, ◌∙◌, ap, subst, Option, Some, None}
 use Rattle.std.proofs.Common.{Ok, Err, append_assoc}
 use Rattle.std.specs.List.{Contains}
-use Rattle.lc_explain.specs.Explain.{top_texts_of}
-use Rattle.lc_explain.specs.Explained.{Explanation, below, cited, said_for, said_of, said_beside, kind_asked, is_directory, OnTheWay}
-use Rattle.lc_explain.specs.Explained.{said_of_none}
-use Rattle.lc_explain.specs.Explained.{OnEntering, IsSaid}
-use Rattle.lc_explain.specs.OpenDirs.{OpenDirModel, DirStack, open_dir, kind_in, TopTextsModel}
+use Rattle.lc_paths.specs.Explanations.Explained.{Explanation, below, cited, said_for, said_of, said_beside, kind_asked, is_directory}
+use Rattle.lc_paths.specs.Explanations.Explained.{OnTheWay, said_of_none}
+use Rattle.lc_paths.specs.Explanations.Explained.{OnEntering, IsSaid}
+use Rattle.lc_paths.specs.Explanations.OpenDirs.{OpenDirModel, DirStack, open_dir, kind_in}
 use Rattle.lc_glob.specs.Path.{segments_of}
 use Rattle.lc_level.specs.Answers.{Item, entry_of, entries_of, Answers, Tree}
 use Rattle.lc_level.specs.Job.{JobModel}
 use Rattle.lc_level.specs.Level.{Reason, reason_for, child_job}
-use Rattle.lc_level.specs.Selection.{SelectionModel, narrowed}
+use Rattle.lc_level.specs.Filters.{FiltersModel, narrowed}
 use Rattle.lc_level.specs.WellFormed.{IsWellFormed}
 use Rattle.lc_text.specs.PathLines.{is_bad_path}
 use Rattle.lc_tree.specs.Listing.{EntryModel}
@@ -45,11 +44,11 @@ found_kind k a here well_formed is name kind has =
     ∙ subst (λ n. kind_in (entries_of l.items) n ≡ Some (entry_of i.item).kind) i.named (kind_found l.items spread i.item i.has)
     ∙ ap (λ (d : Kind). Some d) i.kind_is
 
-module _ (s : SelectionModel) (top_texts : TopTextsModel) (x : Explanation) (top : JobModel) (t : Tree)
+module _ (s : FiltersModel) (x : Explanation) (top : JobModel) (t : Tree)
     (known : IsKnown (EntersBy t) (narrowed s []) top t) (path : List ℕ) (entry : IsEntryBy (narrowed s []) top t path Dir) where
   abbrev SaidBelow : Bool → DirStack → JobModel → List (List ℕ) → Type 0
   SaidBelow as_dir stack k names =
-      OnEntering (EntersBy t) k x (λ here. IsSaid (EntersBy t) s top_texts (stack ++ here ∷ []) here names as_dir x)
+      OnEntering (EntersBy t) k x (λ here. IsSaid (EntersBy t) s (stack ++ here ∷ []) here names as_dir x)
 
   abbrev Alike : List (List ℕ) → Type 0
   Alike names =
@@ -74,8 +73,8 @@ module _ (s : SelectionModel) (top_texts : TopTextsModel) (x : Explanation) (top
       kind_there place k here name [] leads cut enters Dir (λ items is. entry place name [] k items cut leads is) in (
         Ok here,
         enters,
-        said ∙ ap (λ (o : Option Kind). said_of s top_texts (stack ++ here ∷ []) here.job name (kind_asked true o)) there
-            ∙ sym (ap (λ (o : Option Kind). said_of s top_texts (stack ++ here ∷ []) here.job name (kind_asked false o)) there),
+        said ∙ ap (λ (o : Option Kind). said_of s (stack ++ here ∷ []) here.job name (kind_asked true o)) there
+            ∙ sym (ap (λ (o : Option Kind). said_of s (stack ++ here ∷ []) here.job name (kind_asked false o)) there),
       )
 
   on_alike : (name next : List ℕ) (names : List (List ℕ)) → Alike (next ∷ names) → Alike (name ∷ next ∷ names)
@@ -87,11 +86,11 @@ module _ (s : SelectionModel) (top_texts : TopTextsModel) (x : Explanation) (top
         Ok here,
         enters,
         on_a_directory (reason_for s here.job name (kind_asked true (kind_in here.entries name))) (is_directory (kind_in here.entries name))
-            (λ r. x ≡ said_for (cited top_texts (stack ++ here ∷ [])) below r)
+            (λ r. x ≡ said_for (cited s (stack ++ here ∷ [])) below r)
             (SaidBelow true (stack ++ here ∷ []) (child_job here.job name) (next ∷ names))
             (SaidBelow false (stack ++ here ∷ []) (child_job here.job name) (next ∷ names))
-            (x ≡ said_beside s top_texts (stack ++ here ∷ []) (child_job here.job name) (next ∷ names) true)
-            (x ≡ said_beside s top_texts (stack ++ here ∷ []) (child_job here.job name) (next ∷ names) false)
+            (x ≡ said_beside s (stack ++ here ∷ []) (child_job here.job name) (next ∷ names) true)
+            (x ≡ said_beside s (stack ++ here ∷ []) (child_job here.job name) (next ∷ names) false)
             (ap is_directory there)
             (λ none.
             let leaves = walked_into s k (t place) here (is_entered place k here leads enters) name there none in
@@ -109,18 +108,18 @@ module _ (s : SelectionModel) (top_texts : TopTextsModel) (x : Explanation) (top
 pub answers_slash_law : AnswersSlashLaw
 answers_slash_law t q path x listings entry = at (is_bad_path path)
   where
-    s : SelectionModel
-    s = q.selection
+    s : FiltersModel
+    s = q.filters.now
 
     top : JobModel
     top = top_asked q
 
     at : (b : Bool)
         → cond b (x ≡ said_of_none path) (OnEntering (EntersBy t) top x
-        (λ here. IsSaid (EntersBy t) s (top_texts_of q) (here ∷ []) here (segments_of path) true x))
+        (λ here. IsSaid (EntersBy t) s (here ∷ []) here (segments_of path) true x))
         → cond b (x ≡ said_of_none path) (OnEntering (EntersBy t) top x
-        (λ here. IsSaid (EntersBy t) s (top_texts_of q) (here ∷ []) here (segments_of path) false x))
+        (λ here. IsSaid (EntersBy t) s (here ∷ []) here (segments_of path) false x))
     at true e = e
     at false said =
-        alike s (top_texts_of q) x top t (known_by_tree (narrowed s []) top t refl listings) path entry (segments_of path) [] []
+        alike s x top t (known_by_tree (narrowed s []) top t refl listings) path entry (segments_of path) [] []
         top refl refl said

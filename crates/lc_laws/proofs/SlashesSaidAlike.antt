@@ -1,17 +1,16 @@
 -- What is said of a directory's path, with and without a slash at its end.
 use Rattle.std.proofs.Common.{◌≡◌, ℕ, Bool, true, false, cond, List, [], ◌∷◌, ◌++◌, sym, ◌∙◌, ap, subst, Option, Some, None, Ok, Err}
 use Rattle.std.specs.List.{Contains}
-use Rattle.lc_explain.specs.Explain.{top_rules_of, top_texts_of}
-use Rattle.lc_explain.specs.Explained.{Explanation, below, cited, said_for, said_of, said_beside, kind_asked, is_directory, OnTheWay}
-use Rattle.lc_explain.specs.Explained.{said_of_none}
-use Rattle.lc_explain.specs.Explained.{OnEntering, IsSaid}
-use Rattle.lc_explain.specs.OpenDirs.{OpenDirModel, DirStack, MayEnter, kind_in, TopTextsModel}
+use Rattle.lc_paths.specs.Explanations.Explained.{Explanation, below, cited, said_for, said_of, said_beside, kind_asked, is_directory}
+use Rattle.lc_paths.specs.Explanations.Explained.{OnTheWay, said_of_none}
+use Rattle.lc_paths.specs.Explanations.Explained.{OnEntering, IsSaid}
+use Rattle.lc_paths.specs.Explanations.OpenDirs.{OpenDirModel, DirStack, MayEnter, kind_in}
 use Rattle.lc_glob.specs.Path.{path_in, segments_of}
 use Rattle.lc_level.specs.Answers.{entry_of, entries_of, Items}
 use Rattle.lc_level.specs.Job.{JobModel}
 use Rattle.lc_level.specs.Level.{Reason, reason_for, child_job}
 use Rattle.lc_level.specs.OneAnswer.{GivesOne}
-use Rattle.lc_level.specs.Selection.{SelectionModel}
+use Rattle.lc_level.specs.Filters.{FiltersModel}
 use Rattle.lc_level.specs.TopJob.{top_job}
 use Rattle.lc_level.specs.TreeAnswers.{MayList}
 use Rattle.lc_text.specs.PathLines.{is_bad_path}
@@ -32,12 +31,11 @@ on_a_directory (Some r) is_there Skipped Into Onto Beside Near e on a = a
 on_a_directory None true Skipped Into Onto Beside Near e on a = on a
 on_a_directory None false Skipped Into Onto Beside Near e on a = absurd (cc e)
 
-module _ (lists : List ℕ → Listings) (gives : List ℕ → Contents) (one : GivesOne lists gives) (s : SelectionModel)
-    (top_texts : TopTextsModel)
+module _ (lists : List ℕ → Listings) (gives : List ℕ → Contents) (one : GivesOne lists gives) (s : FiltersModel)
     (x : Explanation) where
   abbrev IsSaidBelow : Bool → DirStack → JobModel → List (List ℕ) → Type 0
   IsSaidBelow as_dir stack j names =
-      OnEntering (MayEnter lists gives) j x (λ here. IsSaid (MayEnter lists gives) s top_texts (stack ++ here ∷ []) here names as_dir x)
+      OnEntering (MayEnter lists gives) j x (λ here. IsSaid (MayEnter lists gives) s (stack ++ here ∷ []) here names as_dir x)
 
   -- what is listed there is found in the directory that was entered
   listed_kind : (j : JobModel) (here : OpenDirModel) (name : List ℕ) (kind : Kind) → MayEnter lists gives j (Ok here)
@@ -65,8 +63,8 @@ module _ (lists : List ℕ → Listings) (gives : List ℕ → Contents) (one : 
       let there = (listed_kind j here name Dir enters down).0 in (
         Ok here,
         enters,
-        said ∙ ap (λ (o : Option Kind). said_of s top_texts (stack ++ here ∷ []) here.job name (kind_asked true o)) there
-            ∙ sym (ap (λ (o : Option Kind). said_of s top_texts (stack ++ here ∷ []) here.job name (kind_asked false o)) there),
+        said ∙ ap (λ (o : Option Kind). said_of s (stack ++ here ∷ []) here.job name (kind_asked true o)) there
+            ∙ sym (ap (λ (o : Option Kind). said_of s (stack ++ here ∷ []) here.job name (kind_asked false o)) there),
       )
   said_alike (name ∷ next ∷ names) stack j down (Err fault, enters, said) = (Err fault, enters, said)
   said_alike (name ∷ next ∷ names) stack j down (Ok here, enters, said) =
@@ -76,11 +74,11 @@ module _ (lists : List ℕ → Listings) (gives : List ℕ → Contents) (one : 
         Ok here,
         enters,
         on_a_directory (reason_for s here.job name (kind_asked true (kind_in here.entries name))) (is_directory (kind_in here.entries name))
-            (λ r. x ≡ said_for (cited top_texts (stack ++ here ∷ [])) below r)
+            (λ r. x ≡ said_for (cited s (stack ++ here ∷ [])) below r)
             (IsSaidBelow true (stack ++ here ∷ []) (child_job here.job name) (next ∷ names))
             (IsSaidBelow false (stack ++ here ∷ []) (child_job here.job name) (next ∷ names))
-            (x ≡ said_beside s top_texts (stack ++ here ∷ []) (child_job here.job name) (next ∷ names) true)
-            (x ≡ said_beside s top_texts (stack ++ here ∷ []) (child_job here.job name) (next ∷ names) false)
+            (x ≡ said_beside s (stack ++ here ∷ []) (child_job here.job name) (next ∷ names) true)
+            (x ≡ said_beside s (stack ++ here ∷ []) (child_job here.job name) (next ∷ names) false)
             (ap is_directory there.0)
             (said_alike (next ∷ names) (stack ++ here ∷ []) (child_job here.job name) below_here) said,
       )
@@ -89,13 +87,13 @@ module _ (lists : List ℕ → Listings) (gives : List ℕ → Contents) (one : 
 pub slash_law : (lists : List ℕ → Listings) (gives : List ℕ → Contents) → SlashLaw lists gives
 slash_law lists gives one q path x entry = at (is_bad_path path)
   where
-    s : SelectionModel
-    s = q.selection
+    s : FiltersModel
+    s = q.filters.now
 
     top : JobModel
-    top = top_job (top_rules_of q)
+    top = top_job q.filters.now
 
-    at : (b : Bool) → cond b (x ≡ said_of_none path) (IsSaidBelow lists gives one s (top_texts_of q) x true [] top (segments_of path))
-        → cond b (x ≡ said_of_none path) (IsSaidBelow lists gives one s (top_texts_of q) x false [] top (segments_of path))
+    at : (b : Bool) → cond b (x ≡ said_of_none path) (IsSaidBelow lists gives one s x true [] top (segments_of path))
+        → cond b (x ≡ said_of_none path) (IsSaidBelow lists gives one s x false [] top (segments_of path))
     at true e = e
-    at false said = said_alike lists gives one s (top_texts_of q) x (segments_of path) [] top entry said
+    at false said = said_alike lists gives one s x (segments_of path) [] top entry said

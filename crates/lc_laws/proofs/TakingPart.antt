@@ -3,17 +3,17 @@ use Rattle.std.proofs.Common.{◌≡◌, ℕ, List, [], sym, ◌∙◌, ap, subs
 use Rattle.std.specs.List.{Contains}
 use Rattle.lc_level.specs.Answers.{Item}
 use Rattle.lc_level.specs.Narrowing.{part_of}
-use Rattle.lc_level.specs.Selection.{SelectionModel}
+use Rattle.lc_level.specs.Filters.{FiltersModel}
 use Rattle.lc_level.proofs.AskedPaths.{all_take_part}
 use Rattle.lc_walk.proofs.Elements.{In, is_in, contains}
 use Rattle.lc_walk.proofs.TakingPart.{in_filter}
 
 -- an item that takes part is one of the items
-pub in_part : (s : SelectionModel) (d : List ℕ) (item : Item) (items : List Item) → Contains (part_of s.only d items) item → In item items
+pub in_part : (s : FiltersModel) (d : List ℕ) (item : Item) (items : List Item) → Contains (part_of s.only d items) item → In item items
 in_part s d item items has = (in_filter _ item items (is_in item (part_of s.only d items) has)).0
 
 -- where no path is asked for each item takes part
-pub part_has : (s : SelectionModel) → s.only ≡ [] → (d : List ℕ) (item : Item) (items : List Item) → In item items
+pub part_has : (s : FiltersModel) → s.only ≡ [] → (d : List ℕ) (item : Item) (items : List Item) → In item items
     → Contains (part_of s.only d items) item
 part_has s whole d item items has =
     subst (λ xs. Contains xs item) (sym (ap (λ only. part_of only d items) whole ∙ all_take_part d items)) (contains item items has)

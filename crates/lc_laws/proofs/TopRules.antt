@@ -13,7 +13,7 @@ use Rattle.lc_level.specs.OneAnswer.{GivesOne}
 use Rattle.lc_level.specs.RuleFiles.{listing, Pair, RuleBytes, file_named, ignore_named, has_directory, has_git, and_then, reading}
 use Rattle.lc_level.specs.RuleFiles.{both_read, info_items}
 use Rattle.lc_level.specs.RuleFiles.{info_bytes, own_bytes, rule_bytes, with_file_at, first_of}
-use Rattle.lc_level.specs.TopJob.{top_job, own_rules}
+use Rattle.lc_level.specs.TopJob.{top_job}
 use Rattle.lc_level.specs.TreeAnswers.{MayHave, MayList, MayAnswer, items_of}
 use Rattle.lc_level.proofs.WellFormed.{same_bytes, bytes_same}
 use Rattle.lc_rules.specs.IgnoreChains.{ChainModel, rules_in}
@@ -30,7 +30,7 @@ use Rattle.lc_walk.specs.GivenAnswers.{HasListings, IsGiven}
 use Rattle.lc_walk.proofs.Elements.{In, contains, of_mapped}
 use Rattle.lc_laws.specs.CountsChecked.{HasTopRules, ReadsTopRules}
 use Rattle.lc_laws.specs.Entries.{HasListed}
-use Rattle.lc_laws.proofs.Checking.{plain}
+use Rattle.lc_level.specs.Filters.{no_filters}
 use Rattle.lc_laws.proofs.Items.{IsItem, named_item, has_listed}
 use Rattle.lc_laws.proofs.OneWay.{place_names}
 
@@ -223,11 +223,12 @@ none_added j a items inside rules listed none chain = both_are j a items inside 
 -- below the top nothing is read
 abbrev ReadsNone : JobModel → Tree → Type 0
 ReadsNone j u =
-    (place : List (List ℕ)) (k : JobModel) (items : List Item) (files : RuleBytes) → LeadsTo plain j u place k → (u place).here ≡ Ok items
+    (place : List (List ℕ)) (k : JobModel) (items : List Item) (files : RuleBytes) → LeadsTo no_filters j u place k
+    → (u place).here ≡ Ok items
     → rule_bytes k.ignore.no_ignore k.path items (u place) ≡ Ok files → (files.info.rules ≡ None) × (files.own.rules ≡ None)
 
 lower : (rules : List RuleModel) (place : List (List ℕ)) (j : JobModel) (u : Tree) → ReadsNone j u → j.ignore ≡ top_chain rules
-    → (k : JobModel) → LeadsTo plain j u place k → (items : List Item) (inside : JobModel) → IsListed k (u place) items inside
+    → (k : JobModel) → LeadsTo no_filters j u place k → (items : List Item) (inside : JobModel) → IsListed k (u place) items inside
     → inside.ignore ≡ top_chain rules
 lower rules [] j u none chain k leads items inside listed =
     let here : IsListed j (u []) items inside = subst (λ (i : JobModel). IsListed i (u []) items inside) (sym leads) listed in
@@ -237,16 +238,16 @@ lower rules (n ∷ place) j u none chain k (within, leaves, leads) items inside 
     lower rules place (child_job within n) (λ p. u (n ∷ p)) (λ p i es files on. none (n ∷ p) i es files (within, leaves, on))
     (none_added j (u []) leaves.items within rules l (none [] j leaves.items l.bytes refl l.here l.read) chain) k leads items inside listed
 
-module _ (t : Tree) (bytes : List ℕ) (reads : ReadsTopRules plain (top_job own_rules) t bytes) where
+module _ (t : Tree) (bytes : List ℕ) (reads : ReadsTopRules no_filters (top_job no_filters) t bytes) where
   -- at the top the rules are those of its file
-  at_top : (items : List Item) (inside : JobModel) → IsListed (top_job own_rules) (t []) items inside
+  at_top : (items : List Item) (inside : JobModel) → IsListed (top_job no_filters) (t []) items inside
       → inside.ignore ≡ top_chain (rules_of bytes)
   at_top items inside listed =
-      let r = reads [] (top_job own_rules) items listed.bytes refl listed.here listed.read in
-      both_are (top_job own_rules) (t []) items inside listed None (Some bytes) r.0 r.1
+      let r = reads [] (top_job no_filters) items listed.bytes refl listed.here listed.read in
+      both_are (top_job no_filters) (t []) items inside listed None (Some bytes) r.0 r.1
 
   -- so these rules hold in each directory to which names lead
-  pub rules_at : (place : List (List ℕ)) (k : JobModel) → LeadsTo plain (top_job own_rules) t place k → (items : List Item)
+  pub rules_at : (place : List (List ℕ)) (k : JobModel) → LeadsTo no_filters (top_job no_filters) t place k → (items : List Item)
       (inside : JobModel) → IsListed k (t place) items inside → rules_in inside.ignore ≡ at_depth 0 (rules_of bytes)
   rules_at [] k leads items inside listed =
       top_chain_rules inside.ignore (rules_of bytes)
@@ -296,7 +297,8 @@ module _ (lists : List ℕ → Listings) (gives : List ℕ → Contents) (one : 
           absurd (has.no_other path some (entry_listed path items (file_item (codes ".gitignore") f.0 (Ok text))
           (all_listed path a items may here) f.1))
 
-  module _ (t : Tree) (listings : HasListings plain (top_job own_rules) t) (given : IsGiven lists gives plain (top_job own_rules) t) where
+  module _ (t : Tree) (listings : HasListings no_filters (top_job no_filters) t)
+      (given : IsGiven lists gives no_filters (top_job no_filters) t) where
     -- at the top those of its file are
     top_read : (items : List Item) (files : RuleBytes) → (t []).here ≡ Ok items → rule_bytes false [] items (t []) ≡ Ok files
         → (files.info.rules ≡ None) × (files.own.rules ≡ Some bytes)
@@ -305,7 +307,7 @@ module _ (lists : List ℕ → Listings) (gives : List ℕ → Contents) (one : 
         (info files.info.rules (info_items_of false (t []) (has_git [] items) files.info r.info), own files.own.rules r.own)
       where
         answers : MayAnswer lists gives [] (t [])
-        answers = given [] (top_job own_rules) refl
+        answers = given [] (top_job no_filters) refl
 
         may : MayList lists gives [] (Ok items)
         may = all_listed [] (t []) items answers here
@@ -329,7 +331,8 @@ module _ (lists : List ℕ → Listings) (gives : List ℕ → Contents) (one : 
 
         there : IsItem items (codes ".gitignore") File
         there = named_item items (codes ".gitignore") File
-            (has_listed lists gives one plain (top_job own_rules) t given [] (top_job own_rules) items refl here (codes ".gitignore") File
+            (has_listed lists gives one no_filters (top_job no_filters) t given [] (top_job no_filters) items refl here
+            (codes ".gitignore") File
             has.there)
 
         entry_is : (e : EntryModel) → e.name ≡ codes ".gitignore" → e.kind ≡ File → e ≡ record { name = codes ".gitignore"; kind = File }
@@ -347,15 +350,15 @@ module _ (lists : List ℕ → Listings) (gives : List ℕ → Contents) (one : 
             let is : text ≡ bytes = cc same in
             ap Some is
 
-    below_path : (name : List ℕ) (place : List (List ℕ)) (k : JobModel) → LeadsTo plain (top_job own_rules) t (name ∷ place) k → k.path ≡ []
-        → ⊥
+    below_path : (name : List ℕ) (place : List (List ℕ)) (k : JobModel)
+        → LeadsTo no_filters (top_job no_filters) t (name ∷ place) k → k.path ≡ [] → ⊥
     below_path name place k leads none =
         let names : [] ≡ name ∷ place =
-        sym (ap names_of_path none) ∙ place_names plain (name ∷ place) (top_job own_rules) k t listings leads in
+        sym (ap names_of_path none) ∙ place_names no_filters (name ∷ place) (top_job no_filters) k t listings leads in
         absurd (cc names)
 
     -- so the only ignore file that is read is the top's
-    pub reads_by_lists : ReadsTopRules plain (top_job own_rules) t bytes
+    pub reads_by_lists : ReadsTopRules no_filters (top_job no_filters) t bytes
     reads_by_lists [] k items files leads here read =
         top_read items files here (subst (λ (j : JobModel). rule_bytes j.ignore.no_ignore j.path items (t []) ≡ Ok files) (sym leads) read)
     reads_by_lists (n ∷ place) k items files leads here read =

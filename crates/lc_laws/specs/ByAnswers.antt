@@ -1,16 +1,16 @@
 -- What is said of a path by given answers: one state of a tree's directories, as far as an explanation asked for it.
 use Rattle.std.specs.Prelude.{◌≡◌, ℕ, Bool, List, [], ◌∷◌, ◌++◌, Result, Ok, Err}
 use Rattle.std.specs.List.{Contains}
-use Rattle.lc_explain.specs.Explain.{MaySay, top_rules_of, top_texts_of}
-use Rattle.lc_explain.specs.Explained.{Explanation, IsExplained}
-use Rattle.lc_explain.specs.OpenDirs.{OpenDirModel, open_dir}
-use Rattle.lc_explain.specs.declared.explain_options.ExplainOptions.{ExplainOptions}
+use Rattle.lc_paths.specs.Explanations.Answers.{MaySay}
+use Rattle.lc_paths.specs.Explanations.Explained.{Explanation, IsExplained}
+use Rattle.lc_paths.specs.Explanations.OpenDirs.{OpenDirModel, open_dir}
+use Rattle.lc_paths.specs.declared.explaining.explain_options.ExplainOptions.{ExplainOptions}
 use Rattle.lc_glob.specs.Path.{segments_of}
 use Rattle.lc_level.specs.Answers.{Item, Items, Answers, Tree, entries_of}
 use Rattle.lc_level.specs.FaultLines.{FaultLineModel}
 use Rattle.lc_level.specs.Job.{JobModel}
 use Rattle.lc_level.specs.RuleFiles.{RuleBytes, rule_bytes}
-use Rattle.lc_level.specs.Selection.{SelectionModel, narrowed}
+use Rattle.lc_level.specs.Filters.{FiltersModel, narrowed}
 use Rattle.lc_level.specs.TopJob.{top_job}
 use Rattle.lc_level.specs.TreeAnswers.{MayAnswer}
 use Rattle.lc_level.specs.WellFormed.{IsWellFormed}
@@ -37,14 +37,14 @@ pub record EntersGiven (lists : List ℕ → Listings) (gives : List ℕ → Con
 module _ (q : ExplainOptions) where
   -- where an explanation begins, and what it leaves out: it looks at a whole tree
   abbrev pub top_asked : JobModel
-  top_asked = top_job (top_rules_of q)
+  top_asked = top_job q.filters.now
 
-  abbrev pub whole_asked : SelectionModel
-  whole_asked = narrowed q.selection []
+  abbrev pub whole_asked : FiltersModel
+  whole_asked = narrowed q.filters.now []
 
   -- what is said of a path, where directories are entered so
   abbrev pub SaysEntering : (JobModel → Result OpenDirModel FaultLineModel → Type 0) → List ℕ → Bool → Explanation → Type 0
-  SaysEntering Enters path as_dir x = IsExplained Enters q.selection (top_texts_of q) top_asked path as_dir x
+  SaysEntering Enters path as_dir x = IsExplained Enters q.filters.now path as_dir x
 
   -- by the answers of a tree
   abbrev pub SaysBy : Tree → List ℕ → Bool → Explanation → Type 0
@@ -82,7 +82,7 @@ abbrev pub kind_before : Kind → List (List ℕ) → Kind
 kind_before kind [] = kind
 kind_before kind (next ∷ names) = Dir
 
-module _ (s : SelectionModel) (top : JobModel) (t : Tree) where
+module _ (s : FiltersModel) (top : JobModel) (t : Tree) where
   -- the same is read by both of each directory on the way to a path to which names lead
   abbrev pub AgreeOnWay : Tree → List ℕ → Type 0
   AgreeOnWay u path =

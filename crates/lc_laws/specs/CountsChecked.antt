@@ -7,11 +7,10 @@ use Rattle.lc_level.specs.Job.{JobModel}
 use Rattle.lc_level.specs.Level.{by_rule}
 use Rattle.lc_level.specs.OneAnswer.{GivesOne}
 use Rattle.lc_level.specs.RuleFiles.{RuleBytes, rule_bytes}
-use Rattle.lc_level.specs.Selection.{SelectionModel, selection_of}
-use Rattle.lc_level.specs.TopJob.{own_rules}
+use Rattle.lc_level.specs.Filters.{FiltersModel, no_filters}
 use Rattle.lc_rules.specs.IgnoreRules.{RuleModel, rules_of}
 use Rattle.lc_rules.specs.declared.rule_source.RuleSource.{RuleSource}
-use Rattle.lc_check.specs.CheckText.{file_verdict, path_word}
+use Rattle.lc_paths.specs.Checks.CheckText.{file_verdict, path_word}
 use Rattle.lc_text.specs.PathLines.{is_bad_path}
 use Rattle.lc_tree.specs.Kinds.{is_dir}
 use Rattle.lc_level.specs.FileReads.{MayReadRules}
@@ -20,7 +19,7 @@ use Rattle.lc_tree.specs.declared.entry.Kind.{Kind}
 use Rattle.lc_tree.specs.declared.entry.Kind.TheVariants.{File}
 use Rattle.lc_walk.specs.FoundAt.{LeadsTo}
 use Rattle.lc_walk.specs.GivenAnswers.{HasListings, IsReportBy}
-use Rattle.lc_walk.specs.WalkOptions.{asked_by, top_of, top_rules_of}
+use Rattle.lc_walk.specs.WalkOptions.{asked_by, top_of}
 use Rattle.lc_walk.specs.Walks.{Walks}
 use Rattle.lc_walk.specs.declared.options.Options.{Options}
 use Rattle.lc_walk.specs.declared.report.Report.{Report}
@@ -41,7 +40,7 @@ text_at bytes [] = Some bytes
 text_at bytes (name ∷ place) = None
 
 -- the same by answers, of each directory that a walk lists
-abbrev pub ReadsTopRules : SelectionModel → JobModel → Tree → List ℕ → Type 0
+abbrev pub ReadsTopRules : FiltersModel → JobModel → Tree → List ℕ → Type 0
 ReadsTopRules s top t bytes =
     (place : List (List ℕ)) (k : JobModel) (items : List Item) (files : RuleBytes) → LeadsTo s top t place k → (t place).here ≡ Ok items
     → rule_bytes k.ignore.no_ignore k.path items (t place) ≡ Ok files → (files.info.rules ≡ None) × (files.own.rules ≡ text_at bytes place)
@@ -49,8 +48,7 @@ ReadsTopRules s top t bytes =
 -- a count that lists what it leaves out, by the rules of the tree alone
 pub record AsksRulesAlone (o : Options) : Type 0 where
   pub left_out : o.lists.left_out ≡ true
-  pub selection : (asked_by o).selection ≡ selection_of false []
-  pub rules : top_rules_of o ≡ own_rules
+  pub filters : (asked_by o).filters ≡ no_filters
 
 -- a check by the rules of a file says `ignored` of a path of this kind, or `below`
 abbrev pub IsCheckedOut : List RuleModel → List ℕ → Kind → Type 0
@@ -72,9 +70,9 @@ CheckAgrees r rules path kind =
 -- so it is of each entry, by the report by some answers
 abbrev pub AnswersCheckedLaw : Type 0
 AnswersCheckedLaw =
-    (t : Tree) (bytes : List ℕ) (o : Options) (r : Report) → AsksRulesAlone o → HasListings (asked_by o).selection (top_of o) t
-    → ReadsTopRules (asked_by o).selection (top_of o) t bytes → IsReportBy t o r → (path : List ℕ) (kind : Kind)
-    → IsEntryBy (asked_by o).selection (top_of o) t path kind → CheckAgrees r (rules_of bytes) path kind
+    (t : Tree) (bytes : List ℕ) (o : Options) (r : Report) → AsksRulesAlone o → HasListings (asked_by o).filters (top_of o) t
+    → ReadsTopRules (asked_by o).filters (top_of o) t bytes → IsReportBy t o r → (path : List ℕ) (kind : Kind)
+    → IsEntryBy (asked_by o).filters (top_of o) t path kind → CheckAgrees r (rules_of bytes) path kind
 
 -- and by that of a tree that answers in one way
 abbrev pub CheckedLaw : (List ℕ → Listings) → (List ℕ → Contents) → Type 0

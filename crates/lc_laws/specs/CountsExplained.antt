@@ -1,10 +1,10 @@
 -- That a count and an explanation agree.
 use Rattle.std.specs.Prelude.{◌≡◌, ◌⊎◌, ℕ, true, false, List, [], Ok}
 use Rattle.std.specs.List.{Contains}
-use Rattle.lc_explain.specs.Explain.{MaySay, top_rules_of}
-use Rattle.lc_explain.specs.Explained.{Explanation, bad, faulted, below, ignored, included, unruled, left_out}
-use Rattle.lc_explain.specs.Laws.{IsSaidKept}
-use Rattle.lc_explain.specs.declared.explain_options.ExplainOptions.{ExplainOptions}
+use Rattle.lc_paths.specs.Explanations.Answers.{MaySay}
+use Rattle.lc_paths.specs.Explanations.Explained.{Explanation, bad, faulted, below, ignored, included, unruled, left_out}
+use Rattle.lc_paths.specs.Explanations.Laws.{IsSaidKept}
+use Rattle.lc_paths.specs.declared.explaining.explain_options.ExplainOptions.{ExplainOptions}
 use Rattle.lc_level.specs.Answers.{Tree}
 use Rattle.lc_level.specs.Level.{Reason, named_git, by_rule, by_attribute, not_included, other_kind}
 use Rattle.lc_level.specs.OneAnswer.{GivesOne}
@@ -12,7 +12,7 @@ use Rattle.lc_text.specs.PathLines.{is_bad_path}
 use Rattle.lc_tree.specs.Trees.{Listings, Contents}
 use Rattle.lc_tree.specs.declared.entry.Kind.{Kind}
 use Rattle.lc_walk.specs.GivenAnswers.{HasListings, IsReportBy}
-use Rattle.lc_walk.specs.WalkOptions.{asked_by, top_of, top_rules_of as walk_rules_of}
+use Rattle.lc_walk.specs.WalkOptions.{asked_by, top_of}
 use Rattle.lc_walk.specs.Walks.{Walks}
 use Rattle.lc_walk.specs.declared.options.Options.{Options}
 use Rattle.lc_walk.specs.declared.report.Report.{Report}
@@ -20,14 +20,12 @@ use Rattle.lc_laws.specs.ByAnswers.{SaysBy, AgreeOnWay, IsEntryBy}
 use Rattle.lc_laws.specs.Entries.{IsEntry}
 use Rattle.lc_laws.specs.ReportedPaths.{IsCounted, IsSkipped, IsKept, IsSkippedAbove}
 
--- a count of the whole tree that lists its files and what it leaves out, and an explanation by the same attributes and patterns, and the
--- same rules for the whole tree
+-- a count of the whole tree that lists its files and what it leaves out, and an explanation by the same filters
 pub record AskAlike (o : Options) (q : ExplainOptions) : Type 0 where
   pub files : o.lists.files ≡ true
   pub left_out : o.lists.left_out ≡ true
-  pub selection : (asked_by o).selection ≡ q.selection
-  pub whole : q.selection.only ≡ []
-  pub rules : walk_rules_of o ≡ top_rules_of q
+  pub filters : (asked_by o).filters ≡ q.filters.now
+  pub whole : q.filters.now.only ≡ []
 
 -- it is said to be left out for a reason: ignored by that rule, or left
 abbrev pub IsSaidSkipped : Reason → Explanation → Type 0
@@ -62,10 +60,10 @@ pub record AgreesOn (IsThere : Kind → Type 0) (r : Report) (path : List ℕ) (
 -- same is read by both of each directory on the way to it
 abbrev pub AnswersExplainedLaw : Type 0
 AnswersExplainedLaw =
-    (t u : Tree) (o : Options) (q : ExplainOptions) (r : Report) → AskAlike o q → HasListings (asked_by o).selection (top_of o) t
+    (t u : Tree) (o : Options) (q : ExplainOptions) (r : Report) → AskAlike o q → HasListings (asked_by o).filters (top_of o) t
     → IsReportBy t o r → (path : List ℕ) (x : Explanation) → is_bad_path path ≡ false
-    → AgreeOnWay (asked_by o).selection (top_of o) t u path → SaysBy q u path false x
-    → AgreesOn (IsEntryBy (asked_by o).selection (top_of o) t path) r path x
+    → AgreeOnWay (asked_by o).filters (top_of o) t u path → SaysBy q u path false x
+    → AgreesOn (IsEntryBy (asked_by o).filters (top_of o) t path) r path x
 
 -- and each report of a walk of a tree that answers in one way, and anything that may be said of such a path
 abbrev pub ExplainedLaw : (List ℕ → Listings) → (List ℕ → Contents) → Type 0

@@ -1,8 +1,8 @@
 -- That a path has one explanation.
 use Rattle.std.specs.Prelude.{◌≡◌, ℕ, Bool, List}
-use Rattle.lc_explain.specs.Explain.{MaySay}
-use Rattle.lc_explain.specs.Explained.{Explanation}
-use Rattle.lc_explain.specs.declared.explain_options.ExplainOptions.{ExplainOptions}
+use Rattle.lc_paths.specs.Explanations.Answers.{MaySay}
+use Rattle.lc_paths.specs.Explanations.Explained.{Explanation}
+use Rattle.lc_paths.specs.declared.explaining.explain_options.ExplainOptions.{ExplainOptions}
 use Rattle.lc_level.specs.Answers.{Tree}
 use Rattle.lc_level.specs.OneAnswer.{GivesOne}
 use Rattle.lc_tree.specs.Trees.{Listings, Contents}

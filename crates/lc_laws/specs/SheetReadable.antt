@@ -1,11 +1,10 @@
 -- The sheet of a report, as its texts show it: what is known of its columns and values.
 use Rattle.std.specs.Prelude.{◌≡◌, [], unwrap_or, IfSome, ⊤}
 use Rattle.std.specs.List.{All}
-use Rattle.lc_level.specs.Level.{Reason, named_git, by_rule, by_attribute, not_included, other_kind}
+use Rattle.lc_level.specs.Level.{SkippedLineModel, Reason, named_git, by_rule, by_attribute, not_included, other_kind}
 use Rattle.lc_sheet.specs.Sheets.{SheetModel}
 use Rattle.lc_sheet.specs.declared.table_options.Format.TheVariants.{Table}
 use Rattle.lc_sheet.specs.declared.table_options.TableOptions.{TableOptions}
-use Rattle.lc_walk.specs.ReportLines.{SkippedLineModel}
 use Rattle.lc_walk.specs.declared.report.Report.{Report}
 use Rattle.lc_rows.specs.RowKeys.{ShownRowModel}
 use Rattle.lc_rows.specs.Sheets.{sheet_of}

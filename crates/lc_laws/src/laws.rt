@@ -10,7 +10,7 @@ ghost use Rattle.lc_laws.specs.CountsExplained.{AnswersExplainedLaw, ExplainedLa
 ghost use Rattle.lc_laws.specs.OneExplanation.{AnswersOneExplanationLaw, OneExplanationLaw};
 ghost use Rattle.lc_laws.specs.SlashAtEnd.{AnswersSlashLaw, SlashLaw};
 
-use lc_explain::entries_are_explained_as_decided;
+use lc_paths::entries_are_explained_as_decided;
 use lc_rules::the_last_match_decides;
 use lc_tree::Tree;
 use lc_walk::the_rule_of_a_line_ignores_it;

@@ -7,12 +7,12 @@ use Rattle.lc_rows.specs.Views.{first_of, view_of}
 use Rattle.lc_sheet.specs.Sheets.{SheetModel}
 use Rattle.lc_sheet.specs.declared.column.Number.{Number}
 use Rattle.lc_sheet.specs.declared.table_options.TableOptions.{TableOptions}
-use Rattle.lc_walk.specs.ReportLines.{FileLineModel}
 use Rattle.lc_walk.specs.TallyRows.{TallyRowModel}
 use Rattle.lc_walk.specs.declared.report.Report.{Report}
 use Rattle.lc_picture.specs.Boxes.{BoxModel}
 use Rattle.lc_picture.specs.Page.{AreBoxesOf, IsPageOf, chart_columns, chart_options, chart_rows, page_pieces}
 use Rattle.lc_picture.specs.Pieces.{text_of}
+use Rattle.lc_level.specs.Level.{FileLineModel}
 
 -- the sheet of a report with some options and with all rows that it may show
 abbrev pub sheet_with : TableOptions → Report → List ShownRowModel → SheetModel

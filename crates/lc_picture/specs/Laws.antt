@@ -12,7 +12,6 @@ use Rattle.lc_sheet.specs.Values as value
 use Rattle.lc_sheet.specs.Values.{ValueModel}
 use Rattle.lc_sheet.specs.declared.column.Number.{Number}
 use Rattle.lc_sheet.specs.declared.column.Number.TheVariants.{Files, Lines, Blank, Bytes}
-use Rattle.lc_walk.specs.ReportLines.{FileLineModel}
 use Rattle.lc_walk.specs.TallyRows.{TallyRowModel}
 use Rattle.lc_walk.specs.declared.report.Report.{Report}
 use Rattle.lc_walk.specs.declared.tally.sums.Sums.{Sums}
@@ -24,6 +23,7 @@ use Rattle.lc_picture.specs.Colours.{colour_of}
 use Rattle.lc_picture.specs.Escaping.{html}
 use Rattle.lc_picture.specs.Page.{chart_columns, chart_options, chart_view, page_pieces}
 use Rattle.lc_picture.specs.Pieces.{Piece, count, markup, name, share}
+use Rattle.lc_level.specs.Level.{FileLineModel}
 
 -- whether a byte can begin or end a tag or an attribute
 abbrev pub is_tag_byte : ℕ → Bool

@@ -11,7 +11,6 @@ use Rattle.lc_sheet.specs.declared.table_options.Format.TheVariants.{Html}
 use Rattle.lc_sheet.specs.declared.table_options.TableOptions.{TableOptions}
 use Rattle.lc_sheet.specs.declared.column.Number.{Number}
 use Rattle.lc_sheet.specs.declared.column.Number.TheVariants.{Files, Lines, Blank, Bytes}
-use Rattle.lc_walk.specs.ReportLines.{FileLineModel}
 use Rattle.lc_walk.specs.declared.report.Report.{Report}
 use Rattle.lc_walk.specs.declared.tally.sums.Sums.{Sums}
 use Rattle.lc_picture.specs.Boxes.{BoxModel, boxes_in, drawn_boxes, least_drawn}
@@ -19,6 +18,7 @@ use Rattle.lc_picture.specs.Chart.{chart}
 use Rattle.lc_picture.specs.Head.{head}
 use Rattle.lc_picture.specs.Pieces.{Piece, markup, text_of}
 use Rattle.lc_picture.specs.Style.{page_begin, style, sums_begin}
+use Rattle.lc_level.specs.Level.{FileLineModel}
 
 -- ---- the page of a sheet and of boxes
 

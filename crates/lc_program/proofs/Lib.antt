@@ -1,4 +1,5 @@
 mod CountsShown
+mod FiltersAsked
 mod Loading
 mod PathsListed
 mod PathsWanted

@@ -7,9 +7,9 @@ use Rattle.std.specs.Prelude.{Vec}
 use Rattle.std.specs.Global.{Global}
 use Rattle.std.specs.Borrow.{Bor}
 use Rattle.std.specs.List.{list_any}
-use Rattle.lc_census.specs.Reads.{Answer, at_end, at_failure, at_neither}
-use Rattle.lc_census.specs.declared.whole.WholeFault.{WholeFault}
-use Rattle.lc_census.specs.declared.whole.WholeFault.TheVariants.{Read, TooLong, Memory}
+use Rattle.lc_io.specs.Reads.{Answer, at_end, at_failure, at_neither}
+use Rattle.lc_io.specs.declared.whole.WholeFault.{WholeFault}
+use Rattle.lc_io.specs.declared.whole.WholeFault.TheVariants.{Read, TooLong, Memory}
 use Rattle.lc_text.specs.Lines.{input_paths_of}
 use Rattle.lc_text.specs.declared.lines.PathEnd.{PathEnd}
 use Rattle.lc_tree.specs.Trees.{Contents, GivesOnly}

@@ -4,11 +4,11 @@ use Rattle.std.proofs.Common.{Some, ap, sym, refl, arith, append_assoc, append-n
 use Rattle.std.specs.Borrow.{Bor}
 use Rattle.std.specs.List.{concat}
 use Rattle.lc_arguments.specs.Repeated.{lines_text}
-use Rattle.lc_census.specs.Reads.{Answer, AnyRoom, Reads, Stop, at_end, at_failure, at_neither, failed, gave}
+use Rattle.lc_io.specs.Reads.{Answer, AnyRoom, Reads, Stop, at_end, at_failure, at_neither, failed, gave}
 use Rattle.lc_level.specs.RuleTextReads.{ReadsRuleText}
-use Rattle.lc_level.specs.declared.rule_text.RulesFileFault.{RulesFileFault}
-use Rattle.lc_level.specs.declared.rule_text.RulesFileFault.TheVariants as fault
-use Rattle.lc_program.specs.Rules.{AnswersPatterns, patterns_text}
+use Rattle.lc_level.specs.declared.rule_files.rule_text.RulesFileFault.{RulesFileFault}
+use Rattle.lc_level.specs.declared.rule_files.rule_text.RulesFileFault.TheVariants as fault
+use Rattle.lc_program.specs.Filters.{AnswersPatterns, patterns_text}
 
 -- what a read of a slice may give
 abbrev pub slice_gives : Bor (List ℕ) → ℕ → Answer → Bor (List ℕ) → Type 0

@@ -1,10 +1,10 @@
 -- What was told on standard error.
 use Rattle.std.proofs.Common.{◌≡◌, ◌≢◌, ◌==◌, ◌∙◌, ℕ, false, List, [], ◌∷◌, length, Option, Result, Ok, Err, inl, inr, refl, subst}
-use Rattle.lc_census.specs.declared.source.Failed.{Failed}
+use Rattle.lc_io.specs.declared.source.Failed.{Failed}
 use Rattle.lc_level.specs.FaultLines.{FaultLineModel}
-use Rattle.lc_text.specs.Writes.{AnswersPrint}
-use Rattle.lc_text.specs.declared.printing.PrintFault.{PrintFault}
-use Rattle.lc_text.specs.declared.printing.PrintFault.TheVariants.{Memory, Write}
+use Rattle.lc_io.specs.Writes.{AnswersPrint}
+use Rattle.lc_io.specs.declared.printing.PrintFault.{PrintFault}
+use Rattle.lc_io.specs.declared.printing.PrintFault.TheVariants.{Memory, Write}
 use Rattle.lc_sheet.specs.declared.table_options.Format.{Format}
 use Rattle.lc_program.specs.Faults.{AreFaultLines, TellsFaults}
 use Rattle.lc_program.specs.Tellings.{Tells}

@@ -4,10 +4,10 @@ use Rattle.lc_text.specs.Visible.{visible_bytes}
 use Rattle.lc_walk.specs.declared.walk_fault.WalkFault.TheVariants as walk
 use Rattle.lc_text.specs.declared.check_fault.CheckFault.{CheckFault}
 use Rattle.lc_text.specs.declared.check_fault.CheckFault.TheVariants as check
-use Rattle.lc_text.specs.declared.printing.PrintFault.{PrintFault}
-use Rattle.lc_text.specs.declared.printing.PrintFault.TheVariants as print
-use Rattle.lc_level.specs.declared.rule_text.RulesFileFault.{RulesFileFault}
-use Rattle.lc_level.specs.declared.rule_text.RulesFileFault.TheVariants as rules
+use Rattle.lc_io.specs.declared.printing.PrintFault.{PrintFault}
+use Rattle.lc_io.specs.declared.printing.PrintFault.TheVariants as print
+use Rattle.lc_level.specs.declared.rule_files.rule_text.RulesFileFault.{RulesFileFault}
+use Rattle.lc_level.specs.declared.rule_files.rule_text.RulesFileFault.TheVariants as rules
 use Rattle.lc_program.specs.declared.runs.RunFault.{RunFault}
 use Rattle.lc_program.specs.declared.runs.RunFault.TheVariants as run
 use Rattle.lc_program.specs.Reasons.{reason_given}

@@ -1,29 +1,28 @@
 -- How a count is answered, by what was read and written.
 use Rattle.std.specs.Prelude.{◌≡◌, ◌⊎◌, ◌||◌, ℕ, List, map, if◌then◌else◌, Result, Ok, Err, Vec, is_some}
-use Rattle.std.specs.Prelude.{option_map}
+use Rattle.std.specs.Prelude.{Option}
 use Rattle.std.specs.Borrow.{Bor}
 use Rattle.std.specs.Global.{Global}
 use Rattle.lc_arguments.specs.Combinations.{is_picture}
 use Rattle.lc_arguments.specs.TableWords.{options_in}
 use Rattle.lc_arguments.specs.declared.count.CountRequest.{CountRequest}
-use Rattle.lc_census.specs.Reads.{Answer}
-use Rattle.lc_census.specs.declared.source.Failed.{Failed}
+use Rattle.lc_io.specs.Reads.{Answer}
+use Rattle.lc_io.specs.declared.source.Failed.{Failed}
 use Rattle.lc_level.specs.FaultLines.{FaultLineModel}
-use Rattle.lc_level.specs.RuleReads.{shared}
-use Rattle.lc_rules.specs.IgnoreRules.{rules_of}
+use Rattle.lc_level.specs.Filters.{FiltersModel}
 use Rattle.lc_program.specs.Runs.{AnswersRun}
 use Rattle.lc_program.specs.declared.runs.RunFault.{RunFault}
 use Rattle.lc_tree.specs.declared.file_systems.FileSystems.{FileSystems}
 use Rattle.lc_tree.specs.declared.file_systems.FileSystems.TheVariants.{All, One}
+use Rattle.lc_sheet.specs.Conditions.{needs_files}
 use Rattle.lc_sheet.specs.declared.table_options.Format.{Format}
 use Rattle.lc_walk.specs.Walks.{Walks}
 use Rattle.lc_walk.specs.declared.options.Options.{Options}
 use Rattle.lc_program.specs.PathLists.{AnswersWanted, GivesList}
 use Rattle.lc_program.specs.Replies.{IsRunReply, Reply}
-use Rattle.lc_program.specs.Rules.{AreRulesOf, LacksRules}
+use Rattle.lc_program.specs.Filters.{Excludes, LacksRules, filters_of}
 use Rattle.lc_program.specs.Styles.{end_for}
 use Rattle.lc_program.specs.Systems.{SystemMay}
-use Rattle.lc_program.specs.declared.asked_rules.AskedRules.{AskedRules}
 use Rattle.lc_program.specs.declared.cause.Cause.{Cause}
 use Rattle.lc_program.specs.declared.cause.Cause.TheVariants.{Memory}
 
@@ -31,19 +30,14 @@ use Rattle.lc_program.specs.declared.cause.Cause.TheVariants.{Memory}
 abbrev pub entered_by : CountRequest → FileSystems
 entered_by c = if c.one_file_system then One else All
 
--- options that ask for what the words of a count ask, with these rules and these paths
-pub record IsAskedBy (c : CountRequest) (rules : AskedRules) (only : List (List ℕ)) (o : Options) : Type 0 where
+-- options that ask for what the words of a count ask, by these filters
+pub record IsAskedBy (c : CountRequest) (f : FiltersModel) (o : Options) : Type 0 where
   pub threads : o.threads ≡ c.threads
   pub max_dirs : o.max_dirs ≡ c.max_dirs
-  pub files : o.lists.files ≡ (c.table.files || is_some c.table.by.dir || is_picture c.table.format)
+  pub files : o.lists.files
+      ≡ (c.table.files || is_some c.table.by.dir || is_picture c.table.format || needs_files c.conditions.items)
   pub left_out : o.lists.left_out ≡ c.left_out
-  pub exclude : shared o.exclude ≡ option_map rules_of rules.exclude
-  pub command_line : shared o.command_line ≡ option_map rules_of rules.command_line
-  pub no_ignore : o.no_ignore ≡ c.exclusions.no_ignore
-  pub archive : o.archive ≡ c.exclusions.archive
-  pub without : o.without.now ≡ c.exclusions.without.items
-  pub include : shared o.include ≡ option_map rules_of rules.include
-  pub paths : map (λ path. path.now) o.only.now ≡ only
+  pub filters : o.filters.now ≡ f
 
 module _ (may : SystemMay) {I O : Type 0} (may_give : I → ℕ → Answer → I → Type 0)
     (may_take : O → List ℕ → Result ℕ Failed → O → Type 0) (other : Format) (c : CountRequest) where
@@ -57,16 +51,16 @@ module _ (may : SystemMay) {I O : Type 0} (may_give : I → ℕ → Answer → I
   -- a run over the tree of the directory that the words name, by what they ask; the table has this format if they name none
   abbrev pub Runs : I → O → Reply → I → O → Type 0
   Runs input out reply read wrote =
-      (rules : AskedRules) × AreRulesOf may.hold c.exclusions rules
+      (text : Option (List ℕ)) × Excludes may.hold c.filters.exclude_from text
       × ((paths : Vec (Bor (List ℕ)) Global) × AnswersPathsOf input (Ok paths) read
-      × ((o : Options) × IsAskedBy c rules (map (λ path. path.now) paths.items) o
+      × ((o : Options) × IsAskedBy c (filters_of c.filters text (map (λ path. path.now) paths.items)) o
       × ((answer : Result (Vec FaultLineModel Global) RunFault) × IsRunReply answer reply
       × AnswersRun may_take (Walks (may.list c.directory.now (entered_by c)) (may.give c.directory.now (entered_by c)) o)
-      (options_in other c.table) out answer wrote)))
+      c.conditions.items (options_in other c.table) out answer wrote)))
 
   -- such a run; or there were no rules or no memory, and nothing was read; or there were no paths; then nothing was written
   abbrev pub AnswersCount : I → O → Reply → I → O → Type 0
   AnswersCount input out reply read wrote =
       Runs input out reply read wrote
       ⊎ ((cause : Cause) × (reply ≡ Err cause) × (wrote ≡ out)
-      × (((LacksRules may.hold c.exclusions cause ⊎ (cause ≡ Memory)) × (read ≡ input)) ⊎ AnswersPathsOf input (Err cause) read))
+      × (((LacksRules may.hold c.filters cause ⊎ (cause ≡ Memory)) × (read ≡ input)) ⊎ AnswersPathsOf input (Err cause) read))

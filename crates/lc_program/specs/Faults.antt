@@ -2,7 +2,7 @@
 use Rattle.std.specs.Prelude.{◌≡◌, ◌⊎◌, ℕ, Bool, true, false, cond, List, [], ◌∷◌, ◌++◌, length, flat_map, codes, decimal, nat_eq}
 use Rattle.std.specs.Prelude.{Option, Result}
 use Rattle.std.specs.List.{list_any}
-use Rattle.lc_census.specs.declared.source.Failed.{Failed}
+use Rattle.lc_io.specs.declared.source.Failed.{Failed}
 use Rattle.lc_glob.specs.Lists.{is_empty}
 use Rattle.lc_level.specs.FaultLines.{FaultLineModel}
 use Rattle.lc_text.specs.Visible.{visible_bytes}

@@ -2,7 +2,7 @@
 use Rattle.std.specs.Prelude.{◌≡◌, ◌⊎◌, ◌&&◌, ℕ, Bool, true, false, cond, List, ◌++◌, Option, Some, None, Result, codes, string_bytes}
 use Rattle.lc_arguments.specs.declared.request.Request.{Request}
 use Rattle.lc_arguments.specs.declared.request.Request.TheVariants.{CheckJoined, Check, Count, Explain}
-use Rattle.lc_census.specs.declared.source.Failed.{Failed}
+use Rattle.lc_io.specs.declared.source.Failed.{Failed}
 use Rattle.lc_text.specs.Visible.{visible_bytes}
 use Rattle.lc_program.specs.Commands.{count_of, is_typed}
 use Rattle.lc_program.specs.Tellings.{Tells}

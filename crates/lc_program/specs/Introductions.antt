@@ -3,7 +3,7 @@ use Rattle.std.specs.Prelude.{◌≡◌, ℕ, Bool, true, false, List, Result, O
 use Rattle.std.specs.Borrow.{Bor}
 use Rattle.lc_arguments.specs.declared.request.Request.{Request}
 use Rattle.lc_arguments.specs.declared.request.Request.TheVariants.{CheckJoined, Check, Count, Explain}
-use Rattle.lc_census.specs.declared.source.Failed.{Failed}
+use Rattle.lc_io.specs.declared.source.Failed.{Failed}
 use Rattle.lc_glob.specs.Lists.{is_empty}
 use Rattle.lc_program.specs.Tellings.{Tells, TellsIf}
 

@@ -9,7 +9,7 @@ pub mod Program
 pub mod Reasons
 pub mod Replies
 pub mod Requests
-pub mod Rules
+pub mod Filters
 pub mod Styles
 pub mod Systems
 pub mod Tellings

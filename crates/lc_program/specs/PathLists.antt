@@ -4,10 +4,10 @@ use Rattle.std.specs.Prelude.{Option, Some, None, Result, Ok, Err, Vec, codes, s
 use Rattle.std.specs.Borrow.{Bor}
 use Rattle.std.specs.Global.{Global}
 use Rattle.std.specs.List.{concat, list_any}
-use Rattle.lc_census.specs.Reads.{Answer, at_end, at_failure, at_neither}
-use Rattle.lc_census.specs.Whole.{AnswersWhole}
-use Rattle.lc_census.specs.declared.whole.WholeFault.{WholeFault}
-use Rattle.lc_census.specs.declared.whole.WholeFault.TheVariants.{Read, TooLong, Memory}
+use Rattle.lc_io.specs.Reads.{Answer, at_end, at_failure, at_neither}
+use Rattle.lc_io.specs.Whole.{AnswersWhole}
+use Rattle.lc_io.specs.declared.whole.WholeFault.{WholeFault}
+use Rattle.lc_io.specs.declared.whole.WholeFault.TheVariants.{Read, TooLong, Memory}
 use Rattle.lc_text.specs.Lines.{input_paths_of}
 use Rattle.lc_text.specs.PathLines.{is_bad_path, is_top, path_of, undotted}
 use Rattle.lc_text.specs.declared.lines.PathEnd.{PathEnd}

@@ -1,7 +1,7 @@
 -- How the program ends on words, by what it read, wrote and told.
 use Rattle.std.specs.Prelude.{◌≡◌, ◌⊎◌, ℕ, Bool, List, [], Option, Result, Ok, Err, string_bytes}
-use Rattle.lc_census.specs.declared.source.Failed.{Failed}
-use Rattle.lc_census.specs.Reads.{Answer}
+use Rattle.lc_io.specs.declared.source.Failed.{Failed}
+use Rattle.lc_io.specs.Reads.{Answer}
 use Rattle.lc_program.specs.Causes.{HasNumber, cause_line}
 use Rattle.lc_program.specs.Faults.{TellsFaults}
 use Rattle.lc_program.specs.Hints.{Hints}
@@ -16,7 +16,7 @@ use Rattle.lc_program.specs.Unmatched.{unmatched_in}
 use Rattle.lc_arguments.specs.Refusals.{IsMessage}
 use Rattle.lc_arguments.specs.TableWords.{options_in}
 use Rattle.lc_arguments.specs.Words.{AreRefused, Asks, MayShow, faults_in}
-use Rattle.lc_text.specs.Writes.{Writes, StopsWriting}
+use Rattle.lc_io.specs.Writes.{Writes, StopsWriting}
 use Rattle.lc_arguments.specs.declared.request.Request.{Request}
 use Rattle.lc_arguments.specs.declared.request.Request.TheVariants.{Count, Explain}
 use Rattle.lc_program.specs.declared.answered.Answered.{Answered}

@@ -6,7 +6,7 @@ use Rattle.lc_program.specs.declared.runs.RunFault.{RunFault}
 use Rattle.lc_text.specs.declared.check_fault.CheckFault.{CheckFault}
 use Rattle.lc_text.specs.declared.outcome.Outcome.{Outcome}
 use Rattle.lc_text.specs.declared.outcome.Outcome.TheVariants.{Clean, SomeFaults}
-use Rattle.lc_text.specs.declared.printing.PrintFault.{PrintFault}
+use Rattle.lc_io.specs.declared.printing.PrintFault.{PrintFault}
 use Rattle.lc_program.specs.Causes.{check_cause, print_cause, run_cause}
 use Rattle.lc_program.specs.Unnamed.{AreUnnamedLines}
 use Rattle.lc_program.specs.declared.answered.Answered.{Answered}

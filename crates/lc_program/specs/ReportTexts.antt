@@ -7,7 +7,9 @@ use Rattle.lc_formats.specs.MarkdownText.{markdown_of}
 use Rattle.lc_formats.specs.TableText.{table_of}
 use Rattle.lc_formats.specs.Tsv.{tsv_of}
 use Rattle.lc_picture.specs.Page.{IsPageOf, drawn_number}
+use Rattle.lc_rows.specs.Kept.{IsKept}
 use Rattle.lc_rows.specs.Sheets.{IsSheetOf}
+use Rattle.lc_sheet.specs.Conditions.{ConditionModel}
 use Rattle.lc_sheet.specs.Sheets.{SheetModel}
 use Rattle.lc_sheet.specs.declared.table_options.Format.{Format}
 use Rattle.lc_sheet.specs.declared.table_options.Format.TheVariants.{Tsv, Table, Json, Csv, Markdown, Html}
@@ -50,3 +52,7 @@ IsTextBy Markdown options r text = HasSheet options r text
 -- a text of a report with these options
 abbrev pub IsTextOf : TableOptions → Report → List ℕ → Type 0
 IsTextOf options r text = IsTextBy options.format options r text
+
+-- a text of what meets some conditions of a report
+abbrev pub IsTextOfPart : List ConditionModel → TableOptions → Report → List ℕ → Type 0
+IsTextOfPart conditions options r text = (part : Report) × IsKept conditions r part × IsTextOf options part text

@@ -1,22 +1,21 @@
 -- How a request is answered, by what was read and written.
-use Rattle.std.specs.Prelude.{◌≡◌, ◌⊎◌, ℕ, Bool, true, false, List, [], ◌∷◌, map, Result, Ok, Err, option_map}
+use Rattle.std.specs.Prelude.{◌≡◌, ◌⊎◌, ℕ, Bool, true, false, List, [], ◌∷◌, map, Option, Result, Ok, Err}
 use Rattle.std.specs.Borrow.{Bor}
-use Rattle.lc_census.specs.declared.source.Failed.{Failed}
-use Rattle.lc_census.specs.Reads.{Answer}
+use Rattle.lc_io.specs.declared.source.Failed.{Failed}
+use Rattle.lc_io.specs.Reads.{Answer}
 use Rattle.lc_rules.specs.IgnoreRules.{rules_of}
-use Rattle.lc_level.specs.Selection.{including, selection_of}
 use Rattle.lc_tree.specs.Trees.{Listings, Contents}
 use Rattle.lc_tree.specs.declared.file_systems.FileSystems.TheVariants.{All}
-use Rattle.lc_explain.specs.Explain.{AnswersExplain, AnswersLines, MaySay}
-use Rattle.lc_explain.specs.declared.explain_options.ExplainOptions.{ExplainOptions}
-use Rattle.lc_check.specs.Check.{AnswersCheck, AnswersExplainedCheck, no_rules}
-use Rattle.lc_check.specs.CheckText.{text_by}
-use Rattle.lc_check.specs.Joined.{rules_part, joined_text}
-use Rattle.lc_check.specs.ExplainedText.{explained_text_of}
+use Rattle.lc_paths.specs.Explanations.Answers.{AnswersExplain, AnswersLines, MaySay}
+use Rattle.lc_paths.specs.declared.explaining.explain_options.ExplainOptions.{ExplainOptions}
+use Rattle.lc_paths.specs.Checks.Answers.{AnswersCheck, AnswersExplainedCheck, no_rules}
+use Rattle.lc_paths.specs.Checks.CheckText.{text_by}
+use Rattle.lc_paths.specs.Checks.Joined.{rules_part, joined_text}
+use Rattle.lc_paths.specs.Checks.ExplainedText.{explained_text_of}
 use Rattle.lc_text.specs.Styles.{styled}
 use Rattle.lc_text.specs.declared.check_fault.CheckFault.{CheckFault}
 use Rattle.lc_text.specs.declared.outcome.Outcome.{Outcome}
-use Rattle.lc_text.specs.declared.printing.PrintFault.{PrintFault}
+use Rattle.lc_io.specs.declared.printing.PrintFault.{PrintFault}
 use Rattle.lc_text.specs.declared.style.PathFormat.{PathFormat}
 use Rattle.lc_text.specs.declared.style.PathStyle.{PathStyle}
 use Rattle.lc_arguments.specs.declared.request.Request.{Request}
@@ -24,22 +23,11 @@ use Rattle.lc_arguments.specs.declared.request.Request.TheVariants.{CheckJoined,
 use Rattle.lc_arguments.specs.declared.explain.ExplainRequest.{ExplainRequest}
 use Rattle.lc_program.specs.Counts.{AnswersCount}
 use Rattle.lc_program.specs.Replies.{Reply, checked, explained, told}
-use Rattle.lc_program.specs.Rules.{AreRulesOf, GaveNoRules, LacksRules, LoadsFile}
+use Rattle.lc_program.specs.Filters.{Excludes, GaveNoRules, LacksRules, LoadsFile, filters_of}
 use Rattle.lc_program.specs.Styles.{end_for, format_for, format_with, style_for}
 use Rattle.lc_program.specs.Systems.{SystemMay}
-use Rattle.lc_program.specs.declared.asked_rules.AskedRules.{AskedRules}
 use Rattle.lc_program.specs.declared.cause.Cause.{Cause}
 use Rattle.lc_program.specs.declared.cause.Cause.TheVariants.{Memory}
-
--- a question that asks what the words of an explanation ask, by these rules, with paths in this style
-pub record IsOptionsOf (style : PathStyle) (c : ExplainRequest) (rules : AskedRules) (q : ExplainOptions) : Type 0 where
-  pub selection : q.selection
-      ≡ including (selection_of c.exclusions.archive (map (λ word. word.now) c.exclusions.without.items))
-      (option_map rules_of rules.include)
-  pub exclude : q.exclude ≡ rules.exclude
-  pub command_line : q.command_line ≡ rules.command_line
-  pub no_ignore : q.no_ignore ≡ c.exclusions.no_ignore
-  pub printed : q.style ≡ style
 
 -- what may be said of paths in a tree that may answer so
 module _ (lists : List ℕ → Listings) (gives : List ℕ → Contents) {I O : Type 0} (may_give : I → ℕ → Answer → I → Type 0)
@@ -82,10 +70,11 @@ module _ (may : SystemMay) {I O : Type 0} (may_give : I → ℕ → Answer → I
   -- was read or written
   abbrev pub AnswersExplanation : PathStyle → ExplainRequest → I → O → Reply → I → O → Type 0
   AnswersExplanation style c input out reply read wrote =
-      ((rules : AskedRules) × AreRulesOf may.hold c.exclusions rules × ((q : ExplainOptions) × IsOptionsOf style c rules q
+      ((text : Option (List ℕ)) × Excludes may.hold c.filters.exclude_from text
+      × ((q : ExplainOptions) × (q.filters.now ≡ filters_of c.filters text []) × (q.style ≡ style)
       × AnswersPaths (may.list c.directory.now All) (may.give c.directory.now All) may_give may_take q c.null c.paths.items input out reply
       read wrote))
-      ⊎ ((cause : Cause) × (LacksRules may.hold c.exclusions cause ⊎ (cause ≡ Memory)) × (reply ≡ Err cause) × (read ≡ input)
+      ⊎ ((cause : Cause) × (LacksRules may.hold c.filters cause ⊎ (cause ≡ Memory)) × (reply ≡ Err cause) × (read ≡ input)
       × (wrote ≡ out))
 
   -- whether the output is a terminal decides how paths are printed, but in a table, and the format of a table where none is named

@@ -1,7 +1,7 @@
 -- What is told on standard error.
 use Rattle.std.specs.Prelude.{◌≡◌, ◌⊎◌, ℕ, Bool, true, false, List, Result}
-use Rattle.lc_census.specs.declared.source.Failed.{Failed}
-use Rattle.lc_text.specs.Writes.{Writes, StopsWriting}
+use Rattle.lc_io.specs.declared.source.Failed.{Failed}
+use Rattle.lc_io.specs.Writes.{Writes, StopsWriting}
 
 module _ {E : Type 0} (may_take : E → List ℕ → Result ℕ Failed → E → Type 0) where
   -- this text was written, or a prefix of it and then a write failed or took nothing

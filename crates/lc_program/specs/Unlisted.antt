@@ -1,6 +1,6 @@
 -- What is told of the directory of an explanation that could not be read.
 use Rattle.std.specs.Prelude.{◌≡◌, ◌⊎◌, ℕ, List, Option, Some, None, Result, codes}
-use Rattle.lc_census.specs.declared.source.Failed.{Failed}
+use Rattle.lc_io.specs.declared.source.Failed.{Failed}
 use Rattle.lc_program.specs.Reasons.{unexplained_line}
 use Rattle.lc_program.specs.Tellings.{Tells}
 use Rattle.lc_program.specs.declared.unread_reason.UnreadReason.{UnreadReason}

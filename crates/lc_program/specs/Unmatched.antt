@@ -1,7 +1,7 @@
 -- The lines that tell of patterns which can match nothing.
 use Rattle.std.specs.Prelude.{ℕ, cond, List, [], ◌++◌, codes, flat_map}
 use Rattle.std.specs.Borrow.{Bor}
-use Rattle.lc_arguments.specs.declared.exclusions.Exclusions.{Exclusions}
+use Rattle.lc_arguments.specs.declared.filter_request.FilterRequest.{FilterRequest}
 use Rattle.lc_arguments.specs.declared.request.Request.{Request}
 use Rattle.lc_arguments.specs.declared.request.Request.TheVariants.{CheckJoined, Check, Count, Explain}
 use Rattle.lc_rules.specs.CanMatch.{can_match}
@@ -20,12 +20,12 @@ abbrev pub unmatched_lines : List (Bor (List ℕ)) → List ℕ
 unmatched_lines patterns = flat_map (λ (p : Bor (List ℕ)). unmatched_text p.now) patterns
 
 -- the patterns of `--exclude`, and then those of `--include`
-abbrev pub unmatched_of : Exclusions → List ℕ
+abbrev pub unmatched_of : FilterRequest → List ℕ
 unmatched_of e = unmatched_lines e.exclude.items ++ unmatched_lines e.include.items
 
 -- the patterns of a request
 abbrev pub unmatched_in : Request → List ℕ
 unmatched_in CheckJoined = []
 unmatched_in (Check c) = []
-unmatched_in (Count c) = unmatched_of c.exclusions
-unmatched_in (Explain c) = unmatched_of c.exclusions
+unmatched_in (Count c) = unmatched_of c.filters
+unmatched_in (Explain c) = unmatched_of c.filters

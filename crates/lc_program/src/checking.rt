@@ -10,7 +10,7 @@ use crate::rules_file::rule_text_of_file;
 use crate::system::System;
 use lc_arguments::CheckRequest;
 use lc_census::Source;
-use lc_check::{check, check_explained, check_joined};
+use lc_paths::{check, check_explained, check_joined};
 use lc_text::{PathEnd, PathFormat, PathStyle, Sink};
 use std::alloc::Global;
 

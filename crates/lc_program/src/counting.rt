@@ -1,17 +1,15 @@
 //! Answering counts.
 
-ghost use Rattle.std.specs.Prelude.{◌≡◌, map};
+ghost use Rattle.std.specs.Prelude.{◌≡◌};
 ghost use Rattle.lc_arguments.specs.Combinations.{is_picture};
 ghost use Rattle.lc_arguments.specs.Words.{IsCountWithinLimits};
 ghost use Rattle.lc_program.specs.Counts.{AnswersCount, IsAskedBy, entered_by};
-ghost use Rattle.lc_program.specs.Rules.{Share};
 ghost use Rattle.lc_program.specs.Systems.{system_may};
-ghost use Rattle.lc_program.specs.declared.asked_rules.AskedRules.{AskedRules as AskedRulesModel};
 
 use crate::answered::Answered;
-use crate::asked_rules::{AskedRules, SharedRules};
 use crate::cause::Cause;
 use crate::checking::path_end;
+use crate::filters::{narrowed, read_filters};
 use crate::path_list::{list_of, wanted_paths};
 use crate::runs::run;
 use crate::system::System;
@@ -19,8 +17,8 @@ use crate::unnamed::unnamed_lines;
 use lc_arguments::{CountRequest, MAX_DIRS, MAX_THREADS};
 use lc_board::limits::{MAX_CAPACITY, MAX_WORKERS};
 use lc_census::Source;
-use lc_level::NamedAttributes;
-use lc_sheet::Format;
+use lc_level::{Filters, NamedAttributes};
+use lc_sheet::{Format, ReportOptions, needs_files};
 use lc_text::Sink;
 use lc_tree::FileSystems;
 use lc_walk::{Options, ReportLists};
@@ -37,15 +35,14 @@ fn is_picture(format: Option<Format>) -> bool
     matches!(format, Some(Format::Html))
 }
 
-/// Makes the options of a walk that the command line asks for. Rows by directory and pictures need the report's files.
+/// Makes the options of a walk that the command line asks for. Rows by directory, pictures and conditions on numbers need the
+/// report's files.
 fn options_of<'o>(
     asked: &'o CountRequest<'_>,
-    rules: SharedRules,
-    only: &'o [&'o [u8]],
+    filters: &'o Filters<'_>,
     named: &'o NamedAttributes,
 ) -> Options<'o>
-    ensures { (texts : AskedRulesModel) → Share texts rules
-        → IsAskedBy asked.entry.now texts (map (λ path. path.now) only.entry.now) result }
+    ensures { IsAskedBy asked.entry.now filters.entry.now result }
 {
     Options {
         threads: asked.threads,
@@ -53,16 +50,11 @@ fn options_of<'o>(
         lists: ReportLists {
             files: asked.table.files
                 || asked.table.by.dir.is_some()
-                || is_picture(asked.table.format),
+                || is_picture(asked.table.format)
+                || needs_files(&asked.conditions),
             left_out: asked.left_out,
         },
-        exclude: rules.exclude,
-        command_line: rules.command_line,
-        no_ignore: asked.exclusions.no_ignore,
-        archive: asked.exclusions.archive,
-        without: &asked.exclusions.without,
-        include: rules.include,
-        only,
+        filters,
         named: Some(named),
     }
 }
@@ -93,10 +85,9 @@ pub(crate) fn count<R: Threads + Wait + Sync + AllocGlobal, Y: System, S: Source
         (Y.unlists system.now) (Y.unreads system.now) (Y.lies system.now))
         S.may_give O.may_take format asked.now input.old out.old result input.new out.new }
 {
-    let rules = AskedRules::read(rt.alloc(), system, &asked.exclusions)?;
-    let shared = rules.shared()?;
+    let filters = read_filters(rt.alloc(), system, &asked.filters)?;
     let tree = system.tree(rt.alloc(), asked.directory, entered_by(asked))?;
-    let named = NamedAttributes::new(rt.alloc(), &asked.exclusions.without)?;
+    let named = NamedAttributes::new(rt.alloc(), &asked.filters.without)?;
     // Lent before the list is, so that the options' references end together.
     let noted = &named;
     let list = list_of(rt.alloc(), system, asked.only_from, input)?;
@@ -104,10 +95,14 @@ pub(crate) fn count<R: Threads + Wait + Sync + AllocGlobal, Y: System, S: Source
     let only = asked.only.as_slice();
     let end = path_end(asked.null);
     let wanted = wanted_paths(rt.alloc(), only, asked.only_from, end, listed)?;
-    let paths = wanted.as_slice();
-    let options = options_of(asked, shared, paths, noted);
-    let table = asked.table.options(format);
-    let faults = run(rt, rt.alloc(), &tree, &options, table, out)?;
+    let filters = narrowed(rt.alloc(), filters, wanted.as_slice())?;
+    let options = options_of(asked, &filters, noted);
+    let conditions = asked.conditions.as_slice();
+    let shown = ReportOptions {
+        table: asked.table.options(format),
+        conditions,
+    };
+    let faults = run(rt, rt.alloc(), &tree, &options, shown, out)?;
     let unnamed = unnamed_lines(rt.alloc(), noted);
     Ok(Answered::Counted(faults, unnamed))
 }

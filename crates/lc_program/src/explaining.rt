@@ -1,17 +1,18 @@
 //! Answering explanations of paths.
 
+ghost use Rattle.std.specs.Prelude.{◌≡◌};
 ghost use Rattle.lc_program.specs.Requests.{AnswersExplanation, AnswersPaths};
 ghost use Rattle.lc_program.specs.Systems.{system_may};
 
 use crate::answered::Answered;
-use crate::asked_rules::AskedRules;
 use crate::cause::Cause;
 use crate::checking::path_end;
+use crate::filters::read_filters;
 use crate::system::System;
 use lc_arguments::ExplainRequest;
 use lc_census::Source;
-use lc_explain::{ExplainOptions, explain, explain_words};
-use lc_level::Selection;
+use lc_level::Filters;
+use lc_paths::{ExplainOptions, explain, explain_words};
 use lc_text::{PathStyle, Sink};
 use lc_tree::{FileSystems, Tree};
 use std::alloc::Global;
@@ -37,6 +38,14 @@ fn explain_paths<T: Tree, S: Source, O: Sink>(
     Ok(Answered::Explained(outcome))
 }
 
+/// Makes the options of an explanation.
+fn options_of<'o>(filters: &'o Filters<'_>, style: PathStyle) -> ExplainOptions<'o>
+    ensures filters { result.filters.now ≡ filters.entry.now }
+    ensures style { result.style ≡ style }
+{
+    ExplainOptions { filters, style }
+}
+
 /// Explains paths of a directory, by its rules and those of the command line.
 pub(crate) fn explain_asked<Y: System, S: Source, O: Sink>(
     alloc: Global,
@@ -51,24 +60,8 @@ pub(crate) fn explain_asked<Y: System, S: Source, O: Sink>(
         (Y.unlists system.now) (Y.unreads system.now) (Y.lies system.now))
         S.may_give O.may_take style asked.now input.old out.old result input.new out.new }
 {
-    let rules = AskedRules::read(alloc, system, &asked.exclusions)?;
-    let AskedRules {
-        exclude,
-        command_line,
-        include,
-    } = rules;
+    let filters = read_filters(alloc, system, &asked.filters)?;
     let tree = system.tree(alloc, asked.directory, FileSystems::All)?;
-    let patterns = match &include {
-        Some(text) => Some(text.rules()),
-        None => None,
-    };
-    let selection = Selection::new(asked.exclusions.archive, &asked.exclusions.without);
-    let options = ExplainOptions {
-        exclude,
-        command_line,
-        no_ignore: asked.exclusions.no_ignore,
-        selection: selection.including(patterns),
-        style,
-    };
+    let options = options_of(&filters, style);
     explain_paths(alloc, &tree, &options, asked, input, out)
 }

@@ -3,7 +3,7 @@
 //! - `system`: the directories and files that a command line names, with `unread_reason`: why one could not be read, and `repository`: the
 //!   one above a directory; `streams`: the streams, and which of them are terminals
 //! - `running`: the program; `answering`: the answer to each request, by `checking`, `counting` and `explaining`; `answered`: the answers
-//! - `asked_rules`: the rules that a command line names, by `rules_file`: those of a file; `path_list`: the paths in a file
+//! - `filters`: those that a command line asks for, by `rules_file`: the rules of a file; `path_list`: the paths in a file
 //! - `runs`: the walk of a tree and its table, by `showing`: the text of a report, made and written
 //! - `ending`: how the program ends; `cause`: why it gives up
 //! - `telling`: help, the version, and the lines on standard error, with `introducing`, `faults`, `unlisted`, `unnamed`, `unmatched`
@@ -12,7 +12,6 @@
 
 mod answered;
 mod answering;
-mod asked_rules;
 mod cause;
 mod checking;
 mod commands;
@@ -20,6 +19,7 @@ mod counting;
 mod ending;
 mod explaining;
 mod faults;
+mod filters;
 mod hints;
 mod introducing;
 mod path_list;

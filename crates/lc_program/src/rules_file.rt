@@ -1,6 +1,6 @@
 //! The rules of a file that the command line names.
 
-ghost use Rattle.lc_program.specs.Rules.{LoadsFile};
+ghost use Rattle.lc_program.specs.Filters.{LoadsFile};
 
 use crate::system::System;
 use lc_level::{RuleText, RulesFileFault, read_rule_text};

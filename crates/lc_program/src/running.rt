@@ -127,12 +127,12 @@ fn end_of<R: Threads + Wait + Sync + AllocGlobal, Y: System, W: AsStr, S: Source
 /// Runs the program with these arguments and streams, and returns its exit status: 0 done, 1 the answer names a fault, 2 the arguments are
 /// refused, 3 it gave up, with one line on `err`.
 ///
-/// - no arguments: the input has the lines of an ignore file, then a line `--`, then paths ([`check_joined`](lc_check::check_joined));
+/// - no arguments: the input has the lines of an ignore file, then a line `--`, then paths ([`check_joined`](lc_paths::check_joined));
 /// - `check FILE`: the rules are those of the file of this name, which is read first, and the input has the paths
-///   ([`check`](lc_check::check); with `--explain` [`check_explained`](lc_check::check_explained));
+///   ([`check`](lc_paths::check); with `--explain` [`check_explained`](lc_paths::check_explained));
 /// - `count DIR`: the table of the directory of this name ([`run`](crate::runs::run)); the file of `--exclude-from` is read before the walk;
 /// - `explain DIR`: which rule of the directory of this name decides each path, of the input or of the arguments
-///   ([`explain`](lc_explain::explain)).
+///   ([`explain`](lc_paths::explain)).
 ///
 /// If standard input is a terminal and is read, a line says so first. If standard output is a terminal, checks and explanations print
 /// paths and patterns so that it shows them safely, and a table for which no format is named is printed in columns. If standard error is a

@@ -7,7 +7,7 @@ ghost use Rattle.lc_program.specs.Runs.{AnswersRun, table_fault};
 ghost use Rattle.lc_program.specs.declared.runs.RunFault.TheVariants.{Walk};
 
 use crate::showing::table;
-use lc_sheet::TableOptions;
+use lc_sheet::ReportOptions;
 use lc_text::{PrintFault, Sink};
 use lc_tree::Tree;
 use lc_walk::{FaultLine, Options, WalkFault, walk};
@@ -49,12 +49,15 @@ impl From<PrintFault> for RunFault {
     }
 }
 
-/// Walks a tree, writes the table of what it found ([`table`]), and returns what could not be read.
+/// Walks a tree, writes the table of what it found that meets the conditions ([`table`]), and returns what could not be read.
+///
+/// A condition on a number needs the list of files.
 ///
 /// ```
 /// let tree = SysTree::new(&rt, rt.alloc(), "src", FileSystems::All)?;
-/// let table_options = TableOptions { format: Format::Tsv, by: Columns::ALL, sort: None, top: None, files: false, share: false };
-/// let faults = run(&rt, rt.alloc(), &tree, &options, table_options, &mut out)?;
+/// let table = TableOptions { format: Format::Tsv, by: Columns::ALL, sort: None, top: None, files: false, share: false };
+/// let shown = ReportOptions { table, conditions: &[] };
+/// let faults = run(&rt, rt.alloc(), &tree, &options, shown, &mut out)?;
 /// assert!(faults.is_empty());
 /// ```
 pub fn run<T: Tree, R: Threads + Wait + Sync, O: Sink>(
@@ -62,13 +65,14 @@ pub fn run<T: Tree, R: Threads + Wait + Sync, O: Sink>(
     alloc: Global,
     tree: &T,
     options: &Options<'_>,
-    table_options: TableOptions,
+    shown: ReportOptions<'_>,
     out: &mut O,
 ) -> Result<Vec<FaultLine>, RunFault>
     requires limits { AreWithinLimits options.now }
-    ensures { AnswersRun O.may_take (Walks (T.lists tree.now) (T.gives tree.now) options.now) table_options out.old result out.new }
+    ensures { AnswersRun O.may_take (Walks (T.lists tree.now) (T.gives tree.now) options.now)
+        shown.entry.conditions.now shown.entry.table out.old result out.new }
 {
     let mut report = walk(rt, alloc, tree, options)?;
-    table(alloc, &mut report, table_options, out)?;
+    table(alloc, &mut report, shown, out)?;
     Ok(report.faults)
 }

@@ -1,13 +1,13 @@
 //! The text of a report, made and written.
 
 ghost use Rattle.std.specs.Prelude.{◌≡◌, false, IfOk};
-ghost use Rattle.lc_program.specs.ReportTexts.{HasSheet, IsTextIn, IsTextOf, is_picture};
+ghost use Rattle.lc_program.specs.ReportTexts.{HasSheet, IsTextIn, IsTextOf, IsTextOfPart, is_picture};
 ghost use Rattle.lc_program.specs.Runs.{AnswersTable};
 
 use lc_formats::{csv_text, json_text, markdown_text, table_text, tsv_text};
 use lc_picture::page;
-use lc_rows::{ReportSheet, Shown, sort_files};
-use lc_sheet::{Format, TableOptions};
+use lc_rows::{ReportSheet, Shown, keep, sort_files};
+use lc_sheet::{Format, ReportOptions, TableOptions};
 use lc_text::{PrintFault, Sink, print};
 use lc_walk::Report;
 use std::alloc::{AllocError, Global};
@@ -63,17 +63,31 @@ pub fn report_text(
     }
 }
 
-/// Makes the text of a report ([`report_text`]), and writes it. The report's faults stay as they are.
+/// Makes the text of what meets the conditions of a report ([`report_text`]). It drops from the report what does not.
+fn part_text(
+    alloc: Global,
+    report: &mut Report,
+    options: ReportOptions<'_>,
+) -> Result<Vec<u8>, AllocError>
+    ensures text { IfOk result (λ text. IsTextOfPart options.entry.conditions.now options.entry.table report.old text.items) }
+    ensures faults { report.new.faults ≡ report.old.faults }
+{
+    keep(alloc, options.conditions, report)?;
+    let text = report_text(alloc, report, options.table)?;
+    Ok(text)
+}
+
+/// Makes the text of what meets the conditions of a report ([`report_text`]), and writes it. The report's faults stay as they are.
 pub fn table<O: Sink>(
     alloc: Global,
     report: &mut Report,
-    options: TableOptions,
+    options: ReportOptions<'_>,
     out: &mut O,
 ) -> Result<(), PrintFault>
-    ensures answers { AnswersTable O.may_take options report.old out.old result out.new }
+    ensures answers { AnswersTable O.may_take options.entry.conditions.now options.entry.table report.old out.old result out.new }
     ensures faults { report.new.faults ≡ report.old.faults }
 {
-    let text = report_text(alloc, report, options)?;
+    let text = part_text(alloc, report, options)?;
     print(out, &text)?;
     Ok(())
 }

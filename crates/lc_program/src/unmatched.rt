@@ -3,7 +3,7 @@
 ghost use Rattle.std.specs.Prelude.{◌≡◌, string_bytes, IfOk};
 ghost use Rattle.lc_program.specs.Unmatched.{unmatched_in, unmatched_line, unmatched_lines, unmatched_of, unmatched_text};
 
-use lc_arguments::{Exclusions, Request};
+use lc_arguments::{FilterRequest, Request};
 use lc_rules::can_match;
 use lc_text::push_visible;
 use std::alloc::{AllocError, Global};
@@ -40,7 +40,7 @@ fn unmatched_lines(alloc: Global, patterns: &[&str]) -> Result<String, AllocErro
     Ok(text)
 }
 
-fn unmatched_of(alloc: Global, asked: &Exclusions<'_>) -> Result<String, AllocError>
+fn unmatched_of(alloc: Global, asked: &FilterRequest<'_>) -> Result<String, AllocError>
     ensures { IfOk result (λ text. string_bytes text ≡ unmatched_of asked.now) }
 {
     let mut text = unmatched_lines(alloc, &asked.exclude)?;
@@ -54,8 +54,8 @@ pub(crate) fn unmatched_in(alloc: Global, request: &Request<'_>) -> Result<Strin
     ensures { IfOk result (λ text. string_bytes text ≡ unmatched_in request.now) }
 {
     match request {
-        Request::Count(asked) => unmatched_of(alloc, &asked.exclusions),
-        Request::Explain(asked) => unmatched_of(alloc, &asked.exclusions),
+        Request::Count(asked) => unmatched_of(alloc, &asked.filters),
+        Request::Explain(asked) => unmatched_of(alloc, &asked.filters),
         Request::CheckJoined | Request::Check(_) => Ok(String::new(alloc)),
     }
 }

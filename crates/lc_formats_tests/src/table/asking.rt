@@ -1,21 +1,21 @@
 //! Runs as the tests ask for them, and their tables.
 
-ghost use Rattle.std.specs.Prelude.{◌≤◌, IfOk};
+ghost use Rattle.std.specs.Prelude.{◌≤◌};
 ghost use Rattle.lc_walk.specs.WalkOptions.{AreWithinLimits};
 
 use lc_board::{Locked, Shared, Words};
-use lc_level::Job;
+use lc_level::{Filters, Job, RuleText, read_rule_text};
 use lc_program::{RunFault, run, table};
-use lc_rules::IgnoreFile;
-use lc_sheet::{Columns, Format, TableOptions};
+use lc_sheet::{Columns, Format, ReportOptions, TableOptions};
+use lc_tests::Sketch;
+use lc_tests::trees::BytewiseTree;
+use lc_tests::writers::{Narrow, WhenFull};
 use lc_text::Outcome;
-use lc_text::trials::{Narrow, WhenFull};
-use lc_tree::trials::BytewiseTree;
-use lc_tree::{MemTree, Sketch, Tree};
+use lc_tree::{MemTree, Tree};
 use lc_walk::{FaultLine, Options, ReportLists, Row, WalkFault, walk_on};
 use std::alloc::{AllocError, Global};
 use std::process::Abort;
-use std::sync::{Arc, Wait};
+use std::sync::Wait;
 use std::test::Fail;
 use std::thread::Threads;
 
@@ -75,42 +75,47 @@ pub(super) const TSV: TableOptions = TableOptions {
 /// The first line of each such table.
 pub(super) const HEADER: &[u8] = b"ext\ttext\teol\tfiles\tlines\tblank\tbytes\n";
 
-fn excluding(alloc: Global, rules: &[u8]) -> Result<Option<Arc<IgnoreFile, Global>>, AllocError> {
+fn excluding(alloc: Global, rules: &[u8]) -> Result<Option<RuleText>, AllocError> {
     if rules.is_empty() {
         return Ok(None);
     }
-    let Ok(rules) = IgnoreFile::read(alloc, rules) else {
-        return Err(AllocError);
-    };
-    match Arc::new(alloc, rules) {
-        Ok(rules) => Ok(Some(rules)),
+    let mut rules = rules;
+    match read_rule_text(alloc, &mut rules) {
+        Ok(text) => Ok(Some(text)),
         Err(_) => Err(AllocError),
     }
 }
 
-fn options_of(
-    alloc: Global,
+/// The filters that are asked for.
+fn filters_of<'p>(alloc: Global, asked: &Asked<'_>) -> Result<Filters<'p>, AllocError> {
+    let mut without = Vec::new(alloc);
+    if asked.archive {
+        without.push(b"export-ignore".to_vec(alloc)?)?;
+    }
+    Ok(Filters {
+        exclude_from: excluding(alloc, asked.exclude)?,
+        without,
+        ..Filters::none(alloc)
+    })
+}
+
+fn options_of<'o>(
+    filters: &'o Filters<'_>,
     asked: &Asked<'_>,
     threads: u32,
     max_dirs: u32,
-) -> Result<Options<'static>, AllocError>
+) -> Options<'o>
     requires threads { (1 ≤ threads) × (threads ≤ 16) }
     requires directories { (1 ≤ max_dirs) × (max_dirs ≤ 1048576) }
-    ensures { IfOk result AreWithinLimits }
+    ensures { AreWithinLimits result }
 {
-    Ok(Options {
+    Options {
         threads,
         max_dirs,
         lists: asked.lists,
-        exclude: excluding(alloc, asked.exclude)?,
-        command_line: None,
-        no_ignore: false,
-        archive: asked.archive,
-        without: &[],
-        include: None,
-        only: &[],
+        filters,
         named: None,
-    })
+    }
 }
 
 /// The options of a table of a report with these lists.
@@ -118,6 +123,14 @@ pub(super) fn listing(lists: ReportLists) -> TableOptions {
     TableOptions {
         files: lists.files,
         ..TSV
+    }
+}
+
+/// The options of a report of which all is shown.
+pub(super) fn showing_all(table: TableOptions) -> ReportOptions<'static> {
+    ReportOptions {
+        table,
+        conditions: &[],
     }
 }
 
@@ -147,11 +160,12 @@ pub(super) fn answer_of<R: Threads + Wait + Sync + AllocGlobal, T: Tree>(
     requires threads { (1 ≤ threads) × (threads ≤ 16) }
     requires directories { (1 ≤ max_dirs) × (max_dirs ≤ 1048576) }
 {
-    let Ok(options) = options_of(rt.alloc(), asked, threads, max_dirs) else {
+    let Ok(filters) = filters_of(rt.alloc(), asked) else {
         return Err(RunFault::Memory);
     };
-    let table_options = listing(options.lists);
-    let faults = run(rt, rt.alloc(), tree, &options, table_options, out)?;
+    let options = options_of(&filters, asked, threads, max_dirs);
+    let shown = showing_all(listing(options.lists));
+    let faults = run(rt, rt.alloc(), tree, &options, shown, out)?;
     Ok(outcome_of(&faults))
 }
 
@@ -166,11 +180,13 @@ fn answer_over<B: Shared<Job, Row>, R: Threads + Wait + Sync, T: Tree>(
 ) -> Result<Outcome, RunFault>
     requires { (1 ≤ threads) × (threads ≤ 16) }
 {
-    let Ok(options) = options_of(alloc, asked, threads, 16) else {
+    let Ok(filters) = filters_of(alloc, asked) else {
         return Err(RunFault::Memory);
     };
+    let options = options_of(&filters, asked, threads, 16);
     let mut report = walk_on::<B, T, R>(rt, alloc, tree, &options)?;
-    table(alloc, &mut report, listing(options.lists), out)?;
+    let shown = showing_all(listing(options.lists));
+    table(alloc, &mut report, shown, out)?;
     Ok(outcome_of(&report.faults))
 }
 

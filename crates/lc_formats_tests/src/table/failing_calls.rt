@@ -2,9 +2,10 @@
 
 use crate::table::asking::{Case, compare, compare_all};
 use crate::table::runs::{BUILD, FIRST_CASE, IGNORE, KEPT, LOG, RULES, SRC};
+use lc_tests::Sketch;
+use lc_tests::trees::{FailingCall, FailingTree};
 use lc_text::Outcome;
-use lc_tree::trials::{FailingCall, FailingTree};
-use lc_tree::{MemTree, Sketch};
+use lc_tree::MemTree;
 use std::process::Abort;
 use std::sync::Wait;
 use std::test::Fail;

@@ -4,9 +4,10 @@ ghost use Rattle.std.specs.Prelude.{◌≤◌};
 
 use crate::table::asking::{WITH_FILES, answer_of, new_writer, settled};
 use lc_program::RunFault;
+use lc_tests::Sketch;
+use lc_tests::trees::{FailingCall, FailingTree};
 use lc_text::Outcome;
-use lc_tree::trials::{FailingCall, FailingTree};
-use lc_tree::{MemTree, Sketch};
+use lc_tree::MemTree;
 use std::alloc::AllocError;
 use std::process::Abort;
 use std::sync::Wait;

@@ -5,9 +5,10 @@ use crate::table::asking::{
     new_writer, settled,
 };
 use lc_program::RunFault;
+use lc_tests::Sketch;
+use lc_tests::writers::{Narrow, WRITERS, WhenFull};
 use lc_text::Outcome;
-use lc_text::trials::{Narrow, WRITERS, WhenFull};
-use lc_tree::{MemTree, Sketch};
+use lc_tree::MemTree;
 use lc_walk::WalkFault;
 use std::alloc::{AllocError, Global};
 use std::process::Abort;

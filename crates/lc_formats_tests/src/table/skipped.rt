@@ -4,9 +4,10 @@ use crate::table::asking::{HEADER, TSV};
 use crate::table::screens::EMPTY;
 use crate::table::tables::{has_parts, report_of};
 use lc_level::Reason;
-use lc_rules::RuleSource;
+use lc_rules::RuleSource::{self, ExcludeFrom, Gitignore, InfoExclude};
 use lc_sheet::{Format, TableOptions};
-use lc_tree::{Kind, OtherKind};
+use lc_tree::Kind;
+use lc_tree::OtherKind::{self, Mounted, Special};
 use lc_walk::{Report, ReportLists, SkippedLine};
 use std::alloc::{AllocError, Global};
 use std::process::Abort;
@@ -23,33 +24,13 @@ enum Why {
 
 const LEFT: &[(&[u8], Kind, Why)] = &[
     (b".git", Kind::Dir, Why::Git),
-    (
-        b"a\n.log",
-        Kind::File,
-        Why::Rule(RuleSource::Gitignore(0), 1),
-    ),
+    (b"a\n.log", Kind::File, Why::Rule(Gitignore(0), 1)),
     (b"docs", Kind::Dir, Why::Attribute(b"export-ignore")),
-    (
-        b"link.c",
-        Kind::Other(OtherKind::Special),
-        Why::Other(OtherKind::Special),
-    ),
-    (
-        b"mnt",
-        Kind::Other(OtherKind::Mounted),
-        Why::Other(OtherKind::Mounted),
-    ),
-    (
-        b"notes.txt",
-        Kind::File,
-        Why::Rule(RuleSource::InfoExclude, 2),
-    ),
-    (
-        b"src/gen",
-        Kind::Dir,
-        Why::Rule(RuleSource::Gitignore(1), 3),
-    ),
-    (b"x.bak", Kind::File, Why::Rule(RuleSource::ExcludeFrom, 7)),
+    (b"link.c", Kind::Other(Special), Why::Other(Special)),
+    (b"mnt", Kind::Other(Mounted), Why::Other(Mounted)),
+    (b"notes.txt", Kind::File, Why::Rule(InfoExclude, 2)),
+    (b"src/gen", Kind::Dir, Why::Rule(Gitignore(1), 3)),
+    (b"x.bak", Kind::File, Why::Rule(ExcludeFrom, 7)),
 ];
 
 fn reason_of(alloc: Global, why: Why) -> Result<Reason, AllocError> {

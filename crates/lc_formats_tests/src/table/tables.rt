@@ -1,13 +1,13 @@
 //! Reports, and the text of their table.
 
-use crate::table::asking::{HEADER, TSV};
+use crate::table::asking::{HEADER, TSV, showing_all};
 use lc_census::{Count, Eol};
 use lc_level::FaultWord;
 use lc_program::{report_text, table};
 use lc_rules::TextState;
 use lc_sheet::TableOptions;
+use lc_tests::writers::{Narrow, WRITERS, WhenFull};
 use lc_text::PrintFault;
-use lc_text::trials::{Narrow, WRITERS, WhenFull};
 use lc_walk::{FaultLine, FileLine, Report, ReportLists, Sums, TallyRow};
 use std::alloc::{AllocError, Global};
 use std::process::Abort;
@@ -296,7 +296,7 @@ fn stops_there(
 ) -> Result<bool, AllocError> {
     let mut report = report_of(alloc, case)?;
     let mut out = Narrow::new(alloc, step, room, when_full)?;
-    let answer = table(alloc, &mut report, TSV, &mut out);
+    let answer = table(alloc, &mut report, showing_all(TSV), &mut out);
     if answer == Err(PrintFault::Memory) && out.taken.is_empty() {
         return Err(AllocError);
     }

@@ -2,8 +2,9 @@
 
 use crate::runs::mem_system::MemSystem;
 use lc_program::{Streams, Terminals, UnreadReason, program};
-use lc_text::trials::{Narrow, WhenFull};
-use lc_tree::{Node, Sketch};
+use lc_tests::Sketch;
+use lc_tests::writers::{Narrow, WhenFull};
+use lc_tree::Node;
 use std::alloc::{AllocError, Global};
 use std::process::Abort;
 use std::sync::Wait;

@@ -3,7 +3,8 @@
 use crate::runs::mem_system::MemSystem;
 use lc_census::Source;
 use lc_program::{Cause, Repository, System, UnreadReason, give_up, misuse};
-use lc_tree::{FileSystems, Node, Sketch, Tree};
+use lc_tests::Sketch;
+use lc_tree::{FileSystems, Node, Tree};
 use std::alloc::AllocError;
 use std::test::Fail;
 

@@ -1,7 +1,7 @@
 //! Checks of paths.
 
 use crate::runs::asking::{Case, EMPTY, compare_all};
-use lc_tree::Sketch;
+use lc_tests::Sketch;
 use std::test::Fail;
 
 const WORKED: Case<'static> = Case {

@@ -1,7 +1,8 @@
 //! Counts: their tables, by one thread and by several.
 
 use crate::runs::asking::{Case, EMPTY, Entry, compare_by_threads};
-use lc_tree::{OtherKind, Sketch};
+use lc_tests::Sketch;
+use lc_tree::OtherKind;
 use std::test::Fail;
 
 const IGNORE: Entry = (b".gitignore", Sketch::File(b"*.log\n!keep.log\n/build/\n"));

@@ -2,7 +2,7 @@
 
 use crate::runs::asking::{Case, EMPTY, compare_all};
 use lc_program::{Terminals, UnreadReason};
-use lc_tree::Sketch;
+use lc_tests::Sketch;
 use std::test::Fail;
 
 const LINE: Sketch<'static> = Sketch::File(b"x\n");

@@ -2,7 +2,7 @@
 
 use crate::runs::asking::{Case, EMPTY, NO_TERMINALS, compare_all};
 use lc_program::{Terminals, UnreadReason};
-use lc_tree::Sketch;
+use lc_tests::Sketch;
 use std::test::Fail;
 
 const TABLE: &[u8] = b"ext\ttext\teol\tfiles\tlines\tblank\tbytes\n\

@@ -2,7 +2,7 @@
 
 use crate::runs::asking::{Case, EMPTY, compare_all};
 use lc_program::UnreadReason;
-use lc_tree::Sketch;
+use lc_tests::Sketch;
 use std::test::Fail;
 
 /// A count of a directory that can't be listed.

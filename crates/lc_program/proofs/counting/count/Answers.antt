@@ -1,24 +1,16 @@
-use Rattle.std.proofs.Common.{inl, inr, refl}
+use Rattle.std.proofs.Common.{ap, inl, inr, map, refl}
+use Rattle.lc_program.proofs.FiltersAsked.{asked_by_all, memory_wanted}
 use Rattle.lc_program.proofs.Loading.{given_up, run_counted, run_replied}
 use Rattle.lc_program.specs.declared.cause.Cause.TheVariants.{Memory}
 use Rattle.lc_program.proofs.counting.count.Goals as goal
 
-pub returns-in_err-rules : goal.returns-in_err-rules
-returns-in_err-rules g c =
+pub returns-in_err-filters : goal.returns-in_err-filters
+returns-in_err-filters g c =
     inr (
-      c.in_err-rules.field-0.0,
-      given_up c.from_residual.result c.in_err-rules.field-0.0 c.from_residual.ensures.1,
+      c.in_err-filters.field-0.0,
+      given_up c.from_residual.result c.in_err-filters.field-0.0 c.from_residual.ensures.1,
       refl,
-      inl (inl c.in_err-rules.ensures, refl),
-    )
-
-pub returns-in_err-shared : goal.returns-in_err-shared
-returns-in_err-shared g c =
-    inr (
-      Memory,
-      given_up c.from_residual-in_err-shared.result Memory c.from_residual-in_err-shared.ensures.1,
-      refl,
-      inl (inr refl, refl),
+      inl (inl c.in_err-filters.ensures, refl),
     )
 
 pub returns-in_err-tree : goal.returns-in_err-tree
@@ -62,11 +54,21 @@ returns-in_err-wanted g c =
       )),
     )
 
+-- paths that could not be sorted are none, for want of memory
+pub returns-in_err-filters-2 : goal.returns-in_err-filters-2
+returns-in_err-filters-2 g c =
+    inr (
+      Memory,
+      given_up c.from_residual-in_err-filters-2.result Memory c.from_residual-in_err-filters-2.ensures.1,
+      refl,
+      inr (inl (c.in_ok-list.list, c.in_ok-list.ensures, memory_wanted _ c.args.asked.now.only_from _ c.in_ok-list.list.items)),
+    )
+
 pub returns-in_err-faults : goal.returns-in_err-faults
 returns-in_err-faults g c =
     inl (
-      c.in_ok-rules.rules,
-      c.in_ok-rules.ensures,
+      c.in_ok-filters.ensures.0,
+      c.in_ok-filters.ensures.1,
       (
         c.in_ok-wanted.wanted,
         inl (
@@ -76,12 +78,13 @@ returns-in_err-faults g c =
         ),
         (
           c.options_of-options.result,
-          rw c.as_slice-paths.ensures.value at c.options_of-options.ensures c.in_ok-rules.rules c.in_ok-shared.ensures,
+          asked_by_all c.args.asked.now c.in_ok-filters.ensures.0 _ _ _ _ _ c.options_of-options.ensures c.in_ok-filters-2.ensures
+              c.in_ok-filters.ensures.2 (ap (map (λ path. path.now)) c.as_slice.ensures.value),
           (
             c.run.result,
             run_replied c.from_residual-in_err-faults.result c.run.result c.in_err-faults.field-0.0 c.from_residual-in_err-faults.ensures.1
                 c.in_err-faults.was,
-            rw (c.in_ok-tree.ensures, c.entered_by.ensures, c.options-table.ensures) at c.run.ensures,
+            rw (c.in_ok-tree.ensures, c.entered_by.ensures, c.options.ensures, c.as_slice-conditions.ensures.value) at c.run.ensures,
           ),
         ),
       ),
@@ -90,8 +93,8 @@ returns-in_err-faults g c =
 pub returns : goal.returns
 returns g c =
     inl (
-      c.in_ok-rules.rules,
-      c.in_ok-rules.ensures,
+      c.in_ok-filters.ensures.0,
+      c.in_ok-filters.ensures.1,
       (
         c.in_ok-wanted.wanted,
         inl (
@@ -101,12 +104,13 @@ returns g c =
         ),
         (
           c.options_of-options.result,
-          rw c.as_slice-paths.ensures.value at c.options_of-options.ensures c.in_ok-rules.rules c.in_ok-shared.ensures,
+          asked_by_all c.args.asked.now c.in_ok-filters.ensures.0 _ _ _ _ _ c.options_of-options.ensures c.in_ok-filters-2.ensures
+              c.in_ok-filters.ensures.2 (ap (map (λ path. path.now)) c.as_slice.ensures.value),
           (
             c.run.result,
             run_counted c.run.result c.in_ok-faults.faults c.unnamed_lines-unnamed.result c.unnamed_lines-unnamed.ensures
                 c.in_ok-faults.was,
-            rw (c.in_ok-tree.ensures, c.entered_by.ensures, c.options-table.ensures) at c.run.ensures,
+            rw (c.in_ok-tree.ensures, c.entered_by.ensures, c.options.ensures, c.as_slice-conditions.ensures.value) at c.run.ensures,
           ),
         ),
       ),

@@ -3,12 +3,12 @@ use Rattle.lc_program.proofs.Loading.{given_up}
 use Rattle.lc_program.specs.declared.cause.Cause.TheVariants.{Memory}
 use Rattle.lc_program.proofs.explaining.explain_asked.Goals as goal
 
-pub returns-in_err-rules : goal.returns-in_err-rules
-returns-in_err-rules g c =
+pub returns-in_err-filters : goal.returns-in_err-filters
+returns-in_err-filters g c =
     inr (
-      c.in_err-rules.field-0.0,
-      inl c.in_err-rules.ensures,
-      given_up c.from_residual.result c.in_err-rules.field-0.0 c.from_residual.ensures.1,
+      c.in_err-filters.field-0.0,
+      inl c.in_err-filters.ensures,
+      given_up c.from_residual.result c.in_err-filters.field-0.0 c.from_residual.ensures.1,
       refl,
       refl,
     )

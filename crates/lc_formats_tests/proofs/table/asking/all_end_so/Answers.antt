@@ -1,5 +1,5 @@
 use denote.Param.Send.{sendable}
-use Rattle.lc_walk.proofs.Crossing.{crosses}
+use Rattle.lc_walk.proofs.SentAndShared.{crosses}
 use Rattle.lc_formats_tests.proofs.table.asking.all_end_so.Goals as goal
 
 pub ends_so_over-requires-send-B-Pass : goal.ends_so_over-requires-send-B-Pass

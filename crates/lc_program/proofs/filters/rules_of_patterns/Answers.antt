@@ -1,6 +1,6 @@
 use Rattle.std.proofs.Common.{◌≡◌, ◌≢◌, ◌∙◌, ◌==◌, ℕ, false, List, [], ◌∷◌, Bor, length, map, sym}
 use Rattle.lc_program.proofs.SlicesRead.{text_read, text_unread}
-use Rattle.lc_program.proofs.asked_rules.rules_of_patterns.Goals as goal
+use Rattle.lc_program.proofs.filters.rules_of_patterns.Goals as goal
 
 -- some patterns are some texts
 some_texts : (patterns : List (Bor (List ℕ))) → (length patterns == 0) ≡ false → map (λ pattern. pattern.now) patterns ≢ []

@@ -1,0 +1,25 @@
+-- Options by the filters and the paths that words ask for.
+use Rattle.std.proofs.Common.{◌≡◌, ℕ, List, [], Option, Some, None, Err, refl, subst}
+use Rattle.std.specs.Borrow.{Bor}
+use Rattle.lc_arguments.specs.declared.count.CountRequest.{CountRequest}
+use Rattle.lc_level.specs.Filters.{FiltersModel, narrowed}
+use Rattle.lc_text.specs.declared.lines.PathEnd.{PathEnd}
+use Rattle.lc_walk.specs.declared.options.Options.{Options}
+use Rattle.lc_program.specs.Counts.{IsAskedBy}
+use Rattle.lc_program.specs.Filters.{filters_of}
+use Rattle.lc_program.specs.PathLists.{AnswersWanted}
+use Rattle.lc_program.specs.declared.cause.Cause.TheVariants.{Memory}
+
+-- memory may be refused to paths at any time
+pub memory_wanted : (only : List (List ℕ)) (name : Option (Bor (List ℕ))) (end : PathEnd) (list : List ℕ)
+    → AnswersWanted only name end list (Err Memory)
+memory_wanted only None end list = refl
+memory_wanted only (Some name) end list = tt
+
+-- options by filters to which these paths were added
+pub asked_by_all : (c : CountRequest) (text : Option (List ℕ)) (f g : FiltersModel) (only paths : List (List ℕ)) (o : Options)
+    → IsAskedBy c g o → g ≡ narrowed f only → f ≡ filters_of c.filters text [] → only ≡ paths
+    → IsAskedBy c (filters_of c.filters text paths) o
+asked_by_all c text f g only paths o asked narrow are is =
+    subst (λ ps. IsAskedBy c (filters_of c.filters text ps) o) is
+    (subst (λ h. IsAskedBy c (narrowed h only) o) are (subst (λ h. IsAskedBy c h o) narrow asked))
