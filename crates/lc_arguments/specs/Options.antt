@@ -89,6 +89,7 @@ options =
     ∷ option (codes "sort") None Text None count
     ∷ option (codes "top") None (Number max_top) None count
     ∷ option (codes "share") None Flag None count
+    ∷ option (codes "fail-if-any") None Flag None count
     ∷ option (codes "threads") (Some 106) (Number max_threads) (Some (codes "4")) count
     ∷ option (codes "max-dirs") None (Number max_dirs) (Some (codes "65536")) count
     ∷ option (codes "DIR") None OptionalWord (Some (codes ".")) count

@@ -181,6 +181,7 @@ pub record IsCountOf (rows : List Row) (c : CountRequest) : Type 0 where
   pub top : c.table.top ≡ number_if_given (codes "top") rows
   pub share : IsFlag (codes "share") rows c.table.share
   pub conditions : AreConditionsOf rows c.conditions.items
+  pub fail_if_any : IsFlag (codes "fail-if-any") rows c.fail_if_any
   pub directory : c.directory.now ≡ unwrap_or (first_of (codes "DIR") rows) (codes ".")
 
 -- the count that was asked for, whose options go together

@@ -46,6 +46,8 @@ pub struct CountRequest<'w> {
     pub table: TableRequest,
     /// Only files that meet all of these are shown.
     pub conditions: Vec<Condition<'w>>,
+    /// A file that is counted, and meets the conditions, is a failure.
+    pub fail_if_any: bool,
     /// The path of DIR, as it was given: `.`, the directory that the program runs in, where none is.
     pub directory: &'w str,
 }
@@ -112,6 +114,7 @@ fn request_in<'w>(
             ..table
         },
         conditions,
+        fail_if_any: matches.get_flag("fail-if-any"),
         directory: matches.get_str("DIR").unwrap_or("."),
     })
 }

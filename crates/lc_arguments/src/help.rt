@@ -47,6 +47,7 @@ Exit status:
   1  count, explain: the answer was written, but something could not be read
   2  usage error
   3  stopped with an error; standard error shows it in one line
+  4  count --fail-if-any: a file was counted
 
 Example: lc .
 
@@ -88,6 +89,7 @@ Exit status:
   1  the table was written, and lists what could not be read
   2  usage error
   3  no table, or a part of it; standard error shows why
+  4  --fail-if-any: the table was written, and a file was counted
 
 The word count may be left out before an option, . or .., or a path with a
 slash: lc --by ext src.
@@ -98,6 +100,7 @@ Examples:
   lc count --left-out .
   lc count --files --top 10 .
   lc count --files --where 'lines>1000' --where ext=.c,.h .
+  lc count --files --where 'lines>1000' --fail-if-any .
   lc count --by dir --depth 2 --share .
   lc count --format csv --files .
   lc count -j 8 src

@@ -136,6 +136,13 @@ most lines",
 lines. The default format is then table; markdown has shares, too",
     ),
     (
+        "fail-if-any",
+        WHAT_IS_PRINTED,
+        "Exit with status 4 if a file is counted, as a check in CI does. With
+--where only files that meet all conditions are counted. Paths that
+could not be read do not change this status",
+    ),
+    (
         "max-dirs",
         LIMITS,
         "Limit of directories, DIR included, 1 to 1048576. Past it there is no

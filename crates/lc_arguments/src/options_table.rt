@@ -234,6 +234,13 @@ const OPTIONS: &[OptionRow] = &[
         ..FLAG
     },
     OptionRow {
+        name: "fail-if-any",
+        heading: WHAT_IS_PRINTED,
+        help: "Exit with status 4 if a file is counted",
+        example: "lc count --where 'lines>1000' --fail-if-any .",
+        ..FLAG
+    },
+    OptionRow {
         name: "threads",
         short: Some('j'),
         value: "N",

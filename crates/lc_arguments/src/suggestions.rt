@@ -66,6 +66,7 @@ fn word_meant(word: &str) -> Option<&'static str> {
         "--by-ext" => Some("lc count --by ext ."),
         "--text" => Some("lc count --by ext,text ."),
         "--by-file" | "-f" => Some("lc count --files ."),
+        "--exit-code" | "--fail" => Some("lc count --where 'lines>1000' --fail-if-any ."),
         _ => None,
     }
 }

@@ -106,6 +106,10 @@ const SHORT_COUNTS: &[Case] = &[
         "count .: 4 threads, 65536 directories, no format by ext text eol, one file system",
     ),
     (
+        "--fail-if-any src",
+        "count src: 4 threads, 65536 directories, no format by ext text eol, any file fails",
+    ),
+    (
         "-- src",
         "count src: 4 threads, 65536 directories, no format by ext text eol",
     ),
@@ -286,6 +290,10 @@ const MEANT: &[Case] = &[
     ("--json", "lc count --format json ."),
     ("count --share --cvs .", "lc count ."),
     ("count --xdev .", "lc count --one-file-system ."),
+    (
+        "count --exit-code .",
+        "lc count --where 'lines>1000' --fail-if-any .",
+    ),
     ("cuont .", "lc count ."),
     ("chekc .", "git ls-files | lc check .gitignore"),
     ("explian .", "lc explain . README.md"),
@@ -391,6 +399,9 @@ fn count_text(alloc: Global, request: &CountRequest) -> Result<String, AllocErro
     }
     push_filters(&mut text, &request.filters)?;
     push_paths(&mut text, request)?;
+    if request.fail_if_any {
+        text.push_str(", any file fails")?;
+    }
     Ok(text)
 }
 

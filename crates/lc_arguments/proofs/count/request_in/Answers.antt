@@ -51,6 +51,7 @@ returns c = λ are.
       top = are.top;
       share = flag_of rows f (codes "share") c.get_flag-5.result refl c.get_flag-5.ensures.value c.get_flag-5.ensures.other;
       conditions = c.in-Ok-conditions_in.ensures;
+      fail_if_any = flag_of rows f (codes "fail-if-any") c.get_flag-6.result refl c.get_flag-6.ensures.value c.get_flag-6.ensures.other;
       directory = text_or rows f (codes "DIR") c.get_str-2.result _ c.unwrap_or.result refl c.get_str-2.ensures refl
           c.unwrap_or.ensures;
     }
