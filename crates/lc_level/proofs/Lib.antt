@@ -2,6 +2,7 @@ pub mod AskedPaths
 pub mod ByHalves
 pub mod ChainSteps
 pub mod SentAndShared
+pub mod SomeAttributes
 pub mod CountedItems
 pub mod CountedLevels
 pub mod CountedMore

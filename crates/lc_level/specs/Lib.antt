@@ -14,6 +14,7 @@ pub mod Job
 pub mod Laws
 pub mod Classified
 pub mod Level
+pub mod NamedAttributes
 pub mod Narrowing
 pub mod NodeTrees
 pub mod OneAnswer

@@ -1,5 +1,9 @@
 //! Which attributes the attribute files of a tree name.
 
+ghost use Rattle.std.specs.Prelude.{◌≡◌, map, IfOk, OnOk};
+ghost use Rattle.lc_level.specs.Filters.{attribute_of};
+ghost use Rattle.lc_level.specs.NamedAttributes.{AddsAtMost, AreSomeAttributes, noted};
+
 use lc_glob::cut_at_first;
 use memchr::memmem;
 use std::alloc::{AllocError, Global};
@@ -8,8 +12,8 @@ use std::sync::atomic::{AtomicBool, Ordering};
 /// The attributes that a command line names, and which of them the attribute files of a tree contain. Workers note this as they read
 /// the files.
 ///
-/// No contract says what is noted, so it serves for a hint alone. The name of an attribute also counts if it is a part of another word,
-/// or is in a comment.
+/// No contract says which attributes the files contain, so it serves for a hint alone. The name of an attribute also counts if it is a
+/// part of another word, or is in a comment.
 ///
 /// ```
 /// let named = NamedAttributes::new(alloc, &["linguist-generated=true"])?;
@@ -29,9 +33,23 @@ struct NotedWord {
     is_named: AtomicBool,
 }
 
+impl NotedWord {
+    /// Adds the attribute if no attribute file contained it so far.
+    fn push_unnamed(&self, alloc: Global, unnamed: &mut Vec<Vec<u8>>) -> Result<(), AllocError>
+        ensures { OnOk result (AddsAtMost self.now.attribute.items unnamed.old.items unnamed.new.items) }
+    {
+        if !self.is_named.load(Ordering::SeqCst) {
+            unnamed.push(self.attribute.to_vec(alloc)?)?;
+        }
+        Ok(())
+    }
+}
+
 impl NamedAttributes {
     /// Takes words, each of them `ATTR` or `ATTR=VALUE`. No attribute is named yet.
-    pub fn new(alloc: Global, words: &[&str]) -> Result<NamedAttributes, AllocError> {
+    pub fn new(alloc: Global, words: &[&str]) -> Result<NamedAttributes, AllocError>
+        ensures { IfOk result (λ named. noted named ≡ map (λ word. attribute_of word.now) words.now) }
+    {
         let mut noted = Vec::with_capacity(alloc, words.len())?;
         for word in words {
             let (attribute, _) = cut_at_first(b'=', word.as_bytes());
@@ -44,12 +62,12 @@ impl NamedAttributes {
     }
 
     /// Returns the attributes that no attribute file contains of those that were read, in the order of the words.
-    pub fn unnamed(&self, alloc: Global) -> Result<Vec<Vec<u8>>, AllocError> {
+    pub fn unnamed(&self, alloc: Global) -> Result<Vec<Vec<u8>>, AllocError>
+        ensures { IfOk result (λ told. AreSomeAttributes (noted self.now) told.items) }
+    {
         let mut unnamed = Vec::new(alloc);
         for word in &self.words {
-            if !word.is_named.load(Ordering::SeqCst) {
-                unnamed.push(word.attribute.to_vec(alloc)?)?;
-            }
+            word.push_unnamed(alloc, &mut unnamed)?;
         }
         Ok(unnamed)
     }

@@ -1,0 +1,24 @@
+-- Which attributes of a command line are noted, and which of them are told.
+use Rattle.std.specs.Prelude.{◌≡◌, ◌⊎◌, ℕ, List, [], ◌∷◌, ◌++◌, Vec, map}
+use Rattle.std.specs.Global.{Global}
+use Rattle.lc_level.specs.declared.named_attributes.NamedAttributes.{NamedAttributes}
+use Rattle.lc_level.specs.declared.named_attributes.NotedWord.{NotedWord}
+
+-- the attributes that are noted
+abbrev pub noted : NamedAttributes → List (List ℕ)
+noted n = map (λ (w : NotedWord). w.attribute.items) n.words.items
+
+-- these texts are some of the others, in their order
+abbrev pub AreSomeOf : List (List ℕ) → List (List ℕ) → Type 0
+AreSomeOf [] others = Unit {0}
+AreSomeOf (t ∷ ts) [] = ⊥
+AreSomeOf (t ∷ ts) (o ∷ os) = ((t ≡ o) × AreSomeOf ts os) ⊎ AreSomeOf (t ∷ ts) os
+
+-- some of these attributes, in their order
+abbrev pub AreSomeAttributes : List (List ℕ) → List (Vec ℕ Global) → Type 0
+AreSomeAttributes attributes told = AreSomeOf (map (λ (a : Vec ℕ Global). a.items) told) attributes
+
+-- this attribute may have been added
+abbrev pub AddsAtMost : List ℕ → List (Vec ℕ Global) → List (Vec ℕ Global) → Type 0
+AddsAtMost attribute before after =
+    (after ≡ before) ⊎ ((told : Vec ℕ Global) × (told.items ≡ attribute) × (after ≡ before ++ told ∷ []))
