@@ -1,8 +1,10 @@
 mod CountsShown
+mod Endings
 mod FiltersAsked
 mod Loading
 mod PathsListed
 mod PathsWanted
+mod Reordered
 mod RulesLoaded
 mod SlicesRead
 mod Told

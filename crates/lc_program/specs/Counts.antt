@@ -8,7 +8,6 @@ use Rattle.lc_arguments.specs.TableWords.{options_in}
 use Rattle.lc_arguments.specs.declared.count.CountRequest.{CountRequest}
 use Rattle.lc_io.specs.Reads.{Answer}
 use Rattle.lc_io.specs.declared.source.Failed.{Failed}
-use Rattle.lc_level.specs.FaultLines.{FaultLineModel}
 use Rattle.lc_level.specs.Filters.{FiltersModel}
 use Rattle.lc_program.specs.Runs.{AnswersRun}
 use Rattle.lc_program.specs.declared.runs.RunFault.{RunFault}
@@ -18,10 +17,12 @@ use Rattle.lc_sheet.specs.Conditions.{needs_files}
 use Rattle.lc_sheet.specs.declared.table_options.Format.{Format}
 use Rattle.lc_walk.specs.Walks.{Walks}
 use Rattle.lc_walk.specs.declared.options.Options.{Options}
+use Rattle.lc_walk.specs.declared.report.Report.{Report}
 use Rattle.lc_program.specs.PathLists.{AnswersWanted, GivesList}
 use Rattle.lc_program.specs.Replies.{IsRunReply, Reply}
 use Rattle.lc_program.specs.Filters.{Excludes, LacksRules, filters_of}
 use Rattle.lc_program.specs.Styles.{end_for}
+use Rattle.lc_program.specs.Unnamed.{attributes_of}
 use Rattle.lc_program.specs.Systems.{SystemMay}
 use Rattle.lc_program.specs.declared.cause.Cause.{Cause}
 use Rattle.lc_program.specs.declared.cause.Cause.TheVariants.{Memory}
@@ -54,7 +55,7 @@ module _ (may : SystemMay) {I O : Type 0} (may_give : I → ℕ → Answer → I
       (text : Option (List ℕ)) × Excludes may.hold c.filters.exclude_from text
       × ((paths : Vec (Bor (List ℕ)) Global) × AnswersPathsOf input (Ok paths) read
       × ((o : Options) × IsAskedBy c (filters_of c.filters text (map (λ path. path.now) paths.items)) o
-      × ((answer : Result (Vec FaultLineModel Global) RunFault) × IsRunReply answer reply
+      × ((answer : Result Report RunFault) × IsRunReply (attributes_of c.filters) answer reply
       × AnswersRun may_take (Walks (may.list c.directory.now (entered_by c)) (may.give c.directory.now (entered_by c)) o)
       c.conditions.items (options_in other c.table) out answer wrote)))
 

@@ -6,7 +6,7 @@ use Rattle.lc_program.specs.Causes.{HasNumber, cause_line}
 use Rattle.lc_program.specs.Faults.{TellsFaults}
 use Rattle.lc_program.specs.Hints.{Hints}
 use Rattle.lc_program.specs.Introductions.{Introduces}
-use Rattle.lc_program.specs.Replies.{Reply, outcome_of}
+use Rattle.lc_program.specs.Replies.{Reply, ending_of}
 use Rattle.lc_program.specs.Requests.{AnswersRequest}
 use Rattle.lc_program.specs.Styles.{format_for}
 use Rattle.lc_program.specs.Systems.{SystemMay}
@@ -24,12 +24,11 @@ use Rattle.lc_program.specs.declared.answered.Answered.TheVariants.{Counted, Exp
 use Rattle.lc_program.specs.declared.cause.Cause.{Cause}
 use Rattle.lc_program.specs.declared.cause.Cause.TheVariants.{Memory, Unwritten}
 use Rattle.lc_program.specs.declared.ending.Ending.{Ending}
-use Rattle.lc_program.specs.declared.ending.Ending.TheVariants.{Done, SomeFaults, Misused, GaveUp}
+use Rattle.lc_program.specs.declared.ending.Ending.TheVariants.{AnyFile, Done, SomeFaults, Misused, GaveUp}
 use Rattle.lc_program.specs.declared.repository.Repository.{Repository}
 use Rattle.lc_program.specs.declared.streams.Streams.{Streams}
 use Rattle.lc_program.specs.declared.streams.Terminals.{Terminals}
 use Rattle.lc_program.specs.declared.unread_reason.UnreadReason.{UnreadReason}
-use Rattle.lc_text.specs.declared.outcome.Outcome.{Outcome}
 use Rattle.lc_text.specs.declared.outcome.Outcome.TheVariants as outcome
 use Rattle.lc_sheet.specs.declared.table_options.Format.{Format}
 
@@ -38,6 +37,7 @@ status_of Done = 0
 status_of SomeFaults = 1
 status_of Misused = 2
 status_of (GaveUp _) = 3
+status_of AnyFile = 4
 
 module _ {E : Type 0} (may_take : E → List ℕ → Result ℕ Failed → E → Type 0) where
   -- the line of the cause; in place of one with a number perhaps that of want of memory
@@ -47,15 +47,15 @@ module _ {E : Type 0} (may_take : E → List ℕ → Result ℕ Failed → E →
   -- after a count it is told what it could not read; its table has this format if the words name none. After an explanation that names a
   -- fault it is told that its directory could not be listed, where the system may say so
   abbrev pub TellsUnread : (List ℕ → Option UnreadReason → Type 0) → Format → Request → Answered → E → E → Type 0
-  TellsUnread may_unlist other (Count c) (Counted faults unnamed) err told =
-      TellsFaults may_take may_unlist c.directory.now (options_in other c.table).format faults.items err told
+  TellsUnread may_unlist other (Count c) (Counted left unnamed) err told =
+      TellsFaults may_take may_unlist c.directory.now (options_in other c.table).format left.faults.items err told
   TellsUnread may_unlist other (Explain c) (Explained outcome.SomeFaults) err told =
       TellsUnlisted may_take may_unlist c.directory.now err told
   TellsUnread may_unlist other request answered err told = told ≡ err
 
   -- and which attributes no attribute file names
   abbrev pub TellsUnnamed : Answered → E → E → Type 0
-  TellsUnnamed (Counted faults unnamed) err told = Tells may_take err (string_bytes unnamed) told
+  TellsUnnamed (Counted left unnamed) err told = Tells may_take err (string_bytes unnamed) told
   TellsUnnamed answered err told = told ≡ err
 
   -- what could not be read is told, and which attributes are not named
@@ -74,6 +74,7 @@ abbrev pub EndsShown : {O E : Type 0} → (O → List ℕ → Result ℕ Failed 
     → List ℕ → O → E → Ending → O → E → Type 0
 EndsShown may_take may_tell text out err Done wrote told = Writes may_take out text wrote × (told ≡ err)
 EndsShown may_take may_tell text out err SomeFaults wrote told = ⊥
+EndsShown may_take may_tell text out err AnyFile wrote told = ⊥
 EndsShown may_take may_tell text out err Misused wrote told = ⊥
 EndsShown may_take may_tell text out err (GaveUp cause) wrote told =
     (cause ≡ Unwritten) × StopsWriting may_take out text wrote × TellsCause may_tell err cause told
@@ -98,10 +99,10 @@ module _ {I O E : Type 0} (system : SystemMay) (may : StreamsMay I O E) (words :
     pub answers : AnswersRequest system may.give may.take terminals.output request before.input before.out reply after.input after.out
 
   -- it was answered so, and then it was told what could not be read, which patterns can match nothing, and perhaps a hint
-  abbrev pub EndsAnswered : Streams I O E → Outcome → Streams I O E → Type 0
-  EndsAnswered before result after =
+  abbrev pub EndsAnswered : Streams I O E → Ending → Streams I O E → Type 0
+  EndsAnswered before ending after =
       (request : Request) × (answered : Answered) × (said : E) × Replies before request (Ok answered) after said
-      × (outcome_of answered ≡ result)
+      × (ending_of request answered ≡ ending)
       × ((commented : E) × Comments may.tell system.unlist terminals request answered said commented
       × Advises may.tell system.lie terminals.error request (unmatched_in request) commented after.err)
 
@@ -118,9 +119,11 @@ module _ {I O E : Type 0} (system : SystemMay) (may : StreamsMay I O E) (words :
 
   abbrev pub Ends : Streams I O E → Ending → Streams I O E → Type 0
   -- a request was answered and all is well, or a text was shown
-  Ends before Done after = EndsAnswered before outcome.Clean after ⊎ Shows before Done after
+  Ends before Done after = EndsAnswered before Done after ⊎ Shows before Done after
   -- an answer was written that tells of a fault
-  Ends before SomeFaults after = EndsAnswered before outcome.SomeFaults after
+  Ends before SomeFaults after = EndsAnswered before SomeFaults after
+  -- an answer was written that counts a file, which was to be a failure
+  Ends before AnyFile after = EndsAnswered before AnyFile after
   -- the words fail, nothing was read or written, and why was told, in a message that begins with `error: `
   Ends before Misused after =
       AreRefused words × (after.input ≡ before.input) × (after.out ≡ before.out)

@@ -1,41 +1,61 @@
 -- The answer to a request: what was written, or why the program gives up.
-use Rattle.std.specs.Prelude.{◌≡◌, String, Vec, List, [], ◌∷◌, Result, Ok, Err, string_bytes}
+use Rattle.std.specs.Prelude.{◌≡◌, ◌&&◌, Bool, true, false, String, List, [], ◌∷◌, Result, Ok, Err, ℕ, nat_lt, string_bytes}
 use Rattle.std.specs.Global.{Global}
 use Rattle.lc_level.specs.FaultLines.{FaultLineModel}
+use Rattle.lc_arguments.specs.declared.request.Request.{Request}
+use Rattle.lc_arguments.specs.declared.request.Request.TheVariants.{Count}
+use Rattle.lc_walk.specs.declared.report.Report.{Report}
 use Rattle.lc_program.specs.declared.runs.RunFault.{RunFault}
 use Rattle.lc_text.specs.declared.check_fault.CheckFault.{CheckFault}
 use Rattle.lc_text.specs.declared.outcome.Outcome.{Outcome}
-use Rattle.lc_text.specs.declared.outcome.Outcome.TheVariants.{Clean, SomeFaults}
+use Rattle.lc_text.specs.declared.outcome.Outcome.TheVariants as outcome
 use Rattle.lc_io.specs.declared.printing.PrintFault.{PrintFault}
 use Rattle.lc_program.specs.Causes.{check_cause, print_cause, run_cause}
 use Rattle.lc_program.specs.Unnamed.{AreUnnamedLines}
 use Rattle.lc_program.specs.declared.answered.Answered.{Answered}
 use Rattle.lc_program.specs.declared.answered.Answered.TheVariants.{Checked, Counted, Explained}
 use Rattle.lc_program.specs.declared.cause.Cause.{Cause}
+use Rattle.lc_program.specs.declared.ending.Ending.{Ending}
+use Rattle.lc_program.specs.declared.ending.Ending.TheVariants.{AnyFile, Done, SomeFaults}
 
 abbrev pub Reply : Type 0
 Reply = Result Answered Cause
 
 -- whether a count names a fault
 abbrev pub outcome_by : List FaultLineModel → Outcome
-outcome_by [] = Clean
-outcome_by (fault ∷ faults) = SomeFaults
+outcome_by [] = outcome.Clean
+outcome_by (fault ∷ faults) = outcome.SomeFaults
 
 -- whether an answer does
 abbrev pub outcome_of : Answered → Outcome
-outcome_of Checked = Clean
+outcome_of Checked = outcome.Clean
 outcome_of (Explained outcome) = outcome
-outcome_of (Counted faults unnamed) = outcome_by faults.items
+outcome_of (Counted left unnamed) = outcome_by left.faults.items
 
 -- a check that was done has no faults to tell
 abbrev pub checked : Result (Unit {0}) CheckFault → Reply
 checked (Ok _) = Ok Checked
 checked (Err fault) = Err (check_cause fault)
 
--- a count is replied with what it could not read and lines about some attributes
-abbrev pub IsRunReply : Result (Vec FaultLineModel Global) RunFault → Reply → Type 0
-IsRunReply (Ok faults) reply = (unnamed : String Global) × AreUnnamedLines (string_bytes unnamed) × (reply ≡ Ok (Counted faults unnamed))
-IsRunReply (Err fault) reply = reply ≡ Err (run_cause fault)
+-- whether an answer counts a file, which was to be a failure
+abbrev pub has_failure : Request → Answered → Bool
+has_failure (Count c) (Counted left unnamed) = c.fail_if_any && nat_lt 0 left.totals.files
+has_failure request answered = false
+
+abbrev pub ending_by : Bool → Outcome → Ending
+ending_by true outcome = AnyFile
+ending_by false outcome.Clean = Done
+ending_by false outcome.SomeFaults = SomeFaults
+
+-- how a request ends that was answered
+abbrev pub ending_of : Request → Answered → Ending
+ending_of request answered = ending_by (has_failure request answered) (outcome_of answered)
+
+-- a count is replied with the report of what was shown and lines about some of these attributes
+abbrev pub IsRunReply : List (List ℕ) → Result Report RunFault → Reply → Type 0
+IsRunReply attributes (Ok left) reply =
+    (unnamed : String Global) × AreUnnamedLines attributes (string_bytes unnamed) × (reply ≡ Ok (Counted left unnamed))
+IsRunReply attributes (Err fault) reply = reply ≡ Err (run_cause fault)
 
 abbrev pub explained : Result Outcome CheckFault → Reply
 explained (Ok outcome) = Ok (Explained outcome)

@@ -1,5 +1,6 @@
 -- The text of a report, by its options.
 use Rattle.std.specs.Prelude.{◌≡◌, ℕ, Bool, true, false, List}
+use Rattle.std.specs.List.Sorted.{IsPermutation}
 use Rattle.lc_formats.specs.Csv.{csv_of}
 use Rattle.lc_formats.specs.JsonSheets.{json_of, json_text_of}
 use Rattle.lc_formats.specs.JsonText.{IsDocument}
@@ -53,6 +54,14 @@ IsTextBy Markdown options r text = HasSheet options r text
 abbrev pub IsTextOf : TableOptions → Report → List ℕ → Type 0
 IsTextOf options r text = IsTextBy options.format options r text
 
--- a text of what meets some conditions of a report
-abbrev pub IsTextOfPart : List ConditionModel → TableOptions → Report → List ℕ → Type 0
-IsTextOfPart conditions options r text = (part : Report) × IsKept conditions r part × IsTextOf options part text
+-- a report whose files are in another order; all else is the same
+pub record IsReordered (r left : Report) : Type 0 where
+  pub files : IsPermutation r.files.items left.files.items
+  pub rest : left ≡ record r { files = left.files }
+
+-- a text of what meets some conditions of a report, which is what is left of it
+pub record IsPrinted (conditions : List ConditionModel) (options : TableOptions) (r : Report) (text : List ℕ) (left : Report) : Type 0 where
+  pub part : Report
+  pub is_kept : IsKept conditions r part
+  pub is_text : IsTextOf options part text
+  pub is_left : IsReordered part left

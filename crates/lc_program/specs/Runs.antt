@@ -1,11 +1,9 @@
 -- What a run answers, by what its walk answers.
-use Rattle.std.specs.Prelude.{◌≡◌, ℕ, List, Result, Ok, Err, Vec}
-use Rattle.std.specs.Global.{Global}
+use Rattle.std.specs.Prelude.{◌≡◌, ℕ, List, Result, Ok, Err}
 use Rattle.lc_io.specs.declared.source.Failed.{Failed}
-use Rattle.lc_level.specs.FaultLines.{FaultLineModel}
 use Rattle.lc_walk.specs.declared.report.Report.{Report}
 use Rattle.lc_walk.specs.declared.walk_fault.WalkFault.{WalkFault}
-use Rattle.lc_program.specs.ReportTexts.{IsTextOfPart}
+use Rattle.lc_program.specs.ReportTexts.{IsPrinted}
 use Rattle.lc_io.specs.Writes.{Writes, StopsWriting}
 use Rattle.lc_io.specs.declared.printing.PrintFault.{PrintFault}
 use Rattle.lc_sheet.specs.Conditions.{ConditionModel}
@@ -19,24 +17,24 @@ abbrev pub table_fault : PrintFault → RunFault
 table_fault print.Write = Write
 table_fault print.Memory = Memory
 
--- what a call answers that writes the table of what meets some conditions of a report, with these options: it was written whole; a write
--- stopped it; nothing was written
-abbrev pub AnswersTable : {O : Type 0} → (O → List ℕ → Result ℕ Failed → O → Type 0) → List ConditionModel → TableOptions → Report
+-- what a call answers that writes the table of what meets some conditions of a report, with these options, and leaves this of the report:
+-- it was written whole; a write stopped it; nothing was written
+abbrev pub AnswersTable : {O : Type 0} → (O → List ℕ → Result ℕ Failed → O → Type 0) → List ConditionModel → TableOptions → Report → Report
     → O → Result (Unit {0}) PrintFault → O → Type 0
-AnswersTable may_take conditions options r out (Ok _) wrote =
-    (text : List ℕ) × IsTextOfPart conditions options r text × Writes may_take out text wrote
-AnswersTable may_take conditions options r out (Err print.Write) wrote =
-    (text : List ℕ) × IsTextOfPart conditions options r text × StopsWriting may_take out text wrote
-AnswersTable may_take conditions options r out (Err print.Memory) wrote = wrote ≡ out
+AnswersTable may_take conditions options r left out (Ok _) wrote =
+    (text : List ℕ) × IsPrinted conditions options r text left × Writes may_take out text wrote
+AnswersTable may_take conditions options r left out (Err print.Write) wrote =
+    (text : List ℕ) × IsPrinted conditions options r text left × StopsWriting may_take out text wrote
+AnswersTable may_take conditions options r left out (Err print.Memory) wrote = wrote ≡ out
 
 module _ {O : Type 0} (may_take : O → List ℕ → Result ℕ Failed → O → Type 0) (walks : Result Report WalkFault → Type 0)
     (conditions : List ConditionModel) (options : TableOptions) where
-  abbrev pub AnswersRun : O → Result (Vec FaultLineModel Global) RunFault → O → Type 0
-  -- the table of the report was written whole, and these are the report's faults
-  AnswersRun out (Ok faults) wrote =
-      (r : Report) × walks (Ok r) × (faults.items ≡ r.faults.items) × AnswersTable may_take conditions options r out (Ok tt) wrote
+  abbrev pub AnswersRun : O → Result Report RunFault → O → Type 0
+  -- the table of the report was written whole, and this is left of it
+  AnswersRun out (Ok left) wrote = (r : Report) × walks (Ok r) × AnswersTable may_take conditions options r left out (Ok tt) wrote
   -- the walk gave no report, and nothing was written
   AnswersRun out (Err (Walk f)) wrote = walks (Err f) × (wrote ≡ out)
   AnswersRun out (Err Memory) wrote = wrote ≡ out
   -- a prefix of the table was written
-  AnswersRun out (Err Write) wrote = (r : Report) × walks (Ok r) × AnswersTable may_take conditions options r out (Err print.Write) wrote
+  AnswersRun out (Err Write) wrote =
+      (r : Report) × walks (Ok r) × ((left : Report) × AnswersTable may_take conditions options r left out (Err print.Write) wrote)

@@ -1,6 +1,10 @@
 -- The lines that tell of attributes which no attribute file names.
-use Rattle.std.specs.Prelude.{◌≡◌, ℕ, List, ◌++◌, Vec, flat_map, codes}
+use Rattle.std.specs.Prelude.{◌≡◌, ℕ, List, ◌++◌, Vec, flat_map, map, codes}
+use Rattle.std.specs.Borrow.{Bor}
 use Rattle.std.specs.Global.{Global}
+use Rattle.lc_arguments.specs.declared.filter_request.FilterRequest.{FilterRequest}
+use Rattle.lc_level.specs.Filters.{attribute_of}
+use Rattle.lc_level.specs.NamedAttributes.{AreSomeAttributes}
 use Rattle.lc_text.specs.Visible.{visible_bytes}
 
 -- no attribute file names this attribute
@@ -11,6 +15,11 @@ unnamed_line attribute = codes "lc: no attribute file names " ++ visible_bytes a
 abbrev pub unnamed_lines_of : List (Vec ℕ Global) → List ℕ
 unnamed_lines_of attributes = flat_map (λ (a : Vec ℕ Global). unnamed_line a.items) attributes
 
--- lines for some attributes
-abbrev pub AreUnnamedLines : List ℕ → Type 0
-AreUnnamedLines text = (attributes : List (Vec ℕ Global)) × (text ≡ unnamed_lines_of attributes)
+-- lines for some of these attributes, in their order
+abbrev pub AreUnnamedLines : List (List ℕ) → List ℕ → Type 0
+AreUnnamedLines attributes text =
+    (told : List (Vec ℕ Global)) × AreSomeAttributes attributes told × (text ≡ unnamed_lines_of told)
+
+-- the attributes of the words of `--without`
+abbrev pub attributes_of : FilterRequest → List (List ℕ)
+attributes_of f = map (λ (word : Bor (List ℕ)). attribute_of word.now) f.without.items

@@ -4,7 +4,7 @@ ghost use Rattle.std.specs.Prelude.{◌≡◌};
 ghost use Rattle.lc_program.specs.Replies.{outcome_of};
 
 use lc_text::Outcome;
-use lc_walk::FaultLine;
+use lc_walk::Report;
 
 /// The answer that was written to a request.
 #[derive(Drop)]
@@ -13,8 +13,8 @@ pub(crate) enum Answered {
     Checked,
     /// An explanation of paths.
     Explained(Outcome),
-    /// A count: what could not be read, and lines about attributes that no attribute file names.
-    Counted(Vec<FaultLine>, String),
+    /// A count: the report of what was shown, and lines about attributes that no attribute file names.
+    Counted(Report, String),
 }
 
 impl Answered {
@@ -25,8 +25,8 @@ impl Answered {
         match self {
             Answered::Checked => Outcome::Clean,
             Answered::Explained(outcome) => *outcome,
-            Answered::Counted(faults, _) => {
-                if faults.is_empty() {
+            Answered::Counted(report, _) => {
+                if report.faults.is_empty() {
                     Outcome::Clean
                 } else {
                     Outcome::SomeFaults

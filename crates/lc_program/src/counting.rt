@@ -102,7 +102,7 @@ pub(crate) fn count<R: Threads + Wait + Sync + AllocGlobal, Y: System, S: Source
         table: asked.table.options(format),
         conditions,
     };
-    let faults = run(rt, rt.alloc(), &tree, &options, shown, out)?;
+    let report = run(rt, rt.alloc(), &tree, &options, shown, out)?;
     let unnamed = unnamed_lines(rt.alloc(), noted);
-    Ok(Answered::Counted(faults, unnamed))
+    Ok(Answered::Counted(report, unnamed))
 }

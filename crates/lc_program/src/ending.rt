@@ -12,6 +12,8 @@ pub enum Ending {
     Done,
     /// It wrote the answer, which names a fault.
     SomeFaults,
+    /// It wrote the answer, which counts a file, and was asked to fail then.
+    AnyFile,
     /// It refused the arguments.
     Misused,
     /// It gave up.
@@ -26,6 +28,7 @@ impl Ending {
         match self {
             Ending::Done => 0,
             Ending::SomeFaults => 1,
+            Ending::AnyFile => 4,
             Ending::Misused => 2,
             Ending::GaveUp(_) => 3,
         }

@@ -2,6 +2,7 @@
 
 ghost use Rattle.std.specs.Prelude.{◌≡◌, map};
 ghost use Rattle.lc_program.specs.Program.{Advises, Comments, Ends, TellsUnread, status_of, streams_may};
+ghost use Rattle.lc_program.specs.Replies.{ending_of, has_failure};
 ghost use Rattle.lc_program.specs.Systems.{system_may};
 ghost use Rattle.lc_program.specs.declared.ending.Ending.{Ending};
 
@@ -39,9 +40,16 @@ fn tell_unread<Y: System, E: Sink>(
     ensures { TellsUnread E.may_take (Y.unlists system.now) format request.now answered.now err.old err.new }
 {
     match (request, answered) {
-        (Request::Count(asked), Answered::Counted(faults, _)) => {
+        (Request::Count(asked), Answered::Counted(report, _)) => {
             let options = asked.table.options(format);
-            tell_faults(alloc, system, asked.directory, options.format, faults, err);
+            tell_faults(
+                alloc,
+                system,
+                asked.directory,
+                options.format,
+                &report.faults,
+                err,
+            );
         }
         (Request::Explain(asked), Answered::Explained(Outcome::SomeFaults)) => {
             tell_unlisted(alloc, system, asked.directory, err);
@@ -63,6 +71,31 @@ fn comment<Y: System, E: Sink>(
 {
     tell_unread(alloc, system, request, answered, terminals.format(), err);
     tell_unnamed(answered, err);
+}
+
+/// Returns whether an answer counts a file, which was to be a failure.
+fn has_failure(request: &Request<'_>, answered: &Answered) -> bool
+    ensures { result ≡ has_failure request.now answered.now }
+{
+    match (request, answered) {
+        (Request::Count(asked), Answered::Counted(report, _)) => {
+            asked.fail_if_any && report.totals.files > 0
+        }
+        _ => false,
+    }
+}
+
+/// Returns how a request ends that was answered.
+fn ending_of(request: &Request<'_>, answered: &Answered) -> Ending
+    ensures { result ≡ ending_of request.now answered.now }
+{
+    if has_failure(request, answered) {
+        return Ending::AnyFile;
+    }
+    match answered.outcome() {
+        Outcome::Clean => Ending::Done,
+        Outcome::SomeFaults => Ending::SomeFaults,
+    }
 }
 
 /// Tells these lines about patterns, and the hint that a request gets.
@@ -118,14 +151,11 @@ fn end_of<R: Threads + Wait + Sync + AllocGlobal, Y: System, W: AsStr, S: Source
         terminals.error,
         err,
     );
-    match answered.outcome() {
-        Outcome::Clean => Ending::Done,
-        Outcome::SomeFaults => Ending::SomeFaults,
-    }
+    ending_of(&request, &answered)
 }
 
 /// Runs the program with these arguments and streams, and returns its exit status: 0 done, 1 the answer names a fault, 2 the arguments are
-/// refused, 3 it gave up, with one line on `err`.
+/// refused, 3 it gave up, with one line on `err`, 4 a file is counted, and `--fail-if-any` is given.
 ///
 /// - no arguments: the input has the lines of an ignore file, then a line `--`, then paths ([`check_joined`](lc_paths::check_joined));
 /// - `check FILE`: the rules are those of the file of this name, which is read first, and the input has the paths

@@ -10,7 +10,7 @@ use crate::showing::table;
 use lc_sheet::ReportOptions;
 use lc_text::{PrintFault, Sink};
 use lc_tree::Tree;
-use lc_walk::{FaultLine, Options, WalkFault, walk};
+use lc_walk::{Options, Report, WalkFault, walk};
 use std::alloc::Global;
 use std::sync::Wait;
 use std::thread::Threads;
@@ -49,7 +49,7 @@ impl From<PrintFault> for RunFault {
     }
 }
 
-/// Walks a tree, writes the table of what it found that meets the conditions ([`table`]), and returns what could not be read.
+/// Walks a tree, writes the table of what it found that meets the conditions ([`table`]), and returns the report of that.
 ///
 /// A condition on a number needs the list of files.
 ///
@@ -57,8 +57,8 @@ impl From<PrintFault> for RunFault {
 /// let tree = SysTree::new(&rt, rt.alloc(), "src", FileSystems::All)?;
 /// let table = TableOptions { format: Format::Tsv, by: Columns::ALL, sort: None, top: None, files: false, share: false };
 /// let shown = ReportOptions { table, conditions: &[] };
-/// let faults = run(&rt, rt.alloc(), &tree, &options, shown, &mut out)?;
-/// assert!(faults.is_empty());
+/// let report = run(&rt, rt.alloc(), &tree, &options, shown, &mut out)?;
+/// assert!(report.faults.is_empty());
 /// ```
 pub fn run<T: Tree, R: Threads + Wait + Sync, O: Sink>(
     rt: &R,
@@ -67,12 +67,12 @@ pub fn run<T: Tree, R: Threads + Wait + Sync, O: Sink>(
     options: &Options<'_>,
     shown: ReportOptions<'_>,
     out: &mut O,
-) -> Result<Vec<FaultLine>, RunFault>
+) -> Result<Report, RunFault>
     requires limits { AreWithinLimits options.now }
     ensures { AnswersRun O.may_take (Walks (T.lists tree.now) (T.gives tree.now) options.now)
         shown.entry.conditions.now shown.entry.table out.old result out.new }
 {
     let mut report = walk(rt, alloc, tree, options)?;
     table(alloc, &mut report, shown, out)?;
-    Ok(report.faults)
+    Ok(report)
 }

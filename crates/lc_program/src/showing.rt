@@ -1,7 +1,7 @@
 //! The text of a report, made and written.
 
 ghost use Rattle.std.specs.Prelude.{◌≡◌, false, IfOk};
-ghost use Rattle.lc_program.specs.ReportTexts.{HasSheet, IsTextIn, IsTextOf, IsTextOfPart, is_picture};
+ghost use Rattle.lc_program.specs.ReportTexts.{HasSheet, IsPrinted, IsReordered, IsTextIn, IsTextOf, is_picture};
 ghost use Rattle.lc_program.specs.Runs.{AnswersTable};
 
 use lc_formats::{csv_text, json_text, markdown_text, table_text, tsv_text};
@@ -34,7 +34,7 @@ fn sheet_text(
 ) -> Result<Vec<u8>, AllocError>
     requires sheet { is_picture options.format ≡ false }
     ensures text { IfOk result (λ text. HasSheet options report.old text.items) }
-    ensures faults { report.new.faults ≡ report.old.faults }
+    ensures left { IsReordered report.old report.new }
 {
     sort_files(options.sort, &mut report.files);
     let shown = Shown::of(alloc, report, &options)?;
@@ -53,7 +53,7 @@ pub fn report_text(
     options: TableOptions,
 ) -> Result<Vec<u8>, AllocError>
     ensures text { IfOk result (λ text. IsTextOf options report.old text.items) }
-    ensures faults { report.new.faults ≡ report.old.faults }
+    ensures left { IsReordered report.old report.new }
 {
     match options.format {
         Format::Html => page(alloc, report, options.sort),
@@ -69,23 +69,23 @@ fn part_text(
     report: &mut Report,
     options: ReportOptions<'_>,
 ) -> Result<Vec<u8>, AllocError>
-    ensures text { IfOk result (λ text. IsTextOfPart options.entry.conditions.now options.entry.table report.old text.items) }
-    ensures faults { report.new.faults ≡ report.old.faults }
+    ensures { IfOk result (λ text. IsPrinted options.entry.conditions.now options.entry.table report.old text.items report.new) }
 {
     keep(alloc, options.conditions, report)?;
     let text = report_text(alloc, report, options.table)?;
     Ok(text)
 }
 
-/// Makes the text of what meets the conditions of a report ([`report_text`]), and writes it. The report's faults stay as they are.
+/// Makes the text of what meets the conditions of a report ([`report_text`]), and writes it.
+///
+/// What does not meet them is dropped from the report, whose files are then in the order in which a table lists them.
 pub fn table<O: Sink>(
     alloc: Global,
     report: &mut Report,
     options: ReportOptions<'_>,
     out: &mut O,
 ) -> Result<(), PrintFault>
-    ensures answers { AnswersTable O.may_take options.entry.conditions.now options.entry.table report.old out.old result out.new }
-    ensures faults { report.new.faults ≡ report.old.faults }
+    ensures { AnswersTable O.may_take options.entry.conditions.now options.entry.table report.old report.new out.old result out.new }
 {
     let text = part_text(alloc, report, options)?;
     print(out, &text)?;

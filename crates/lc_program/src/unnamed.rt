@@ -1,6 +1,7 @@
 //! The lines on standard error about attributes that no attribute file names.
 
 ghost use Rattle.std.specs.Prelude.{◌≡◌, ◌++◌, string_bytes, IfOk, OnOk};
+ghost use Rattle.lc_level.specs.NamedAttributes.{noted};
 ghost use Rattle.lc_program.specs.Program.{TellsUnnamed};
 ghost use Rattle.lc_program.specs.Unnamed.{AreUnnamedLines, unnamed_line, unnamed_lines_of};
 
@@ -29,7 +30,7 @@ fn lines_of(alloc: Global, attributes: &[Vec<u8>]) -> Result<String, AllocError>
 }
 
 fn unnamed_text(alloc: Global, named: &NamedAttributes) -> Result<String, AllocError>
-    ensures { IfOk result (λ text. AreUnnamedLines (string_bytes text)) }
+    ensures { IfOk result (λ text. AreUnnamedLines (noted named.now) (string_bytes text)) }
 {
     let attributes = named.unnamed(alloc)?;
     let text = lines_of(alloc, &attributes)?;
@@ -38,7 +39,7 @@ fn unnamed_text(alloc: Global, named: &NamedAttributes) -> Result<String, AllocE
 
 /// Makes a line for each attribute that no attribute file names; none if there is no memory for them, since nothing rests on these lines.
 pub(crate) fn unnamed_lines(alloc: Global, named: &NamedAttributes) -> String
-    ensures { AreUnnamedLines (string_bytes result) }
+    ensures { AreUnnamedLines (noted named.now) (string_bytes result) }
 {
     match unnamed_text(alloc, named) {
         Ok(text) => text,

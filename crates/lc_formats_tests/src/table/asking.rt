@@ -165,8 +165,8 @@ pub(super) fn answer_of<R: Threads + Wait + Sync + AllocGlobal, T: Tree>(
     };
     let options = options_of(&filters, asked, threads, max_dirs);
     let shown = showing_all(listing(options.lists));
-    let faults = run(rt, rt.alloc(), tree, &options, shown, out)?;
-    Ok(outcome_of(&faults))
+    let report = run(rt, rt.alloc(), tree, &options, shown, out)?;
+    Ok(outcome_of(&report.faults))
 }
 
 /// That of a walk over boards of this type, whose table is then written.

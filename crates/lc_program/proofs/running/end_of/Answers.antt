@@ -1,6 +1,7 @@
 use Rattle.std.proofs.Common.{◌∙◌, ℕ, List, inl, inr, refl, string_bytes, subst, sym}
 use Rattle.lc_arguments.specs.Refusals.{IsMessage}
 use Rattle.lc_program.specs.Program.{Advises}
+use Rattle.lc_program.proofs.Endings.{ends_answered}
 use Rattle.lc_program.proofs.running.end_of.Goals as goal
 
 pub returns-in-Err : goal.returns-in-Err
@@ -37,9 +38,9 @@ returns-in-Err-Refused g c =
       ),
     )
 
-pub returns-in-Clean : goal.returns-in-Clean
-returns-in-Clean g c =
-    inl (
+pub returns : goal.returns
+returns g c =
+    rw c.ending_of.ensures (ends_answered _ _ _ _ _ _ _ _ (
       c.in-Ok.request,
       c.in-Ok-answer.answered,
       c.introduce.new.err,
@@ -49,7 +50,7 @@ returns-in-Clean g c =
         introduces = c.introduce.ensures;
         answers = c.in-Ok-answer.ensures;
       },
-      sym c.outcome.ensures ∙ c.in-Clean.is,
+      refl,
       (
         c.comment.new.err,
         c.comment.ensures,
@@ -59,27 +60,4 @@ returns-in-Clean g c =
             (c.deref-2.ensures ∙ c.in-Ok-unmatched_in.ensures)
             c.advise.ensures,
       ),
-    )
-
-pub returns : goal.returns
-returns g c = (
-  c.in-Ok.request,
-  c.in-Ok-answer.answered,
-  c.introduce.new.err,
-  record {
-    free = c.in-Ok.ensures.answers.0;
-    asks = c.in-Ok.ensures.answers.1;
-    introduces = c.introduce.ensures;
-    answers = c.in-Ok-answer.ensures;
-  },
-  sym c.outcome.ensures ∙ c.in-SomeFaults.is,
-  (
-    c.comment.new.err,
-    c.comment.ensures,
-    subst
-        (λ (lines : List ℕ). Advises g.E.Sink.may_take (g.Y.System.lies c.args.system.now) c.args.terminals.error c.in-Ok.request lines
-        c.comment.new.err c.advise.new.err)
-        (c.deref-2.ensures ∙ c.in-Ok-unmatched_in.ensures)
-        c.advise.ensures,
-  ),
-)
+    ))

@@ -1,4 +1,3 @@
-use Rattle.std.proofs.Common.{ap}
 use Rattle.lc_walk.specs.Walks.{Walks}
 use Rattle.lc_program.proofs.Stopping.{run_stops}
 use Rattle.lc_program.proofs.runs.run.Goals as goal
@@ -7,9 +6,8 @@ pub returns-in_err-table : goal.returns-in_err-table
 returns-in_err-table g c =
     run_stops g.O.Sink.may_take (Walks (g.T.Tree.lists c.args.tree.now)
     (g.T.Tree.gives c.args.tree.now) c.args.options.now) c.args.shown.conditions.now c.args.shown.table c.in_ok-report.report
-    c.in_err-table.field-0.0 c.from_residual-in_err-table.result c.args.out.now c.table.new.out c.in_ok-report.ensures
-    c.in_err-table.ensures.answers c.from_residual-in_err-table.ensures.1
+    c.table.new.report c.in_err-table.field-0.0 c.from_residual-in_err-table.result c.args.out.now c.table.new.out c.in_ok-report.ensures
+    c.in_err-table.ensures c.from_residual-in_err-table.ensures.1
 
 pub returns : goal.returns
-returns g c =
-    (c.in_ok-report.report, c.in_ok-report.ensures, ap (λ v. v.items) c.table.ensures.faults, c.in_ok-table.ensures.answers)
+returns g c = (c.in_ok-report.report, c.in_ok-report.ensures, c.in_ok-table.ensures)

@@ -1,0 +1,18 @@
+-- How the program ends once a request is answered.
+use Rattle.std.proofs.Common.{◌≡◌, Bool, true, false, List, ℕ, inl, refl}
+use Rattle.lc_text.specs.declared.outcome.Outcome.{Outcome}
+use Rattle.lc_text.specs.declared.outcome.Outcome.TheVariants.{Clean, SomeFaults}
+use Rattle.lc_program.specs.Program.{Ends, EndsAnswered, StreamsMay}
+use Rattle.lc_program.specs.Replies.{ending_by}
+use Rattle.lc_program.specs.Systems.{SystemMay}
+use Rattle.lc_program.specs.declared.streams.Streams.{Streams}
+use Rattle.lc_program.specs.declared.streams.Terminals.{Terminals}
+
+module _ {I O E : Type 0} (system : SystemMay) (may : StreamsMay I O E) (words : List (List ℕ)) (terminals : Terminals) where
+  -- an answer may end it in each way in which an answer ends
+  pub ends_answered : (before after : Streams I O E) (fails : Bool) (outcome : Outcome)
+      → EndsAnswered system may words terminals before (ending_by fails outcome) after
+      → Ends system may words terminals before (ending_by fails outcome) after
+  ends_answered before after true outcome ends = ends
+  ends_answered before after false Clean ends = inl ends
+  ends_answered before after false SomeFaults ends = ends
