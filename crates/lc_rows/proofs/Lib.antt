@@ -12,8 +12,10 @@ pub mod ViewLaws
 pub mod ClassLaw
 pub mod KeptMade
 pub mod KeptParts
+pub mod KeptTotals
 pub mod SheetMade
 pub mod RowParts
 pub mod SheetLawProofs
 pub mod SheetParts
 pub mod SheetFiles
+pub mod WalkedSheets

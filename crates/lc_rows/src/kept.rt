@@ -2,9 +2,10 @@
 
 ghost use Rattle.std.specs.Prelude.{◌≡◌, ◌∷◌, ◌++◌, [], true, false, List, map, filter, IfOk, OnOk};
 ghost use Rattle.lc_sheet.specs.Conditions.{meets, needs_files};
+ghost use Rattle.lc_walk.specs.ReportTotals.{counted_line};
 ghost use Rattle.lc_walk.specs.Tally.{CountedFile, StandsFor};
 ghost use Rattle.lc_walk.specs.TallyRows.{sums_of_rows};
-ghost use Rattle.lc_rows.specs.Kept.{IsKept, IsPart, counted_line, file_meets, row_meets, value_of_file, whole_form};
+ghost use Rattle.lc_rows.specs.Kept.{IsKept, IsPart, file_meets, row_meets, value_of_file, whole_form};
 ghost use Rattle.lc_rows.specs.Kinds.{row_value};
 ghost use Rattle.lc_rows.specs.Laws.{all_columns};
 ghost use Rattle.lc_rows.specs.ShownRows.{part_of_row};
