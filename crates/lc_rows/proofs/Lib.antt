@@ -10,6 +10,7 @@ pub mod TreeLaw
 pub mod ChildrenLaw
 pub mod ViewLaws
 pub mod ClassLaw
+pub mod SumsInRange
 pub mod KeptMade
 pub mod KeptParts
 pub mod KeptTotals
