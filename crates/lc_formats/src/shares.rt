@@ -1,6 +1,6 @@
 //! Shares of a whole, and bars.
 
-ghost use Rattle.std.specs.Prelude.{◌≡◌, ◌<◌, ◌++◌, IfOk, OnOk, decimal, string_bytes};
+ghost use Rattle.std.specs.Prelude.{◌≡◌, ◌<◌, ◌+◌, ◌*◌, ◌^◌, ◌++◌, IfErr, IfOk, OnOk, decimal, string_bytes};
 ghost use Rattle.lc_formats.specs.Shares.{bar, blocks, last_block, rounded_parts, share_word};
 
 use std::alloc::AllocError;
@@ -13,9 +13,10 @@ const BAR_PARTS: u16 = 160;
 
 /// Divides a whole into so many parts, and returns how many of them a part of it is, rounded half up.
 ///
-/// It stops with an error if a product overflows, which takes a part of 2^111 or more.
+/// It stops with an error only if the divisor or the dividend overflows, which takes numbers of 2^111 or more.
 fn rounded_parts(count: u16, part: u128, whole: u128) -> Result<u128, AllocError>
-    ensures { IfOk result (λ parts. parts ≡ rounded_parts count part whole) }
+    ensures parts { IfOk result (λ parts. parts ≡ rounded_parts count part whole) }
+    ensures overflow { IfErr result (λ _. 2 * count * part + whole < 2 ^ 128 → 2 * whole < 2 ^ 128 → ⊥) }
 {
     if whole == 0 {
         return Ok(0);

@@ -7,7 +7,6 @@ use Rattle.lc_paths.specs.Explanations.OpenDirs.{DirStack, MayEnter}
 use Rattle.lc_paths.specs.declared.explaining.explain_options.ExplainOptions.{ExplainOptions}
 use Rattle.lc_glob.specs.Path.{path_in, segments_of}
 use Rattle.lc_level.specs.Answers.{Tree}
-use Rattle.lc_level.specs.Job.{JobModel}
 use Rattle.lc_level.specs.Level.{Reason, named_git, by_rule, by_attribute, not_included, other_kind, counted, skipped}
 use Rattle.lc_level.specs.Filters.{FiltersModel}
 use Rattle.lc_level.specs.TopJob.{top_job}

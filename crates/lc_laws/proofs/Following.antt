@@ -17,7 +17,6 @@ use Rattle.lc_level.specs.Filters.{FiltersModel}
 use Rattle.lc_level.proofs.WellFormed.{Spread}
 use Rattle.lc_text.specs.PathLines.{is_bad_path}
 use Rattle.lc_tree.specs.Listing.{EntryModel}
-use Rattle.lc_tree.specs.Paths.{names_of_path}
 use Rattle.lc_tree.specs.declared.entry.Kind.{Kind}
 use Rattle.lc_tree.specs.declared.entry.Kind.TheVariants.{File, Dir, Other}
 use Rattle.lc_walk.specs.FoundAt.{IsListed, LeadsTo, HasEntry}

@@ -17,3 +17,4 @@ pub mod ExplainedEntries
 pub mod TopRules
 pub mod ReportSheets
 pub mod SheetRecords
+pub mod SharesPrinted

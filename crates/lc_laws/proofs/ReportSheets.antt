@@ -1,10 +1,10 @@
 -- The sheet of a report, as a text in columns shows it, is readable.
-use Rattle.std.proofs.Common.{◌≡◌, ◌<◌, ◌-◌, ℕ, Bool, true, false, ◌&&◌, if◌then◌else◌, List, [], ◌∷◌, ◌++◌, length, map, is_some, unwrap_or}
-use Rattle.std.proofs.Common.{Option, Some, None, codes, refl, sym, ap, ap₂, ◌∙◌, append_assoc, subst, arith}
+use Rattle.std.proofs.Common.{◌≡◌, ◌<◌, ◌-◌, ℕ, Bool, true, false, if◌then◌else◌, List, [], ◌∷◌, ◌++◌, length, map, is_some, unwrap_or}
+use Rattle.std.proofs.Common.{Option, Some, None, codes, refl, sym, ap, ◌∙◌, append_assoc, subst, arith}
 use Rattle.std.specs.List.{All}
 use Rattle.std.specs.Option.{IfSome}
 use Rattle.std.proofs.lemmas.List.{map-append}
-use Rattle.std.proofs.lemmas.List.Elements.{All-cons, All-head, All-map, All-nil, All-tail, All-take, All-weaker}
+use Rattle.std.proofs.lemmas.List.Elements.{All-cons, All-map, All-nil, All-take, All-weaker}
 use Rattle.lc_level.specs.FaultLines.{FaultLineModel}
 use Rattle.lc_level.specs.FaultWords.{fault_word}
 use Rattle.lc_level.specs.Level.{FileLineModel, Reason as SkipReason, named_git, by_rule, by_attribute, not_included, other_kind}
@@ -21,8 +21,7 @@ use Rattle.lc_tree.specs.declared.entry.Kind.{Kind}
 use Rattle.lc_tree.specs.declared.entry.Kind.TheVariants.{File, Dir, Other}
 use Rattle.lc_tree.specs.declared.entry.OtherKind.TheVariants.{Special, Mounted}
 use Rattle.lc_sheet.specs.ColumnWords.{side_of}
-use Rattle.lc_sheet.specs.Sheets.{SectionModel, SheetModel}
-use Rattle.lc_sheet.specs.Values.{ValueModel, number, blank, word, name, path}
+use Rattle.lc_sheet.specs.Values.{ValueModel, number, word}
 use Rattle.lc_sheet.specs.declared.column.Column.{Column}
 use Rattle.lc_sheet.specs.declared.column.Column.TheVariants as column
 use Rattle.lc_sheet.specs.declared.column.Number.TheVariants.{Files, Lines, Blank, Bytes}
@@ -30,25 +29,23 @@ use Rattle.lc_sheet.specs.declared.column.Side.{Side}
 use Rattle.lc_sheet.specs.declared.column.Side.TheVariants.{Left, Right, End}
 use Rattle.lc_sheet.specs.declared.form.Form.{Form}
 use Rattle.lc_sheet.specs.declared.form.Shares.{Shares}
-use Rattle.lc_sheet.specs.declared.table_options.Columns.{Columns}
 use Rattle.lc_sheet.specs.declared.table_options.Format.TheVariants.{Table}
 use Rattle.lc_sheet.specs.declared.table_options.Format.{Format}
 use Rattle.lc_sheet.specs.declared.table_options.TableOptions.{TableOptions}
 use Rattle.lc_walk.specs.declared.report.Report.{Report}
 use Rattle.lc_walk.specs.declared.tally.sums.Sums.{Sums}
 use Rattle.lc_rows.specs.Kinds.{NamedSumsModel, directory_value, extension_value, fault_value, file_value, kept_value, named_in, place_value}
-use Rattle.lc_rows.specs.Kinds.{entry_value, row_value, share_value, bar_value, skipped_value, sums_value, text_value}
+use Rattle.lc_rows.specs.Kinds.{row_value, share_value, bar_value, skipped_value, sums_value, text_value}
 use Rattle.lc_rows.specs.Classes.{binary_sums, text_sums}
 use Rattle.lc_rows.specs.RowKeys.{ShownRowModel}
-use Rattle.lc_rows.specs.SheetColumns.{column_if, fault_columns, key_columns, listed_columns, listed_skipped, number_columns, row_columns}
-use Rattle.lc_rows.specs.SheetColumns.{share_columns}
+use Rattle.lc_rows.specs.SheetColumns.{column_if, fault_columns, key_columns, listed_columns, listed_skipped, number_columns}
 use Rattle.lc_rows.specs.Sheets.{form_of, others_lines, section_of, sheet_of, totals_lines}
 use Rattle.lc_rows.specs.Views.{ViewModel}
 use Rattle.lc_census.specs.EolWords.{eol_word}
 use Rattle.lc_level.specs.ReasonWords.{reason_word}
 use Rattle.lc_rows.specs.Words.{skipped_end}
 use Rattle.lc_formats.specs.Layouts.{has_no_end}
-use Rattle.lc_formats.specs.Readable.{AreBytes, AreReadable, AreRows, EndsInNumbers, IsListed, IsNumeral, IsPlain, IsReadable, IsTabular}
+use Rattle.lc_formats.specs.Readable.{AreBytes, AreReadable, AreRows, EndsInNumbers, IsListed, IsNumeral, IsPlain, IsReadable}
 use Rattle.lc_laws.specs.SheetReadable.{HasByteName, HasByteNames, HasSkippedBytes, IsReadableSheet, ReadableSheetLaw}
 use Rattle.lc_level.specs.Level.{SkippedLineModel}
 

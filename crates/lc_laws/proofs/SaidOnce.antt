@@ -1,5 +1,5 @@
 -- Of each path one thing is said.
-use Rattle.std.proofs.Common.{◌≡◌, ℕ, Bool, true, false, cond, List, [], ◌∷◌, ◌++◌, refl, sym, ◌∙◌, subst, Option, Some, None, Result}
+use Rattle.std.proofs.Common.{◌≡◌, ℕ, Bool, true, false, cond, List, [], ◌∷◌, ◌++◌, sym, ◌∙◌, subst, Option, Some, None, Result}
 use Rattle.std.proofs.Common.{Ok, Err, MatchResult}
 use Rattle.lc_paths.specs.Explanations.Explained.{Explanation, faulted, below, cited, said_for, said_beside, kind_asked, is_directory}
 use Rattle.lc_paths.specs.Explanations.Explained.{OnTheWay, said_of_none}
@@ -13,7 +13,7 @@ use Rattle.lc_level.specs.Filters.{FiltersModel}
 use Rattle.lc_level.specs.TopJob.{top_job}
 use Rattle.lc_text.specs.PathLines.{is_bad_path}
 use Rattle.lc_tree.specs.Trees.{Listings, Contents}
-use Rattle.lc_laws.specs.ByAnswers.{EntersBy, top_asked}
+use Rattle.lc_laws.specs.ByAnswers.{EntersBy}
 use Rattle.lc_laws.specs.OneExplanation.{AnswersOneExplanationLaw, OneExplanationLaw}
 use Rattle.lc_laws.proofs.OneWay.{Entering, one_open_dir}
 use Rattle.lc_laws.proofs.SameWay.{said_by_way}

@@ -1,10 +1,10 @@
 -- What a text as CSV shows of a report has columns, and a value in each.
-use Rattle.std.proofs.Common.{◌≡◌, ℕ, ◌+◌, ◌<◌, Bool, true, false, if◌then◌else◌, List, [], ◌∷◌, ◌++◌, length, is_some, Option, Some, None}
+use Rattle.std.proofs.Common.{◌≡◌, ℕ, ◌+◌, ◌<◌, Bool, true, false, if◌then◌else◌, List, [], ◌++◌, length, Some, None}
 use Rattle.std.proofs.Common.{ap, arith, length-append, ◌∙◌}
-use Rattle.std.specs.List.{All, slice_index_or}
+use Rattle.std.specs.List.{slice_index_or}
 use Rattle.std.proofs.lemmas.List.{length-map}
 use Rattle.std.proofs.lemmas.List.Elements.{All-map}
-use Rattle.lc_sheet.specs.Sheets.{SectionModel, SheetModel, line_of, lines_of}
+use Rattle.lc_sheet.specs.Sheets.{line_of}
 use Rattle.lc_sheet.specs.Values.{ValueModel}
 use Rattle.lc_sheet.specs.declared.column.Column.{Column}
 use Rattle.lc_sheet.specs.declared.table_options.Columns.{Columns}

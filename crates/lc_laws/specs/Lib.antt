@@ -6,3 +6,4 @@ pub mod CountsChecked
 pub mod OneExplanation
 pub mod SlashAtEnd
 pub mod SheetReadable
+pub mod PrintedShares

@@ -2,7 +2,7 @@
 //!
 //! - `laws`: that a count agrees on each path with an explanation of the tree, and with a check by the top's rules; that a path has one
 //!   explanation, whether or not a slash ends a directory's path
-//! - `printed_laws`: that the sheet of a report has what the laws of its texts ask for
+//! - `printed_laws`: that the sheet of a report has what the laws of its texts ask for, and that no printed share is over 100.0 per cent
 #![tactic(auto)]
 
 mod laws;
@@ -12,4 +12,7 @@ pub use laws::{
     counts_are_as_checked, counts_are_as_explained, explanations_are_by_given_answers,
     one_answer_is_one_explanation, slashes_of_directories_say_nothing,
 };
-pub use printed_laws::{sheets_of_reports_are_readable, sheets_of_reports_have_records};
+pub use printed_laws::{
+    printed_shares_are_at_most_the_whole, sheets_of_reports_are_readable,
+    sheets_of_reports_have_records,
+};

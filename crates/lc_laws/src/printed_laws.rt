@@ -1,6 +1,9 @@
 //! Laws that tie the sheet of a report to the laws of its texts. The functions do nothing: their contracts are what is proved.
 
+ghost use Rattle.lc_laws.specs.PrintedShares.{PrintedSharesLaw};
 ghost use Rattle.lc_laws.specs.SheetReadable.{ReadableSheetLaw, SheetRecordsLaw};
+
+use lc_tree::Tree;
 
 /// The sheet of a report has what the laws of a text in columns ask for, if its names are bytes.
 pub fn sheets_of_reports_are_readable()
@@ -11,3 +14,10 @@ pub fn sheets_of_reports_are_readable()
 pub fn sheets_of_reports_have_records()
     ensures { SheetRecordsLaw }
 {}
+
+/// In a text for reading each share of the report of a walk, or of what of it meets conditions, is at most 100.0 per cent.
+pub fn printed_shares_are_at_most_the_whole<T: Tree>(tree: &T)
+    ensures { PrintedSharesLaw (T.lists tree.now) (T.gives tree.now) }
+{
+    let _tree = tree;
+}

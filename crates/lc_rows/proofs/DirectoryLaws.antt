@@ -13,6 +13,7 @@ use Rattle.std.proofs.lemmas.List.Sums.{length-filter}
 use Rattle.lc_sheet.specs.declared.table_options.Columns.{Columns}
 use Rattle.lc_walk.proofs.Filtered.{part, sum_by-filter}
 use Rattle.lc_walk.proofs.Keys.{equal_if}
+use Rattle.lc_walk.proofs.ReportTotals.{sum_by-map}
 use Rattle.lc_walk.proofs.RowSums.{same_sums}
 use Rattle.lc_walk.specs.Sums.{one_file}
 use Rattle.lc_walk.specs.declared.tally.sums.Sums.{Sums}
@@ -21,7 +22,7 @@ use Rattle.lc_rows.specs.RowKeys.{RowKey, ShownRowModel, AreInRowOrder, has_with
 use Rattle.lc_rows.specs.RowKeys.{sums_of_shown}
 use Rattle.lc_rows.specs.ShownRows.{part_of_file}
 use Rattle.lc_rows.proofs.Folding.{alike_permuted, alike_sums}
-use Rattle.lc_rows.proofs.RowLaws.{moved, sum_by-map}
+use Rattle.lc_rows.proofs.RowLaws.{moved}
 use Rattle.lc_rows.proofs.SameKeys.{row_key_cmp_total}
 use Rattle.lc_level.specs.Level.{FileLineModel}
 

@@ -4,9 +4,10 @@ use Rattle.std.proofs.Common.{◌∷◌, ◌++◌, length, map, take, get_or, re
 use Rattle.std.proofs.lemmas.List.{map-append, take_more}
 use Rattle.lc_sheet.specs.Conditions.{ConditionModel}
 use Rattle.lc_level.specs.Level.{FileLineModel}
+use Rattle.lc_walk.specs.ReportTotals.{counted_line}
 use Rattle.lc_walk.specs.Tally.{CountedFile, StandsFor, TallyModel}
 use Rattle.lc_walk.specs.declared.report.Report.{Report}
-use Rattle.lc_rows.specs.Kept.{IsKept, IsPart, counted_line}
+use Rattle.lc_rows.specs.Kept.{IsKept, IsPart}
 
 -- a tally of the first files, and one file more
 pub one_file_more : (old new : TallyModel) (fs : List FileLineModel) (i : ℕ) (d : FileLineModel) → i < length fs

@@ -15,13 +15,14 @@ use Rattle.lc_sheet.specs.Values.{ValueModel}
 use Rattle.lc_sheet.specs.declared.column.Column.{Column}
 use Rattle.lc_sheet.specs.declared.condition.Comparison.TheVariants.{Less, AtMost, Equal, Unequal, AtLeast, Greater}
 use Rattle.lc_level.specs.Level.{FileLineModel}
+use Rattle.lc_walk.specs.ReportTotals.{counted_line}
 use Rattle.lc_walk.specs.Sums.{plus}
 use Rattle.lc_walk.specs.Tally.{CountedFile, IsTally, sums_of_files}
 use Rattle.lc_walk.specs.TallyRows.{TallyRowModel, sums_of_rows}
 use Rattle.lc_walk.specs.declared.report.Report.{Report}
+use Rattle.lc_walk.proofs.ReportTotals.{sum_by-map}
 use Rattle.lc_walk.proofs.RowSums.{same_sums}
-use Rattle.lc_rows.proofs.RowLaws.{sum_by-map}
-use Rattle.lc_rows.specs.Kept.{AreKeptRows, IsPart, counted_line, file_meets}
+use Rattle.lc_rows.specs.Kept.{AreKeptRows, IsPart, file_meets}
 use Rattle.lc_rows.specs.Kept.{holds_all, kept_totals, row_meets, value_of_file, value_of_row}
 use Rattle.lc_rows.specs.KeptLaws.{NoConditionLaw, OppositesLaw, OrderLaw, opposite, opposite_of, opposite_test, tested_sums}
 
@@ -158,4 +159,4 @@ parts_add_up false c r x y on has is_x is_y =
     ∙ (rows_add_up c r.rows.items ∙ sym has)
 
 pub opposites_law : OppositesLaw
-opposites_law c r x y has is_x is_y = parts_add_up (is_on_number c) c r x y refl has is_x is_y
+opposites_law c r has x y is_x is_y = parts_add_up (is_on_number c) c r x y refl has is_x is_y

@@ -10,10 +10,13 @@ pub mod TreeLaw
 pub mod ChildrenLaw
 pub mod ViewLaws
 pub mod ClassLaw
+pub mod SumsInRange
 pub mod KeptMade
 pub mod KeptParts
+pub mod KeptTotals
 pub mod SheetMade
 pub mod RowParts
 pub mod SheetLawProofs
 pub mod SheetParts
 pub mod SheetFiles
+pub mod WalkedSheets

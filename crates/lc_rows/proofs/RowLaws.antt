@@ -1,13 +1,13 @@
 -- What is true of the rows that a table shows.
-use Rattle.std.proofs.Common.{◌≡◌, ℕ, ◌+◌, Bool, true, false, List, [], ◌∷◌, map, Option, Some, None, refl, sym, ◌∙◌, ap, subst}
+use Rattle.std.proofs.Common.{◌≡◌, ℕ, Bool, true, false, List, [], ◌∷◌, map, Option, Some, None, refl, sym, ◌∙◌, ap, subst}
 use Rattle.std.specs.Bool.{MatchBool}
 use Rattle.std.specs.List.{AllByRecursion, sum_by}
 use Rattle.std.specs.List.Sorted.{IsPermutation, IsStrictlySortedBy}
 use Rattle.std.specs.declared.cmp.Ordering.TheVariants.{Less}
 use Rattle.std.proofs.lemmas.List.Sorted.{IsPermutation-refl, sum_by-IsPermutation}
-use Rattle.std.proofs.lemmas.List.Sums.{sum_by-cons}
 use Rattle.lc_sheet.specs.declared.table_options.Columns.{Columns}
 use Rattle.lc_sheet.specs.declared.column.Number.{Number}
+use Rattle.lc_walk.proofs.ReportTotals.{sum_by-map}
 use Rattle.lc_walk.proofs.RowSums.{same_sums}
 use Rattle.lc_walk.specs.Key.{Key, key_cmp}
 use Rattle.lc_walk.specs.Sums.{one_file}
@@ -26,12 +26,6 @@ moved (Some n) rs sorted h = h.0
 -- the rows that are shown are the summed ones in some order
 pub permutation_law : PermutationLaw
 permutation_law by sort rs fs shown h = (h.0, h.1, moved sort h.0 shown h.2)
-
--- the sum over what a list is mapped to
-pub sum_by-map : {X Y : Type 0} (v : Y → ℕ) (f : X → Y) (xs : List X) → sum_by v (map f xs) ≡ sum_by (λ x. v (f x)) xs
-sum_by-map v f [] = refl
-sum_by-map v f (x ∷ xs) =
-    sum_by-cons v (f x) (map f xs) ∙ ap (λ n. v (f x) + n) (sum_by-map v f xs) ∙ sym (sum_by-cons (λ y. v (f y)) x xs)
 
 -- what the parts add up to in all
 parts_totals : (dir : Option ℕ) (by : Columns) (rs : List TallyRowModel) (fs : List FileLineModel)

@@ -57,7 +57,8 @@ eol_back Cr = refl
 eol_back Mixed = refl
 eol_back Nul = refl
 
-exact_keys : CmpEqualImpliesEq key_cmp
+-- keys of a tally that tie are the same
+pub exact_keys : CmpEqualImpliesEq key_cmp
 unfolding key_cmp
 exact_keys a b e =
     let extension : a.extension ≡ b.extension = exact_options exact_bytes _ _ (first_ties _ _ e) in

@@ -130,7 +130,7 @@ sums_have n Html rows has = has
 
 -- ---- sums
 
-number_plus : (n : Number) (a b : Sums) → number_in n (plus a b) ≡ number_in n a + number_in n b
+pub number_plus : (n : Number) (a b : Sums) → number_in n (plus a b) ≡ number_in n a + number_in n b
 number_plus Files a b = refl
 number_plus Lines a b = refl
 number_plus Blank a b = refl
@@ -179,13 +179,13 @@ others_sum n form cs has (Some s) =
     sum_by-cons (number_at n cs) (line_of (sums_value form) cs line) [] ∙ plus_none _ ∙ sums_line n form cs has line
 
 -- the lines of sums
-abbrev total_line : Report → NamedSumsModel
+abbrev pub total_line : Report → NamedSumsModel
 total_line r = record { name = codes "total"; sums = r.totals }
 
-abbrev text_line : Report → NamedSumsModel
+abbrev pub text_line : Report → NamedSumsModel
 text_line r = record { name = codes "text"; sums = text_sums r.rows.items }
 
-abbrev binary_line : Report → NamedSumsModel
+abbrev pub binary_line : Report → NamedSumsModel
 binary_line r = record { name = codes "binary"; sums = binary_sums r.rows.items }
 
 -- sorted files have the same totals
@@ -202,7 +202,7 @@ sorted_totals (Some k) sort rs fs sorted are =
 -- ---- the laws
 
 pub sheet_totals_law : SheetTotalsLaw
-sheet_totals_law options r s n totals sheet =
+sheet_totals_law options r s totals sheet n =
     let rows = sheet.has.rows in
     let files = sheet.files in
     let view = view_of options.top rows (listed_files options.files files) in
@@ -222,7 +222,7 @@ sheet_totals_law options r s n totals sheet =
     subst (λ (t : SheetModel). column_sum n t.rows + column_sum n t.others ≡ first_number n t.totals) (sym sheet.has.is) shown
 
 pub sheet_classes_law : SheetClassesLaw
-sheet_classes_law options r s n totals sheet =
+sheet_classes_law options r s totals sheet n =
     let view = view_of options.top sheet.has.rows (listed_files options.files sheet.files) in
     let form = form_of options r.totals view.rows in
     let columns = row_columns options in

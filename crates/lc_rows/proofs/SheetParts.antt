@@ -1,9 +1,9 @@
 -- No row of a sheet has a share over the total or a bar over the longest.
-use Rattle.std.proofs.Common.{◌≡◌, ◌≤◌, ℕ, Bool, true, false, List, [], ◌∷◌, get_or, Option, Some, None, sym, subst, ◌∙◌}
+use Rattle.std.proofs.Common.{◌≡◌, ◌≤◌, ℕ, Bool, true, false, List, [], ◌∷◌, get_or, Option, Some, None, sym, ap, subst, ◌∙◌, arith, codes}
 use Rattle.std.proofs.Common.{if◌then◌else◌}
 use Rattle.std.specs.Prelude.{is_some, unwrap_or}
 use Rattle.std.specs.List.{All}
-use Rattle.std.proofs.lemmas.List.Elements.{All-map}
+use Rattle.std.proofs.lemmas.List.Elements.{All-cons, All-map, All-nil}
 use Rattle.lc_rules.specs.declared.states.TextState.{TextState}
 use Rattle.lc_rules.specs.declared.states.TextState.TheVariants as text
 use Rattle.lc_sheet.specs.Sheets.{SheetModel, line_of}
@@ -12,17 +12,26 @@ use Rattle.lc_sheet.specs.declared.column.Column.{Column}
 use Rattle.lc_sheet.specs.declared.column.Column.TheVariants as column
 use Rattle.lc_sheet.specs.declared.form.Form.{Form}
 use Rattle.lc_sheet.specs.declared.form.Shares.{Shares}
+use Rattle.lc_sheet.specs.declared.column.Number.{Number}
+use Rattle.lc_sheet.specs.declared.table_options.TableOptions.{TableOptions}
+use Rattle.lc_walk.specs.Sums.{no_files, plus}
+use Rattle.lc_walk.specs.TallyRows.{sums_of_rows}
+use Rattle.lc_walk.specs.declared.report.Report.{Report}
 use Rattle.lc_walk.specs.declared.tally.sums.Sums.{Sums}
-use Rattle.lc_rows.specs.Kinds.{bar_value, directory_value, extension_value, kept_value, row_value, share_value, text_value}
+use Rattle.lc_rows.specs.Classes.{binary_sums, text_sums}
+use Rattle.lc_rows.specs.Kinds.{NamedSumsModel, bar_value, directory_value, extension_value, kept_value, named_in, row_value, share_value}
+use Rattle.lc_rows.specs.Kinds.{sums_value, text_value}
 use Rattle.lc_rows.specs.RowKeys.{ShownRowModel, sums_of_shown}
-use Rattle.lc_rows.specs.SheetColumns.{row_columns}
-use Rattle.lc_rows.specs.SheetLaws.{IsWithin, SheetPartsLaw}
-use Rattle.lc_rows.specs.Sheets.{form_of, share_number, shares_of}
+use Rattle.lc_rows.specs.SheetColumns.{row_columns, sums_columns}
+use Rattle.lc_rows.specs.SheetLaws.{ClassPartsLaw, IsSectionWithin, IsWithin, SheetPartsLaw}
+use Rattle.lc_rows.specs.Sheets.{form_of, listed_files, others_lines, section_of, share_number, shares_of, sheet_of, totals_lines}
 use Rattle.lc_rows.specs.ShownRows.{number_in}
-use Rattle.lc_rows.specs.Views.{first_of}
+use Rattle.lc_rows.specs.Views.{first_of, view_of}
 use Rattle.lc_rows.proofs.RowLaws.{totals_law}
 use Rattle.lc_rows.proofs.RowParts.{first_are, rows_within_largest, rows_within_sum}
-use Rattle.lc_rows.proofs.SheetLawProofs.{sorted_totals}
+use Rattle.lc_rows.proofs.ClassLaw.{classes_law}
+use Rattle.lc_rows.proofs.SheetLawProofs.{binary_line, number_plus, sorted_totals, text_line, total_line}
+use Rattle.lc_rows.proofs.ViewLaws.{cut_totals_law}
 
 -- ---- values
 
@@ -81,6 +90,62 @@ line_within : (form : Form) (r : ShownRowModel) (cs : List Column) → IsWithin 
     → IsWithin (bar_value form.shares r.sums) → All IsWithin (line_of (row_value form) cs r)
 line_within form r cs part bar = All-map IsWithin (row_value form r) cs (λ i d low. value_within form r part bar (get_or cs i d))
 
+named_within : (first c : Column) (n : List ℕ) → IsWithin (named_in first c n)
+named_within column.Dir column.Dir n = tt
+named_within column.Ext column.Ext n = tt
+named_within column.Text column.Text n = tt
+named_within column.Eol column.Eol n = tt
+named_within first other n = tt
+
+-- ---- sums
+
+sums_within : (form : Form) (s : NamedSumsModel) → IsWithin (share_value form.shares s.sums) → (c : Column)
+    → IsWithin (sums_value form s c)
+sums_within form s part column.Dir = named_within form.first column.Dir s.name
+sums_within form s part column.Ext = named_within form.first column.Ext s.name
+sums_within form s part column.Text = named_within form.first column.Text s.name
+sums_within form s part column.Eol = named_within form.first column.Eol s.name
+sums_within form s part (column.Number n) = tt
+sums_within form s part column.Share = part
+sums_within form s part other = tt
+
+sums_line_within : (form : Form) (cs : List Column) (s : NamedSumsModel) → IsWithin (share_value form.shares s.sums)
+    → All IsWithin (line_of (sums_value form) cs s)
+sums_line_within form cs s part = All-map IsWithin (sums_value form s) cs (λ i d low. sums_within form s part (get_or cs i d))
+
+-- a line of sums none of whose numbers is larger than the total
+abbrev IsUnder : Number → Sums → NamedSumsModel → Type 0
+IsUnder n totals s = number_in n s.sums ≤ number_in n totals
+
+sums_section_within : (options : TableOptions) (totals : Sums) (shown : List ShownRowModel) (cs : List Column) (lines : List NamedSumsModel)
+    → All (IsUnder (share_number options.sort) totals) lines
+    → IsSectionWithin (section_of (sums_value (form_of options totals shown)) cs lines)
+sums_section_within options totals shown cs lines under =
+    let n = share_number options.sort in
+    let form = form_of options totals shown in
+    All-map (λ (line : List ValueModel). All IsWithin line) (line_of (sums_value form) cs) lines
+    (λ i d low. sums_line_within form cs (get_or lines i d)
+    (share_within options.share (shares_of n totals shown) (get_or lines i d).sums (under i d low)))
+
+-- the sums over the rows that are cut off, if they are a part of all
+others_under : (n : Number) (rest totals : Sums) (others : Option Sums) → plus rest (unwrap_or others no_files) ≡ totals
+    → All (IsUnder n totals) (others_lines others)
+others_under n rest totals None whole = All-nil (IsUnder n totals)
+others_under n rest totals (Some s) whole =
+    let both = number_plus n rest s in
+    let all = ap (number_in n) whole in
+    All-cons (IsUnder n totals) (record { name = codes "others"; sums = s }) [] (omega arith) (All-nil (IsUnder n totals))
+
+classes_under : (n : Number) (r : Report) → r.totals ≡ sums_of_rows r.rows.items → All (IsUnder n r.totals) (totals_lines r)
+classes_under n r totals =
+    let both = number_plus n (text_sums r.rows.items) (binary_sums r.rows.items) in
+    let all = ap (number_in n) (totals ∙ sym (classes_law r.rows.items)) in
+    All-cons (IsUnder n r.totals) (total_line r) (text_line r ∷ binary_line r ∷ []) (omega arith)
+    (All-cons (IsUnder n r.totals) (text_line r) (binary_line r ∷ []) (omega arith)
+    (All-cons (IsUnder n r.totals) (binary_line r) [] (omega arith) (All-nil (IsUnder n r.totals))))
+
+-- ---- the laws
+
 pub sheet_parts_law : SheetPartsLaw
 sheet_parts_law options r s totals sheet =
     let rows = sheet.has.rows in
@@ -99,5 +164,18 @@ sheet_parts_law options r s totals sheet =
     let within : All (λ (q : ShownRowModel). All IsWithin (line_of (row_value form) columns q)) shown =
     λ i d low. line_within form (get_or shown i d) columns (share_within options.share quota (get_or shown i d).sums (parts i d low))
     (bar_within options.share quota (get_or shown i d).sums (bars i d low)) in
-    subst (λ (t : SheetModel). All (λ (line : List ValueModel). All IsWithin line) t.rows.lines) (sym sheet.has.is)
-    (All-map (λ (line : List ValueModel). All IsWithin line) (line_of (row_value form) columns) shown within)
+    let files = listed_files options.files sheet.files in
+    let others : IsSectionWithin (sheet_of options r (view_of options.top rows files)).others =
+    sums_section_within options r.totals shown (sums_columns options.format columns) (others_lines (view_of options.top rows files).others)
+    (others_under n (sums_of_shown shown) r.totals (view_of options.top rows files).others
+    (cut_totals_law options.by options.sort options.top r.rows.items sheet.files rows files sheet.has.are_rows
+    ∙ sorted_totals options.by.dir options.sort r.rows.items r.files.items sheet.files sheet.are_files ∙ sym totals)) in
+    subst (λ (t : SheetModel). IsSectionWithin t.rows × IsSectionWithin t.others) (sym sheet.has.is)
+    (All-map (λ (line : List ValueModel). All IsWithin line) (line_of (row_value form) columns) shown within, others)
+
+pub class_parts_law : ClassPartsLaw
+class_parts_law options r s totals sheet =
+    let view = view_of options.top sheet.has.rows (listed_files options.files sheet.files) in
+    subst (λ (t : SheetModel). IsSectionWithin t.totals) (sym sheet.has.is)
+    (sums_section_within options r.totals view.rows (sums_columns options.format (row_columns options)) (totals_lines r)
+    (classes_under (share_number options.sort) r totals))

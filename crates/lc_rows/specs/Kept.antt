@@ -8,12 +8,11 @@ use Rattle.lc_sheet.specs.declared.column.Column.{Column}
 use Rattle.lc_sheet.specs.declared.column.Column.TheVariants.{Ext}
 use Rattle.lc_sheet.specs.declared.form.Form.{Form}
 use Rattle.lc_level.specs.Level.{FileLineModel}
-use Rattle.lc_walk.specs.Tally.{CountedFile, IsTally, counted, sums_of_files}
+use Rattle.lc_walk.specs.ReportTotals.{counted_line}
+use Rattle.lc_walk.specs.Tally.{IsTally, sums_of_files}
 use Rattle.lc_walk.specs.TallyRows.{TallyRowModel, sums_of_rows}
-use Rattle.lc_walk.specs.Extension.{extension_of}
 use Rattle.lc_walk.specs.declared.report.Report.{Report}
 use Rattle.lc_walk.specs.declared.tally.sums.Sums.{Sums}
-use Rattle.lc_rows.specs.Directories.{name_of}
 use Rattle.lc_rows.specs.Kinds.{file_value, row_value}
 use Rattle.lc_rows.specs.Laws.{all_columns}
 use Rattle.lc_rows.specs.ShownRows.{part_of_row}
@@ -38,10 +37,6 @@ file_meets cs f = holds_all (value_of_file f) cs
 
 abbrev pub row_meets : List ConditionModel → TallyRowModel → Bool
 row_meets cs r = holds_all (value_of_row r) cs
-
--- a file, as a tally counts it
-abbrev pub counted_line : FileLineModel → CountedFile
-counted_line f = counted (extension_of (name_of f.path)) f.text f.count
 
 -- the rows are those that meet the conditions; where these are on what only files have, the rows of the files that do
 abbrev pub AreKeptRows : Bool → List ConditionModel → Report → List FileLineModel → List TallyRowModel → Type 0

@@ -1,15 +1,19 @@
 -- What is true of the parts of a report that meet conditions.
-use Rattle.std.specs.Prelude.{◌≡◌, Bool, if◌then◌else◌, List, [], ◌∷◌, map}
+use Rattle.std.specs.Prelude.{◌≡◌, ℕ, Bool, if◌then◌else◌, List, [], ◌∷◌, map}
 use Rattle.std.specs.List.Sorted.{IsPermutation}
 use Rattle.lc_sheet.specs.Conditions.{ConditionModel, TestModel, compared, is_on_number, none_of, one_of}
 use Rattle.lc_sheet.specs.declared.condition.Comparison.{Comparison}
 use Rattle.lc_sheet.specs.declared.condition.Comparison.TheVariants.{Less, AtMost, Equal, Unequal, AtLeast, Greater}
+use Rattle.lc_tree.specs.Trees.{Listings, Contents}
+use Rattle.lc_walk.specs.ReportTotals.{TotalsAddUp, counted_line}
 use Rattle.lc_walk.specs.Sums.{plus}
 use Rattle.lc_walk.specs.Tally.{sums_of_files}
 use Rattle.lc_walk.specs.TallyRows.{sums_of_rows}
+use Rattle.lc_walk.specs.declared.options.Options.{Options}
 use Rattle.lc_walk.specs.declared.report.Report.{Report}
 use Rattle.lc_walk.specs.declared.tally.sums.Sums.{Sums}
-use Rattle.lc_rows.specs.Kept.{IsKept, counted_line}
+use Rattle.lc_rows.specs.Kept.{IsKept}
+use Rattle.lc_rows.specs.WalkedReports.{IsWalked, ListsFilesToTest}
 
 -- no condition changes nothing
 abbrev pub NoConditionLaw : Type 0
@@ -40,8 +44,21 @@ opposite c = record { column = c.column; test = opposite_test c.test }
 abbrev pub tested_sums : Bool → Report → Sums
 tested_sums by_file r = if by_file then sums_of_files (map counted_line r.files.items) else sums_of_rows r.rows.items
 
+-- where the totals of a report add up, those of what meets conditions do
+abbrev pub KeptTotalsLaw : Type 0
+KeptTotalsLaw = (cs : List ConditionModel) (r part : Report) → TotalsAddUp r → IsKept cs r part → TotalsAddUp part
+
 -- the totals with a condition and with its opposite add up to those without
+abbrev pub AddUpOpposite : ConditionModel → Report → Type 0
+AddUpOpposite c r =
+    (with_it without_it : Report) → IsKept (c ∷ []) r with_it → IsKept (opposite c ∷ []) r without_it
+    → plus with_it.totals without_it.totals ≡ r.totals
+
+-- so it is where the totals are the sums over all that the condition is tested on
 abbrev pub OppositesLaw : Type 0
-OppositesLaw =
-    (c : ConditionModel) (r with_it without_it : Report) → r.totals ≡ tested_sums (is_on_number c) r
-    → IsKept (c ∷ []) r with_it → IsKept (opposite c ∷ []) r without_it → plus with_it.totals without_it.totals ≡ r.totals
+OppositesLaw = (c : ConditionModel) (r : Report) → r.totals ≡ tested_sums (is_on_number c) r → AddUpOpposite c r
+
+-- and with each report of a walk, and what of it meets other conditions
+abbrev pub WalkedOppositesLaw : (List ℕ → Listings) → (List ℕ → Contents) → Type 0
+WalkedOppositesLaw lists gives =
+    (o : Options) (c : ConditionModel) (r : Report) → IsWalked lists gives o r → ListsFilesToTest o c → AddUpOpposite c r

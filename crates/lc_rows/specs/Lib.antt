@@ -11,6 +11,7 @@ pub mod Laws
 pub mod Words
 pub mod Kinds
 pub mod Kept
+pub mod WalkedReports
 pub mod KeptLaws
 pub mod SheetColumns
 pub mod Sheets

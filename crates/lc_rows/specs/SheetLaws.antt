@@ -8,12 +8,15 @@ use Rattle.lc_sheet.specs.declared.column.Column.TheVariants as column
 use Rattle.lc_sheet.specs.declared.column.Number.{Number}
 use Rattle.lc_sheet.specs.declared.column.Number.TheVariants.{Files, Lines, Blank, Bytes}
 use Rattle.lc_sheet.specs.declared.table_options.TableOptions.{TableOptions}
+use Rattle.lc_tree.specs.Trees.{Listings, Contents}
 use Rattle.lc_walk.specs.TallyRows.{sums_of_rows}
+use Rattle.lc_walk.specs.declared.options.Options.{Options}
 use Rattle.lc_walk.specs.declared.report.Report.{Report}
 use Rattle.lc_rows.specs.Laws.{totals_of}
 use Rattle.lc_rows.specs.Sheets.{IsSheetOf}
 use Rattle.lc_rows.specs.ShownFiles.{AreFilesSorted}
 use Rattle.lc_rows.specs.Views.{first_of}
+use Rattle.lc_rows.specs.WalkedReports.{IsWalked, ListsFilesFor}
 use Rattle.lc_level.specs.Level.{FileLineModel}
 
 abbrev pub same_number : Number → Number → Bool
@@ -58,16 +61,19 @@ abbrev pub HasTotals : TableOptions → Report → Type 0
 HasTotals options r = r.totals ≡ totals_of options.by.dir r.rows.items r.files.items
 
 -- in each column of numbers the rows that are shown, and the sums over the others, add up to the total
+abbrev pub RowsAddUp : SheetModel → Type 0
+RowsAddUp s = (n : Number) → column_sum n s.rows + column_sum n s.others ≡ first_number n s.totals
+
 abbrev pub SheetTotalsLaw : Type 0
-SheetTotalsLaw =
-    (options : TableOptions) (r : Report) (s : SheetModel) (n : Number) → HasTotals options r → IsSheetOf options r s
-    → column_sum n s.rows + column_sum n s.others ≡ first_number n s.totals
+SheetTotalsLaw = (options : TableOptions) (r : Report) (s : SheetModel) → HasTotals options r → IsSheetOf options r s → RowsAddUp s
 
 -- in each column of numbers what is text and what is binary add up to the total
+abbrev pub ClassesAddUp : SheetModel → Type 0
+ClassesAddUp s = (n : Number) → (text : ℕ) × (binary : ℕ) × (numbers_in n s.totals ≡ (text + binary) ∷ text ∷ binary ∷ [])
+
 abbrev pub SheetClassesLaw : Type 0
 SheetClassesLaw =
-    (options : TableOptions) (r : Report) (s : SheetModel) (n : Number) → r.totals ≡ sums_of_rows r.rows.items → IsSheetOf options r s
-    → (text : ℕ) × (binary : ℕ) × (numbers_in n s.totals ≡ (text + binary) ∷ text ∷ binary ∷ [])
+    (options : TableOptions) (r : Report) (s : SheetModel) → r.totals ≡ sums_of_rows r.rows.items → IsSheetOf options r s → ClassesAddUp s
 
 -- a part is no larger than its whole
 abbrev pub IsWithin : ValueModel → Type 0
@@ -81,11 +87,35 @@ IsWithin (number n) = ⊤
 IsWithin (share part whole) = part ≤ whole
 IsWithin (bar part whole) = part ≤ whole
 
--- no row has a share over the total or a bar over the longest
+abbrev pub IsSectionWithin : SectionModel → Type 0
+IsSectionWithin section = All (λ (line : List ValueModel). All IsWithin line) section.lines
+
+-- no share is over the total, and no bar over the longest
+pub record SharesAreWithin (s : SheetModel) : Type 0 where
+  pub rows : IsSectionWithin s.rows
+  pub others : IsSectionWithin s.others
+  pub totals : IsSectionWithin s.totals
+
 abbrev pub SheetPartsLaw : Type 0
 SheetPartsLaw =
     (options : TableOptions) (r : Report) (s : SheetModel) → HasTotals options r → IsSheetOf options r s
-    → All (λ (line : List ValueModel). All IsWithin line) s.rows.lines
+    → IsSectionWithin s.rows × IsSectionWithin s.others
+
+abbrev pub ClassPartsLaw : Type 0
+ClassPartsLaw =
+    (options : TableOptions) (r : Report) (s : SheetModel) → r.totals ≡ sums_of_rows r.rows.items → IsSheetOf options r s
+    → IsSectionWithin s.totals
+
+-- all of this is so of each sheet of a report of a walk, and of what of it meets conditions
+pub record SheetAddsUp (s : SheetModel) : Type 0 where
+  pub rows : RowsAddUp s
+  pub classes : ClassesAddUp s
+  pub shares : SharesAreWithin s
+
+abbrev pub WalkedSheetLaw : (List ℕ → Listings) → (List ℕ → Contents) → Type 0
+WalkedSheetLaw lists gives =
+    (o : Options) (options : TableOptions) (r : Report) (s : SheetModel) → IsWalked lists gives o r → ListsFilesFor o options
+    → IsSheetOf options r s → SheetAddsUp s
 
 abbrev pub bytes_of : ValueModel → List ℕ
 bytes_of (path p) = p

@@ -1,9 +1,10 @@
 //! The sums over binary files, and over others.
 
-ghost use Rattle.std.specs.Prelude.{◌≡◌, if◌then◌else◌, IfOk, OnOk};
+ghost use Rattle.std.specs.Prelude.{◌≡◌, if◌then◌else◌, IfErr, IfOk};
 ghost use Rattle.std.specs.List.{list_any};
 ghost use Rattle.lc_rows.specs.Classes.{binary_sums, is_binary, text_sums};
-ghost use Rattle.lc_walk.specs.Sums.{plus};
+ghost use Rattle.lc_walk.specs.Sums.{IsInRange, plus};
+ghost use Rattle.lc_walk.specs.TallyRows.{sums_of_rows};
 
 use lc_census::Eol;
 use lc_walk::{Sums, TallyRow};
@@ -34,6 +35,7 @@ impl ClassSums {
     fn with_row(self, row: &TallyRow) -> Result<ClassSums, AllocError>
         ensures text { IfOk result (λ sums. sums.text ≡ (if is_binary row.now then self.text else plus self.text row.now.sums)) }
         ensures binary { IfOk result (λ sums. sums.binary ≡ (if is_binary row.now then plus self.binary row.now.sums else self.binary)) }
+        ensures overflow { IfErr result (λ _. IsInRange (plus (if is_binary row.now then self.binary else self.text) row.now.sums) → ⊥) }
     {
         if is_binary(row) {
             Ok(ClassSums {
@@ -48,10 +50,11 @@ impl ClassSums {
         }
     }
 
-    /// Adds up rows by class. It stops with an error for rows that no walk has, whose sums overflow.
+    /// Adds up rows by class. It stops with an error only for rows that no walk has, whose sums overflow.
     pub(crate) fn of_all(rows: &[TallyRow]) -> Result<ClassSums, AllocError>
         ensures text { IfOk result (λ sums. sums.text ≡ text_sums rows.now) }
         ensures binary { IfOk result (λ sums. sums.binary ≡ binary_sums rows.now) }
+        ensures overflow { IfErr result (λ _. IsInRange (sums_of_rows rows.now) → ⊥) }
     {
         let mut sums = ClassSums {
             text: Sums::none(),

@@ -1,6 +1,7 @@
 //! Where a table is cut: its first rows or files, and the sums over the other rows.
 
-ghost use Rattle.std.specs.Prelude.{◌≡◌, IfOk};
+ghost use Rattle.std.specs.Prelude.{◌≡◌, IfErr, IfOk};
+ghost use Rattle.lc_walk.specs.Sums.{IsInRange};
 ghost use Rattle.lc_rows.specs.RowKeys.{sums_of_shown};
 ghost use Rattle.lc_rows.specs.Views.{first_of, rest_of, sums_of_some};
 
@@ -19,7 +20,8 @@ pub(crate) fn split_at_top<T>(top: Option<u32>, items: &[T]) -> (&[T], &[T])
 }
 
 fn sums_of(rows: &[ShownRow<'_>]) -> Result<Sums, AllocError>
-    ensures { IfOk result (λ sums. sums ≡ sums_of_shown rows.now) }
+    ensures sums { IfOk result (λ sums. sums ≡ sums_of_shown rows.now) }
+    ensures overflow { IfErr result (λ _. IsInRange (sums_of_shown rows.now) → ⊥) }
 {
     let mut sums = Sums::none();
     for row in rows {
@@ -29,7 +31,8 @@ fn sums_of(rows: &[ShownRow<'_>]) -> Result<Sums, AllocError>
 }
 
 pub(crate) fn sums_of_some(rows: &[ShownRow<'_>]) -> Result<Option<Sums>, AllocError>
-    ensures { IfOk result (λ sums. sums ≡ sums_of_some rows.now) }
+    ensures sums { IfOk result (λ sums. sums ≡ sums_of_some rows.now) }
+    ensures overflow { IfErr result (λ _. IsInRange (sums_of_shown rows.now) → ⊥) }
 {
     if rows.is_empty() {
         return Ok(None);

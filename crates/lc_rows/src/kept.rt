@@ -1,10 +1,12 @@
 //! The part of a report that meets conditions.
 
-ghost use Rattle.std.specs.Prelude.{◌≡◌, ◌∷◌, ◌++◌, [], true, false, List, map, filter, IfOk, OnOk};
+ghost use Rattle.std.specs.Prelude.{◌≡◌, ◌∷◌, ◌++◌, [], true, false, List, map, filter, IfErr, IfOk, IsOk, OnOk};
 ghost use Rattle.lc_sheet.specs.Conditions.{meets, needs_files};
+ghost use Rattle.lc_walk.specs.ReportTotals.{counted_line};
+ghost use Rattle.lc_walk.specs.Sums.{IsInRange};
 ghost use Rattle.lc_walk.specs.Tally.{CountedFile, StandsFor};
 ghost use Rattle.lc_walk.specs.TallyRows.{sums_of_rows};
-ghost use Rattle.lc_rows.specs.Kept.{IsKept, IsPart, counted_line, file_meets, row_meets, value_of_file, whole_form};
+ghost use Rattle.lc_rows.specs.Kept.{IsKept, IsPart, file_meets, row_meets, value_of_file, whole_form};
 ghost use Rattle.lc_rows.specs.Kinds.{row_value};
 ghost use Rattle.lc_rows.specs.Laws.{all_columns};
 ghost use Rattle.lc_rows.specs.ShownRows.{part_of_row};
@@ -88,9 +90,10 @@ fn keep_rows(conditions: &[Condition<'_>], rows: &mut Vec<TallyRow>)
     rows.retain(|row| row_meets(conditions, row));
 }
 
-/// Adds up rows. It stops with an error for rows that no walk has, whose sums overflow.
+/// Adds up rows. It stops with an error only for rows that no walk has, whose sums overflow.
 fn sums_of_rows(rows: &[TallyRow]) -> Result<Sums, AllocError>
-    ensures { IfOk result (λ sums. sums ≡ sums_of_rows rows.now) }
+    ensures sums { IfOk result (λ sums. sums ≡ sums_of_rows rows.now) }
+    ensures overflow { IfErr result (λ _. IsInRange (sums_of_rows rows.now) → ⊥) }
 {
     let mut sums = Sums::none();
     for row in rows {
@@ -137,12 +140,21 @@ fn keep_by_files(
     Ok(())
 }
 
+/// Sums fit their types. The function does nothing: its contract is what is proved.
+fn are_in_range(sums: Sums)
+    ensures { IsInRange sums }
+{
+    let _sums = sums;
+}
+
 /// Keeps what meets conditions on what the files of a row have in common.
 fn keep_by_rows(conditions: &[Condition<'_>], report: &mut Report) -> Result<(), AllocError>
     requires by_rows { needs_files conditions.now ≡ false }
     ensures kept { OnOk result (IsPart conditions.now report.old report.new) }
+    ensures adds_up { report.old.totals ≡ sums_of_rows report.old.rows.items → IsOk result }
     ensures faults { report.new.faults ≡ report.old.faults }
 {
+    are_in_range(report.totals);
     keep_files(conditions, &mut report.files);
     keep_rows(conditions, &mut report.rows);
     report.totals = sums_of_rows(&report.rows)?;
@@ -151,14 +163,15 @@ fn keep_by_rows(conditions: &[Condition<'_>], report: &mut Report) -> Result<(),
 
 /// Keeps of a report what meets all conditions: it drops files, and drops rows or counts the files that are left, in place.
 ///
-/// Skipped entries, errors and the numbers of directories and entries stay. For a condition on a number the report must have its files. It
-/// stops with an error if there is no memory, and for sums that no walk has.
+/// Skipped entries, errors and the numbers of directories and entries stay. For a condition on a number the report must have its files,
+/// and it stops with an error if there is no memory. Otherwise it stops with one only for sums that no walk has.
 pub fn keep(
     alloc: Global,
     conditions: &[Condition<'_>],
     report: &mut Report,
 ) -> Result<(), AllocError>
     ensures kept { OnOk result (IsKept conditions.now report.old report.new) }
+    ensures adds_up { needs_files conditions.now ≡ false → report.old.totals ≡ sums_of_rows report.old.rows.items → IsOk result }
     ensures faults { report.new.faults ≡ report.old.faults }
 {
     if conditions.is_empty() {

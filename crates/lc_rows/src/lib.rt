@@ -36,7 +36,10 @@ pub use directories::{directory_at, name_of};
 pub use directory_tree::tree_rows;
 pub use files::sort_files;
 pub use kept::keep;
-pub use kept_laws::{conditions_have_no_order, no_condition_keeps_all, opposite_conditions_add_up};
+pub use kept_laws::{
+    conditions_have_no_order, conditions_keep_totals, no_condition_keeps_all,
+    opposite_conditions_add_up,
+};
 pub use kinds::{Faults, Files, NamedSums, Rows, Skipped, Totals};
 pub use laws::{
     a_directory_is_its_files_and_its_children, classes_add_up_to_all_rows, each_file_is_in_one_row,
@@ -45,8 +48,8 @@ pub use laws::{
     the_first_files_are_the_largest, what_is_cut_off_adds_up, whole_keys_add_up_to_themselves,
 };
 pub use sheet_laws::{
-    classes_of_a_sheet_add_up, files_of_a_sheet_are_the_first, no_row_of_a_sheet_is_over_its_whole,
-    rows_of_a_sheet_add_up,
+    classes_of_a_sheet_add_up, files_of_a_sheet_are_the_first,
+    no_line_of_a_sheet_is_over_its_whole, rows_of_a_sheet_add_up, sheets_of_walks_add_up,
 };
 pub use shown::{number_in, shown_rows};
 pub use shown_row::ShownRow;

@@ -1,8 +1,8 @@
 //! A row of a table.
 
-ghost use Rattle.std.specs.Prelude.{◌≡◌, IfOk};
+ghost use Rattle.std.specs.Prelude.{◌≡◌, IfErr, IfOk};
 ghost use Rattle.lc_rows.specs.RowKeys.{row_key, row_with};
-ghost use Rattle.lc_walk.specs.Sums.{plus};
+ghost use Rattle.lc_walk.specs.Sums.{IsInRange, plus};
 
 use crate::parts::Part;
 use crate::row_key::RowKeyRef;
@@ -65,9 +65,10 @@ impl<'a> ShownRow<'a> {
             eol: self.eol,
         }
     }
-    /// The row with further sums added. It stops with an error if they overflow.
+    /// The row with further sums added. It stops with an error only if they overflow.
     pub(crate) fn with(self, more: Sums) -> Result<ShownRow<'a>, AllocError>
-        ensures { IfOk result (λ row. row ≡ row_with (row_key self.entry) (plus self.entry.sums more)) }
+        ensures row { IfOk result (λ row. row ≡ row_with (row_key self.entry) (plus self.entry.sums more)) }
+        ensures overflow { IfErr result (λ _. IsInRange (plus self.entry.sums more) → ⊥) }
     {
         let sums = self.sums.checked_add(more).ok_or(AllocError)?;
         Ok(ShownRow {

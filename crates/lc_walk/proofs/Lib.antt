@@ -47,3 +47,4 @@ pub mod AnswersOfClose
 pub mod WalkParts
 pub mod Working
 pub mod IncludedFiles
+pub mod ReportTotals

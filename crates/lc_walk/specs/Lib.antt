@@ -34,3 +34,4 @@ pub mod ClosedWalks
 pub mod Walks
 pub mod WorkerResults
 pub mod IncludedFiles
+pub mod ReportTotals

@@ -9,6 +9,7 @@ ghost use Rattle.lc_walk.specs.IncludedFiles.{IncludeLaw};
 ghost use Rattle.lc_walk.specs.Laws.{CoreLaw, NumbersLaw, OneAnswerLaw, PartLaw, PathsOnceLaw};
 ghost use Rattle.lc_walk.specs.NodeWalks.{NodeOneAnswerLaw, NodeReportLaw};
 ghost use Rattle.lc_walk.specs.PartOfWalk.{PartOfWalkLaw, TwoWalksLaw};
+ghost use Rattle.lc_walk.specs.ReportTotals.{ReportTotalsLaw};
 ghost use Rattle.lc_walk.specs.Tally.{TallyModel, CountedFile, StandsFor};
 ghost use Rattle.lc_walk.specs.FoundReports.{ReportLaw};
 
@@ -65,6 +66,14 @@ pub fn all_that_is_found_is_given()
 /// than `absent`, directories or skipped entries, and the top alone is no entry. Each fault `absent` is of a path that was asked for.
 pub fn entries_are_accounted_for<T: Tree>(tree: &T)
     ensures { EntriesLaw (T.lists tree.now) (T.gives tree.now) }
+{
+    let _tree = tree;
+}
+
+/// The totals of the report of a walk are the sums of its rows. Where the report lists its files, the totals are the sums of these, and
+/// each row has the sums of those of its key.
+pub fn totals_of_a_report_add_up<T: Tree>(tree: &T)
+    ensures { ReportTotalsLaw (T.lists tree.now) (T.gives tree.now) }
 {
     let _tree = tree;
 }

@@ -29,7 +29,8 @@ pub use laws::{
     all_that_is_found_is_given, entries_are_accounted_for, included_files_are_the_whole_filtered,
     lawful_in_part_is_lawful, paths_stand_once, reports_are_by_given_answers,
     reports_of_memory_are_those_of_its_node, rows_are_the_walk_of_one_tree,
-    rows_are_the_walk_of_their_tree, the_rule_of_a_line_ignores_it, walk_examples_hold,
+    rows_are_the_walk_of_their_tree, the_rule_of_a_line_ignores_it, totals_of_a_report_add_up,
+    walk_examples_hold,
 };
 pub use options::{Options, ReportLists};
 pub use report::{FaultLine, FileLine, Findings, Report, SkippedLine, assemble};

@@ -5,9 +5,7 @@ use Rattle.lc_board.specs.Limits.{capacity_limit}
 use Rattle.lc_level.specs.Job.{JobModel}
 use Rattle.lc_level.specs.TreeAnswers.{MayAnswer}
 use Rattle.lc_walk.specs.Passes.{HaveWorked}
-use Rattle.lc_walk.specs.Running.{HaveRunOn}
 use Rattle.lc_walk.specs.WalkOptions.{asked_by}
-use Rattle.lc_walk.specs.declared.options.Options.{Options}
 use Rattle.lc_walk.proofs.AllWorked.{have_worked}
 use Rattle.lc_walk.proofs.AnswersOfClose.{mapped}
 use Rattle.lc_walk.proofs.walking.walk_by.Goals as goal

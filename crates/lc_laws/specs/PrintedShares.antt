@@ -1,0 +1,40 @@
+-- Shares, as a text for reading shows them.
+use Rattle.std.specs.Prelude.{⊤, ◌≡◌, ◌≤◌, ℕ, List}
+use Rattle.std.specs.List.{All}
+use Rattle.lc_formats.specs.Cells.{shown_text}
+use Rattle.lc_formats.specs.Shares.{share_word}
+use Rattle.lc_rows.specs.Sheets.{IsSheetOf}
+use Rattle.lc_rows.specs.WalkedReports.{IsWalked, ListsFilesFor}
+use Rattle.lc_sheet.specs.Sheets.{SectionModel, SheetModel}
+use Rattle.lc_sheet.specs.Values.{ValueModel, missing, summed, blank, word, name, path, number, share, bar}
+use Rattle.lc_sheet.specs.declared.table_options.TableOptions.{TableOptions}
+use Rattle.lc_tree.specs.Trees.{Listings, Contents}
+use Rattle.lc_walk.specs.declared.options.Options.{Options}
+use Rattle.lc_walk.specs.declared.report.Report.{Report}
+
+-- the text of a share is that of at most 1,000 tenths of a per cent
+abbrev pub IsPrintedWithin : ValueModel → Type 0
+IsPrintedWithin missing = ⊤
+IsPrintedWithin summed = ⊤
+IsPrintedWithin blank = ⊤
+IsPrintedWithin (word w) = ⊤
+IsPrintedWithin (name n) = ⊤
+IsPrintedWithin (path p) = ⊤
+IsPrintedWithin (number n) = ⊤
+IsPrintedWithin (share part whole) = (tenths : ℕ) × (tenths ≤ 1000) × (shown_text (share part whole) ≡ share_word tenths)
+IsPrintedWithin (bar part whole) = ⊤
+
+abbrev pub AreSharesWithin : SectionModel → Type 0
+AreSharesWithin section = All (λ (line : List ValueModel). All IsPrintedWithin line) section.lines
+
+-- so is each share of the rows and the sums of a sheet
+pub record PrintsShares (s : SheetModel) : Type 0 where
+  pub rows : AreSharesWithin s.rows
+  pub others : AreSharesWithin s.others
+  pub totals : AreSharesWithin s.totals
+
+-- and of each sheet of the report of a walk, and of what of it meets conditions
+abbrev pub PrintedSharesLaw : (List ℕ → Listings) → (List ℕ → Contents) → Type 0
+PrintedSharesLaw lists gives =
+    (o : Options) (options : TableOptions) (r : Report) (s : SheetModel) → IsWalked lists gives o r → ListsFilesFor o options
+    → IsSheetOf options r s → PrintsShares s

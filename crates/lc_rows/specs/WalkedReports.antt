@@ -1,0 +1,24 @@
+-- Reports of walks, and what of them meets conditions.
+use Rattle.std.specs.Prelude.{◌≡◌, ℕ, true, List, is_some, Ok}
+use Rattle.lc_sheet.specs.Conditions.{ConditionModel, is_on_number}
+use Rattle.lc_sheet.specs.declared.table_options.TableOptions.{TableOptions}
+use Rattle.lc_tree.specs.Trees.{Listings, Contents}
+use Rattle.lc_walk.specs.Walks.{Walks}
+use Rattle.lc_walk.specs.declared.options.Options.{Options}
+use Rattle.lc_walk.specs.declared.report.Report.{Report}
+use Rattle.lc_rows.specs.Kept.{IsKept}
+
+-- what meets some conditions of the report of a walk by these options; without conditions it is all of that report
+pub record IsWalked (lists : List ℕ → Listings) (gives : List ℕ → Contents) (o : Options) (r : Report) : Type 0 where
+  pub conditions : List ConditionModel
+  pub whole : Report
+  pub walked : Walks lists gives o (Ok whole)
+  pub kept : IsKept conditions whole r
+
+-- a sheet by directory is made of the files, so the walk must list them
+abbrev pub ListsFilesFor : Options → TableOptions → Type 0
+ListsFilesFor o options = is_some options.by.dir ≡ true → o.lists.files ≡ true
+
+-- and so is what meets a condition on a number
+abbrev pub ListsFilesToTest : Options → ConditionModel → Type 0
+ListsFilesToTest o c = is_on_number c ≡ true → o.lists.files ≡ true

@@ -1,0 +1,27 @@
+-- The totals of a report.
+use Rattle.std.specs.Prelude.{◌≡◌, ℕ, true, List, map, Ok}
+use Rattle.std.specs.List.{after_last}
+use Rattle.lc_glob.specs.Bytes.{slash}
+use Rattle.lc_glob.specs.Pieces.{is_byte}
+use Rattle.lc_level.specs.Level.{FileLineModel}
+use Rattle.lc_tree.specs.Trees.{Listings, Contents}
+use Rattle.lc_walk.specs.Extension.{extension_of}
+use Rattle.lc_walk.specs.Tally.{CountedFile, IsTally, counted, sums_of_files}
+use Rattle.lc_walk.specs.TallyRows.{sums_of_rows}
+use Rattle.lc_walk.specs.Walks.{Walks}
+use Rattle.lc_walk.specs.declared.options.Options.{Options}
+use Rattle.lc_walk.specs.declared.report.Report.{Report}
+
+-- a file of a report, as the tally counts it: by the extension of what is after the last slash of its path
+abbrev pub counted_line : FileLineModel → CountedFile
+counted_line f = counted (extension_of (after_last (is_byte slash) f.path)) f.text f.count
+
+-- the totals are the sums over the rows; where the report lists its files, they are the sums over these, and the rows are their tally
+pub record TotalsAddUp (r : Report) : Type 0 where
+  pub rows : r.totals ≡ sums_of_rows r.rows.items
+  pub files : r.lists.files ≡ true → r.totals ≡ sums_of_files (map counted_line r.files.items)
+  pub tally : r.lists.files ≡ true → IsTally (map counted_line r.files.items) r.rows.items
+
+-- so it is with each report of a walk
+abbrev pub ReportTotalsLaw : (List ℕ → Listings) → (List ℕ → Contents) → Type 0
+ReportTotalsLaw lists gives = (o : Options) (r : Report) → Walks lists gives o (Ok r) → TotalsAddUp r
