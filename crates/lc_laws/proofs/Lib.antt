@@ -17,3 +17,5 @@ pub mod ExplainedEntries
 pub mod TopRules
 pub mod ReportSheets
 pub mod SheetRecords
+pub mod GivenRules
+pub mod IncludedOnes

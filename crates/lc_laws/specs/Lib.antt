@@ -6,3 +6,5 @@ pub mod CountsChecked
 pub mod OneExplanation
 pub mod SlashAtEnd
 pub mod SheetReadable
+pub mod NoIgnore
+pub mod IncludedEntries
