@@ -1,6 +1,7 @@
 -- Cells of a table of GitHub Flavored Markdown.
-use Rattle.std.specs.Prelude.{ℕ, nat_eq, Bool, if◌then◌else◌, List, [], ◌∷◌, ◌++◌, flat_map, codes}
-use Rattle.std.specs.List.{list_any}
+use Rattle.std.specs.Prelude.{ℕ, nat_eq, ◌==◌, Bool, true, false, ◌&&◌, ◌||◌, if◌then◌else◌, List, [], ◌∷◌, ◌++◌, codes}
+use Rattle.std.specs.List.{list_any, starts_with}
+use Rattle.lc_glob.specs.Lists.{is_empty}
 use Rattle.lc_sheet.specs.Values.{ValueModel}
 use Rattle.lc_sheet.specs.declared.column.Side.{Side}
 use Rattle.lc_sheet.specs.declared.column.Side.TheVariants.{Left, Right, End}
@@ -12,12 +13,26 @@ use Rattle.lc_formats.specs.declared.markdown_line.Weight.TheVariants.{Plain, Bo
 abbrev pub is_markup : ℕ → Bool
 is_markup b = list_any (λ m. nat_eq m b) (codes "\\`*_[]<>&|~$")
 
--- a backslash before such a byte
-abbrev pub markdown_byte : ℕ → List ℕ
-markdown_byte b = if is_markup b then 92 ∷ b ∷ [] else b ∷ []
+-- a byte of a text: markup is behind a backslash. A blank at an end of the text, which GitHub would drop, is written by its number
+abbrev pub cell_byte : Bool → ℕ → List ℕ
+cell_byte at_end b = if is_markup b then 92 ∷ b ∷ [] else if at_end && b == 32 then codes "&#32;" else b ∷ []
+
+-- what GitHub may make a link of has one of these: `www.a.b`, `https://a.b`, `a@b.c`
+abbrev pub begins_address : List ℕ → Bool
+begins_address t =
+    starts_with nat_eq t (codes "www.") || (starts_with nat_eq t (codes "://") || starts_with nat_eq t (codes "@"))
+
+-- the tag that is put into them, behind their first byte. It shows nothing, and a line may be broken there
+abbrev pub break_in : List ℕ → List ℕ
+break_in t = if begins_address t then codes "<wbr>" else []
+
+-- what follows in a cell, where the first byte of the text may be next
+abbrev pub markdown_from : Bool → List ℕ → List ℕ
+markdown_from first [] = []
+markdown_from first (b ∷ bs) = cell_byte (first || is_empty bs) b ++ (break_in (b ∷ bs) ++ markdown_from false bs)
 
 abbrev pub markdown : List ℕ → List ℕ
-markdown t = flat_map markdown_byte t
+markdown t = markdown_from true t
 
 -- a text in bold; nothing has no marks
 abbrev pub bold : List ℕ → List ℕ

@@ -1,7 +1,7 @@
 //! Texts in cells of Markdown.
 
 ghost use Rattle.std.specs.Prelude.{◌≡◌, ◌++◌, OnOk};
-ghost use Rattle.lc_formats.specs.MarkdownCells.{is_markup, markdown, markdown_byte};
+ghost use Rattle.lc_formats.specs.MarkdownCells.{begins_address, break_in, cell_byte, is_markup, markdown};
 
 use std::alloc::AllocError;
 
@@ -14,22 +14,51 @@ fn is_markup(b: u8) -> bool
     MARKUP.contains(&b)
 }
 
-fn push_markdown_byte(text: &mut Vec<u8>, b: u8) -> Result<(), AllocError>
-    ensures { OnOk result (text.new.items ≡ text.old.items ++ markdown_byte b) }
+/// Appends a byte with a backslash before it if Markdown may take it as markup. A blank at an end of its text is written by its number,
+/// since blanks at the ends of a cell are dropped.
+fn push_cell_byte(text: &mut Vec<u8>, at_end: bool, b: u8) -> Result<(), AllocError>
+    ensures { OnOk result (text.new.items ≡ text.old.items ++ cell_byte at_end b) }
 {
     if is_markup(b) {
         text.extend_from_slice(&[b'\\', b])
+    } else if at_end && b == b' ' {
+        text.extend_from_slice(b"&#32;")
     } else {
         text.extend_from_slice(&[b])
     }
 }
 
-/// Appends a text with a backslash before each byte that Markdown may take as markup.
+/// Returns whether GitHub may make a link of a text that begins so, or has this behind a name.
+fn begins_address(shown: &[u8]) -> bool
+    ensures { result ≡ begins_address shown.now }
+{
+    shown.starts_with(b"www.") || shown.starts_with(b"://") || shown.starts_with(b"@")
+}
+
+/// Appends a tag that shows nothing, if an address begins here.
+fn push_break(text: &mut Vec<u8>, shown: &[u8]) -> Result<(), AllocError>
+    ensures { OnOk result (text.new.items ≡ text.old.items ++ break_in shown.now) }
+{
+    if begins_address(shown) {
+        text.extend_from_slice(b"<wbr>")
+    } else {
+        Ok(())
+    }
+}
+
+/// Appends a text as the text of a cell: no byte of it is markup, no address in it becomes a link, and no blank at its ends is dropped.
+///
+/// GitHub looks for addresses with an `@` in the text behind escapes and references, so only a tag keeps them text.
 pub(crate) fn push_markdown(text: &mut Vec<u8>, shown: &[u8]) -> Result<(), AllocError>
     ensures { OnOk result (text.new.items ≡ text.old.items ++ markdown shown.now) }
 {
-    for b in shown {
-        push_markdown_byte(text, *b)?;
+    let mut first = true;
+    let mut rest = shown;
+    'bytes: while let Some((b, others)) = rest.split_first() {
+        push_cell_byte(text, first || others.is_empty(), *b)?;
+        push_break(text, rest)?;
+        rest = others;
+        first = false;
     }
     Ok(())
 }

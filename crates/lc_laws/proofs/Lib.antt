@@ -18,3 +18,5 @@ pub mod TopRules
 pub mod ReportSheets
 pub mod SheetRecords
 pub mod SharesPrinted
+pub mod GivenRules
+pub mod IncludedOnes

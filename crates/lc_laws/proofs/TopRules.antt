@@ -86,7 +86,7 @@ read_of path (Some (Ok bytes)) x e = let same : x ≡ Some bytes = cc e in ap (�
 read_of path (Some (Err word)) x e = absurd (cc e)
 
 -- the first of two that were read is that of the first file
-pair_rules : (p q : List ℕ) (file other : Option (Result (List ℕ) FaultWord)) (pair : Pair) → both_read p file q other ≡ Ok pair
+pub pair_rules : (p q : List ℕ) (file other : Option (Result (List ℕ) FaultWord)) (pair : Pair) → both_read p file q other ≡ Ok pair
     → option_map Ok pair.rules ≡ file
 pair_rules p q file other pair e = at (reading p file) refl e
   where

@@ -7,3 +7,5 @@ pub mod OneExplanation
 pub mod SlashAtEnd
 pub mod SheetReadable
 pub mod PrintedShares
+pub mod NoIgnore
+pub mod IncludedEntries

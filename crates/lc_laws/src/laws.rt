@@ -7,13 +7,15 @@
 ghost use Rattle.lc_laws.specs.ByAnswers.{SaidByAnswersLaw};
 ghost use Rattle.lc_laws.specs.CountsChecked.{AnswersCheckedLaw, CheckedLaw};
 ghost use Rattle.lc_laws.specs.CountsExplained.{AnswersExplainedLaw, ExplainedLaw};
+ghost use Rattle.lc_laws.specs.IncludedEntries.{IncludedEntriesLaw};
+ghost use Rattle.lc_laws.specs.NoIgnore.{AnswersNoIgnoreLaw, NoIgnoreLaw};
 ghost use Rattle.lc_laws.specs.OneExplanation.{AnswersOneExplanationLaw, OneExplanationLaw};
 ghost use Rattle.lc_laws.specs.SlashAtEnd.{AnswersSlashLaw, SlashLaw};
 
 use lc_paths::entries_are_explained_as_decided;
 use lc_rules::the_last_match_decides;
 use lc_tree::Tree;
-use lc_walk::the_rule_of_a_line_ignores_it;
+use lc_walk::{all_that_is_found_is_given, the_rule_of_a_line_ignores_it};
 
 /// What may be said of a path is said by some answers that the tree may give, one for each directory that is entered.
 pub fn explanations_are_by_given_answers<T: Tree>(tree: &T)
@@ -57,4 +59,22 @@ pub fn counts_are_as_checked<T: Tree>(tree: &T)
     let _tree = tree;
     the_last_match_decides();
     the_rule_of_a_line_ignores_it();
+}
+
+/// A count that reads no ignore file of the tree, as with `--no-ignore`, skips no entry by a rule of a `.gitignore` or of
+/// `.git/info/exclude`.
+pub fn no_ignore_file_of_the_tree_skips_an_entry<T: Tree>(tree: &T)
+    ensures answers { AnswersNoIgnoreLaw }
+    ensures tree { NoIgnoreLaw (T.lists tree.now) (T.gives tree.now) }
+{
+    let _tree = tree;
+    the_rule_of_a_line_ignores_it();
+}
+
+/// Of a walk of included files, as with `--include`, the errors are those of directories and of included files. It skips what the walk of
+/// all files skips, for the same reasons, and the files that are not included.
+pub fn errors_and_skipped_entries_are_those_of_included_files()
+    ensures { IncludedEntriesLaw }
+{
+    all_that_is_found_is_given();
 }

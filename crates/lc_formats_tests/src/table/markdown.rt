@@ -77,6 +77,49 @@ const CASES: &[Case] = &[
                  | read | . |\n\
                  | name | x\\|y |\n",
     },
+    Case {
+        name: "addresses_and_blanks_in_names",
+        options: TableOptions {
+            by: Columns {
+                dir: None,
+                ext: true,
+                text: false,
+                eol: false,
+            },
+            files: true,
+            ..MARKDOWN
+        },
+        rows: &[(Some(b"png "), NONE, Eol::Nul, [3, 0, 0, 3])],
+        totals: [3, 0, 0, 3],
+        directories: 1,
+        files: &[
+            (b" a b ", NONE, Eol::Nul, [0, 0, 1]),
+            (b"@types/logo@2x.png ", NONE, Eol::Nul, [0, 0, 1]),
+            (b"www.a.b_www.c:1", NONE, Eol::Nul, [0, 0, 1]),
+        ],
+        faults: &[(b" ", FaultWord::Read), (b"  ", FaultWord::Name)],
+        lines: b"| text | eol | lines | blank | bytes | file |\n\
+                 | --- | --- | ---: | ---: | ---: | --- |\n\
+                 | - | nul | 0 | 0 | 1 | &#32;a b&#32; |\n\
+                 | - | nul | 0 | 0 | 1 | @<wbr>types/logo@<wbr>2x.png&#32; |\n\
+                 | - | nul | 0 | 0 | 1 | w<wbr>ww.a.b\\_w<wbr>ww.c:1 |\n\
+                 \n\
+                 | ext | files | lines | blank | bytes |\n\
+                 | --- | ---: | ---: | ---: | ---: |\n\
+                 | .png&#32; | 3 | 0 | 0 | 3 |\n\
+                 | **total** | **3** | **0** | **0** | **3** |\n\
+                 | **text** | **0** | **0** | **0** | **0** |\n\
+                 | **binary** | **3** | **0** | **0** | **3** |\n\
+                 \n\
+                 | directories |\n\
+                 | ---: |\n\
+                 | 1 |\n\
+                 \n\
+                 | fault | path |\n\
+                 | --- | --- |\n\
+                 | read | &#32; |\n\
+                 | name | &#32;&#32; |\n",
+    },
 ];
 
 #[test]
