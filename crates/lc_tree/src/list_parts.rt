@@ -1,8 +1,10 @@
 //! The listing of a large directory, whose entries are looked at in parts side by side.
-ghost use Rattle.std.specs.Prelude.{◌≡◌, ◌<◌, IfOk, MatchResult};
-ghost use Rattle.lc_tree.specs.Parts.{all_of, AreJoined, IsFaultOfJoining};
+ghost use Rattle.std.specs.Prelude.{◌≡◌, ◌<◌, IfOk, MatchResult, vec_len};
+ghost use Rattle.lc_tree.specs.Named.{bytes_of, ListsThese, LooksAt};
+ghost use Rattle.lc_tree.specs.Parts.{all_of, AreJoined, HaveLooked, IsFaultOfJoining};
 ghost use Rattle.lc_tree.specs.Trees.{Lists};
 
+use crate::listing::listed;
 use crate::{Entry, IdleThreads, Listing, ReadFault, Tree};
 use std::alloc::{AllocError, Global};
 use std::thread;
@@ -32,12 +34,27 @@ pub fn list_in_parts<T: Tree, R: Threads + Sync>(
 ) -> Result<Listing, ReadFault>
     ensures { Lists (T.lists tree.now path.now) result }
 {
-    match tree.names(alloc, path)? {
-        None => tree.list(alloc, path),
-        Some(names) => {
-            let entries = look_at_all(rt, alloc, tree, path, names, idle)?;
-            Ok(Listing::new(entries)?)
-        }
+    match tree.names(alloc, path) {
+        Ok(Some(names)) => list_names(rt, alloc, tree, path, names, idle),
+        Ok(None) => tree.list(alloc, path),
+        Err(fault) => Err(fault),
+    }
+}
+
+// Lists the directory at a path, which has these names.
+fn list_names<T: Tree, R: Threads + Sync>(
+    rt: &R,
+    alloc: Global,
+    tree: &T,
+    path: &[u8],
+    names: Vec<Vec<u8>>,
+    idle: &IdleThreads,
+) -> Result<Listing, ReadFault>
+    ensures { Lists (ListsThese (T.shows tree.now path.now) (bytes_of names.items)) result }
+{
+    match look_at_all(rt, alloc, tree, path, names, idle) {
+        Ok(entries) => listed(entries),
+        Err(fault) => Err(fault),
     }
 }
 
@@ -49,7 +66,9 @@ fn look_at_all<T: Tree, R: Threads + Sync>(
     path: &[u8],
     names: Vec<Vec<u8>>,
     idle: &IdleThreads,
-) -> Result<Vec<Entry>, ReadFault> {
+) -> Result<Vec<Entry>, ReadFault>
+    ensures { LooksAt (T.shows tree.now path.now) (bytes_of names.items) result }
+{
     let taken = idle.take(most_helpers(names.len()));
     let entries = if taken == 0 {
         tree.look(alloc, path, names)
@@ -77,12 +96,33 @@ fn look_in_parts<T: Tree, R: Threads + Sync>(
     path: &[u8],
     names: Vec<Vec<u8>>,
     helpers: u32,
-) -> Result<Vec<Entry>, ReadFault> {
-    let parts = cut(alloc, names, helpers.saturating_add(1) as usize)?;
-    let look = |part: Vec<Vec<u8>>| -> Result<Vec<Entry>, ReadFault> {
-        tree.look(alloc, path, part)
+) -> Result<Vec<Entry>, ReadFault>
+    ensures { LooksAt (T.shows tree.now path.now) (bytes_of names.items) result }
+{
+    let Ok(runs) = cut(alloc, names, helpers.saturating_add(1) as usize) else {
+        return Err(ReadFault::Memory);
     };
-    join(alloc, thread::map_vec(rt, parts, &look)?)
+    let Ok(parts) = look_at_runs(rt, alloc, tree, path, runs) else {
+        return Err(ReadFault::Memory);
+    };
+    join(alloc, parts)
+}
+
+// The entries of each run of names, by a thread for each but one.
+fn look_at_runs<T: Tree, R: Threads + Sync>(
+    rt: &R,
+    alloc: Global,
+    tree: &T,
+    path: &[u8],
+    runs: Vec<Vec<Vec<u8>>>,
+) -> Result<Vec<Result<Vec<Entry>, ReadFault>>, AllocError>
+    ensures all { IfOk result (λ parts. vec_len parts ≡ vec_len runs) }
+    ensures each { IfOk result (λ parts. HaveLooked (T.shows tree.now path.now) runs.items parts.items) }
+{
+    let look = |names: Vec<Vec<u8>>| -> Result<Vec<Entry>, ReadFault>
+        ensures { LooksAt (T.shows tree.entry.now path.entry.now) (bytes_of names.items) result }
+    { tree.look(alloc, path, names) };
+    thread::map_vec(rt, runs, &look)
 }
 
 // Cuts names into so many parts of nearly equal length, in order.
