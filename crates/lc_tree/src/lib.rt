@@ -30,9 +30,9 @@ mod tree;
 
 pub use entry::{Entry, Kind, OtherKind};
 pub use file_systems::FileSystems;
-pub use idle_threads::IdleThreads;
+pub use idle_threads::{Helpers, IdleThreads};
 pub use laws::{the_limit_is_this_number, trees_of_memory_list_once};
-pub use list_parts::list_in_parts;
+pub use list_parts::{cut_names, list_in_parts};
 pub use listing::{Listing, ListingFault, MAX_ENTRIES};
 pub use mem_file::MemFile;
 pub use mem_tree::MemTree;

@@ -1,11 +1,11 @@
 //! The listing of a large directory, whose entries are looked at in parts side by side.
-ghost use Rattle.std.specs.Prelude.{◌≡◌, ◌<◌, IfOk, MatchResult, vec_len};
+ghost use Rattle.std.specs.Prelude.{◌≡◌, ◌+◌, ◌<◌, ◌≤◌, IfOk, MatchResult, vec_len};
 ghost use Rattle.lc_tree.specs.Named.{bytes_of, ListsThese, LooksAt};
 ghost use Rattle.lc_tree.specs.Parts.{all_of, AreJoined, HaveLooked, IsFaultOfJoining};
 ghost use Rattle.lc_tree.specs.Trees.{Lists};
 
 use crate::listing::listed;
-use crate::{Entry, IdleThreads, Listing, ReadFault, Tree};
+use crate::{Entry, Helpers, IdleThreads, Listing, ReadFault, Tree};
 use std::alloc::{AllocError, Global};
 use std::thread;
 use std::thread::Threads;
@@ -22,7 +22,7 @@ const MAX_PARTS: usize = 16;
 /// each. They are given back before the listing is returned. The entries and the faults are as if one entry was looked at after another.
 ///
 /// ```
-/// let idle = IdleThreads::new();
+/// let idle = IdleThreads::new(4);
 /// let listing = list_in_parts(&rt, rt.alloc(), &tree, b"src", &idle)?;
 /// ```
 pub fn list_in_parts<T: Tree, R: Threads + Sync>(
@@ -69,13 +69,13 @@ fn look_at_all<T: Tree, R: Threads + Sync>(
 ) -> Result<Vec<Entry>, ReadFault>
     ensures { LooksAt (T.shows tree.now path.now) (bytes_of names.items) result }
 {
-    let taken = idle.take(most_helpers(names.len()));
-    let entries = if taken == 0 {
+    let helpers = idle.take(most_helpers(names.len()));
+    let entries = if helpers.count() == 0 {
         tree.look(alloc, path, names)
     } else {
-        look_in_parts(rt, alloc, tree, path, names, taken)
+        look_in_parts(rt, alloc, tree, path, names, &helpers)
     };
-    idle.give_back(taken);
+    idle.give_back(helpers);
     entries
 }
 
@@ -95,27 +95,29 @@ fn look_in_parts<T: Tree, R: Threads + Sync>(
     tree: &T,
     path: &[u8],
     names: Vec<Vec<u8>>,
-    helpers: u32,
+    helpers: &Helpers,
 ) -> Result<Vec<Entry>, ReadFault>
     ensures { LooksAt (T.shows tree.now path.now) (bytes_of names.items) result }
 {
-    let Ok(runs) = cut(alloc, names, helpers.saturating_add(1) as usize) else {
+    let Ok(runs) = cut_names(alloc, names, helpers) else {
         return Err(ReadFault::Memory);
     };
-    let Ok(parts) = look_at_runs(rt, alloc, tree, path, runs) else {
+    let Ok(parts) = look_at_runs(rt, alloc, tree, path, runs, helpers) else {
         return Err(ReadFault::Memory);
     };
     join(alloc, parts)
 }
 
-// The entries of each run of names, by a thread for each but one.
+// The entries of each run of names, by a thread for each but one. No more threads are started than were taken.
 fn look_at_runs<T: Tree, R: Threads + Sync>(
     rt: &R,
     alloc: Global,
     tree: &T,
     path: &[u8],
     runs: Vec<Vec<Vec<u8>>>,
+    _helpers: &Helpers,
 ) -> Result<Vec<Result<Vec<Entry>, ReadFault>>, AllocError>
+    requires { vec_len runs ≤ _helpers.now + 1 }
     ensures all { IfOk result (λ parts. vec_len parts ≡ vec_len runs) }
     ensures each { IfOk result (λ parts. HaveLooked (T.shows tree.now path.now) runs.items parts.items) }
 {
@@ -125,14 +127,21 @@ fn look_at_runs<T: Tree, R: Threads + Sync>(
     thread::map_vec(rt, runs, &look)
 }
 
-// Cuts names into so many parts of nearly equal length, in order.
-fn cut(alloc: Global, names: Vec<Vec<u8>>, count: usize) -> Result<Vec<Vec<Vec<u8>>>, AllocError>
-    ensures { IfOk result (λ parts. all_of parts.items ≡ names.items) }
+/// Cuts names into parts of nearly equal length, in order: one for each helper, and one more.
+pub fn cut_names(
+    alloc: Global,
+    names: Vec<Vec<u8>>,
+    helpers: &Helpers,
+) -> Result<Vec<Vec<Vec<u8>>>, AllocError>
+    ensures all { IfOk result (λ parts. all_of parts.items ≡ names.items) }
+    ensures few { IfOk result (λ parts. vec_len parts ≡ helpers.now + 1) }
 {
     let mut names = names;
-    let mut parts = Vec::with_capacity(alloc, count)?;
+    let helpers = helpers.count() as usize;
+    let mut parts = Vec::with_capacity(alloc, helpers.saturating_add(1))?;
     // From the last to the second, so that each name is moved once.
-    for left in (2..=count).rev() {
+    'parts: while parts.len() < helpers {
+        let left = helpers - parts.len() + 1;
         let part = names.split_off(names.len() - names.len() / left)?;
         parts.push(part)?;
     }

@@ -13,6 +13,6 @@ returns-in_default-look_at_runs g c = memory_fault (g.T.Tree.shows c.args.tree.n
 pub returns : goal.returns
 returns g c =
     looks_joined (g.T.Tree.shows c.args.tree.now c.args.path.now) c.args.names.items c.in-Ok.runs.items
-    c.in-Ok-look_at_runs.parts.items c.join.result c.in-Ok.ensures
+    c.in-Ok-look_at_runs.parts.items c.join.result c.in-Ok.ensures.all
     (sym c.in-Ok-look_at_runs.parts.ok.0 ∙ c.in-Ok-look_at_runs.ensures.all ∙ c.in-Ok.runs.ok.0)
     c.in-Ok-look_at_runs.ensures.each c.join.ensures
