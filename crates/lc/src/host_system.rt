@@ -30,9 +30,9 @@ where
 
     type File = StdSource<R::File>;
 
-    ghost use Rattle.lc_tree.specs.SysTrees.{AnyContents, top_text};
+    ghost use Rattle.lc_tree.specs.SysTrees.{AnyContents, sys_top};
 
-    ghost tree = { λ s directory entered. top_text directory };
+    ghost tree = { λ s directory entered. sys_top directory entered };
 
     ghost holds = { λ s name. AnyContents };
 

@@ -1,7 +1,7 @@
 //! A directory of the host as a tree, whose calls are counted for a terminal.
 
 use crate::progress::Progress;
-use lc_census::StdSource;
+use lc_census::{Source, StdSource};
 use lc_tree::{Entry, Listing, ReadFault, SysTree, Tree};
 use std::alloc::Global;
 use std::marker::Model;
@@ -18,9 +18,9 @@ pub(crate) struct WatchedTree<'a, R> {
 }
 
 impl<'a, R> Model for WatchedTree<'a, R> {
-    ghost use Rattle.std.specs.Prelude.{List, ℕ};
+    ghost use Rattle.lc_tree.specs.SysTrees.{SysTop};
 
-    ghost Value = { List ℕ };
+    ghost Value = { SysTop };
 
     ghost view = { λ t. t.tree };
 }
@@ -47,12 +47,17 @@ where
     type File = StdSource<R::File>;
 
     ghost use Rattle.lc_tree.specs.MemTrees.{nothing};
-    ghost use Rattle.lc_tree.specs.SysTrees.{AnyListing, AnyContents};
-    ghost use Rattle.lc_tree.specs.Trees.{unread};
+    ghost use Rattle.lc_tree.specs.SysFails.{may_fail};
+    ghost use Rattle.lc_tree.specs.SysLists.{NamesOfSome, SysListings, SysShows};
+    ghost use Rattle.lc_tree.specs.SysTrees.{AnyContents};
 
-    ghost lists = { λ t path. AnyListing };
+    ghost lists = { λ t path. SysListings ⟦<StdSource<R::Dir> as Source>⟧.may_give t path };
 
     ghost gives = { λ t path. AnyContents };
+
+    ghost has_names = { λ t path. NamesOfSome ⟦<StdSource<R::Dir> as Source>⟧.may_give };
+
+    ghost shows = { λ t path. SysShows t path };
 
     fn list(&self, alloc: Global, path: &[u8]) -> Result<Listing, ReadFault> {
         self.note_directory();
@@ -78,7 +83,9 @@ where
         self.tree.open_file(alloc, path)
     }
 
-    ghost some_listing = { λ t path. (unread, tt, tt) };
+    ghost lists_named = { λ t path answer by. by };
+
+    ghost some_listing = { λ t path. may_fail ⟦<StdSource<R::Dir> as Source>⟧.may_give t path };
 
     ghost some_content = { λ t path. (nothing, λ rooms pieces stop given. tt) };
 }

@@ -15,8 +15,8 @@ use Rattle.lc_level.specs.RuleFiles.{has_git}
 use Rattle.lc_level.specs.TreeAnswers.{MayHave, MayList, MayAnswer, items_of}
 use Rattle.lc_level.specs.FileAnswers.{counted, read_as_rules}
 use Rattle.lc_tree.specs.Listed.{listed}
-use Rattle.lc_tree.specs.Listing.{EntryModel, have_good_names, HaveDistinctNames, IsListing}
-use Rattle.lc_tree.specs.MemTrees.{content_of, IsAnswerFor, ListsWithin, ListsNode, mem_lists, mem_gives}
+use Rattle.lc_tree.specs.Listing.{EntryModel, IsAnswerFor, have_good_names, HaveDistinctNames, IsListing}
+use Rattle.lc_tree.specs.MemTrees.{content_of, ListsWithin, ListsNode, mem_lists, mem_gives}
 use Rattle.lc_tree.specs.Trees.{Content, GivesContent}
 use Rattle.lc_tree.specs.Nodes.{Child, child_among, child_of, child_within, kind_of, node_below, node_at}
 use Rattle.lc_tree.specs.Paths.{names_of_path}

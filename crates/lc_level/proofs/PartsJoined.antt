@@ -7,13 +7,14 @@ use Rattle.std.proofs.lemmas.List.{map-append}
 use Rattle.std.specs.declared.alloc.AllocError.{AllocError}
 use Rattle.lc_census.specs.declared.line_count.Count.{Count}
 use Rattle.lc_level.specs.CountedNames.{AreCounted, file_fates, IsCounted}
-use Rattle.lc_level.specs.CountedParts.{HaveCounted, Joins, files_of, faults_of, names_of}
+use Rattle.lc_level.specs.CountedParts.{HaveCounted, Joins, files_of, faults_of}
 use Rattle.lc_level.specs.Job.{JobModel}
 use Rattle.lc_level.specs.Classified.{bytes_of}
 use Rattle.lc_level.specs.Level.{FileLineModel, counted_of, failed_of, counted_in, failed_in}
 use Rattle.lc_level.specs.declared.counting.CountedFiles.{CountedFiles}
 use Rattle.lc_level.specs.declared.fault_word.FaultWord.{FaultWord}
 use Rattle.lc_level.proofs.CountedMore.{are_appended, appended}
+use Rattle.lc_tree.specs.Parts.{all_of}
 use Rattle.lc_tree.specs.Trees.{Contents}
 use Rattle.lc_level.specs.FaultLines.{FaultLineModel}
 
@@ -51,7 +52,7 @@ module _ (gives : List ℕ → Contents) (j : JobModel) where
 
   all_found : (runs : List Run) (parts : List Part) → length parts ≡ length runs → HaveCounted gives j runs parts
       → AllByRecursion IsOk parts
-      → AreFound gives j (bytes_of (names_of runs)) (flat_map files_of parts) (flat_map faults_of parts)
+      → AreFound gives j (bytes_of (all_of runs)) (flat_map files_of parts) (flat_map faults_of parts)
   all_found [] [] same have each = record { results = []; may = tt; files_are = refl; faults_are = refl }
   all_found [] (part ∷ parts) same have each = let n : suc (length parts) ≡ 0 = same in absurd (omega (arith, n))
   all_found (run ∷ runs) [] same have each = let n : 0 ≡ suc (length runs) = same in absurd (omega (arith, n))
@@ -60,7 +61,7 @@ module _ (gives : List ℕ → Contents) (j : JobModel) where
       let fewer : length parts ≡ length runs = omega (arith, n) in
       let low : 0 < suc (length runs) = omega arith in
       subst (λ (names : List (List ℕ)). AreFound gives j names (flat_map files_of (part ∷ parts)) (flat_map faults_of (part ∷ parts)))
-      (sym (map-append (λ (n : Vec ℕ Global). n.items) run.items (names_of runs)))
+      (sym (map-append (λ (n : Vec ℕ Global). n.items) run.items (all_of runs)))
       (both_found (bytes_of run.items) _ (files_of part) _ (faults_of part) _
       (part_found run part (have 0 run part low) each.0)
       (all_found runs parts fewer (λ i r p less. let more : suc i < suc (length runs) = omega (arith, less) in have (suc i) r p more)
@@ -68,7 +69,7 @@ module _ (gives : List ℕ → Contents) (j : JobModel) where
 
   -- the names of all runs are counted, with what all parts found
   pub parts_counted : (names : List (Vec ℕ Global)) (runs : List Run) (parts : List Part) (absent : List FaultLineModel)
-      (found : CountedFiles) → names_of runs ≡ names → length parts ≡ length runs → HaveCounted gives j runs parts
+      (found : CountedFiles) → all_of runs ≡ names → length parts ≡ length runs → HaveCounted gives j runs parts
       → Joins parts absent found → IsCounted gives j (bytes_of names) absent found
   parts_counted names runs parts absent found cut same have joins =
       let all = all_found runs parts same have joins.each in

@@ -11,10 +11,6 @@ use Rattle.lc_level.specs.declared.counting.CountedFiles.{CountedFiles}
 use Rattle.lc_tree.specs.Trees.{Contents}
 use Rattle.lc_level.specs.FaultLines.{FaultLineModel}
 
--- the names of all runs, in order
-abbrev pub names_of : List (Vec (Vec ℕ Global) Global) → List (Vec ℕ Global)
-names_of runs = flat_map (λ (run : Vec (Vec ℕ Global) Global). run.items) runs
-
 -- each part has counted the files of the run at its place, or memory was refused to it
 abbrev pub HaveCounted : (List ℕ → Contents) → JobModel → List (Vec (Vec ℕ Global) Global) → List (Result CountedFiles AllocError) → Type 0
 HaveCounted gives j runs parts = (i : ℕ) (run : Vec (Vec ℕ Global) Global) (part : Result CountedFiles AllocError) → i < length runs →

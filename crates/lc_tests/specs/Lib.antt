@@ -1,3 +1,4 @@
+pub mod AnyListings
 pub mod BytewiseContents
 pub mod FailingContents
 pub mod FailingTrees

@@ -1,8 +1,8 @@
 -- A tree of memory answers in one way.
 use Rattle.std.proofs.Common.{◌≡◌, Bool, List, Result, Ok, Err, Option, Some, None, IsTrue, IsFalse, refl, sym, ◌∙◌, ap, arith}
 use Rattle.std.proofs.lemmas.List.Sorted.{IsPermutation-sym, Contains-permutation, length_permutation}
-use Rattle.lc_tree.specs.Listing.{EntryModel, IsListingOf, have_good_names}
-use Rattle.lc_tree.specs.MemTrees.{IsAnswerFor, ListsWithin, ListsNode}
+use Rattle.lc_tree.specs.Listing.{EntryModel, IsAnswerFor, IsListingOf, have_good_names}
+use Rattle.lc_tree.specs.MemTrees.{ListsWithin, ListsNode}
 use Rattle.lc_tree.specs.declared.read_fault.ReadFault.{ReadFault}
 use Rattle.lc_tree.specs.declared.read_fault.ReadFault.TheVariants.{Failed, Unnamed, BadName, Twice, TooMany, Memory}
 use Rattle.lc_tree.specs.declared.node.Node.{Node, out-Node}

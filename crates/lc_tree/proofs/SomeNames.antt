@@ -1,84 +1,73 @@
 -- Entries of some names, name by name.
-use Rattle.std.proofs.Common.{◌≡◌, ℕ, List, [], ◌∷◌, ◌++◌, Option, Some, None, Result, Ok, Err, Vec, inl, inr, refl, sym, ◌∙◌}
+use Rattle.std.proofs.Common.{ℕ, List, [], ◌∷◌, ◌++◌, Option, Result, Ok, Err, Vec, inl, inr, refl, sym, ◌∙◌}
 use Rattle.std.proofs.Common.{ap, subst, append_assoc}
 use Rattle.std.specs.Global.{Global}
-use Rattle.std.specs.Prelude.{IfOk, MatchResult}
 use Rattle.std.proofs.lemmas.List.{append-nil}
-use Rattle.lc_tree.specs.Listing.{EntryModel, names}
-use Rattle.lc_io.specs.Reads.{Answer}
-use Rattle.lc_tree.specs.SysLists.{IsListed}
-use Rattle.lc_tree.specs.SysNames.{AreNamesRead}
-use Rattle.lc_tree.specs.SysLooks.{Looks, bytes_of, entry_of, AreEntriesOf, IsEntryOf, IsFaultOf, IsFirstFault}
-use Rattle.lc_tree.specs.Trees.{AreOf, AreSomeOf}
+use Rattle.lc_tree.specs.Listing.{EntryModel}
+use Rattle.lc_tree.specs.Named.{Looks, entry_of, AreEntriesOf, IsFirstFault, LooksAt}
 use Rattle.lc_tree.specs.declared.entry.Kind.{Kind}
 use Rattle.lc_tree.specs.declared.read_fault.ReadFault.{ReadFault}
 use Rattle.lc_tree.specs.declared.read_fault.ReadFault.TheVariants as fault
 
--- a name in front that is not there
-passed : (ns os : List (List ℕ)) (o : List ℕ) → AreSomeOf ns os → AreSomeOf ns (o ∷ os)
-passed [] os o some = tt
-passed (n ∷ ns) os o some = inr some
+-- what looks gave, where they may show more
+looks_more : (some others : Looks) → ((name : List ℕ) (shown : Result (Option Kind) ReadFault) → some name shown → others name shown)
+    → (ns : List (List ℕ)) (es : List EntryModel) → AreEntriesOf some ns es → AreEntriesOf others ns es
+looks_more some others goes [] es none = none
+looks_more some others goes (n ∷ ns) es (k, rest, first, all, e) =
+    (k, rest, goes n (Ok k) first, looks_more some others goes ns rest all, e)
 
-module _ (may : List ℕ → Looks) (directory text : List ℕ) where
-  -- the names of these entries are some of the names, in their order
-  pub of_some : (ns : List (List ℕ)) (es : List EntryModel) → AreEntriesOf may directory text ns es → AreSomeOf (names es) ns
-  of_some [] es none = subst (λ (l : List EntryModel). AreSomeOf (names l) []) (sym none) tt
-  of_some (n ∷ ns) es (None, rest, is, all, e) =
-      subst (λ (l : List EntryModel). AreSomeOf (names l) (n ∷ ns)) (sym e) (passed (names rest) ns n (of_some ns rest all))
-  of_some (n ∷ ns) es (Some kind, rest, is, all, e) =
-      subst (λ (l : List EntryModel). AreSomeOf (names l) (n ∷ ns)) (sym e) (inl (refl, of_some ns rest all))
+fault_more : (some others : Looks) → ((name : List ℕ) (shown : Result (Option Kind) ReadFault) → some name shown → others name shown)
+    → (ns : List (List ℕ)) (found : ReadFault) → IsFirstFault some ns found → IsFirstFault others ns found
+fault_more some others goes [] found is = is
+fault_more some others goes (n ∷ ns) found (inl refused) = inl refused
+fault_more some others goes (n ∷ ns) found (inr (inl here)) = inr (inl (goes n (Err found) here))
+fault_more some others goes (n ∷ ns) found (inr (inr later)) =
+    inr (inr ((later.0.0, goes n (Ok later.0.0) later.0.1), fault_more some others goes ns found later.1))
+
+pub looked_more : (some others : Looks)
+    → ((name : List ℕ) (shown : Result (Option Kind) ReadFault) → some name shown → others name shown)
+    → (ns : List (List ℕ)) (result : Result (Vec EntryModel Global) ReadFault) → LooksAt some ns result → LooksAt others ns result
+looked_more some others goes ns (Ok entries) is = looks_more some others goes ns entries.items is
+looked_more some others goes ns (Err found) is = fault_more some others goes ns found is
+
+module _ (shows : Looks) where
+  -- the entries of names and of others after them
+  pub entries_joined : (ns ms : List (List ℕ)) (es fs : List EntryModel) → AreEntriesOf shows ns es → AreEntriesOf shows ms fs
+      → AreEntriesOf shows (ns ++ ms) (es ++ fs)
+  entries_joined [] ms es fs none more = subst (λ (l : List EntryModel). AreEntriesOf shows ms (l ++ fs)) (sym none) more
+  entries_joined (n ∷ ns) ms es fs (k, rest, first, all, e) more = (
+    k,
+    rest ++ fs,
+    first,
+    entries_joined ns ms rest fs all more,
+    ap (λ (l : List EntryModel). l ++ fs) e ∙ append_assoc (entry_of n k) rest fs,
+  )
 
   -- one name more
   pub entries_more : (ns : List (List ℕ)) (es : List EntryModel) (name : List ℕ) (kind : Option Kind)
-      → AreEntriesOf may directory text ns es → IsEntryOf may directory text name kind
-      → AreEntriesOf may directory text (ns ++ name ∷ []) (es ++ entry_of name kind)
-  entries_more [] es name kind none is =
-      (kind, [], is, refl, ap (λ (l : List EntryModel). l ++ entry_of name kind) none ∙ sym (append-nil (entry_of name kind)))
-  entries_more (n ∷ ns) es name kind (k, rest, first, all, e) is = (
-    k,
-    rest ++ entry_of name kind,
-    first,
-    entries_more ns rest name kind all is,
-    ap (λ (l : List EntryModel). l ++ entry_of name kind) e ∙ append_assoc (entry_of n k) rest (entry_of name kind),
-  )
+      → AreEntriesOf shows ns es → shows name (Ok kind) → AreEntriesOf shows (ns ++ name ∷ []) (es ++ entry_of name kind)
+  entries_more ns es name kind all is =
+      entries_joined ns (name ∷ []) es (entry_of name kind) all (kind, [], is, refl, sym (append-nil (entry_of name kind)))
+
+  -- an allocation may fail at any name
+  pub memory_fault : (ns : List (List ℕ)) → IsFirstFault shows ns fault.Memory
+  memory_fault [] = refl
+  memory_fault (n ∷ ns) = inl refl
+
+  -- a fault of later names, after names that have entries
+  pub fault_after : (ns ms : List (List ℕ)) (es : List EntryModel) (found : ReadFault) → AreEntriesOf shows ns es
+      → IsFirstFault shows ms found → IsFirstFault shows (ns ++ ms) found
+  fault_after [] ms es found none is = is
+  fault_after (n ∷ ns) ms es found (k, rest, first, all, e) is = inr (inr ((k, first), fault_after ns ms rest found all is))
 
   -- the fault of a name after names that have entries
   pub first_fault : (ns : List (List ℕ)) (es : List EntryModel) (name : List ℕ) (after : List (List ℕ)) (found : ReadFault)
-      → AreEntriesOf may directory text ns es → IsFaultOf may directory text name found
-      → IsFirstFault may directory text (ns ++ name ∷ after) found
-  first_fault [] es name after found all is = inl is
-  first_fault (n ∷ ns) es name after found (k, rest, first, all, e) is = inr ((k, first), first_fault ns rest name after found all is)
+      → AreEntriesOf shows ns es → shows name (Err found) → IsFirstFault shows (ns ++ name ∷ after) found
+  first_fault ns es name after found all is = fault_after ns (name ∷ after) es found all (inr (inl is))
 
-  -- the entries of the names that were asked are entries of some of them
-  pub are_of : (asked : List (Vec ℕ Global)) (result : Result (Vec EntryModel Global) ReadFault)
-      → MatchResult result (λ (entries : Vec EntryModel Global). AreEntriesOf may directory text (bytes_of asked) entries.items)
-      (IsFirstFault may directory text (bytes_of asked))
-      → IfOk result (λ (entries : Vec EntryModel Global). AreOf entries.items asked)
-  are_of asked (Ok entries) is = of_some (bytes_of asked) entries.items is
-  are_of asked (Err found) is = tt
-
-  -- an allocation may fail at any name
-  pub memory_fault : (ns : List (List ℕ)) → IsFirstFault may directory text ns fault.Memory
-  memory_fault [] = refl
-  memory_fault (n ∷ ns) = inl tt
-
-  -- no name is at fault for what entries make no listing for
-  pub no_such : (found : ReadFault) → (fault.Memory ≡ found → ⊥) → ((n : List ℕ) → IsFaultOf may directory text n found → ⊥)
-      → (ns : List (List ℕ)) → IsFirstFault may directory text ns found → ⊥
-  no_such found other none [] is = other (sym is)
-  no_such found other none (n ∷ ns) (inl is) = none n is
-  no_such found other none (n ∷ ns) (inr later) = no_such found other none ns later.1
-
--- a directory is not listed where a name is at fault
-pub not_listed : {D : Type 0} (may_give : D → ℕ → Answer → D → Type 0) (old new : D) (may : List ℕ → Looks) (directory text : List ℕ)
-    (ns : List (List ℕ)) (found : ReadFault) → AreNamesRead may_give old ns new → IsFirstFault may directory text ns found
-    → IsListed may_give old new may directory text (Err found)
-not_listed may_give old new may directory text ns fault.Failed read is = tt
-not_listed may_give old new may directory text ns fault.Memory read is = tt
-not_listed may_give old new may directory text ns fault.Unnamed read is = (ns, read, is)
-not_listed may_give old new may directory text ns fault.BadName read is =
-    absurd (no_such may directory text fault.BadName (λ e. cc) (λ n is. is) ns is)
-not_listed may_give old new may directory text ns fault.Twice read is =
-    absurd (no_such may directory text fault.Twice (λ e. cc) (λ n is. is) ns is)
-not_listed may_give old new may directory text ns fault.TooMany read is =
-    absurd (no_such may directory text fault.TooMany (λ e. cc) (λ n is. is) ns is)
+  -- a fault of names that have others after them
+  pub fault_before : (ns ms : List (List ℕ)) (found : ReadFault) → IsFirstFault shows ns found → IsFirstFault shows (ns ++ ms) found
+  fault_before [] ms found is = subst (λ (f : ReadFault). IsFirstFault shows ms f) (sym is) (memory_fault ms)
+  fault_before (n ∷ ns) ms found (inl refused) = inl refused
+  fault_before (n ∷ ns) ms found (inr (inl here)) = inr (inl here)
+  fault_before (n ∷ ns) ms found (inr (inr later)) = inr (inr (later.0, fault_before ns ms found later.1))

@@ -1,3 +1,4 @@
+pub mod Bounds
 pub mod ByteOrder
 pub mod Kinds
 pub mod Listed
@@ -6,10 +7,13 @@ pub mod Listing
 pub mod MemListings
 pub mod MemTrees
 pub mod MovedEntries
+pub mod Named
+pub mod Nameless
 pub mod Nodes
 pub mod OneAnswer
 pub mod Parts
 pub mod Paths
+pub mod SysFails
 pub mod SysLists
 pub mod SysLooks
 pub mod SysNames

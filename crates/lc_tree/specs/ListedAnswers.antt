@@ -15,8 +15,7 @@ use Rattle.std.proofs.lemmas.List.Sorted.{IsPermutation-map, length_permutation}
 use Rattle.std.proofs.lemmas.Map.Text.{is_eq-slice_cmp}
 use Rattle.lc_tree.specs.ByteOrder.{bytes_cmp, AreApart, AreInOrder}
 use Rattle.lc_tree.specs.Listed.{has_twice, insert, sorted, listed}
-use Rattle.lc_tree.specs.Listing.{EntryModel, names, have_good_names, max_entries, HaveDistinctNames}
-use Rattle.lc_tree.specs.MemTrees.{IsAnswerFor}
+use Rattle.lc_tree.specs.Listing.{EntryModel, IsAnswerFor, names, have_good_names, max_entries, HaveDistinctNames}
 use Rattle.lc_tree.specs.declared.read_fault.ReadFault.{ReadFault}
 use Rattle.lc_tree.specs.declared.read_fault.ReadFault.TheVariants.{BadName, Twice, TooMany}
 use Rattle.lc_tree.specs.MovedEntries.{good_names_moved}

@@ -1,5 +1,5 @@
 -- Entries of a directory, the names that they may have, and what makes them a listing.
-use Rattle.std.specs.Prelude.{ℕ, ◌<◌, ◌≤◌, Bool, List, length, map, IsTrue, IsFalse}
+use Rattle.std.specs.Prelude.{ℕ, ◌<◌, ◌≤◌, Bool, List, length, map, IsTrue, IsFalse, Result, Ok, Err}
 use Rattle.std.specs.List.{list_all}
 use Rattle.std.specs.List.Sorted.{IsPermutation}
 use Rattle.std.specs.declared.cmp.Ordering.{Ordering}
@@ -9,6 +9,8 @@ use Rattle.lc_tree.specs.ByteOrder.{bytes_cmp, AreApart, AreInOrder}
 use Rattle.lc_tree.specs.declared.entry.Kind.{Kind}
 use Rattle.lc_tree.specs.declared.listing.ListingFault.{ListingFault}
 use Rattle.lc_tree.specs.declared.listing.ListingFault.TheVariants.{BadName, Twice, TooMany, Memory}
+use Rattle.lc_tree.specs.declared.read_fault.ReadFault.{ReadFault}
+use Rattle.lc_tree.specs.declared.read_fault.ReadFault.TheVariants as fault
 
 -- an entry: its name, and what stands under it
 pub record EntryModel : Type 0 where
@@ -52,3 +54,13 @@ IsRefusedBy es BadName = IsFalse (have_good_names es)
 IsRefusedBy es Twice = IsTrue (have_good_names es) × (HaveDistinctNames es → ⊥)
 IsRefusedBy es TooMany = IsTrue (have_good_names es) × HaveDistinctNames es × (max_entries < length es)
 IsRefusedBy es Memory = ⊥
+
+-- the listing of these entries, or why they make none
+abbrev pub IsAnswerFor : List EntryModel → Result (List EntryModel) ReadFault → Type 0
+IsAnswerFor entries (Ok listed) = IsListingOf entries listed
+IsAnswerFor entries (Err fault.BadName) = IsRefusedBy entries BadName
+IsAnswerFor entries (Err fault.Twice) = IsRefusedBy entries Twice
+IsAnswerFor entries (Err fault.TooMany) = IsRefusedBy entries TooMany
+IsAnswerFor entries (Err fault.Failed) = ⊥
+IsAnswerFor entries (Err fault.Unnamed) = ⊥
+IsAnswerFor entries (Err fault.Memory) = ⊥

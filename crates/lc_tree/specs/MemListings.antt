@@ -1,8 +1,8 @@
 -- The listings of a tree of memory: the proof of the law of a tree, which is read from here.
 use Rattle.std.proofs.Common.{List, map, Result, Ok, Err, Option, Some, None, refl}
 use Rattle.lc_tree.specs.Listed.{listed}
-use Rattle.lc_tree.specs.Listing.{EntryModel}
-use Rattle.lc_tree.specs.MemTrees.{IsAnswerFor, ListsWithin, ListsNode}
+use Rattle.lc_tree.specs.Listing.{EntryModel, IsAnswerFor}
+use Rattle.lc_tree.specs.MemTrees.{ListsWithin, ListsNode}
 use Rattle.lc_tree.specs.Nodes.{Child, entry_of_child}
 use Rattle.lc_tree.specs.Trees.{TellsSome, unread}
 use Rattle.lc_tree.specs.declared.node.Node.{Node, out-Node}

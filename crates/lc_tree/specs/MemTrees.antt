@@ -1,25 +1,12 @@
 -- The answers of a tree of memory: one listing and one content for each path.
-use Rattle.std.specs.Prelude.{◌≡◌, ℕ, true, false, List, [], take, drop, map, Option, Some, None, Result, Ok, Err, IsTrue, IsFalse}
+use Rattle.std.specs.Prelude.{◌≡◌, ℕ, true, false, List, [], take, drop, map, Option, Some, None, Err, IsTrue, IsFalse}
 use Rattle.lc_io.specs.Reads.{Answer, gave, failed}
-use Rattle.lc_tree.specs.Listing.{EntryModel, IsListingOf, IsRefusedBy}
+use Rattle.lc_tree.specs.Listing.{IsAnswerFor}
 use Rattle.lc_tree.specs.Nodes.{entry_of_child, node_at}
 use Rattle.lc_tree.specs.Trees.{Listings, Contents, Content, GivesContent}
-use Rattle.lc_tree.specs.declared.listing.ListingFault.TheVariants.{BadName, TooMany}
-use Rattle.lc_tree.specs.declared.listing.ListingFault.TheVariants as listing
 use Rattle.lc_tree.specs.declared.node.Node.{Node, out-Node}
 use Rattle.lc_tree.specs.declared.node.Node.TheOpen.{Node-F}
-use Rattle.lc_tree.specs.declared.read_fault.ReadFault.{ReadFault}
 use Rattle.lc_tree.specs.declared.read_fault.ReadFault.TheVariants as fault
-
--- the listing of these entries, or why they make none
-abbrev pub IsAnswerFor : List EntryModel → Result (List EntryModel) ReadFault → Type 0
-IsAnswerFor entries (Ok listed) = IsListingOf entries listed
-IsAnswerFor entries (Err fault.BadName) = IsRefusedBy entries BadName
-IsAnswerFor entries (Err fault.Twice) = IsRefusedBy entries listing.Twice
-IsAnswerFor entries (Err fault.TooMany) = IsRefusedBy entries TooMany
-IsAnswerFor entries (Err fault.Failed) = ⊥
-IsAnswerFor entries (Err fault.Unnamed) = ⊥
-IsAnswerFor entries (Err fault.Memory) = ⊥
 
 -- what listing a node answers: a directory's entries listed, and for any other node that it can't be read
 abbrev pub ListsWithin : Node-F Node → Listings

@@ -1,8 +1,9 @@
 -- What is cut into parts, and what is joined from them.
-use Rattle.std.specs.Prelude.{◌≡◌, ◌⊎◌, List, [], ◌∷◌, ◌++◌, Result, Ok, Err, Vec}
+use Rattle.std.specs.Prelude.{◌≡◌, ◌⊎◌, ℕ, ◌<◌, List, [], ◌∷◌, ◌++◌, length, slice_index_or, Result, Ok, Err, Vec}
 use Rattle.std.specs.Global.{Global}
 use Rattle.std.specs.List.{flat_map}
 use Rattle.lc_tree.specs.Listing.{EntryModel}
+use Rattle.lc_tree.specs.Named.{Looks, bytes_of, LooksAt}
 use Rattle.lc_tree.specs.declared.read_fault.ReadFault.{ReadFault}
 use Rattle.lc_tree.specs.declared.read_fault.ReadFault.TheVariants as fault
 
@@ -25,3 +26,12 @@ abbrev pub IsFaultOfJoining : List Part → ReadFault → Type 0
 IsFaultOfJoining [] found = ⊥
 IsFaultOfJoining (Ok part ∷ parts) found = (found ≡ fault.Memory) ⊎ IsFaultOfJoining parts found
 IsFaultOfJoining (Err first ∷ parts) found = found ≡ first
+
+-- the names of a part
+abbrev pub Run : Type 0
+Run = Vec (Vec ℕ Global) Global
+
+-- at each place is what looks at the names of that part gave
+abbrev pub HaveLooked : Looks → List Run → List Part → Type 0
+HaveLooked shows runs parts = (i : ℕ) (run : Run) (part : Part) → i < length runs →
+    LooksAt shows (bytes_of (slice_index_or runs i run).items) (slice_index_or parts i part)

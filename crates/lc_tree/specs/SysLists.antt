@@ -1,27 +1,26 @@
--- The listing of a directory of the system.
-use Rattle.std.specs.Prelude.{ℕ, List, Result, Ok, Err}
+-- The listing of a directory of the system, by the names that its reads give and by looks at them.
+use Rattle.std.specs.Prelude.{◌≡◌, ◌⊎◌, ℕ, List, ◌++◌, Ok, Err}
 use Rattle.lc_io.specs.Reads.{Answer}
-use Rattle.lc_tree.specs.Listing.{EntryModel, IsListingOf, IsRefusedBy}
-use Rattle.lc_tree.specs.SysLooks.{Looks, AreEntriesOf, IsFirstFault}
-use Rattle.lc_tree.specs.SysNames.{AreNamesRead}
-use Rattle.lc_tree.specs.declared.listing.ListingFault.TheVariants.{BadName, TooMany}
-use Rattle.lc_tree.specs.declared.listing.ListingFault.TheVariants as listing
-use Rattle.lc_tree.specs.declared.read_fault.ReadFault.{ReadFault}
-use Rattle.lc_tree.specs.declared.read_fault.ReadFault.TheVariants as fault
+use Rattle.lc_tree.specs.Named.{Names, Looks, ListsNamed}
+use Rattle.lc_tree.specs.SysLooks.{AnyLook, ShowsIn}
+use Rattle.lc_tree.specs.SysNames.{with_slash, AreNamesRead}
+use Rattle.lc_tree.specs.SysTrees.{SysTop, HasNoPath, IsFaultOfOpening}
+use Rattle.lc_tree.specs.Trees.{Listings}
+use Rattle.lc_tree.specs.declared.read_fault.ReadFault.TheVariants.{Failed}
 
--- reads of a directory, from one state of its reader to another, and looks at paths; its path in the tree, and in the system with a slash
-module _ {D : Type 0} (may_give : D → ℕ → Answer → D → Type 0) (old new : D) (may : List ℕ → Looks) (directory text : List ℕ) where
-  -- these are the entries of the names that were read
-  abbrev pub AreEntriesRead : List EntryModel → Type 0
-  AreEntriesRead entries = (names : List (List ℕ)) × AreNamesRead may_give old names new × AreEntriesOf may directory text names entries
+-- may_give says which answers a read of a directory may give
+module _ {D : Type 0} (may_give : D → ℕ → Answer → D → Type 0) where
+  -- the reads of some directory gave these names, or it can't be read
+  abbrev pub NamesOfSome : Names
+  NamesOfSome (Ok names) = (old : D) × (new : D) × AreNamesRead may_give old names new
+  NamesOfSome (Err found) = IsFaultOfOpening found
 
-  -- the answer: these entries listed, or why they make no listing, or the fault of a name
-  abbrev pub IsListed : Result (List EntryModel) ReadFault → Type 0
-  IsListed (Ok entries) = (found : List EntryModel) × AreEntriesRead found × IsListingOf found entries
-  IsListed (Err fault.BadName) = (found : List EntryModel) × AreEntriesRead found × IsRefusedBy found BadName
-  IsListed (Err fault.Twice) = (found : List EntryModel) × AreEntriesRead found × IsRefusedBy found listing.Twice
-  IsListed (Err fault.TooMany) = (found : List EntryModel) × AreEntriesRead found × IsRefusedBy found TooMany
-  IsListed (Err fault.Unnamed) =
-      (names : List (List ℕ)) × AreNamesRead may_give old names new × IsFirstFault may directory text names fault.Unnamed
-  IsListed (Err fault.Failed) = Unit {0}
-  IsListed (Err fault.Memory) = Unit {0}
+-- what a look at a name in the directory at a path of such a tree shows, by anything that a look may answer; where the path has none in
+-- the system, looks fail
+abbrev pub SysShows : SysTop → List ℕ → Looks
+SysShows top path name shown =
+    ShowsIn (λ _. AnyLook top.stays) path (with_slash (top.text ++ path)) name shown ⊎ (HasNoPath top path × (shown ≡ Err Failed))
+
+-- what listing a path of such a tree may answer: what the names that reads of some directory gave show there
+abbrev pub SysListings : {D : Type 0} → (D → ℕ → Answer → D → Type 0) → SysTop → List ℕ → Listings
+SysListings may_give top path = ListsNamed (NamesOfSome may_give) (SysShows top path)

@@ -1,14 +1,12 @@
 -- What a directory of the system may answer.
-use Rattle.std.specs.Prelude.{ℕ, List, [], ◌∷◌, ◌++◌, Ok, Err}
+use Rattle.std.specs.Prelude.{◌≡◌, ◌⊎◌, ℕ, Bool, List, [], ◌∷◌, ◌++◌}
+use Rattle.std.specs.Str.{IsUtf8}
 use Rattle.lc_glob.specs.Bytes.{slash}
-use Rattle.lc_tree.specs.Listing.{IsListing}
-use Rattle.lc_tree.specs.Trees.{Listings, Contents, IsOpenFault}
+use Rattle.lc_tree.specs.Trees.{Contents, IsOpenFault}
+use Rattle.lc_tree.specs.Bounds.{is_one}
+use Rattle.lc_tree.specs.declared.file_systems.FileSystems.{FileSystems}
 use Rattle.lc_tree.specs.declared.read_fault.ReadFault.{ReadFault}
-
--- a directory may have any listing, or any fault
-abbrev pub AnyListing : Listings
-AnyListing (Ok entries) = IsListing entries
-AnyListing (Err fault) = Unit {0}
+use Rattle.lc_tree.specs.declared.read_fault.ReadFault.TheVariants.{Failed, Memory}
 
 -- the reads of a file may give anything
 abbrev pub AnyContents : Contents
@@ -22,3 +20,20 @@ IsFaultOfOpening fault = IsOpenFault AnyContents fault
 abbrev pub top_text : List ℕ → List ℕ
 top_text [] = []
 top_text (b ∷ bs) = b ∷ bs ++ slash ∷ []
+
+-- the top of such a tree: the text before the paths of its entries, and whether the tree stays on one file system
+pub record SysTop : Type 0 where
+  pub text : List ℕ
+  pub stays : Bool
+
+-- the top of the tree of this directory that enters these file systems
+abbrev pub sys_top : List ℕ → FileSystems → SysTop
+sys_top directory entered = record { text = top_text directory; stays = is_one entered }
+
+-- a path of such a tree that has none in the system: the top has no name, or the path is not UTF-8
+abbrev pub HasNoPath : SysTop → List ℕ → Type 0
+HasNoPath top path = (top.text ≡ []) ⊎ (IsUtf8 path → ⊥)
+
+-- why the path in the system is not made
+abbrev pub IsFaultOfPath : SysTop → List ℕ → ReadFault → Type 0
+IsFaultOfPath top path fault = (fault ≡ Memory) ⊎ (HasNoPath top path × (fault ≡ Failed))

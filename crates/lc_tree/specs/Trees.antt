@@ -1,10 +1,9 @@
 -- What the calls of a tree answer.
-use Rattle.std.specs.Prelude.{◌≡◌, ◌≢◌, ◌⊎◌, ℕ, Bool, List, [], ◌∷◌, ◌++◌, length, map, Vec, Result, Ok, Err, Option, None, Some, MatchResult}
+use Rattle.std.specs.Prelude.{◌≡◌, ◌≢◌, ℕ, Bool, List, [], ◌∷◌, ◌++◌, length, Result, Ok, Err, Option, None, Some, MatchResult}
 use Rattle.std.specs.Prelude.{IsTrue, IsFalse}
-use Rattle.std.specs.Global.{Global}
 use Rattle.std.specs.List.{concat, AllByRecursion}
 use Rattle.lc_io.specs.Reads.{Answer, AnyRoom, RoomOf, Stop, at_end, at_failure, at_neither, Reads}
-use Rattle.lc_tree.specs.Listing.{EntryModel, IsListing, names}
+use Rattle.lc_tree.specs.Listing.{EntryModel, IsListing}
 use Rattle.lc_tree.specs.declared.read_fault.ReadFault.{ReadFault}
 use Rattle.lc_tree.specs.declared.read_fault.ReadFault.TheVariants as fault
 
@@ -51,26 +50,6 @@ TellsSome may = (answer : Result (List EntryModel) ReadFault) × IsTold answer �
 -- the answer of a directory that can't be read
 abbrev pub unread : Result (List EntryModel) ReadFault
 unread = Err fault.Failed
-
--- any listing and any fault may come
-abbrev pub AllowsAny : Listings → Type 0
-AllowsAny may = ((entries : List EntryModel) → IsListing entries → may (Ok entries)) × ((found : ReadFault) → may (Err found))
-
--- the names of a directory are given, or there is a fault, only where any listing may come
-abbrev pub LeavesLooks : {N : Type 0} → Listings → Result (Option N) ReadFault → Type 0
-LeavesLooks may (Ok None) = Unit {0}
-LeavesLooks may (Ok (Some names)) = AllowsAny may
-LeavesLooks may (Err found) = AllowsAny may
-
--- these names are some of the others, in their order
-abbrev pub AreSomeOf : List (List ℕ) → List (List ℕ) → Type 0
-AreSomeOf [] others = Unit {0}
-AreSomeOf (n ∷ ns) [] = ⊥
-AreSomeOf (n ∷ ns) (o ∷ os) = ((n ≡ o) × AreSomeOf ns os) ⊎ AreSomeOf (n ∷ ns) os
-
--- the entries of those of these names that are there
-abbrev pub AreOf : List EntryModel → List (Vec ℕ Global) → Type 0
-AreOf es asked = AreSomeOf (names es) (map (λ (n : Vec ℕ Global). n.items) asked)
 
 -- whatever reads of a file give is one of these
 abbrev pub GivesOnly : {F : Type 0} → (F → ℕ → Answer → F → Type 0) → Contents → F → Type 0

@@ -1,6 +1,6 @@
 //! The file systems whose directories a tree of the system enters.
-ghost use Rattle.std.specs.Prelude.{IsTrue};
-ghost use Rattle.lc_tree.specs.SysLooks.{stays};
+ghost use Rattle.std.specs.Prelude.{◌≡◌, IsTrue};
+ghost use Rattle.lc_tree.specs.Bounds.{is_one, stays};
 
 use crate::system_call::uninterrupted;
 use std::fs::Metadata;
@@ -30,7 +30,9 @@ pub(crate) enum Bounds {
 
 impl Bounds {
     /// The bounds of the tree whose top has this path in the system.
-    pub(crate) fn of<R: Files>(files: &R, top: &str, entered: FileSystems) -> Bounds {
+    pub(crate) fn of<R: Files>(files: &R, top: &str, entered: FileSystems) -> Bounds
+        ensures { stays result ≡ is_one entered }
+    {
         match entered {
             FileSystems::All => Bounds::Everywhere,
             FileSystems::One => match uninterrupted(|| files.metadata(top)) {

@@ -1,6 +1,7 @@
 //! How many threads have nothing to do.
-ghost use Rattle.std.specs.Prelude.{◌≤◌};
+ghost use Rattle.std.specs.Prelude.{◌≡◌, ◌-◌, ◌≤◌};
 
+use std::marker::Model;
 use std::sync::atomic::{AtomicU32, Ordering};
 
 /// A count of the threads that have nothing to do, which threads share so that one with much work can split it.
@@ -16,32 +17,71 @@ use std::sync::atomic::{AtomicU32, Ordering};
 /// thread. A thread that finds work while it is lent only lowers what may be taken, and the count is right again once what was
 /// taken is given back.
 ///
+/// Contracts see how many threads there are. A caller of `take` has work itself, so it gets fewer, whatever is counted.
+///
 /// ```
-/// let idle = IdleThreads::new();
+/// let idle = IdleThreads::new(2);
 /// idle.begin(); // in a thread that waits for work
-/// let taken = idle.take(15); // in a thread with much work: 1
-/// // Do the work in `taken + 1` parts side by side.
-/// idle.give_back(taken);
+/// let helpers = idle.take(15); // in a thread with much work: 1
+/// // Do the work in `helpers.count() + 1` parts side by side.
+/// idle.give_back(helpers);
 /// idle.end(); // in the first thread, which has work again
 /// ```
 #[derive(Drop)]
 pub struct IdleThreads {
+    threads: u32,
     idle: AtomicU32,
     lent: AtomicU32,
 }
 
+impl Model for IdleThreads {
+    ghost use Rattle.std.specs.Prelude.{ℕ};
+
+    ghost Value = { ℕ };
+
+    ghost view = { λ t. t.threads };
+}
+
+/// Idle threads that were taken. They can't be let go: `IdleThreads::give_back` takes them.
+pub struct Helpers {
+    count: u32,
+}
+
+impl Model for Helpers {
+    ghost use Rattle.std.specs.Prelude.{ℕ};
+
+    ghost Value = { ℕ };
+
+    ghost view = { λ h. h.count };
+}
+
+impl Helpers {
+    /// How many they are.
+    pub fn count(&self) -> u32
+        ensures { result ≡ self.now }
+    {
+        self.count
+    }
+}
+
 impl IdleThreads {
-    /// A count of no idle threads.
-    pub const fn new() -> IdleThreads {
+    /// A count of this many threads, none of which is idle.
+    pub const fn new(threads: u32) -> IdleThreads
+        ensures { result ≡ threads }
+    {
         IdleThreads {
+            threads,
             idle: AtomicU32::new(0),
             lent: AtomicU32::new(0),
         }
     }
 
-    /// A count of so many threads, all of them idle, such as workers that are about to start.
-    pub const fn all_idle(threads: u32) -> IdleThreads {
+    /// A count of this many threads, all of them idle, such as workers that are about to start.
+    pub const fn all_idle(threads: u32) -> IdleThreads
+        ensures { result ≡ threads }
+    {
         IdleThreads {
+            threads,
             idle: AtomicU32::new(threads),
             lent: AtomicU32::new(0),
         }
@@ -60,27 +100,31 @@ impl IdleThreads {
         lower(&self.idle, 1);
     }
 
-    /// Takes up to `most` idle threads, and returns how many. They must be given back with `give_back`.
-    pub fn take(&self, most: u32) -> u32
-        ensures { result ≤ most }
+    /// Takes up to `most` idle threads, and fewer than there are threads.
+    pub fn take(&self, most: u32) -> Helpers
+        ensures most { result ≤ most }
+        ensures others { result ≤ self.now - 1 }
     {
+        let most = most.min(self.threads.saturating_sub(1));
         let idle = self.idle.load(Ordering::SeqCst);
         let more = |lent: u32| match free(idle, lent, most) {
             0 => None,
             taken => lent.checked_add(taken),
         };
-        match self
+        let count = match self
             .lent
             .fetch_update(Ordering::SeqCst, Ordering::SeqCst, more)
         {
             Ok(lent) => free(idle, lent, most),
             Err(_) => 0,
-        }
+        };
+        Helpers { count }
     }
 
-    /// Gives back this many threads that `take` returned.
-    pub fn give_back(&self, taken: u32) {
-        lower(&self.lent, taken);
+    /// Gives back threads that `take` returned.
+    pub fn give_back(&self, helpers: Helpers) {
+        let Helpers { count } = helpers;
+        lower(&self.lent, count);
     }
 }
 

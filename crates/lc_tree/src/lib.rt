@@ -4,7 +4,7 @@
 //! - `entry`, `listing`: the entries of one directory, in the order of their names
 //! - `read_fault`: why a tree did not answer
 //! - `file_systems`: the file systems whose directories a tree of the system enters
-//! - `sys_tree`, `sys_list`, `sys_names`, `sys_entries`, `sys_looks`: a directory of the system as a tree
+//! - `sys_tree`, `sys_names`, `sys_entries`, `sys_looks`: a directory of the system as a tree
 //! - `system_call`: calls of the system that signals interrupt
 //! - `list_parts`: the listing of a large directory, with the help of idle threads; `idle_threads`: how many there are
 //! - `node`, `mem_tree`, `mem_file`: a tree of memory
@@ -22,7 +22,6 @@ mod mem_tree;
 mod node;
 mod read_fault;
 mod sys_entries;
-mod sys_list;
 mod sys_looks;
 mod sys_names;
 mod sys_tree;
@@ -31,9 +30,9 @@ mod tree;
 
 pub use entry::{Entry, Kind, OtherKind};
 pub use file_systems::FileSystems;
-pub use idle_threads::IdleThreads;
+pub use idle_threads::{Helpers, IdleThreads};
 pub use laws::{the_limit_is_this_number, trees_of_memory_list_once};
-pub use list_parts::list_in_parts;
+pub use list_parts::{cut_names, list_in_parts};
 pub use listing::{Listing, ListingFault, MAX_ENTRIES};
 pub use mem_file::MemFile;
 pub use mem_tree::MemTree;

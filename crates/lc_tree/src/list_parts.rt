@@ -1,9 +1,11 @@
 //! The listing of a large directory, whose entries are looked at in parts side by side.
-ghost use Rattle.std.specs.Prelude.{◌≡◌, ◌<◌, IfOk, MatchResult};
-ghost use Rattle.lc_tree.specs.Parts.{all_of, AreJoined, IsFaultOfJoining};
+ghost use Rattle.std.specs.Prelude.{◌≡◌, ◌+◌, ◌<◌, ◌≤◌, IfOk, MatchResult, vec_len};
+ghost use Rattle.lc_tree.specs.Named.{bytes_of, ListsThese, LooksAt};
+ghost use Rattle.lc_tree.specs.Parts.{all_of, AreJoined, HaveLooked, IsFaultOfJoining};
 ghost use Rattle.lc_tree.specs.Trees.{Lists};
 
-use crate::{Entry, IdleThreads, Listing, ReadFault, Tree};
+use crate::listing::listed;
+use crate::{Entry, Helpers, IdleThreads, Listing, ReadFault, Tree};
 use std::alloc::{AllocError, Global};
 use std::thread;
 use std::thread::Threads;
@@ -20,7 +22,7 @@ const MAX_PARTS: usize = 16;
 /// each. They are given back before the listing is returned. The entries and the faults are as if one entry was looked at after another.
 ///
 /// ```
-/// let idle = IdleThreads::new();
+/// let idle = IdleThreads::new(4);
 /// let listing = list_in_parts(&rt, rt.alloc(), &tree, b"src", &idle)?;
 /// ```
 pub fn list_in_parts<T: Tree, R: Threads + Sync>(
@@ -32,12 +34,27 @@ pub fn list_in_parts<T: Tree, R: Threads + Sync>(
 ) -> Result<Listing, ReadFault>
     ensures { Lists (T.lists tree.now path.now) result }
 {
-    match tree.names(alloc, path)? {
-        None => tree.list(alloc, path),
-        Some(names) => {
-            let entries = look_at_all(rt, alloc, tree, path, names, idle)?;
-            Ok(Listing::new(entries)?)
-        }
+    match tree.names(alloc, path) {
+        Ok(Some(names)) => list_names(rt, alloc, tree, path, names, idle),
+        Ok(None) => tree.list(alloc, path),
+        Err(fault) => Err(fault),
+    }
+}
+
+// Lists the directory at a path, which has these names.
+fn list_names<T: Tree, R: Threads + Sync>(
+    rt: &R,
+    alloc: Global,
+    tree: &T,
+    path: &[u8],
+    names: Vec<Vec<u8>>,
+    idle: &IdleThreads,
+) -> Result<Listing, ReadFault>
+    ensures { Lists (ListsThese (T.shows tree.now path.now) (bytes_of names.items)) result }
+{
+    match look_at_all(rt, alloc, tree, path, names, idle) {
+        Ok(entries) => listed(entries),
+        Err(fault) => Err(fault),
     }
 }
 
@@ -49,14 +66,16 @@ fn look_at_all<T: Tree, R: Threads + Sync>(
     path: &[u8],
     names: Vec<Vec<u8>>,
     idle: &IdleThreads,
-) -> Result<Vec<Entry>, ReadFault> {
-    let taken = idle.take(most_helpers(names.len()));
-    let entries = if taken == 0 {
+) -> Result<Vec<Entry>, ReadFault>
+    ensures { LooksAt (T.shows tree.now path.now) (bytes_of names.items) result }
+{
+    let helpers = idle.take(most_helpers(names.len()));
+    let entries = if helpers.count() == 0 {
         tree.look(alloc, path, names)
     } else {
-        look_in_parts(rt, alloc, tree, path, names, taken)
+        look_in_parts(rt, alloc, tree, path, names, &helpers)
     };
-    idle.give_back(taken);
+    idle.give_back(helpers);
     entries
 }
 
@@ -76,23 +95,53 @@ fn look_in_parts<T: Tree, R: Threads + Sync>(
     tree: &T,
     path: &[u8],
     names: Vec<Vec<u8>>,
-    helpers: u32,
-) -> Result<Vec<Entry>, ReadFault> {
-    let parts = cut(alloc, names, helpers.saturating_add(1) as usize)?;
-    let look = |part: Vec<Vec<u8>>| -> Result<Vec<Entry>, ReadFault> {
-        tree.look(alloc, path, part)
+    helpers: &Helpers,
+) -> Result<Vec<Entry>, ReadFault>
+    ensures { LooksAt (T.shows tree.now path.now) (bytes_of names.items) result }
+{
+    let Ok(runs) = cut_names(alloc, names, helpers) else {
+        return Err(ReadFault::Memory);
     };
-    join(alloc, thread::map_vec(rt, parts, &look)?)
+    let Ok(parts) = look_at_runs(rt, alloc, tree, path, runs, helpers) else {
+        return Err(ReadFault::Memory);
+    };
+    join(alloc, parts)
 }
 
-// Cuts names into so many parts of nearly equal length, in order.
-fn cut(alloc: Global, names: Vec<Vec<u8>>, count: usize) -> Result<Vec<Vec<Vec<u8>>>, AllocError>
-    ensures { IfOk result (λ parts. all_of parts.items ≡ names.items) }
+// The entries of each run of names, by a thread for each but one. No more threads are started than were taken.
+fn look_at_runs<T: Tree, R: Threads + Sync>(
+    rt: &R,
+    alloc: Global,
+    tree: &T,
+    path: &[u8],
+    runs: Vec<Vec<Vec<u8>>>,
+    _helpers: &Helpers,
+) -> Result<Vec<Result<Vec<Entry>, ReadFault>>, AllocError>
+    requires { vec_len runs ≤ _helpers.now + 1 }
+    ensures all { IfOk result (λ parts. vec_len parts ≡ vec_len runs) }
+    ensures each { IfOk result (λ parts. HaveLooked (T.shows tree.now path.now) runs.items parts.items) }
+{
+    let look = |names: Vec<Vec<u8>>| -> Result<Vec<Entry>, ReadFault>
+        ensures { LooksAt (T.shows tree.entry.now path.entry.now) (bytes_of names.items) result }
+    { tree.look(alloc, path, names) };
+    thread::map_vec(rt, runs, &look)
+}
+
+/// Cuts names into parts of nearly equal length, in order: one for each helper, and one more.
+pub fn cut_names(
+    alloc: Global,
+    names: Vec<Vec<u8>>,
+    helpers: &Helpers,
+) -> Result<Vec<Vec<Vec<u8>>>, AllocError>
+    ensures all { IfOk result (λ parts. all_of parts.items ≡ names.items) }
+    ensures few { IfOk result (λ parts. vec_len parts ≡ helpers.now + 1) }
 {
     let mut names = names;
-    let mut parts = Vec::with_capacity(alloc, count)?;
+    let helpers = helpers.count() as usize;
+    let mut parts = Vec::with_capacity(alloc, helpers.saturating_add(1))?;
     // From the last to the second, so that each name is moved once.
-    for left in (2..=count).rev() {
+    'parts: while parts.len() < helpers {
+        let left = helpers - parts.len() + 1;
         let part = names.split_off(names.len() - names.len() / left)?;
         parts.push(part)?;
     }

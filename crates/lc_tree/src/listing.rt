@@ -2,9 +2,11 @@
 ghost use Rattle.std.specs.Prelude.{◌≡◌, MatchResult};
 ghost use Rattle.std.specs.Bool.{MatchBool};
 ghost use Rattle.std.specs.List.Sorted.{IsPermutation, IsSorted, IsStrictlySortedBy};
-ghost use Rattle.lc_tree.specs.Listing.{by_name, names, have_good_names, HaveDistinctNames, IsListing, IsListingOf, IsRefusedBy};
+ghost use Rattle.lc_tree.specs.Listing.{by_name, names, have_good_names, HaveDistinctNames, IsAnswerFor, IsListing, IsListingOf, IsRefusedBy};
+ghost use Rattle.lc_tree.specs.Trees.{Lists};
 ghost use Rattle.lc_tree.specs.ByteOrder.{bytes_cmp};
 
+use crate::ReadFault;
 use crate::entry::Entry;
 use lc_glob::path::is_good_name;
 use std::marker::Model;
@@ -91,6 +93,13 @@ impl Listing {
     {
         &self.entries
     }
+}
+
+/// Returns the listing of these entries, or why a directory that has them is not listed.
+pub(crate) fn listed(entries: Vec<Entry>) -> Result<Listing, ReadFault>
+    ensures { Lists (IsAnswerFor entries.items) result }
+{
+    Ok(Listing::new(entries)?)
 }
 
 fn all_good(entries: &[Entry]) -> bool

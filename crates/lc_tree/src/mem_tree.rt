@@ -63,6 +63,7 @@ impl<'a> Tree for MemTree<'a> {
     ghost use Rattle.lc_tree.specs.MemTrees.{content_of, mem_lists, mem_gives};
     ghost use Rattle.lc_tree.specs.Nodes.{node_at};
     ghost use Rattle.lc_tree.specs.MemListings.{tells_some};
+    ghost use Rattle.lc_tree.specs.Nameless.{nothing_named};
 
     ghost lists = { mem_lists };
 
@@ -89,6 +90,8 @@ impl<'a> Tree for MemTree<'a> {
             None => Err(ReadFault::Failed),
         }
     }
+
+    ghost lists_named = { λ t path. nothing_named (mem_lists t path) };
 
     ghost some_listing = { λ t path. tells_some (node_at t path) };
 

@@ -1,25 +1,42 @@
 //! The entries of a directory of the system.
-ghost use Rattle.std.specs.Prelude.{◌≡◌, ◌++◌, Option, OnOk, IfErr, MatchResult, string_bytes};
-ghost use Rattle.lc_tree.specs.SysLooks.{bytes_of, entry_of, is_beyond, AreEntriesOf, IsEntryOf, IsFaultOf, IsFirstFault, TellsOf};
+ghost use Rattle.std.specs.Prelude.{◌≡◌, ◌++◌, Err, Ok, Option, OnOk, IfErr, string_bytes};
+ghost use Rattle.lc_tree.specs.Named.{bytes_of, entry_of, LooksAt};
+ghost use Rattle.lc_tree.specs.SysLooks.{is_beyond, ShowsIn, TellsOf};
+ghost use Rattle.lc_tree.specs.SysNames.{with_slash};
 ghost use Rattle.lc_tree.specs.declared.entry.Kind.{Kind};
 
 use crate::sys_looks::{Look, kind_at};
+use crate::sys_names::with_slash;
 use crate::{Entry, Kind, OtherKind, ReadFault};
 use lc_glob::path::MAX_PATH;
 use std::alloc::Global;
 
-/// The entries of those names that are still there, in the directory at a path of the tree and at one of the system, which ends with a
-/// slash. The names are looked at one after another, up to the first fault.
-pub(crate) fn look_at_each<L: Look>(
+/// The entries of those names that are still there, in the directory at a path of the tree and at one of the system. The names are looked
+/// at one after another, up to the first fault.
+pub(crate) fn look_in<L: Look>(
     looks: &L,
     alloc: Global,
     directory: &[u8],
     path: String,
     names: Vec<Vec<u8>>,
 ) -> Result<Vec<Entry>, ReadFault>
-    ensures { MatchResult result
-        (λ entries. AreEntriesOf (L.may_answer looks.now) directory.now (string_bytes path) (bytes_of names.items) entries.items)
-        (IsFirstFault (L.may_answer looks.now) directory.now (string_bytes path) (bytes_of names.items)) }
+    ensures { LooksAt (ShowsIn (L.may_answer looks.now) directory.now (with_slash (string_bytes path))) (bytes_of names.items) result }
+{
+    let Ok(path) = with_slash(path) else {
+        return Err(ReadFault::Memory);
+    };
+    look_at_each(looks, alloc, directory, path, names)
+}
+
+// The entries of those names, in a directory whose path of the system ends with a slash.
+fn look_at_each<L: Look>(
+    looks: &L,
+    alloc: Global,
+    directory: &[u8],
+    path: String,
+    names: Vec<Vec<u8>>,
+) -> Result<Vec<Entry>, ReadFault>
+    ensures { LooksAt (ShowsIn (L.may_answer looks.now) directory.now (string_bytes path)) (bytes_of names.items) result }
 {
     let mut path = path;
     let Ok(mut entries) = Vec::with_capacity(alloc, names.len()) else {
@@ -43,9 +60,9 @@ fn look_at_one<L: Look>(
 ) -> Result<(), ReadFault>
     ensures path { string_bytes path.new ≡ string_bytes path.old }
     ensures entry { OnOk result ((kind : Option Kind)
-        × IsEntryOf (L.may_answer looks.now) directory.now (string_bytes path.old) name.items kind
+        × ShowsIn (L.may_answer looks.now) directory.now (string_bytes path.old) name.items (Ok kind)
         × (entries.new.items ≡ entries.old.items ++ entry_of name.items kind)) }
-    ensures fault { IfErr result (IsFaultOf (L.may_answer looks.now) directory.now (string_bytes path.old) name.items) }
+    ensures fault { IfErr result (λ fault. ShowsIn (L.may_answer looks.now) directory.now (string_bytes path.old) name.items (Err fault)) }
 {
     let Ok(text) = str::from_utf8(&name) else {
         return Err(ReadFault::Unnamed);

@@ -1,6 +1,7 @@
 //! Looks at paths of the system.
 ghost use Rattle.std.specs.Prelude.{List, ℕ};
-ghost use Rattle.lc_tree.specs.SysLooks.{AnyLook, IsKindOf, Looks, Tells};
+ghost use Rattle.lc_tree.specs.Bounds.{stays};
+ghost use Rattle.lc_tree.specs.SysLooks.{Answers, AnyLook, IsKindOf, Tells};
 
 use crate::file_systems::Bounds;
 use crate::system_call::uninterrupted;
@@ -21,7 +22,7 @@ pub(crate) struct Looked {
 /// Looks at paths of the system. A symbolic link is not followed.
 pub(crate) trait Look {
     // What a look at a path may answer.
-    ghost may_answer: { Self → List ℕ → Looks };
+    ghost may_answer: { Self → List ℕ → Answers };
 
     /// Looks at a path.
     fn look(&self, path: &str) -> io::Result<Looked>
@@ -37,7 +38,7 @@ pub(crate) struct SysLook<'a, R> {
 }
 
 impl<R: Files> Look for SysLook<'_, R> {
-    ghost may_answer = { λ looks path. AnyLook looks.bounds };
+    ghost may_answer = { λ looks path. AnyLook (stays looks.bounds) };
 
     fn look(&self, path: &str) -> io::Result<Looked> {
         match uninterrupted(|| self.files.symlink_metadata(path)) {

@@ -1,7 +1,7 @@
 //! The names in a directory of the system.
 ghost use Rattle.std.specs.Prelude.{◌≡◌, ◌++◌, ◌∷◌, ◌<◌, [], IfOk, MatchResult, OnOk, filter, length, not, string_bytes};
 ghost use Rattle.lc_glob.specs.Path.{is_no_name};
-ghost use Rattle.lc_tree.specs.SysLooks.{bytes_of};
+ghost use Rattle.lc_tree.specs.Named.{bytes_of};
 ghost use Rattle.lc_tree.specs.SysNames.{names_in, with_slash, AreNamesRead};
 ghost use Rattle.lc_tree.specs.SysTrees.{IsFaultOfOpening};
 

@@ -1,15 +1,17 @@
 //! A directory of the system as a tree.
-ghost use Rattle.std.specs.Prelude.{◌≡◌, ◌++◌, IfOk, MatchResult, string_bytes};
-ghost use Rattle.lc_tree.specs.SysTrees.{top_text, IsFaultOfOpening};
+ghost use Rattle.std.specs.Prelude.{◌≡◌, ◌++◌, IfErr, IfOk, Ok, string_bytes};
+ghost use Rattle.lc_tree.specs.Named.{bytes_of, LooksAt};
+ghost use Rattle.lc_tree.specs.SysLists.{NamesOfSome, SysShows};
+ghost use Rattle.lc_tree.specs.SysTrees.{sys_top, IsFaultOfOpening, IsFaultOfPath};
 
 use crate::file_systems::{Bounds, FileSystems};
-use crate::sys_entries::look_at_each;
-use crate::sys_list::list_dir;
+use crate::listing::listed;
+use crate::sys_entries::look_in;
 use crate::sys_looks::SysLook;
-use crate::sys_names::{open_dir, read_names, with_slash};
+use crate::sys_names::{open_dir, read_names};
 use crate::system_call::uninterrupted;
 use crate::{Entry, Listing, ReadFault, Tree};
-use lc_io::StdSource;
+use lc_io::{Source, StdSource};
 use std::alloc::{AllocError, Global};
 use std::fs::OpenOptions;
 use std::marker::Model;
@@ -41,11 +43,13 @@ pub struct SysTree<'a, R> {
 }
 
 impl<'a, R> Model for SysTree<'a, R> {
-    ghost use Rattle.std.specs.Prelude.{List, ℕ, string_bytes};
+    ghost use Rattle.std.specs.Prelude.{string_bytes};
+    ghost use Rattle.lc_tree.specs.Bounds.{stays};
+    ghost use Rattle.lc_tree.specs.SysTrees.{SysTop};
 
-    ghost Value = { List ℕ };
+    ghost Value = { SysTop };
 
-    ghost view = { λ t. string_bytes t.top };
+    ghost view = { λ t. record { text = string_bytes t.top; stays = stays t.bounds } };
 }
 
 impl<'a, R: Files> SysTree<'a, R> {
@@ -62,7 +66,7 @@ impl<'a, R: Files> SysTree<'a, R> {
         dir: &str,
         entered: FileSystems,
     ) -> Result<SysTree<'a, R>, AllocError>
-        ensures { IfOk result (λ t. t ≡ top_text dir.now) }
+        ensures { IfOk result (λ t. t ≡ sys_top dir.now entered) }
     {
         let mut top = String::from_str(alloc, dir)?;
         // With a slash the empty path, which names nothing, would be the root.
@@ -79,7 +83,8 @@ impl<'a, R: Files> SysTree<'a, R> {
 
     // The system's path of a path of the tree.
     fn full_path(&self, alloc: Global, path: &[u8]) -> Result<String, ReadFault>
-        ensures { MatchResult result (λ text. string_bytes text ≡ self.now ++ path.now) IsFaultOfOpening }
+        ensures path { IfOk result (λ text. string_bytes text ≡ self.now.text ++ path.now) }
+        ensures fault { IfErr result (IsFaultOfPath self.now path.now) }
     {
         let Ok(path) = str::from_utf8(path) else {
             return Err(ReadFault::Failed);
@@ -93,6 +98,42 @@ impl<'a, R: Files> SysTree<'a, R> {
         text.push_str(path)?;
         Ok(text)
     }
+
+    // The names in the directory at a path.
+    fn names_at(&self, alloc: Global, path: &[u8]) -> Result<Vec<Vec<u8>>, ReadFault>
+        ensures names { IfOk result (λ names. NamesOfSome ⟦<StdSource<R::Dir> as Source>⟧.may_give (Ok (bytes_of names.items))) }
+        ensures fault { IfErr result IsFaultOfOpening }
+    {
+        let text = match self.full_path(alloc, path) {
+            Ok(text) => text,
+            Err(fault) => return Err(fault),
+        };
+        let mut dir = open_dir(self.files, text.as_str())?;
+        let names = read_names(alloc, &mut dir)?;
+        Ok(names)
+    }
+
+    // Looks at these names in the directory at a path.
+    fn look_at(
+        &self,
+        alloc: Global,
+        path: &[u8],
+        names: Vec<Vec<u8>>,
+    ) -> Result<Vec<Entry>, ReadFault>
+        ensures { LooksAt (SysShows self.now path.now) (bytes_of names.items) result }
+    {
+        if names.is_empty() {
+            return Ok(Vec::new(alloc));
+        }
+        let looks = SysLook {
+            files: self.files,
+            bounds: self.bounds,
+        };
+        match self.full_path(alloc, path) {
+            Ok(text) => look_in(&looks, alloc, path, text, names),
+            Err(fault) => Err(fault),
+        }
+    }
 }
 
 impl<R: Files + Sync> Tree for SysTree<'_, R>
@@ -103,27 +144,34 @@ where
     type File = StdSource<R::File>;
 
     ghost use Rattle.lc_tree.specs.MemTrees.{nothing};
-    ghost use Rattle.lc_tree.specs.SysTrees.{AnyListing, AnyContents};
-    ghost use Rattle.lc_tree.specs.Trees.{unread};
+    ghost use Rattle.lc_tree.specs.SysFails.{may_fail};
+    ghost use Rattle.lc_tree.specs.SysLists.{NamesOfSome, SysListings, SysShows};
+    ghost use Rattle.lc_tree.specs.SysTrees.{AnyContents};
 
-    ghost lists = { λ t path. AnyListing };
+    ghost lists = { λ t path. SysListings ⟦<StdSource<R::Dir> as Source>⟧.may_give t path };
 
     ghost gives = { λ t path. AnyContents };
 
+    ghost has_names = { λ t path. NamesOfSome ⟦<StdSource<R::Dir> as Source>⟧.may_give };
+
+    ghost shows = { λ t path. SysShows t path };
+
     fn list(&self, alloc: Global, path: &[u8]) -> Result<Listing, ReadFault> {
-        let text = self.full_path(alloc, path)?;
-        let mut dir = open_dir(self.files, text.as_str())?;
-        let looks = SysLook {
-            files: self.files,
-            bounds: self.bounds,
+        let names = match self.names_at(alloc, path) {
+            Ok(names) => names,
+            Err(fault) => return Err(fault),
         };
-        list_dir(&looks, alloc, &mut dir, path, text)
+        match self.look_at(alloc, path, names) {
+            Ok(entries) => listed(entries),
+            Err(fault) => Err(fault),
+        }
     }
 
     fn names(&self, alloc: Global, path: &[u8]) -> Result<Option<Vec<Vec<u8>>>, ReadFault> {
-        let text = self.full_path(alloc, path)?;
-        let mut dir = open_dir(self.files, text.as_str())?;
-        Ok(Some(read_names(alloc, &mut dir)?))
+        match self.names_at(alloc, path) {
+            Ok(names) => Ok(Some(names)),
+            Err(fault) => Err(fault),
+        }
     }
 
     fn look(
@@ -132,12 +180,7 @@ where
         path: &[u8],
         names: Vec<Vec<u8>>,
     ) -> Result<Vec<Entry>, ReadFault> {
-        let text = self.full_path(alloc, path)?;
-        let looks = SysLook {
-            files: self.files,
-            bounds: self.bounds,
-        };
-        look_at_each(&looks, alloc, path, with_slash(text)?, names)
+        self.look_at(alloc, path, names)
     }
 
     fn open_file(&self, alloc: Global, path: &[u8]) -> Result<StdSource<R::File>, ReadFault> {
@@ -153,7 +196,9 @@ where
         }
     }
 
-    ghost some_listing = { λ t path. (unread, tt, tt) };
+    ghost lists_named = { λ t path answer by. by };
+
+    ghost some_listing = { λ t path. may_fail ⟦<StdSource<R::Dir> as Source>⟧.may_give t path };
 
     ghost some_content = { λ t path. (nothing, λ rooms pieces stop given. tt) };
 }

@@ -1,6 +1,7 @@
 //! The trait of trees of directories and files.
-ghost use Rattle.std.specs.Prelude.{ℕ, List, IfOk};
-ghost use Rattle.lc_tree.specs.Trees.{AreOf, Content, Contents, LeavesLooks, Listings, Lists, MayHold, Opens, TellsSome};
+ghost use Rattle.std.specs.Prelude.{ℕ, List};
+ghost use Rattle.lc_tree.specs.Named.{bytes_of, AreAmong, GivesNames, ListsNamed, Looks, LooksAt, Names, NoLooks, NoNames};
+ghost use Rattle.lc_tree.specs.Trees.{Content, Contents, Listings, Lists, MayHold, Opens, TellsSome};
 
 use crate::{Entry, Listing, ReadFault};
 use lc_io::Source;
@@ -9,7 +10,8 @@ use std::alloc::Global;
 /// A tree of directories and files, which several workers ask at the same time.
 ///
 /// A path is that of a directory or a file relative to the tree's top: names joined by single slashes, and the empty path
-/// for the top itself. A tree says by `lists` and `gives` which answers may come; two openings of one file may differ.
+/// for the top itself. A tree says by `lists` and `gives` which answers may come; two openings of one file may differ. By `has_names`
+/// and `shows` it says how a directory is listed by its names.
 pub trait Tree: Sync {
     /// An opened file.
     type File: Source + Send + Drop;
@@ -20,6 +22,12 @@ pub trait Tree: Sync {
     // What the reads of the file at a path may give, each time that it is opened.
     ghost gives: { Self → List ℕ → Contents };
 
+    // Which names the directory at a path may give; the default is that of a tree that gives none.
+    ghost has_names: { Self → List ℕ → Names } = { λ t path. NoNames };
+
+    // What a look at a name in the directory at a path may show.
+    ghost shows: { Self → List ℕ → Looks } = { λ t path. NoLooks };
+
     /// Lists the directory at a path.
     fn list(&self, alloc: Global, path: &[u8]) -> Result<Listing, ReadFault>
         ensures { Lists (lists self.now path.now) result };
@@ -28,28 +36,31 @@ pub trait Tree: Sync {
     fn open_file(&self, alloc: Global, path: &[u8]) -> Result<Self::File, ReadFault>
         ensures { Opens Self.File.may_give (gives self.now path.now) result };
 
-    /// The names in the directory at a path, whose entries `look` then tells; or `None` where the tree only lists a directory as a
-    /// whole.
-    ///
-    /// A tree that gives names allows any listing there, since entries come and go between the calls.
+    /// The names in the directory at a path, at which `look` then looks; or `None` where the tree only lists a directory as a whole.
     fn names(&self, _alloc: Global, path: &[u8]) -> Result<Option<Vec<Vec<u8>>>, ReadFault>
-        ensures { LeavesLooks (lists self.now path.now) result }
+        ensures { GivesNames (has_names self.now path.now) result }
     {
         Ok(None)
     }
 
-    /// The entries of those names in the directory at a path that are still there, in the order of the names. The names are looked at
-    /// one after another, up to the first fault. No clause says that no entry is lost.
+    /// Looks at those names in the directory at a path, one after another up to the first fault. Returns the entries of those that are
+    /// still there, in the order of the names.
+    ///
+    /// By default, in a tree that gives no names, it answers `ReadFault::Memory`.
     fn look(
         &self,
         _alloc: Global,
-        _path: &[u8],
-        _names: Vec<Vec<u8>>,
+        path: &[u8],
+        names: Vec<Vec<u8>>,
     ) -> Result<Vec<Entry>, ReadFault>
-        ensures { IfOk result (λ entries. AreOf entries.items _names.items) }
+        ensures { LooksAt (shows self.now path.now) (bytes_of names.items) result }
     {
-        Err(ReadFault::Failed)
+        let _unseen = (path, names);
+        Err(ReadFault::Memory)
     }
+
+    // What the names of a directory show is what listing it may answer.
+    ghost lists_named: { (t : Self) (path : List ℕ) → AreAmong (ListsNamed (has_names t path) (shows t path)) (lists t path) };
 
     // Each path may be listed in some way, which is no failed allocation.
     ghost some_listing: { (t : Self) (path : List ℕ) → TellsSome (lists t path) };

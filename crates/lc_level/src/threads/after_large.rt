@@ -1,5 +1,5 @@
 //! Counting the files that are left in a directory after a large one by several threads side by side.
-ghost use Rattle.std.specs.Prelude.{◌≡◌, ◌++◌, ◌∷◌, [], List, ℕ, IfOk, OnOk, Vec};
+ghost use Rattle.std.specs.Prelude.{◌≡◌, ◌++◌, ◌∷◌, ◌-◌, ◌≤◌, [], List, ℕ, IfOk, OnOk, Vec};
 ghost use Rattle.std.specs.Global.{Global};
 ghost use Rattle.lc_level.specs.CountedNames.{IsCounted};
 ghost use Rattle.lc_level.specs.CountedParts.{CountsSome};
@@ -13,7 +13,7 @@ use crate::level_reader::LevelReader;
 use crate::scratch::Scratch;
 use crate::threads::in_parts::MOST_HELPERS;
 use crate::threads::spare_threads::SpareThreads;
-use lc_tree::{IdleThreads, Tree};
+use lc_tree::{Helpers, IdleThreads, Tree};
 use std::alloc::AllocError;
 use std::thread::Threads;
 
@@ -22,11 +22,10 @@ use std::thread::Threads;
 const LARGE_FILE: u64 = 16 << 20;
 
 /// Takes as many idle threads as can help with this many files that may be large.
-fn take_helpers(idle: &IdleThreads, files: usize) -> u32 {
-    if files < 2 {
-        return 0;
-    }
-    idle.take((files - 1).min(MOST_HELPERS) as u32)
+fn take_helpers(idle: &IdleThreads, files: usize) -> Helpers
+    ensures { result ≤ idle.now - 1 }
+{
+    idle.take(files.saturating_sub(1).min(MOST_HELPERS) as u32)
 }
 
 impl CountedFiles {
@@ -89,7 +88,7 @@ impl<T: Tree> LevelReader<'_, T> {
     fn count_by_helpers<R: Threads + Sync>(
         &self,
         rt: &R,
-        helpers: u32,
+        helpers: &Helpers,
         job: &Job,
         names: Vec<Vec<u8>>,
         scratch: &mut Scratch,
@@ -98,10 +97,10 @@ impl<T: Tree> LevelReader<'_, T> {
         ensures { IfOk result (IsCounted (T.gives self.now.tree.now) job.now (bytes_of names.items) []) }
     {
         let absent = Vec::new(self.alloc);
-        if helpers == 0 {
+        if helpers.count() == 0 {
             return self.count(job, names, absent, scratch);
         }
-        self.count_side_by_side(rt, helpers as usize + 1, job, names, absent)
+        self.count_side_by_side(rt, helpers, job, names, absent)
     }
 
     /// Counts the files of these names as `count` does, one after another up to a large one. Those after it are counted in parts where
@@ -119,7 +118,7 @@ impl<T: Tree> LevelReader<'_, T> {
     {
         let (mut found, rest) = self.count_until_large(job, names, absent, scratch)?;
         let helpers = take_helpers(threads.idle, rest.len());
-        let later = self.count_by_helpers(threads.rt, helpers, job, rest, scratch);
+        let later = self.count_by_helpers(threads.rt, &helpers, job, rest, scratch);
         threads.idle.give_back(helpers);
         found.append(later?)?;
         Ok(found)

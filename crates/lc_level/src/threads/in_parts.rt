@@ -1,7 +1,7 @@
 //! Counting the files of a large directory by several threads side by side.
-ghost use Rattle.std.specs.Prelude.{◌≡◌, ◌++◌, [], IfOk, OnOk, vec_len};
+ghost use Rattle.std.specs.Prelude.{◌≡◌, ◌++◌, ◌+◌, ◌-◌, ◌≤◌, [], IfOk, OnOk, vec_len};
 ghost use Rattle.lc_level.specs.CountedNames.{IsCounted};
-ghost use Rattle.lc_level.specs.CountedParts.{HaveCounted, Joins, names_of};
+ghost use Rattle.lc_level.specs.CountedParts.{HaveCounted, Joins};
 ghost use Rattle.lc_level.specs.Classified.{bytes_of};
 
 use crate::FaultLine;
@@ -10,10 +10,10 @@ use crate::job::Job;
 use crate::level_reader::LevelReader;
 use crate::scratch::Scratch;
 use crate::threads::spare_threads::SpareThreads;
-use lc_tree::{IdleThreads, Tree};
+use lc_tree::{Helpers, IdleThreads, Tree, cut_names};
 use std::alloc::{AllocError, Global};
 use std::thread::Threads;
-use std::{mem, thread};
+use std::thread;
 
 /// A part has at least this many files: counting them takes about a millisecond where they are small, several times as long as starting
 /// a thread and waiting for its end. So a directory with fewer than twice as many is counted as a whole.
@@ -23,44 +23,11 @@ const PART_FILES: usize = 256;
 pub(crate) const MOST_HELPERS: usize = 15;
 
 // Takes as many idle threads as can help with this many files.
-fn take_helpers(idle: &IdleThreads, files: usize) -> u32 {
+fn take_helpers(idle: &IdleThreads, files: usize) -> Helpers
+    ensures { result ≤ idle.now - 1 }
+{
     let parts = files / PART_FILES;
-    if parts < 2 {
-        return 0;
-    }
-    idle.take((parts - 1).min(MOST_HELPERS) as u32)
-}
-
-// Ends a run of names that is full, and begins the next.
-fn end_full_run(
-    alloc: Global,
-    length: usize,
-    runs: &mut Vec<Vec<Vec<u8>>>,
-    run: &mut Vec<Vec<u8>>,
-) -> Result<(), AllocError>
-    ensures { OnOk result (names_of runs.new.items ++ run.new.items ≡ names_of runs.old.items ++ run.old.items) }
-{
-    if run.len() < length {
-        return Ok(());
-    }
-    let full = mem::replace(run, Vec::with_capacity(alloc, length)?);
-    runs.push(full)?;
-    Ok(())
-}
-
-// Cuts names into so many consecutive runs, of one length but for the last.
-fn cut(alloc: Global, names: Vec<Vec<u8>>, parts: usize) -> Result<Vec<Vec<Vec<u8>>>, AllocError>
-    ensures { IfOk result (λ runs. names_of runs.items ≡ names.items) }
-{
-    let length = names.len().div_ceil(parts.max(1));
-    let mut runs = Vec::with_capacity(alloc, parts)?;
-    let mut run = Vec::with_capacity(alloc, length)?;
-    for name in names {
-        end_full_run(alloc, length, &mut runs, &mut run)?;
-        run.push(name)?;
-    }
-    runs.push(run)?;
-    Ok(runs)
+    idle.take(parts.saturating_sub(1).min(MOST_HELPERS) as u32)
 }
 
 // What all parts found, in order, after the faults of absent paths.
@@ -109,13 +76,15 @@ impl<T: Tree> LevelReader<'_, T> {
         self.count(job, names, Vec::new(self.alloc), &mut scratch)
     }
 
-    // Counts the files of each run, by a thread for each but one.
+    // Counts the files of each run, by a thread for each but one. No more threads are started than were taken.
     fn count_runs<R: Threads + Sync>(
         &self,
         rt: &R,
         job: &Job,
         runs: Vec<Vec<Vec<u8>>>,
+        _helpers: &Helpers,
     ) -> Result<Vec<Result<CountedFiles, AllocError>>, AllocError>
+        requires { vec_len runs ≤ _helpers.now + 1 }
         ensures all { IfOk result (λ parts. vec_len parts ≡ vec_len runs) }
         ensures each { IfOk result (λ parts. HaveCounted (T.gives self.now.tree.now) job.now runs.items parts.items) }
     {
@@ -125,19 +94,19 @@ impl<T: Tree> LevelReader<'_, T> {
         thread::map_vec(rt, runs, &run)
     }
 
-    // Counts the files of these names in this many parts.
+    // Counts the files of these names in a part for each helper, and one more.
     pub(crate) fn count_side_by_side<R: Threads + Sync>(
         &self,
         rt: &R,
-        parts: usize,
+        helpers: &Helpers,
         job: &Job,
         names: Vec<Vec<u8>>,
         absent: Vec<FaultLine>,
     ) -> Result<CountedFiles, AllocError>
         ensures { IfOk result (IsCounted (T.gives self.now.tree.now) job.now (bytes_of names.items) absent.items) }
     {
-        let runs = cut(self.alloc, names, parts)?;
-        let counted = self.count_runs(rt, job, runs)?;
+        let runs = cut_names(self.alloc, names, helpers)?;
+        let counted = self.count_runs(rt, job, runs, helpers)?;
         let found = joined(self.alloc, counted, absent)?;
         Ok(found)
     }
@@ -158,10 +127,11 @@ impl<T: Tree> LevelReader<'_, T> {
         ensures { IfOk result (IsCounted (T.gives self.now.tree.now) job.now (bytes_of names.items) absent.items) }
     {
         let helpers = take_helpers(threads.idle, names.len());
-        if helpers == 0 {
-            return self.count_undivided(threads, job, names, absent, scratch);
-        }
-        let found = self.count_side_by_side(threads.rt, helpers as usize + 1, job, names, absent);
+        let found = if helpers.count() == 0 {
+            self.count_undivided(threads, job, names, absent, scratch)
+        } else {
+            self.count_side_by_side(threads.rt, &helpers, job, names, absent)
+        };
         threads.idle.give_back(helpers);
         found
     }

@@ -5,7 +5,7 @@ use lc_tree::IdleThreads;
 /// The threads that may help with a large directory: the runtime that starts them, and how many are idle.
 ///
 /// ```
-/// let idle = IdleThreads::new();
+/// let idle = IdleThreads::new(4);
 /// let threads = SpareThreads { rt: &rt, idle: &idle };
 /// let opened = reader.open_in_parts(&threads, &job, &mut scratch)?;
 /// ```

@@ -81,13 +81,16 @@ pub(super) fn check<R: Threads + Sync + Abort>(
     wanted: &CountedFiles,
     threads: u32,
 ) -> Result<(), AllocError> {
-    let idle = IdleThreads::new();
+    let idle = IdleThreads::new(threads + 1);
     for _ in 0..threads {
         idle.begin();
     }
     let (tree, filters) = (MemTree::new(node), Filters::none(alloc));
     let counted = count_flat(rt, alloc, &tree, &filters, Some(&idle));
-    assert!(rt; idle.take(FILES) == threads, "{threads}");
+    let free = idle.take(FILES);
+    let back = free.count() == threads;
+    idle.give_back(free);
+    assert!(rt; back, "{threads}");
     assert!(rt; is_same(&counted?, wanted), "{threads}");
     Ok(())
 }

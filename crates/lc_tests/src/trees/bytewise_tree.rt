@@ -18,6 +18,7 @@ impl<T: Tree> Tree for BytewiseTree<T> {
     type File = Bytewise<T::File>;
 
     ghost use Rattle.lc_tests.specs.BytewiseContents.{ByteByByte, held_bytewise};
+    ghost use Rattle.lc_tree.specs.Nameless.{nothing_named};
 
     ghost lists = { λ t path. T.lists t.0 path };
 
@@ -33,6 +34,8 @@ impl<T: Tree> Tree for BytewiseTree<T> {
             Err(fault) => Err(fault),
         }
     }
+
+    ghost lists_named = { λ t path. nothing_named (T.lists t.0 path) };
 
     ghost some_listing = { λ t path. T.some_listing t.0 path };
 

@@ -26,6 +26,7 @@ impl<'a, T: Tree> Tree for FailingTree<'a, T> {
 
     ghost use Rattle.lc_tests.specs.FailingTrees.{ListsOrFails, GivesOrFails};
     ghost use Rattle.lc_tests.specs.FailingContents.{fails_to_list, held_or_fails};
+    ghost use Rattle.lc_tree.specs.Nameless.{nothing_named};
 
     ghost lists = { λ t path. ListsOrFails (T.lists t.tree.now path) };
 
@@ -50,6 +51,8 @@ impl<'a, T: Tree> Tree for FailingTree<'a, T> {
             Err(fault) => Err(fault),
         }
     }
+
+    ghost lists_named = { λ t path. nothing_named (ListsOrFails (T.lists t.tree.now path)) };
 
     ghost some_listing = { λ t path. fails_to_list (T.lists t.tree.now path) };
 

@@ -50,12 +50,15 @@ fn check_listing<T: Tree, R: Threads + Abort + Sync>(
     tree: &T,
     threads: u32,
 ) -> Result<usize, ReadFault> {
-    let idle = IdleThreads::new();
+    let idle = IdleThreads::new(threads + 1);
     for _ in 0..threads {
         idle.begin();
     }
     let listed = list_in_parts(rt, alloc, tree, b"", &idle);
-    assert!(rt; idle.take(u32::MAX) == threads);
+    let free = idle.take(u32::MAX);
+    let back = free.count() == threads;
+    idle.give_back(free);
+    assert!(rt; back);
     let listing = listed?;
     assert!(rt;
         are_same(&listing, &tree.list(alloc, b"")?),

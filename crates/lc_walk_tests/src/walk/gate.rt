@@ -38,9 +38,10 @@ impl Gate<'_> {
 impl<'a> Tree for Gate<'a> {
     type File = MemFile<'a>;
 
+    ghost use Rattle.lc_tests.specs.AnyListings.{AnyListing};
     ghost use Rattle.lc_tree.specs.MemTrees.{content_of, mem_gives};
     ghost use Rattle.lc_tree.specs.Nodes.{node_at};
-    ghost use Rattle.lc_tree.specs.SysTrees.{AnyListing};
+    ghost use Rattle.lc_tree.specs.Nameless.{nothing_named};
     ghost use Rattle.lc_tree.specs.Trees.{unread};
 
     ghost lists = { λ t path. AnyListing };
@@ -57,6 +58,8 @@ impl<'a> Tree for Gate<'a> {
     fn open_file(&self, alloc: Global, path: &[u8]) -> Result<MemFile<'a>, ReadFault> {
         self.tree.open_file(alloc, path)
     }
+
+    ghost lists_named = { λ t path. nothing_named AnyListing };
 
     ghost some_listing = { λ t path. (unread, tt, tt) };
 

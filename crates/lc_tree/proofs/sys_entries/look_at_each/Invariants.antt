@@ -1,6 +1,7 @@
 -- The entries of the names so far, and the names that are left.
 use Rattle.std.proofs.Common.{◌≡◌, ◌++◌, string_bytes}
-use Rattle.lc_tree.specs.SysLooks.{AreEntriesOf, bytes_of}
+use Rattle.lc_tree.specs.Named.{AreEntriesOf, bytes_of}
+use Rattle.lc_tree.specs.SysLooks.{ShowsIn}
 use Rattle.lc_tree.proofs.sys_entries.look_at_each.Given as goal
 
 abbrev pub invariant-loop-name : goal.invariant-loop-name
@@ -9,4 +10,4 @@ invariant-loop-name g l =
     × (goal.iterator-loop-name g).is_finite l.name-iterator
     × (l.fn.names.items ≡ l.yielded ++ l.name-iterator.rest.items)
     × (string_bytes l.path ≡ string_bytes l.initial.path)
-    × AreEntriesOf (g.L.Look.may_answer l.looks) l.directory (string_bytes l.initial.path) (bytes_of l.yielded) l.entries.items
+    × AreEntriesOf (ShowsIn (g.L.Look.may_answer l.looks) l.directory (string_bytes l.initial.path)) (bytes_of l.yielded) l.entries.items

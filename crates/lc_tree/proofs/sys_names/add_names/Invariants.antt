@@ -3,7 +3,7 @@ use Rattle.std.proofs.Common.{◌≡◌, ◌++◌, not, filter, length}
 use Rattle.lc_glob.specs.Bytes.{nul}
 use Rattle.lc_glob.specs.Path.{is_no_name}
 use Rattle.lc_glob.specs.Pieces.{pieces_left}
-use Rattle.lc_tree.specs.SysLooks.{bytes_of}
+use Rattle.lc_tree.specs.Named.{bytes_of}
 use Rattle.lc_tree.specs.SysNames.{names_in}
 use Rattle.lc_tree.proofs.sys_names.add_names.Given as goal
 

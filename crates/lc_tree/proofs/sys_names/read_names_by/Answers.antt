@@ -4,7 +4,7 @@ use Rattle.std.proofs.lemmas.List.{append-nil}
 use Rattle.std.specs.List.{flat_map}
 use Rattle.lc_io.specs.Reads.{gave, at_end, AnyRoom}
 use Rattle.lc_io.proofs.Runs.{reads_more, reads_stop, take_some}
-use Rattle.lc_tree.specs.SysLooks.{bytes_of}
+use Rattle.lc_tree.specs.Named.{bytes_of}
 use Rattle.lc_tree.specs.SysNames.{names_in}
 use Rattle.lc_tree.proofs.sys_names.read_names_by.Goals as goal
 
