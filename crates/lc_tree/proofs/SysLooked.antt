@@ -1,5 +1,6 @@
 -- What looks at names in a directory of the system gave, and its listing.
-use Rattle.std.proofs.Common.{◌≡◌, ℕ, ◌==◌, Bool, true, false, List, [], ◌∷◌, ◌++◌, length, Vec, Result, Ok, Err, inl, inr, sym, ◌∙◌, ap, subst}
+use Rattle.std.proofs.Common.{◌≡◌, ℕ, ◌==◌, Bool, true, false, List, [], ◌∷◌, ◌++◌, length, Vec, Result, Ok, Err, inl, inr, sym}
+use Rattle.std.proofs.Common.{◌∙◌, ap, subst}
 use Rattle.std.specs.Global.{Global}
 use Rattle.lc_io.specs.Reads.{Answer}
 use Rattle.lc_tree.specs.Listing.{EntryModel, IsAnswerFor}
@@ -19,8 +20,8 @@ opening_fault top path found (inl refused) = subst IsFaultOfOpening (sym refused
 opening_fault top path found (inr (none, failed)) = subst IsFaultOfOpening (sym failed) (λ rooms. tt)
 
 -- looks at the path in the system of a path of the tree
-pub looked_there : (top : SysTop) (path text : List ℕ) (within : Bool) (names : List (List ℕ)) (result : Result (Vec EntryModel Global) ReadFault)
-    → within ≡ top.stays → text ≡ top.text ++ path → LooksAt (ShowsIn (λ _. AnyLook within) path (with_slash text)) names result
+pub looked_there : (top : SysTop) (path text : List ℕ) (within : Bool) (names : List (List ℕ))
+    (result : Result (Vec EntryModel Global) ReadFault) → within ≡ top.stays → text ≡ top.text ++ path → LooksAt (ShowsIn (λ _. AnyLook within) path (with_slash text)) names result
     → LooksAt (SysShows top path) names result
 looked_there top path text within names result same there looks =
     looked_more (ShowsIn (λ _. AnyLook within) path (with_slash text)) (SysShows top path)

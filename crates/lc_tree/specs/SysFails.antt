@@ -6,5 +6,6 @@ use Rattle.lc_tree.specs.SysTrees.{SysTop}
 use Rattle.lc_tree.specs.Trees.{TellsSome, unread}
 use Rattle.lc_tree.specs.declared.read_fault.ReadFault.TheVariants.{Failed}
 
-pub may_fail : {D : Type 0} (may_give : D → ℕ → Answer → D → Type 0) (top : SysTop) (path : List ℕ) → TellsSome (SysListings may_give top path)
+pub may_fail : {D : Type 0} (may_give : D → ℕ → Answer → D → Type 0) (top : SysTop) (path : List ℕ)
+    → TellsSome (SysListings may_give top path)
 may_fail may_give top path = (unread, tt, inr (Failed, (λ rooms. tt), refl))

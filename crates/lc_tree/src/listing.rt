@@ -2,7 +2,8 @@
 ghost use Rattle.std.specs.Prelude.{◌≡◌, MatchResult};
 ghost use Rattle.std.specs.Bool.{MatchBool};
 ghost use Rattle.std.specs.List.Sorted.{IsPermutation, IsSorted, IsStrictlySortedBy};
-ghost use Rattle.lc_tree.specs.Listing.{by_name, names, have_good_names, HaveDistinctNames, IsAnswerFor, IsListing, IsListingOf, IsRefusedBy};
+ghost use Rattle.lc_tree.specs.Listing.{by_name, names, have_good_names, HaveDistinctNames, IsAnswerFor};
+ghost use Rattle.lc_tree.specs.Listing.{IsListing, IsListingOf, IsRefusedBy};
 ghost use Rattle.lc_tree.specs.Trees.{Lists};
 ghost use Rattle.lc_tree.specs.ByteOrder.{bytes_cmp};
 

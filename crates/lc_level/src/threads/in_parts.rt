@@ -12,8 +12,8 @@ use crate::scratch::Scratch;
 use crate::threads::spare_threads::SpareThreads;
 use lc_tree::{Helpers, IdleThreads, Tree, cut_names};
 use std::alloc::{AllocError, Global};
-use std::thread::Threads;
 use std::thread;
+use std::thread::Threads;
 
 /// A part has at least this many files: counting them takes about a millisecond where they are small, several times as long as starting
 /// a thread and waiting for its end. So a directory with fewer than twice as many is counted as a whole.

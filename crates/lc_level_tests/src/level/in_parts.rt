@@ -81,7 +81,7 @@ pub(super) fn check<R: Threads + Sync + Abort>(
     wanted: &CountedFiles,
     threads: u32,
 ) -> Result<(), AllocError> {
-    let idle = IdleThreads::new(threads + 1);
+    let idle = IdleThreads::new(threads.saturating_add(1));
     for _ in 0..threads {
         idle.begin();
     }

@@ -50,7 +50,7 @@ fn check_listing<T: Tree, R: Threads + Abort + Sync>(
     tree: &T,
     threads: u32,
 ) -> Result<usize, ReadFault> {
-    let idle = IdleThreads::new(threads + 1);
+    let idle = IdleThreads::new(threads.saturating_add(1));
     for _ in 0..threads {
         idle.begin();
     }

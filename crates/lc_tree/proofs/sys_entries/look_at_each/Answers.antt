@@ -9,7 +9,8 @@ use Rattle.lc_tree.proofs.sys_entries.look_at_each.Goals as goal
 
 pub returns-in_default : goal.returns-in_default
 returns-in_default g c =
-    memory_fault (ShowsIn (g.L.Look.may_answer c.args.looks.now) c.args.directory.now (string_bytes c.args.path)) (bytes_of c.args.names.items)
+    memory_fault (ShowsIn (g.L.Look.may_answer c.args.looks.now) c.args.directory.now (string_bytes c.args.path))
+    (bytes_of c.args.names.items)
 
 -- one name more has its entry
 pub loop-name-preserved : goal.loop-name-preserved
