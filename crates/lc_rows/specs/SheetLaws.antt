@@ -16,7 +16,7 @@ use Rattle.lc_rows.specs.Laws.{totals_of}
 use Rattle.lc_rows.specs.Sheets.{IsSheetOf}
 use Rattle.lc_rows.specs.ShownFiles.{AreFilesSorted}
 use Rattle.lc_rows.specs.Views.{first_of}
-use Rattle.lc_rows.specs.WalkedReports.{IsWalked, ListsFilesFor}
+use Rattle.lc_rows.specs.WalkedReports.{IsOfWalk, ListsFilesFor}
 use Rattle.lc_level.specs.Level.{FileLineModel}
 
 abbrev pub same_number : Number → Number → Bool
@@ -114,7 +114,7 @@ pub record SheetAddsUp (s : SheetModel) : Type 0 where
 
 abbrev pub WalkedSheetLaw : (List ℕ → Listings) → (List ℕ → Contents) → Type 0
 WalkedSheetLaw lists gives =
-    (o : Options) (options : TableOptions) (r : Report) (s : SheetModel) → IsWalked lists gives o r → ListsFilesFor o options
+    (o : Options) (options : TableOptions) (r : Report) (s : SheetModel) → IsOfWalk lists gives o r → ListsFilesFor o options
     → IsSheetOf options r s → SheetAddsUp s
 
 abbrev pub bytes_of : ValueModel → List ℕ

@@ -9,7 +9,7 @@ use Rattle.lc_walk.specs.declared.report.Report.{Report}
 use Rattle.lc_rows.specs.Kept.{IsKept}
 
 -- what meets some conditions of the report of a walk by these options; without conditions it is all of that report
-pub record IsWalked (lists : List ℕ → Listings) (gives : List ℕ → Contents) (o : Options) (r : Report) : Type 0 where
+pub record IsOfWalk (lists : List ℕ → Listings) (gives : List ℕ → Contents) (o : Options) (r : Report) : Type 0 where
   pub conditions : List ConditionModel
   pub whole : Report
   pub walked : Walks lists gives o (Ok whole)
