@@ -4,7 +4,7 @@ use Rattle.std.specs.List.{All}
 use Rattle.lc_formats.specs.Cells.{shown_text}
 use Rattle.lc_formats.specs.Shares.{share_word}
 use Rattle.lc_rows.specs.Sheets.{IsSheetOf}
-use Rattle.lc_rows.specs.WalkedReports.{IsWalked, ListsFilesFor}
+use Rattle.lc_rows.specs.WalkedReports.{IsOfWalk, ListsFilesFor}
 use Rattle.lc_sheet.specs.Sheets.{SectionModel, SheetModel}
 use Rattle.lc_sheet.specs.Values.{ValueModel, missing, summed, blank, word, name, path, number, share, bar}
 use Rattle.lc_sheet.specs.declared.table_options.TableOptions.{TableOptions}
@@ -33,8 +33,8 @@ pub record PrintsShares (s : SheetModel) : Type 0 where
   pub others : AreSharesWithin s.others
   pub totals : AreSharesWithin s.totals
 
--- and of each sheet of the report of a walk, and of what of it meets conditions
+-- and of each sheet of the report of a walk, and of what meets conditions of it
 abbrev pub PrintedSharesLaw : (List ℕ → Listings) → (List ℕ → Contents) → Type 0
 PrintedSharesLaw lists gives =
-    (o : Options) (options : TableOptions) (r : Report) (s : SheetModel) → IsWalked lists gives o r → ListsFilesFor o options
+    (o : Options) (options : TableOptions) (r : Report) (s : SheetModel) → IsOfWalk lists gives o r → ListsFilesFor o options
     → IsSheetOf options r s → PrintsShares s

@@ -19,7 +19,7 @@ use Rattle.lc_rows.specs.Kept.{IsKept}
 use Rattle.lc_rows.specs.KeptLaws.{WalkedOppositesLaw, tested_sums}
 use Rattle.lc_rows.specs.Laws.{sums_of_lines, totals_of}
 use Rattle.lc_rows.specs.SheetLaws.{HasTotals, WalkedSheetLaw}
-use Rattle.lc_rows.specs.WalkedReports.{IsWalked}
+use Rattle.lc_rows.specs.WalkedReports.{IsOfWalk}
 
 -- files have the sums that a tally counts
 lines_sums : (fs : List FileLineModel) → sums_of_files (map counted_line fs) ≡ sums_of_lines fs
@@ -27,7 +27,7 @@ lines_sums fs = same_sums _ _ (length-map fs counted_line ∙ sym (ones fs)) (su
     (sum_by-map (λ (f : CountedFile). f.count.blank) counted_line fs) (sum_by-map (λ (f : CountedFile). f.count.bytes) counted_line fs)
 
 -- the totals of what meets conditions of the report of a walk add up
-pub walked_adds_up : (lists : List ℕ → Listings) (gives : List ℕ → Contents) (o : Options) (r : Report) → IsWalked lists gives o r
+pub walked_adds_up : (lists : List ℕ → Listings) (gives : List ℕ → Contents) (o : Options) (r : Report) → IsOfWalk lists gives o r
     → TotalsAddUp r
 walked_adds_up lists gives o r w = kept_totals_law w.conditions w.whole r (report_totals_law lists gives o w.whole w.walked) w.kept
 
@@ -36,7 +36,7 @@ kept_lists : (cs : List ConditionModel) (whole r : Report) → IsKept cs whole r
 kept_lists [] whole r is = ap (λ (x : Report). x.lists) is
 kept_lists (c ∷ cs) whole r is = is.lists
 
-lists_files : (lists : List ℕ → Listings) (gives : List ℕ → Contents) (o : Options) (r : Report) → IsWalked lists gives o r
+lists_files : (lists : List ℕ → Listings) (gives : List ℕ → Contents) (o : Options) (r : Report) → IsOfWalk lists gives o r
     → o.lists.files ≡ true → r.lists.files ≡ true
 lists_files lists gives o r w asked =
     ap (λ (l : ReportLists). l.files) (kept_lists w.conditions w.whole r w.kept ∙ walked_lists lists gives o w.whole w.walked) ∙ asked

@@ -13,7 +13,7 @@ use Rattle.lc_walk.specs.declared.options.Options.{Options}
 use Rattle.lc_walk.specs.declared.report.Report.{Report}
 use Rattle.lc_walk.specs.declared.tally.sums.Sums.{Sums}
 use Rattle.lc_rows.specs.Kept.{IsKept}
-use Rattle.lc_rows.specs.WalkedReports.{IsWalked, ListsFilesToTest}
+use Rattle.lc_rows.specs.WalkedReports.{IsOfWalk, ListsFilesToTest}
 
 -- no condition changes nothing
 abbrev pub NoConditionLaw : Type 0
@@ -58,7 +58,7 @@ AddUpOpposite c r =
 abbrev pub OppositesLaw : Type 0
 OppositesLaw = (c : ConditionModel) (r : Report) → r.totals ≡ tested_sums (is_on_number c) r → AddUpOpposite c r
 
--- and with each report of a walk, and what of it meets other conditions
+-- and with each report of a walk, and with what meets other conditions of it
 abbrev pub WalkedOppositesLaw : (List ℕ → Listings) → (List ℕ → Contents) → Type 0
 WalkedOppositesLaw lists gives =
-    (o : Options) (c : ConditionModel) (r : Report) → IsWalked lists gives o r → ListsFilesToTest o c → AddUpOpposite c r
+    (o : Options) (c : ConditionModel) (r : Report) → IsOfWalk lists gives o r → ListsFilesToTest o c → AddUpOpposite c r

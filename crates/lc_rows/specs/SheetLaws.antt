@@ -16,7 +16,7 @@ use Rattle.lc_rows.specs.Laws.{totals_of}
 use Rattle.lc_rows.specs.Sheets.{IsSheetOf}
 use Rattle.lc_rows.specs.ShownFiles.{AreFilesSorted}
 use Rattle.lc_rows.specs.Views.{first_of}
-use Rattle.lc_rows.specs.WalkedReports.{IsWalked, ListsFilesFor}
+use Rattle.lc_rows.specs.WalkedReports.{IsOfWalk, ListsFilesFor}
 use Rattle.lc_level.specs.Level.{FileLineModel}
 
 abbrev pub same_number : Number → Number → Bool
@@ -106,15 +106,16 @@ ClassPartsLaw =
     (options : TableOptions) (r : Report) (s : SheetModel) → r.totals ≡ sums_of_rows r.rows.items → IsSheetOf options r s
     → IsSectionWithin s.totals
 
--- all of this is so of each sheet of a report of a walk, and of what of it meets conditions
+-- rows and classes add up, and no share is over its whole
 pub record SheetAddsUp (s : SheetModel) : Type 0 where
   pub rows : RowsAddUp s
   pub classes : ClassesAddUp s
   pub shares : SharesAreWithin s
 
+-- so it is with each sheet of the report of a walk, and of what meets conditions of it
 abbrev pub WalkedSheetLaw : (List ℕ → Listings) → (List ℕ → Contents) → Type 0
 WalkedSheetLaw lists gives =
-    (o : Options) (options : TableOptions) (r : Report) (s : SheetModel) → IsWalked lists gives o r → ListsFilesFor o options
+    (o : Options) (options : TableOptions) (r : Report) (s : SheetModel) → IsOfWalk lists gives o r → ListsFilesFor o options
     → IsSheetOf options r s → SheetAddsUp s
 
 abbrev pub bytes_of : ValueModel → List ℕ

@@ -1,4 +1,4 @@
--- Reports of walks, and what of them meets conditions.
+-- Reports of walks, and what meets conditions of them.
 use Rattle.std.specs.Prelude.{◌≡◌, ℕ, true, List, is_some, Ok}
 use Rattle.lc_sheet.specs.Conditions.{ConditionModel, is_on_number}
 use Rattle.lc_sheet.specs.declared.table_options.TableOptions.{TableOptions}
@@ -9,7 +9,7 @@ use Rattle.lc_walk.specs.declared.report.Report.{Report}
 use Rattle.lc_rows.specs.Kept.{IsKept}
 
 -- what meets some conditions of the report of a walk by these options; without conditions it is all of that report
-pub record IsWalked (lists : List ℕ → Listings) (gives : List ℕ → Contents) (o : Options) (r : Report) : Type 0 where
+pub record IsOfWalk (lists : List ℕ → Listings) (gives : List ℕ → Contents) (o : Options) (r : Report) : Type 0 where
   pub conditions : List ConditionModel
   pub whole : Report
   pub walked : Walks lists gives o (Ok whole)
