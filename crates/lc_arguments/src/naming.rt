@@ -2,8 +2,8 @@
 
 ghost use Rattle.std.specs.Prelude.{◌≡◌, ◌++◌, IfOk, OnOk, codes, map, string_bytes, true};
 ghost use Rattle.std.specs.Str.Iter.{HasSubslice};
-ghost use Rattle.lc_arguments.specs.Naming.{IsTextOf, Names, NamesAll, NamesOne, NamesSome, QuotesSome, is_telling, mark_after, mark_before};
-ghost use Rattle.lc_arguments.specs.Naming.{named_by, named_command};
+ghost use Rattle.lc_arguments.specs.Naming.{IsTextOf, Names, NamesAll, NamesOne, NamesSome, QuotesSome, is_telling};
+ghost use Rattle.lc_arguments.specs.Naming.{mark_after, mark_before, named_by, named_command};
 ghost use Rattle.lc_arguments.specs.Options.{is_of, option_model};
 ghost use Rattle.lc_text.specs.Visible.{visible_bytes};
 

@@ -9,7 +9,8 @@ use Rattle.lc_picture.specs.Pieces.{Piece}
 use Rattle.lc_text.specs.Visible.{visible_path}
 
 -- closing tags end the innermost boxes
-read_closed : (left above : List (List ℕ)) (ps : List Piece) → boxes_read (left ++ above) (closings (length left) ++ ps) ≡ boxes_read above ps
+read_closed : (left above : List (List ℕ)) (ps : List Piece)
+    → boxes_read (left ++ above) (closings (length left) ++ ps) ≡ boxes_read above ps
 read_closed [] above ps = refl
 read_closed (own ∷ left) above ps = read_closed left above ps
 
@@ -33,12 +34,12 @@ all_inside by before (b ∷ bs) ((own ∷ above) ∷ ds) ((left, is), come) ((na
     let inside = left_beside by b.depth (number_in by b.sums) bs in
     let many : length before ≡ length left + length above = ap length is ∙ length-append left above in
     let closed : length before - b.depth ≡ length left = omega (arith, many, deep) in
-    let next : min (length before) b.depth + 1 ≡ suc (length above) = omega (arith, many, deep) in
-    ap (boxes_read before) (append_assoc (closings (length before - b.depth)) (opening by b inside) (rest (min (length before) b.depth + 1)))
-    ∙ ap₂ (λ (around : List (List ℕ)) (n : ℕ). boxes_read around (closings n ++ (opening by b inside ++ rest (min (length before) b.depth + 1))))
-    is closed
-    ∙ read_closed left above (opening by b inside ++ rest (min (length before) b.depth + 1))
-    ∙ read_opened above by b inside (rest (min (length before) b.depth + 1))
+    let more : ℕ = min (length before) b.depth + 1 in
+    let next : more ≡ suc (length above) = omega (arith, many, deep) in
+    let opened : List Piece = opening by b inside ++ rest more in
+    ap (boxes_read before) (append_assoc (closings (length before - b.depth)) (opening by b inside) (rest more))
+    ∙ ap₂ (λ (around : List (List ℕ)) (n : ℕ). boxes_read around (closings n ++ opened)) is closed
+    ∙ read_closed left above opened ∙ read_opened above by b inside (rest more)
     ∙ ap₂ (λ (o : List ℕ) (n : ℕ). (o ∷ above) ∷ boxes_read (o ∷ above) (rest n)) named next
     ∙ ap (λ (found : List (List (List ℕ))). (own ∷ above) ∷ found) (all_inside by (own ∷ above) bs ds come at)
 
