@@ -8,3 +8,4 @@ pub mod Refusals
 pub mod Repeated
 pub mod TableWords
 pub mod Words
+pub mod Naming

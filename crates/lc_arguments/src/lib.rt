@@ -8,6 +8,7 @@
 //! - `conditions`: which files are shown; `condition_text`: a condition, as it is typed
 //! - `options_table`: the table of options; `option_row`: what a row of it says; `arguments`: clap's arguments, made of the rows
 //! - `refusals`: the text of a refusal, as a terminal shows it; `error_text`: the texts of usage errors
+//! - `naming`: which arguments a text names
 //! - `suggestions`: what refused arguments may have meant; `near`: names that are close to a word
 //! - `limits`: the largest values of options; `help`, `long_help`: the texts of help and of the version
 #![tactic(auto)]
@@ -25,6 +26,7 @@ mod first_word;
 mod help;
 mod limits;
 mod long_help;
+mod naming;
 mod near;
 mod numbers;
 mod option_row;

@@ -4,6 +4,7 @@ ghost use Rattle.std.specs.Prelude.{◌≡◌, IfErr, IfOk, map, string_bytes};
 ghost use Rattle.lc_arguments.specs.CommandLine.{bare_lc_app, lc_app, subcommand_apps};
 ghost use Rattle.lc_arguments.specs.CountArgs.{AreCommandsOf, IsCommandOf};
 ghost use Rattle.lc_arguments.specs.Explained.{Explains, IsRefusal, AnswersOthers};
+ghost use Rattle.lc_arguments.specs.Naming.{IsTextOf, NamesArguments, NamesOne, named_command};
 ghost use Rattle.lc_arguments.specs.Refusals.{IsMessage, IsRefusedVisibly};
 ghost use Rattle.lc_arguments.specs.Words.{AnswersWords};
 
@@ -12,6 +13,7 @@ use crate::count::CountRequest;
 use crate::error_text::{advised, number_refused, problem_of, value_refused};
 use crate::explain::ExplainRequest;
 use crate::first_word::count_words;
+use crate::naming::{is_text_of, names_one, with_words};
 use crate::refusals::{message, visible_words};
 use crate::suggestions::Advice;
 use crate::{arguments, check, count, explain, help, suggestions};
@@ -193,6 +195,30 @@ fn refusal<W: AsStr>(alloc: Global, words: &[W], why: &str) -> Result<String, Al
     }
 }
 
+/// Makes a refusal that names an argument. As clap tells of a letter of `-xz` alone, all that was typed comes at the end then.
+fn naming_refusal<W: AsStr>(alloc: Global, words: &[W], why: &str) -> Result<String, AllocError>
+    ensures visible { IfOk result (λ text. IsMessage (string_bytes text)) }
+    ensures names { IfOk result (λ text. NamesOne (map W.text words.entry.now) (string_bytes text)) }
+{
+    let first = refusal(alloc, words, why)?;
+    let named = names_one(alloc, &first, words)?;
+    if named {
+        return Ok(first);
+    }
+    let more = with_words(alloc, &first, words)?;
+    let second = message(alloc, &more)?;
+    let named = names_one(alloc, &second, words)?;
+    if named { Ok(second) } else { Err(AllocError) }
+}
+
+/// Returns the text that was asked for, if it names what it is about. clap's texts do, but no clause says so.
+fn naming_text<W: AsStr>(alloc: Global, words: &[W], text: String) -> Result<String, AllocError>
+    ensures { IfOk result (λ text. IsTextOf (named_command (map W.text words.entry.now)) (string_bytes text)) }
+{
+    let named = is_text_of(alloc, &text, words)?;
+    if named { Ok(text) } else { Err(AllocError) }
+}
+
 impl<'w> Request<'w> {
     /// Reads the arguments after the program's name.
     ///
@@ -200,14 +226,19 @@ impl<'w> Request<'w> {
     pub fn read<W: AsStr>(alloc: Global, words: &'w [W]) -> Result<Request<'w>, ParseExit>
         ensures answers { AnswersWords (map W.text words.entry.now) result }
         ensures visible { IfErr result IsRefusedVisibly }
+        ensures names { IfErr result (NamesArguments (map W.text words.entry.now)) }
     {
         match read_words(alloc, words) {
             Ok(request) => Ok(request),
-            Err(ParseExit::Refused(why)) => match refusal(alloc, words, &why) {
+            Err(ParseExit::Refused(why)) => match naming_refusal(alloc, words, &why) {
                 Ok(why) => Err(ParseExit::Refused(why)),
                 Err(AllocError) => Err(ParseExit::Memory),
             },
-            Err(no) => Err(no),
+            Err(ParseExit::Shown(text)) => match naming_text(alloc, words, text) {
+                Ok(text) => Err(ParseExit::Shown(text)),
+                Err(AllocError) => Err(ParseExit::Memory),
+            },
+            Err(ParseExit::Memory) => Err(ParseExit::Memory),
         }
     }
 }

@@ -134,7 +134,24 @@ const OTHERS: &[Case] = &[
 
 const EXITS: &[Case] = &[
     ("--version", "shown: lc "),
+    ("-V", "shown: lc "),
     ("-h", "shown: Count files, lines and bytes in a source tree"),
+    (
+        "--help",
+        "shown: Count files, lines and bytes in a source tree",
+    ),
+    (
+        "count -h",
+        "shown: Count files, lines and bytes, skipping what Git would ignore",
+    ),
+    (
+        "--by ext --help",
+        "shown: Count files, lines and bytes, skipping what Git would ignore",
+    ),
+    ("explain -h", "shown: Show which rule"),
+    ("explain --help .", "shown: Show which rule"),
+    ("check -h", "shown: Match paths on standard input"),
+    ("check --help", "shown: Match paths on standard input"),
     (
         "count --threads 17 .",
         "refused: error: invalid value for '--threads <N>': '17' is no number from 1 to 16\n\nFor more",
@@ -254,6 +271,11 @@ const EXITS: &[Case] = &[
     (
         "count --include-from a .",
         "refused: error: unexpected argument '--include-from' found\n\nUsage: ",
+    ),
+    (
+        "count -xz .",
+        "refused: error: unexpected argument '-z' found\n\nUsage: lc count [OPTIONS] [DIR]\n\n\
+         For more information, try '--help'.\n\nExample: lc count .\n\nArguments: 'count' '-xz' '.'\n",
     ),
     (
         "count --hidden .",

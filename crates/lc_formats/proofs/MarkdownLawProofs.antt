@@ -184,7 +184,10 @@ byte_begins : (b : ℕ) (m blank : Bool) → (b == 32) ≡ blank → (rest : Lis
     → starts_with nat_eq ((if m then 92 ∷ b ∷ [] else if blank then codes "&#32;" else b ∷ []) ++ rest) (codes " ") ≡ false
 byte_begins b true blank is rest = refl
 byte_begins b false true is rest = refl
-byte_begins b false false is rest = rw (ne_eqb 32 b (λ same. let t : (b == 32) ≡ true = ap (λ (x : ℕ). x == 32) (sym same) in clash (sym t ∙ is))) refl
+byte_begins b false false is rest =
+    let other : nat_eq 32 b ≡ false =
+    ne_eqb 32 b (λ same. let t : (b == 32) ≡ true = ap (λ (x : ℕ). x == 32) (sym same) in clash (sym t ∙ is)) in
+    rw other refl
 
 begins_unblank : (text : List ℕ) → starts_with nat_eq (markdown text) (codes " ") ≡ false
 begins_unblank [] = refl

@@ -28,7 +28,8 @@ use Rattle.lc_laws.specs.IncludedEntries.{IsRead, IsUnincluded, includes}
 abbrev fate_by : JobModel → List ℕ → Result Count FaultWord → Option Reason → Bool → Fate
 fate_by k n c o included = option_map_or (skipped File) (option_or o (cond included None (Some not_included))) (file_fate k n c)
 
-no_fault : (k : JobModel) (n : List ℕ) (c : Result Count FaultWord) (kind : Kind) (reason : Reason) → file_fate k n c ≡ skipped kind reason → ⊥
+no_fault : (k : JobModel) (n : List ℕ) (c : Result Count FaultWord) (kind : Kind) (reason : Reason)
+    → file_fate k n c ≡ skipped kind reason → ⊥
 no_fault k n (Ok count) kind reason e = cc e
 no_fault k n (Err word) kind reason e = cc e
 

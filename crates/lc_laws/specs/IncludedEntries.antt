@@ -27,7 +27,8 @@ IsRead (walked job) = ⊥
 IsRead (skipped kind reason) = ⊥
 
 -- a directory that the walk enters, to which so many names lead
-pub record IsEntered (filters : FiltersModel) (depth : ℕ) (top : JobModel) (t : Tree) (job : JobModel) (place : List (List ℕ)) : Type 0 where
+pub record IsEntered (filters : FiltersModel) (depth : ℕ) (top : JobModel) (t : Tree) (job : JobModel) (place : List (List ℕ))
+    : Type 0 where
   pub shallow : length place < depth
   pub leads : LeadsTo filters top t place job
 

@@ -8,3 +8,4 @@ pub mod ChartColours
 pub mod Boxing
 pub mod Pages
 pub mod Nesting
+pub mod InsideBoxes

@@ -7,3 +7,4 @@ pub mod Head
 pub mod Chart
 pub mod Page
 pub mod Laws
+pub mod Inside

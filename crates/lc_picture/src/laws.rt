@@ -1,5 +1,6 @@
 //! Laws of the definitions that the contracts cite. The functions do nothing: their contracts are what is proved.
 
+ghost use Rattle.lc_picture.specs.Inside.{InsideLaw};
 ghost use Rattle.lc_picture.specs.Laws.{ColoursLaw, DrawnLaw, NestingLaw, OutlineLaw, ReportLaw, ShownLaw, TagLaw, UnescapedLaw};
 
 /// A name in the page begins and ends no tag and no attribute, and with its character references read it is the name as terminals show it.
@@ -25,6 +26,12 @@ pub fn rows_have_the_colours_of_their_extensions()
 /// Each box that is opened is closed, and no box is closed where none is open.
 pub fn boxes_are_nested()
     ensures { NestingLaw }
+{}
+
+/// Boxes of directories that come depth first open inside the boxes of the directories above them: a reader who joins the names of the open
+/// boxes finds the path of each directory.
+pub fn a_box_opens_inside_that_of_its_parent()
+    ensures { InsideLaw }
 {}
 
 /// But for the names themselves, the boxes are the same for any names.

@@ -1,0 +1,10 @@
+use Rattle.std.proofs.Common.{length, map}
+use Rattle.lc_arguments.specs.Naming.{NamesSome}
+use Rattle.lc_arguments.specs.Options.{option_model}
+use Rattle.lc_arguments.proofs.naming.names_some.Given as goal
+
+abbrev pub invariant-rows : goal.invariant-rows
+invariant-rows l = NamesSome (map option_model l.rest) l.text → NamesSome (map option_model l.rows) l.text
+
+abbrev pub decreases-rows : goal.decreases-rows
+decreases-rows l = length l.rest

@@ -1,0 +1,91 @@
+-- Which arguments a text names: help those of its command, and a usage error one.
+use Rattle.std.specs.Prelude.{◌≡◌, ◌⊎◌, ℕ, Bool, true, false, cond, is_some, bytes_eq, List, [], ◌∷◌, ◌++◌, codes, string_bytes}
+use Rattle.std.specs.Prelude.{Option, Some, None, ⊤}
+use Rattle.std.specs.Str.Iter.{HasSubslice}
+use Rattle.lc_text.specs.Visible.{visible_bytes}
+use Rattle.lc_arguments.specs.Options.{OptionModel, is_of, options}
+use Rattle.lc_arguments.specs.Words.{count_words}
+use Rattle.lc_arguments.specs.declared.option_row.Kind.{Kind}
+use Rattle.lc_arguments.specs.declared.option_row.Kind.TheVariants.{Flag, Text, Texts, Number, Word, OptionalWord, Words}
+use Rattle.lc_arguments.specs.declared.option_row.Subcommand.{Subcommand}
+use Rattle.lc_arguments.specs.declared.option_row.Subcommand.TheVariants.{Count, Explain, Check}
+use Rattle.lc_arguments.specs.declared.request.ParseExit.{ParseExit}
+use Rattle.lc_arguments.specs.declared.request.ParseExit.TheVariants.{Shown, Refused, Memory}
+
+-- what is before the name of an argument and after it: the hyphens of an option, and the brackets of what has none, by whether it may be
+-- omitted
+abbrev pub mark_before : Kind → List ℕ
+mark_before Flag = codes "--"
+mark_before Text = codes "--"
+mark_before Texts = codes "--"
+mark_before (Number most) = codes "--"
+mark_before Word = codes "<"
+mark_before OptionalWord = codes "["
+mark_before Words = codes "["
+
+abbrev pub mark_after : Kind → List ℕ
+mark_after Flag = []
+mark_after Text = []
+mark_after Texts = []
+mark_after (Number most) = []
+mark_after Word = codes ">"
+mark_after OptionalWord = codes "]"
+mark_after Words = codes "]"
+
+-- a text has the name of an argument, with its marks
+abbrev pub Names : List ℕ → OptionModel → Type 0
+Names text o = HasSubslice text (mark_before o.kind ++ (o.name ++ mark_after o.kind))
+
+-- ---- help
+
+-- of each argument of a command
+abbrev pub NamesAll : Subcommand → List OptionModel → List ℕ → Type 0
+NamesAll command [] text = ⊤
+NamesAll command (o ∷ os) text = (is_of command o.of ≡ true → Names text o) × NamesAll command os text
+
+-- the command that words name
+abbrev pub named_by : List ℕ → Option Subcommand
+named_by word = cond (bytes_eq word (codes "check")) (Some Check) (cond (bytes_eq word (codes "explain")) (Some Explain) None)
+
+abbrev pub named_command : List (List ℕ) → Option Subcommand
+named_command [] = None
+named_command (word ∷ words) = cond (is_some (count_words (word ∷ words))) (Some Count) (named_by word)
+
+-- the help of a command names its arguments in the table. A text about the program, its help or its version, names the program
+unfoldable pub IsTextOf : Option Subcommand → List ℕ → Type 0
+IsTextOf None text = HasSubslice text (codes "lc")
+IsTextOf (Some command) text = NamesAll command options text
+
+-- ---- usage errors
+
+-- an argument that may be omitted is in each usage, so it tells nothing of an error
+abbrev pub is_telling : Kind → Bool
+is_telling Flag = true
+is_telling Text = true
+is_telling Texts = true
+is_telling (Number most) = true
+is_telling Word = true
+is_telling OptionalWord = false
+is_telling Words = false
+
+-- a text names one of these arguments
+abbrev pub NamesSome : List OptionModel → List ℕ → Type 0
+NamesSome [] text = ⊥
+NamesSome (o ∷ os) text = ((is_telling o.kind ≡ true) × Names text o) ⊎ NamesSome os text
+
+-- it has one of these words in quotes, as a terminal shows it
+abbrev pub QuotesSome : List (List ℕ) → List ℕ → Type 0
+QuotesSome [] text = ⊥
+QuotesSome (word ∷ words) text = HasSubslice text (codes "'" ++ (visible_bytes word ++ codes "'")) ⊎ QuotesSome words text
+
+-- an argument that was typed, or one of the table
+unfoldable pub NamesOne : List (List ℕ) → List ℕ → Type 0
+NamesOne words text = QuotesSome words text ⊎ NamesSome options text
+
+-- ---- both
+
+-- what is written of words that ask for no request
+abbrev pub NamesArguments : List (List ℕ) → ParseExit → Type 0
+NamesArguments words (Shown text) = IsTextOf (named_command words) (string_bytes text)
+NamesArguments words (Refused why) = NamesOne words (string_bytes why)
+NamesArguments words Memory = ⊤

@@ -1,0 +1,226 @@
+//! Which arguments a text names. No clause speaks of clap's texts, so they are looked at before they are written.
+
+ghost use Rattle.std.specs.Prelude.{◌≡◌, ◌++◌, IfOk, OnOk, codes, map, string_bytes, true};
+ghost use Rattle.std.specs.Str.Iter.{HasSubslice};
+ghost use Rattle.lc_arguments.specs.Naming.{IsTextOf, Names, NamesAll, NamesOne, NamesSome, QuotesSome, is_telling};
+ghost use Rattle.lc_arguments.specs.Naming.{mark_after, mark_before, named_by, named_command};
+ghost use Rattle.lc_arguments.specs.Options.{is_of, option_model};
+ghost use Rattle.lc_text.specs.Visible.{visible_bytes};
+
+use crate::first_word::count_words;
+use crate::option_row::{Kind, OptionRow, Subcommand};
+use crate::options_table::options;
+use lc_text::push_visible;
+use std::alloc::{AllocError, Global};
+use std::convert::AsStr;
+
+/// Returns what is before the name of an argument in a text.
+fn mark_before(kind: Kind) -> &'static str
+    ensures { result.now ≡ mark_before kind }
+{
+    match kind {
+        Kind::Flag | Kind::Text | Kind::Texts | Kind::Number(_) => "--",
+        Kind::Word => "<",
+        Kind::OptionalWord | Kind::Words => "[",
+    }
+}
+
+/// Returns what is after the name of an argument in a text.
+fn mark_after(kind: Kind) -> &'static str
+    ensures { result.now ≡ mark_after kind }
+{
+    match kind {
+        Kind::Flag | Kind::Text | Kind::Texts | Kind::Number(_) => "",
+        Kind::Word => ">",
+        Kind::OptionalWord | Kind::Words => "]",
+    }
+}
+
+/// Returns whether a usage error with the name of an argument of this kind says more than its usage.
+fn is_telling(kind: Kind) -> bool
+    ensures { result ≡ is_telling kind }
+{
+    !matches!(kind, Kind::OptionalWord | Kind::Words)
+}
+
+/// Returns whether a text has a part.
+fn has(text: &str, part: &str) -> bool
+    ensures { result ≡ true → HasSubslice text.now part.now }
+{
+    text.contains(part)
+}
+
+/// Returns whether a text names an argument.
+fn names(alloc: Global, text: &str, row: &OptionRow) -> Result<bool, AllocError>
+    ensures { IfOk result (λ named. named ≡ true → Names text.now (option_model row.now)) }
+{
+    let mut marked = String::from_str(alloc, mark_before(row.kind))?;
+    marked.push_str(row.name)?;
+    marked.push_str(mark_after(row.kind))?;
+    Ok(has(text, marked.as_str()))
+}
+
+fn names_if_of(
+    alloc: Global,
+    text: &str,
+    command: Subcommand,
+    row: &OptionRow,
+) -> Result<bool, AllocError>
+    ensures { IfOk result (λ named. named ≡ true → is_of command row.now.of ≡ true → Names text.now (option_model row.now)) }
+{
+    if row.of.has(command) {
+        return names(alloc, text, row);
+    }
+    Ok(true)
+}
+
+/// Returns whether a text names each argument of a command.
+fn names_all(
+    alloc: Global,
+    text: &str,
+    command: Subcommand,
+    rows: &[OptionRow],
+) -> Result<bool, AllocError>
+    ensures { IfOk result (λ named. named ≡ true → NamesAll command (map option_model rows.now) text.now) }
+{
+    let mut rest = rows;
+    'rows: while let Some((row, others)) = rest.split_first() {
+        let named = names_if_of(alloc, text, command, row)?;
+        if !named {
+            return Ok(false);
+        }
+        rest = others;
+    }
+    Ok(true)
+}
+
+fn names_telling(alloc: Global, text: &str, row: &OptionRow) -> Result<bool, AllocError>
+    ensures { IfOk result (λ named. named ≡ true → (is_telling row.now.kind ≡ true) × Names text.now (option_model row.now)) }
+{
+    if is_telling(row.kind) {
+        return names(alloc, text, row);
+    }
+    Ok(false)
+}
+
+/// Returns whether a text names one of these arguments.
+fn names_some(alloc: Global, text: &str, rows: &[OptionRow]) -> Result<bool, AllocError>
+    ensures { IfOk result (λ named. named ≡ true → NamesSome (map option_model rows.now) text.now) }
+{
+    let mut rest = rows;
+    'rows: while let Some((row, others)) = rest.split_first() {
+        let named = names_telling(alloc, text, row)?;
+        if named {
+            return Ok(true);
+        }
+        rest = others;
+    }
+    Ok(false)
+}
+
+fn push_in_quotes(text: &mut String, word: &str) -> Result<(), AllocError>
+    ensures { OnOk result (string_bytes text.new ≡ string_bytes text.old ++ (codes "'" ++ (visible_bytes word.now ++ codes "'"))) }
+{
+    text.push_str("'")?;
+    push_visible(text, word.as_bytes())?;
+    text.push_str("'")
+}
+
+fn quotes(alloc: Global, text: &str, word: &str) -> Result<bool, AllocError>
+    ensures { IfOk result (λ quoted. quoted ≡ true → HasSubslice text.now (codes "'" ++ (visible_bytes word.now ++ codes "'"))) }
+{
+    let mut part = String::new(alloc);
+    push_in_quotes(&mut part, word)?;
+    Ok(has(text, part.as_str()))
+}
+
+/// Returns whether a text has one of these words in quotes.
+fn quotes_some<W: AsStr>(alloc: Global, text: &str, words: &[W]) -> Result<bool, AllocError>
+    ensures { IfOk result (λ quoted. quoted ≡ true → QuotesSome (map W.text words.now) text.now) }
+{
+    let mut rest = words;
+    'words: while let Some((word, others)) = rest.split_first() {
+        let quoted = quotes(alloc, text, word.as_str())?;
+        if quoted {
+            return Ok(true);
+        }
+        rest = others;
+    }
+    Ok(false)
+}
+
+/// Returns whether a usage error names an argument: one that was typed, in quotes, or one of the table.
+pub(crate) fn names_one<W: AsStr>(
+    alloc: Global,
+    text: &str,
+    words: &[W],
+) -> Result<bool, AllocError>
+    ensures { IfOk result (λ named. named ≡ true → NamesOne (map W.text words.now) text.now) }
+{
+    let quoted = quotes_some(alloc, text, words)?;
+    if quoted {
+        return Ok(true);
+    }
+    names_some(alloc, text, options())
+}
+
+/// Makes a usage error with all that was typed at its end.
+pub(crate) fn with_words<W: AsStr>(
+    alloc: Global,
+    text: &str,
+    words: &[W],
+) -> Result<String, AllocError> {
+    let mut more = String::from_str(alloc, text)?;
+    more.push_str("\nArguments:")?;
+    for word in words {
+        more.push_str(" ")?;
+        push_in_quotes(&mut more, word.as_str())?;
+    }
+    more.push_str("\n")?;
+    Ok(more)
+}
+
+fn named_by(word: &str) -> Option<Subcommand>
+    ensures { result ≡ named_by word.now }
+{
+    if word == "check" {
+        return Some(Subcommand::Check);
+    }
+    if word == "explain" {
+        return Some(Subcommand::Explain);
+    }
+    None
+}
+
+/// Returns the command that arguments name; None if they ask for the program alone.
+fn named_command<W: AsStr>(words: &[W]) -> Option<Subcommand>
+    ensures { result ≡ named_command (map W.text words.now) }
+{
+    let Some((first, _)) = words.split_first() else {
+        return None;
+    };
+    if count_words(words).is_some() {
+        return Some(Subcommand::Count);
+    }
+    named_by(first.as_str())
+}
+
+fn is_text_for(alloc: Global, text: &str, command: Option<Subcommand>) -> Result<bool, AllocError>
+    ensures { IfOk result (λ named. named ≡ true → IsTextOf command text.now) }
+{
+    match command {
+        None => Ok(has(text, "lc")),
+        Some(command) => names_all(alloc, text, command, options()),
+    }
+}
+
+/// Returns whether a text is one of those that were asked for: the help of the command names each of its arguments.
+pub(crate) fn is_text_of<W: AsStr>(
+    alloc: Global,
+    text: &str,
+    words: &[W],
+) -> Result<bool, AllocError>
+    ensures { IfOk result (λ named. named ≡ true → IsTextOf (named_command (map W.text words.now)) text.now) }
+{
+    is_text_for(alloc, text, named_command(words))
+}

@@ -1,0 +1,39 @@
+-- That a box opens inside the box of the directory that holds it.
+use Rattle.std.specs.Prelude.{◌≡◌, ℕ, if◌then◌else◌, List, [], ◌∷◌, ◌++◌, drop, length, ⊤}
+use Rattle.lc_sheet.specs.declared.column.Number.{Number}
+use Rattle.lc_text.specs.Visible.{visible_path}
+use Rattle.lc_picture.specs.Boxes.{BoxModel, boxes_in}
+use Rattle.lc_picture.specs.Laws.{ends_box}
+use Rattle.lc_picture.specs.Pieces.{Piece, count, markup, name, share}
+
+-- a reader of a page, by the names of the boxes that are open, the innermost first. A name opens a box; it is read with the names around
+-- it. A closing tag ends the innermost box
+abbrev pub boxes_read : List (List ℕ) → List Piece → List (List (List ℕ))
+boxes_read around [] = []
+boxes_read around (markup t ∷ ps) = boxes_read (if ends_box (markup t) then drop 1 around else around) ps
+boxes_read around (share n ∷ ps) = boxes_read around ps
+boxes_read around (count n ∷ ps) = boxes_read around ps
+boxes_read around (name t ∷ ps) = (t ∷ around) ∷ boxes_read (t ∷ around) ps
+
+-- directories, each as its name and those of the directories above it. They come depth first: each is right in the one before it or in
+-- one above that
+abbrev pub ComeDepthFirst : List (List ℕ) → List (List (List ℕ)) → Type 0
+ComeDepthFirst before [] = ⊤
+ComeDepthFirst before ([] ∷ ds) = ⊥
+ComeDepthFirst before ((own ∷ above) ∷ ds) =
+    ((left : List (List ℕ)) × (before ≡ left ++ above)) × ComeDepthFirst (own ∷ above) ds
+
+-- boxes of such directories: each has the name of its directory, as a page shows it, and the depth
+abbrev pub AreBoxesAt : List BoxModel → List (List (List ℕ)) → Type 0
+AreBoxesAt [] [] = ⊤
+AreBoxesAt [] (d ∷ ds) = ⊥
+AreBoxesAt (b ∷ bs) [] = ⊥
+AreBoxesAt (b ∷ bs) ([] ∷ ds) = ⊥
+AreBoxesAt (b ∷ bs) ((own ∷ above) ∷ ds) =
+    ((visible_path b.directory ≡ own) × (b.depth ≡ length above)) × AreBoxesAt bs ds
+
+-- then a reader finds each directory, inside those above it
+abbrev pub InsideLaw : Type 0
+InsideLaw =
+    (by : Number) (bs : List BoxModel) (ds : List (List (List ℕ))) → ComeDepthFirst [] ds → AreBoxesAt bs ds
+    → boxes_read [] (boxes_in by 0 bs) ≡ ds
