@@ -13,7 +13,7 @@ use std::io::ErrorKind;
 use std::rt::Files;
 use std::time::Clock;
 
-/// The directories and files of the host. Any answer may come for any name.
+/// The directories and files of the host. Any answer may come for any name, but a listing is made of names that were read and of looks.
 #[derive(Drop)]
 pub(crate) struct HostSystem<'a, R> {
     pub(crate) rt: &'a R,
