@@ -58,7 +58,7 @@ IsTextOf (Some command) text = NamesAll command options text
 
 -- ---- usage errors
 
--- an argument that may be omitted is in each usage, so it tells nothing of an error
+-- an argument that may be omitted is in each usage, so it shows nothing of an error
 abbrev pub is_telling : Kind → Bool
 is_telling Flag = true
 is_telling Text = true

@@ -1,4 +1,4 @@
-//! Which arguments a text names. No clause speaks of clap's texts, so they are looked at before they are written.
+//! Which arguments a text names. No clause describes clap's texts, so they are checked before they are written.
 
 ghost use Rattle.std.specs.Prelude.{◌≡◌, ◌++◌, IfOk, OnOk, codes, map, string_bytes, true};
 ghost use Rattle.std.specs.Str.Iter.{HasSubslice};
@@ -36,7 +36,7 @@ fn mark_after(kind: Kind) -> &'static str
     }
 }
 
-/// Returns whether a usage error with the name of an argument of this kind says more than its usage.
+/// Returns whether a usage error with the name of an argument of this kind shows more than its usage does.
 fn is_telling(kind: Kind) -> bool
     ensures { result ≡ is_telling kind }
 {

@@ -195,7 +195,8 @@ fn refusal<W: AsStr>(alloc: Global, words: &[W], why: &str) -> Result<String, Al
     }
 }
 
-/// Makes a refusal that names an argument. As clap tells of a letter of `-xz` alone, all that was typed comes at the end then.
+/// Makes a refusal that names an argument. If clap's text names none, as that of `-xz` names the letter alone, all that was typed comes at
+/// its end.
 fn naming_refusal<W: AsStr>(alloc: Global, words: &[W], why: &str) -> Result<String, AllocError>
     ensures visible { IfOk result (λ text. IsMessage (string_bytes text)) }
     ensures names { IfOk result (λ text. NamesOne (map W.text words.entry.now) (string_bytes text)) }
@@ -211,7 +212,7 @@ fn naming_refusal<W: AsStr>(alloc: Global, words: &[W], why: &str) -> Result<Str
     if named { Ok(second) } else { Err(AllocError) }
 }
 
-/// Returns the text that was asked for, if it names what it is about. clap's texts do, but no clause says so.
+/// Returns the text that was asked for, if it names what it is about. clap's texts do so, though no clause says it.
 fn naming_text<W: AsStr>(alloc: Global, words: &[W], text: String) -> Result<String, AllocError>
     ensures { IfOk result (λ text. IsTextOf (named_command (map W.text words.entry.now)) (string_bytes text)) }
 {

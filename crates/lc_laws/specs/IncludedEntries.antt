@@ -26,7 +26,7 @@ IsRead (failed word) = ⊤
 IsRead (walked job) = ⊥
 IsRead (skipped kind reason) = ⊥
 
--- a directory that the walk enters, to which so many names lead
+-- a directory that the walk enters: these names lead to it, and they are fewer than the walk is deep
 pub record IsEntered (filters : FiltersModel) (depth : ℕ) (top : JobModel) (t : Tree) (job : JobModel) (place : List (List ℕ))
     : Type 0 where
   pub shallow : length place < depth

@@ -71,7 +71,7 @@ pub fn no_ignore_file_of_the_tree_skips_an_entry<T: Tree>(tree: &T)
     the_rule_of_a_line_ignores_it();
 }
 
-/// Of a walk of included files, as with `--include`, the errors are those of directories and of included files. It skips what the walk of
+/// The errors of a walk of included files, as with `--include`, are those of directories and of included files. It skips what the walk of
 /// all files skips, for the same reasons, and the files that are not included.
 pub fn errors_and_skipped_entries_are_those_of_included_files()
     ensures { IncludedEntriesLaw }

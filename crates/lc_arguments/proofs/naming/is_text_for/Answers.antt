@@ -1,4 +1,4 @@
-use Rattle.std.proofs.Common.{◌≡◌, sym, true, map, subst, Some, None}
+use Rattle.std.proofs.Common.{◌≡◌, sym, true, map, subst}
 use Rattle.std.proofs.lemmas.Result.{IfOk-weaker}
 use Rattle.lc_arguments.specs.Naming.{IsTextOf, NamesAll}
 use Rattle.lc_arguments.specs.Options.{option_model}
