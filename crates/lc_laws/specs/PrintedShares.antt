@@ -33,7 +33,7 @@ pub record PrintsShares (s : SheetModel) : Type 0 where
   pub others : AreSharesWithin s.others
   pub totals : AreSharesWithin s.totals
 
--- and of each sheet of the report of a walk, and of what of it meets conditions
+-- and of each sheet of the report of a walk, and of what meets conditions of it
 abbrev pub PrintedSharesLaw : (List ℕ → Listings) → (List ℕ → Contents) → Type 0
 PrintedSharesLaw lists gives =
     (o : Options) (options : TableOptions) (r : Report) (s : SheetModel) → IsOfWalk lists gives o r → ListsFilesFor o options

@@ -15,7 +15,8 @@ pub fn sheets_of_reports_have_records()
     ensures { SheetRecordsLaw }
 {}
 
-/// In a text for reading each share of the report of a walk, or of what of it meets conditions, is at most 100.0 per cent.
+/// In a text for reading each share of the report of a walk, or of what meets conditions of it, is at most 100.0 per cent. For rows by
+/// directory the walk must list its files.
 pub fn printed_shares_are_at_most_the_whole<T: Tree>(tree: &T)
     ensures { PrintedSharesLaw (T.lists tree.now) (T.gives tree.now) }
 {

@@ -58,7 +58,7 @@ AddUpOpposite c r =
 abbrev pub OppositesLaw : Type 0
 OppositesLaw = (c : ConditionModel) (r : Report) → r.totals ≡ tested_sums (is_on_number c) r → AddUpOpposite c r
 
--- and with each report of a walk, and what of it meets other conditions
+-- and with each report of a walk, and with what meets other conditions of it
 abbrev pub WalkedOppositesLaw : (List ℕ → Listings) → (List ℕ → Contents) → Type 0
 WalkedOppositesLaw lists gives =
     (o : Options) (c : ConditionModel) (r : Report) → IsOfWalk lists gives o r → ListsFilesToTest o c → AddUpOpposite c r

@@ -106,12 +106,13 @@ ClassPartsLaw =
     (options : TableOptions) (r : Report) (s : SheetModel) → r.totals ≡ sums_of_rows r.rows.items → IsSheetOf options r s
     → IsSectionWithin s.totals
 
--- all of this is so of each sheet of a report of a walk, and of what of it meets conditions
+-- rows and classes add up, and no share is over its whole
 pub record SheetAddsUp (s : SheetModel) : Type 0 where
   pub rows : RowsAddUp s
   pub classes : ClassesAddUp s
   pub shares : SharesAreWithin s
 
+-- so it is with each sheet of the report of a walk, and of what meets conditions of it
 abbrev pub WalkedSheetLaw : (List ℕ → Listings) → (List ℕ → Contents) → Type 0
 WalkedSheetLaw lists gives =
     (o : Options) (options : TableOptions) (r : Report) (s : SheetModel) → IsOfWalk lists gives o r → ListsFilesFor o options

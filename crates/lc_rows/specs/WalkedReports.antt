@@ -1,4 +1,4 @@
--- Reports of walks, and what of them meets conditions.
+-- Reports of walks, and what meets conditions of them.
 use Rattle.std.specs.Prelude.{◌≡◌, ℕ, true, List, is_some, Ok}
 use Rattle.lc_sheet.specs.Conditions.{ConditionModel, is_on_number}
 use Rattle.lc_sheet.specs.declared.table_options.TableOptions.{TableOptions}

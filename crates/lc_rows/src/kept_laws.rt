@@ -14,7 +14,7 @@ pub fn conditions_have_no_order()
     ensures { OrderLaw }
 {}
 
-/// Where the totals of a report add up, those of what meets conditions do, as with the report of a walk.
+/// Where the totals of a report add up, as those of the report of a walk do, the totals of what meets conditions add up.
 pub fn conditions_keep_totals()
     ensures { KeptTotalsLaw }
 {}

@@ -21,8 +21,8 @@ pub fn no_line_of_a_sheet_is_over_its_whole()
     ensures totals { ClassPartsLaw }
 {}
 
-/// All of this is so of each sheet of the report of a walk, and of what of it meets conditions. For rows by directory the walk must list
-/// its files.
+/// In each sheet of the report of a walk, rows and the others add up to the total, text and binary do, and no line is over its whole. So
+/// it is with what meets conditions of that report. For rows by directory the walk must list its files.
 pub fn sheets_of_walks_add_up<T: Tree>(tree: &T)
     ensures { WalkedSheetLaw (T.lists tree.now) (T.gives tree.now) }
 {
