@@ -4,6 +4,7 @@ ghost use Rattle.std.specs.Prelude.{◌≡◌};
 ghost use Rattle.lc_walk.specs.WalkOptions.{AreWithinLimits};
 ghost use Rattle.lc_walk.specs.Walks.{Walks};
 ghost use Rattle.lc_program.specs.Runs.{AnswersRun, table_fault};
+ghost use Rattle.lc_rows.specs.WalkedReports.{ListsFilesFor};
 ghost use Rattle.lc_program.specs.declared.runs.RunFault.TheVariants.{Walk};
 
 use crate::showing::table;
@@ -51,7 +52,7 @@ impl From<PrintFault> for RunFault {
 
 /// Walks a tree, writes the table of what it found that meets the conditions ([`table`]), and returns the report of that.
 ///
-/// A condition on a number needs the list of files.
+/// Rows by directory and a condition on a number need the list of files.
 ///
 /// ```
 /// let tree = SysTree::new(&rt, rt.alloc(), "src", FileSystems::All)?;
@@ -69,6 +70,7 @@ pub fn run<T: Tree, R: Threads + Wait + Sync, O: Sink>(
     out: &mut O,
 ) -> Result<Report, RunFault>
     requires limits { AreWithinLimits options.now }
+    requires files { ListsFilesFor options.now shown.table }
     ensures { AnswersRun O.may_take (Walks (T.lists tree.now) (T.gives tree.now) options.now)
         shown.entry.conditions.now shown.entry.table out.old result out.new }
 {

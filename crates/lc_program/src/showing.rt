@@ -3,6 +3,7 @@
 ghost use Rattle.std.specs.Prelude.{◌≡◌, false, IfOk};
 ghost use Rattle.lc_program.specs.ReportTexts.{HasSheet, IsPrinted, IsReordered, IsTextIn, IsTextOf, is_picture};
 ghost use Rattle.lc_program.specs.Runs.{AnswersTable};
+ghost use Rattle.lc_rows.specs.WalkedReports.{HasFilesFor};
 
 use lc_formats::{csv_text, json_text, markdown_text, table_text, tsv_text};
 use lc_picture::page;
@@ -33,6 +34,7 @@ fn sheet_text(
     options: TableOptions,
 ) -> Result<Vec<u8>, AllocError>
     requires sheet { is_picture options.format ≡ false }
+    requires files { HasFilesFor options report.now.lists }
     ensures text { IfOk result (λ text. HasSheet options report.old text.items) }
     ensures left { IsReordered report.old report.new }
 {
@@ -52,6 +54,7 @@ pub fn report_text(
     report: &mut Report,
     options: TableOptions,
 ) -> Result<Vec<u8>, AllocError>
+    requires files { HasFilesFor options report.now.lists }
     ensures text { IfOk result (λ text. IsTextOf options report.old text.items) }
     ensures left { IsReordered report.old report.new }
 {
@@ -69,6 +72,7 @@ fn part_text(
     report: &mut Report,
     options: ReportOptions<'_>,
 ) -> Result<Vec<u8>, AllocError>
+    requires files { HasFilesFor options.table report.now.lists }
     ensures { IfOk result (λ text. IsPrinted options.entry.conditions.now options.entry.table report.old text.items report.new) }
 {
     keep(alloc, options.conditions, report)?;
@@ -85,6 +89,7 @@ pub fn table<O: Sink>(
     options: ReportOptions<'_>,
     out: &mut O,
 ) -> Result<(), PrintFault>
+    requires files { HasFilesFor options.table report.now.lists }
     ensures { AnswersTable O.may_take options.entry.conditions.now options.entry.table report.old report.new out.old result out.new }
 {
     let text = part_text(alloc, report, options)?;

@@ -5,6 +5,7 @@ use Rattle.lc_sheet.specs.declared.table_options.TableOptions.{TableOptions}
 use Rattle.lc_tree.specs.Trees.{Listings, Contents}
 use Rattle.lc_walk.specs.Walks.{Walks}
 use Rattle.lc_walk.specs.declared.options.Options.{Options}
+use Rattle.lc_walk.specs.declared.options.ReportLists.{ReportLists}
 use Rattle.lc_walk.specs.declared.report.Report.{Report}
 use Rattle.lc_rows.specs.Kept.{IsKept}
 
@@ -15,9 +16,12 @@ pub record IsOfWalk (lists : List ℕ → Listings) (gives : List ℕ → Conten
   pub walked : Walks lists gives o (Ok whole)
   pub kept : IsKept conditions whole r
 
--- a sheet by directory is made of the files, so the walk must list them
+-- a sheet by directory is made of the files, so the walk, and its report, must list them
+abbrev pub HasFilesFor : TableOptions → ReportLists → Type 0
+HasFilesFor options lists = is_some options.by.dir ≡ true → lists.files ≡ true
+
 abbrev pub ListsFilesFor : Options → TableOptions → Type 0
-ListsFilesFor o options = is_some options.by.dir ≡ true → o.lists.files ≡ true
+ListsFilesFor o options = HasFilesFor options o.lists
 
 -- and so is what meets a condition on a number
 abbrev pub ListsFilesToTest : Options → ConditionModel → Type 0

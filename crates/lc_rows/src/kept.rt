@@ -132,6 +132,7 @@ fn keep_by_files(
     requires by_files { needs_files conditions.now ≡ true }
     ensures kept { OnOk result (IsPart conditions.now report.old report.new) }
     ensures faults { report.new.faults ≡ report.old.faults }
+    ensures lists { report.new.lists ≡ report.old.lists }
 {
     keep_files(conditions, &mut report.files);
     let tally = tally_of(alloc, &report.files)?;
@@ -153,6 +154,7 @@ fn keep_by_rows(conditions: &[Condition<'_>], report: &mut Report) -> Result<(),
     ensures kept { OnOk result (IsPart conditions.now report.old report.new) }
     ensures adds_up { report.old.totals ≡ sums_of_rows report.old.rows.items → IsOk result }
     ensures faults { report.new.faults ≡ report.old.faults }
+    ensures lists { report.new.lists ≡ report.old.lists }
 {
     are_in_range(report.totals);
     keep_files(conditions, &mut report.files);
@@ -173,6 +175,7 @@ pub fn keep(
     ensures kept { OnOk result (IsKept conditions.now report.old report.new) }
     ensures adds_up { needs_files conditions.now ≡ false → report.old.totals ≡ sums_of_rows report.old.rows.items → IsOk result }
     ensures faults { report.new.faults ≡ report.old.faults }
+    ensures lists { report.new.lists ≡ report.old.lists }
 {
     if conditions.is_empty() {
         return Ok(());

@@ -4,6 +4,7 @@ ghost use Rattle.std.specs.Prelude.{◌≡◌, if◌then◌else◌, Option, Some
 ghost use Rattle.lc_rows.specs.Sheets.{HasFiles, files_section, form_of, largest, listed_files, others_lines, share_number, shares_of};
 ghost use Rattle.lc_rows.specs.Sheets.{sheet_of, totals_lines};
 ghost use Rattle.lc_rows.specs.Views.{first_of, rest_of, sums_of_some, view_of};
+ghost use Rattle.lc_rows.specs.WalkedReports.{HasFilesFor};
 
 use crate::classes::{ClassSums, some_binary};
 use crate::columns::{
@@ -156,6 +157,7 @@ impl<'a> Shown<'a> {
         report: &'a Report,
         options: &TableOptions,
     ) -> Result<Shown<'a>, AllocError>
+        requires files { HasFilesFor options.now report.now.lists }
         ensures { IfOk result (λ shown. HasFiles options.now report.entry.now report.entry.now.files.items shown) }
     {
         let rows = shown_rows(alloc, &report.rows, &report.files, options.by, options.sort)?;

@@ -1,5 +1,7 @@
 //! The sheet of a report: a value of each kind, in the order of the columns.
 
+ghost use Rattle.std.specs.Prelude.{◌≡◌, true, IfOk};
+
 use crate::rows::files::{BY_DIRECTORY, File, NONE, file_lines, sums};
 use lc_census::Eol;
 use lc_level::{FaultWord, Reason};
@@ -62,7 +64,9 @@ read src/locked
 
 ";
 
-fn report(alloc: Global) -> Result<Report, AllocError> {
+fn report(alloc: Global) -> Result<Report, AllocError>
+    ensures { IfOk result (λ report. report.lists.files ≡ true) }
+{
     let mut skipped = Vec::new(alloc);
     skipped.push(SkippedLine {
         path: b"src/gen".to_vec(alloc)?,

@@ -1,6 +1,17 @@
+use Rattle.std.proofs.Common.{ap, ◌∙◌}
+use Rattle.lc_walk.proofs.ReportTotals.{walked_lists}
 use Rattle.lc_walk.specs.Walks.{Walks}
+use Rattle.lc_walk.specs.declared.options.ReportLists.{ReportLists}
 use Rattle.lc_program.proofs.Stopping.{run_stops}
 use Rattle.lc_program.proofs.runs.run.Goals as goal
+
+-- the report has the lists that were asked for
+pub table-requires : goal.table-requires
+table-requires g c = record {
+  files = λ by.
+      ap (λ (l : ReportLists). l.files) (walked_lists (g.T.Tree.lists c.args.tree.now) (g.T.Tree.gives c.args.tree.now)
+      c.args.options.now c.in_ok-report.report c.in_ok-report.ensures) ∙ c.requires.files by;
+}
 
 pub returns-in_err-table : goal.returns-in_err-table
 returns-in_err-table g c =
