@@ -1,8 +1,7 @@
 //! Which attributes the attribute files of a tree name.
 
-ghost use Rattle.std.specs.Prelude.{◌≡◌, map, IfOk, OnOk};
-ghost use Rattle.lc_level.specs.Filters.{attribute_of};
-ghost use Rattle.lc_level.specs.NamedAttributes.{AddsAtMost, AreSomeAttributes, noted};
+ghost use Rattle.std.specs.Prelude.{◌≡◌, IfOk, OnOk};
+ghost use Rattle.lc_level.specs.NamedAttributes.{AddsAtMost, AreSomeAttributes, attributes_of, noted};
 
 use lc_glob::cut_at_first;
 use memchr::memmem;
@@ -48,7 +47,7 @@ impl NotedWord {
 impl NamedAttributes {
     /// Takes words, each of them `ATTR` or `ATTR=VALUE`. No attribute is named yet.
     pub fn new(alloc: Global, words: &[&str]) -> Result<NamedAttributes, AllocError>
-        ensures { IfOk result (λ named. noted named ≡ map (λ word. attribute_of word.now) words.now) }
+        ensures { IfOk result (λ named. noted named ≡ attributes_of words.now) }
     {
         let mut noted = Vec::with_capacity(alloc, words.len())?;
         for word in words {

@@ -9,6 +9,7 @@ use Rattle.lc_arguments.specs.declared.count.CountRequest.{CountRequest}
 use Rattle.lc_io.specs.Reads.{Answer}
 use Rattle.lc_io.specs.declared.source.Failed.{Failed}
 use Rattle.lc_level.specs.Filters.{FiltersModel}
+use Rattle.lc_level.specs.NamedAttributes.{attributes_of}
 use Rattle.lc_program.specs.Runs.{AnswersRun}
 use Rattle.lc_program.specs.declared.runs.RunFault.{RunFault}
 use Rattle.lc_tree.specs.declared.file_systems.FileSystems.{FileSystems}
@@ -22,7 +23,6 @@ use Rattle.lc_program.specs.PathLists.{AnswersWanted, GivesList}
 use Rattle.lc_program.specs.Replies.{IsRunReply, Reply}
 use Rattle.lc_program.specs.Filters.{Excludes, LacksRules, filters_of}
 use Rattle.lc_program.specs.Styles.{end_for}
-use Rattle.lc_program.specs.Unnamed.{attributes_of}
 use Rattle.lc_program.specs.Systems.{SystemMay}
 use Rattle.lc_program.specs.declared.cause.Cause.{Cause}
 use Rattle.lc_program.specs.declared.cause.Cause.TheVariants.{Memory}
@@ -55,7 +55,7 @@ module _ (may : SystemMay) {I O : Type 0} (may_give : I → ℕ → Answer → I
       (text : Option (List ℕ)) × Excludes may.hold c.filters.exclude_from text
       × ((paths : Vec (Bor (List ℕ)) Global) × AnswersPathsOf input (Ok paths) read
       × ((o : Options) × IsAskedBy c (filters_of c.filters text (map (λ path. path.now) paths.items)) o
-      × ((answer : Result Report RunFault) × IsRunReply (attributes_of c.filters) answer reply
+      × ((answer : Result Report RunFault) × IsRunReply (attributes_of c.filters.without.items) answer reply
       × AnswersRun may_take (Walks (may.list c.directory.now (entered_by c)) (may.give c.directory.now (entered_by c)) o)
       c.conditions.items (options_in other c.table) out answer wrote)))
 

@@ -1,9 +1,6 @@
 -- The lines that tell of attributes which no attribute file names.
-use Rattle.std.specs.Prelude.{◌≡◌, ℕ, List, ◌++◌, Vec, flat_map, map, codes}
-use Rattle.std.specs.Borrow.{Bor}
+use Rattle.std.specs.Prelude.{◌≡◌, ℕ, List, ◌++◌, Vec, flat_map, codes}
 use Rattle.std.specs.Global.{Global}
-use Rattle.lc_arguments.specs.declared.filter_request.FilterRequest.{FilterRequest}
-use Rattle.lc_level.specs.Filters.{attribute_of}
 use Rattle.lc_level.specs.NamedAttributes.{AreSomeAttributes}
 use Rattle.lc_text.specs.Visible.{visible_bytes}
 
@@ -19,7 +16,3 @@ unnamed_lines_of attributes = flat_map (λ (a : Vec ℕ Global). unnamed_line a.
 abbrev pub AreUnnamedLines : List (List ℕ) → List ℕ → Type 0
 AreUnnamedLines attributes text =
     (told : List (Vec ℕ Global)) × AreSomeAttributes attributes told × (text ≡ unnamed_lines_of told)
-
--- the attributes of the words of `--without`
-abbrev pub attributes_of : FilterRequest → List (List ℕ)
-attributes_of f = map (λ (word : Bor (List ℕ)). attribute_of word.now) f.without.items

@@ -1,7 +1,6 @@
 use Rattle.std.proofs.Common.{◌∙◌, ℕ, List, ap, inl, inr, map, refl, string_bytes, subst}
-use Rattle.std.specs.Borrow.{Bor}
-use Rattle.lc_level.specs.Filters.{attribute_of}
-use Rattle.lc_program.specs.Unnamed.{AreUnnamedLines, attributes_of}
+use Rattle.lc_level.specs.NamedAttributes.{attributes_of}
+use Rattle.lc_program.specs.Unnamed.{AreUnnamedLines}
 use Rattle.lc_program.proofs.FiltersAsked.{asked_by_all, memory_wanted}
 use Rattle.lc_program.proofs.Loading.{given_up, run_counted, run_replied}
 use Rattle.lc_program.specs.declared.cause.Cause.TheVariants.{Memory}
@@ -85,7 +84,7 @@ returns-in_err-report g c =
               c.in_ok-filters.ensures.2 (ap (map (λ path. path.now)) c.as_slice.ensures.value),
           (
             c.run.result,
-            run_replied (attributes_of c.args.asked.now.filters) c.from_residual-in_err-report.result c.run.result
+            run_replied (attributes_of c.args.asked.now.filters.without.items) c.from_residual-in_err-report.result c.run.result
                 c.in_err-report.field-0.0 c.from_residual-in_err-report.ensures.1 c.in_err-report.was,
             rw (c.in_ok-tree.ensures, c.entered_by.ensures, c.options.ensures, c.as_slice-conditions.ensures.value) at c.run.ensures,
           ),
@@ -111,9 +110,9 @@ returns g c =
               c.in_ok-filters.ensures.2 (ap (map (λ path. path.now)) c.as_slice.ensures.value),
           (
             c.run.result,
-            run_counted (attributes_of c.args.asked.now.filters) c.run.result c.in_ok-report.report c.unnamed_lines-unnamed.result
+            run_counted (attributes_of c.args.asked.now.filters.without.items) c.run.result c.in_ok-report.report c.unnamed_lines-unnamed.result
                 (subst (λ (l : List (List ℕ)). AreUnnamedLines l (string_bytes c.unnamed_lines-unnamed.result))
-                (c.in_ok-named.ensures ∙ ap (map (λ (word : Bor (List ℕ)). attribute_of word.now)) c.deref.ensures.value)
+                (c.in_ok-named.ensures ∙ ap attributes_of c.deref.ensures.value)
                 c.unnamed_lines-unnamed.ensures)
                 c.in_ok-report.was,
             rw (c.in_ok-tree.ensures, c.entered_by.ensures, c.options.ensures, c.as_slice-conditions.ensures.value) at c.run.ensures,
