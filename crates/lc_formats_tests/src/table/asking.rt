@@ -1,6 +1,6 @@
 //! Runs as the tests ask for them, and their tables.
 
-ghost use Rattle.std.specs.Prelude.{◌≤◌};
+ghost use Rattle.std.specs.Prelude.{◌≡◌, ◌≤◌, false, is_some};
 ghost use Rattle.lc_walk.specs.WalkOptions.{AreWithinLimits};
 
 use lc_board::{Locked, Shared, Words};
@@ -119,7 +119,9 @@ fn options_of<'o>(
 }
 
 /// The options of a table of a report with these lists.
-pub(super) fn listing(lists: ReportLists) -> TableOptions {
+pub(super) fn listing(lists: ReportLists) -> TableOptions
+    ensures { is_some result.by.dir ≡ false }
+{
     TableOptions {
         files: lists.files,
         ..TSV
@@ -127,7 +129,9 @@ pub(super) fn listing(lists: ReportLists) -> TableOptions {
 }
 
 /// The options of a report of which all is shown.
-pub(super) fn showing_all(table: TableOptions) -> ReportOptions<'static> {
+pub(super) fn showing_all(table: TableOptions) -> ReportOptions<'static>
+    ensures { result.table ≡ table }
+{
     ReportOptions {
         table,
         conditions: &[],

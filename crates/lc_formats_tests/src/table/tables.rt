@@ -227,7 +227,7 @@ fn is_made_of(text: &[u8], (header, rows, below): Parts<'_>) -> bool {
     rest.strip_prefix(rows) == Some(below)
 }
 
-/// Whether the table of a report with these options is these parts, one after the other.
+/// Whether the table of a report with these options is these parts, one after the other. Rows by directory need its files.
 pub(super) fn has_parts(
     alloc: Global,
     report: Report,
@@ -235,6 +235,9 @@ pub(super) fn has_parts(
     parts: Parts<'_>,
 ) -> Result<bool, AllocError> {
     let mut report = report;
+    if options.by.dir.is_some() && !report.lists.files {
+        return Ok(false);
+    }
     let text = report_text(alloc, &mut report, options)?;
     Ok(is_made_of(&text, parts))
 }
