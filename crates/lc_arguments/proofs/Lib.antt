@@ -5,3 +5,4 @@ mod CommandRules
 mod ReadValues
 mod WordFaults
 pub mod ColumnNames
+mod Paragraphs

@@ -82,10 +82,21 @@ QuotesSome (word ∷ words) text = HasSubslice text (codes "'" ++ (visible_bytes
 unfoldable pub NamesOne : List (List ℕ) → List ℕ → Type 0
 NamesOne words text = QuotesSome words text ⊎ NamesSome options text
 
+-- the first paragraph of a text: no empty line is in it, and the text ends with it, or an empty line follows
+pub record IsFirstParagraph (text problem : List ℕ) : Type 0 where
+  pub one : HasSubslice problem (codes "\n\n") → ⊥
+  pub first : (text ≡ problem) ⊎ ((rest : List ℕ) × (text ≡ problem ++ (codes "\n\n" ++ rest)))
+
+-- the first paragraph of a usage error names an argument
+pub record IsNamingError (words : List (List ℕ)) (text : List ℕ) : Type 0 where
+  pub problem : List ℕ
+  pub first : IsFirstParagraph text problem
+  pub names : NamesOne words problem
+
 -- ---- both
 
 -- what is written of words that ask for no request
 abbrev pub NamesArguments : List (List ℕ) → ParseExit → Type 0
 NamesArguments words (Shown text) = IsTextOf (named_command words) (string_bytes text)
-NamesArguments words (Refused why) = NamesOne words (string_bytes why)
+NamesArguments words (Refused why) = IsNamingError words (string_bytes why)
 NamesArguments words Memory = ⊤

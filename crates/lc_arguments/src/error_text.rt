@@ -1,12 +1,16 @@
 //! The texts of usage errors.
 
+ghost use Rattle.lc_arguments.specs.Naming.{IsFirstParagraph};
+
 use crate::option_row::{Completes, Kind, OptionRow};
 use crate::options_table::options;
 use crate::suggestions::Advice;
 use std::alloc::{AllocError, Global};
 
 /// Returns what is wrong with the arguments: the first paragraph of clap's text.
-pub(crate) fn problem_of(text: &str) -> &str {
+pub(crate) fn problem_of(text: &str) -> &str
+    ensures { IsFirstParagraph text.now result.now }
+{
     match text.split_once("\n\n") {
         Some((problem, _)) => problem,
         None => text,

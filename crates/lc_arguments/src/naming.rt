@@ -2,11 +2,12 @@
 
 ghost use Rattle.std.specs.Prelude.{◌≡◌, ◌++◌, IfOk, OnOk, codes, map, string_bytes, true};
 ghost use Rattle.std.specs.Str.Iter.{HasSubslice};
-ghost use Rattle.lc_arguments.specs.Naming.{IsTextOf, Names, NamesAll, NamesOne, NamesSome, QuotesSome, is_telling};
+ghost use Rattle.lc_arguments.specs.Naming.{IsNamingError, IsTextOf, Names, NamesAll, NamesOne, NamesSome, QuotesSome, is_telling};
 ghost use Rattle.lc_arguments.specs.Naming.{mark_after, mark_before, named_by, named_command};
 ghost use Rattle.lc_arguments.specs.Options.{is_of, option_model};
 ghost use Rattle.lc_text.specs.Visible.{visible_bytes};
 
+use crate::error_text::problem_of;
 use crate::first_word::count_words;
 use crate::option_row::{Kind, OptionRow, Subcommand};
 use crate::options_table::options;
@@ -149,12 +150,8 @@ fn quotes_some<W: AsStr>(alloc: Global, text: &str, words: &[W]) -> Result<bool,
     Ok(false)
 }
 
-/// Returns whether a usage error names an argument: one that was typed, in quotes, or one of the table.
-pub(crate) fn names_one<W: AsStr>(
-    alloc: Global,
-    text: &str,
-    words: &[W],
-) -> Result<bool, AllocError>
+/// Returns whether a text names an argument: one that was typed, in quotes, or one of the table.
+fn names_one<W: AsStr>(alloc: Global, text: &str, words: &[W]) -> Result<bool, AllocError>
     ensures { IfOk result (λ named. named ≡ true → NamesOne (map W.text words.now) text.now) }
 {
     let quoted = quotes_some(alloc, text, words)?;
@@ -164,19 +161,32 @@ pub(crate) fn names_one<W: AsStr>(
     names_some(alloc, text, options())
 }
 
-/// Makes a usage error with all that was typed at its end.
+/// Returns whether the first paragraph of a usage error names an argument.
+pub(crate) fn is_naming_error<W: AsStr>(
+    alloc: Global,
+    text: &str,
+    words: &[W],
+) -> Result<bool, AllocError>
+    ensures { IfOk result (λ named. named ≡ true → IsNamingError (map W.text words.now) text.now) }
+{
+    names_one(alloc, problem_of(text), words)
+}
+
+/// Makes a usage error with all that was typed at the end of its first paragraph.
 pub(crate) fn with_words<W: AsStr>(
     alloc: Global,
     text: &str,
     words: &[W],
 ) -> Result<String, AllocError> {
-    let mut more = String::from_str(alloc, text)?;
-    more.push_str("\nArguments:")?;
+    let (problem, rest) = text.split_once("\n\n").unwrap_or((text, ""));
+    let mut more = String::from_str(alloc, problem)?;
+    more.push_str("\n  arguments:")?;
     for word in words {
         more.push_str(" ")?;
         push_in_quotes(&mut more, word.as_str())?;
     }
-    more.push_str("\n")?;
+    more.push_str("\n\n")?;
+    more.push_str(rest)?;
     Ok(more)
 }
 

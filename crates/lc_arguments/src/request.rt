@@ -4,7 +4,7 @@ ghost use Rattle.std.specs.Prelude.{◌≡◌, IfErr, IfOk, map, string_bytes};
 ghost use Rattle.lc_arguments.specs.CommandLine.{bare_lc_app, lc_app, subcommand_apps};
 ghost use Rattle.lc_arguments.specs.CountArgs.{AreCommandsOf, IsCommandOf};
 ghost use Rattle.lc_arguments.specs.Explained.{Explains, IsRefusal, AnswersOthers};
-ghost use Rattle.lc_arguments.specs.Naming.{IsTextOf, NamesArguments, NamesOne, named_command};
+ghost use Rattle.lc_arguments.specs.Naming.{IsNamingError, IsTextOf, NamesArguments, named_command};
 ghost use Rattle.lc_arguments.specs.Refusals.{IsMessage, IsRefusedVisibly};
 ghost use Rattle.lc_arguments.specs.Words.{AnswersWords};
 
@@ -13,7 +13,7 @@ use crate::count::CountRequest;
 use crate::error_text::{advised, number_refused, problem_of, value_refused};
 use crate::explain::ExplainRequest;
 use crate::first_word::count_words;
-use crate::naming::{is_text_of, names_one, with_words};
+use crate::naming::{is_naming_error, is_text_of, with_words};
 use crate::refusals::{message, visible_words};
 use crate::suggestions::Advice;
 use crate::{arguments, check, count, explain, help, suggestions};
@@ -195,20 +195,20 @@ fn refusal<W: AsStr>(alloc: Global, words: &[W], why: &str) -> Result<String, Al
     }
 }
 
-/// Makes a refusal that names an argument. If clap's text names none, as that of `-xz` names the letter alone, all that was typed comes at
-/// its end.
+/// Makes a refusal whose first paragraph names an argument. If clap's text names none, as that of `-xz` names the letter alone, all that was
+/// typed is added.
 fn naming_refusal<W: AsStr>(alloc: Global, words: &[W], why: &str) -> Result<String, AllocError>
     ensures visible { IfOk result (λ text. IsMessage (string_bytes text)) }
-    ensures names { IfOk result (λ text. NamesOne (map W.text words.entry.now) (string_bytes text)) }
+    ensures names { IfOk result (λ text. IsNamingError (map W.text words.entry.now) (string_bytes text)) }
 {
     let first = refusal(alloc, words, why)?;
-    let named = names_one(alloc, &first, words)?;
+    let named = is_naming_error(alloc, &first, words)?;
     if named {
         return Ok(first);
     }
     let more = with_words(alloc, &first, words)?;
     let second = message(alloc, &more)?;
-    let named = names_one(alloc, &second, words)?;
+    let named = is_naming_error(alloc, &second, words)?;
     if named { Ok(second) } else { Err(AllocError) }
 }
 

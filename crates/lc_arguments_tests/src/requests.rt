@@ -274,8 +274,8 @@ const EXITS: &[Case] = &[
     ),
     (
         "count -xz .",
-        "refused: error: unexpected argument '-z' found\n\nUsage: lc count [OPTIONS] [DIR]\n\n\
-         For more information, try '--help'.\n\nExample: lc count .\n\nArguments: 'count' '-xz' '.'\n",
+        "refused: error: unexpected argument '-z' found\n  arguments: 'count' '-xz' '.'\n\nUsage: lc count [OPTIONS] [DIR]\n\n\
+         For more information, try '--help'.\n\nExample: lc count .\n",
     ),
     (
         "count --hidden .",
