@@ -12,8 +12,8 @@ _lc_columns() {
 _lc_options() {
   case $1 in
     count) echo --exclude --exclude-from --include --no-ignore --archive --without --only --only-from --null -0 \
-      --one-file-system -x --files --left-out --where --no-binary --format --by --depth --sort --top --share --threads \
-      -j --max-dirs ;;
+      --one-file-system -x --files --left-out --where --no-binary --format --by --depth --sort --top --share \
+      --fail-if-any --threads -j --max-dirs ;;
     explain) echo --exclude --exclude-from --include --no-ignore --archive --without --null -0 ;;
     check) echo --explain --null -0 ;;
   esac

@@ -49,6 +49,7 @@ complete -c lc -n '__lc_command_is count' -l depth -x -a '1 2 3' -d 'Cut the dir
 complete -c lc -n '__lc_command_is count' -l sort -x -a "name\t'By name' files\t'Most files first' lines\t'Most lines first' blank\t'Most blank lines first' bytes\t'Most bytes first'" -d 'Sort rows and files, largest first, or by name'
 complete -c lc -n '__lc_command_is count' -l top -x -a '10 20 50' -d 'Print only the first rows and files'
 complete -c lc -n '__lc_command_is count' -l share -d 'Also print the share of each row in the total'
+complete -c lc -n '__lc_command_is count' -l fail-if-any -d 'Exit with status 4 if a file is counted'
 complete -c lc -n '__lc_command_is count' -l threads -s j -x -a '1 2 4 8 16' -d 'Number of threads, 1 to 16'
 complete -c lc -n '__lc_command_is count' -l max-dirs -x -a '65536 1048576' -d 'Limit of directories, 1 to 1048576'
 complete -c lc -n '__lc_command_is check' -l explain -d 'Also print the rule that decides'
