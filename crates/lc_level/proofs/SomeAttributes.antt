@@ -39,7 +39,7 @@ pub one_further : (words : List NotedWord) (i : ℕ) (w : NotedWord) (before aft
 one_further words i w before after low is some adds =
     let one : i + 1 ≡ suc i = omega arith in
     let taken : map attribute_in (take (i + 1) words) ≡ map attribute_in (take i words) ++ attribute_in w ∷ [] =
-        ap (λ k. map attribute_in (take k words)) one ∙ ap (map attribute_in) (take-suc words i w low)
-        ∙ map-append attribute_in (take i words) (get_or words i w ∷ [])
-        ∙ ap (λ v. map attribute_in (take i words) ++ attribute_in v ∷ []) (sym is) in
+    ap (λ k. map attribute_in (take k words)) one ∙ ap (map attribute_in) (take-suc words i w low)
+    ∙ map-append attribute_in (take i words) (get_or words i w ∷ [])
+    ∙ ap (λ v. map attribute_in (take i words) ++ attribute_in v ∷ []) (sym is) in
     rw taken (one_more _ (attribute_in w) before after some adds)

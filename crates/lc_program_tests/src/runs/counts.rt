@@ -165,7 +165,13 @@ const CASES: &[Case<'static>] = &[
     Case {
         name: "no_file_meets_the_condition",
         words: &[
-            "count", "--where", "ext=.h", "--by", "ext", "--fail-if-any", "top",
+            "count",
+            "--where",
+            "ext=.h",
+            "--by",
+            "ext",
+            "--fail-if-any",
+            "top",
         ],
         out: b"ext\ttext\teol\tfiles\tlines\tblank\tbytes\n\
                total\t*\t*\t0\t0\t0\t0\n\
