@@ -6,6 +6,7 @@ mod checks;
 mod counts;
 mod endings;
 mod explanations;
+mod failures;
 mod hints;
 mod mem_system;
 mod reasons;

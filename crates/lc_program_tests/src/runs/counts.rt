@@ -150,35 +150,6 @@ const CASES: &[Case<'static>] = &[
         ..WORKED
     },
     Case {
-        name: "a_file_is_a_failure_whatever_is_not_read",
-        top: Sketch::Dir(&[SRC, SHUT]),
-        words: &["count", "--by", "ext", "--fail-if-any", "top"],
-        status: 4,
-        out: b"ext\ttext\teol\tfiles\tlines\tblank\tbytes\n\
-               .c\t*\t*\t1\t1\t0\t8\n\
-               total\t*\t*\t1\t1\t0\t8\n\
-               directories\t3\n\
-               fault\tread\tshut\n",
-        err: b"lc: 1 path could not be read: see the line that begins with fault\n",
-        ..WORKED
-    },
-    Case {
-        name: "no_file_meets_the_condition",
-        words: &[
-            "count",
-            "--where",
-            "ext=.h",
-            "--by",
-            "ext",
-            "--fail-if-any",
-            "top",
-        ],
-        out: b"ext\ttext\teol\tfiles\tlines\tblank\tbytes\n\
-               total\t*\t*\t0\t0\t0\t0\n\
-               directories\t3\n",
-        ..WORKED
-    },
-    Case {
         name: "directories_that_are_not_read_in_json",
         top: Sketch::Dir(&[SHUT, (b"a", Sketch::Closed)]),
         words: &["count", "--by", "ext", "--format", "json", "top"],
