@@ -1,5 +1,5 @@
 -- How the program ends once a request is answered.
-use Rattle.std.proofs.Common.{◌≡◌, Bool, true, false, List, ℕ, inl, refl}
+use Rattle.std.proofs.Common.{Bool, true, false, List, ℕ, inl}
 use Rattle.lc_text.specs.declared.outcome.Outcome.{Outcome}
 use Rattle.lc_text.specs.declared.outcome.Outcome.TheVariants.{Clean, SomeFaults}
 use Rattle.lc_program.specs.Program.{Ends, EndsAnswered, StreamsMay}

@@ -1,4 +1,4 @@
-use Rattle.std.proofs.Common.{List, ℕ, map, take}
+use Rattle.std.proofs.Common.{map, take}
 use Rattle.lc_level.specs.NamedAttributes.{AreSomeAttributes}
 use Rattle.lc_level.specs.declared.named_attributes.NotedWord.{NotedWord}
 use Rattle.lc_level.proofs.named_attributes.NamedAttributes.unnamed.Given as goal
