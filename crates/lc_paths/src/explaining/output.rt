@@ -97,7 +97,7 @@ fn or_dot(path: &[u8]) -> &[u8]
     if path.is_empty() { b"." } else { path }
 }
 
-/// Appends the line of a path below a directory that is at fault.
+/// Appends the line of a path below a directory that has an error.
 fn push_fault(
     text: &mut Vec<u8>,
     style: PathStyle,
@@ -110,7 +110,7 @@ fn push_fault(
     push_answer(text, style, "fault", Some(place), None, or_dot(&path))
 }
 
-/// The output of an explanation: the text that is not written yet, and whether a directory was at fault.
+/// The output of an explanation: the text that is not written yet, and whether a directory had an error.
 #[derive(Drop)]
 pub(crate) struct ExplainOutput {
     pub(crate) block: Block,
