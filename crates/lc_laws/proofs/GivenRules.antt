@@ -102,11 +102,11 @@ one_of (o ∷ older) rule later all = one_of older rule later all.1
 
 all_given : (chain : ChainModel) → ReadsNone chain → AllByRecursion IsGiven (rules_in chain)
 all_given chain none =
-    let info = rules_if InfoExclude chain.info in
+    let info = rules_if (InfoExclude 0) chain.info in
     let tree = joined chain.tree in
     let given = rules_if CommandLine chain.command_line in
     let no_info : AllByRecursion IsGiven info =
-    subst (λ (rules : Option (List RuleModel)). AllByRecursion IsGiven (rules_if InfoExclude rules)) (sym none.info) tt in
+    subst (λ (rules : Option (List RuleModel)). AllByRecursion IsGiven (rules_if (InfoExclude 0) rules)) (sym none.info) tt in
     let no_tree : AllByRecursion IsGiven tree =
     subst (λ (files : List (ℕ × List RuleModel)). AllByRecursion IsGiven (joined files)) (sym none.tree) tt in
     let exclude = rules_if ExcludeFrom chain.exclude in

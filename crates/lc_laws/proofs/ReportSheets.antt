@@ -79,7 +79,7 @@ reason_plain (other_kind Mounted) = refl
 
 name_plain : (source : RuleSource) → IsPlain (source_name source)
 name_plain ExcludeFrom = refl
-name_plain InfoExclude = refl
+name_plain (InfoExclude depth) = refl
 name_plain (Gitignore depth) = refl
 name_plain CommandLine = refl
 
@@ -97,7 +97,7 @@ end_plain (Other Mounted) r = refl
 
 directory_bytes : (p : List ℕ) (source : RuleSource) → AreBytes p → AreBytes (source_directory p source)
 directory_bytes p ExcludeFrom small = All-nil (λ b. b < 256)
-directory_bytes p InfoExclude small = All-nil (λ b. b < 256)
+directory_bytes p (InfoExclude depth) small = All-take (λ b. b < 256) (length p - length (below depth p)) p small
 directory_bytes p (Gitignore depth) small = All-take (λ b. b < 256) (length p - length (below depth p)) p small
 directory_bytes p CommandLine small = All-nil (λ b. b < 256)
 

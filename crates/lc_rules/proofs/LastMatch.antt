@@ -65,7 +65,7 @@ decides_by_last rules path is_dir = (told path is_dir rules, last_decides path i
 -- the command line decides, or else the files
 pub decides_by_command_line : CommandLineLaw
 decides_by_command_line chain path is_dir =
-    let files = rules_if ExcludeFrom chain.exclude ++ rules_if InfoExclude chain.info ++ joined chain.tree in
+    let files = rules_if ExcludeFrom chain.exclude ++ rules_if (InfoExclude 0) chain.info ++ joined chain.tree in
     last_match-append files (rules_if CommandLine chain.command_line) path is_dir
     ∙ ap (λ l. option_or (last_match (rules_if CommandLine chain.command_line) path is_dir) (last_match l path is_dir))
     (sym (append-nil files))

@@ -143,15 +143,15 @@ module _ (files nearer : List (ℕ × List RuleModel)) (d : ℕ) (rules : List R
 -- the command line decides, or else the files of the tree, or else that of `.git/info`, or else the exclude file
 pub chain_decides : (c : ChainModel) (path : List ℕ) (is_dir : Bool) (given tree info exclude : Option (RuleSource × RuleModel))
     → given ≡ last_match (rules_if CommandLine c.command_line) path is_dir
-    → tree ≡ last_match (joined c.tree) path is_dir → info ≡ last_match (rules_if InfoExclude c.info) path is_dir
+    → tree ≡ last_match (joined c.tree) path is_dir → info ≡ last_match (rules_if (InfoExclude 0) c.info) path is_dir
     → exclude ≡ last_match (rules_if ExcludeFrom c.exclude) path is_dir
     → option_or given (option_or tree (option_or info exclude)) ≡ last_match (rules_in c) path is_dir
 chain_decides c path is_dir given tree info exclude by_given by_tree by_info by_exclude =
     ap₂ option_or by_given (ap₂ option_or by_tree (ap₂ option_or by_info by_exclude)
-    ∙ sym (last_match-append (rules_if ExcludeFrom c.exclude ++ rules_if InfoExclude c.info) (joined c.tree) path is_dir
+    ∙ sym (last_match-append (rules_if ExcludeFrom c.exclude ++ rules_if (InfoExclude 0) c.info) (joined c.tree) path is_dir
     ∙ ap (option_or (last_match (joined c.tree) path is_dir))
-    (last_match-append (rules_if ExcludeFrom c.exclude) (rules_if InfoExclude c.info) path is_dir)))
-    ∙ sym (last_match-append (rules_if ExcludeFrom c.exclude ++ rules_if InfoExclude c.info ++ joined c.tree)
+    (last_match-append (rules_if ExcludeFrom c.exclude) (rules_if (InfoExclude 0) c.info) path is_dir)))
+    ∙ sym (last_match-append (rules_if ExcludeFrom c.exclude ++ rules_if (InfoExclude 0) c.info ++ joined c.tree)
     (rules_if CommandLine c.command_line) path is_dir)
 
 -- a file at the top decides as it does alone, by rules of its own source

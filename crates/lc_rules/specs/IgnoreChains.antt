@@ -30,7 +30,7 @@ joined (f ∷ fs) = at_depth f.0 f.1 ++ joined fs
 -- all rules in one list, each file's after those of the files that it overrides
 abbrev pub rules_in : ChainModel → List (RuleSource × RuleModel)
 rules_in chain =
-    rules_if ExcludeFrom chain.exclude ++ rules_if InfoExclude chain.info ++ joined chain.tree ++ rules_if CommandLine chain.command_line
+    rules_if ExcludeFrom chain.exclude ++ rules_if (InfoExclude 0) chain.info ++ joined chain.tree ++ rules_if CommandLine chain.command_line
 
 -- ---- chains as they grow
 

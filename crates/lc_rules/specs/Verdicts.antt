@@ -18,7 +18,7 @@ below (suc depth) path = below depth (after_first (is_byte slash) path)
 -- how deep the directory is of which a file sees what stands below it
 abbrev pub depth_at : RuleSource → ℕ
 depth_at ExcludeFrom = 0
-depth_at InfoExclude = 0
+depth_at (InfoExclude depth) = depth
 depth_at (Gitignore depth) = depth
 depth_at CommandLine = 0
 

@@ -157,7 +157,7 @@ impl Chain {
             return Some((RuleSource::Gitignore(depth), rule));
         }
         if let Some(rule) = last_match_in_file(&self.info, path, is_dir) {
-            return Some((RuleSource::InfoExclude, rule));
+            return Some((RuleSource::InfoExclude(0), rule));
         }
         let rule = last_match_in_file(&self.exclude, path, is_dir)?;
         Some((RuleSource::ExcludeFrom, rule))

@@ -5,8 +5,8 @@
 pub enum RuleSource {
     /// The file of `--exclude-from`, which holds for the whole tree.
     ExcludeFrom,
-    /// The repository's `.git/info/exclude`.
-    InfoExclude,
+    /// The `.git/info/exclude` of the directory whose path has this number of segments: none in a walk, where only the top's is read.
+    InfoExclude(u32),
     /// The `.gitignore` of the directory whose path has this number of segments.
     Gitignore(u32),
     /// The patterns of `--exclude`, one a line, which override those of every file.

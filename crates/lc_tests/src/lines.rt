@@ -73,17 +73,20 @@ pub fn push_kind(text: &mut String, kind: Kind) -> Result<(), AllocError> {
     }
 }
 
-/// Adds the file of a rule. That of a directory has `*/` for each directory above.
+/// Adds a file's name, with `*/` before it for each directory above.
+fn push_below(text: &mut String, depth: u32, name: &str) -> Result<(), AllocError> {
+    for _ in 0..depth {
+        text.push_str("*/")?;
+    }
+    text.push_str(name)
+}
+
+/// Adds the file of a rule, with `*/` for each directory above.
 fn push_source(text: &mut String, source: RuleSource) -> Result<(), AllocError> {
     match source {
         RuleSource::ExcludeFrom => text.push_str("--exclude-from"),
-        RuleSource::InfoExclude => text.push_str(".git/info/exclude"),
-        RuleSource::Gitignore(depth) => {
-            for _ in 0..depth {
-                text.push_str("*/")?;
-            }
-            text.push_str(".gitignore")
-        }
+        RuleSource::InfoExclude(depth) => push_below(text, depth, ".git/info/exclude"),
+        RuleSource::Gitignore(depth) => push_below(text, depth, ".gitignore"),
         RuleSource::CommandLine => text.push_str("--exclude"),
     }
 }

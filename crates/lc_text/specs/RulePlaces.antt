@@ -11,17 +11,17 @@ use Rattle.lc_rules.specs.declared.rule_source.RuleSource.TheVariants.{ExcludeFr
 abbrev pub above : ℕ → List ℕ → List ℕ
 above depth path = take (length path - length (below depth path)) path
 
--- the directory of the file of a rule that decides a path: nothing where the file has one path in each tree, and of the command line
+-- the directory that has the file of a rule that decides a path, or the `.git` of that file; nothing for the command line's
 abbrev pub source_directory : List ℕ → RuleSource → List ℕ
 source_directory path ExcludeFrom = []
-source_directory path InfoExclude = []
+source_directory path (InfoExclude depth) = above depth path
 source_directory path (Gitignore depth) = above depth path
 source_directory path CommandLine = []
 
 -- the file, seen from there
 abbrev pub source_name : RuleSource → List ℕ
 source_name ExcludeFrom = codes "--exclude-from"
-source_name InfoExclude = codes ".git/info/exclude"
+source_name (InfoExclude depth) = codes ".git/info/exclude"
 source_name (Gitignore depth) = codes ".gitignore"
 source_name CommandLine = codes "--exclude"
 

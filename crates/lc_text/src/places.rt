@@ -48,8 +48,8 @@ pub fn source_directory(path: &[u8], source: RuleSource) -> &[u8]
     ensures { result.now ≡ source_directory path.now source }
 {
     match source {
-        RuleSource::ExcludeFrom | RuleSource::InfoExclude | RuleSource::CommandLine => &[],
-        RuleSource::Gitignore(depth) => above(path, depth),
+        RuleSource::ExcludeFrom | RuleSource::CommandLine => &[],
+        RuleSource::InfoExclude(depth) | RuleSource::Gitignore(depth) => above(path, depth),
     }
 }
 
@@ -59,7 +59,7 @@ pub fn source_name(source: RuleSource) -> &'static str
 {
     match source {
         RuleSource::ExcludeFrom => "--exclude-from",
-        RuleSource::InfoExclude => ".git/info/exclude",
+        RuleSource::InfoExclude(_) => ".git/info/exclude",
         RuleSource::Gitignore(_) => ".gitignore",
         RuleSource::CommandLine => "--exclude",
     }

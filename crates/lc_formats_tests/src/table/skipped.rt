@@ -28,7 +28,7 @@ const LEFT: &[(&[u8], Kind, Why)] = &[
     (b"docs", Kind::Dir, Why::Attribute(b"export-ignore")),
     (b"link.c", Kind::Other(Special), Why::Other(Special)),
     (b"mnt", Kind::Other(Mounted), Why::Other(Mounted)),
-    (b"notes.txt", Kind::File, Why::Rule(InfoExclude, 2)),
+    (b"notes.txt", Kind::File, Why::Rule(InfoExclude(0), 2)),
     (b"src/gen", Kind::Dir, Why::Rule(Gitignore(1), 3)),
     (b"x.bak", Kind::File, Why::Rule(ExcludeFrom, 7)),
 ];

@@ -122,7 +122,7 @@ fn attribute(alloc: Global, name: &[u8]) -> Result<Reason, AllocError> {
 }
 
 const INFO_RULE: Reason = Reason::Rule {
-    source: RuleSource::InfoExclude,
+    source: RuleSource::InfoExclude(0),
     line: 7,
 };
 

@@ -82,6 +82,6 @@ text_at text (Some directory) = text_or_none (text directory)
 -- the text of the rules of this source; empty where there are none
 abbrev pub text_in : FiltersModel → DirStack → RuleSource → List ℕ
 text_in f stack ExcludeFrom = text_or_none f.exclude_from
-text_in f stack InfoExclude = text_at (λ d. d.info) (slice_get stack 0)
+text_in f stack (InfoExclude depth) = text_at (λ d. d.info) (slice_get stack depth)
 text_in f stack (Gitignore depth) = text_at (λ d. d.own) (slice_get stack depth)
 text_in f stack CommandLine = text_or_none f.exclude

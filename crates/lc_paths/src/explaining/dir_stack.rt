@@ -115,8 +115,8 @@ impl DirStack {
         ensures { result.now ≡ text_in filters.entry.now self.now source }
     {
         match source {
-            RuleSource::InfoExclude => match self.directories.first() {
-                Some(top) => text_or_none(&top.info),
+            RuleSource::InfoExclude(depth) => match self.directories.get(depth as usize) {
+                Some(directory) => text_or_none(&directory.info),
                 None => &[],
             },
             RuleSource::Gitignore(depth) => match self.directories.get(depth as usize) {

@@ -22,6 +22,6 @@ pub(crate) fn top_text<'f>(filters: &'f Filters<'_>, source: RuleSource) -> &'f 
     match source {
         RuleSource::ExcludeFrom => text_or_none(&filters.exclude_from),
         RuleSource::CommandLine => text_or_none(&filters.exclude),
-        RuleSource::InfoExclude | RuleSource::Gitignore(_) => &[],
+        RuleSource::InfoExclude(_) | RuleSource::Gitignore(_) => &[],
     }
 }

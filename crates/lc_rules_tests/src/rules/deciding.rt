@@ -114,7 +114,7 @@ const NEARER: &[Place] = &[
     (b"s/j.t", Some((RuleSource::Gitignore(0), 2))),
     (b"s/u.c", Some((RuleSource::Gitignore(1), 5))),
     (b"s/v/u.c", Some((RuleSource::Gitignore(0), 3))),
-    (b"s/a.p", Some((RuleSource::InfoExclude, 2))),
+    (b"s/a.p", Some((RuleSource::InfoExclude(0), 2))),
     (b"s/a.o", Some((RuleSource::ExcludeFrom, 1))),
     (b"s/u", None),
 ];
@@ -155,7 +155,7 @@ const BY_PATTERNS: &[Place] = &[
     (b"s/k.t", Some((RuleSource::CommandLine, 1))),
     (b"s/keep.c", Some((RuleSource::CommandLine, 2))),
     (b"s/a.p", Some((RuleSource::CommandLine, 3))),
-    (b"a.p", Some((RuleSource::InfoExclude, 1))),
+    (b"a.p", Some((RuleSource::InfoExclude(0), 1))),
     (b"s/u.c", Some((RuleSource::Gitignore(0), 2))),
     (b"s/a.o", Some((RuleSource::ExcludeFrom, 1))),
     (b"s/u", None),

@@ -41,9 +41,16 @@ const CASES: &[Case] = &[
     (
         "git_info",
         b"notes.txt",
-        InfoExclude,
+        InfoExclude(0),
         2,
         b".git/info/exclude:2",
+    ),
+    (
+        "git_info_below",
+        b"../lib/notes.txt",
+        InfoExclude(2),
+        7,
+        b"../lib/.git/info/exclude:7",
     ),
     (
         "exclude_file",

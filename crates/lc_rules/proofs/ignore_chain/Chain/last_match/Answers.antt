@@ -35,9 +35,9 @@ pub returns-in-Some-last_match_in_file : goal.returns-in-Some-last_match_in_file
 returns-in-Some-last_match_in_file c =
     chain_decides (seen c.self.inside.exclude c.self.inside.info c.self.inside.tree c.self.inside.command_line c.self.inside.no_ignore)
     c.args.path.now
-    c.args.is_dir None None (Some (InfoExclude, c.in-Some-last_match_in_file.rule.now)) _ (c.in_default.ensures CommandLine refl)
+    c.args.is_dir None None (Some (InfoExclude 0, c.in-Some-last_match_in_file.rule.now)) _ (c.in_default.ensures CommandLine refl)
     (c.in_default-by_tree.ensures ∙ ap₂ (λ f p. last_match (joined f) p c.args.is_dir) c.left.ensures c.new.ensures)
-    (c.in-Some-last_match_in_file.ensures InfoExclude refl) refl
+    (c.in-Some-last_match_in_file.ensures (InfoExclude 0) refl) refl
     ∙ ap (λ m. last_match (rules_in m) c.args.path.now c.args.is_dir) c.self.view_is
 
 pub returns-in_err-rule : goal.returns-in_err-rule
@@ -47,7 +47,7 @@ returns-in_err-rule c =
     c.args.path.now
     c.args.is_dir None None None None (c.in_default.ensures CommandLine refl)
     (c.in_default-by_tree.ensures ∙ ap₂ (λ f p. last_match (joined f) p c.args.is_dir) c.left.ensures c.new.ensures)
-    (c.in_default-last_match_in_file.ensures InfoExclude refl) (c.in_err-rule.ensures ExcludeFrom refl)
+    (c.in_default-last_match_in_file.ensures (InfoExclude 0) refl) (c.in_err-rule.ensures ExcludeFrom refl)
     ∙ ap (λ m. last_match (rules_in m) c.args.path.now c.args.is_dir) c.self.view_is
 
 pub returns : goal.returns
@@ -56,5 +56,5 @@ returns c =
     c.args.path.now
     c.args.is_dir None None None (Some (ExcludeFrom, c.in_ok-rule.rule.now)) (c.in_default.ensures CommandLine refl)
     (c.in_default-by_tree.ensures ∙ ap₂ (λ f p. last_match (joined f) p c.args.is_dir) c.left.ensures c.new.ensures)
-    (c.in_default-last_match_in_file.ensures InfoExclude refl) (c.in_ok-rule.ensures ExcludeFrom refl)
+    (c.in_default-last_match_in_file.ensures (InfoExclude 0) refl) (c.in_ok-rule.ensures ExcludeFrom refl)
     ∙ ap (λ m. last_match (rules_in m) c.args.path.now c.args.is_dir) c.self.view_is
