@@ -27,7 +27,7 @@ range_of_part a b s is r c same = record {
 }
 
 -- sums over one row more at the front
-sums_cons : (x : TallyRowModel) (xs : List TallyRowModel) → sums_of_rows (x ∷ xs) ≡ plus x.sums (sums_of_rows xs)
+pub sums_cons : (x : TallyRowModel) (xs : List TallyRowModel) → sums_of_rows (x ∷ xs) ≡ plus x.sums (sums_of_rows xs)
 sums_cons x xs = same_sums _ _ (sum_by-cons (λ (r : TallyRowModel). r.sums.files) x xs)
     (sum_by-cons (λ (r : TallyRowModel). r.sums.lines) x xs) (sum_by-cons (λ (r : TallyRowModel). r.sums.blank) x xs)
     (sum_by-cons (λ (r : TallyRowModel). r.sums.bytes) x xs)

@@ -38,6 +38,7 @@ pub mod Reach
 pub mod Reports
 pub mod RowEnds
 pub mod RowSums
+pub mod SumsInTurn
 pub mod RowTrees
 pub mod SameWalks
 pub mod RulesThatIgnore

@@ -33,10 +33,10 @@ pub use laws::{
     walk_examples_hold,
 };
 pub use options::{Options, ReportLists};
-pub use report::{FaultLine, FileLine, Findings, Report, SkippedLine, assemble};
+pub use report::{FaultLine, FileLine, Findings, Report, SkippedLine, assemble, sort_lines};
 pub use row::{BrokenRow, Child, FaultedRow, ListedParts, ListedRow, Row};
 pub use served_job::ServedJob;
-pub use tally::{KeyRef, Sums, Tally, TallyRow, extension};
+pub use tally::{KeyRef, Sums, Tally, TallyRow, added_up, extension};
 pub use walk_fault::WalkFault;
 pub use walking::{walk, walk_on};
 pub use worker::{StopReason, Worker, WorkerResult};

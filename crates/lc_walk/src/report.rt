@@ -75,7 +75,11 @@ impl Report {
 }
 
 /// Sorts lines by the bytes of their paths, in place.
-fn sort_lines<L: Line>(lines: &mut Vec<L>)
+///
+/// ```
+/// sort_lines(&mut report.files);
+/// ```
+pub fn sort_lines<L: Line>(lines: &mut Vec<L>)
     ensures same { IsPermutation lines.old.items lines.new.items }
     ensures order { IsSortedByKey L.path_of bytes_cmp lines.new.items }
     ensures strict { AreApart (map L.path_of lines.old.items) → AreInOrder (map L.path_of lines.new.items) }

@@ -2,7 +2,7 @@
 //!
 //! - `extensions`: the extension of a file's name
 //! - `key`, `sums`, `tally_row`: a row for each key, with its sums
-//! - `keyed_rows`: the rows by their keys; `row_hints`: where a key's row stood last
+//! - `keyed_rows`: the rows by their keys; `row_hints`: where a key's row stood last; `row_sums`: the sums over rows of several tallies
 ghost use Rattle.std.specs.Prelude.{◌≡◌, ◌+◌, ◌<◌, ◌≤◌, ◌^◌, List, [], ◌∷◌, ◌++◌, option_map, IfOk, IsOk, IsTrue, OnOk, OnErr};
 ghost use Rattle.lc_walk.specs.TallyRows.{AddsUp, has_row};
 ghost use Rattle.lc_walk.specs.Sums.{IsModest};
@@ -12,6 +12,7 @@ mod extensions;
 mod key;
 mod keyed_rows;
 mod row_hints;
+mod row_sums;
 mod sums;
 mod tally_row;
 
@@ -20,6 +21,7 @@ pub use key::KeyRef;
 use keyed_rows::KeyedRows;
 use lc_census::Count;
 use lc_rules::TextState;
+pub use row_sums::added_up;
 use std::alloc::{AllocError, Global};
 use std::marker::Model;
 pub use sums::Sums;

@@ -193,7 +193,7 @@ fn copies_of(rows: &Vec<TallyRow>) -> Result<Vec<TallyRow>, AllocError>
 }
 
 // Sorts the rows, and makes one row of those of each key.
-fn add_up(rows: &mut Vec<TallyRow>)
+pub(crate) fn add_up(rows: &mut Vec<TallyRow>)
     requires { IsInRange (sums_of_rows rows.old.items) }
     ensures { AddsUp rows.old.items rows.new.items }
 {

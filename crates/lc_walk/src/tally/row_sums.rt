@@ -1,0 +1,34 @@
+//! The sums over rows of several tallies.
+ghost use Rattle.std.specs.Prelude.{◌≡◌, MatchOption};
+ghost use Rattle.lc_walk.specs.Sums.{IsInRange};
+ghost use Rattle.lc_walk.specs.TallyRows.{AddsUp, sums_of_rows};
+
+use crate::tally::keyed_rows::add_up;
+use crate::tally::sums::Sums;
+use crate::tally::tally_row::TallyRow;
+
+/// The sums over all rows, if each fits its type.
+fn sums_of_rows(rows: &[TallyRow]) -> Option<Sums>
+    ensures { MatchOption result (IsInRange (sums_of_rows rows.now) → ⊥) (λ sums. sums ≡ sums_of_rows rows.now) }
+{
+    let mut sums = Sums::none();
+    let mut rest = rows;
+    'rows: while let Some((row, others)) = rest.split_first() {
+        sums = sums.checked_add(row.sums())?;
+        rest = others;
+    }
+    Some(sums)
+}
+
+/// Makes one row of those of each key, in order of the keys, if the sums over all rows fit their types. It takes no memory.
+///
+/// ```
+/// let rows = added_up(rows)?;
+/// ```
+pub fn added_up(mut rows: Vec<TallyRow>) -> Option<Vec<TallyRow>>
+    ensures { MatchOption result (IsInRange (sums_of_rows rows.items) → ⊥) (λ added. AddsUp rows.items added.items) }
+{
+    sums_of_rows(&rows)?;
+    add_up(&mut rows);
+    Some(rows)
+}
