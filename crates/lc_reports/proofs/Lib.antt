@@ -1,0 +1,7 @@
+pub mod AddedTotals
+pub mod Gathering
+pub mod LineOrders
+pub mod NamedPaths
+pub mod NumbersInTurn
+pub mod Orders
+pub mod Uniting

@@ -1,0 +1,46 @@
+-- What is gathered of several reports before they are joined.
+use Rattle.std.specs.Prelude.{◌≡◌, ℕ, ◌+◌, ◌<◌, ◌^◌, List, ◌++◌}
+use Rattle.lc_reports.specs.Joined.{all_rows, all_files, all_faults, all_skipped, all_totals, all_directories, all_entries, if_wanted}
+use Rattle.lc_reports.specs.declared.gathered.Gathered.{Gathered}
+use Rattle.lc_reports.specs.declared.gathered.Numbers.{Numbers}
+use Rattle.lc_walk.specs.Sums.{IsInRange, no_files, plus}
+use Rattle.lc_walk.specs.declared.options.ReportLists.{ReportLists}
+use Rattle.lc_walk.specs.declared.report.Report.{Report}
+
+-- ---- numbers
+
+abbrev pub no_numbers : Numbers
+no_numbers = record { totals = no_files; directories = 0; entries = 0 }
+
+-- the sums of these numbers and those of a report
+abbrev pub numbers_with : Numbers → Report → Numbers
+numbers_with n r = record {
+  totals = plus n.totals r.totals;
+  directories = n.directories + r.directories;
+  entries = n.entries + r.entries;
+}
+
+abbrev pub numbers_of : List Report → Numbers
+numbers_of rs = record { totals = all_totals rs; directories = all_directories rs; entries = all_entries rs }
+
+-- each fits its type
+pub record NumbersFit (n : Numbers) : Type 0 where
+  pub totals : IsInRange n.totals
+  pub directories : n.directories < 2 ^ 64
+  pub entries : n.entries < 2 ^ 64
+
+-- ---- lines
+
+-- one report more, with these lists
+pub record Adds (lists : ReportLists) (old : Gathered) (r : Report) (new : Gathered) : Type 0 where
+  pub rows : new.rows.items ≡ old.rows.items ++ r.rows.items
+  pub files : new.files.items ≡ old.files.items ++ if_wanted lists.files r.files.items
+  pub faults : new.faults.items ≡ old.faults.items ++ r.faults.items
+  pub skipped : new.skipped.items ≡ old.skipped.items ++ if_wanted lists.left_out r.skipped.items
+
+-- the rows and lines of all of these, with these lists
+pub record IsGathered (lists : ReportLists) (rs : List Report) (g : Gathered) : Type 0 where
+  pub rows : g.rows.items ≡ all_rows rs
+  pub files : g.files.items ≡ if_wanted lists.files (all_files rs)
+  pub faults : g.faults.items ≡ all_faults rs
+  pub skipped : g.skipped.items ≡ if_wanted lists.left_out (all_skipped rs)

@@ -1,0 +1,91 @@
+-- The report of several: what they have together.
+use Rattle.std.specs.Prelude.{◌≡◌, ℕ, ◌<◌, ◌^◌, Bool, List, cond, [], flat_map, sum_by, Result, MatchResult}
+use Rattle.std.specs.List.{Contains, list_all}
+use Rattle.std.specs.List.Sorted.{IsPermutation, IsSortedByKey, IsStrictlySortedBy}
+use Rattle.std.specs.declared.cmp.Ordering.{Ordering}
+use Rattle.lc_level.specs.FaultLines.{FaultLineModel}
+use Rattle.lc_level.specs.Level.{FileLineModel, SkippedLineModel}
+use Rattle.lc_reports.specs.LineOrder.{fault_cmp, skipped_cmp}
+use Rattle.lc_reports.specs.declared.join_fault.JoinFault.{JoinFault}
+use Rattle.lc_reports.specs.declared.join_fault.JoinFault.TheVariants.{Memory, TooLarge}
+use Rattle.lc_tree.specs.ByteOrder.{bytes_cmp}
+use Rattle.lc_walk.specs.Sums.{IsInRange}
+use Rattle.lc_walk.specs.TallyRows.{TallyRowModel, AddsUp, sums_of_rows}
+use Rattle.lc_walk.specs.declared.options.ReportLists.{ReportLists}
+use Rattle.lc_walk.specs.declared.report.Report.{Report}
+use Rattle.lc_walk.specs.declared.tally.sums.Sums.{Sums}
+
+-- ---- what several reports have, one report after another
+
+abbrev pub all_rows : List Report → List TallyRowModel
+all_rows rs = flat_map (λ (r : Report). r.rows.items) rs
+
+abbrev pub all_files : List Report → List FileLineModel
+all_files rs = flat_map (λ (r : Report). r.files.items) rs
+
+abbrev pub all_faults : List Report → List FaultLineModel
+all_faults rs = flat_map (λ (r : Report). r.faults.items) rs
+
+abbrev pub all_skipped : List Report → List SkippedLineModel
+all_skipped rs = flat_map (λ (r : Report). r.skipped.items) rs
+
+abbrev pub all_totals : List Report → Sums
+all_totals rs = record {
+  files = sum_by (λ (r : Report). r.totals.files) rs;
+  lines = sum_by (λ (r : Report). r.totals.lines) rs;
+  blank = sum_by (λ (r : Report). r.totals.blank) rs;
+  bytes = sum_by (λ (r : Report). r.totals.bytes) rs;
+}
+
+abbrev pub all_directories : List Report → ℕ
+all_directories rs = sum_by (λ (r : Report). r.directories) rs
+
+abbrev pub all_entries : List Report → ℕ
+all_entries rs = sum_by (λ (r : Report). r.entries) rs
+
+-- the lists that each of them has
+abbrev pub shared_lists : List Report → ReportLists
+shared_lists rs = record {
+  files = list_all (λ (r : Report). r.lists.files) rs;
+  left_out = list_all (λ (r : Report). r.lists.left_out) rs;
+}
+
+-- a list that is wanted, or none
+abbrev pub if_wanted : {X : Type 0} → Bool → List X → List X
+if_wanted wanted xs = cond wanted xs []
+
+-- ---- their report
+
+-- each of these lines once, in order
+pub record IsUnited {X : Type 0} (cmp : X → X → Ordering) (xs united : List X) : Type 0 where
+  pub kept : (x : X) → Contains xs x → Contains united x
+  pub given : (x : X) → Contains united x → Contains xs x
+  pub order : IsStrictlySortedBy cmp united
+
+-- a row for each key, with the sums over the rows of all that have it; the sums of all numbers; and the lists that each of them has: all
+-- files, in order of their paths, and each fault and each skipped entry once, in order
+pub record IsJoined (rs : List Report) (r : Report) : Type 0 where
+  pub rows : AddsUp (all_rows rs) r.rows.items
+  pub totals : r.totals ≡ all_totals rs
+  pub directories : r.directories ≡ all_directories rs
+  pub entries : r.entries ≡ all_entries rs
+  pub lists : r.lists ≡ shared_lists rs
+  pub files : IsPermutation (if_wanted r.lists.files (all_files rs)) r.files.items
+  pub file_order : IsSortedByKey (λ (f : FileLineModel). f.path) bytes_cmp r.files.items
+  pub faults : IsUnited fault_cmp (all_faults rs) r.faults.items
+  pub skipped : IsUnited skipped_cmp (if_wanted r.lists.left_out (all_skipped rs)) r.skipped.items
+
+-- whether each sum fits its type
+pub record Fits (rs : List Report) : Type 0 where
+  pub rows : IsInRange (sums_of_rows (all_rows rs))
+  pub totals : IsInRange (all_totals rs)
+  pub directories : all_directories rs < 2 ^ 64
+  pub entries : all_entries rs < 2 ^ 64
+
+-- why there is none: memory is refused, or some sum does not fit
+abbrev pub IsUnjoined : List Report → JoinFault → Type 0
+IsUnjoined rs Memory = Unit {0}
+IsUnjoined rs TooLarge = Fits rs → ⊥
+
+abbrev pub Joins : List Report → Result Report JoinFault → Type 0
+Joins rs result = MatchResult result (IsJoined rs) (IsUnjoined rs)

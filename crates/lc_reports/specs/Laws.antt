@@ -1,0 +1,42 @@
+-- What is true of named and of joined reports.
+use Rattle.std.specs.Prelude.{◌≡◌, ℕ, ◌<◌, List, ◌∷◌, ◌++◌, length}
+use Rattle.std.specs.List.{All}
+use Rattle.std.specs.List.Sorted.{IsPermutation}
+use Rattle.lc_glob.specs.Bytes.{slash}
+use Rattle.lc_level.specs.Level.{FileLineModel}
+use Rattle.lc_reports.specs.Joined.{IsJoined}
+use Rattle.lc_reports.specs.Named.{IsNamed, named_path, named_source}
+use Rattle.lc_rules.specs.declared.rule_source.RuleSource.{RuleSource}
+use Rattle.lc_rules.specs.declared.rule_source.RuleSource.TheVariants.{InfoExclude, Gitignore}
+use Rattle.lc_text.specs.RulePlaces.{source_directory}
+use Rattle.lc_walk.specs.ReportTotals.{TotalsAddUp}
+use Rattle.lc_walk.specs.declared.report.Report.{Report}
+
+-- the report of several is that of the same in any order
+abbrev pub JoinOrderLaw : Type 0
+JoinOrderLaw = (rs moved : List Report) (r : Report) → IsPermutation rs moved → IsJoined rs r → IsJoined moved r
+
+-- and where one of them is the report of some, it is the report of these and of the others
+abbrev pub JoinGroupLaw : Type 0
+JoinGroupLaw = (part others : List Report) (one r : Report) → IsJoined part one → IsJoined (one ∷ others) r → IsJoined (part ++ others) r
+
+-- where the totals of each add up, so do theirs
+abbrev pub JoinTotalsLaw : Type 0
+JoinTotalsLaw = (rs : List Report) (r : Report) → All TotalsAddUp rs → IsJoined rs r → TotalsAddUp r
+
+-- a file is below the top
+abbrev pub HasPath : FileLineModel → Type 0
+HasPath f = 0 < length f.path
+
+abbrev pub NameTotalsLaw : Type 0
+NameTotalsLaw =
+    (name : List ℕ) (r named : Report) → All HasPath r.files.items → TotalsAddUp r → IsNamed name r named → TotalsAddUp named
+
+-- the directory of the file of a rule is below the name with the entry that the rule decides
+abbrev pub IsNamedWith : List ℕ → List ℕ → RuleSource → Type 0
+IsNamedWith name path source =
+    source_directory (named_path name path) (named_source name source) ≡ name ++ slash ∷ source_directory path source
+
+pub record NamedRulesLaw : Type 0 where
+  pub info : (name : List ℕ) (b : ℕ) (bs : List ℕ) (depth : ℕ) → IsNamedWith name (b ∷ bs) (InfoExclude depth)
+  pub own : (name : List ℕ) (b : ℕ) (bs : List ℕ) (depth : ℕ) → IsNamedWith name (b ∷ bs) (Gitignore depth)

@@ -1,0 +1,5 @@
+pub mod Gathered
+pub mod Joined
+pub mod Laws
+pub mod LineOrder
+pub mod Named

@@ -1,0 +1,127 @@
+//! What several reports have together: their numbers, and their lines.
+ghost use Rattle.std.specs.Prelude.{◌≡◌, IfOk, MatchOption, OnOk};
+ghost use Rattle.std.specs.List.{list_all};
+ghost use Rattle.lc_reports.specs.Gathered.{Adds, IsGathered, NumbersFit, no_numbers, numbers_of, numbers_with};
+ghost use Rattle.lc_reports.specs.Joined.{shared_lists};
+
+use lc_walk::{FaultLine, FileLine, Report, ReportLists, SkippedLine, Sums, TallyRow};
+use std::alloc::{AllocError, Global};
+
+/// The sums of the numbers of several reports.
+#[derive(Drop)]
+pub(crate) struct Numbers {
+    pub(crate) totals: Sums,
+    pub(crate) directories: u64,
+    pub(crate) entries: u64,
+}
+
+impl Numbers {
+    fn none() -> Numbers
+        ensures { result ≡ no_numbers }
+    {
+        Numbers {
+            totals: Sums::none(),
+            directories: 0,
+            entries: 0,
+        }
+    }
+
+    /// These numbers and those of a report, if each sum fits its type.
+    fn with(self, report: &Report) -> Option<Numbers>
+        ensures { MatchOption result (NumbersFit (numbers_with self report.now) → ⊥) (λ n. n ≡ numbers_with self report.now) }
+    {
+        Some(Numbers {
+            totals: self.totals.checked_add(report.totals)?,
+            directories: self.directories.checked_add(report.directories)?,
+            entries: self.entries.checked_add(report.entries)?,
+        })
+    }
+
+    /// The sums over all of these reports, if each fits its type.
+    pub(crate) fn of(reports: &[Report]) -> Option<Numbers>
+        ensures { MatchOption result (NumbersFit (numbers_of reports.now) → ⊥) (λ n. n ≡ numbers_of reports.now) }
+    {
+        let mut numbers = Numbers::none();
+        let mut rest = reports;
+        'reports: while let Some((report, others)) = rest.split_first() {
+            numbers = numbers.with(report)?;
+            rest = others;
+        }
+        Some(numbers)
+    }
+}
+
+fn have_files(reports: &[Report]) -> bool
+    ensures { result ≡ list_all (λ r. r.lists.files) reports.now }
+{
+    reports.iter().all(|report| report.lists.files)
+}
+
+fn have_left_out(reports: &[Report]) -> bool
+    ensures { result ≡ list_all (λ r. r.lists.left_out) reports.now }
+{
+    reports.iter().all(|report| report.lists.left_out)
+}
+
+/// The lists that each of these reports has.
+pub(crate) fn shared_lists(reports: &[Report]) -> ReportLists
+    ensures { result ≡ shared_lists reports.now }
+{
+    ReportLists {
+        files: have_files(reports),
+        left_out: have_left_out(reports),
+    }
+}
+
+/// The rows and lines of several reports, one report after another.
+#[derive(Drop)]
+pub(crate) struct Gathered {
+    pub(crate) rows: Vec<TallyRow>,
+    pub(crate) files: Vec<FileLine>,
+    pub(crate) faults: Vec<FaultLine>,
+    pub(crate) skipped: Vec<SkippedLine>,
+}
+
+impl Gathered {
+    /// Gathers reports, with these lists of each.
+    pub(crate) fn of(
+        alloc: Global,
+        reports: Vec<Report>,
+        lists: ReportLists,
+    ) -> Result<Gathered, AllocError>
+        ensures { IfOk result (IsGathered lists reports.items) }
+    {
+        let mut gathered = Gathered {
+            rows: Vec::new(alloc),
+            files: Vec::new(alloc),
+            faults: Vec::new(alloc),
+            skipped: Vec::new(alloc),
+        };
+        for report in reports {
+            gathered.add(report, lists)?;
+        }
+        Ok(gathered)
+    }
+
+    /// Adds the rows and lines of a report, with these lists.
+    fn add(&mut self, report: Report, lists: ReportLists) -> Result<(), AllocError>
+        ensures { OnOk result (Adds lists self.old report self.new) }
+    {
+        let Report {
+            mut rows,
+            mut files,
+            mut faults,
+            mut skipped,
+            ..
+        } = report;
+        self.rows.append(&mut rows)?;
+        self.faults.append(&mut faults)?;
+        if lists.files {
+            self.files.append(&mut files)?;
+        }
+        if lists.left_out {
+            self.skipped.append(&mut skipped)?;
+        }
+        Ok(())
+    }
+}

@@ -1,0 +1,26 @@
+//! Why several reports have no sum.
+
+use std::alloc::AllocError;
+use thiserror::Error;
+
+/// Why several reports have no sum.
+#[derive(Debug, Clone, Copy, PartialEq, Eq, Error)]
+pub enum JoinFault {
+    /// There is no memory for the lists.
+    #[error("out of memory")]
+    Memory,
+    /// A sum does not fit its type: 2^64 files, directories or entries, or 2^128 lines, blank lines or bytes.
+    #[error("sums too large")]
+    TooLarge,
+}
+
+impl From<AllocError> for JoinFault {
+    ghost use Rattle.std.specs.Prelude.{◌≡◌};
+    ghost use Rattle.lc_reports.specs.declared.join_fault.JoinFault.TheVariants.{Memory};
+
+    ghost from_gives = { λ refused fault. fault ≡ Memory };
+
+    fn from(_: AllocError) -> JoinFault {
+        JoinFault::Memory
+    }
+}

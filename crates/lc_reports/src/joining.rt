@@ -1,0 +1,64 @@
+//! The report of several.
+ghost use Rattle.lc_reports.specs.Joined.{IsUnited, Joins};
+ghost use Rattle.lc_reports.specs.LineOrder.{fault_cmp, skipped_cmp};
+
+use crate::gathered::{Gathered, Numbers, shared_lists};
+use crate::join_fault::JoinFault;
+use crate::line_order::{compare_faults, compare_skipped};
+use lc_walk::{FaultLine, Report, SkippedLine, added_up, sort_lines};
+use std::alloc::Global;
+
+/// Sorts faults, and keeps each once.
+fn unite_faults(faults: &mut Vec<FaultLine>)
+    ensures { IsUnited fault_cmp faults.old.items faults.new.items }
+{
+    faults.sort_unstable_by(|a, b| compare_faults(a, b));
+    faults.dedup_by(|a, b| compare_faults(a, b).is_eq());
+}
+
+/// Sorts skipped entries, and keeps each once.
+fn unite_skipped(skipped: &mut Vec<SkippedLine>)
+    ensures { IsUnited skipped_cmp skipped.old.items skipped.new.items }
+{
+    skipped.sort_unstable_by(|a, b| compare_skipped(a, b));
+    skipped.dedup_by(|a, b| compare_skipped(a, b).is_eq());
+}
+
+/// Joins reports: it adds up their rows and their numbers, and has the lists that each of them has. A fault or a skipped entry that several
+/// have, the same in all fields, is in it once.
+///
+/// Its time is that of a sort of all lines. It takes memory for the lists, but not for paths.
+///
+/// ```
+/// let both = joined(alloc, reports)?;
+/// ```
+pub fn joined(alloc: Global, reports: Vec<Report>) -> Result<Report, JoinFault>
+    ensures { Joins reports.items result }
+{
+    let lists = shared_lists(&reports);
+    let Some(numbers) = Numbers::of(&reports) else {
+        return Err(JoinFault::TooLarge);
+    };
+    let Gathered {
+        rows,
+        mut files,
+        mut faults,
+        mut skipped,
+    } = Gathered::of(alloc, reports, lists)?;
+    let Some(rows) = added_up(rows) else {
+        return Err(JoinFault::TooLarge);
+    };
+    sort_lines(&mut files);
+    unite_faults(&mut faults);
+    unite_skipped(&mut skipped);
+    Ok(Report {
+        rows,
+        totals: numbers.totals,
+        directories: numbers.directories,
+        entries: numbers.entries,
+        lists,
+        files,
+        faults,
+        skipped,
+    })
+}

@@ -1,0 +1,22 @@
+//! Reports of several trees, or of parts of one: a report below a name, and the sum of reports.
+//!
+//! - `naming`: a report below a name
+//! - `joining`: the report of several, by `gathered`: what they have together, and `line_order`: the order of lines that may have one path
+//! - `join_fault`: why several reports have no sum
+//! - `laws`: what is true of the definitions that the contracts cite
+#![tactic(auto)]
+
+mod gathered;
+mod join_fault;
+mod joining;
+mod laws;
+mod line_order;
+mod naming;
+
+pub use join_fault::JoinFault;
+pub use joining::joined;
+pub use laws::{
+    a_joined_report_has_no_grouping, a_joined_report_has_no_order, names_change_no_number,
+    rules_of_a_named_report_are_in_named_files, totals_of_a_joined_report_add_up,
+};
+pub use naming::named;
