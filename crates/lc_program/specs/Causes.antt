@@ -1,6 +1,7 @@
 -- Why the program gives up, and the line that says so.
 use Rattle.std.specs.Prelude.{ℕ, List, ◌++◌, Option, codes, decimal, string_bytes}
 use Rattle.lc_text.specs.Visible.{visible_bytes}
+use Rattle.lc_walk.specs.declared.walk_fault.WalkFault.{WalkFault}
 use Rattle.lc_walk.specs.declared.walk_fault.WalkFault.TheVariants as walk
 use Rattle.lc_text.specs.declared.check_fault.CheckFault.{CheckFault}
 use Rattle.lc_text.specs.declared.check_fault.CheckFault.TheVariants as check
@@ -8,12 +9,13 @@ use Rattle.lc_io.specs.declared.printing.PrintFault.{PrintFault}
 use Rattle.lc_io.specs.declared.printing.PrintFault.TheVariants as print
 use Rattle.lc_level.specs.declared.rule_files.rule_text.RulesFileFault.{RulesFileFault}
 use Rattle.lc_level.specs.declared.rule_files.rule_text.RulesFileFault.TheVariants as rules
-use Rattle.lc_program.specs.declared.runs.RunFault.{RunFault}
-use Rattle.lc_program.specs.declared.runs.RunFault.TheVariants as run
 use Rattle.lc_program.specs.Reasons.{reason_given}
 use Rattle.lc_program.specs.declared.cause.Cause.{Cause}
 use Rattle.lc_program.specs.declared.cause.Cause.TheVariants.{Memory, TooManyDirs, TooDeep, Torn, Mismatch, UnreadRules, RulesTooLong}
 use Rattle.lc_program.specs.declared.cause.Cause.TheVariants.{UnreadPaths, PathsTooLong, BadPaths, UnreadInput, InputTooLong, Unwritten}
+use Rattle.lc_program.specs.declared.cause.Cause.TheVariants.{InDirectory, Nested, SumsTooLarge}
+use Rattle.lc_reports.specs.declared.join_fault.JoinFault.{JoinFault}
+use Rattle.lc_reports.specs.declared.join_fault.JoinFault.TheVariants as join
 use Rattle.lc_program.specs.declared.unread_reason.UnreadReason.{UnreadReason}
 
 -- the list of paths could not be read, for this reason
@@ -31,6 +33,9 @@ cause_line RulesTooLong = codes "lc: rules too long\n"
 cause_line (UnreadPaths why) = unread_paths_line why
 cause_line PathsTooLong = codes "lc: paths too long\n"
 cause_line (BadPaths line) = string_bytes line
+cause_line (Nested line) = string_bytes line
+cause_line (InDirectory line) = string_bytes line
+cause_line SumsTooLarge = codes "lc: sums too large\n"
 cause_line UnreadInput = codes "lc: cannot read input\n"
 cause_line InputTooLong = codes "lc: input too long\n"
 cause_line Unwritten = codes "lc: cannot write\n"
@@ -63,15 +68,18 @@ check_cause check.RulesTooLong = RulesTooLong
 check_cause check.Memory = Memory
 check_cause check.Write = Unwritten
 
--- a run that stopped
-abbrev pub run_cause : RunFault → Cause
-run_cause (run.Walk walk.Memory) = Memory
-run_cause (run.Walk walk.TooManyDirs) = TooManyDirs
-run_cause (run.Walk walk.TooDeep) = TooDeep
-run_cause (run.Walk (walk.Torn n)) = Torn n
-run_cause (run.Walk (walk.Mismatch w)) = Mismatch w
-run_cause run.Memory = Memory
-run_cause run.Write = Unwritten
+-- a walk that gave no report
+abbrev pub walk_cause : WalkFault → Cause
+walk_cause walk.Memory = Memory
+walk_cause walk.TooManyDirs = TooManyDirs
+walk_cause walk.TooDeep = TooDeep
+walk_cause (walk.Torn n) = Torn n
+walk_cause (walk.Mismatch w) = Mismatch w
+
+-- reports that have no sum
+abbrev pub join_cause : JoinFault → Cause
+join_cause join.Memory = Memory
+join_cause join.TooLarge = SumsTooLarge
 
 -- a text that was not written, or not whole
 abbrev pub print_cause : PrintFault → Cause

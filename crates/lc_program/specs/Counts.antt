@@ -10,8 +10,10 @@ use Rattle.lc_io.specs.Reads.{Answer}
 use Rattle.lc_io.specs.declared.source.Failed.{Failed}
 use Rattle.lc_level.specs.Filters.{FiltersModel}
 use Rattle.lc_level.specs.NamedAttributes.{attributes_of}
-use Rattle.lc_program.specs.Runs.{AnswersRun}
-use Rattle.lc_program.specs.declared.runs.RunFault.{RunFault}
+use Rattle.lc_io.specs.declared.printing.PrintFault.{PrintFault}
+use Rattle.lc_program.specs.Finds.{Finds, FindsNone}
+use Rattle.lc_program.specs.Nested.{AreApart, AreNested}
+use Rattle.lc_program.specs.Runs.{AnswersTable}
 use Rattle.lc_tree.specs.declared.file_systems.FileSystems.{FileSystems}
 use Rattle.lc_tree.specs.declared.file_systems.FileSystems.TheVariants.{All, One}
 use Rattle.lc_sheet.specs.Conditions.{needs_files}
@@ -19,8 +21,9 @@ use Rattle.lc_sheet.specs.declared.table_options.Format.{Format}
 use Rattle.lc_walk.specs.Walks.{Walks}
 use Rattle.lc_walk.specs.declared.options.Options.{Options}
 use Rattle.lc_walk.specs.declared.report.Report.{Report}
+use Rattle.lc_walk.specs.declared.walk_fault.WalkFault.{WalkFault}
 use Rattle.lc_program.specs.PathLists.{AnswersWanted, GivesList}
-use Rattle.lc_program.specs.Replies.{IsRunReply, Reply}
+use Rattle.lc_program.specs.Replies.{IsTableReply, Reply}
 use Rattle.lc_program.specs.Filters.{Excludes, LacksRules, filters_of}
 use Rattle.lc_program.specs.Styles.{end_for}
 use Rattle.lc_program.specs.Systems.{SystemMay}
@@ -30,6 +33,10 @@ use Rattle.lc_program.specs.declared.cause.Cause.TheVariants.{Memory}
 -- the file systems whose directories the words of a count let it enter
 abbrev pub entered_by : CountRequest → FileSystems
 entered_by c = if c.one_file_system then One else All
+
+-- the names of the directories
+abbrev pub names_of : CountRequest → List (List ℕ)
+names_of c = map (λ directory. directory.now) c.directories.items
 
 -- options that ask for what the words of a count ask, by these filters
 pub record IsAskedBy (c : CountRequest) (f : FiltersModel) (o : Options) : Type 0 where
@@ -49,19 +56,32 @@ module _ (may : SystemMay) {I O : Type 0} (may_give : I → ℕ → Answer → I
       × AnswersWanted (map (λ path. path.now) c.only.items) c.only_from (end_for c.null) list.items answer)
       ⊎ ((cause : Cause) × GivesList may_give may.hold may.unread c.only_from input (Err cause) read × (answer ≡ Err cause))
 
-  -- a run over the tree of the directory that the words name, by what they ask; the table has this format if they name none
+  -- what a walk by these options of the directory with this name may answer
+  abbrev pub MayWalk : Options → List ℕ → Result Report WalkFault → Type 0
+  MayWalk o directory = Walks (may.list directory (entered_by c)) (may.give directory (entered_by c)) o
+
+  -- what was found in the directories that the words name, by these options, was printed, with the format if they name none; or nothing
+  -- was found, and nothing was written
+  abbrev pub Prints : Options → O → Reply → O → Type 0
+  Prints o out reply wrote =
+      ((r : Report) × Finds (MayWalk o) (names_of c) r × ((left : Report) × (answer : Result (Unit {0}) PrintFault)
+      × IsTableReply (attributes_of c.filters.without.items) left answer reply
+      × AnswersTable may_take c.conditions.items (options_in other c.table) r left out answer wrote))
+      ⊎ ((cause : Cause) × FindsNone (MayWalk o) (names_of c) cause × (reply ≡ Err cause) × (wrote ≡ out))
+
+  -- no two of the directories are one another or lie in one another, and what they have is printed, by what the words ask
   abbrev pub Runs : I → O → Reply → I → O → Type 0
   Runs input out reply read wrote =
-      (text : Option (List ℕ)) × Excludes may.hold c.filters.exclude_from text
+      AreApart may.stand (names_of c)
+      × ((text : Option (List ℕ)) × Excludes may.hold c.filters.exclude_from text
       × ((paths : Vec (Bor (List ℕ)) Global) × AnswersPathsOf input (Ok paths) read
-      × ((o : Options) × IsAskedBy c (filters_of c.filters text (map (λ path. path.now) paths.items)) o
-      × ((answer : Result Report RunFault) × IsRunReply (attributes_of c.filters.without.items) answer reply
-      × AnswersRun may_take (Walks (may.list c.directory.now (entered_by c)) (may.give c.directory.now (entered_by c)) o)
-      c.conditions.items (options_in other c.table) out answer wrote)))
+      × ((o : Options) × IsAskedBy c (filters_of c.filters text (map (λ path. path.now) paths.items)) o × Prints o out reply wrote)))
 
-  -- such a run; or there were no rules or no memory, and nothing was read; or there were no paths; then nothing was written
+  -- such a count; or there were no rules or no memory, or two directories are not apart, and nothing was read; or there were no paths; then
+  -- nothing was written
   abbrev pub AnswersCount : I → O → Reply → I → O → Type 0
   AnswersCount input out reply read wrote =
       Runs input out reply read wrote
       ⊎ ((cause : Cause) × (reply ≡ Err cause) × (wrote ≡ out)
-      × (((LacksRules may.hold c.filters cause ⊎ (cause ≡ Memory)) × (read ≡ input)) ⊎ AnswersPathsOf input (Err cause) read))
+      × (((AreNested may.stand (names_of c) cause ⊎ (LacksRules may.hold c.filters cause ⊎ (cause ≡ Memory))) × (read ≡ input))
+      ⊎ AnswersPathsOf input (Err cause) read))

@@ -5,12 +5,11 @@ use Rattle.lc_level.specs.FaultLines.{FaultLineModel}
 use Rattle.lc_arguments.specs.declared.request.Request.{Request}
 use Rattle.lc_arguments.specs.declared.request.Request.TheVariants.{Count}
 use Rattle.lc_walk.specs.declared.report.Report.{Report}
-use Rattle.lc_program.specs.declared.runs.RunFault.{RunFault}
 use Rattle.lc_text.specs.declared.check_fault.CheckFault.{CheckFault}
 use Rattle.lc_text.specs.declared.outcome.Outcome.{Outcome}
 use Rattle.lc_text.specs.declared.outcome.Outcome.TheVariants as outcome
 use Rattle.lc_io.specs.declared.printing.PrintFault.{PrintFault}
-use Rattle.lc_program.specs.Causes.{check_cause, print_cause, run_cause}
+use Rattle.lc_program.specs.Causes.{check_cause, print_cause}
 use Rattle.lc_program.specs.Unnamed.{AreUnnamedLines}
 use Rattle.lc_program.specs.declared.answered.Answered.{Answered}
 use Rattle.lc_program.specs.declared.answered.Answered.TheVariants.{Checked, Counted, Explained}
@@ -51,11 +50,11 @@ ending_by false outcome.SomeFaults = SomeFaults
 abbrev pub ending_of : Request → Answered → Ending
 ending_of request answered = ending_by (has_failure request answered) (outcome_of answered)
 
--- a count is replied with the report of what was shown and lines about some of these attributes
-abbrev pub IsRunReply : List (List ℕ) → Result Report RunFault → Reply → Type 0
-IsRunReply attributes (Ok left) reply =
+-- a count whose table was written is replied with what is left of the report and lines about some of these attributes
+abbrev pub IsTableReply : List (List ℕ) → Report → Result (Unit {0}) PrintFault → Reply → Type 0
+IsTableReply attributes left (Ok _) reply =
     (unnamed : String Global) × AreUnnamedLines attributes (string_bytes unnamed) × (reply ≡ Ok (Counted left unnamed))
-IsRunReply attributes (Err fault) reply = reply ≡ Err (run_cause fault)
+IsTableReply attributes left (Err fault) reply = reply ≡ Err (print_cause fault)
 
 abbrev pub explained : Result Outcome CheckFault → Reply
 explained (Ok outcome) = Ok (Explained outcome)

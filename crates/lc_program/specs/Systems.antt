@@ -7,7 +7,7 @@ use Rattle.lc_program.specs.declared.unread_reason.UnreadReason.{UnreadReason}
 
 -- of the directory with each name, where all file systems or its own alone are entered, what listing each of its paths may answer and
 -- what reads of the file there may give; what reads of the file with each name may give; why the directory and why the file with each
--- name can't be read; and in which repository the directory with each name lies, below its top
+-- name can't be read; in which repository the directory with each name lies, below its top; and which canonical path it has
 pub record SystemMay : Type 1 where
   pub list : List ℕ → FileSystems → List ℕ → Listings
   pub give : List ℕ → FileSystems → List ℕ → Contents
@@ -15,9 +15,10 @@ pub record SystemMay : Type 1 where
   pub unlist : List ℕ → Option UnreadReason → Type 0
   pub unread : List ℕ → Option UnreadReason → Type 0
   pub lie : List ℕ → Option Repository → Type 0
+  pub stand : List ℕ → Option (List ℕ) → Type 0
 
 abbrev pub system_may : (List ℕ → FileSystems → List ℕ → Listings) → (List ℕ → FileSystems → List ℕ → Contents) → (List ℕ → Contents)
     → (List ℕ → Option UnreadReason → Type 0) → (List ℕ → Option UnreadReason → Type 0) → (List ℕ → Option Repository → Type 0)
-    → SystemMay
-system_may list give hold unlist unread lie =
-    record { list = list; give = give; hold = hold; unlist = unlist; unread = unread; lie = lie }
+    → (List ℕ → Option (List ℕ) → Type 0) → SystemMay
+system_may list give hold unlist unread lie stand =
+    record { list = list; give = give; hold = hold; unlist = unlist; unread = unread; lie = lie; stand = stand }

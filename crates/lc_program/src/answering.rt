@@ -29,7 +29,7 @@ pub(crate) fn answer<R: Threads + Wait + Sync + AllocGlobal, Y: System, S: Sourc
     requires limits { IsWithinLimits request.now }
     ensures { AnswersRequest (system_may (λ dir entered. Y.Tree.lists (Y.tree system.now dir entered))
         (λ dir entered. Y.Tree.gives (Y.tree system.now dir entered)) (Y.holds system.now)
-        (Y.unlists system.now) (Y.unreads system.now) (Y.lies system.now))
+        (Y.unlists system.now) (Y.unreads system.now) (Y.lies system.now) (Y.stands system.now))
         S.may_give O.may_take terminals.output request.now input.old out.old result input.new out.new }
 {
     let style = terminals.style();

@@ -2,12 +2,13 @@
 
 ghost use Rattle.std.specs.Prelude.{◌≡◌, IfOk, IsErr};
 ghost use Rattle.std.specs.Cow.{cow_str_bytes};
-ghost use Rattle.lc_program.specs.Causes.{HasNumber, cause_line, check_cause, print_cause, rules_cause, run_cause, unread_paths_line};
+ghost use Rattle.lc_program.specs.Causes.{HasNumber, cause_line, check_cause, join_cause, print_cause, rules_cause, unread_paths_line};
+ghost use Rattle.lc_program.specs.Causes.{walk_cause};
 ghost use Rattle.lc_program.specs.declared.cause.Cause.TheVariants.{Memory};
 
-use crate::runs::RunFault;
 use crate::unread_reason::UnreadReason;
 use lc_level::RulesFileFault;
+use lc_reports::JoinFault;
 use lc_text::{CheckFault, PrintFault};
 use lc_walk::WalkFault;
 use std::alloc::{AllocError, AllocFailed, Global};
@@ -40,6 +41,12 @@ pub enum Cause {
     UnreadInput,
     /// Standard input has too many bytes.
     InputTooLong,
+    /// One directory of a count is another, or lies in it. The line tells which.
+    Nested(String),
+    /// The walk of one of several directories ended without a report. The line names it.
+    InDirectory(String),
+    /// A sum over several reports does not fit its type.
+    SumsTooLarge,
     /// The answer could not be written.
     Unwritten,
 }
@@ -81,9 +88,10 @@ impl Cause {
             Cause::RulesTooLong => "lc: rules too long\n",
             Cause::UnreadPaths(why) => unread_paths_line(*why),
             Cause::PathsTooLong => "lc: paths too long\n",
-            Cause::BadPaths(line) => line.as_str(),
+            Cause::BadPaths(line) | Cause::Nested(line) | Cause::InDirectory(line) => line.as_str(),
             Cause::UnreadInput => "lc: cannot read input\n",
             Cause::InputTooLong => "lc: input too long\n",
+            Cause::SumsTooLarge => "lc: sums too large\n",
             Cause::Unwritten => "lc: cannot write\n",
         };
         Ok(CowStr::Borrowed(line))
@@ -132,17 +140,27 @@ impl From<CheckFault> for Cause {
     }
 }
 
-impl From<RunFault> for Cause {
-    ghost from_gives = { λ run cause. cause ≡ run_cause run };
+impl From<WalkFault> for Cause {
+    ghost from_gives = { λ walk cause. cause ≡ walk_cause walk };
 
-    fn from(fault: RunFault) -> Cause {
+    fn from(fault: WalkFault) -> Cause {
         match fault {
-            RunFault::Walk(WalkFault::Memory) | RunFault::Memory => Cause::Memory,
-            RunFault::Walk(WalkFault::TooManyDirs) => Cause::TooManyDirs,
-            RunFault::Walk(WalkFault::TooDeep) => Cause::TooDeep,
-            RunFault::Walk(WalkFault::Torn(number)) => Cause::Torn(number),
-            RunFault::Walk(WalkFault::Mismatch(worker)) => Cause::Mismatch(worker),
-            RunFault::Write => Cause::Unwritten,
+            WalkFault::Memory => Cause::Memory,
+            WalkFault::TooManyDirs => Cause::TooManyDirs,
+            WalkFault::TooDeep => Cause::TooDeep,
+            WalkFault::Torn(number) => Cause::Torn(number),
+            WalkFault::Mismatch(worker) => Cause::Mismatch(worker),
+        }
+    }
+}
+
+impl From<JoinFault> for Cause {
+    ghost from_gives = { λ join cause. cause ≡ join_cause join };
+
+    fn from(fault: JoinFault) -> Cause {
+        match fault {
+            JoinFault::Memory => Cause::Memory,
+            JoinFault::TooLarge => Cause::SumsTooLarge,
         }
     }
 }

@@ -82,7 +82,7 @@ pub(crate) fn count<R: Threads + Wait + Sync + AllocGlobal, Y: System, S: Source
     requires limits { IsCountWithinLimits asked.now }
     ensures { AnswersCount (system_may (λ dir entered. Y.Tree.lists (Y.tree system.now dir entered))
         (λ dir entered. Y.Tree.gives (Y.tree system.now dir entered)) (Y.holds system.now)
-        (Y.unlists system.now) (Y.unreads system.now) (Y.lies system.now))
+        (Y.unlists system.now) (Y.unreads system.now) (Y.lies system.now) (Y.stands system.now))
         S.may_give O.may_take format asked.now input.old out.old result input.new out.new }
 {
     let filters = read_filters(rt.alloc(), system, &asked.filters)?;

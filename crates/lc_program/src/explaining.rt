@@ -57,7 +57,7 @@ pub(crate) fn explain_asked<Y: System, S: Source, O: Sink>(
 ) -> Result<Answered, Cause>
     ensures { AnswersExplanation (system_may (λ dir entered. Y.Tree.lists (Y.tree system.now dir entered))
         (λ dir entered. Y.Tree.gives (Y.tree system.now dir entered)) (Y.holds system.now)
-        (Y.unlists system.now) (Y.unreads system.now) (Y.lies system.now))
+        (Y.unlists system.now) (Y.unreads system.now) (Y.lies system.now) (Y.stands system.now))
         S.may_give O.may_take style asked.now input.old out.old result input.new out.new }
 {
     let filters = read_filters(alloc, system, &asked.filters)?;

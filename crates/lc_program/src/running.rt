@@ -124,7 +124,7 @@ fn end_of<R: Threads + Wait + Sync + AllocGlobal, Y: System, W: AsStr, S: Source
 ) -> Ending
     ensures { Ends (system_may (λ dir entered. Y.Tree.lists (Y.tree system.now dir entered))
         (λ dir entered. Y.Tree.gives (Y.tree system.now dir entered)) (Y.holds system.now)
-        (Y.unlists system.now) (Y.unreads system.now) (Y.lies system.now))
+        (Y.unlists system.now) (Y.unreads system.now) (Y.lies system.now) (Y.stands system.now))
         (streams_may S.may_give O.may_take E.may_take) (map W.text words.now) terminals streams.old result streams.new }
 {
     let Streams { input, out, err } = streams;
@@ -179,7 +179,7 @@ pub fn program<
     ensures { (ending : Ending) × (result ≡ status_of ending)
         × Ends (system_may (λ dir entered. Y.Tree.lists (Y.tree system.now dir entered))
         (λ dir entered. Y.Tree.gives (Y.tree system.now dir entered)) (Y.holds system.now)
-        (Y.unlists system.now) (Y.unreads system.now) (Y.lies system.now))
+        (Y.unlists system.now) (Y.unreads system.now) (Y.lies system.now) (Y.stands system.now))
         (streams_may S.may_give O.may_take E.may_take) (map W.text words.now) terminals streams.old ending streams.new }
 {
     end_of(rt, system, words, terminals, streams).status()

@@ -1,6 +1,6 @@
 //! The system that the program runs in: the directories and files that a command line names.
 
-ghost use Rattle.std.specs.Prelude.{◌≡◌, ℕ, List, Option, IfOk};
+ghost use Rattle.std.specs.Prelude.{◌≡◌, ℕ, List, Option, option_map, string_bytes, IfOk};
 ghost use Rattle.lc_tree.specs.Trees.{Contents, Opens};
 ghost use Rattle.lc_tree.specs.declared.file_systems.FileSystems.{FileSystems};
 ghost use Rattle.lc_program.specs.declared.repository.Repository.{Repository};
@@ -37,6 +37,9 @@ pub trait System {
     // In which repository the directory with this name lies, below its top, as may be answered.
     ghost lies: { Self → List ℕ → Option Repository → Type 0 };
 
+    // Which canonical path the directory with this name has, as may be answered.
+    ghost stands: { Self → List ℕ → Option (List ℕ) → Type 0 };
+
     /// Makes the tree of the directory with this name, which enters all file systems or that of its top alone. If there is no such
     /// directory, the top of the tree can't be listed.
     fn tree(
@@ -62,4 +65,8 @@ pub trait System {
     /// Returns the repository in which the directory with this name lies, below its top.
     fn repository_above(&self, alloc: Global, directory: &str) -> Option<Repository>
         ensures { lies self.now directory.now result };
+
+    /// Returns the canonical path of the directory with this name, which has no symbolic link, or nothing if the system gives none.
+    fn canonical(&self, alloc: Global, directory: &str) -> Option<String>
+        ensures { stands self.now directory.now (option_map (λ path. string_bytes path) result) };
 }

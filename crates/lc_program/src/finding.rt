@@ -1,0 +1,143 @@
+//! What a count finds: the report of its directory, or the sum of the reports of several.
+
+ghost use Rattle.std.specs.Prelude.{◌≡◌, ◌⊎◌, true, map, string_bytes, IfErr, IfOk};
+ghost use Rattle.std.specs.List.{AllZip};
+ghost use Rattle.lc_program.specs.Finds.{EndsAmong, EndsIn, Finds, FindsNone, HasLine, IsCauseIn, IsWalkedBelow, line_in};
+ghost use Rattle.lc_program.specs.declared.cause.Cause.TheVariants.{Memory};
+ghost use Rattle.lc_walk.specs.WalkOptions.{AreWithinLimits};
+ghost use Rattle.lc_walk.specs.Walks.{Walks};
+
+use crate::cause::Cause;
+use crate::system::System;
+use lc_arguments::unslashed;
+use lc_reports::{joined, named};
+use lc_text::push_visible;
+use lc_tree::FileSystems;
+use lc_walk::{Options, Report, WalkFault, walk};
+use std::alloc::{AllocError, Global};
+use std::sync::Wait;
+use std::thread::Threads;
+
+/// Walks the directory with this name.
+fn walk_of<R: Threads + Wait + Sync + AllocGlobal, Y: System>(
+    rt: &R,
+    system: &Y,
+    directory: &str,
+    entered: FileSystems,
+    options: &Options<'_>,
+) -> Result<Report, WalkFault>
+    requires limits { AreWithinLimits options.now }
+    ensures { Walks (Y.Tree.lists (Y.tree system.now directory.now entered)) (Y.Tree.gives (Y.tree system.now directory.now entered))
+        options.now result }
+{
+    let Ok(tree) = system.tree(rt.alloc(), directory, entered) else {
+        return Err(WalkFault::Memory);
+    };
+    walk(rt, rt.alloc(), &tree, options)
+}
+
+/// Makes the line about what ends the walk of one of several directories, which is named.
+fn line_in(alloc: Global, directory: &str, why: &str) -> Result<String, AllocError>
+    ensures { IfOk result (λ line. string_bytes line ≡ line_in directory.now why.now) }
+{
+    let mut line = String::from_str(alloc, "lc: ")?;
+    push_visible(&mut line, directory.as_bytes())?;
+    line.push_str(": ")?;
+    line.push_str(why)?;
+    line.push_str("\n")?;
+    Ok(line)
+}
+
+fn named_cause(alloc: Global, directory: &str, why: &str) -> Cause
+    ensures { HasLine (line_in directory.now why.now) result ⊎ (result ≡ Memory) }
+{
+    match line_in(alloc, directory, why) {
+        Ok(line) => Cause::InDirectory(line),
+        Err(AllocError) => Cause::Memory,
+    }
+}
+
+/// Makes the cause for what ends the walk of one of several directories.
+fn cause_in(alloc: Global, directory: &str, fault: WalkFault) -> Cause
+    ensures { IsCauseIn directory.now fault result }
+{
+    match fault {
+        WalkFault::TooManyDirs => named_cause(alloc, directory, "too many directories"),
+        WalkFault::TooDeep => named_cause(alloc, directory, "path too deep"),
+        WalkFault::Memory | WalkFault::Torn(_) | WalkFault::Mismatch(_) => Cause::from(fault),
+    }
+}
+
+/// Walks one of several directories, and puts its report below its name.
+fn walk_below<R: Threads + Wait + Sync + AllocGlobal, Y: System>(
+    rt: &R,
+    system: &Y,
+    directory: &str,
+    entered: FileSystems,
+    options: &Options<'_>,
+) -> Result<Report, Cause>
+    requires limits { AreWithinLimits options.now }
+    ensures found { IfOk result (IsWalkedBelow
+        (λ d. Walks (Y.Tree.lists (Y.tree system.now d entered)) (Y.Tree.gives (Y.tree system.now d entered)) options.now) directory.now) }
+    ensures none { IfErr result (EndsIn
+        (λ d. Walks (Y.Tree.lists (Y.tree system.now d entered)) (Y.Tree.gives (Y.tree system.now d entered)) options.now) directory.now) }
+{
+    match walk_of(rt, system, directory, entered, options) {
+        Ok(report) => {
+            let report = named(rt.alloc(), unslashed(directory), report)?;
+            Ok(report)
+        }
+        Err(fault) => Err(cause_in(rt.alloc(), directory, fault)),
+    }
+}
+
+/// Walks several directories, one after another, and puts each report below its directory's name.
+fn walks_below<R: Threads + Wait + Sync + AllocGlobal, Y: System>(
+    rt: &R,
+    system: &Y,
+    directories: &[&str],
+    entered: FileSystems,
+    options: &Options<'_>,
+) -> Result<Vec<Report>, Cause>
+    requires limits { AreWithinLimits options.now }
+    ensures found { IfOk result (λ reports. AllZip (IsWalkedBelow
+        (λ d. Walks (Y.Tree.lists (Y.tree system.now d entered)) (Y.Tree.gives (Y.tree system.now d entered)) options.now))
+        (map (λ d. d.now) directories.now) reports.items) }
+    ensures none { IfErr result (EndsAmong
+        (λ d. Walks (Y.Tree.lists (Y.tree system.now d entered)) (Y.Tree.gives (Y.tree system.now d entered)) options.now)
+        (map (λ d. d.now) directories.now)) }
+{
+    let mut reports = Vec::with_capacity(rt.alloc(), directories.len())?;
+    let mut rest = directories;
+    'directories: while let Some((directory, others)) = rest.split_first() {
+        reports.push(walk_below(rt, system, directory, entered, options)?)?;
+        rest = others;
+    }
+    Ok(reports)
+}
+
+/// Counts directories: of one, the report is that of its walk; the reports of several are joined, each below its name.
+pub(crate) fn found<R: Threads + Wait + Sync + AllocGlobal, Y: System>(
+    rt: &R,
+    system: &Y,
+    directories: &[&str],
+    entered: FileSystems,
+    options: &Options<'_>,
+) -> Result<Report, Cause>
+    requires limits { AreWithinLimits options.now }
+    ensures found { IfOk result (Finds
+        (λ d. Walks (Y.Tree.lists (Y.tree system.now d entered)) (Y.Tree.gives (Y.tree system.now d entered)) options.now)
+        (map (λ d. d.now) directories.now)) }
+    ensures none { IfErr result (FindsNone
+        (λ d. Walks (Y.Tree.lists (Y.tree system.now d entered)) (Y.Tree.gives (Y.tree system.now d entered)) options.now)
+        (map (λ d. d.now) directories.now)) }
+    ensures files { IfOk result (λ report. options.now.lists.files ≡ true → report.lists.files ≡ true) }
+{
+    if let [directory] = directories {
+        let report = walk_of(rt, system, directory, entered, options)?;
+        return Ok(report);
+    }
+    let reports = walks_below(rt, system, directories, entered, options)?;
+    let report = joined(rt.alloc(), reports)?;
+    Ok(report)
+}
