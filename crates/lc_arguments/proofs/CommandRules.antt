@@ -1,5 +1,5 @@
 -- Arguments that are made of rows, commands that are given them in turn, and what is read of a number among these.
-use Rattle.std.proofs.Common.{◌≡◌, ◌∙◌, ◌+◌, ◌<◌, ℕ, zero, suc, Bool, true, false, not, ◌&&◌, ◌||◌, cond, List, [], ◌∷◌, ◌++◌, length}
+use Rattle.std.proofs.Common.{◌≡◌, ◌∙◌, ◌+◌, ◌<◌, ℕ, zero, suc, Bool, true, false, not, ◌||◌, cond, List, [], ◌∷◌, ◌++◌, length}
 use Rattle.std.proofs.Common.{map, take, get_or, refl, sym, ap, ap₂, subst, arith}
 use Rattle.std.proofs.lemmas.Bool.{and_parts}
 use Rattle.std.specs.Prelude.{pos, Option, Some, None}
@@ -22,6 +22,7 @@ use Rattle.clap.specs.Simple.{App, app_of, new_rule, with_rule, with_subcommand}
 use Rattle.clap.specs.Walk.{Rule, rule_of}
 use Rattle.lc_arguments.specs.CommandLine.{app_with, bare_app, option_rule, rules_in, with_rules, with_subcommands}
 use Rattle.lc_arguments.specs.CountArgs.{AreArgsOf, AreCommandsOf, IsArgOf, IsBare, IsCommandOf}
+use Rattle.lc_arguments.specs.Directories.{are_distinct}
 use Rattle.lc_arguments.specs.Options.{OptionModel, is_of, option_model}
 use Rattle.lc_arguments.specs.Words.{ReadsWithin}
 use Rattle.lc_arguments.specs.declared.option_row.OptionRow.{OptionRow}
@@ -82,11 +83,6 @@ none_more command rows i d args low not_its are =
 abbrev pub ids_of : List Arg → List (List ℕ)
 ids_of xs = map (λ (a : Arg). a.id.now) xs
 
--- no name stands twice
-abbrev pub are_apart : List (List ℕ) → Bool
-are_apart [] = true
-are_apart (n ∷ ns) = not (list_any (bytes_eq n) ns) && are_apart ns
-
 not_true : (a : Bool) → not a ≡ true → a ≡ true → ⊥
 not_true true e t = cc
 not_true false e t = cc
@@ -110,7 +106,7 @@ first_apart x xs none k d low same =
     not_true _ none (list_any_at (bytes_eq x.id.now) (ids_of xs) k [] within there)
 
 -- arguments whose names pass the test have distinct names
-pub distinct_ids : (xs : List Arg) → are_apart (ids_of xs) ≡ true → HasDistinctIds xs
+pub distinct_ids : (xs : List Arg) → are_distinct (ids_of xs) ≡ true → HasDistinctIds xs
 distinct_ids [] apart j k d e low high same = absurd (omega arith)
 distinct_ids (x ∷ xs) apart zero zero d e low high same = refl
 distinct_ids (x ∷ xs) apart zero (suc k) d e low high same =
@@ -220,7 +216,7 @@ found_named id parser (r ∷ rs) found = go (bytes_eq r.id id) refl (found_named
 
 -- what a parse reads of a number at this place among its arguments is in its range
 reads_at : (name : List ℕ) (rules : List Rule) (c : Command) → HasRules name rules c
-    → are_apart (map (λ (r : Rule). r.id) rules) ≡ true → (k : ℕ) (other : Rule) → k < length rules
+    → are_distinct (map (λ (r : Rule). r.id) rules) ≡ true → (k : ℕ) (other : Rule) → k < length rules
     → (id : List ℕ) (most : ℕ) → (slice_index_or rules k other).id ≡ id
     → (slice_index_or rules k other).parser ≡ Some (Signed (pos 1) (pos most)) → ReadsWithin c id 1 most
 reads_at name rules c has apart k other within id most is_named is_parsed m parsed text read = go has.args refl
@@ -236,7 +232,7 @@ reads_at name rules c has apart k other within id most is_named is_parsed m pars
         let there : k < length args = rw (← length-map args rule_of, has.are) within in
         let rule : rule_of (slice_index_or args k x) ≡ slice_index_or rules k other =
         sym (get_or-map rule_of args k x other there) ∙ ap (λ (rs : List Rule). slice_index_or rs k other) has.are in
-        let ids : are_apart (ids_of args) ≡ true = ap are_apart (ids_by_rules args ∙ ap (map (λ (r : Rule). r.id)) has.are) ∙ apart in
+        let ids : are_distinct (ids_of args) ≡ true = ap are_distinct (ids_by_rules args ∙ ap (map (λ (r : Rule). r.id)) has.are) ∙ apart in
         read_in_chain has.bare c args k x m has.added has.is_bare.1 has.is_bare.2 has.is_bare.0.1 has.fits
         (distinct_ids args ids) there parsed
         (Signed (pos 1) (pos most)) (ap (λ (r : Rule). r.parser) rule ∙ is_parsed) text
@@ -244,7 +240,7 @@ reads_at name rules c has apart k other within id most is_named is_parsed m pars
 
 -- what a parse reads of the number with this name is in its range
 pub reads_number : (name : List ℕ) (rules : List Rule) (c : Command) → HasRules name rules c
-    → are_apart (map (λ (r : Rule). r.id) rules) ≡ true → (id : List ℕ) (most : ℕ)
+    → are_distinct (map (λ (r : Rule). r.id) rules) ≡ true → (id : List ℕ) (most : ℕ)
     → parser_named id rules ≡ Some (Some (Signed (pos 1) (pos most))) → ReadsWithin c id 1 most
 reads_number name rules c has apart id most found =
     let at = found_named id (Some (Signed (pos 1) (pos most))) rules found in

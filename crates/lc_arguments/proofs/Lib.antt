@@ -1,3 +1,4 @@
+mod AskedDirectories
 mod AskedPaths
 mod ConditionsRead
 mod Misnaming

@@ -1,8 +1,11 @@
 -- Words that ask for what there is not: values of options, tables, counts.
-use Rattle.std.proofs.Common.{◌≡◌, ◌∙◌, ◌<◌, ◌&&◌, ℕ, zero, suc, Bool, true, false, List, [], ◌∷◌, length, map, refl, ap, inl, inr, sym}
+use Rattle.std.proofs.Common.{◌≡◌, ◌∙◌, ◌<◌, ◌&&◌, ℕ, zero, suc, Bool, true, false, not, List, [], ◌∷◌, length, map, refl, ap, inl, inr, sym}
 use Rattle.std.proofs.Common.{subst, Result, Err, Option, arith}
+use Rattle.std.proofs.Math.Bool.{and-false}
 use Rattle.std.specs.Borrow.{Bor}
 use Rattle.std.specs.List.{list_all, slice_index_or}
+use Rattle.std.specs.Result.{IsErrAnd}
+use Rattle.std.proofs.lemmas.Result.{err_from_is_err_and}
 use Rattle.clap.specs.Faults.{fault_of}
 use Rattle.clap.specs.Simple.{matches_of}
 use Rattle.std.specs.Prelude.{Some, codes, option_map, unwrap_or}
@@ -12,7 +15,7 @@ use Rattle.lc_arguments.specs.CommandLine.{count_app, explain_app}
 use Rattle.lc_arguments.specs.Explained.{AnswersBy, AnswersConditions, AnswersCountIn}
 use Rattle.lc_arguments.specs.Explained.{AnswersCountWords, AnswersFilters, AnswersExplainWords}
 use Rattle.lc_arguments.specs.Explained.{AnswersRepeated, AnswersRepeatedIn, AnswersTable, AnswersTableIn}
-use Rattle.lc_arguments.specs.Explained.{AnswersPathsIn, IsRefusal}
+use Rattle.lc_arguments.specs.Explained.{AnswersDirectoriesIn, AnswersPathsIn, IsRefusal}
 use Rattle.lc_arguments.specs.Repeated.{are_allowed, is_allowed}
 use Rattle.lc_arguments.specs.Words.{AreNumbersIn, AskNothing, IsCountOf, IsTableAt, MayRefuse, MayShow, count_words, faults_in}
 use Rattle.lc_arguments.specs.Words.{other_faults_in}
@@ -23,9 +26,15 @@ use Rattle.lc_arguments.specs.declared.table.TableRequest.{TableRequest}
 use Rattle.lc_arguments.specs.declared.request.ParseExit.{ParseExit}
 use Rattle.lc_arguments.specs.declared.request.ParseExit.TheVariants.{Shown, Refused, Memory}
 
-and_false : (a : Bool) → (a && false) ≡ false
-and_false true = refl
-and_false false = refl
+-- where nothing wrong was found, all is right
+pub none_wrong : (right : Bool) → false ≡ not right → right ≡ true
+none_wrong true is = refl
+none_wrong false is = cc
+
+-- and where something was, not all is
+pub one_wrong : (right : Bool) → true ≡ not right → right ≡ false
+one_wrong true is = is
+one_wrong false is = refl
 
 -- one value that an option may not have
 pub one_not_allowed : (option : Repeated) (values : List (Bor (List ℕ))) (k : ℕ) (d : Bor (List ℕ)) → k < length values
@@ -35,7 +44,7 @@ one_not_allowed option (value ∷ values) zero d low bad =
     ap (λ b. b && list_all (is_allowed option) (map (λ value. value.now) values)) bad
 one_not_allowed option (value ∷ values) (suc k) d low bad =
     ap (λ b. is_allowed option value.now && b) (one_not_allowed option values k d (omega arith) bad)
-    ∙ and_false (is_allowed option value.now)
+    ∙ and-false (is_allowed option value.now)
 
 -- what is answered to the same texts of a table
 pub answers_table_as : (format by sort format' by' sort' : Option (List ℕ)) (depth : Option ℕ) (answer : Result TableRequest ParseExit)
@@ -107,13 +116,27 @@ paths_refused rows numbers (Shown text) bad = bad
 paths_refused rows numbers (Refused text) bad = λ _. inr (inl bad)
 paths_refused rows numbers Memory bad = tt
 
+-- nor what was read with a directory twice
+pub directories_refused : (rows : List Row) (numbers : Numbers) (why : ParseExit) → AnswersDirectoriesIn rows (Err why)
+    → AnswersCountIn rows numbers (Err why)
+directories_refused rows numbers (Shown text) bad = bad
+directories_refused rows numbers (Refused text) bad = λ _. inr (inr (inl bad))
+directories_refused rows numbers Memory bad = tt
+
 -- nor what was read with no table
 pub table_refused : (rows : List Row) (numbers : Numbers) (why : ParseExit) → AnswersTableIn rows numbers.depth (Err why)
     → AnswersCountIn rows numbers (Err why)
 table_refused rows numbers (Shown text) bad = bad
 table_refused rows numbers (Refused text) bad =
-    λ are. inr (inr (inl (subst (λ (depth : Option ℕ). (s : TableRequest) → ¬ IsTableAt rows depth s) are.depth bad)))
+    λ are. inr (inr (inr (inl (subst (λ (depth : Option ℕ). (s : TableRequest) → ¬ IsTableAt rows depth s) are.depth bad))))
 table_refused rows numbers Memory bad = tt
+
+-- what is passed on refuses the count as it is
+pub no_count_in : (rows : List Row) (numbers : Numbers) (answer : Result CountRequest ParseExit) (why : ParseExit)
+    → IsErrAnd answer (λ e. e ≡ why) → AnswersCountIn rows numbers (Err why) → AnswersCountIn rows numbers answer
+no_count_in rows numbers answer why passed refused =
+    let no = err_from_is_err_and answer passed in
+    subst (AnswersCountIn rows numbers) (sym (no.1 ∙ ap Err no.2)) refused
 
 -- the words after `count` of which this was read ask for no count
 pub count_refused : (words : List (List ℕ)) (numbers : Numbers) (why : ParseExit) → fault_of count_app words ≡ []
@@ -127,7 +150,7 @@ count_refused words numbers Memory fine are bad = tt
 pub misfit_refused : (words : List (List ℕ)) (c : CountRequest) (why : ParseExit) → fault_of count_app words ≡ [] → IsRefusal why
     → IsCountOf (matches_of count_app words) c → fit_together c ≡ false → AnswersCountWords words (Err why)
 misfit_refused words c (Shown text) fine refusal is misfit = absurd refusal
-misfit_refused words c (Refused text) fine refusal is misfit = inr (fine, inr (inr (inr (c, is, misfit))))
+misfit_refused words c (Refused text) fine refusal is misfit = inr (fine, inr (inr (inr (inr (c, is, misfit)))))
 misfit_refused words c Memory fine refusal is misfit = tt
 
 -- words of a count fail as its words do

@@ -1,5 +1,6 @@
 -- Options of a count that go together.
-use Rattle.std.specs.Prelude.{◌&&◌, ◌||◌, Bool, true, false, not, is_some, Option, Some, None}
+use Rattle.std.specs.Prelude.{◌&&◌, ◌||◌, Bool, true, false, not, is_some, length, nat_lt, Option, Some, None}
+use Rattle.clap.specs.Walk.{is_empty}
 use Rattle.lc_sheet.specs.declared.table_options.Format.{Format}
 use Rattle.lc_sheet.specs.declared.table_options.Format.TheVariants.{Table, Csv, Markdown, Html}
 use Rattle.lc_sheet.specs.declared.table_options.Order.{Order}
@@ -34,11 +35,17 @@ asks_for_rows c =
     c.table.files || c.left_out || is_some c.table.top || is_some c.table.by.dir
     || not (c.table.by.ext && c.table.by.text && c.table.by.eol)
 
+-- paths were asked for, each relative to one directory
+abbrev pub asks_for_paths : CountRequest → Bool
+asks_for_paths c = not (is_empty c.only.items) || is_some c.only_from
+
 -- shares are shown in a format that has them; not both files and what is left out are listed in one that has records of one kind; a
--- picture has no rows and no lists, and draws a number; and paths end with NUL where they come from a file
+-- picture has no rows and no lists, and draws a number; paths end with NUL where they come from a file; and paths are of one directory
 abbrev pub fit_together : CountRequest → Bool
 fit_together c =
     (not c.table.share || shows_shares c.table.format)
     && (not (c.table.files && c.left_out && has_one_kind c.table.format)
     && (not (is_picture c.table.format && asks_for_rows c)
-    && (not (is_picture c.table.format && is_by_name c.table.sort) && (not c.null || is_some c.only_from))))
+    && (not (is_picture c.table.format && is_by_name c.table.sort)
+    && ((not c.null || is_some c.only_from)
+    && not (nat_lt 1 (length c.directories.items) && asks_for_paths c)))))

@@ -6,12 +6,12 @@ use Rattle.clap.specs.declared.builder.action.ArgAction.TheVariants.{Append, Set
 use Rattle.clap.specs.declared.builder.value_parser.ValueParser.TheVariants.{Signed}
 use Rattle.lc_arguments.specs.Options.{OptionModel, is_of, options}
 use Rattle.lc_arguments.specs.declared.option_row.Kind.{Kind}
-use Rattle.lc_arguments.specs.declared.option_row.Kind.TheVariants.{Flag, Text, Texts, Number, Word, OptionalWord, Words}
+use Rattle.lc_arguments.specs.declared.option_row.Kind.TheVariants.{Flag, Text, Texts, Number, Word, Words}
 use Rattle.lc_arguments.specs.declared.option_row.Subcommand.{Subcommand}
 use Rattle.lc_arguments.specs.declared.option_row.Subcommand.TheVariants.{Count, Explain, Check}
 
 -- an argument of this kind with this name: an option without a value, with a text, with a text that may be repeated, or with a number from
--- 1 on; or without a hyphen, one that is required, one that may be omitted, or any number of them
+-- 1 on; or without a hyphen, one that is required, or any number of them
 abbrev pub kind_rule : Kind → List ℕ → Rule
 kind_rule Flag name = record (new_rule name) { long = Some name; action = Some SetTrue }
 kind_rule Text name = record (new_rule name) { long = Some name; value_names = 1; action = Some Set }
@@ -23,7 +23,6 @@ kind_rule (Number most) name = record (new_rule name) {
   parser = Some (Signed (pos 1) (pos most));
 }
 kind_rule Word name = record (new_rule name) { required = true; action = Some Set }
-kind_rule OptionalWord name = record (new_rule name) { action = Some Set }
 kind_rule Words name = record (new_rule name) { action = Some Append }
 
 -- one with a short name beside the long one

@@ -13,6 +13,7 @@ use Rattle.lc_arguments.specs.Words.{IsText, IsNoRequestBy, IsCheckOf, IsCountOf
 use Rattle.lc_arguments.specs.Words.{AskForNoCount, AskForNoExplanation, AsksNoCount, AreFiltersOf, AreNumbersIn, IsFitCountOf}
 use Rattle.lc_sheet.specs.Conditions.{ConditionModel}
 use Rattle.lc_arguments.specs.Words.{AreConditionsOf, IsTableAt, Misvalue, is_bad_part, part_of, texts_read, values_read}
+use Rattle.lc_arguments.specs.Directories.{are_distinct, or_here, unslashed}
 use Rattle.lc_arguments.specs.Repeated.{are_allowed}
 use Rattle.clap.specs.Walk.{Row}
 use Rattle.lc_sheet.specs.declared.table_options.Columns.{Columns}
@@ -94,6 +95,18 @@ AnswersPaths words (Err Memory) = Unit {0}
 -- those that were read
 abbrev pub AnswersPathsIn : List Row → Result (Vec (Bor (List ℕ))) ParseExit → Type 0
 AnswersPathsIn rows result = AnswersPaths (texts_read (codes "only") rows) result
+
+-- the directories of these words, in their order, or this one; or one is named twice
+abbrev pub AnswersDirectories : List (List ℕ) → Result (Vec (Bor (List ℕ))) ParseExit → Type 0
+AnswersDirectories words (Ok directories) =
+    (map (λ directory. directory.now) directories.items ≡ or_here words) × (are_distinct (map unslashed (or_here words)) ≡ true)
+AnswersDirectories words (Err (Shown _)) = ⊥
+AnswersDirectories words (Err (Refused _)) = are_distinct (map unslashed (or_here words)) ≡ false
+AnswersDirectories words (Err Memory) = Unit {0}
+
+-- those that were read
+abbrev pub AnswersDirectoriesIn : List Row → Result (Vec (Bor (List ℕ))) ParseExit → Type 0
+AnswersDirectoriesIn rows result = AnswersDirectories (texts_read (codes "DIR") rows) result
 
 -- what is asked for; or nothing is, or there was no memory to say so
 abbrev pub AnswersBy : {A : Type 0} → (A → Type 0) → Result A ParseExit → Type 0

@@ -2,6 +2,7 @@ pub mod Combinations
 pub mod CommandLine
 pub mod ConditionWords
 pub mod CountArgs
+pub mod Directories
 pub mod Explained
 pub mod Options
 pub mod Refusals

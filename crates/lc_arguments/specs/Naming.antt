@@ -6,7 +6,7 @@ use Rattle.lc_text.specs.Visible.{visible_bytes}
 use Rattle.lc_arguments.specs.Options.{OptionModel, is_of, options}
 use Rattle.lc_arguments.specs.Words.{count_words}
 use Rattle.lc_arguments.specs.declared.option_row.Kind.{Kind}
-use Rattle.lc_arguments.specs.declared.option_row.Kind.TheVariants.{Flag, Text, Texts, Number, Word, OptionalWord, Words}
+use Rattle.lc_arguments.specs.declared.option_row.Kind.TheVariants.{Flag, Text, Texts, Number, Word, Words}
 use Rattle.lc_arguments.specs.declared.option_row.Subcommand.{Subcommand}
 use Rattle.lc_arguments.specs.declared.option_row.Subcommand.TheVariants.{Count, Explain, Check}
 use Rattle.lc_arguments.specs.declared.request.ParseExit.{ParseExit}
@@ -20,7 +20,6 @@ mark_before Text = codes "--"
 mark_before Texts = codes "--"
 mark_before (Number most) = codes "--"
 mark_before Word = codes "<"
-mark_before OptionalWord = codes "["
 mark_before Words = codes "["
 
 abbrev pub mark_after : Kind → List ℕ
@@ -29,7 +28,6 @@ mark_after Text = []
 mark_after Texts = []
 mark_after (Number most) = []
 mark_after Word = codes ">"
-mark_after OptionalWord = codes "]"
 mark_after Words = codes "]"
 
 -- a text has the name of an argument, with its marks
@@ -65,7 +63,6 @@ is_telling Text = true
 is_telling Texts = true
 is_telling (Number most) = true
 is_telling Word = true
-is_telling OptionalWord = false
 is_telling Words = false
 
 -- a text names one of these arguments

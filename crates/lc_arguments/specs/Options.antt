@@ -2,7 +2,7 @@
 use Rattle.std.specs.Prelude.{ℕ, Bool, true, false, List, [], ◌∷◌, Option, Some, None, option_map, codes}
 use Rattle.lc_arguments.specs.declared.option_row.Commands.{Commands}
 use Rattle.lc_arguments.specs.declared.option_row.Kind.{Kind}
-use Rattle.lc_arguments.specs.declared.option_row.Kind.TheVariants.{Flag, Text, Texts, Number, Word, OptionalWord, Words}
+use Rattle.lc_arguments.specs.declared.option_row.Kind.TheVariants.{Flag, Text, Texts, Number, Word, Words}
 use Rattle.lc_arguments.specs.declared.option_row.OptionRow.{OptionRow}
 use Rattle.lc_arguments.specs.declared.option_row.Subcommand.{Subcommand}
 use Rattle.lc_arguments.specs.declared.option_row.Subcommand.TheVariants.{Count, Explain, Check}
@@ -92,7 +92,7 @@ options =
     ∷ option (codes "fail-if-any") None Flag None count
     ∷ option (codes "threads") (Some 106) (Number max_threads) (Some (codes "4")) count
     ∷ option (codes "max-dirs") None (Number max_dirs) (Some (codes "65536")) count
-    ∷ option (codes "DIR") None OptionalWord (Some (codes ".")) count
+    ∷ option (codes "DIR") None Words (Some (codes ".")) count
     ∷ option (codes "explain") None Flag None check
     ∷ option (codes "null") (Some 48) Flag None input
     ∷ option (codes "DIR") None Word None explain

@@ -25,6 +25,7 @@ use Rattle.lc_arguments.specs.CommandLine.{count_app, check_app, explain_app, lc
 use Rattle.lc_arguments.specs.Options.{max_depth, max_dirs, max_threads, max_top}
 use Rattle.lc_arguments.specs.Combinations.{fit_together}
 use Rattle.lc_arguments.specs.ConditionWords.{all_conditions}
+use Rattle.lc_arguments.specs.Directories.{are_distinct, or_here, unslashed}
 use Rattle.lc_arguments.specs.Repeated.{are_allowed, id_of}
 use Rattle.lc_arguments.specs.declared.repeated.Repeated.{Repeated}
 use Rattle.lc_arguments.specs.declared.repeated.Repeated.TheVariants.{Attributes, Excluded, Included, Conditions}
@@ -140,6 +141,20 @@ Misplace rows = list_any is_bad_part (paths_read rows) ≡ true
 abbrev pub ArePathsOf : List Row → List (Bor (List ℕ)) → Type 0
 ArePathsOf rows paths = (map (λ path. path.now) paths ≡ paths_read rows) × (list_any is_bad_part (paths_read rows) ≡ false)
 
+-- the directories that were asked for; this one where none was
+abbrev pub directories_read : List Row → List (List ℕ)
+directories_read rows = or_here (texts_read (codes "DIR") rows)
+
+-- one of them was asked for twice, apart from slashes at its end
+abbrev pub NamesOneTwice : List Row → Type 0
+NamesOneTwice rows = are_distinct (map unslashed (directories_read rows)) ≡ false
+
+-- the directories that were asked for, in their order and as they were typed, none twice
+abbrev pub AreDirectoriesOf : List Row → List (Bor (List ℕ)) → Type 0
+AreDirectoriesOf rows directories =
+    (map (λ directory. directory.now) directories ≡ directories_read rows)
+    × (are_distinct (map unslashed (directories_read rows)) ≡ true)
+
 -- the filters that were asked for
 pub record AreFiltersOf (rows : List Row) (e : FilterRequest) : Type 0 where
   pub exclude_from : option_map (λ s. s.now) e.exclude_from ≡ first_of (codes "exclude-from") rows
@@ -182,7 +197,7 @@ pub record IsCountOf (rows : List Row) (c : CountRequest) : Type 0 where
   pub share : IsFlag (codes "share") rows c.table.share
   pub conditions : AreConditionsOf rows c.conditions.items
   pub fail_if_any : IsFlag (codes "fail-if-any") rows c.fail_if_any
-  pub directory : c.directory.now ≡ unwrap_or (first_of (codes "DIR") rows) (codes ".")
+  pub directories : AreDirectoriesOf rows c.directories.items
 
 -- the count that was asked for, whose options go together
 abbrev pub IsFitCountOf : List Row → CountRequest → Type 0
@@ -192,9 +207,11 @@ IsFitCountOf rows c = IsCountOf rows c × (fit_together c ≡ true)
 abbrev pub Misfit : List Row → Type 0
 Misfit rows = (c : CountRequest) × IsCountOf rows c × (fit_together c ≡ false)
 
--- no count was asked for: by what is no value of an option, no path of an entry or no table, or by options that do not go together
+-- no count was asked for: by what is no value of an option, no path of an entry, a directory that was named twice or no table, or by
+-- options that do not go together
 abbrev pub AsksNoCount : List Row → Type 0
-AsksNoCount rows = Misvalue rows ⊎ (Misplace rows ⊎ (((s : TableRequest) → ¬ IsTableIn rows s) ⊎ Misfit rows))
+AsksNoCount rows =
+    Misvalue rows ⊎ (Misplace rows ⊎ (NamesOneTwice rows ⊎ (((s : TableRequest) → ¬ IsTableIn rows s) ⊎ Misfit rows)))
 
 -- the check that was asked for
 pub record IsCheckOf (rows : List Row) (c : CheckRequest) : Type 0 where

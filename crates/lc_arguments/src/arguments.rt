@@ -36,7 +36,6 @@ fn with_kind<'a>(alloc: Global, row: &'static OptionRow) -> Arg<'a>
             .action(ArgAction::Set)
             .value_parser(ValueParser::signed(1, i64::from(most))),
         Kind::Word => arg.required(true).action(ArgAction::Set),
-        Kind::OptionalWord => arg.action(ArgAction::Set),
         Kind::Words => arg.action(ArgAction::Append),
     }
 }

@@ -1,7 +1,7 @@
 //! Options of a count that do not go together.
 
 ghost use Rattle.std.specs.Prelude.{◌≡◌, is_some, not};
-ghost use Rattle.lc_arguments.specs.Combinations.{asks_for_rows, fit_together, is_by_name, shows_shares};
+ghost use Rattle.lc_arguments.specs.Combinations.{asks_for_paths, asks_for_rows, fit_together, is_by_name, shows_shares};
 
 use crate::count::CountRequest;
 use lc_sheet::{Format, Order};
@@ -33,6 +33,13 @@ fn asks_for_rows(request: &CountRequest<'_>) -> bool
         || !(by.ext && by.text && by.eol)
 }
 
+/// Returns whether paths are asked for, each relative to one directory.
+fn asks_for_paths(request: &CountRequest<'_>) -> bool
+    ensures { result ≡ asks_for_paths request.now }
+{
+    !request.only.is_empty() || request.only_from.is_some()
+}
+
 /// Finds out why the options of a count do not go together.
 pub(crate) fn misfit(request: &CountRequest<'_>) -> Option<&'static str>
     ensures { is_some result ≡ not (fit_together request.now) }
@@ -54,6 +61,11 @@ pub(crate) fn misfit(request: &CountRequest<'_>) -> Option<&'static str>
     }
     if request.null && request.only_from.is_none() {
         return Some("'--null' needs '--only-from <FILE>'");
+    }
+    if request.directories.len() > 1 && asks_for_paths(request) {
+        return Some(
+            "'--only <PATH>' and '--only-from <FILE>' need one DIR, because a PATH is relative to it",
+        );
     }
     None
 }

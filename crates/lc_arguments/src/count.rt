@@ -9,6 +9,7 @@ ghost use Rattle.lc_arguments.specs.Explained.{AnswersCountIn, AnswersCountWords
 use crate::arguments::{args, bare};
 use crate::combinations::misfit;
 use crate::conditions::conditions_in;
+use crate::directories::directories_in;
 use crate::error_text::problem_of;
 use crate::filter_request::FilterRequest;
 use crate::numbers::Numbers;
@@ -48,8 +49,8 @@ pub struct CountRequest<'w> {
     pub conditions: Vec<Condition<'w>>,
     /// A file that is counted, and meets the conditions, is a failure.
     pub fail_if_any: bool,
-    /// The path of DIR, as it was given: `.`, the directory that the program runs in, where none is.
-    pub directory: &'w str,
+    /// The path of each DIR, as it was given, in their order, and none twice: `.`, the directory that the program runs in, where none is.
+    pub directories: Vec<&'w str>,
 }
 
 /// Makes the clap command of `lc count`.
@@ -82,22 +83,11 @@ fn request_in<'w>(
 ) -> Result<CountRequest<'w>, ParseExit>
     ensures { AnswersCountIn (rows_of (found_of matches.now)) numbers result }
 {
-    let filters = match FilterRequest::read(alloc, matches) {
-        Ok(filters) => filters,
-        Err(no) => return Err(no),
-    };
-    let only = match paths_in(alloc, matches) {
-        Ok(only) => only,
-        Err(no) => return Err(no),
-    };
-    let table = match table_in(alloc, matches, numbers.depth) {
-        Ok(table) => table,
-        Err(no) => return Err(no),
-    };
-    let conditions = match conditions_in(alloc, matches) {
-        Ok(conditions) => conditions,
-        Err(no) => return Err(no),
-    };
+    let filters = FilterRequest::read(alloc, matches)?;
+    let only = paths_in(alloc, matches)?;
+    let directories = directories_in(alloc, matches)?;
+    let table = table_in(alloc, matches, numbers.depth)?;
+    let conditions = conditions_in(alloc, matches)?;
     Ok(CountRequest {
         threads: numbers.threads,
         max_dirs: numbers.max_dirs,
@@ -115,7 +105,7 @@ fn request_in<'w>(
         },
         conditions,
         fail_if_any: matches.get_flag("fail-if-any"),
-        directory: matches.get_str("DIR").unwrap_or("."),
+        directories,
     })
 }
 

@@ -28,7 +28,7 @@ pub(crate) struct CommandHelp {
 
 pub(crate) const LC: CommandHelp = CommandHelp {
     full_name: "lc",
-    usage: "lc [OPTIONS] [DIR]\n       lc <COMMAND> [OPTIONS] [ARGUMENTS]",
+    usage: "lc [OPTIONS] [DIR]...\n       lc <COMMAND> [OPTIONS] [ARGUMENTS]",
     about: "Count files, lines and bytes in a source tree, skipping what .gitignore skips",
     after: "Example: lc .",
     after_long: "\
@@ -56,7 +56,7 @@ See also: lc count --help, lc explain --help, lc check --help, man lc",
 
 pub(crate) const COUNT: CommandHelp = CommandHelp {
     full_name: "lc count",
-    usage: "lc count [OPTIONS] [DIR]",
+    usage: "lc count [OPTIONS] [DIR]...",
     about: "Count files, lines and bytes, skipping what Git would ignore",
     after: "Example: lc count --by ext .",
     after_long: "\
@@ -66,6 +66,9 @@ DIR or below, in .git/info/exclude, in the file of --exclude-from, or of
 Entries named .git, symbolic links and special files are always skipped. lc
 reads no rules above DIR, no configuration of Git and not its index: an ignored
 file is skipped even if Git tracks it.
+
+Several DIRs are counted one after another, each under its own rules, and their
+sums are added. Paths then begin with DIR as you typed it.
 
 Each row is for the files of one kind:
   dir    the directory, relative to DIR; only with --by dir
@@ -102,6 +105,7 @@ Examples:
   lc count --files --where 'lines>1000' --where ext=.c,.h .
   lc count --files --where 'lines>1000' --fail-if-any .
   lc count --by dir --depth 2 --share .
+  lc count src ../lib
   lc count --format csv --files .
   lc count -j 8 src
   lc count --exclude '*.min.js' --include '*.js' .

@@ -2,7 +2,7 @@
 //!
 //! - `request`: what the program is asked to do, or why it does nothing; arguments without a command
 //! - `first_word`: what the first argument asks for
-//! - `count`, `check`, `explain`: the options of each command; `table`: those of the table; `paths`: those of `--only`
+//! - `count`, `check`, `explain`: the options of each command; `table`: those of the table; `paths`: those of `--only`; `directories`: DIR
 //! - `numbers`: the numbers of a count; `combinations`: options that do not go together
 //! - `filter_request`: which entries counts and explanations skip; `repeated`: options that may be given several times
 //! - `conditions`: which files are shown; `condition_text`: a condition, as it is typed
@@ -19,6 +19,7 @@ mod combinations;
 mod condition_text;
 mod conditions;
 mod count;
+mod directories;
 mod error_text;
 mod explain;
 mod filter_request;
@@ -40,6 +41,7 @@ mod table;
 
 pub use check::CheckRequest;
 pub use count::CountRequest;
+pub use directories::unslashed;
 pub use explain::ExplainRequest;
 pub use filter_request::FilterRequest;
 pub use first_word::count_words;

@@ -52,7 +52,7 @@ repeated",
         WHICH_FILES,
         "Count only what is at or under PATH, under the rules of all of DIR.
 PATH is relative to DIR, such as src/lib; . is all of DIR. May be
-repeated",
+repeated; there is one DIR then",
     ),
     (
         "only-from",
@@ -145,8 +145,8 @@ could not be read do not change this status",
     (
         "max-dirs",
         LIMITS,
-        "Limit of directories, DIR included, 1 to 1048576. Past it there is no
-table",
+        "Limit of directories under each DIR, DIR included, 1 to 1048576. Past
+it there is no table",
     ),
     (
         "explain",

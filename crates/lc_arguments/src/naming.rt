@@ -22,7 +22,7 @@ fn mark_before(kind: Kind) -> &'static str
     match kind {
         Kind::Flag | Kind::Text | Kind::Texts | Kind::Number(_) => "--",
         Kind::Word => "<",
-        Kind::OptionalWord | Kind::Words => "[",
+        Kind::Words => "[",
     }
 }
 
@@ -33,7 +33,7 @@ fn mark_after(kind: Kind) -> &'static str
     match kind {
         Kind::Flag | Kind::Text | Kind::Texts | Kind::Number(_) => "",
         Kind::Word => ">",
-        Kind::OptionalWord | Kind::Words => "]",
+        Kind::Words => "]",
     }
 }
 
@@ -41,7 +41,7 @@ fn mark_after(kind: Kind) -> &'static str
 fn is_telling(kind: Kind) -> bool
     ensures { result ≡ is_telling kind }
 {
-    !matches!(kind, Kind::OptionalWord | Kind::Words)
+    !matches!(kind, Kind::Words)
 }
 
 /// Returns whether a text has a part.

@@ -86,9 +86,7 @@ pub enum Kind {
     Number(u32),
     /// A required argument without a hyphen.
     Word,
-    /// An argument without a hyphen that has a default.
-    OptionalWord,
-    /// Any number of arguments without a hyphen.
+    /// Any number of arguments without a hyphen. There may be a default.
     Words,
 }
 

@@ -265,9 +265,9 @@ const OPTIONS: &[OptionRow] = &[
     },
     OptionRow {
         name: "DIR",
-        kind: Kind::OptionalWord,
+        kind: Kind::Words,
         default: Some("."),
-        help: "Directory to count; it may be a symbolic link",
+        help: "Directories to count; each may be a symbolic link",
         ..FLAG
     },
     OptionRow {

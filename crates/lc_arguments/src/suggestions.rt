@@ -3,7 +3,7 @@
 use crate::near::near_name;
 use crate::option_row::{Completes, Subcommand};
 use crate::options_table::options;
-use lc_text::{is_bad_path, is_top, push_quoted, push_visible, split_slash, undotted};
+use lc_text::{push_quoted, push_visible};
 use std::alloc::{AllocError, Global};
 use std::convert::AsStr;
 
@@ -125,35 +125,6 @@ fn is_shown_as_typed(alloc: Global, word: &str) -> Result<bool, AllocError> {
     Ok(shown.as_str() == word)
 }
 
-/// Returns whether an argument can be a path of `--only` other than DIR itself.
-fn is_part(alloc: Global, word: &str) -> Result<bool, AllocError> {
-    let (path, _) = split_slash(undotted(word.as_bytes()));
-    if word.starts_with('-') || is_top(path) || is_bad_path(path) {
-        return Ok(false);
-    }
-    is_shown_as_typed(alloc, word)
-}
-
-fn are_parts<W: AsStr>(alloc: Global, words: &[W]) -> Result<bool, AllocError> {
-    for word in words {
-        if !is_part(alloc, word.as_str())? {
-            return Ok(false);
-        }
-    }
-    Ok(words.len() > 1)
-}
-
-/// Makes a count of several parts of this directory.
-fn count_of_parts<W: AsStr>(alloc: Global, words: &[W]) -> Result<String, AllocError> {
-    let mut text = String::from_str(alloc, "lc count")?;
-    for word in words {
-        text.push_str(" --only ")?;
-        push_quoted(&mut text, word.as_str())?;
-    }
-    text.push_str(" .")?;
-    Ok(text)
-}
-
 /// Returns what clap quotes of the arguments that it refuses.
 fn quoted(problem: &str) -> &str {
     let Some((_, rest)) = problem.split_once('\'') else {
@@ -233,10 +204,6 @@ pub(crate) fn count<W: AsStr>(
     }
     if let Some(tip) = needless(quoted(problem)) {
         return with_tip(alloc, String::from_str(alloc, tip)?, COUNT);
-    }
-    if are_parts(alloc, words)? {
-        let parts = count_of_parts(alloc, words)?;
-        return example(alloc, &parts);
     }
     option_or(alloc, problem, Subcommand::Count, COUNT)
 }

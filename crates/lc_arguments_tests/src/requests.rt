@@ -2,7 +2,7 @@
 
 use lc_arguments::{
     CheckRequest, CountRequest, ExplainRequest, FilterRequest, ParseExit, Request, TableRequest,
-    count_words,
+    count_words, unslashed,
 };
 use lc_sheet::{Columns, Format, Number};
 use std::alloc::{AllocError, Global};
@@ -70,6 +70,10 @@ const COUNTS: &[Case] = &[
         "count .: 4 threads, 65536 directories, no format by ext text eol, shares",
     ),
     (
+        "count a --by ext b/ a/b ./a",
+        "count a b/ a/b ./a: 4 threads, 65536 directories, no format by ext",
+    ),
+    (
         "count --only ./src/ --only .//a --only . --only ./ .",
         "count .: 4 threads, 65536 directories, no format by ext text eol, only src, only a, only ., only .",
     ),
@@ -112,6 +116,10 @@ const SHORT_COUNTS: &[Case] = &[
     (
         "-- src",
         "count src: 4 threads, 65536 directories, no format by ext text eol",
+    ),
+    (
+        "./b/ ../a",
+        "count ./b/ ../a: 4 threads, 65536 directories, no format by ext text eol",
     ),
 ];
 
@@ -257,16 +265,12 @@ const EXITS: &[Case] = &[
         "refused: error: unexpected argument '--thread' found\n\n  tip: a similar argument exists: '--threads'\n\nUsage: ",
     ),
     (
-        "count . file",
-        "refused: error: unexpected argument 'file' found\n\nUsage: lc count [OPTIONS] [DIR]\n",
-    ),
-    (
         "count --text .",
-        "refused: error: unexpected argument '--text' found\n\nUsage: lc count [OPTIONS] [DIR]\n\nFor more",
+        "refused: error: unexpected argument '--text' found\n\nUsage: lc count [OPTIONS] [DIR]...\n\nFor more",
     ),
     (
         "--json",
-        "refused: error: unexpected argument '--json' found\n\nUsage: lc count [OPTIONS] [DIR]\n\nFor more",
+        "refused: error: unexpected argument '--json' found\n\nUsage: lc count [OPTIONS] [DIR]...\n\nFor more",
     ),
     (
         "count --include-from a .",
@@ -274,7 +278,7 @@ const EXITS: &[Case] = &[
     ),
     (
         "count -xz .",
-        "refused: error: unexpected argument '-z' found\n  arguments: 'count' '-xz' '.'\n\nUsage: lc count [OPTIONS] [DIR]\n\n\
+        "refused: error: unexpected argument '-z' found\n  arguments: 'count' '-xz' '.'\n\nUsage: lc count [OPTIONS] [DIR]...\n\n\
          For more information, try '--help'.\n\nExample: lc count .\n",
     ),
     (
@@ -285,7 +289,20 @@ const EXITS: &[Case] = &[
         "cuont .",
         "refused: error: unrecognized subcommand 'cuont'\n\n  tip: a similar command exists: 'count'\n\nUsage: lc [OPTIONS] [DIR]",
     ),
-    ("count a b", "refused: error: unexpected argument 'b' found"),
+    (
+        "count a b/ ./c b//",
+        "refused: error: 'b/' is given twice: each directory is counted once\n\nFor more",
+    ),
+    ("/ //", "refused: error: '/' is given twice"),
+    (
+        "count . \u{1b} \u{1b}/",
+        "refused: error: '\\x1b' is given twice",
+    ),
+    (
+        "count --only a . b",
+        "refused: error: '--only <PATH>' and '--only-from <FILE>' need one DIR, because a PATH is relative to it\n",
+    ),
+    ("a/ b/ --only-from -", "refused: error: '--only <PATH>' and"),
     (
         "a\u{1b}",
         "refused: error: unrecognized subcommand 'a\\x1b'",
@@ -294,10 +311,6 @@ const EXITS: &[Case] = &[
 
 /// Refused words, and the command that they may have meant.
 const MEANT: &[Case] = &[
-    ("count a b", "lc count --only a --only b ."),
-    ("count a+b it's", "lc count --only a+b --only 'it'\\''s' ."),
-    ("count a\u{1b} b", "lc count ."),
-    ("count . b", "lc count ."),
     ("count --json .", "lc count --format json ."),
     ("count . --csv", "lc count --format csv ."),
     ("count -e py .", "lc count --include '*.py' ."),
@@ -323,7 +336,6 @@ const MEANT: &[Case] = &[
     ("-v", "lc --version"),
     ("count --version", "lc --version"),
     ("count --json=x .", "lc count --format json ."),
-    ("count src json", "lc count --only src --only json ."),
     ("json", "lc count --format json ."),
     ("help src", "lc help count"),
     ("a\u{1b}", "lc count ."),
@@ -411,10 +423,12 @@ fn push_paths(text: &mut String, request: &CountRequest) -> Result<(), AllocErro
 }
 
 fn count_text(alloc: Global, request: &CountRequest) -> Result<String, AllocError> {
-    let (directory, threads, max_dirs) = (request.directory, request.threads, request.max_dirs);
-    let mut text = format!(in alloc;
-        "count {directory}: {threads} threads, {max_dirs} directories, "
-    )?;
+    let (threads, max_dirs) = (request.threads, request.max_dirs);
+    let mut text = String::from_str(alloc, "count")?;
+    for directory in &request.directories {
+        write!(text, " {directory}")?;
+    }
+    write!(text, ": {threads} threads, {max_dirs} directories, ")?;
     push_table(&mut text, request.table)?;
     if request.left_out {
         text.push_str(", left out")?;
@@ -601,6 +615,24 @@ fn words_of_counts(rt: HostRuntime) -> Result<(), Fail> {
         "--version",
     ] {
         assert!(rt; count_words(&[word]).is_none(), "{word}");
+    }
+    Ok(())
+}
+
+#[test]
+fn directories_without_slashes(rt: HostRuntime) -> Result<(), Fail> {
+    for (directory, wanted) in [
+        ("", ""),
+        (".", "."),
+        ("/", ""),
+        ("//", ""),
+        ("a", "a"),
+        ("a/", "a"),
+        ("/a//b//", "/a//b"),
+        ("../", ".."),
+    ] {
+        let found = unslashed(directory);
+        assert!(rt; found == wanted.as_bytes(), "{directory}: {found:?}");
     }
     Ok(())
 }

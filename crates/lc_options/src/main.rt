@@ -18,7 +18,6 @@ fn push_kind(line: &mut String, kind: Kind) -> Result<(), AllocError> {
         Kind::Texts => line.push_str("texts"),
         Kind::Number(most) => write!(line, "number 1 to {most}"),
         Kind::Word => line.push_str("word"),
-        Kind::OptionalWord => line.push_str("optional word"),
         Kind::Words => line.push_str("words"),
     }
 }

@@ -1,11 +1,11 @@
-use Rattle.std.proofs.Common.{◌≡◌, Bool, true, false, map, not, refl, subst, List, Err, Ok}
+use Rattle.std.proofs.Common.{map, subst, List, Err, Ok}
 use Rattle.clap.specs.Walk.{Row}
 use Rattle.lc_arguments.specs.CommandLine.{count_app}
 use Rattle.lc_arguments.specs.Explained.{AnswersCountIn}
 use Rattle.lc_arguments.specs.Combinations.{fit_together}
 use Rattle.lc_arguments.specs.Words.{AreNumbersIn, IsCountOf}
 use Rattle.lc_arguments.proofs.WordFaults.{count_is_free, count_is_simple, fails_as, matches_as, no_count_by, no_request_of}
-use Rattle.lc_arguments.proofs.Misnaming.{count_refused, misfit_refused}
+use Rattle.lc_arguments.proofs.Misnaming.{count_refused, misfit_refused, none_wrong, one_wrong}
 use Rattle.lc_arguments.proofs.count.CountRequest.read.Goals as goal
 
 pub returns-in-Err : goal.returns-in-Err
@@ -27,16 +27,6 @@ returns-in-Err-request_in g c =
     count_refused words numbers why (fails_as c.in-Ok.command count_app words (Ok m) is count_is_free parse.kinds) are
     (subst (λ (rs : List Row). AnswersCountIn rs numbers (Err why)) rows c.in-Err-request_in.ensures)
 
--- what is no misfit goes together
-fits : (b : Bool) → false ≡ not b → b ≡ true
-fits true is = refl
-fits false is = cc
-
--- and what is one does not
-does_not_fit : (b : Bool) → true ≡ not b → b ≡ false
-does_not_fit true is = is
-does_not_fit false is = refl
-
 pub returns-in-None : goal.returns-in-None
 returns-in-None g c =
     let words = map g.W.AsStr.text c.args.words.now in
@@ -47,7 +37,7 @@ returns-in-None g c =
     let rows = matches_as c.in-Ok.command count_app words m is count_is_simple parse.matches in
     let found = c.in-Ok-request_in.ensures (c.read.ensures (c.in-Ok.ensures.1 m parse.parsed)) in (
       fails_as c.in-Ok.command count_app words (Ok m) is count_is_free parse.kinds,
-      (subst (λ (rs : List Row). IsCountOf rs request) rows found, fits (fit_together request) (rw c.in-None.is at c.misfit.ensures)),
+      (subst (λ (rs : List Row). IsCountOf rs request) rows found, none_wrong (fit_together request) (rw c.in-None.is at c.misfit.ensures)),
     )
 
 pub returns : goal.returns
@@ -61,4 +51,4 @@ returns g c =
     let found = c.in-Ok-request_in.ensures (c.read.ensures (c.in-Ok.ensures.1 m parse.parsed)) in
     misfit_refused words request c.unfit.result (fails_as c.in-Ok.command count_app words (Ok m) is count_is_free parse.kinds)
     c.unfit.ensures (subst (λ (rs : List Row). IsCountOf rs request) rows found)
-    (does_not_fit (fit_together request) (rw c.in-Some.is at c.misfit.ensures))
+    (one_wrong (fit_together request) (rw c.in-Some.is at c.misfit.ensures))

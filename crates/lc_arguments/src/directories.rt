@@ -1,0 +1,99 @@
+//! The directories of a count, as in `lc count src ../lib`.
+
+ghost use Rattle.std.specs.Prelude.{◌≡◌, IfOk, is_some, map, not};
+ghost use Rattle.std.specs.List.{list_any};
+ghost use Rattle.std.specs.Str.{bytes_eq};
+ghost use Rattle.clap.specs.Matches.{found_of};
+ghost use Rattle.clap.specs.Walk.{rows_of};
+ghost use Rattle.lc_arguments.specs.Directories.{are_distinct, or_here, unslashed};
+ghost use Rattle.lc_arguments.specs.Explained.{AnswersDirectories, AnswersDirectoriesIn, IsRefusal};
+
+use crate::request::{ParseExit, unfit};
+use clap::ArgMatches;
+use std::alloc::{AllocError, Global};
+
+/// Returns the path of a directory without the slashes at its end. That of `/` is empty.
+///
+/// ```
+/// assert!(rt; unslashed("../lib//") == b"../lib");
+/// assert!(rt; unslashed("/").is_empty());
+/// ```
+pub fn unslashed(directory: &str) -> &[u8]
+    ensures { result.now ≡ unslashed directory.now }
+{
+    let mut left = directory.as_bytes();
+    'slashes: while let Some(rest) = left.strip_suffix(b"/") {
+        left = rest;
+    }
+    left
+}
+
+/// Returns whether a name is that of one of these directories.
+fn is_among(name: &[u8], directories: &[&str]) -> bool
+    ensures { result ≡ list_any (bytes_eq name.now) (map (λ d. unslashed d.now) directories.now) }
+{
+    for directory in directories {
+        if name == unslashed(directory) {
+            return true;
+        }
+    }
+    false
+}
+
+/// Finds the first directory that is given again after it.
+fn given_twice<'w>(directories: &[&'w str]) -> Option<&'w str>
+    ensures { is_some result ≡ not (are_distinct (map (λ d. unslashed d.now) directories.now)) }
+{
+    let mut rest = directories;
+    'rest: while let [directory, others @ ..] = rest {
+        if is_among(unslashed(directory), others) {
+            return Some(directory);
+        }
+        rest = others;
+    }
+    None
+}
+
+/// Makes the refusal of a directory that is given twice.
+fn repeated(alloc: Global, directory: &str) -> ParseExit
+    ensures { IsRefusal result }
+{
+    match format!(in alloc; "'{directory}' is given twice: each directory is counted once") {
+        Ok(why) => unfit(alloc, &why),
+        Err(AllocError) => ParseExit::Memory,
+    }
+}
+
+/// Copies the paths of directories. If none is given, the only one is `.`, the directory that the program runs in.
+fn or_here<'w>(alloc: Global, words: &[&'w str]) -> Result<Vec<&'w str>, AllocError>
+    ensures { IfOk result (λ directories. map (λ d. d.now) directories.items ≡ or_here (map (λ word. word.now) words.now)) }
+{
+    if words.is_empty() {
+        return Ok(vec![in alloc; "."]?);
+    }
+    words.to_vec(alloc)
+}
+
+/// Copies the paths of directories, unless one is given twice.
+fn directories_of<'w>(alloc: Global, words: &[&'w str]) -> Result<Vec<&'w str>, ParseExit>
+    ensures { AnswersDirectories (map (λ word. word.now) words.now) result }
+{
+    let Ok(directories) = or_here(alloc, words) else {
+        return Err(ParseExit::Memory);
+    };
+    match given_twice(&directories) {
+        None => Ok(directories),
+        Some(directory) => Err(repeated(alloc, directory)),
+    }
+}
+
+/// Takes the directories that clap read, in their order.
+pub(crate) fn directories_in<'w>(
+    alloc: Global,
+    matches: &ArgMatches<'w>,
+) -> Result<Vec<&'w str>, ParseExit>
+    ensures { AnswersDirectoriesIn (rows_of (found_of matches.now)) result }
+{
+    let words = matches.get_strs("DIR").unwrap_or(&[]);
+    directories_of(alloc, words)
+}
