@@ -1,5 +1,5 @@
 -- The commands that lines on standard error show, which can be typed as they are shown.
-use Rattle.std.specs.Prelude.{◌&&◌, ℕ, Bool, not, cond, nat_eq, List, [], ◌∷◌, ◌++◌, Option, Some, None, bytes_eq, codes}
+use Rattle.std.specs.Prelude.{◌&&◌, ℕ, Bool, not, cond, nat_eq, List, [], ◌∷◌, ◌++◌, Option, Some, None, bytes_eq, codes, flat_map}
 use Rattle.std.specs.List.{starts_with}
 use Rattle.std.specs.Path.{path_file_name, path_parent}
 use Rattle.lc_glob.specs.Lists.{is_empty}
@@ -10,9 +10,13 @@ use Rattle.lc_text.specs.Visible.{visible_bytes}
 abbrev pub is_typed : List ℕ → Bool
 is_typed path = not (is_empty path) && not (starts_with nat_eq path (codes "-")) && bytes_eq (visible_bytes path) path
 
--- the count of one path of a directory, by the rules of all of the directory
-abbrev pub count_of : List ℕ → List ℕ → List ℕ
-count_of path directory = codes "lc count --only " ++ quoted path ++ codes " " ++ quoted directory
+-- one path of a count
+abbrev pub only_of : List ℕ → List ℕ
+only_of path = codes "--only " ++ quoted path ++ codes " "
+
+-- the count of some paths of a directory, by the rules of all of the directory
+abbrev pub count_of : List (List ℕ) → List ℕ → List ℕ
+count_of paths directory = codes "lc count " ++ flat_map only_of paths ++ quoted directory
 
 -- the directory that a program runs in is a dot
 abbrev pub or_here : List ℕ → List ℕ
@@ -22,7 +26,7 @@ or_here (b ∷ bs) = b ∷ bs
 -- the count of a file with this name in this directory, where it can be typed
 abbrev pub count_of_file : List ℕ → List ℕ → List ℕ
 count_of_file name directory =
-    cond (is_typed name && is_typed directory) (codes ": " ++ count_of name directory ++ codes " counts one file") []
+    cond (is_typed name && is_typed directory) (codes ": " ++ count_of (name ∷ []) directory ++ codes " counts one file") []
 
 abbrev pub file_count_in : Option (List ℕ) → Option (List ℕ) → List ℕ
 file_count_in (Some name) (Some directory) = count_of_file name (or_here directory)

@@ -2,8 +2,10 @@ pub mod Causes
 pub mod Commands
 pub mod Counts
 pub mod Faults
+pub mod Finds
 pub mod Hints
 pub mod Introductions
+pub mod Nested
 pub mod PathLists
 pub mod Program
 pub mod Reasons

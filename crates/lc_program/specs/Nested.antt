@@ -1,11 +1,15 @@
--- Directories of which one is another, or lies in another.
-use Rattle.std.specs.Prelude.{◌≡◌, ◌⊎◌, ℕ, Bool, not, cond, List, [], ◌∷◌, ◌++◌, Option, Some, None, bytes_eq, codes, nat_eq}
-use Rattle.std.specs.List.{AllPairs, AllZip, Contains, ends_with, filter_map, starts_with}
+-- Directories of a count of which one is another, or lies in another.
+use Rattle.std.specs.Prelude.{◌≡◌, ◌⊎◌, ℕ, Bool, true, false, cond, List, [], ◌∷◌, ◌++◌, String, Option, Some, None, codes, string_bytes}
+use Rattle.std.specs.Prelude.{bytes_eq, nat_eq}
+use Rattle.std.specs.Global.{Global}
+use Rattle.std.specs.List.{AllPairs, AllZip, ends_with, starts_with}
 use Rattle.std.specs.List.Sorted.{IsPermutation}
 use Rattle.lc_glob.specs.Bytes.{slash}
+use Rattle.lc_program.specs.declared.cause.Cause.{Cause}
+use Rattle.lc_program.specs.declared.cause.Cause.TheVariants.{Nested}
 use Rattle.lc_text.specs.Visible.{visible_bytes}
 
--- a directory by its name, and its canonical path with a slash at its end, which is at the front of the path of what lies in it
+-- a directory by its name, and by its canonical path with a slash at its end, with which the paths in it begin
 pub record Place : Type 0 where
   pub name : List ℕ
   pub path : List ℕ
@@ -13,17 +17,48 @@ pub record Place : Type 0 where
 abbrev pub with_slash : List ℕ → List ℕ
 with_slash path = cond (ends_with nat_eq path (slash ∷ [])) path (path ++ slash ∷ [])
 
--- that of a directory with a canonical path
-abbrev pub place_of : List ℕ → Option (List ℕ) → Option Place
-place_of name None = None
-place_of name (Some path) = Some (record { name = name; path = with_slash path })
+-- the place of a directory, if it has a canonical path
+abbrev pub place_if : List ℕ → Option (List ℕ) → List Place
+place_if name None = []
+place_if name (Some path) = record { name = name; path = with_slash path } ∷ []
 
--- one is the other, or lies in it
+-- the places of directories by their names and canonical paths
+abbrev pub places_of : List (List ℕ) → List (Option (List ℕ)) → List Place
+places_of [] paths = []
+places_of (name ∷ names) [] = []
+places_of (name ∷ names) (path ∷ paths) = place_if name path ++ places_of names paths
+
+-- the one is the other, or the other lies in it
 abbrev pub holds : Place → Place → Bool
 holds outer inner = starts_with nat_eq inner.path outer.path
 
--- what is told of one and of one that it holds
+-- what is told of one that holds another
 abbrev pub nested_line : Place → Place → List ℕ
 nested_line outer inner = cond (bytes_eq outer.path inner.path)
     (codes "lc: " ++ visible_bytes outer.name ++ codes " and " ++ visible_bytes inner.name ++ codes " are one directory\n")
     (codes "lc: " ++ visible_bytes inner.name ++ codes " lies in " ++ visible_bytes outer.name ++ codes "\n")
+
+abbrev pub HoldsNot : Place → Place → Type 0
+HoldsNot a b = (holds a b ≡ false) × (holds b a ≡ false)
+
+-- none of these holds another: they are looked at in some order
+abbrev pub NoneHolds : List Place → Type 0
+NoneHolds places = (ordered : List Place) × IsPermutation places ordered × AllPairs HoldsNot ordered
+
+-- one of these holds another, which this cause tells
+abbrev pub OneHolds : List Place → Cause → Type 0
+OneHolds places cause =
+    (front back : List Place) × (outer inner : Place) × IsPermutation places (front ++ outer ∷ inner ∷ back)
+    × (holds outer inner ≡ true) × ((line : String Global) × (string_bytes line ≡ nested_line outer inner) × (cause ≡ Nested line))
+
+-- by what a system may say of the canonical path of the directory with each name
+module _ (may_stand : List ℕ → Option (List ℕ) → Type 0) where
+  abbrev pub AreApart : List (List ℕ) → Type 0
+  AreApart [] = Unit {0}
+  AreApart (only ∷ []) = Unit {0}
+  AreApart (first ∷ second ∷ others) =
+      let names = first ∷ second ∷ others in
+      (paths : List (Option (List ℕ))) × AllZip may_stand names paths × NoneHolds (places_of names paths)
+
+  abbrev pub AreNested : List (List ℕ) → Cause → Type 0
+  AreNested names cause = (paths : List (Option (List ℕ))) × AllZip may_stand names paths × OneHolds (places_of names paths) cause

@@ -3,6 +3,7 @@ use Rattle.std.specs.Prelude.{◌≡◌, ◌⊎◌, ℕ, Bool, List, [], Option,
 use Rattle.lc_io.specs.declared.source.Failed.{Failed}
 use Rattle.lc_io.specs.Reads.{Answer}
 use Rattle.lc_program.specs.Causes.{HasNumber, cause_line}
+use Rattle.lc_program.specs.Counts.{names_of}
 use Rattle.lc_program.specs.Faults.{TellsFaults}
 use Rattle.lc_program.specs.Hints.{Hints}
 use Rattle.lc_program.specs.Introductions.{Introduces}
@@ -48,7 +49,7 @@ module _ {E : Type 0} (may_take : E → List ℕ → Result ℕ Failed → E →
   -- fault it is told that its directory could not be listed, where the system may say so
   abbrev pub TellsUnread : (List ℕ → Option UnreadReason → Type 0) → Format → Request → Answered → E → E → Type 0
   TellsUnread may_unlist other (Count c) (Counted left unnamed) err told =
-      TellsFaults may_take may_unlist c.directory.now (options_in other c.table).format left.faults.items err told
+      TellsFaults may_take may_unlist (names_of c) (options_in other c.table).format left.faults.items err told
   TellsUnread may_unlist other (Explain c) (Explained outcome.SomeFaults) err told =
       TellsUnlisted may_take may_unlist c.directory.now err told
   TellsUnread may_unlist other request answered err told = told ≡ err

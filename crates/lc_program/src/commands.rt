@@ -1,7 +1,7 @@
 //! The commands that lines on standard error show.
 
-ghost use Rattle.std.specs.Prelude.{◌≡◌, ◌++◌, string_bytes, IfOk, OnOk};
-ghost use Rattle.lc_program.specs.Commands.{count_of, count_of_file, file_count, is_typed, or_here};
+ghost use Rattle.std.specs.Prelude.{◌≡◌, ◌++◌, flat_map, map, string_bytes, IfOk, OnOk};
+ghost use Rattle.lc_program.specs.Commands.{count_of, count_of_file, file_count, is_typed, only_of, or_here};
 
 use lc_text::{push_quoted, push_visible};
 use std::alloc::{AllocError, Global};
@@ -19,13 +19,33 @@ pub(crate) fn is_typed(alloc: Global, path: &str) -> Result<bool, AllocError>
     Ok(shown.as_bytes() == path.as_bytes())
 }
 
-/// Appends the count of one path of a directory, by the rules of all of the directory.
-pub(crate) fn push_count(text: &mut String, path: &str, directory: &str) -> Result<(), AllocError>
-    ensures { OnOk result (string_bytes text.new ≡ string_bytes text.old ++ count_of path.now directory.now) }
+fn push_only(text: &mut String, path: &str) -> Result<(), AllocError>
+    ensures { OnOk result (string_bytes text.new ≡ string_bytes text.old ++ only_of path.now) }
 {
-    text.push_str("lc count --only ")?;
+    text.push_str("--only ")?;
     push_quoted(text, path)?;
-    text.push_str(" ")?;
+    text.push_str(" ")
+}
+
+fn push_each_only(text: &mut String, paths: &[&str]) -> Result<(), AllocError>
+    ensures { OnOk result (string_bytes text.new ≡ string_bytes text.old ++ flat_map only_of (map (λ path. path.now) paths.now)) }
+{
+    for path in paths {
+        push_only(text, path)?;
+    }
+    Ok(())
+}
+
+/// Appends the count of some paths of a directory, by the rules of all of the directory.
+pub(crate) fn push_count(
+    text: &mut String,
+    paths: &[&str],
+    directory: &str,
+) -> Result<(), AllocError>
+    ensures { OnOk result (string_bytes text.new ≡ string_bytes text.old ++ count_of (map (λ path. path.now) paths.now) directory.now) }
+{
+    text.push_str("lc count ")?;
+    push_each_only(text, paths)?;
     push_quoted(text, directory)
 }
 
@@ -43,7 +63,7 @@ fn count_of_file(alloc: Global, name: &str, directory: &str) -> Result<String, A
     let mut text = String::new(alloc);
     if is_typed(alloc, name)? && is_typed(alloc, directory)? {
         text.push_str(": ")?;
-        push_count(&mut text, name, directory)?;
+        push_count(&mut text, &[name], directory)?;
         text.push_str(" counts one file")?;
     }
     Ok(text)

@@ -11,7 +11,9 @@ use crate::cause::Cause;
 use crate::checking::path_end;
 use crate::filters::{narrowed, read_filters};
 use crate::path_list::{list_of, wanted_paths};
-use crate::runs::run;
+use crate::finding::found;
+use crate::nested::refuse_unless_apart;
+use crate::showing::table;
 use crate::system::System;
 use crate::unnamed::unnamed_lines;
 use lc_arguments::{CountRequest, MAX_DIRS, MAX_THREADS};
@@ -70,7 +72,7 @@ fn entered_by(asked: &CountRequest<'_>) -> FileSystems
     }
 }
 
-/// Counts a directory and prints the table, in this format if the command line names none.
+/// Counts directories and prints the table, in this format if the command line names none.
 pub(crate) fn count<R: Threads + Wait + Sync + AllocGlobal, Y: System, S: Source, O: Sink>(
     rt: &R,
     system: &Y,
@@ -85,8 +87,9 @@ pub(crate) fn count<R: Threads + Wait + Sync + AllocGlobal, Y: System, S: Source
         (Y.unlists system.now) (Y.unreads system.now) (Y.lies system.now) (Y.stands system.now))
         S.may_give O.may_take format asked.now input.old out.old result input.new out.new }
 {
+    let directories = asked.directories.as_slice();
+    refuse_unless_apart(rt.alloc(), system, directories)?;
     let filters = read_filters(rt.alloc(), system, &asked.filters)?;
-    let tree = system.tree(rt.alloc(), asked.directory, entered_by(asked))?;
     let named = NamedAttributes::new(rt.alloc(), &asked.filters.without)?;
     // Lent before the list is, so that the options' references end together.
     let noted = &named;
@@ -102,7 +105,8 @@ pub(crate) fn count<R: Threads + Wait + Sync + AllocGlobal, Y: System, S: Source
         table: asked.table.options(format),
         conditions,
     };
-    let report = run(rt, rt.alloc(), &tree, &options, shown, out)?;
+    let mut report = found(rt, system, directories, entered_by(asked), &options)?;
+    table(rt.alloc(), &mut report, shown, out)?;
     let unnamed = unnamed_lines(rt.alloc(), noted);
     Ok(Answered::Counted(report, unnamed))
 }

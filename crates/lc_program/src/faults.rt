@@ -1,11 +1,13 @@
 //! The lines on standard error about what a count could not read.
 
-ghost use Rattle.std.specs.Prelude.{◌≡◌, ◌++◌, string_bytes, IfOk, OnOk};
+ghost use Rattle.std.specs.Prelude.{◌≡◌, ◌++◌, map, string_bytes, IfOk, OnOk};
 ghost use Rattle.lc_level.specs.FaultLines.{FaultLineModel};
-ghost use Rattle.lc_program.specs.Faults.{AreFaultLines, TellsFaults, each_line, fault_rows, is_top_unread, lines_by, number_line, number_text, unread_line};
+ghost use Rattle.lc_program.specs.Faults.{AreFaultLines, AreTopLines, IsTopLine, TellsFaults, each_line, fault_rows, has_path, inside, is_inside};
+ghost use Rattle.lc_program.specs.Faults.{lines_if, number_line, number_text, top_path, unread_line};
 
 use crate::system::System;
 use crate::unlisted::uncounted_line;
+use lc_arguments::unslashed;
 use lc_sheet::Format;
 use lc_text::{Sink, print, push_visible};
 use lc_walk::FaultLine;
@@ -20,8 +22,8 @@ fn push_unread(text: &mut String, path: &[u8]) -> Result<(), AllocError>
 }
 
 /// Makes a line for each path that could not be read.
-fn each_line(alloc: Global, faults: &[FaultLine]) -> Result<String, AllocError>
-    ensures { IfOk result (λ text. string_bytes text ≡ each_line faults.now) }
+fn each_line(alloc: Global, faults: &[&FaultLine]) -> Result<String, AllocError>
+    ensures { IfOk result (λ text. string_bytes text ≡ each_line (map (λ f. f.now) faults.now)) }
 {
     let mut text = String::new(alloc);
     for fault in faults {
@@ -61,16 +63,13 @@ fn fault_rows(count: usize) -> &'static str
     }
 }
 
-fn is_top_unread(faults: &[FaultLine]) -> bool
-    ensures { result ≡ is_top_unread faults.now }
+/// Makes the lines about the paths in the counted directories that could not be read, if there are any.
+fn lines_if(alloc: Global, format: Format, faults: &[&FaultLine]) -> Result<String, AllocError>
+    ensures { IfOk result (λ text. string_bytes text ≡ lines_if format (map (λ f. f.now) faults.now)) }
 {
-    faults.iter().any(|fault| fault.path.is_empty())
-}
-
-/// Makes the lines about the paths below the counted directory that could not be read.
-fn lines_by(alloc: Global, format: Format, faults: &[FaultLine]) -> Result<String, AllocError>
-    ensures { IfOk result (λ text. string_bytes text ≡ lines_by format faults.now) }
-{
+    if faults.is_empty() {
+        return Ok(String::new(alloc));
+    }
     match format {
         Format::Csv | Format::Html => each_line(alloc, faults),
         Format::Tsv => number_line(alloc, fault_rows(faults.len()), faults.len()),
@@ -79,40 +78,122 @@ fn lines_by(alloc: Global, format: Format, faults: &[FaultLine]) -> Result<Strin
     }
 }
 
-/// Makes the lines about what a count could not read. The system is asked why the directory itself could not be listed.
+/// Returns the path of the fault of a counted directory itself: none if it is the only one, and else its name.
+fn top_path<'w>(directories: &[&str], directory: &'w str) -> &'w [u8]
+    ensures { result.now ≡ top_path (map (λ d. d.now) directories.now) directory.now }
+{
+    if directories.len() == 1 {
+        return &[];
+    }
+    let name = unslashed(directory);
+    if name.is_empty() { b"/" } else { name }
+}
+
+fn has_path(path: &[u8], faults: &[FaultLine]) -> bool
+    ensures { result ≡ has_path path.now faults.now }
+{
+    faults.iter().any(|fault| fault.path == path)
+}
+
+/// Returns whether a fault is of what is in the directories.
+fn is_inside(directories: &[&str], fault: &FaultLine) -> bool
+    ensures { result ≡ is_inside (map (λ d. d.now) directories.now) fault.now }
+{
+    for directory in directories {
+        if fault.path == top_path(directories, directory) {
+            return false;
+        }
+    }
+    true
+}
+
+/// Collects the faults of what is in the directories.
+fn inside<'f>(
+    alloc: Global,
+    directories: &[&str],
+    faults: &'f [FaultLine],
+) -> Result<Vec<&'f FaultLine>, AllocError>
+    ensures { IfOk result (λ kept. map (λ f. f.now) kept.items ≡ inside (map (λ d. d.now) directories.now) faults.now) }
+{
+    let mut kept = Vec::new(alloc);
+    for fault in faults {
+        if is_inside(directories, fault) {
+            kept.push(fault)?;
+        }
+    }
+    Ok(kept)
+}
+
+/// Makes the line about a counted directory, if it could not be listed itself. The system is asked why.
+fn top_line<Y: System>(
+    alloc: Global,
+    system: &Y,
+    directories: &[&str],
+    directory: &str,
+    faults: &[FaultLine],
+) -> Result<String, AllocError>
+    ensures { IfOk result (λ line. IsTopLine (Y.unlists system.now) (map (λ d. d.now) directories.now) faults.now
+        (has_path (top_path (map (λ d. d.now) directories.now) directory.now) faults.now) directory.now (string_bytes line)) }
+{
+    if !has_path(top_path(directories, directory), faults) {
+        return Ok(String::new(alloc));
+    }
+    let why = system.why_unlisted(alloc, directory);
+    uncounted_line(alloc, directory, why)
+}
+
+/// Makes the lines about the counted directories that could not be listed themselves.
+fn top_lines<Y: System>(
+    alloc: Global,
+    system: &Y,
+    directories: &[&str],
+    faults: &[FaultLine],
+) -> Result<String, AllocError>
+    ensures { IfOk result (λ text. AreTopLines (Y.unlists system.now) (map (λ d. d.now) directories.now) faults.now
+        (map (λ d. d.now) directories.now) (string_bytes text)) }
+{
+    let mut text = String::new(alloc);
+    for directory in directories {
+        let line = top_line(alloc, system, directories, directory, faults)?;
+        text.push_str(&line)?;
+    }
+    Ok(text)
+}
+
+/// Makes the lines about what a count could not read.
 fn fault_lines<Y: System>(
     alloc: Global,
     system: &Y,
-    directory: &str,
+    directories: &[&str],
     format: Format,
     faults: &[FaultLine],
 ) -> Result<String, AllocError>
-    ensures { IfOk result (λ text. AreFaultLines (Y.unlists system.now) directory.now format faults.now (string_bytes text)) }
+    ensures { IfOk result (λ text. AreFaultLines (Y.unlists system.now) (map (λ d. d.now) directories.now) faults.now format
+        (string_bytes text)) }
 {
-    if is_top_unread(faults) {
-        let why = system.why_unlisted(alloc, directory);
-        uncounted_line(alloc, directory, why)
-    } else {
-        lines_by(alloc, format, faults)
-    }
+    let mut text = top_lines(alloc, system, directories, faults)?;
+    let inside = inside(alloc, directories, faults)?;
+    let others = lines_if(alloc, format, &inside)?;
+    text.push_str(&others)?;
+    Ok(text)
 }
 
-/// Tells that a part of a counted directory could not be read. Each format but CSV and HTML has all of it.
+/// Tells that a part of the counted directories could not be read. Each format but CSV and HTML has all of it.
 pub(crate) fn tell_faults<Y: System, E: Sink>(
     alloc: Global,
     system: &Y,
-    directory: &str,
+    directories: &[&str],
     format: Format,
     faults: &[FaultLine],
     err: &mut E,
 )
-    ensures { TellsFaults E.may_take (Y.unlists system.now) directory.now format faults.now err.old err.new }
+    ensures { TellsFaults E.may_take (Y.unlists system.now) (map (λ d. d.now) directories.now) format faults.now err.old err.new }
 {
     if faults.is_empty() {
         return;
     }
     // The status says it too, so a line that can't be written changes nothing.
-    let _ = match fault_lines(alloc, system, directory, format, faults) {
+    let _ = match fault_lines(alloc, system, directories, format, faults) {
         Ok(text) => print(err, text.as_bytes()),
         Err(AllocError) => print(err, b"lc: some paths could not be read\n"),
     };

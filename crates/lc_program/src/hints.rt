@@ -1,7 +1,10 @@
-//! The hint on standard error that rules above a counted directory were not read.
+//! The hint on standard error that rules above counted directories were not read.
 
-ghost use Rattle.std.specs.Prelude.{◌≡◌, string_bytes, IfOk};
-ghost use Rattle.lc_program.specs.Hints.{Hints, TellsAbove, command, hint, hint_alone, hint_with_command};
+ghost use Rattle.std.specs.Prelude.{◌≡◌, ◌++◌, List, Option, map, string_bytes, IfOk, OnOk};
+ghost use Rattle.std.specs.List.{AllZip, list_all};
+ghost use Rattle.lc_program.specs.Commands.{is_typed};
+ghost use Rattle.lc_program.specs.Hints.{Hints, HintsAbout, TellsAbove, hint, hint_alone, hint_with_command, paths_in};
+ghost use Rattle.lc_program.specs.declared.repository.Repository.{Repository as RepositoryModel};
 
 use crate::commands::{is_typed, push_count};
 use crate::repository::Repository;
@@ -10,24 +13,49 @@ use lc_arguments::Request;
 use lc_text::{Sink, print, push_visible};
 use std::alloc::{AllocError, Global};
 
-/// Makes the count that reads the rules above a directory.
-#[tactic(auto, unfolding(crate::specs::Hints::command))]
-fn command(alloc: Global, above: &Repository) -> Result<String, AllocError>
-    ensures { IfOk result (λ text. string_bytes text ≡ command above.now) }
+/// Collects the paths of directories in the repository with this top.
+fn paths_in<'r>(
+    alloc: Global,
+    top: &str,
+    repositories: &'r [Option<Repository>],
+) -> Result<Vec<&'r str>, AllocError>
+    ensures { IfOk result (λ paths. map (λ path. path.now) paths.items ≡ paths_in top.now repositories.now) }
 {
-    let mut text = String::new(alloc);
-    push_count(&mut text, &above.path, &above.top)?;
-    Ok(text)
+    let mut paths = Vec::new(alloc);
+    let mut rest = repositories;
+    'repositories: while let Some((repository, others)) = rest.split_first() {
+        if let Some(repository) = repository {
+            if repository.top.as_str() == top {
+                paths.push(repository.path.as_str())?;
+            }
+        }
+        rest = others;
+    }
+    Ok(paths)
 }
 
-fn hint_with_command(alloc: Global, above: &Repository) -> Result<String, AllocError>
-    ensures { IfOk result (λ text. string_bytes text ≡ hint_with_command above.now) }
+fn are_typed(alloc: Global, paths: &[&str]) -> Result<bool, AllocError>
+    ensures { IfOk result (λ typed. typed ≡ list_all is_typed (map (λ path. path.now) paths.now)) }
 {
-    let command = command(alloc, above)?;
+    for path in paths {
+        if !is_typed(alloc, path)? {
+            return Ok(false);
+        }
+    }
+    Ok(true)
+}
+
+fn hint_with_command(
+    alloc: Global,
+    above: &Repository,
+    paths: &[&str],
+) -> Result<String, AllocError>
+    ensures { IfOk result (λ text. string_bytes text ≡ hint_with_command above.now (map (λ path. path.now) paths.now)) }
+{
     let mut text = String::from_str(alloc, "lc: rules above ")?;
     text.push_str(&above.path)?;
     text.push_str(" were not read; ")?;
-    text.push_str(&command)?;
+    push_count(&mut text, paths, &above.top)?;
     text.push_str(" reads them\n")?;
     Ok(text)
 }
@@ -41,31 +69,71 @@ fn hint_alone(alloc: Global, directory: &str) -> Result<String, AllocError>
     Ok(text)
 }
 
-/// Makes the hint about a directory in a repository. It shows a command, unless that can't be typed as it is shown.
-fn hint_line(alloc: Global, directory: &str, above: &Repository) -> Result<String, AllocError>
-    ensures { IfOk result (λ text. string_bytes text ≡ hint directory.now above.now) }
+/// Makes the hint about a directory in a repository. It shows a command with all directories that lie in the repository, unless that
+/// can't be typed as it is shown.
+fn hint_line(
+    alloc: Global,
+    directory: &str,
+    above: &Repository,
+    all: &[Option<Repository>],
+) -> Result<String, AllocError>
+    ensures { IfOk result (λ text. string_bytes text ≡ hint directory.now above.now (paths_in (string_bytes above.now.top) all.now)) }
 {
-    if is_typed(alloc, &above.path)? && is_typed(alloc, &above.top)? {
-        hint_with_command(alloc, above)
+    let paths = paths_in(alloc, &above.top, all)?;
+    if are_typed(alloc, &paths)? && is_typed(alloc, &above.top)? {
+        hint_with_command(alloc, above, &paths)
     } else {
         hint_alone(alloc, directory)
     }
 }
 
-fn tell_above<E: Sink>(alloc: Global, directory: &str, above: &Option<Repository>, err: &mut E)
-    ensures { TellsAbove E.may_take directory.now above.now err.old err.new }
+/// Tells the hint about the first of these directories that lies in a repository.
+fn tell_above<E: Sink>(alloc: Global, directories: &[&str], all: &[Option<Repository>], err: &mut E)
+    ensures { TellsAbove E.may_take all.now (map (λ d. d.now) directories.now) all.now err.old err.new }
 {
-    let Some(above) = above else {
-        return;
-    };
-    // Nothing rests on the hint, so one that can't be written changes nothing.
-    let _ = match hint_line(alloc, directory, above) {
-        Ok(text) => print(err, text.as_bytes()),
-        Err(AllocError) => print(err, b"lc: rules above this directory were not read\n"),
-    };
+    for (directory, above) in directories.iter().zip(all) {
+        if let Some(above) = above {
+            // Nothing rests on the hint, so one that can't be written changes nothing.
+            let _ = match hint_line(alloc, directory, above, all) {
+                Ok(text) => print(err, text.as_bytes()),
+                Err(AllocError) => print(err, b"lc: rules above this directory were not read\n"),
+            };
+            return;
+        }
+    }
 }
 
-/// Hints that rules above the counted directory were not read, if it lies in a repository below its top. Only a terminal gets the hint.
+/// Asks in which repository each directory lies.
+fn repositories_above<Y: System>(
+    alloc: Global,
+    system: &Y,
+    directories: &[&str],
+) -> Result<Vec<Option<Repository>>, AllocError>
+    ensures { IfOk result (λ above. AllZip (Y.lies system.now) (map (λ d. d.now) directories.now) above.items) }
+{
+    let mut repositories = Vec::with_capacity(alloc, directories.len())?;
+    for directory in directories {
+        repositories.push(system.repository_above(alloc, directory))?;
+    }
+    Ok(repositories)
+}
+
+/// Hints that rules above these directories were not read, if one lies in a repository below its top.
+fn hint_about<Y: System, E: Sink>(alloc: Global, system: &Y, directories: &[&str], err: &mut E)
+    ensures { HintsAbout E.may_take (Y.lies system.now) (map (λ d. d.now) directories.now) err.old err.new }
+{
+    if let [directory] = directories {
+        // One needs no list.
+        let above = [system.repository_above(alloc, directory)];
+        tell_above(alloc, directories, &above, err);
+        return;
+    }
+    if let Ok(above) = repositories_above(alloc, system, directories) {
+        tell_above(alloc, directories, &above, err);
+    }
+}
+
+/// Hints that rules above the counted directories were not read, if one lies in a repository below its top. Only a terminal gets the hint.
 pub(crate) fn hint<Y: System, E: Sink>(
     alloc: Global,
     system: &Y,
@@ -78,9 +146,7 @@ pub(crate) fn hint<Y: System, E: Sink>(
     let Request::Count(asked) = request else {
         return;
     };
-    if !stderr_is_terminal {
-        return;
+    if stderr_is_terminal {
+        hint_about(alloc, system, &asked.directories, err);
     }
-    let above = system.repository_above(alloc, asked.directory);
-    tell_above(alloc, asked.directory, &above, err);
 }

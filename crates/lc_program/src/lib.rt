@@ -4,6 +4,7 @@
 //!   one above a directory; `streams`: the streams, and which of them are terminals
 //! - `running`: the program; `answering`: the answer to each request, by `checking`, `counting` and `explaining`; `answered`: the answers
 //! - `filters`: those that a command line asks for, by `rules_file`: the rules of a file; `path_list`: the paths in a file
+//! - `finding`: the report of the directories that are counted, by `nested`: whether one lies in another
 //! - `runs`: the walk of a tree and its table, by `showing`: the text of a report, made and written
 //! - `ending`: how the program ends; `cause`: why it gives up
 //! - `telling`: help, the version, and the lines on standard error, with `introducing`, `faults`, `unlisted`, `unnamed`, `unmatched`
@@ -20,8 +21,10 @@ mod ending;
 mod explaining;
 mod faults;
 mod filters;
+mod finding;
 mod hints;
 mod introducing;
+mod nested;
 mod path_list;
 mod repository;
 mod rules_file;

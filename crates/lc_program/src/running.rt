@@ -45,7 +45,7 @@ fn tell_unread<Y: System, E: Sink>(
             tell_faults(
                 alloc,
                 system,
-                asked.directory,
+                &asked.directories,
                 options.format,
                 &report.faults,
                 err,

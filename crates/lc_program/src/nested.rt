@@ -1,0 +1,149 @@
+//! Directories of a count, each of which is to be counted once.
+
+ghost use Rattle.std.specs.Prelude.{◌≡◌, ◌⊎◌, ◌++◌, ℕ, List, Option, map, string_bytes, IfErr, IfOk, IsOk, OnOk};
+ghost use Rattle.std.specs.List.{AllZip};
+ghost use Rattle.std.specs.List.Sorted.{IsPermutation, IsSortedByKey};
+ghost use Rattle.lc_program.specs.Nested.{AreApart, AreNested, NoneHolds, OneHolds, Place as PlaceModel, holds, nested_line, place_if, places_of};
+ghost use Rattle.lc_program.specs.Nested.{with_slash};
+ghost use Rattle.lc_program.specs.declared.cause.Cause.TheVariants.{Memory};
+ghost use Rattle.lc_tree.specs.ByteOrder.{bytes_cmp};
+
+use crate::cause::Cause;
+use crate::system::System;
+use lc_text::push_visible;
+use std::alloc::{AllocError, Global};
+use std::marker::Model;
+
+/// A directory by its name, and by its canonical path with a slash at its end.
+#[derive(Drop)]
+struct Place<'w> {
+    name: &'w str,
+    path: Vec<u8>,
+}
+
+impl<'w> Model for Place<'w> {
+    ghost use Rattle.lc_program.specs.Nested.{Place};
+
+    ghost Value = { Place };
+
+    ghost view = { λ p. record { name = p.name.now; path = p.path.items } };
+}
+
+/// Copies a path, with a slash at its end.
+fn with_slash(alloc: Global, path: &str) -> Result<Vec<u8>, AllocError>
+    ensures { IfOk result (λ slashed. slashed.items ≡ with_slash path.now) }
+{
+    let mut slashed = path.as_bytes().to_vec(alloc)?;
+    if !path.as_bytes().ends_with(b"/") {
+        slashed.push(b'/')?;
+    }
+    Ok(slashed)
+}
+
+/// Adds the place of a directory, if the system gives its canonical path.
+fn push_place<'w, Y: System>(
+    alloc: Global,
+    system: &Y,
+    name: &'w str,
+    places: &mut Vec<Place<'w>>,
+) -> Result<(), AllocError>
+    ensures { OnOk result ((path : Option (List ℕ)) × Y.stands system.now name.now path
+        × (places.new.items ≡ places.old.items ++ place_if name.now path)) }
+{
+    let Some(path) = system.canonical(alloc, name) else {
+        return Ok(());
+    };
+    let path = with_slash(alloc, &path)?;
+    places.push(Place { name, path })
+}
+
+/// Makes the places of directories.
+fn places_of<'w, Y: System>(
+    alloc: Global,
+    system: &Y,
+    names: &[&'w str],
+) -> Result<Vec<Place<'w>>, AllocError>
+    ensures { IfOk result (λ places. (paths : List (Option (List ℕ)))
+        × AllZip (Y.stands system.now) (map (λ name. name.now) names.now) paths
+        × (places.items ≡ places_of (map (λ name. name.now) names.now) paths)) }
+{
+    let mut places = Vec::with_capacity(alloc, names.len())?;
+    for name in names {
+        push_place(alloc, system, name, &mut places)?;
+    }
+    Ok(places)
+}
+
+/// Sorts places, so that what lies in a place comes next after it.
+fn sort(places: &mut Vec<Place<'_>>)
+    ensures same { IsPermutation places.old.items places.new.items }
+    ensures order { IsSortedByKey (λ (p : PlaceModel). p.path) bytes_cmp places.new.items }
+{
+    places.sort_unstable_by(|a, b| a.path.as_slice().cmp(&b.path.as_slice()));
+}
+
+/// Returns whether the one is the other, or the other lies in it.
+fn holds(outer: &Place<'_>, inner: &Place<'_>) -> bool
+    ensures { result ≡ holds outer.now inner.now }
+{
+    inner.path.starts_with(&outer.path)
+}
+
+/// Makes the line about a place that holds another.
+fn nested_line(
+    alloc: Global,
+    outer: &Place<'_>,
+    inner: &Place<'_>,
+) -> Result<String, AllocError>
+    ensures { IfOk result (λ line. string_bytes line ≡ nested_line outer.now inner.now) }
+{
+    let mut line = String::from_str(alloc, "lc: ")?;
+    if outer.path == inner.path {
+        push_visible(&mut line, outer.name.as_bytes())?;
+        line.push_str(" and ")?;
+        push_visible(&mut line, inner.name.as_bytes())?;
+        line.push_str(" are one directory\n")?;
+    } else {
+        push_visible(&mut line, inner.name.as_bytes())?;
+        line.push_str(" lies in ")?;
+        push_visible(&mut line, outer.name.as_bytes())?;
+        line.push_str("\n")?;
+    }
+    Ok(line)
+}
+
+/// Refuses places of which one holds another. They are sorted.
+fn refuse_nested(alloc: Global, places: &[Place<'_>]) -> Result<(), Cause>
+    requires { IsSortedByKey (λ (p : PlaceModel). p.path) bytes_cmp places.now }
+    ensures apart { IsOk result → NoneHolds places.now }
+    ensures nested { IfErr result (λ cause. OneHolds places.now cause ⊎ (cause ≡ Memory)) }
+{
+    let mut rest = places;
+    'places: while let [outer, others @ ..] = rest {
+        if let Some(inner) = others.first() {
+            if holds(outer, inner) {
+                let line = nested_line(alloc, outer, inner)?;
+                return Err(Cause::Nested(line));
+            }
+        }
+        rest = others;
+    }
+    Ok(())
+}
+
+/// Refuses directories of which one is another, or lies in another. One whose canonical path the system does not give lies nowhere.
+pub(crate) fn refuse_unless_apart<Y: System>(
+    alloc: Global,
+    system: &Y,
+    names: &[&str],
+) -> Result<(), Cause>
+    ensures apart { IsOk result → AreApart (Y.stands system.now) (map (λ name. name.now) names.now) }
+    ensures nested { IfErr result (λ cause. AreNested (Y.stands system.now) (map (λ name. name.now) names.now) cause ⊎ (cause ≡ Memory)) }
+{
+    if names.len() < 2 {
+        return Ok(());
+    }
+    let mut places = places_of(alloc, system, names)?;
+    sort(&mut places);
+    refuse_nested(alloc, &places)
+}
