@@ -1,8 +1,7 @@
 -- The boxes of a tree of directories. Each has a box inside for each directory right in it, and its share of the space is its number.
 use Rattle.std.specs.Prelude.{ℕ, ◌+◌, ◌-◌, ◌/◌, ◌%◌, ◌==◌, nat_le, if◌then◌else◌, List, [], ◌∷◌, ◌++◌}
 use Rattle.std.specs.Prelude.{max, min, replicate, codes}
-use Rattle.lc_glob.specs.Path.{depth_of}
-use Rattle.lc_rows.specs.Directories.{name_of}
+use Rattle.lc_rows.specs.Directories.{level_of, own_part}
 use Rattle.lc_rows.specs.RowKeys.{ShownRowModel}
 use Rattle.lc_rows.specs.ShownRows.{number_in}
 use Rattle.lc_text.specs.Visible.{visible_path}
@@ -11,7 +10,7 @@ use Rattle.lc_walk.specs.declared.tally.sums.Sums.{Sums}
 use Rattle.lc_picture.specs.Colours.{main_colour, path_of, rows_from, shared_colour}
 use Rattle.lc_picture.specs.Pieces.{Piece, markup, name, share, sums_pieces}
 
--- a directory: the last name of its path, how many directories are above it, its colour, and the sums over the files in it and below it
+-- a directory: its path from the directory right above it on, how many directories are above it, its colour, and the sums over the files in it and below it
 pub record BoxModel : Type 0 where
   pub directory : List ℕ
   pub depth : ℕ
@@ -19,7 +18,7 @@ pub record BoxModel : Type 0 where
   pub sums : Sums
 
 abbrev pub box_of : ShownRowModel → ℕ → BoxModel
-box_of r colour = record { directory = name_of (path_of r); depth = depth_of (path_of r); colour = colour; sums = r.sums }
+box_of r colour = record { directory = own_part (path_of r); depth = level_of (path_of r); colour = colour; sums = r.sums }
 
 -- the least number that is drawn: a thousandth of the total, rounded up, and not nothing
 abbrev pub least_drawn : ℕ → ℕ

@@ -1,5 +1,6 @@
 -- The page of a report: the numbers of all files, a bar chart of its extensions, and the boxes of its directories.
 use Rattle.std.specs.Prelude.{◌≡◌, ℕ, true, false, List, [], ◌∷◌, ◌++◌, codes, unwrap_or, Option, Some, None}
+use Rattle.lc_glob.specs.Path.{max_depth}
 use Rattle.lc_rows.specs.RowKeys.{ShownRowModel}
 use Rattle.lc_rows.specs.Sheets.{sheet_of}
 use Rattle.lc_rows.specs.ShownRows.{AreShown, number_in}
@@ -92,13 +93,13 @@ drawn_number sort = unwrap_or sort Lines
 abbrev pub chart_view : List ShownRowModel → ViewModel
 chart_view extensions = view_of (Some chart_rows) extensions []
 
--- the boxes of the directories that are drawn, with their colours
+-- the boxes of the directories that are drawn, with their colours. Directories are cut after as many names as a walk goes deep
 pub record AreBoxesOf (by : Number) (totals : Sums) (files : List FileLineModel) (chart : List ShownRowModel) (boxes : List BoxModel)
     : Type 0 where
   pub tree : List ShownRowModel
-  pub are_tree : AreTreeRows tree_columns files tree
+  pub are_tree : AreTreeRows max_depth tree_columns files tree
   pub kinds : List ShownRowModel
-  pub are_kinds : AreTreeRows kind_columns files kinds
+  pub are_kinds : AreTreeRows max_depth kind_columns files kinds
   pub are : boxes ≡ drawn_boxes by (least_drawn (number_in by totals)) chart kinds tree
 
 -- a text is the page of a report, drawn by a number: of the sheet of its extensions, sorted, and of the directories of its files

@@ -6,8 +6,7 @@ ghost use Rattle.lc_picture.specs.Boxes.{box_of, drawn_boxes, least_drawn};
 ghost use Rattle.lc_picture.specs.Colours.{main_colour, path_of, rows_from, shared_colour};
 
 use crate::colours::{main_colour, next_place, path_of};
-use lc_glob::path::depth_of;
-use lc_rows::{ShownRow, name_of, number_in};
+use lc_rows::{ShownRow, level_of, number_in, own_part};
 use lc_sheet::Number;
 use lc_walk::Sums;
 use std::alloc::{AllocError, Global};
@@ -16,7 +15,7 @@ use std::marker::Model;
 /// A directory that is drawn.
 #[derive(Drop)]
 pub(crate) struct DirectoryBox<'a> {
-    /// The last name of its path; empty for the top.
+    /// Its path from the directory right above it on, which is its last name in most trees; empty for the top.
     pub(crate) directory: &'a [u8],
     /// The number of directories above it.
     pub(crate) depth: usize,
@@ -53,8 +52,8 @@ fn box_of<'a>(row: &ShownRow<'a>, colour: usize) -> DirectoryBox<'a>
 {
     let path = path_of(row);
     DirectoryBox {
-        directory: name_of(path),
-        depth: depth_of(path),
+        directory: own_part(path),
+        depth: level_of(path),
         colour,
         sums: row.sums,
     }

@@ -29,6 +29,9 @@ const CHART_COLUMNS: Columns = Columns {
 /// The most extensions that have a bar.
 const CHART_ROWS: u32 = 20;
 
+/// The number of names after which the directories of boxes are cut, which is as deep as a walk goes.
+const TREE_DEPTH: u32 = 256;
+
 /// The columns of the boxes.
 const TREE_COLUMNS: Columns = Columns {
     dir: Some(1),
@@ -128,8 +131,8 @@ fn boxes_of<'a>(
 ) -> Result<Vec<DirectoryBox<'a>>, AllocError>
     ensures { IfOk result (λ boxes. AreBoxesOf by totals files.entry.now chart.now boxes.items) }
 {
-    let tree = tree_rows(alloc, files, TREE_COLUMNS)?;
-    let kinds = tree_rows(alloc, files, KIND_COLUMNS)?;
+    let tree = tree_rows(alloc, files, TREE_COLUMNS, TREE_DEPTH)?;
+    let kinds = tree_rows(alloc, files, KIND_COLUMNS, TREE_DEPTH)?;
     let least = least_drawn(number_in(by, totals));
     let boxes = drawn_boxes(alloc, by, least, &tree, chart, &kinds)?;
     Ok(boxes)

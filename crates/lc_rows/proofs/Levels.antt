@@ -1,54 +1,18 @@
--- How deep the directories above a file are.
-use Rattle.std.proofs.Common.{◌≡◌, ℕ, ◌+◌, ◌-◌, ◌<◌, ◌≤◌, ◌==◌, min, suc, zero, Bool, true, false, cond, List, [], ◌∷◌, ◌++◌, length, take}
-use Rattle.std.proofs.Common.{drop, Option, Some, None, refl, sym, ◌∙◌, ap, subst, arith, length-append}
-use Rattle.std.specs.List.{AllByRecursion, join_with_byte, list_all, onto_first}
-use Rattle.std.specs.Prelude.{slice_index}
-use Rattle.std.proofs.lemmas.List.{length-take, take-take, take_all, take_at}
+-- How many directories are above a directory of a tree.
+use Rattle.std.proofs.Common.{◌≡◌, ℕ, ◌+◌, ◌-◌, ◌<◌, ◌≤◌, ◌==◌, min, suc, zero, Bool, true, false, cond, List, [], ◌∷◌, if◌then◌else◌}
+use Rattle.std.proofs.Common.{◌++◌, nat_le, refl, sym, ◌∙◌, ap, arith}
+use Rattle.std.proofs.lemmas.Bool.Decides.{nat_tests}
+use Rattle.std.specs.List.{AllByRecursion, join_with_byte, onto_first}
 use Rattle.std.proofs.lemmas.List.Splits.{join_with_byte-slice_split}
-use Rattle.memchr.specs.Find.{IsLastByte, is_byte as found}
-use Rattle.lc_glob.proofs.Naming.{at_last_slash, no_last_slash, segments_apart, some_segment}
+use Rattle.lc_glob.proofs.Naming.{segments_apart, some_segment}
 use Rattle.lc_glob.specs.Bytes.{slash}
-use Rattle.lc_glob.specs.Path.{depth_of, is_good_name, is_good_path, segments_of}
-use Rattle.lc_rows.specs.Directories.{directory_of, first_segments, parent_of}
-use Rattle.lc_rows.proofs.PathCuts.{no_parent, parent_at}
+use Rattle.lc_glob.specs.Path.{is_no_name, segments_of}
+use Rattle.lc_rows.specs.Directories.{above, directory_of, first_names, level_of, levels, names_in, parent_of, to_name}
 
--- a path has a last slash, or none
-abbrev LastSlash : List ℕ → Type 0
-LastSlash path = (o : Option ℕ) × IsLastByte (found slash) path o
-
-last_slash_at : (b : ℕ) (bs : List ℕ) (t : Bool) → found slash b ≡ t → LastSlash bs → LastSlash (b ∷ bs)
-last_slash_at b bs t e (Some i, h) = (
-  Some (suc i),
-  (
-    record {
-      low = omega arith;
-      high = let within : i < length bs = h.0.high in omega arith;
-      after = later;
-    },
-    h.1,
-  ),
-)
-  where
-    later : (k : ℕ) → suc i + 1 ≤ k → k < length (b ∷ bs) → (found slash (slice_index (b ∷ bs) k) ≡ true) → ⊥
-    later zero low high = absurd (omega arith)
-    later (suc k) low high = h.0.after k (omega arith) (omega arith)
-last_slash_at b bs true e (None, none) = (Some 0, (record { low = omega arith; high = omega arith; after = later }, e))
-  where
-    later : (k : ℕ) → 0 + 1 ≤ k → k < length (b ∷ bs) → (found slash (slice_index (b ∷ bs) k) ≡ true) → ⊥
-    later zero low high = absurd (omega arith)
-    later (suc k) low high = none k (omega arith) (omega arith)
-last_slash_at b bs false e (None, none) = (None, nowhere)
-  where
-    nowhere : (k : ℕ) → 0 ≤ k → k < length (b ∷ bs) → (found slash (slice_index (b ∷ bs) k) ≡ true) → ⊥
-    nowhere zero low high is = absurd (cc)
-    nowhere (suc k) low high is = none k (omega arith) (omega arith) is
-
-last_slash : (path : List ℕ) → LastSlash path
-last_slash [] = (None, λ k low high. absurd (omega arith))
-last_slash (b ∷ bs) = last_slash_at b bs _ refl (last_slash bs)
+-- ---- segments
 
 -- a segment has no slash
-abbrev IsWhole : List ℕ → Type 0
+abbrev pub IsWhole : List ℕ → Type 0
 IsWhole s = segments_of s ≡ s ∷ []
 
 whole_cons : (b : ℕ) (t : Bool) → (b == slash) ≡ t → (ps : List (List ℕ)) → AllByRecursion IsWhole ps
@@ -58,14 +22,14 @@ whole_cons b false e [] all = (ap (λ t. cond t ([] ∷ [] ∷ []) ((b ∷ []) �
 whole_cons b false e (x ∷ xs) all =
     (ap (λ t. cond t ([] ∷ segments_of x) (onto_first b (segments_of x))) e ∙ ap (onto_first b) all.0, all.1)
 
-whole_segments : (bs : List ℕ) → AllByRecursion IsWhole (segments_of bs)
+pub whole_segments : (bs : List ℕ) → AllByRecursion IsWhole (segments_of bs)
 whole_segments [] = (refl, tt)
 whole_segments (b ∷ bs) = whole_cons b _ refl (segments_of bs) (whole_segments bs)
 
-whole_take : (n : ℕ) (ps : List (List ℕ)) → AllByRecursion IsWhole ps → AllByRecursion IsWhole (take n ps)
-whole_take zero ps all = tt
-whole_take (suc n) [] all = tt
-whole_take (suc n) (p ∷ ps) all = (all.0, whole_take n ps all.1)
+whole_first : (n : ℕ) (ss : List (List ℕ)) → AllByRecursion IsWhole ss → AllByRecursion IsWhole (to_name n ss)
+whole_first zero ss all = tt
+whole_first (suc n) [] all = tt
+whole_first (suc n) (s ∷ ss) all = (all.0, whole_first (suc n - names_in s) ss all.1)
 
 -- segments that are joined are the segments of the path
 joined_segments : (s : List ℕ) (ss : List (List ℕ)) → AllByRecursion IsWhole (s ∷ ss)
@@ -75,138 +39,164 @@ joined_segments s (y ∷ ys) all =
     segments_apart s (join_with_byte slash (y ∷ ys)) ∙ ap (λ l. l ++ segments_of (join_with_byte slash (y ∷ ys))) all.0
     ∙ ap (λ l. s ∷ l) (joined_segments y ys all.1)
 
--- the first of these has some bytes
-abbrev FirstHasBytes : List (List ℕ) → Type 0
-FirstHasBytes [] = Unit {0}
-FirstHasBytes (s ∷ ss) = s ≡ [] → ⊥
+-- ---- the first segments
 
-depth_joined : (s : List ℕ) (ss : List (List ℕ)) → AllByRecursion IsWhole (s ∷ ss) → (s ≡ [] → ⊥)
-    → depth_of (join_with_byte slash (s ∷ ss)) ≡ length (s ∷ ss)
-depth_joined [] ss all some = absurd (some refl)
-depth_joined (b ∷ bs) [] all some = ap length all.0
-depth_joined (b ∷ bs) (y ∷ ys) all some = ap length (joined_segments (b ∷ bs) (y ∷ ys) all)
+first_of_none : (n : ℕ) → to_name n [] ≡ []
+first_of_none zero = refl
+first_of_none (suc n) = refl
 
-depth_taken : (n : ℕ) (ps : List (List ℕ)) → AllByRecursion IsWhole ps → FirstHasBytes ps
-    → depth_of (join_with_byte slash (take n ps)) ≡ min n (length ps)
-depth_taken zero ps all some = omega arith
-depth_taken (suc n) [] all some = omega arith
-depth_taken (suc n) (s ∷ ss) all some =
-    depth_joined s (take n ss) (all.0, whole_take n ss all.1) some ∙ omega (arith, length-take n ss)
+-- what is left of a number behind a name, and behind no name
+name_left : (n : ℕ) (b : Bool) → suc n - (if b then 0 else 1) ≡ (if b then suc n else n)
+name_left n true = omega arith
+name_left n false = omega arith
 
-no_segments : (n : ℕ) → first_segments n [] ≡ []
-no_segments zero = refl
-no_segments (suc n) =
-    let none : take n [] ≡ [] = take_all n [] (omega arith) in
-    ap (λ (l : List (List ℕ)). join_with_byte slash ([] ∷ l)) none
+levels_more : (n : ℕ) (s t : List ℕ) (ss : List (List ℕ)) (b : Bool) → is_no_name s ≡ b
+    → ((k : ℕ) → levels (to_name k (t ∷ ss)) ≡ min k (levels (t ∷ ss)))
+    → levels (s ∷ to_name (suc n - names_in s) (t ∷ ss)) ≡ min (suc n) (names_in s + levels (t ∷ ss))
+levels_more n s t ss true e rest =
+    let none : names_in s ≡ 0 = ap (λ b. if b then 0 else 1) e in
+    let left : suc n - names_in s ≡ suc n = omega arith in
+    ap (λ k. levels (s ∷ to_name k (t ∷ ss))) left ∙ omega (arith, none, rest (suc n))
+levels_more zero s t ss false e rest =
+    let one : names_in s ≡ 1 = ap (λ b. if b then 0 else 1) e in
+    let left : suc zero - names_in s ≡ 0 = omega arith in
+    ap (λ k. levels (s ∷ to_name k (t ∷ ss))) left ∙ omega arith
+levels_more (suc n) s t ss false e rest =
+    let one : names_in s ≡ 1 = ap (λ b. if b then 0 else 1) e in
+    let left : suc (suc n) - names_in s ≡ suc n = omega arith in
+    ap (λ k. levels (s ∷ to_name k (t ∷ ss))) left ∙ omega (arith, one, rest (suc n))
 
-first_of_both : (ps qs : List (List ℕ)) → FirstHasBytes (ps ++ qs) → FirstHasBytes ps
-first_of_both [] qs some = tt
-first_of_both (p ∷ ps) qs some = some
+-- cut after n names they have n levels, or as many as there are
+levels_of_first : (n : ℕ) (ss : List (List ℕ)) → levels (to_name n ss) ≡ min n (levels ss)
+levels_of_first zero ss = omega arith
+levels_of_first (suc n) [] = omega arith
+levels_of_first (suc n) (s ∷ []) = ap (λ l. levels (s ∷ l)) (first_of_none (suc n - names_in s)) ∙ omega arith
+levels_of_first (suc n) (s ∷ t ∷ ss) = levels_more n s t ss _ refl (λ k. levels_of_first k (t ∷ ss))
 
-depth_is : (path : List ℕ) → 0 < length path → depth_of path ≡ length (segments_of path)
-depth_is [] some = absurd (omega arith)
-depth_is (b ∷ bs) some = refl
+-- cut twice they are cut once
+next_first : (j n k : ℕ) (s : List ℕ) (ss : List (List ℕ)) → suc j - names_in s ≡ k → suc j + n - names_in s ≡ k + n
+    → to_name k (to_name (k + n) ss) ≡ to_name k ss → to_name (suc j) (s ∷ to_name (suc j + n - names_in s) ss) ≡ to_name (suc j) (s ∷ ss)
+next_first j n k s ss e f rest =
+    ap (λ m. s ∷ to_name m (to_name (suc j + n - names_in s) ss)) e ∙ ap (λ m. s ∷ to_name k (to_name m ss)) f ∙ ap (λ l. s ∷ l) rest
+    ∙ ap (λ m. s ∷ to_name m ss) (sym e)
 
-shallow : (path : List ℕ) → segments_of path ≡ path ∷ [] → depth_of path - 1 ≡ 0
-shallow [] one = omega arith
-shallow (b ∷ bs) one = let e = ap length one in omega arith
+first_by : (j n : ℕ) (s : List ℕ) (ss : List (List ℕ)) (b : Bool) → is_no_name s ≡ b
+    → ((k : ℕ) → to_name k (to_name (k + n) ss) ≡ to_name k ss)
+    → to_name (suc j) (s ∷ to_name (suc j + n - names_in s) ss) ≡ to_name (suc j) (s ∷ ss)
+first_by j n s ss true e rest =
+    let none : names_in s ≡ 0 = ap (λ b. if b then 0 else 1) e in
+    next_first j n (suc j) s ss (omega arith) (omega arith) (rest (suc j))
+first_by j n s ss false e rest =
+    let one : names_in s ≡ 1 = ap (λ b. if b then 0 else 1) e in next_first j n j s ss (omega arith) (omega arith) (rest j)
 
-depth_by : (path : List ℕ) (n : ℕ) → FirstHasBytes (segments_of path) → LastSlash path
-    → depth_of (directory_of n path) ≡ min n (depth_of path - 1)
-depth_by path n some (None, none) =
-    let top : directory_of n path ≡ [] = ap (first_segments n) (sym (no_parent path none)) ∙ no_segments n in
-    let low = shallow path (no_last_slash path none) in
-    ap depth_of top ∙ omega arith
-depth_by path n some (Some i, h) =
-    let parent : List ℕ = take i path in
-    let name : List ℕ = take (length path - (i + 1)) (drop (i + 1) path) in
-    let parts : segments_of path ≡ segments_of parent ++ name ∷ [] = at_last_slash path i h in
-    let within : i < length path = h.0.high in
-    let deep : depth_of path - 1 ≡ length (segments_of parent) =
-    omega (arith, depth_is path (omega arith), ap length parts, length-append (segments_of parent) (name ∷ [])) in
-    ap (λ p. depth_of (first_segments n p)) (sym (parent_at path i h))
-    ∙ depth_taken n (segments_of parent) (whole_segments parent)
-    (first_of_both (segments_of parent) (name ∷ []) (subst FirstHasBytes parts some))
-    ∙ ap (min n) (sym deep)
+first_of_more : (n : ℕ) (ss : List (List ℕ)) (j : ℕ) → to_name j (to_name (j + n) ss) ≡ to_name j ss
+first_of_more n ss zero = refl
+first_of_more n [] (suc j) = ap (to_name (suc j)) (first_of_none (suc j + n))
+first_of_more n (s ∷ ss) (suc j) =
+    let next : suc j + n ≡ suc (j + n) = omega arith in
+    ap (λ m. to_name (suc j) (to_name m (s ∷ ss))) next ∙ ap (λ m. to_name (suc j) (s ∷ to_name (m - names_in s) ss)) (sym next)
+    ∙ first_by j n s ss _ refl (first_of_more n ss)
 
-good_first : (ps : List (List ℕ)) → list_all is_good_name ps ≡ true → FirstHasBytes ps
-good_first [] good = tt
-good_first ([] ∷ ps) good = absurd (cc)
-good_first ((b ∷ bs) ∷ ps) good = λ none. absurd (cc)
+-- cut after as many names as there are, or more, they are whole
+whole_more : (n : ℕ) (s t : List ℕ) (ss : List (List ℕ)) (b : Bool) → is_no_name s ≡ b → names_in s + levels (t ∷ ss) ≤ suc n
+    → ((k : ℕ) → levels (t ∷ ss) ≤ k → to_name k (t ∷ ss) ≡ t ∷ ss) → s ∷ to_name (suc n - names_in s) (t ∷ ss) ≡ s ∷ t ∷ ss
+whole_more n s t ss true e few rest =
+    let none : names_in s ≡ 0 = ap (λ b. if b then 0 else 1) e in
+    ap (λ l. s ∷ l) (rest (suc n - names_in s) (omega arith))
+whole_more n s t ss false e few rest =
+    let one : names_in s ≡ 1 = ap (λ b. if b then 0 else 1) e in
+    ap (λ l. s ∷ l) (rest (suc n - names_in s) (omega arith))
 
--- the directory above a file, cut to n segments, has n segments, or as many as there are
-pub depth_above : (path : List ℕ) (n : ℕ) → is_good_path path ≡ true → depth_of (directory_of n path) ≡ min n (depth_of path - 1)
-depth_above path n good = depth_by path n (good_first (segments_of path) good) (last_slash path)
+some_level : (t : List ℕ) (ss : List (List ℕ)) → 0 < levels (t ∷ ss)
+some_level t [] = omega arith
+some_level t (u ∷ us) = let more = some_level u us in omega arith
 
--- a good path has a segment
-pub some_depth : (path : List ℕ) → is_good_path path ≡ true → 0 < depth_of path
-some_depth [] good = absurd (cc)
-some_depth (b ∷ bs) good = deep (segments_of (b ∷ bs)) (some_segment (b ∷ bs))
-  where
-    deep : (ps : List (List ℕ)) → (ps ≡ [] → ⊥) → 0 < length ps
-    deep [] some = absurd (some refl)
-    deep (p ∷ ps) some = omega arith
+whole_first_names : (n : ℕ) (ss : List (List ℕ)) → levels ss ≤ n → to_name n ss ≡ ss
+whole_first_names zero [] few = refl
+whole_first_names zero (s ∷ ss) few = let some = some_level s ss in absurd (omega arith)
+whole_first_names (suc n) [] few = refl
+whole_first_names (suc n) (s ∷ []) few = ap (λ l. s ∷ l) (first_of_none (suc n - names_in s))
+whole_first_names (suc n) (s ∷ t ∷ ss) few = whole_more n s t ss _ refl few (λ k. whole_first_names k (t ∷ ss))
 
--- all segments but the last, joined, are the directory
-parent_by : (path : List ℕ) → LastSlash path
-    → parent_of path ≡ join_with_byte slash (take (length (segments_of path) - 1) (segments_of path))
-parent_by path (None, none) =
-    let one : segments_of path ≡ path ∷ [] = no_last_slash path none in
-    sym (no_parent path none) ∙ ap (λ ps. join_with_byte slash (take (length ps - 1) ps)) (sym one)
-parent_by path (Some i, h) =
-    let parent : List ℕ = take i path in
-    let name : List ℕ = take (length path - (i + 1)) (drop (i + 1) path) in
-    let parts : segments_of path ≡ segments_of parent ++ name ∷ [] = at_last_slash path i h in
-    let long : length (segments_of parent) ≡ length (segments_of parent ++ name ∷ []) - 1 =
-    omega (arith, length-append (segments_of parent) (name ∷ [])) in
-    sym (parent_at path i h) ∙ sym (join_with_byte-slice_split slash parent)
-    ∙ ap (join_with_byte slash) (sym (take_at (segments_of parent) (name ∷ []) (length (segments_of parent ++ name ∷ []) - 1) long)
-    ∙ ap (λ ps. take (length ps - 1) ps) (sym parts))
+-- ---- paths
 
--- a segment less
-cut_parent_at : (j : ℕ) (ps : List (List ℕ)) → AllByRecursion IsWhole ps → suc j ≤ length ps
-    → parent_of (join_with_byte slash (take (suc j) ps)) ≡ join_with_byte slash (take j ps)
-cut_parent_at j [] all many = absurd (omega arith)
-cut_parent_at j (s ∷ ss) all many =
-    let e : List ℕ = join_with_byte slash (s ∷ take j ss) in
-    let parts : segments_of e ≡ take (suc j) (s ∷ ss) = joined_segments s (take j ss) (all.0, whole_take j ss all.1) in
-    let long : length (take (suc j) (s ∷ ss)) - 1 ≡ j = omega (arith, length-take j ss) in
-    parent_by e (last_slash e) ∙ ap (λ ps. join_with_byte slash (take (length ps - 1) ps)) parts
-    ∙ ap (λ n. join_with_byte slash (take n (take (suc j) (s ∷ ss)))) long
-    ∙ ap (join_with_byte slash) (take-take j (suc j) (s ∷ ss) (omega arith))
+-- the empty path alone has one empty segment
+level_joined : (ss : List (List ℕ)) → AllByRecursion IsWhole ss → (ss ≡ [] ∷ [] → ⊥) → level_of (join_with_byte slash ss) ≡ levels ss
+level_joined [] all some = refl
+level_joined ([] ∷ []) all some = absurd (some refl)
+level_joined ([] ∷ y ∷ ys) all some = ap levels (joined_segments [] (y ∷ ys) all)
+level_joined ((b ∷ bs) ∷ []) all some = ap levels all.0
+level_joined ((b ∷ bs) ∷ y ∷ ys) all some = ap levels (joined_segments (b ∷ bs) (y ∷ ys) all)
 
-levels_by : (path : List ℕ) → LastSlash path → 1 < depth_of path → length (segments_of (parent_of path)) ≡ depth_of path - 1
-levels_by path (None, none) deep = let low = shallow path (no_last_slash path none) in absurd (omega arith)
-levels_by path (Some i, h) deep =
-    let parent : List ℕ = take i path in
-    let name : List ℕ = take (length path - (i + 1)) (drop (i + 1) path) in
-    let parts : segments_of path ≡ segments_of parent ++ name ∷ [] = at_last_slash path i h in
-    let within : i < length path = h.0.high in
-    let is : length (segments_of parent) ≡ depth_of path - 1 =
-    omega (arith, depth_is path (omega arith), ap length parts, length-append (segments_of parent) (name ∷ [])) in
-    ap (λ p. length (segments_of p)) (sym (parent_at path i h)) ∙ is
+first_not_empty : (n : ℕ) (ss : List (List ℕ)) → (ss ≡ [] ∷ [] → ⊥) → to_name n ss ≡ [] ∷ [] → ⊥
+first_not_empty zero ss some e = absurd (cc)
+first_not_empty (suc n) [] some e = absurd (cc)
+first_not_empty (suc n) ([] ∷ []) some e = some refl
+first_not_empty (suc n) ([] ∷ t ∷ ss) some e =
+    let same : suc n - 0 ≡ suc n = omega arith in
+    let none : [] ∷ t ∷ to_name (suc n - names_in t) ss ≡ [] ∷ [] = sym (ap (λ m. [] ∷ to_name m (t ∷ ss)) same) ∙ e in
+    absurd (cc)
+first_not_empty (suc n) ((b ∷ bs) ∷ ss) some e = absurd (cc)
+
+not_empty : (b : ℕ) (bs : List ℕ) → segments_of (b ∷ bs) ≡ [] ∷ [] → ⊥
+not_empty b bs e =
+    let none : b ∷ bs ≡ [] = sym (join_with_byte-slice_split slash (b ∷ bs)) ∙ ap (join_with_byte slash) e in
+    absurd (cc)
+
+-- the top is in itself alone
+pub empty_first : (n : ℕ) → first_names n [] ≡ []
+empty_first zero = refl
+empty_first (suc n) = ap (λ l. join_with_byte slash ([] ∷ l)) (first_of_none (suc n - 0))
+
+level_of_first : (path : List ℕ) (n : ℕ) → level_of (first_names n path) ≡ min n (level_of path)
+level_of_first [] n = ap level_of (empty_first n) ∙ omega arith
+level_of_first (b ∷ bs) n =
+    level_joined (to_name n (segments_of (b ∷ bs))) (whole_first n (segments_of (b ∷ bs)) (whole_segments (b ∷ bs)))
+    (first_not_empty n (segments_of (b ∷ bs)) (not_empty b bs))
+    ∙ levels_of_first n (segments_of (b ∷ bs))
+
+-- the directory that holds a file, cut after n names, is n levels below the top, or as many as there are
+pub level_at : (path : List ℕ) (n : ℕ) → level_of (directory_of n path) ≡ min n (level_of (parent_of path))
+level_at path n = level_of_first (parent_of path) n
+
+some_first : (j : ℕ) (ss : List (List ℕ)) → (ss ≡ [] → ⊥) → to_name (suc j) ss ≡ [] → ⊥
+some_first j [] some e = some refl
+some_first j (s ∷ ss) some e = absurd (cc)
+
+segments_joined : (ss : List (List ℕ)) → AllByRecursion IsWhole ss → (ss ≡ [] → ⊥) → segments_of (join_with_byte slash ss) ≡ ss
+segments_joined [] all some = absurd (some refl)
+segments_joined (s ∷ ss) all some = joined_segments s ss all
+
+above_first : (path : List ℕ) (j : ℕ) → suc j ≤ level_of path → above (first_names (suc j) path) ≡ first_names j path
+above_first path j deep =
+    let ss : List (List ℕ) = segments_of path in
+    let one : level_of (first_names (suc j) path) - 1 ≡ j = omega (arith, level_of_first path (suc j)) in
+    let more : j + 1 ≡ suc j = omega arith in
+    ap (λ n. first_names n (first_names (suc j) path)) one
+    ∙ ap (λ ts. join_with_byte slash (to_name j ts))
+    (segments_joined (to_name (suc j) ss) (whole_first (suc j) ss (whole_segments path)) (some_first j ss (some_segment path)))
+    ∙ ap (λ n. join_with_byte slash (to_name j (to_name n ss))) (sym more)
+    ∙ ap (join_with_byte slash) (first_of_more 1 ss j)
 
 -- the directory right above one that is above a file
-pub above_parent : (path : List ℕ) (j : ℕ) → suc j < depth_of path → parent_of (directory_of (suc j) path) ≡ directory_of j path
-above_parent path j deep =
-    let many = levels_by path (last_slash path) (omega arith) in
-    cut_parent_at j (segments_of (parent_of path)) (whole_segments (parent_of path)) (omega arith)
+pub above_at : (path : List ℕ) (j : ℕ) → suc j ≤ level_of (parent_of path) → above (directory_of (suc j) path) ≡ directory_of j path
+above_at path j deep = above_first (parent_of path) j deep
 
-last_by : (path : List ℕ) → LastSlash path → parent_of path ≡ directory_of (depth_of path - 1) path
-last_by path (None, none) =
-    let top : parent_of path ≡ [] = sym (no_parent path none) in
-    top ∙ sym (no_segments (depth_of path - 1)) ∙ ap (first_segments (depth_of path - 1)) (sym top)
-last_by path (Some i, h) =
-    let parent : List ℕ = take i path in
-    let name : List ℕ = take (length path - (i + 1)) (drop (i + 1) path) in
-    let parts : segments_of path ≡ segments_of parent ++ name ∷ [] = at_last_slash path i h in
-    let within : i < length path = h.0.high in
-    let is : length (segments_of parent) ≤ depth_of path - 1 =
-    omega (arith, depth_is path (omega arith), ap length parts, length-append (segments_of parent) (name ∷ [])) in
-    let whole : first_segments (depth_of path - 1) parent ≡ parent =
-    ap (join_with_byte slash) (take_all (depth_of path - 1) (segments_of parent) is) ∙ join_with_byte-slice_split slash parent in
-    sym (parent_at path i h) ∙ sym whole ∙ ap (first_segments (depth_of path - 1)) (parent_at path i h)
+whole_path : (path : List ℕ) (n : ℕ) → level_of path ≤ n → first_names n path ≡ path
+whole_path [] n few = empty_first n
+whole_path (b ∷ bs) n few =
+    ap (join_with_byte slash) (whole_first_names n (segments_of (b ∷ bs)) few) ∙ join_with_byte-slice_split slash (b ∷ bs)
 
--- the last directory above a file is the one that holds it
-pub last_above : (path : List ℕ) → parent_of path ≡ directory_of (depth_of path - 1) path
-last_above path = last_by path (last_slash path)
+capped_at : (path : List ℕ) (n m : ℕ) → m ≡ level_of path → (b : Bool) → nat_le m n ≡ b → first_names n path ≡ first_names (min n m) path
+capped_at path n m is true e =
+    let few : m ≤ n = grind (arith, nat_tests) in
+    let same : min n m ≡ m = omega arith in
+    whole_path path n (omega arith) ∙ sym (whole_path path m (omega arith)) ∙ ap (λ k. first_names k path) (sym same)
+capped_at path n m is false e =
+    let more : n < m = grind (arith, nat_tests) in
+    let same : min n m ≡ n = omega arith in
+    ap (λ k. first_names k path) (sym same)
+
+-- a directory of n names or fewer is not cut
+pub capped : (path : List ℕ) (n : ℕ) → directory_of n path ≡ directory_of (min n (level_of (parent_of path))) path
+capped path n = capped_at (parent_of path) n (level_of (parent_of path)) refl _ refl

@@ -4,6 +4,7 @@ pub mod Sorted
 pub mod Folding
 pub mod Above
 pub mod Levels
+pub mod TreePaths
 pub mod RowLaws
 pub mod DirectoryLaws
 pub mod TreeLaw

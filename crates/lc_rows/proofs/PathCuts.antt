@@ -1,18 +1,21 @@
--- Paths cut at their last slash, and at their first slashes.
-use Rattle.std.proofs.Common.{◌≡◌, ℕ, ◌+◌, ◌-◌, ◌<◌, ◌≤◌, false, not, List, [], ◌∷◌, ◌++◌, length, take, drop, get_or, refl, sym, ◌∙◌}
-use Rattle.std.proofs.Common.{ap, arith, subst, append_assoc, length-append, Some, None}
-use Rattle.std.specs.List.{flat_map, join_with_byte, suffix_len}
+-- Paths cut at their last slash, and after their names.
+use Rattle.std.proofs.Common.{◌≡◌, ℕ, ◌+◌, ◌-◌, ◌<◌, ◌≤◌, Bool, true, false, not, List, [], ◌∷◌, ◌++◌, length, take, drop, get_or, refl}
+use Rattle.std.proofs.Common.{sym, ◌∙◌, ap, arith, subst, append_assoc, length-append, Some, None, if◌then◌else◌, suc, zero}
+use Rattle.std.specs.List.{before_last, flat_map, join_with_byte, list_any, suffix_len}
 use Rattle.std.proofs.Math.Seq.{take-append_seam}
 use Rattle.std.proofs.lemmas.Bool.{false_from_ne_true}
 use Rattle.std.proofs.lemmas.Grind.{flat_map-append}
-use Rattle.std.proofs.lemmas.List.{append-nil, length_push, take_all, take_at, take_rest}
+use Rattle.std.proofs.lemmas.List.{append-nil, take_rest}
+use Rattle.std.proofs.lemmas.List.Folds.{list_any_at, list_any_none}
 use Rattle.std.proofs.lemmas.List.Splits.{join_with_byte-slice_split}
 use Rattle.std.proofs.lemmas.List.Sums.{suffix_len_is}
+use Rattle.lc_glob.proofs.FirstByte.{same_read}
+use Rattle.lc_glob.proofs.Naming.{some_segment}
 use Rattle.lc_glob.specs.Bytes.{slash}
-use Rattle.lc_glob.specs.Path.{segments_of}
+use Rattle.lc_glob.specs.Path.{is_no_name, segments_of}
 use Rattle.lc_glob.specs.Pieces.{is_byte}
 use Rattle.memchr.specs.Find.{IsLastByte, is_byte as found}
-use Rattle.lc_rows.specs.Directories.{first_segments, name_of, parent_of}
+use Rattle.lc_rows.specs.Directories.{after_name, directory_before, first_names, level_of, levels, name_of, names_in, parent_of, to_name}
 
 -- how many bytes are after the last slash, at place i
 name_length : (path : List ℕ) (i : ℕ) → IsLastByte (found slash) path (Some i)
@@ -29,12 +32,19 @@ whole_length path none =
     suffix_len_is (λ b. not (is_byte slash b)) path 0 0 (omega arith) (λ k low high. ap not (false_from_ne_true _ (none k low high)))
     (λ lt. absurd (omega arith)) ∙ omega arith
 
-pub parent_at : (path : List ℕ) (i : ℕ) → IsLastByte (found slash) path (Some i) → take i path ≡ parent_of path
-parent_at path i h =
+-- what is before the last slash
+front_at : (path : List ℕ) (i : ℕ) → IsLastByte (found slash) path (Some i) → take i path ≡ before_last (is_byte slash) path
+front_at path i h =
     let below : i < length path = h.0.high in
     let long = name_length path i h in
     let same : i ≡ length path - suffix_len (λ b. not (is_byte slash b)) path - 1 = omega arith in
     ap (λ n. take n path) same
+
+pub parent_at : (path : List ℕ) (i : ℕ) → IsLastByte (found slash) path (Some i) → directory_before (take i path) ≡ parent_of path
+parent_at path i h =
+    let some : list_any (is_byte slash) path ≡ true = list_any_at (is_byte slash) path i 0 h.0.high h.1 in
+    ap directory_before (front_at path i h)
+    ∙ ap (λ b. if b then directory_before (before_last (is_byte slash) path) else []) (sym some)
 
 pub name_at : (path : List ℕ) (i : ℕ) → IsLastByte (found slash) path (Some i)
     → take (length path - (i + 1)) (drop (i + 1) path) ≡ name_of path
@@ -46,9 +56,10 @@ name_at path i h =
 
 pub no_parent : (path : List ℕ) → IsLastByte (found slash) path None → [] ≡ parent_of path
 no_parent path none =
-    let long = whole_length path none in
-    let same : 0 ≡ length path - suffix_len (λ b. not (is_byte slash b)) path - 1 = omega arith in
-    ap (λ n. take n path) same
+    let no_slash : list_any (is_byte slash) path ≡ false = list_any_none (is_byte slash) path
+    (λ k d within. false_from_ne_true _ (λ is. none k (omega arith) within
+    (subst (λ b. found slash b ≡ true) (same_read path k d within) is))) in
+    ap (λ b. if b then directory_before (before_last (is_byte slash) path) else []) (sym no_slash)
 
 pub whole_name : (path : List ℕ) → IsLastByte (found slash) path None → path ≡ name_of path
 whole_name path none =
@@ -60,24 +71,40 @@ whole_name path none =
 abbrev ended : List (List ℕ) → List ℕ
 ended names = flat_map (λ name. name ++ slash ∷ []) names
 
--- after n slashes of a path: its first n segments are these names, and the other segments are those of the rest
-pub record IsCut (path rest : List ℕ) (n : ℕ) : Type 0 where
+-- one segment more before the name of a number, of which so many are left
+to_more : (left : ℕ) (s : List ℕ) (ss : List (List ℕ)) → 0 < left → to_name left (s ∷ ss) ≡ s ∷ to_name (left - names_in s) ss
+to_more zero s ss some = absurd (omega arith)
+to_more (suc left) s ss some = refl
+
+after_more : (left : ℕ) (s : List ℕ) (ss : List (List ℕ)) → 0 < left → after_name left (s ∷ ss) ≡ after_name (left - names_in s) ss
+after_more zero s ss some = absurd (omega arith)
+after_more (suc left) s ss some = refl
+
+-- on the way to the nth name of a path, when so many names are left: these segments are passed, and the others are those of the rest
+pub record IsCut (path rest : List ℕ) (n left : ℕ) : Type 0 where
   pub names : List (List ℕ)
-  pub many : length names ≡ n
   pub segments : segments_of path ≡ names ++ segments_of rest
   pub bytes : path ≡ flat_map (λ name. name ++ slash ∷ []) names ++ rest
+  pub first : to_name n (segments_of path) ≡ names ++ to_name left (segments_of rest)
+  pub after : after_name n (segments_of path) ≡ after_name left (segments_of rest)
 
-pub cut_none : (path : List ℕ) → IsCut path path 0
-cut_none path = record { names = []; many = refl; segments = refl; bytes = refl }
+pub cut_none : (path : List ℕ) (n : ℕ) → IsCut path path n n
+cut_none path n = record { names = []; segments = refl; bytes = refl; first = refl; after = refl }
 
 -- one segment more
-pub cut_more : (path rest name below : List ℕ) (n : ℕ) → IsCut path rest n → segments_of rest ≡ name ∷ segments_of below
-    → rest ≡ name ++ slash ∷ below → IsCut path below (n + 1)
-cut_more path rest name below n cut first whole = record {
+pub cut_more : (path rest name below : List ℕ) (n left next : ℕ) → IsCut path rest n left → 0 < left
+    → segments_of rest ≡ name ∷ segments_of below → rest ≡ name ++ slash ∷ below → next ≡ left - names_in name → IsCut path below n next
+cut_more path rest name below n left next cut some first whole less = record {
   names = cut.names ++ name ∷ [];
-  many = length_push cut.names name ∙ ap (λ k. k + 1) cut.many;
   segments = cut.segments ∙ ap (λ l. cut.names ++ l) first ∙ sym (append_assoc cut.names (name ∷ []) (segments_of below));
   bytes = cut.bytes ∙ ap (λ l. ended cut.names ++ l) whole ∙ sym (ended_more cut.names);
+  first =
+      cut.first ∙ ap (λ l. cut.names ++ to_name left l) first ∙ ap (λ l. cut.names ++ l) (to_more left name (segments_of below) some)
+      ∙ ap (λ k. cut.names ++ name ∷ to_name k (segments_of below)) (sym less)
+      ∙ sym (append_assoc cut.names (name ∷ []) (to_name next (segments_of below)));
+  after =
+      cut.after ∙ ap (after_name left) first ∙ after_more left name (segments_of below) some
+      ∙ ap (λ k. after_name k (segments_of below)) (sym less);
 }
   where
     ended_more : (names : List (List ℕ)) → ended (names ++ name ∷ []) ++ below ≡ ended names ++ (name ++ slash ∷ below)
@@ -104,17 +131,77 @@ joined_at (x ∷ xs) rest =
     ap (λ l. take (length l - length rest - 1) l) whole ∙ ap (λ n. take n (joined ++ slash ∷ rest)) long
     ∙ take-append_seam joined (slash ∷ rest)
 
--- after n segments: what is cut off is the path of the first n
-pub cut_path : (path rest : List ℕ) (n : ℕ) → IsCut path rest n
-    → take (length path - length rest - 1) path ≡ first_segments n path
-cut_path path rest n cut =
-    ap (λ l. take (length l - length rest - 1) l) cut.bytes ∙ joined_at cut.names rest
-    ∙ ap (join_with_byte slash) (sym (take_at cut.names (segments_of rest) n cut.many) ∙ ap (take n) (sym cut.segments))
+-- after the nth name: what is cut off is the path up to it
+pub cut_path : (path rest : List ℕ) (n left : ℕ) → IsCut path rest n left → left ≡ 0
+    → first_names n path ≡ take (length path - length rest - 1) path
+cut_path path rest n left cut none =
+    let first : to_name n (segments_of path) ≡ cut.names =
+    cut.first ∙ ap (λ k. cut.names ++ to_name k (segments_of rest)) none ∙ append-nil cut.names in
+    ap (join_with_byte slash) first ∙ sym (joined_at cut.names rest) ∙ ap (λ l. take (length l - length rest - 1) l) (sym cut.bytes)
 
--- a path with no more than n segments is whole
-pub cut_whole : (path rest name : List ℕ) (k n : ℕ) → IsCut path rest k → segments_of rest ≡ name ∷ [] → k < n
-    → path ≡ first_segments n path
-cut_whole path rest name k n cut last more =
-    let all : segments_of path ≡ cut.names ++ name ∷ [] = cut.segments ∙ ap (λ l. cut.names ++ l) last in
-    let few : length (segments_of path) ≤ n = omega (arith, ap length all, length_push cut.names name, cut.many) in
-    sym (ap (join_with_byte slash) (take_all n (segments_of path) few) ∙ join_with_byte-slice_split slash path)
+pub cut_rest : (path rest : List ℕ) (n left : ℕ) → IsCut path rest n left → left ≡ 0
+    → join_with_byte slash (after_name n (segments_of path)) ≡ rest
+cut_rest path rest n left cut none =
+    ap (join_with_byte slash) (cut.after ∙ ap (λ k. after_name k (segments_of rest)) none) ∙ join_with_byte-slice_split slash rest
+
+one_left : (left : ℕ) (name : List ℕ) → 0 < left → to_name left (name ∷ []) ≡ name ∷ []
+one_left left name some = to_more left name [] some ∙ ap (λ l. name ∷ l) (of_none (left - names_in name))
+  where
+    of_none : (n : ℕ) → to_name n [] ≡ []
+    of_none zero = refl
+    of_none (suc n) = refl
+
+-- a path that ends before the nth name, or with it, is whole
+pub cut_whole : (path rest name : List ℕ) (n left : ℕ) → IsCut path rest n left → 0 < left → segments_of rest ≡ name ∷ []
+    → first_names n path ≡ path
+cut_whole path rest name n left cut some last =
+    let all : to_name n (segments_of path) ≡ segments_of path =
+    cut.first ∙ ap (λ l. cut.names ++ to_name left l) last ∙ ap (λ l. cut.names ++ l) (one_left left name some)
+    ∙ ap (λ l. cut.names ++ l) (sym last) ∙ sym cut.segments in
+    ap (join_with_byte slash) all ∙ join_with_byte-slice_split slash path
+
+pub cut_empty : (path rest name : List ℕ) (n left : ℕ) → IsCut path rest n left → 0 < left → segments_of rest ≡ name ∷ []
+    → after_name n (segments_of path) ≡ []
+cut_empty path rest name n left cut some last =
+    cut.after ∙ ap (after_name left) last ∙ after_more left name [] some ∙ of_none (left - names_in name)
+  where
+    of_none : (k : ℕ) → after_name k [] ≡ []
+    of_none zero = refl
+    of_none (suc k) = refl
+
+-- ---- levels
+
+-- behind some segments of a path, when so many names are passed
+pub record IsPassed (path rest : List ℕ) (level : ℕ) : Type 0 where
+  pub names : levels (segments_of path) + 1 ≡ level + levels (segments_of rest)
+  pub room : level + length rest ≤ length path + 1
+
+pub passed_none : (path : List ℕ) → IsPassed path path 1
+passed_none path = record { names = omega arith; room = omega arith }
+
+level_more : (name : List ℕ) (ss : List (List ℕ)) → (ss ≡ [] → ⊥) → levels (name ∷ ss) ≡ names_in name + levels ss
+level_more name [] some = absurd (some refl)
+level_more name (s ∷ ss) some = refl
+
+one_name : (b : Bool) → (if b then 0 else 1) ≤ 1
+one_name true = omega arith
+one_name false = omega arith
+
+pub passed_more : (path rest name below : List ℕ) (level next : ℕ) → IsPassed path rest level
+    → segments_of rest ≡ name ∷ segments_of below → rest ≡ name ++ slash ∷ below → next ≡ level + names_in name → IsPassed path below next
+passed_more path rest name below level next passed first whole more =
+    let deep : levels (segments_of rest) ≡ names_in name + levels (segments_of below) =
+    ap levels first ∙ level_more name (segments_of below) (some_segment below) in
+    let long : length rest ≡ length name + length (slash ∷ below) = ap length whole ∙ length-append name (slash ∷ below) in
+    let one : names_in name ≤ 1 = one_name (is_no_name name) in
+    let names = passed.names in
+    let room = passed.room in
+    record { names = omega arith; room = omega arith }
+
+pub passed_last : (path rest name : List ℕ) (level : ℕ) → IsPassed path rest level → segments_of rest ≡ name ∷ [] → 0 < length path
+    → level ≡ level_of path
+passed_last [] rest name level passed last some = absurd (omega arith)
+passed_last (b ∷ bs) rest name level passed last some =
+    let one : levels (segments_of rest) ≡ 1 = ap levels last in
+    let names = passed.names in
+    omega arith

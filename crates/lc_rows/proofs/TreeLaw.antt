@@ -1,17 +1,15 @@
 -- The rows of a tree have the sums over the files in each directory and below it.
-use Rattle.std.proofs.Common.{◌≡◌, ℕ, ◌+◌, ◌<◌, suc, zero, Bool, true, false, cond, ◌&&◌, List, [], ◌∷◌, map}
+use Rattle.std.proofs.Common.{◌≡◌, ℕ, ◌+◌, ◌<◌, ◌≤◌, suc, zero, Bool, true, false, cond, ◌&&◌, List, [], ◌∷◌, map}
 use Rattle.std.proofs.Common.{Some, refl, sym, ◌∙◌, ap, subst, arith}
 use Rattle.std.specs.Cmp.{tied_then}
-use Rattle.std.specs.List.{AllPass, filter, range_with_len, sum_by}
+use Rattle.std.specs.List.{filter, range_with_len, sum_by}
 use Rattle.std.specs.Prelude.{bytes_eq, nat_eq}
 use Rattle.std.proofs.lemmas.Bool.{false_from_ne_true}
 use Rattle.std.proofs.lemmas.Bool.Decides.{nat_tests}
-use Rattle.std.proofs.lemmas.List.Elements.{All-tail}
 use Rattle.std.proofs.lemmas.List.FromFn.{sum_by-map-range_with_len_more}
 use Rattle.std.proofs.lemmas.List.Sums.{sum_by-append, sum_by-cons}
 use Rattle.std.proofs.lemmas.Map.Text.{is_eq-slice_cmp}
 use Rattle.std.proofs.lemmas.Slice.Eq.{bytes_eq-Decides}
-use Rattle.lc_glob.specs.Path.{depth_of, is_good_path}
 use Rattle.lc_tree.specs.ByteOrder.{bytes_cmp}
 use Rattle.lc_sheet.specs.declared.table_options.Columns.{Columns}
 use Rattle.lc_walk.proofs.Filtered.{part, sum_by-filter}
@@ -19,13 +17,13 @@ use Rattle.lc_walk.proofs.RowSums.{same_sums}
 use Rattle.lc_walk.specs.Key.{Key, key_cmp, same_key}
 use Rattle.lc_walk.specs.Sums.{one_file}
 use Rattle.lc_walk.specs.declared.tally.sums.Sums.{Sums}
-use Rattle.lc_rows.specs.Directories.{directory_of}
+use Rattle.lc_rows.specs.Directories.{directory_of, level_of}
 use Rattle.lc_rows.specs.Laws.{TreeLaw, sums_of_lines}
 use Rattle.lc_rows.specs.RowKeys.{RowKey, ShownRowModel, row_key, row_key_cmp, rows_within, same_row_key, sums_of_shown}
 use Rattle.lc_rows.specs.ShownRows.{file_key, key_in, part_of_file}
-use Rattle.lc_rows.specs.TreeRows.{is_below, parts_above, tree_parts}
+use Rattle.lc_rows.specs.TreeRows.{is_below, levels_above, parts_above, tree_parts}
 use Rattle.lc_rows.proofs.Folding.{alike_permuted, alike_sums}
-use Rattle.lc_rows.proofs.Levels.{depth_above, some_depth}
+use Rattle.lc_rows.proofs.Levels.{level_at}
 use Rattle.lc_level.specs.Level.{FileLineModel}
 
 -- sums over a range of numbers of which none counts, and of which one counts
@@ -71,8 +69,8 @@ key_parts d e k j =
 no_gain : (a b : Bool) (w : ℕ) → a ≡ false → cond (a && b) w 0 ≡ 0
 no_gain a b w e = ap (λ t. cond (t && b) w 0) e
 
--- what a good file adds to the rows of a directory
-module _ (by : Columns) (d : List ℕ) (k : Key) where
+-- what a file adds to the rows of a directory
+module _ (cut : ℕ) (by : Columns) (d : List ℕ) (k : Key) (known : level_of d ≤ cut) where
   abbrev wanted : RowKey
   wanted = record { directory = Some d; key = k }
 
@@ -86,57 +84,53 @@ module _ (by : Columns) (d : List ℕ) (k : Key) where
       ≡ cond (bytes_eq d (directory_of n f.path) && same_key k (key_in by (file_key f))) (v (one_file f.count)) 0
   file_adds v f n = ap (λ b. cond b (v (one_file f.count)) 0) (key_parts d (directory_of n f.path) k (key_in by (file_key f)))
 
-  file_sum_at : (v : Sums → ℕ) (f : FileLineModel) → is_good_path f.path ≡ true → (b : Bool) → is_below d f.path ≡ b
-      → sum_by (adds v) (parts_above by f) ≡ cond (b && same_key k (key_in by (file_key f))) (v (one_file f.count)) 0
-  file_sum_at v f good true e =
-      let here : d ≡ directory_of (depth_of d) f.path = (bytes_eq-Decides d (directory_of (depth_of d) f.path)).0 e in
-      let deep = depth_above f.path (depth_of d) good in
-      let some = some_depth f.path good in
-      let within : depth_of d < depth_of f.path = omega (arith, ap depth_of here) in
-      one_counts (adds v) (λ n. part_of_file by n f) (depth_of d) (depth_of f.path) within
+  file_sum_at : (v : Sums → ℕ) (f : FileLineModel) (b : Bool) → is_below d f.path ≡ b
+      → sum_by (adds v) (parts_above cut by f) ≡ cond (b && same_key k (key_in by (file_key f))) (v (one_file f.count)) 0
+  file_sum_at v f true e =
+      let here : d ≡ directory_of (level_of d) f.path = (bytes_eq-Decides d (directory_of (level_of d) f.path)).0 e in
+      let deep = level_at f.path (level_of d) in
+      let many : ℕ = levels_above cut f.path + 1 in
+      let within : level_of d < many = omega (arith, ap level_of here) in
+      one_counts (adds v) (λ n. part_of_file by n f) (level_of d) many within
       (λ j below other. file_adds v f j ∙ no_gain _ _ _ (false_from_ne_true _ (λ t.
       let same : d ≡ directory_of j f.path = (bytes_eq-Decides d (directory_of j f.path)).0 t in
-      let deep_there = depth_above f.path j good in
-      let depth : j ≡ depth_of d = omega (arith, ap depth_of same) in
-      other depth)))
-      ∙ file_adds v f (depth_of d) ∙ ap (λ b. cond (b && same_key k (key_in by (file_key f))) (v (one_file f.count)) 0) e
-  file_sum_at v f good false e =
-      none_counts (adds v) (λ n. part_of_file by n f) (depth_of f.path)
+      let deep_there = level_at f.path j in
+      let level : j ≡ level_of d = omega (arith, ap level_of same) in
+      other level)))
+      ∙ file_adds v f (level_of d) ∙ ap (λ b. cond (b && same_key k (key_in by (file_key f))) (v (one_file f.count)) 0) e
+  file_sum_at v f false e =
+      none_counts (adds v) (λ n. part_of_file by n f) (levels_above cut f.path + 1)
       (λ j below. file_adds v f j ∙ no_gain _ _ _ (false_from_ne_true _ (λ t.
       let same : d ≡ directory_of j f.path = (bytes_eq-Decides d (directory_of j f.path)).0 t in
-      let deep_there = depth_above f.path j good in
-      let depth : j ≡ depth_of d = omega (arith, ap depth_of same) in
-      let is : bytes_eq d (directory_of (depth_of d) f.path) ≡ true = subst (λ n. bytes_eq d (directory_of n f.path) ≡ true) depth t in
+      let deep_there = level_at f.path j in
+      let level : j ≡ level_of d = omega (arith, ap level_of same) in
+      let is : bytes_eq d (directory_of (level_of d) f.path) ≡ true = subst (λ n. bytes_eq d (directory_of n f.path) ≡ true) level t in
       absurd (cc))))
 
-  file_sum : (v : Sums → ℕ) (f : FileLineModel) → is_good_path f.path ≡ true
-      → sum_by (adds v) (parts_above by f) ≡ cond (counted f) (v (one_file f.count)) 0
-  file_sum v f good = file_sum_at v f good _ refl
-
-  files_sum : (v : Sums → ℕ) (fs : List FileLineModel) → AllPass (λ (f : FileLineModel). is_good_path f.path) fs
-      → sum_by (adds v) (tree_parts by fs) ≡ sum_by (part counted (λ (f : FileLineModel). v (one_file f.count))) fs
-  files_sum v [] good = refl
-  files_sum v (f ∷ fs) good =
-      let first = file_sum v f (good 0 f (omega arith)) in
-      let rest = files_sum v fs (All-tail (λ (g : FileLineModel). is_good_path g.path ≡ true) f fs good) in
+  files_sum : (v : Sums → ℕ) (fs : List FileLineModel)
+      → sum_by (adds v) (tree_parts cut by fs) ≡ sum_by (part counted (λ (f : FileLineModel). v (one_file f.count))) fs
+  files_sum v [] = refl
+  files_sum v (f ∷ fs) =
+      let first = file_sum_at v f _ refl in
+      let rest = files_sum v fs in
       omega (
         arith,
-        sum_by-append (adds v) (parts_above by f) (tree_parts by fs),
+        sum_by-append (adds v) (parts_above cut by f) (tree_parts cut by fs),
         sum_by-cons (part counted (λ (g : FileLineModel). v (one_file g.count))) f fs,
       )
 
-  parts_sums : (fs : List FileLineModel) → AllPass (λ (f : FileLineModel). is_good_path f.path) fs
-      → sums_of_shown (rows_within (same_row_key wanted) (tree_parts by fs)) ≡ sums_of_lines (filter counted fs)
-  parts_sums fs good =
+  parts_sums : (fs : List FileLineModel)
+      → sums_of_shown (rows_within (same_row_key wanted) (tree_parts cut by fs)) ≡ sums_of_lines (filter counted fs)
+  parts_sums fs =
       let p : ShownRowModel → Bool = λ r. same_row_key wanted (row_key r) in
-      let one : (v : Sums → ℕ) → sum_by (λ (r : ShownRowModel). v r.sums) (filter p (tree_parts by fs))
+      let one : (v : Sums → ℕ) → sum_by (λ (r : ShownRowModel). v r.sums) (filter p (tree_parts cut by fs))
       ≡ sum_by (λ (f : FileLineModel). v (one_file f.count)) (filter counted fs) =
-      λ v. sum_by-filter p (λ (r : ShownRowModel). v r.sums) (tree_parts by fs) ∙ files_sum v fs good
+      λ v. sum_by-filter p (λ (r : ShownRowModel). v r.sums) (tree_parts cut by fs) ∙ files_sum v fs
       ∙ sym (sum_by-filter counted (λ (f : FileLineModel). v (one_file f.count)) fs) in
       same_sums _ _ (one (λ s. s.files)) (one (λ s. s.lines)) (one (λ s. s.blank)) (one (λ s. s.bytes))
 
 -- the rows of a tree have the sums over what is below their directories
 pub tree_law : TreeLaw
-tree_law by fs rows d k good h =
+tree_law n by fs rows d k known h =
     alike_sums h.0 rows (alike_permuted h.0 rows h.2) (same_row_key (record { directory = Some d; key = k }))
-    ∙ h.1.sums (same_row_key (record { directory = Some d; key = k })) ∙ parts_sums by d k fs good
+    ∙ h.1.sums (same_row_key (record { directory = Some d; key = k })) ∙ parts_sums n by d k known fs

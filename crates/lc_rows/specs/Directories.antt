@@ -1,22 +1,62 @@
--- The directories of files, cut to their first segments.
-use Rattle.std.specs.Prelude.{ℕ, List, take}
-use Rattle.std.specs.List.{after_last, before_last, join_with_byte}
+-- The directories of files, cut after some of their names.
+use Rattle.std.specs.Prelude.{ℕ, ◌+◌, ◌-◌, suc, zero, bytes_eq, if◌then◌else◌, codes, List, [], ◌∷◌}
+use Rattle.std.specs.List.{after_last, before_last, join_with_byte, list_any}
 use Rattle.lc_glob.specs.Bytes.{slash}
-use Rattle.lc_glob.specs.Path.{segments_of}
+use Rattle.lc_glob.specs.Path.{is_no_name, segments_of}
 use Rattle.lc_glob.specs.Pieces.{is_byte}
+
+-- the directory whose path is before a slash: `/` where nothing is before it, and the empty path, which is the top's, for `.`
+abbrev pub directory_before : List ℕ → List ℕ
+directory_before [] = slash ∷ []
+directory_before (b ∷ bs) = if bytes_eq (b ∷ bs) (codes ".") then [] else b ∷ bs
 
 -- the directory that holds a file: what is before the last slash of the file's path. For a file of the top it is the empty path
 abbrev pub parent_of : List ℕ → List ℕ
-parent_of path = before_last (is_byte slash) path
+parent_of path = if list_any (is_byte slash) path then directory_before (before_last (is_byte slash) path) else []
 
 -- the name of a file: what is after the last slash of its path, or the whole path
 abbrev pub name_of : List ℕ → List ℕ
 name_of path = after_last (is_byte slash) path
 
--- a path cut to its first n segments
-abbrev pub first_segments : ℕ → List ℕ → List ℕ
-first_segments n path = join_with_byte slash (take n (segments_of path))
+-- how many names a segment is: the empty one, `.` and `..` are none
+abbrev pub names_in : List ℕ → ℕ
+names_in s = if is_no_name s then 0 else 1
 
--- the directory that holds a file, cut to its first n segments
+-- the first segments, with the nth name as the last of them; all, if there are fewer names
+abbrev pub to_name : ℕ → List (List ℕ) → List (List ℕ)
+to_name zero ss = []
+to_name (suc n) [] = []
+to_name (suc n) (s ∷ ss) = s ∷ to_name (suc n - names_in s) ss
+
+-- the segments after those
+abbrev pub after_name : ℕ → List (List ℕ) → List (List ℕ)
+after_name zero ss = ss
+after_name (suc n) [] = []
+after_name (suc n) (s ∷ ss) = after_name (suc n - names_in s) ss
+
+-- a path cut after its nth name
+abbrev pub first_names : ℕ → List ℕ → List ℕ
+first_names n path = join_with_byte slash (to_name n (segments_of path))
+
+-- the directory that holds a file, cut after its nth name
 abbrev pub directory_of : ℕ → List ℕ → List ℕ
-directory_of n path = first_segments n (parent_of path)
+directory_of n path = first_names n (parent_of path)
+
+-- how many names segments have, where the last of them counts as one whatever it is
+abbrev pub levels : List (List ℕ) → ℕ
+levels [] = 0
+levels (s ∷ []) = 1
+levels (s ∷ t ∷ ss) = names_in s + levels (t ∷ ss)
+
+-- how many directories are above a directory in a tree. The top has none, and all others have the top
+abbrev pub level_of : List ℕ → ℕ
+level_of [] = 0
+level_of (b ∷ bs) = levels (segments_of (b ∷ bs))
+
+-- the directory right above another, which is cut before its last name; `/` and `..` are in the top
+abbrev pub above : List ℕ → List ℕ
+above directory = first_names (level_of directory - 1) directory
+
+-- the path of a directory from the one right above it on
+abbrev pub own_part : List ℕ → List ℕ
+own_part directory = join_with_byte slash (after_name (level_of directory - 1) (segments_of directory))

@@ -1,16 +1,17 @@
 -- What is true of the rows and files that a table shows.
-use Rattle.std.specs.Prelude.{◌≡◌, ◌≤◌, ◌&&◌, ℕ, true, List, length, map, Option, Some, None, unwrap_or}
-use Rattle.std.specs.List.{All, AllPass, filter}
+use Rattle.std.specs.Prelude.{◌≡◌, ◌≤◌, ◌-◌, ◌&&◌, ℕ, true, List, length, map, take, Option, Some, None, unwrap_or}
+use Rattle.std.specs.List.{All, filter, join_with_byte}
 use Rattle.std.specs.List.Sorted.{IsPermutation}
 use Rattle.lc_sheet.specs.declared.table_options.Columns.{Columns}
 use Rattle.lc_sheet.specs.declared.column.Number.{Number}
-use Rattle.lc_glob.specs.Path.{is_good_path}
+use Rattle.lc_glob.specs.Bytes.{slash}
+use Rattle.lc_glob.specs.Path.{is_good_path, segments_of}
 use Rattle.lc_walk.specs.Key.{Key, same_key}
 use Rattle.lc_walk.specs.Sums.{no_files, one_file, plus}
 use Rattle.lc_walk.specs.TallyRows.{TallyRowModel, sums_of_rows, IsInOrder}
 use Rattle.lc_walk.specs.declared.tally.sums.Sums.{Sums}
 use Rattle.lc_rows.specs.Classes.{binary_sums, text_sums}
-use Rattle.lc_rows.specs.Directories.{directory_of}
+use Rattle.lc_rows.specs.Directories.{directory_of, level_of}
 use Rattle.lc_rows.specs.RowKeys.{RowKey, ShownRowModel, rows_within, same_row_key, sums_of_shown, sums_over}
 use Rattle.lc_rows.specs.ShownFiles.{AreFilesSorted, file_number}
 use Rattle.lc_rows.specs.ShownRows.{AreAddedUp, AreShown, AreSummed, file_key, key_in, part_of_row}
@@ -47,7 +48,7 @@ all_columns = record { dir = None; ext = true; text = true; eol = true }
 abbrev pub WholeLaw : Type 0
 WholeLaw = (rs : List TallyRowModel) → IsInOrder rs → AreAddedUp (map (part_of_row all_columns) rs) (map (part_of_row all_columns) rs)
 
--- the rows of directories that are cut to n segments
+-- the rows of directories that are cut after n names
 abbrev pub by_directories : ℕ → Columns → Columns
 by_directories n by = record { dir = Some n; ext = by.ext; text = by.text; eol = by.eol }
 
@@ -69,11 +70,17 @@ OneRowLaw =
     → AreShown (by_directories n by) sort rs fs shown
     → All (λ f. length (rows_within (same_row_key (file_row_key n by f)) shown) ≡ 1) fs
 
+-- the directory of a path of a tree, whose segments are all names, is its first segments, and never the last
+abbrev pub NamesLaw : Type 0
+NamesLaw =
+    (n : ℕ) (path : List ℕ) → is_good_path path ≡ true
+    → directory_of n path ≡ join_with_byte slash (take n (take (length (segments_of path) - 1) (segments_of path)))
+
 -- for each directory and key, the rows of a tree have the sums over the files in this directory and below it which have that key
 abbrev pub TreeLaw : Type 0
 TreeLaw =
-    (by : Columns) (fs : List FileLineModel) (rows : List ShownRowModel) (directory : List ℕ) (key : Key)
-    → AllPass (λ f. is_good_path f.path) fs → AreTreeRows by fs rows
+    (n : ℕ) (by : Columns) (fs : List FileLineModel) (rows : List ShownRowModel) (directory : List ℕ) (key : Key)
+    → level_of directory ≤ n → AreTreeRows n by fs rows
     → sums_of_shown (rows_within (same_row_key (record { directory = Some directory; key = key })) rows)
     ≡ sums_of_lines (filter (λ f. is_below directory f.path && same_key key (key_in by (file_key f))) fs)
 
@@ -81,10 +88,10 @@ TreeLaw =
 -- directories right in it
 abbrev pub ChildrenLaw : Type 0
 ChildrenLaw =
-    (by : Columns) (fs : List FileLineModel) (rows : List ShownRowModel) (directory : List ℕ) (key : Key)
-    → AllPass (λ f. is_good_path f.path) fs → AreTreeRows by fs rows
+    (n : ℕ) (by : Columns) (fs : List FileLineModel) (rows : List ShownRowModel) (directory : List ℕ) (key : Key)
+    → AreTreeRows n by fs rows
     → sums_of_shown (rows_within (same_row_key (record { directory = Some directory; key = key })) rows)
-    ≡ plus (sums_of_lines (filter (λ f. is_in directory f.path && same_key key (key_in by (file_key f))) fs))
+    ≡ plus (sums_of_lines (filter (λ f. is_in n directory f.path && same_key key (key_in by (file_key f))) fs))
     (sums_of_shown (rows_within (λ k. is_child directory k.directory && same_key key k.key) rows))
 
 -- the rows that are shown where a table is cut, and the sums over the others, add up to those over all

@@ -34,7 +34,7 @@ file_key f = record { extension = extension_of (name_of f.path); text = f.text; 
 abbrev pub part_of_row : Columns → TallyRowModel → ShownRowModel
 part_of_row by r = record { directory = None; key = key_in by r.key; sums = r.sums }
 
--- what a file adds to a table of directories that are cut to n segments
+-- what a file adds to a table of directories that are cut after n names
 abbrev pub part_of_file : Columns → ℕ → FileLineModel → ShownRowModel
 part_of_file by n f = record { directory = Some (directory_of n f.path); key = key_in by (file_key f); sums = one_file f.count }
 

@@ -1,5 +1,5 @@
 -- The rows of a tree of directories: each directory with the files in it and below it.
-use Rattle.std.specs.Prelude.{ℕ, ◌+◌, ◌==◌, Bool, false, bytes_eq, cond, List, [], ◌∷◌, map, Option, Some, None}
+use Rattle.std.specs.Prelude.{ℕ, ◌+◌, ◌==◌, Bool, false, bytes_eq, cond, min, List, [], ◌∷◌, map, Option, Some, None}
 use Rattle.std.specs.Cmp.Lexicographic.{slice_cmp}
 use Rattle.std.specs.List.{flat_map, range_with_len}
 use Rattle.std.specs.List.Sorted.{IsPermutation, IsSorted}
@@ -7,34 +7,37 @@ use Rattle.std.specs.Option.{option_cmp}
 use Rattle.std.specs.Ordering.{nat_cmp, on, then_cmp}
 use Rattle.std.specs.declared.cmp.Ordering.{Ordering}
 use Rattle.lc_glob.specs.Bytes.{slash}
-use Rattle.lc_glob.specs.Path.{depth_of}
 use Rattle.lc_sheet.specs.declared.table_options.Columns.{Columns}
 use Rattle.lc_walk.specs.Key.{key_cmp}
-use Rattle.lc_rows.specs.Directories.{directory_of, parent_of}
+use Rattle.lc_rows.specs.Directories.{above, directory_of, level_of, parent_of}
 use Rattle.lc_rows.specs.RowKeys.{RowKey, ShownRowModel, row_key}
 use Rattle.lc_rows.specs.ShownRows.{AreAddedUp, part_of_file}
 use Rattle.lc_level.specs.Level.{FileLineModel}
 
--- whether a file is in a directory or below it: the directory that holds the file is cut to this one
+-- whether a file is in a directory or below it: the directory that holds the file, cut, is this one
 abbrev pub is_below : List ℕ → List ℕ → Bool
-is_below directory path = bytes_eq directory (directory_of (depth_of directory) path)
+is_below directory path = bytes_eq directory (directory_of (level_of directory) path)
 
--- whether a file is right in a directory
-abbrev pub is_in : List ℕ → List ℕ → Bool
-is_in directory path = bytes_eq directory (parent_of path)
+-- whether a file is right in a directory of a tree whose directories are cut after n names
+abbrev pub is_in : ℕ → List ℕ → List ℕ → Bool
+is_in n directory path = bytes_eq directory (directory_of n path)
 
 -- whether a directory is right in another; the top is in none
 abbrev pub is_child : List ℕ → Option (List ℕ) → Bool
 is_child directory None = false
 is_child directory (Some []) = false
-is_child directory (Some (b ∷ bs)) = bytes_eq directory (parent_of (b ∷ bs))
+is_child directory (Some (b ∷ bs)) = bytes_eq directory (above (b ∷ bs))
 
--- what a file adds to each directory above it, from the top down to the one that holds it: as many as its path has segments
-abbrev pub parts_above : Columns → FileLineModel → List ShownRowModel
-parts_above by f = map (λ n. part_of_file by n f) (range_with_len 0 (depth_of f.path))
+-- how many directories are above a file and below the top, where directories are cut after n names
+abbrev pub levels_above : ℕ → List ℕ → ℕ
+levels_above n path = min n (level_of (parent_of path))
 
-abbrev pub tree_parts : Columns → List FileLineModel → List ShownRowModel
-tree_parts by fs = flat_map (parts_above by) fs
+-- what a file adds to each directory above it, from the top down to the one that holds it
+abbrev pub parts_above : ℕ → Columns → FileLineModel → List ShownRowModel
+parts_above n by f = map (λ level. part_of_file by level f) (range_with_len 0 (levels_above n f.path + 1))
+
+abbrev pub tree_parts : ℕ → Columns → List FileLineModel → List ShownRowModel
+tree_parts n by fs = flat_map (parts_above n by) fs
 
 -- a slash comes before all other bytes, so what is below a directory comes right after it
 abbrev pub byte_place : ℕ → ℕ
@@ -47,7 +50,8 @@ path_cmp = slice_cmp (on byte_place nat_cmp)
 unfoldable pub depth_first_cmp : RowKey → RowKey → Ordering
 depth_first_cmp = then_cmp (on (λ (k : RowKey). k.directory) (option_cmp path_cmp)) (on (λ (k : RowKey). k.key) key_cmp)
 
--- a row for each directory above some file and each key of such a file, with the sums over the files in it and below it, depth first
-abbrev pub AreTreeRows : Columns → List FileLineModel → List ShownRowModel → Type 0
-AreTreeRows by fs rows = (summed : List ShownRowModel) × AreAddedUp (tree_parts by fs) summed × IsPermutation summed rows
+-- a row for each directory above some file, cut after n names, and each key of such a file, with the sums over the files in it and below
+-- it, depth first
+abbrev pub AreTreeRows : ℕ → Columns → List FileLineModel → List ShownRowModel → Type 0
+AreTreeRows n by fs rows = (summed : List ShownRowModel) × AreAddedUp (tree_parts n by fs) summed × IsPermutation summed rows
     × IsSorted (on row_key depth_first_cmp) rows

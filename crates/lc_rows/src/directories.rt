@@ -1,10 +1,27 @@
-//! The directories of files, cut to their first segments.
+//! The directories of files, cut after some of their names.
 
-ghost use Rattle.std.specs.Prelude.{◌≡◌};
-ghost use Rattle.lc_rows.specs.Directories.{directory_of, first_segments, name_of, parent_of};
+ghost use Rattle.std.specs.Prelude.{◌≡◌, ◌-◌, [], MatchOption, length, take};
+ghost use Rattle.std.specs.List.{join_with_byte};
+ghost use Rattle.lc_glob.specs.Bytes.{slash};
+ghost use Rattle.lc_glob.specs.Path.{is_no_name, segments_of};
+ghost use Rattle.lc_rows.specs.Directories.{after_name, directory_before, directory_of, first_names, level_of, name_of, names_in};
+ghost use Rattle.lc_rows.specs.Directories.{own_part, parent_of};
 
 use lc_glob::cut_at_first;
 use memchr::memrchr;
+
+/// Returns the directory whose path is before a slash: `/` if nothing is before it, and the empty path of the top for `.`.
+fn directory_before(front: &[u8]) -> &[u8]
+    ensures { result.now ≡ directory_before front.now }
+{
+    if front.is_empty() {
+        b"/"
+    } else if front == b".".as_slice() {
+        &front[..0]
+    } else {
+        front
+    }
+}
 
 /// Splits the path of a file into the directory that holds it and its name. The directory of a file of the top is empty.
 pub(crate) fn split_path(path: &[u8]) -> (&[u8], &[u8])
@@ -13,7 +30,7 @@ pub(crate) fn split_path(path: &[u8]) -> (&[u8], &[u8])
 {
     match memrchr(b'/', path) {
         None => (&path[..0], path),
-        Some(place) => (&path[..place], &path[place + 1..]),
+        Some(place) => (directory_before(&path[..place]), &path[place + 1..]),
     }
 }
 
@@ -24,29 +41,95 @@ pub fn name_of(path: &[u8]) -> &[u8]
     split_path(path).1
 }
 
-/// Cuts a path to its first segments.
-pub(crate) fn first_segments(depth: usize, path: &[u8]) -> &[u8]
-    ensures { result.now ≡ first_segments depth path.now }
+fn is_no_name(segment: &[u8]) -> bool
+    ensures { result ≡ is_no_name segment.now }
 {
-    let mut rest = path;
-    for _ in 0..depth {
-        let (_, others) = cut_at_first(b'/', rest);
-        match others {
-            None => return path,
-            Some(below) => rest = below,
-        }
-    }
-    &path[..(path.len() - rest.len()).saturating_sub(1)]
+    matches!(segment, [] | [b'.'] | [b'.', b'.'])
 }
 
-/// Returns the directory that holds a file, cut to its first `depth` segments. The directory of a file of the top is empty.
+/// Returns 1 for a name, and 0 for the empty segment, `.` and `..`.
+fn names_in(segment: &[u8]) -> usize
+    ensures { result ≡ names_in segment.now }
+{
+    if is_no_name(segment) { 0 } else { 1 }
+}
+
+/// Returns what is after the slash that follows the name of this number, or `None` if there is no such slash.
+fn after_name(number: usize, path: &[u8]) -> Option<&[u8]>
+    ensures front { MatchOption result (first_names number path.now ≡ path.now)
+        (λ rest. first_names number path.now ≡ take (length path.now - length rest.now - 1) path.now) }
+    ensures rest { MatchOption result (after_name number (segments_of path.now) ≡ [])
+        (λ rest. join_with_byte slash (after_name number (segments_of path.now)) ≡ rest.now) }
+{
+    let mut rest = path;
+    let mut left = number;
+    'segments: while left > 0 {
+        let (segment, others) = cut_at_first(b'/', rest);
+        match others {
+            None => return None,
+            Some(below) => rest = below,
+        }
+        left = left.saturating_sub(names_in(segment));
+    }
+    Some(rest)
+}
+
+/// Cuts a path after the name of this number.
+pub(crate) fn first_names(number: usize, path: &[u8]) -> &[u8]
+    ensures { result.now ≡ first_names number path.now }
+{
+    match after_name(number, path) {
+        None => path,
+        Some(rest) => &path[..path.len().saturating_sub(rest.len()).saturating_sub(1)],
+    }
+}
+
+/// Returns the directory that holds a file, cut after its name of this number. The directory of a file of the top is empty.
+///
+/// The empty segment, `.` and `..` are no names.
 ///
 /// ```
 /// assert!(rt; directory_at(1, b"src/view/main.rt") == b"src".as_slice());
+/// assert!(rt; directory_at(1, b"../lib/a/b.c") == b"../lib".as_slice());
 /// ```
-pub fn directory_at(depth: u32, path: &[u8]) -> &[u8]
-    ensures { result.now ≡ directory_of depth path.now }
+pub fn directory_at(number: u32, path: &[u8]) -> &[u8]
+    ensures { result.now ≡ directory_of number path.now }
 {
     let (parent, _) = split_path(path);
-    first_segments(depth as usize, parent)
+    first_names(number as usize, parent)
+}
+
+/// Returns how many directories are above a directory in a tree. The top, whose path is empty, has none.
+///
+/// ```
+/// assert!(rt; level_of(b"") == 0 && level_of(b"/usr") == 1 && level_of(b"../lib/a") == 2);
+/// ```
+pub fn level_of(directory: &[u8]) -> usize
+    ensures { result ≡ level_of directory.now }
+{
+    if directory.is_empty() {
+        return 0;
+    }
+    let mut level = 1;
+    let mut rest = directory;
+    'segments: loop {
+        let (segment, others) = cut_at_first(b'/', rest);
+        let Some(below) = others else {
+            return level;
+        };
+        level += names_in(segment);
+        rest = below;
+    }
+}
+
+/// Returns the path of a directory from the one right above it on: its last name, with the segments before it that are no names.
+///
+/// ```
+/// assert!(rt; own_part(b"../lib/a") == b"a".as_slice() && own_part(b"../lib") == b"../lib".as_slice());
+/// ```
+pub fn own_part(directory: &[u8]) -> &[u8]
+    ensures { result.now ≡ own_part directory.now }
+{
+    let above = level_of(directory).saturating_sub(1);
+    after_name(above, directory).unwrap_or(&directory[..0])
 }

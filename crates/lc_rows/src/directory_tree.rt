@@ -1,27 +1,37 @@
 //! The rows of a tree of directories: each directory with the files in it and below it.
 
-ghost use Rattle.std.specs.Prelude.{◌≡◌, ◌++◌, IfOk, OnOk};
+ghost use Rattle.std.specs.Prelude.{◌≡◌, ◌≤◌, ◌++◌, IfOk, OnOk};
 ghost use Rattle.std.specs.List.Sorted.{IsPermutation, IsSortedByKey};
 ghost use Rattle.lc_rows.specs.RowKeys.{row_key};
-ghost use Rattle.lc_rows.specs.TreeRows.{AreTreeRows, depth_first_cmp, parts_above, tree_parts};
+ghost use Rattle.lc_rows.specs.TreeRows.{AreTreeRows, depth_first_cmp, levels_above, parts_above, tree_parts};
 
 use crate::adding_up::added_up;
+use crate::directories::{level_of, split_path};
 use crate::parts::{Part, file_part};
 use crate::shown_row::ShownRow;
-use lc_glob::path::depth_of;
 use lc_sheet::Columns;
 use lc_walk::FileLine;
 use std::alloc::{AllocError, Global};
 
+/// Returns how many directories are above a file and below the top, where directories are cut after `depth` names.
+fn levels_above(depth: u32, path: &[u8]) -> usize
+    ensures levels { result ≡ levels_above depth path.now }
+    ensures few { result ≤ depth }
+{
+    let (parent, _) = split_path(path);
+    level_of(parent).min(depth as usize)
+}
+
 fn push_parts<'a>(
     by: Columns,
+    depth: u32,
     file: &'a FileLine,
     parts: &mut Vec<Part<'a>>,
 ) -> Result<(), AllocError>
-    ensures { OnOk result (parts.new.items ≡ parts.old.items ++ parts_above by file.now) }
+    ensures { OnOk result (parts.new.items ≡ parts.old.items ++ parts_above depth by file.now) }
 {
-    for depth in 0..depth_of(&file.path) {
-        parts.push(file_part(by, depth, file))?;
+    for level in 0..levels_above(depth, &file.path) + 1 {
+        parts.push(file_part(by, level, file))?;
     }
     Ok(())
 }
@@ -30,12 +40,13 @@ fn tree_parts<'a>(
     alloc: Global,
     files: &'a [FileLine],
     by: Columns,
+    depth: u32,
 ) -> Result<Vec<Part<'a>>, AllocError>
-    ensures { IfOk result (λ parts. parts.items ≡ tree_parts by files.entry.now) }
+    ensures { IfOk result (λ parts. parts.items ≡ tree_parts depth by files.entry.now) }
 {
     let mut parts = Vec::new(alloc);
     for file in files {
-        push_parts(by, file, &mut parts)?;
+        push_parts(by, depth, file, &mut parts)?;
     }
     Ok(parts)
 }
@@ -48,7 +59,7 @@ fn sort(rows: &mut Vec<ShownRow<'_>>)
 }
 
 /// Returns a row for each directory above some file, with the sums over the files in it and below it, depth first: each directory comes
-/// right before those below it. The first row is the top's.
+/// right before those below it. The first row is the top's. A directory is cut after `depth` names, and all that is below it counts as it.
 ///
 /// Where columns are kept, a directory has a row for each key of the files in it and below it; `dir` does not matter. It stops with an
 /// error if there is no memory, and if sums overflow. It takes 56 bytes for each file and each directory above it.
@@ -56,10 +67,11 @@ pub fn tree_rows<'a>(
     alloc: Global,
     files: &'a [FileLine],
     by: Columns,
+    depth: u32,
 ) -> Result<Vec<ShownRow<'a>>, AllocError>
-    ensures { IfOk result (λ rows. AreTreeRows by files.entry.now rows.items) }
+    ensures { IfOk result (λ rows. AreTreeRows depth by files.entry.now rows.items) }
 {
-    let parts = tree_parts(alloc, files, by)?;
+    let parts = tree_parts(alloc, files, by, depth)?;
     let mut rows = added_up(alloc, parts)?;
     sort(&mut rows);
     Ok(rows)

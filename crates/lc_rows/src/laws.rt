@@ -1,7 +1,7 @@
 //! Laws of the definitions that the contracts cite. The functions do nothing: their contracts are what is proved.
 
-ghost use Rattle.lc_rows.specs.Laws.{ChildrenLaw, ClassesLaw, CutTotalsLaw, DirectoriesLaw, FirstFilesLaw, OneRowLaw, PermutationLaw};
-ghost use Rattle.lc_rows.specs.Laws.{SortedFilesLaw, TotalsLaw, TreeLaw, WholeLaw};
+ghost use Rattle.lc_rows.specs.Laws.{ChildrenLaw, ClassesLaw, CutTotalsLaw, DirectoriesLaw, FirstFilesLaw, NamesLaw, OneRowLaw};
+ghost use Rattle.lc_rows.specs.Laws.{PermutationLaw, SortedFilesLaw, TotalsLaw, TreeLaw, WholeLaw};
 
 /// The rows of a table are the summed ones, each once.
 pub fn shown_rows_are_the_summed_ones()
@@ -27,6 +27,11 @@ pub fn rows_of_a_directory_are_the_sums_of_its_files()
 /// Each file is in exactly one row of a table of directories.
 pub fn each_file_is_in_one_row()
     ensures { OneRowLaw }
+{}
+
+/// The directory of a path of a tree, cut, is its first segments, and never the last: all of them are names.
+pub fn directories_of_names_are_their_first_segments()
+    ensures { NamesLaw }
 {}
 
 /// For each directory and key, the rows of a tree have the sums over the files in that directory and below it which have that key. So a

@@ -32,7 +32,7 @@ mod shown_sheet;
 mod values;
 mod words;
 
-pub use directories::{directory_at, name_of};
+pub use directories::{directory_at, level_of, name_of, own_part};
 pub use directory_tree::tree_rows;
 pub use files::sort_files;
 pub use kept::keep;
@@ -42,7 +42,8 @@ pub use kept_laws::{
 };
 pub use kinds::{Faults, Files, NamedSums, Rows, Skipped, Totals};
 pub use laws::{
-    a_directory_is_its_files_and_its_children, classes_add_up_to_all_rows, each_file_is_in_one_row,
+    a_directory_is_its_files_and_its_children, classes_add_up_to_all_rows,
+    directories_of_names_are_their_first_segments, each_file_is_in_one_row,
     rows_of_a_directory_are_the_sums_of_its_files, rows_of_a_tree_are_the_sums_of_what_is_below,
     shown_rows_are_the_summed_ones, shown_rows_keep_the_totals, sorted_files_are_the_files,
     the_first_files_are_the_largest, what_is_cut_off_adds_up, whole_keys_add_up_to_themselves,

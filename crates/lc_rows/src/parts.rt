@@ -5,7 +5,7 @@ ghost use Rattle.lc_rows.specs.Parts.{sums_of_source};
 ghost use Rattle.lc_rows.specs.RowKeys.{row_key};
 ghost use Rattle.lc_rows.specs.ShownRows.{file_key, key_in, part_of_file, part_of_row, parts_of};
 
-use crate::directories::{first_segments, split_path};
+use crate::directories::{first_names, split_path};
 use crate::row_key::RowKeyRef;
 use lc_census::Eol;
 use lc_rules::TextState;
@@ -95,7 +95,7 @@ fn row_part<'a>(by: Columns, row: &'a TallyRow) -> Part<'a>
     }
 }
 
-/// Makes the part of a file in the directory above it that has this depth, or in the directory that holds it if that is less deep.
+/// Makes the part of a file in the directory that holds it, cut after this many names.
 pub(crate) fn file_part<'a>(by: Columns, depth: usize, file: &'a FileLine) -> Part<'a>
     ensures { result ≡ part_of_file by depth file.now }
 {
@@ -110,7 +110,7 @@ pub(crate) fn file_part<'a>(by: Columns, depth: usize, file: &'a FileLine) -> Pa
     );
     Part {
         key: RowKeyRef {
-            directory: Some(first_segments(depth, parent)),
+            directory: Some(first_names(depth, parent)),
             extension: key.extension,
             text: key.text,
             eol: key.eol,

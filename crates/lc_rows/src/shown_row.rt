@@ -15,7 +15,7 @@ use std::marker::Model;
 /// A row of a table: the sums over the files that have the same values in the columns that the table keeps.
 #[derive(Drop)]
 pub struct ShownRow<'a> {
-    /// The directory that holds the files, cut to its first segments, where rows are by directory. It is empty for the top.
+    /// The directory that holds the files, cut after some of its names, where rows are by directory. It is empty for the top.
     pub directory: Option<&'a [u8]>,
     /// The extension of the files' names, or none. It is none too where the table has no column for it.
     pub extension: Option<&'a [u8]>,

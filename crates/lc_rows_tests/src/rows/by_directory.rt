@@ -104,6 +104,34 @@ fn rows_by_directory(rt: HostRuntime) -> Result<(), Fail> {
     Ok(())
 }
 
+/// Files of several directories that were named on one command line. The top comes first, then the order is by bytes.
+const NAMED: &[File] = &[
+    (b"../lib/a/b.c", NONE, Eol::Lf, [1, 0, 2]),
+    (b"../x.c", NONE, Eol::Lf, [2, 0, 3]),
+    (b"./m.c", NONE, Eol::Lf, [3, 0, 4]),
+    (b"./src/m.c", NONE, Eol::Lf, [4, 0, 5]),
+    (b"/usr/include/x.h", NONE, Eol::Lf, [5, 0, 6]),
+    (b"/x.h", NONE, Eol::Lf, [6, 0, 7]),
+    (b"x.c", NONE, Eol::Lf, [7, 0, 8]),
+];
+
+const NAMED_ROWS: &[Row] = &[
+    (b"", None, Eol::NoEnd, [2, 10, 0, 12]),
+    (b"..", None, Eol::NoEnd, [1, 2, 0, 3]),
+    (b"../lib", None, Eol::NoEnd, [1, 1, 0, 2]),
+    (b"./src", None, Eol::NoEnd, [1, 4, 0, 5]),
+    (b"/", None, Eol::NoEnd, [1, 6, 0, 7]),
+    (b"/usr", None, Eol::NoEnd, [1, 5, 0, 6]),
+];
+
+#[test]
+fn rows_of_named_directories(rt: HostRuntime) -> Result<(), Fail> {
+    let files = file_lines(rt.alloc(), NAMED)?;
+    let shown = shown_rows(rt.alloc(), &[], &files, BY_DIRECTORY, None)?;
+    assert!(rt; are_rows(&shown, NAMED_ROWS));
+    Ok(())
+}
+
 fn large_row(eol: Eol) -> TallyRow {
     TallyRow {
         ext: None,

@@ -23,6 +23,34 @@ const DIRECTORIES: &[Row] = &[
     (b"src-old", None, Eol::NoEnd, [1, 3, 1, 15]),
 ];
 
+/// The rows of these files where directories are cut after one name.
+const FIRST_DIRECTORIES: &[Row] = &[
+    (b"", None, Eol::NoEnd, [5, 18, 5, 109]),
+    (b"src", None, Eol::NoEnd, [3, 11, 3, 85]),
+    (b"src-old", None, Eol::NoEnd, [1, 3, 1, 15]),
+];
+
+/// Files of several directories that were named on one command line.
+const NAMED: &[File] = &[
+    (b"../lib/a/b.c", NONE, Eol::Lf, [1, 0, 2]),
+    (b"../x.c", NONE, Eol::Lf, [2, 0, 3]),
+    (b"./src/m.c", NONE, Eol::Lf, [3, 0, 4]),
+    (b"/usr/include/x.h", NONE, Eol::Lf, [4, 0, 5]),
+    (b"/x.h", NONE, Eol::Lf, [5, 0, 6]),
+    (b"x.c", NONE, Eol::Lf, [6, 0, 7]),
+];
+
+const NAMED_DIRECTORIES: &[Row] = &[
+    (b"", None, Eol::NoEnd, [6, 21, 0, 27]),
+    (b"/", None, Eol::NoEnd, [1, 5, 0, 6]),
+    (b"/usr", None, Eol::NoEnd, [1, 4, 0, 5]),
+    (b"/usr/include", None, Eol::NoEnd, [1, 4, 0, 5]),
+    (b"./src", None, Eol::NoEnd, [1, 3, 0, 4]),
+    (b"..", None, Eol::NoEnd, [1, 2, 0, 3]),
+    (b"../lib", None, Eol::NoEnd, [1, 1, 0, 2]),
+    (b"../lib/a", None, Eol::NoEnd, [1, 1, 0, 2]),
+];
+
 const EXTENSIONS: &[Row] = &[
     (b"", None, Eol::NoEnd, [1, 4, 1, 9]),
     (b"", Some(b"c"), Eol::NoEnd, [3, 13, 4, 85]),
@@ -38,7 +66,7 @@ const EXTENSIONS: &[Row] = &[
 #[test]
 fn directories_and_what_is_below_them(rt: HostRuntime) -> Result<(), Fail> {
     let files = file_lines(rt.alloc(), FILES)?;
-    let rows = tree_rows(rt.alloc(), &files, BY_DIRECTORY)?;
+    let rows = tree_rows(rt.alloc(), &files, BY_DIRECTORY, 256)?;
     assert!(rt; are_rows(&rows, DIRECTORIES));
     Ok(())
 }
@@ -50,7 +78,23 @@ fn extensions_of_directories(rt: HostRuntime) -> Result<(), Fail> {
         ext: true,
         ..BY_DIRECTORY
     };
-    let rows = tree_rows(rt.alloc(), &files, by)?;
+    let rows = tree_rows(rt.alloc(), &files, by, 256)?;
     assert!(rt; are_rows(&rows, EXTENSIONS));
+    Ok(())
+}
+
+#[test]
+fn directories_that_are_cut(rt: HostRuntime) -> Result<(), Fail> {
+    let files = file_lines(rt.alloc(), FILES)?;
+    let rows = tree_rows(rt.alloc(), &files, BY_DIRECTORY, 1)?;
+    assert!(rt; are_rows(&rows, FIRST_DIRECTORIES));
+    Ok(())
+}
+
+#[test]
+fn directories_that_were_named(rt: HostRuntime) -> Result<(), Fail> {
+    let files = file_lines(rt.alloc(), NAMED)?;
+    let rows = tree_rows(rt.alloc(), &files, BY_DIRECTORY, 256)?;
+    assert!(rt; are_rows(&rows, NAMED_DIRECTORIES));
     Ok(())
 }
