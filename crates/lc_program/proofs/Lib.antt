@@ -1,9 +1,14 @@
 mod CountsShown
 mod Endings
 mod FiltersAsked
+mod FoundLists
+mod FoundNames
 mod Loading
+mod NamesTaken
+mod NestedPlaces
 mod PathsListed
 mod PathsWanted
+mod Printing
 mod Reordered
 mod RulesLoaded
 mod SlicesRead

@@ -5,8 +5,7 @@ use Rattle.std.specs.Global.{Global}
 use Rattle.std.specs.Result.{IsErrAnd}
 use Rattle.lc_text.specs.declared.check_fault.CheckFault.{CheckFault}
 use Rattle.lc_walk.specs.declared.report.Report.{Report}
-use Rattle.lc_program.specs.declared.runs.RunFault.{RunFault}
-use Rattle.lc_program.specs.Causes.{check_cause, run_cause}
+use Rattle.lc_program.specs.Causes.{check_cause}
 use Rattle.lc_program.specs.Replies.{IsRunReply, Reply, checked}
 use Rattle.lc_program.specs.Unnamed.{AreUnnamedLines}
 use Rattle.lc_program.specs.declared.answered.Answered.TheVariants.{Counted}
@@ -18,18 +17,18 @@ pub fault_replied : (reply : Reply) (answer : Result (Unit {0}) CheckFault) (fau
 fault_replied (Ok outcome) answer fault is was = absurd is
 fault_replied (Err cause) answer fault is was = ap Err is ∙ sym (ap checked was)
 
--- and so is that of a run
-pub run_replied : (attributes : List (List ℕ)) (reply : Reply) (answer : Result Report RunFault) (fault : RunFault)
-    → IsErrAnd reply (λ cause. cause ≡ run_cause fault) → answer ≡ Err fault → IsRunReply attributes answer reply
-run_replied attributes (Ok answered) answer fault is was = absurd is
-run_replied attributes (Err cause) answer fault is was =
-    subst (λ (a : Result Report RunFault). IsRunReply attributes a (Err cause)) (sym was) (ap Err is)
+-- and so is that of a count
+pub run_replied : (attributes : List (List ℕ)) (reply : Reply) (answer : Result Report Cause) (cause : Cause)
+    → IsErrAnd reply (λ given. given ≡ cause) → answer ≡ Err cause → IsRunReply attributes answer reply
+run_replied attributes (Ok answered) answer cause is was = absurd is
+run_replied attributes (Err given) answer cause is was =
+    subst (λ (a : Result Report Cause). IsRunReply attributes a (Err given)) (sym was) (ap Err is)
 
--- a run that was done is replied with the report of what was shown and lines about some attributes
-pub run_counted : (attributes : List (List ℕ)) (answer : Result Report RunFault) (left : Report) (unnamed : String Global)
+-- a count that was done is replied with the report of what was shown and lines about some attributes
+pub run_counted : (attributes : List (List ℕ)) (answer : Result Report Cause) (left : Report) (unnamed : String Global)
     → AreUnnamedLines attributes (string_bytes unnamed) → answer ≡ Ok left → IsRunReply attributes answer (Ok (Counted left unnamed))
 run_counted attributes answer left unnamed are was =
-    subst (λ (a : Result Report RunFault). IsRunReply attributes a (Ok (Counted left unnamed))) (sym was) (unnamed, are, refl)
+    subst (λ (a : Result Report Cause). IsRunReply attributes a (Ok (Counted left unnamed))) (sym was) (unnamed, are, refl)
 
 -- a cause that was passed on is the reply
 pub given_up : (reply : Reply) (cause : Cause) → IsErrAnd reply (λ given. given ≡ cause) → reply ≡ Err cause

@@ -25,9 +25,9 @@ module _ {E : Type 0} (may_take : E → List ℕ → Result ℕ Failed → E →
       subst (λ (t : List ℕ). Tells may_take err t told) (same ∙ is) (printed err bytes answer told answers other)
 
   -- and so was what could not be read, where there is such a thing
-  pub faults_told : (may_unlist : List ℕ → Option UnreadReason → Type 0) (directory : List ℕ) (format : Format)
+  pub faults_told : (may_unlist : List ℕ → Option UnreadReason → Type 0) (directories : List (List ℕ)) (format : Format)
       (faults : List FaultLineModel) (text : List ℕ) (err told : E) → (length faults == 0) ≡ false
-      → AreFaultLines may_unlist directory format faults text → Tells may_take err text told
-      → TellsFaults may_take may_unlist directory format faults err told
-  faults_told may_unlist directory format [] text err told some are tells = absurd (cc)
-  faults_told may_unlist directory format (f ∷ fs) text err told some are tells = inl (text, are, tells)
+      → AreFaultLines may_unlist directories faults format text → Tells may_take err text told
+      → TellsFaults may_take may_unlist directories format faults err told
+  faults_told may_unlist directories format [] text err told some are tells = absurd (cc)
+  faults_told may_unlist directories format (f ∷ fs) text err told some are tells = inl (text, are, tells)

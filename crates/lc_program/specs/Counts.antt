@@ -23,7 +23,8 @@ use Rattle.lc_walk.specs.declared.options.Options.{Options}
 use Rattle.lc_walk.specs.declared.report.Report.{Report}
 use Rattle.lc_walk.specs.declared.walk_fault.WalkFault.{WalkFault}
 use Rattle.lc_program.specs.PathLists.{AnswersWanted, GivesList}
-use Rattle.lc_program.specs.Replies.{IsTableReply, Reply}
+use Rattle.lc_program.specs.Causes.{print_cause}
+use Rattle.lc_program.specs.Replies.{IsRunReply, Reply}
 use Rattle.lc_program.specs.Filters.{Excludes, LacksRules, filters_of}
 use Rattle.lc_program.specs.Styles.{end_for}
 use Rattle.lc_program.specs.Systems.{SystemMay}
@@ -47,6 +48,24 @@ pub record IsAskedBy (c : CountRequest) (f : FiltersModel) (o : Options) : Type 
   pub left_out : o.lists.left_out ≡ c.left_out
   pub filters : o.filters.now ≡ f
 
+module _ (may : SystemMay) {O : Type 0} (may_take : O → List ℕ → Result ℕ Failed → O → Type 0) (other : Format) (c : CountRequest) where
+  -- what a walk by these options of the directory with this name may answer
+  abbrev pub MayWalk : Options → List ℕ → Result Report WalkFault → Type 0
+  MayWalk o directory = Walks (may.list directory (entered_by c)) (may.give directory (entered_by c)) o
+
+  -- the table of these conditions, with the format if the words name none
+  abbrev pub AnswersTableOf : Report → Report → O → Result (Unit {0}) PrintFault → O → Type 0
+  AnswersTableOf r left out answer wrote = AnswersTable may_take c.conditions.items (options_in other c.table) r left out answer wrote
+
+  -- the table of what is found in the directories was written whole, and this is left of it; or nothing was found, and nothing was written;
+  -- or the table was not written, or not whole
+  abbrev pub Prints : Options → O → Result Report Cause → O → Type 0
+  Prints o out (Ok left) wrote = (r : Report) × Finds (MayWalk o) (names_of c) r × AnswersTableOf r left out (Ok tt) wrote
+  Prints o out (Err cause) wrote =
+      (FindsNone (MayWalk o) (names_of c) cause × (wrote ≡ out))
+      ⊎ ((r left : Report) × (fault : PrintFault) × Finds (MayWalk o) (names_of c) r × (cause ≡ print_cause fault)
+      × AnswersTableOf r left out (Err fault) wrote)
+
 module _ (may : SystemMay) {I O : Type 0} (may_give : I → ℕ → Answer → I → Type 0)
     (may_take : O → List ℕ → Result ℕ Failed → O → Type 0) (other : Format) (c : CountRequest) where
   -- the paths that the words ask for, with those of the list that they name, or why there are none
@@ -56,32 +75,24 @@ module _ (may : SystemMay) {I O : Type 0} (may_give : I → ℕ → Answer → I
       × AnswersWanted (map (λ path. path.now) c.only.items) c.only_from (end_for c.null) list.items answer)
       ⊎ ((cause : Cause) × GivesList may_give may.hold may.unread c.only_from input (Err cause) read × (answer ≡ Err cause))
 
-  -- what a walk by these options of the directory with this name may answer
-  abbrev pub MayWalk : Options → List ℕ → Result Report WalkFault → Type 0
-  MayWalk o directory = Walks (may.list directory (entered_by c)) (may.give directory (entered_by c)) o
-
-  -- what was found in the directories that the words name, by these options, was printed, with the format if they name none; or nothing
-  -- was found, and nothing was written
-  abbrev pub Prints : Options → O → Reply → O → Type 0
-  Prints o out reply wrote =
-      ((r : Report) × Finds (MayWalk o) (names_of c) r × ((left : Report) × (answer : Result (Unit {0}) PrintFault)
-      × IsTableReply (attributes_of c.filters.without.items) left answer reply
-      × AnswersTable may_take c.conditions.items (options_in other c.table) r left out answer wrote))
-      ⊎ ((cause : Cause) × FindsNone (MayWalk o) (names_of c) cause × (reply ≡ Err cause) × (wrote ≡ out))
-
-  -- no two of the directories are one another or lie in one another, and what they have is printed, by what the words ask
+  -- what they have is printed, by what the words ask
   abbrev pub Runs : I → O → Reply → I → O → Type 0
   Runs input out reply read wrote =
-      AreApart may.stand (names_of c)
-      × ((text : Option (List ℕ)) × Excludes may.hold c.filters.exclude_from text
+      (text : Option (List ℕ)) × Excludes may.hold c.filters.exclude_from text
       × ((paths : Vec (Bor (List ℕ)) Global) × AnswersPathsOf input (Ok paths) read
-      × ((o : Options) × IsAskedBy c (filters_of c.filters text (map (λ path. path.now) paths.items)) o × Prints o out reply wrote)))
+      × ((o : Options) × IsAskedBy c (filters_of c.filters text (map (λ path. path.now) paths.items)) o
+      × ((answer : Result Report Cause) × IsRunReply (attributes_of c.filters.without.items) answer reply × Prints may may_take other c o out answer wrote)))
 
-  -- such a count; or there were no rules or no memory, or two directories are not apart, and nothing was read; or there were no paths; then
-  -- nothing was written
-  abbrev pub AnswersCount : I → O → Reply → I → O → Type 0
-  AnswersCount input out reply read wrote =
+  -- such a count; or there were no rules or no memory, and nothing was read; or there were no paths; then nothing was written
+  abbrev pub AnswersApart : I → O → Reply → I → O → Type 0
+  AnswersApart input out reply read wrote =
       Runs input out reply read wrote
       ⊎ ((cause : Cause) × (reply ≡ Err cause) × (wrote ≡ out)
-      × (((AreNested may.stand (names_of c) cause ⊎ (LacksRules may.hold c.filters cause ⊎ (cause ≡ Memory))) × (read ≡ input))
-      ⊎ AnswersPathsOf input (Err cause) read))
+      × (((LacksRules may.hold c.filters cause ⊎ (cause ≡ Memory)) × (read ≡ input)) ⊎ AnswersPathsOf input (Err cause) read))
+
+  -- no directory is another or lies in another, and they are counted; or one is or does, or there was no memory to see, and nothing was read
+  -- or written
+  abbrev pub AnswersCount : I → O → Reply → I → O → Type 0
+  AnswersCount input out reply read wrote =
+      (AreApart may.stand (names_of c) × AnswersApart input out reply read wrote)
+      ⊎ ((cause : Cause) × (AreNested may.stand (names_of c) cause ⊎ (cause ≡ Memory)) × (reply ≡ Err cause) × (read ≡ input) × (wrote ≡ out))

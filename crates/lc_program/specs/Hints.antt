@@ -32,27 +32,36 @@ abbrev pub hint : List ℕ → Repository → List (List ℕ) → List ℕ
 hint directory r paths =
     cond (list_all is_typed paths && is_typed (string_bytes r.top)) (hint_with_command r paths) (hint_alone directory)
 
+-- the first directory that lies in a repository, and that repository
+abbrev pub first_above : List (List ℕ) → List (Option Repository) → Option (List ℕ × Repository)
+first_above [] repositories = None
+first_above (directory ∷ directories) [] = None
+first_above (directory ∷ directories) (None ∷ repositories) = first_above directories repositories
+first_above (directory ∷ directories) (Some r ∷ repositories) = Some (directory, r)
+
 -- what is told in its place where memory is refused
 abbrev pub short_hint : List ℕ
 short_hint = codes "lc: rules above this directory were not read\n"
 
 module _ {E : Type 0} (may_take : E → List ℕ → Result ℕ Failed → E → Type 0) where
-  -- the hint about the first of these directories that lies in a repository, by all that these lie in; nothing if none does
-  abbrev pub TellsAbove : List (Option Repository) → List (List ℕ) → List (Option Repository) → E → E → Type 0
-  TellsAbove all [] repositories err told = told ≡ err
-  TellsAbove all (directory ∷ directories) [] err told = told ≡ err
-  TellsAbove all (directory ∷ directories) (None ∷ repositories) err told = TellsAbove all directories repositories err told
-  TellsAbove all (directory ∷ directories) (Some r ∷ repositories) err told =
+  -- the hint about a directory in a repository, by the repositories of all directories; nothing if there is none
+  abbrev pub TellsHint : List (Option Repository) → Option (List ℕ × Repository) → E → E → Type 0
+  TellsHint all None err told = told ≡ err
+  TellsHint all (Some (directory, r)) err told =
       Tells may_take err (hint directory r (paths_in (string_bytes r.top) all)) told ⊎ Tells may_take err short_hint told
+
+  -- about the first of these directories that lies in a repository
+  abbrev pub TellsAbove : List (List ℕ) → List (Option Repository) → E → E → Type 0
+  TellsAbove directories all err told = TellsHint all (first_above directories all) err told
 
   -- about directories and the repositories that the system may say they lie in. About several there is none where memory is refused
   abbrev pub HintsAbout : (List ℕ → Option Repository → Type 0) → List (List ℕ) → E → E → Type 0
   HintsAbout may_lie [] err told = told ≡ err
   HintsAbout may_lie (only ∷ []) err told =
-      (above : Option Repository) × may_lie only above × TellsAbove (above ∷ []) (only ∷ []) (above ∷ []) err told
+      (above : Option Repository) × may_lie only above × TellsAbove (only ∷ []) (above ∷ []) err told
   HintsAbout may_lie (first ∷ second ∷ others) err told =
       let directories = first ∷ second ∷ others in
-      ((above : List (Option Repository)) × AllZip may_lie directories above × TellsAbove above directories above err told) ⊎ (told ≡ err)
+      ((above : List (Option Repository)) × AllZip may_lie directories above × TellsAbove directories above err told) ⊎ (told ≡ err)
 
   -- after a count, where this is seen, about its directories; else nothing
   abbrev pub Hints : (List ℕ → Option Repository → Type 0) → Bool → Request → E → E → Type 0

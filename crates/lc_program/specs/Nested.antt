@@ -32,11 +32,17 @@ places_of (name ∷ names) (path ∷ paths) = place_if name path ++ places_of na
 abbrev pub holds : Place → Place → Bool
 holds outer inner = starts_with nat_eq inner.path outer.path
 
+-- what is told of two names of one directory, and of a directory that lies in another
+abbrev pub one_line : List ℕ → List ℕ → List ℕ
+one_line first second = codes "lc: " ++ visible_bytes first ++ codes " and " ++ visible_bytes second ++ codes " are one directory\n"
+
+abbrev pub inner_line : List ℕ → List ℕ → List ℕ
+inner_line inner outer = codes "lc: " ++ visible_bytes inner ++ codes " lies in " ++ visible_bytes outer ++ codes "\n"
+
 -- what is told of one that holds another
 abbrev pub nested_line : Place → Place → List ℕ
-nested_line outer inner = cond (bytes_eq outer.path inner.path)
-    (codes "lc: " ++ visible_bytes outer.name ++ codes " and " ++ visible_bytes inner.name ++ codes " are one directory\n")
-    (codes "lc: " ++ visible_bytes inner.name ++ codes " lies in " ++ visible_bytes outer.name ++ codes "\n")
+nested_line outer inner =
+    cond (bytes_eq outer.path inner.path) (one_line outer.name inner.name) (inner_line inner.name outer.name)
 
 abbrev pub HoldsNot : Place → Place → Type 0
 HoldsNot a b = (holds a b ≡ false) × (holds b a ≡ false)

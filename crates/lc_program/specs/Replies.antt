@@ -50,11 +50,11 @@ ending_by false outcome.SomeFaults = SomeFaults
 abbrev pub ending_of : Request → Answered → Ending
 ending_of request answered = ending_by (has_failure request answered) (outcome_of answered)
 
--- a count whose table was written is replied with what is left of the report and lines about some of these attributes
-abbrev pub IsTableReply : List (List ℕ) → Report → Result (Unit {0}) PrintFault → Reply → Type 0
-IsTableReply attributes left (Ok _) reply =
+-- a count is replied with the report of what was shown and lines about some of these attributes
+abbrev pub IsRunReply : List (List ℕ) → Result Report Cause → Reply → Type 0
+IsRunReply attributes (Ok left) reply =
     (unnamed : String Global) × AreUnnamedLines attributes (string_bytes unnamed) × (reply ≡ Ok (Counted left unnamed))
-IsTableReply attributes left (Err fault) reply = reply ≡ Err (print_cause fault)
+IsRunReply attributes (Err cause) reply = reply ≡ Err cause
 
 abbrev pub explained : Result Outcome CheckFault → Reply
 explained (Ok outcome) = Ok (Explained outcome)

@@ -3,16 +3,19 @@
 ghost use Rattle.std.specs.Prelude.{◌≡◌};
 ghost use Rattle.lc_arguments.specs.Combinations.{is_picture};
 ghost use Rattle.lc_arguments.specs.Words.{IsCountWithinLimits};
-ghost use Rattle.lc_program.specs.Counts.{AnswersCount, IsAskedBy, entered_by};
+ghost use Rattle.lc_arguments.specs.TableWords.{options_in};
+ghost use Rattle.lc_program.specs.Counts.{AnswersApart, AnswersCount, IsAskedBy, Prints};
 ghost use Rattle.lc_program.specs.Systems.{system_may};
+ghost use Rattle.lc_rows.specs.WalkedReports.{ListsFilesFor};
+ghost use Rattle.lc_walk.specs.WalkOptions.{AreWithinLimits};
 
 use crate::answered::Answered;
 use crate::cause::Cause;
 use crate::checking::path_end;
 use crate::filters::{narrowed, read_filters};
-use crate::path_list::{list_of, wanted_paths};
 use crate::finding::found;
 use crate::nested::refuse_unless_apart;
+use crate::path_list::{list_of, wanted_paths};
 use crate::showing::table;
 use crate::system::System;
 use crate::unnamed::unnamed_lines;
@@ -22,8 +25,7 @@ use lc_census::Source;
 use lc_level::{Filters, NamedAttributes};
 use lc_sheet::{Format, ReportOptions, needs_files};
 use lc_text::Sink;
-use lc_tree::FileSystems;
-use lc_walk::{Options, ReportLists};
+use lc_walk::{Options, Report, ReportLists};
 use std::sync::Wait;
 use std::thread::Threads;
 
@@ -61,15 +63,60 @@ fn options_of<'o>(
     }
 }
 
-/// The file systems whose directories the command line lets a count enter.
-fn entered_by(asked: &CountRequest<'_>) -> FileSystems
-    ensures { result ≡ entered_by asked.now }
+/// Counts the directories that the command line names, and prints the table of what meets its conditions.
+fn print_found<R: Threads + Wait + Sync + AllocGlobal, Y: System, O: Sink>(
+    rt: &R,
+    system: &Y,
+    asked: &CountRequest<'_>,
+    options: &Options<'_>,
+    format: Format,
+    out: &mut O,
+) -> Result<Report, Cause>
+    requires limits { AreWithinLimits options.now }
+    requires files { ListsFilesFor options.now (options_in format asked.now.table) }
+    ensures { Prints (system_may (λ dir entered. Y.Tree.lists (Y.tree system.now dir entered))
+        (λ dir entered. Y.Tree.gives (Y.tree system.now dir entered)) (Y.holds system.now)
+        (Y.unlists system.now) (Y.unreads system.now) (Y.lies system.now) (Y.stands system.now))
+        O.may_take format asked.now options.now out.old result out.new }
 {
-    if asked.one_file_system {
-        FileSystems::One
-    } else {
-        FileSystems::All
-    }
+    let mut report = found(rt, system, asked, options)?;
+    let shown = ReportOptions {
+        table: asked.table.options(format),
+        conditions: &asked.conditions,
+    };
+    table(rt.alloc(), &mut report, shown, out)?;
+    Ok(report)
+}
+
+/// Counts directories of which none lies in another, and prints the table.
+fn count_apart<R: Threads + Wait + Sync + AllocGlobal, Y: System, S: Source, O: Sink>(
+    rt: &R,
+    system: &Y,
+    asked: &CountRequest<'_>,
+    format: Format,
+    input: &mut S,
+    out: &mut O,
+) -> Result<Answered, Cause>
+    requires limits { IsCountWithinLimits asked.now }
+    ensures { AnswersApart (system_may (λ dir entered. Y.Tree.lists (Y.tree system.now dir entered))
+        (λ dir entered. Y.Tree.gives (Y.tree system.now dir entered)) (Y.holds system.now)
+        (Y.unlists system.now) (Y.unreads system.now) (Y.lies system.now) (Y.stands system.now))
+        S.may_give O.may_take format asked.now input.old out.old result input.new out.new }
+{
+    let filters = read_filters(rt.alloc(), system, &asked.filters)?;
+    let named = NamedAttributes::new(rt.alloc(), &asked.filters.without)?;
+    // Lent before the list is, so that the options' references end together.
+    let noted = &named;
+    let list = list_of(rt.alloc(), system, asked.only_from, input)?;
+    let listed = list.as_slice();
+    let only = asked.only.as_slice();
+    let end = path_end(asked.null);
+    let wanted = wanted_paths(rt.alloc(), only, asked.only_from, end, listed)?;
+    let filters = narrowed(rt.alloc(), filters, wanted.as_slice())?;
+    let options = options_of(asked, &filters, noted);
+    let report = print_found(rt, system, asked, &options, format, out)?;
+    let unnamed = unnamed_lines(rt.alloc(), noted);
+    Ok(Answered::Counted(report, unnamed))
 }
 
 /// Counts directories and prints the table, in this format if the command line names none.
@@ -87,26 +134,6 @@ pub(crate) fn count<R: Threads + Wait + Sync + AllocGlobal, Y: System, S: Source
         (Y.unlists system.now) (Y.unreads system.now) (Y.lies system.now) (Y.stands system.now))
         S.may_give O.may_take format asked.now input.old out.old result input.new out.new }
 {
-    let directories = asked.directories.as_slice();
-    refuse_unless_apart(rt.alloc(), system, directories)?;
-    let filters = read_filters(rt.alloc(), system, &asked.filters)?;
-    let named = NamedAttributes::new(rt.alloc(), &asked.filters.without)?;
-    // Lent before the list is, so that the options' references end together.
-    let noted = &named;
-    let list = list_of(rt.alloc(), system, asked.only_from, input)?;
-    let listed = list.as_slice();
-    let only = asked.only.as_slice();
-    let end = path_end(asked.null);
-    let wanted = wanted_paths(rt.alloc(), only, asked.only_from, end, listed)?;
-    let filters = narrowed(rt.alloc(), filters, wanted.as_slice())?;
-    let options = options_of(asked, &filters, noted);
-    let conditions = asked.conditions.as_slice();
-    let shown = ReportOptions {
-        table: asked.table.options(format),
-        conditions,
-    };
-    let mut report = found(rt, system, directories, entered_by(asked), &options)?;
-    table(rt.alloc(), &mut report, shown, out)?;
-    let unnamed = unnamed_lines(rt.alloc(), noted);
-    Ok(Answered::Counted(report, unnamed))
+    refuse_unless_apart(rt.alloc(), system, &asked.directories)?;
+    count_apart(rt, system, asked, format, input, out)
 }

@@ -3,7 +3,7 @@
 ghost use Rattle.std.specs.Prelude.{◌≡◌, ◌++◌, map, string_bytes, IfOk, OnOk};
 ghost use Rattle.lc_level.specs.FaultLines.{FaultLineModel};
 ghost use Rattle.lc_program.specs.Faults.{AreFaultLines, AreTopLines, IsTopLine, TellsFaults, each_line, fault_rows, has_path, inside, is_inside};
-ghost use Rattle.lc_program.specs.Faults.{lines_if, number_line, number_text, top_path, unread_line};
+ghost use Rattle.lc_program.specs.Faults.{lines_by, lines_if, number_line, number_text, top_path, unread_line};
 
 use crate::system::System;
 use crate::unlisted::uncounted_line;
@@ -63,18 +63,26 @@ fn fault_rows(count: usize) -> &'static str
     }
 }
 
-/// Makes the lines about the paths in the counted directories that could not be read, if there are any.
-fn lines_if(alloc: Global, format: Format, faults: &[&FaultLine]) -> Result<String, AllocError>
-    ensures { IfOk result (λ text. string_bytes text ≡ lines_if format (map (λ f. f.now) faults.now)) }
+/// Makes the lines about the paths in the counted directories that could not be read.
+fn lines_by(alloc: Global, format: Format, faults: &[&FaultLine]) -> Result<String, AllocError>
+    ensures { IfOk result (λ text. string_bytes text ≡ lines_by format (map (λ f. f.now) faults.now)) }
 {
-    if faults.is_empty() {
-        return Ok(String::new(alloc));
-    }
     match format {
         Format::Csv | Format::Html => each_line(alloc, faults),
         Format::Tsv => number_line(alloc, fault_rows(faults.len()), faults.len()),
         Format::Table | Format::Markdown => number_line(alloc, "the list of faults", faults.len()),
         Format::Json => number_line(alloc, "faults", faults.len()),
+    }
+}
+
+/// Makes these lines, or none if all paths there were read.
+fn lines_if(alloc: Global, format: Format, faults: &[&FaultLine]) -> Result<String, AllocError>
+    ensures { IfOk result (λ text. string_bytes text ≡ lines_if format (map (λ f. f.now) faults.now)) }
+{
+    if faults.is_empty() {
+        Ok(String::new(alloc))
+    } else {
+        lines_by(alloc, format, faults)
     }
 }
 
@@ -92,7 +100,7 @@ fn top_path<'w>(directories: &[&str], directory: &'w str) -> &'w [u8]
 fn has_path(path: &[u8], faults: &[FaultLine]) -> bool
     ensures { result ≡ has_path path.now faults.now }
 {
-    faults.iter().any(|fault| fault.path == path)
+    faults.iter().any(|fault| fault.path.as_slice() == path)
 }
 
 /// Returns whether a fault is of what is in the directories.
@@ -100,7 +108,7 @@ fn is_inside(directories: &[&str], fault: &FaultLine) -> bool
     ensures { result ≡ is_inside (map (λ d. d.now) directories.now) fault.now }
 {
     for directory in directories {
-        if fault.path == top_path(directories, directory) {
+        if fault.path.as_slice() == top_path(directories, directory) {
             return false;
         }
     }

@@ -2,14 +2,16 @@
 
 ghost use Rattle.std.specs.Prelude.{◌≡◌, ◌⊎◌, true, map, string_bytes, IfErr, IfOk};
 ghost use Rattle.std.specs.List.{AllZip};
-ghost use Rattle.lc_program.specs.Finds.{EndsAmong, EndsIn, Finds, FindsNone, HasLine, IsCauseIn, IsWalkedBelow, line_in};
+ghost use Rattle.lc_program.specs.Counts.{entered_by, names_of};
+ghost use Rattle.lc_program.specs.Finds.{EndsAmong, EndsIn, Finds, FindsNone, HasLine, IsCauseIn, IsWalkedBelow, JoinsNone};
+ghost use Rattle.lc_program.specs.Finds.{JoinsWalks, line_in};
 ghost use Rattle.lc_program.specs.declared.cause.Cause.TheVariants.{Memory};
 ghost use Rattle.lc_walk.specs.WalkOptions.{AreWithinLimits};
 ghost use Rattle.lc_walk.specs.Walks.{Walks};
 
 use crate::cause::Cause;
 use crate::system::System;
-use lc_arguments::unslashed;
+use lc_arguments::{CountRequest, unslashed};
 use lc_reports::{joined, named};
 use lc_text::push_visible;
 use lc_tree::FileSystems;
@@ -108,16 +110,47 @@ fn walks_below<R: Threads + Wait + Sync + AllocGlobal, Y: System>(
         (map (λ d. d.now) directories.now)) }
 {
     let mut reports = Vec::with_capacity(rt.alloc(), directories.len())?;
-    let mut rest = directories;
-    'directories: while let Some((directory, others)) = rest.split_first() {
+    for directory in directories {
         reports.push(walk_below(rt, system, directory, entered, options)?)?;
-        rest = others;
     }
     Ok(reports)
 }
 
-/// Counts directories: of one, the report is that of its walk; the reports of several are joined, each below its name.
-pub(crate) fn found<R: Threads + Wait + Sync + AllocGlobal, Y: System>(
+/// The file systems whose directories the command line lets a count enter.
+fn entered_by(asked: &CountRequest<'_>) -> FileSystems
+    ensures { result ≡ entered_by asked.now }
+{
+    if asked.one_file_system {
+        FileSystems::One
+    } else {
+        FileSystems::All
+    }
+}
+
+/// Counts several directories: their reports are joined, each below its name.
+fn found_in_all<R: Threads + Wait + Sync + AllocGlobal, Y: System>(
+    rt: &R,
+    system: &Y,
+    directories: &[&str],
+    entered: FileSystems,
+    options: &Options<'_>,
+) -> Result<Report, Cause>
+    requires limits { AreWithinLimits options.now }
+    ensures found { IfOk result (JoinsWalks
+        (λ d. Walks (Y.Tree.lists (Y.tree system.now d entered)) (Y.Tree.gives (Y.tree system.now d entered)) options.now)
+        (map (λ d. d.now) directories.now)) }
+    ensures none { IfErr result (JoinsNone
+        (λ d. Walks (Y.Tree.lists (Y.tree system.now d entered)) (Y.Tree.gives (Y.tree system.now d entered)) options.now)
+        (map (λ d. d.now) directories.now)) }
+    ensures files { IfOk result (λ report. options.now.lists.files ≡ true → report.lists.files ≡ true) }
+{
+    let reports = walks_below(rt, system, directories, entered, options)?;
+    let report = joined(rt.alloc(), reports)?;
+    Ok(report)
+}
+
+/// Counts directories: of one, the report is that of its walk.
+fn found_in<R: Threads + Wait + Sync + AllocGlobal, Y: System>(
     rt: &R,
     system: &Y,
     directories: &[&str],
@@ -133,11 +166,30 @@ pub(crate) fn found<R: Threads + Wait + Sync + AllocGlobal, Y: System>(
         (map (λ d. d.now) directories.now)) }
     ensures files { IfOk result (λ report. options.now.lists.files ≡ true → report.lists.files ≡ true) }
 {
-    if let [directory] = directories {
-        let report = walk_of(rt, system, directory, entered, options)?;
-        return Ok(report);
+    if directories.len() != 1 {
+        return found_in_all(rt, system, directories, entered, options);
     }
-    let reports = walks_below(rt, system, directories, entered, options)?;
-    let report = joined(rt.alloc(), reports)?;
+    let report = walk_of(rt, system, directories[0], entered, options)?;
     Ok(report)
+}
+
+/// Counts the directories that the command line names.
+pub(crate) fn found<R: Threads + Wait + Sync + AllocGlobal, Y: System>(
+    rt: &R,
+    system: &Y,
+    asked: &CountRequest<'_>,
+    options: &Options<'_>,
+) -> Result<Report, Cause>
+    requires limits { AreWithinLimits options.now }
+    ensures found { IfOk result (Finds
+        (λ d. Walks (Y.Tree.lists (Y.tree system.now d (entered_by asked.now)))
+        (Y.Tree.gives (Y.tree system.now d (entered_by asked.now))) options.now)
+        (names_of asked.now)) }
+    ensures none { IfErr result (FindsNone
+        (λ d. Walks (Y.Tree.lists (Y.tree system.now d (entered_by asked.now)))
+        (Y.Tree.gives (Y.tree system.now d (entered_by asked.now))) options.now)
+        (names_of asked.now)) }
+    ensures files { IfOk result (λ report. options.now.lists.files ≡ true → report.lists.files ≡ true) }
+{
+    found_in(rt, system, &asked.directories, entered_by(asked), options)
 }

@@ -1,10 +1,9 @@
 //! The hint on standard error that rules above counted directories were not read.
 
-ghost use Rattle.std.specs.Prelude.{◌≡◌, ◌++◌, List, Option, map, string_bytes, IfOk, OnOk};
+ghost use Rattle.std.specs.Prelude.{◌≡◌, map, option_map, string_bytes, IfOk};
 ghost use Rattle.std.specs.List.{AllZip, list_all};
 ghost use Rattle.lc_program.specs.Commands.{is_typed};
-ghost use Rattle.lc_program.specs.Hints.{Hints, HintsAbout, TellsAbove, hint, hint_alone, hint_with_command, paths_in};
-ghost use Rattle.lc_program.specs.declared.repository.Repository.{Repository as RepositoryModel};
+ghost use Rattle.lc_program.specs.Hints.{Hints, HintsAbout, TellsAbove, first_above, hint, hint_alone, hint_with_command, paths_in};
 
 use crate::commands::{is_typed, push_count};
 use crate::repository::Repository;
@@ -87,20 +86,36 @@ fn hint_line(
     }
 }
 
+/// Returns the first directory that lies in a repository, and that repository.
+fn first_above<'a>(
+    directories: &[&'a str],
+    repositories: &'a [Option<Repository>],
+) -> Option<(&'a str, &'a Repository)>
+    ensures { option_map (λ a. (a.0.now, a.1.now)) result ≡ first_above (map (λ d. d.now) directories.now) repositories.entry.now }
+{
+    let mut rest = repositories;
+    for directory in directories {
+        let (repository, others) = rest.split_first()?;
+        if let Some(repository) = repository {
+            return Some((directory, repository));
+        }
+        rest = others;
+    }
+    None
+}
+
 /// Tells the hint about the first of these directories that lies in a repository.
 fn tell_above<E: Sink>(alloc: Global, directories: &[&str], all: &[Option<Repository>], err: &mut E)
-    ensures { TellsAbove E.may_take all.now (map (λ d. d.now) directories.now) all.now err.old err.new }
+    ensures { TellsAbove E.may_take (map (λ d. d.now) directories.now) all.now err.old err.new }
 {
-    for (directory, above) in directories.iter().zip(all) {
-        if let Some(above) = above {
-            // Nothing rests on the hint, so one that can't be written changes nothing.
-            let _ = match hint_line(alloc, directory, above, all) {
-                Ok(text) => print(err, text.as_bytes()),
-                Err(AllocError) => print(err, b"lc: rules above this directory were not read\n"),
-            };
-            return;
-        }
-    }
+    let Some((directory, above)) = first_above(directories, all) else {
+        return;
+    };
+    // Nothing rests on the hint, so one that can't be written changes nothing.
+    let _ = match hint_line(alloc, directory, above, all) {
+        Ok(text) => print(err, text.as_bytes()),
+        Err(AllocError) => print(err, b"lc: rules above this directory were not read\n"),
+    };
 }
 
 /// Asks in which repository each directory lies.

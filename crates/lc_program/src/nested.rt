@@ -3,8 +3,8 @@
 ghost use Rattle.std.specs.Prelude.{◌≡◌, ◌⊎◌, ◌++◌, ℕ, List, Option, map, string_bytes, IfErr, IfOk, IsOk, OnOk};
 ghost use Rattle.std.specs.List.{AllZip};
 ghost use Rattle.std.specs.List.Sorted.{IsPermutation, IsSortedByKey};
-ghost use Rattle.lc_program.specs.Nested.{AreApart, AreNested, NoneHolds, OneHolds, Place as PlaceModel, holds, nested_line, place_if, places_of};
-ghost use Rattle.lc_program.specs.Nested.{with_slash};
+ghost use Rattle.lc_program.specs.Nested.{AreApart, AreNested, NoneHolds, OneHolds, Place as PlaceModel, holds, inner_line, nested_line};
+ghost use Rattle.lc_program.specs.Nested.{one_line, place_if, places_of, with_slash};
 ghost use Rattle.lc_program.specs.declared.cause.Cause.TheVariants.{Memory};
 ghost use Rattle.lc_tree.specs.ByteOrder.{bytes_cmp};
 
@@ -54,7 +54,8 @@ fn push_place<'w, Y: System>(
         return Ok(());
     };
     let path = with_slash(alloc, &path)?;
-    places.push(Place { name, path })
+    places.push(Place { name, path })?;
+    Ok(())
 }
 
 /// Makes the places of directories.
@@ -89,27 +90,39 @@ fn holds(outer: &Place<'_>, inner: &Place<'_>) -> bool
     inner.path.starts_with(&outer.path)
 }
 
-/// Makes the line about a place that holds another.
-fn nested_line(
-    alloc: Global,
-    outer: &Place<'_>,
-    inner: &Place<'_>,
-) -> Result<String, AllocError>
-    ensures { IfOk result (λ line. string_bytes line ≡ nested_line outer.now inner.now) }
+/// Makes the line about two names of one directory.
+fn one_line(alloc: Global, first: &str, second: &str) -> Result<String, AllocError>
+    ensures { IfOk result (λ line. string_bytes line ≡ one_line first.now second.now) }
 {
     let mut line = String::from_str(alloc, "lc: ")?;
-    if outer.path == inner.path {
-        push_visible(&mut line, outer.name.as_bytes())?;
-        line.push_str(" and ")?;
-        push_visible(&mut line, inner.name.as_bytes())?;
-        line.push_str(" are one directory\n")?;
-    } else {
-        push_visible(&mut line, inner.name.as_bytes())?;
-        line.push_str(" lies in ")?;
-        push_visible(&mut line, outer.name.as_bytes())?;
-        line.push_str("\n")?;
-    }
+    push_visible(&mut line, first.as_bytes())?;
+    line.push_str(" and ")?;
+    push_visible(&mut line, second.as_bytes())?;
+    line.push_str(" are one directory\n")?;
     Ok(line)
+}
+
+/// Makes the line about a directory that lies in another.
+fn inner_line(alloc: Global, inner: &str, outer: &str) -> Result<String, AllocError>
+    ensures { IfOk result (λ line. string_bytes line ≡ inner_line inner.now outer.now) }
+{
+    let mut line = String::from_str(alloc, "lc: ")?;
+    push_visible(&mut line, inner.as_bytes())?;
+    line.push_str(" lies in ")?;
+    push_visible(&mut line, outer.as_bytes())?;
+    line.push_str("\n")?;
+    Ok(line)
+}
+
+/// Makes the line about a place that holds another.
+fn nested_line(alloc: Global, outer: &Place<'_>, inner: &Place<'_>) -> Result<String, AllocError>
+    ensures { IfOk result (λ line. string_bytes line ≡ nested_line outer.now inner.now) }
+{
+    if outer.path == inner.path {
+        one_line(alloc, outer.name, inner.name)
+    } else {
+        inner_line(alloc, inner.name, outer.name)
+    }
 }
 
 /// Refuses places of which one holds another. They are sorted.
@@ -119,14 +132,12 @@ fn refuse_nested(alloc: Global, places: &[Place<'_>]) -> Result<(), Cause>
     ensures nested { IfErr result (λ cause. OneHolds places.now cause ⊎ (cause ≡ Memory)) }
 {
     let mut rest = places;
-    'places: while let [outer, others @ ..] = rest {
-        if let Some(inner) = others.first() {
-            if holds(outer, inner) {
-                let line = nested_line(alloc, outer, inner)?;
-                return Err(Cause::Nested(line));
-            }
+    'places: while let [outer, inner, ..] = rest {
+        if holds(outer, inner) {
+            let line = nested_line(alloc, outer, inner)?;
+            return Err(Cause::Nested(line));
         }
-        rest = others;
+        rest = &rest[1..];
     }
     Ok(())
 }

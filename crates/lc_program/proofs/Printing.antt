@@ -1,0 +1,36 @@
+-- Counts whose table is not written, or not whole.
+use Rattle.std.proofs.Common.{◌≡◌, ℕ, List, Result, Ok, Err, inl, inr, refl, subst, subst₂, sym}
+use Rattle.std.specs.Result.{IsErrAnd}
+use Rattle.lc_arguments.specs.declared.count.CountRequest.{CountRequest}
+use Rattle.lc_io.specs.declared.printing.PrintFault.{PrintFault}
+use Rattle.lc_io.specs.declared.source.Failed.{Failed}
+use Rattle.lc_program.specs.Causes.{print_cause}
+use Rattle.lc_program.specs.Counts.{MayWalk, Prints, names_of}
+use Rattle.lc_program.specs.Finds.{Finds, FindsNone}
+use Rattle.lc_arguments.specs.TableWords.{options_in}
+use Rattle.lc_program.specs.Runs.{AnswersTable}
+use Rattle.lc_program.specs.Systems.{SystemMay}
+use Rattle.lc_sheet.specs.Conditions.{ConditionModel}
+use Rattle.lc_sheet.specs.declared.table_options.TableOptions.{TableOptions}
+use Rattle.lc_program.specs.declared.cause.Cause.{Cause}
+use Rattle.lc_sheet.specs.declared.table_options.Format.{Format}
+use Rattle.lc_walk.specs.declared.options.Options.{Options}
+use Rattle.lc_walk.specs.declared.report.Report.{Report}
+
+module _ (may : SystemMay) {O : Type 0} (may_take : O → List ℕ → Result ℕ Failed → O → Type 0) (other : Format) (c : CountRequest)
+    (o : Options) where
+  -- nothing was found
+  pub prints_none : (answer : Result Report Cause) (cause : Cause) (out : O) → IsErrAnd answer (λ given. given ≡ cause)
+      → FindsNone (MayWalk may may_take other c o) (names_of c) cause → Prints may may_take other c o out answer out
+  prints_none (Ok left) cause out is none = absurd is
+  prints_none (Err given) cause out is none =
+      inl (subst (FindsNone (MayWalk may may_take other c o) (names_of c)) (sym is) none, refl)
+
+  -- the table of what was found was not written, or not whole
+  pub prints_stopped : (answer : Result Report Cause) (r left : Report) (fault : PrintFault) (out wrote : O)
+      (conditions : List ConditionModel) (options : TableOptions) → IsErrAnd answer (λ cause. cause ≡ print_cause fault)
+      → Finds (MayWalk may may_take other c o) (names_of c) r → conditions ≡ c.conditions.items → options ≡ options_in other c.table
+      → AnswersTable may_take conditions options r left out (Err fault) wrote → Prints may may_take other c o out answer wrote
+  prints_stopped (Ok given) r left fault out wrote conditions options is finds same alike stopped = absurd is
+  prints_stopped (Err cause) r left fault out wrote conditions options is finds same alike stopped =
+      inr (r, left, fault, finds, is, subst₂ (λ cs os. AnswersTable may_take cs os r left out (Err fault) wrote) same alike stopped)

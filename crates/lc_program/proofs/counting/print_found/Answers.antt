@@ -1,0 +1,29 @@
+use Rattle.lc_program.proofs.Printing.{prints_none, prints_stopped}
+use Rattle.lc_program.specs.Systems.{SystemMay, system_may}
+use Rattle.lc_program.proofs.counting.print_found.Goals as goal
+
+pub returns-in_err-report : goal.returns-in_err-report
+returns-in_err-report g c =
+    let system = c.args.system.now in
+    let may : SystemMay = system_may (λ dir entered. g.Y.Tree.Tree.lists (g.Y.System.tree system dir entered))
+    (λ dir entered. g.Y.Tree.Tree.gives (g.Y.System.tree system dir entered)) (g.Y.System.holds system) (g.Y.System.unlists system)
+    (g.Y.System.unreads system) (g.Y.System.lies system) (g.Y.System.stands system) in
+    prints_none may g.O.Sink.may_take c.args.format c.args.asked.now c.args.options.now c.from_residual.result c.in_err-report.field-0.0
+    c.args.out.now c.from_residual.ensures.1 c.in_err-report.ensures.none
+
+pub returns-in_err-table : goal.returns-in_err-table
+returns-in_err-table g c =
+    let system = c.args.system.now in
+    let may : SystemMay = system_may (λ dir entered. g.Y.Tree.Tree.lists (g.Y.System.tree system dir entered))
+    (λ dir entered. g.Y.Tree.Tree.gives (g.Y.System.tree system dir entered)) (g.Y.System.holds system) (g.Y.System.unlists system)
+    (g.Y.System.unreads system) (g.Y.System.lies system) (g.Y.System.stands system) in
+    prints_stopped may g.O.Sink.may_take c.args.format c.args.asked.now c.args.options.now c.from_residual-in_err-table.result
+    c.in_ok-report.report c.table.new.report c.in_err-table.field-0.0 c.args.out.now c.table.new.out c.deref.result.now c.options.result
+    c.from_residual-in_err-table.ensures.1 c.in_ok-report.ensures.found c.deref.ensures.value c.options.ensures c.in_err-table.ensures
+
+pub returns : goal.returns
+returns g c = (
+  c.in_ok-report.report,
+  c.in_ok-report.ensures.found,
+  rw (c.deref.ensures.value, c.options.ensures) at c.in_ok-table.ensures,
+)
