@@ -4,4 +4,5 @@ pub mod LineOrders
 pub mod NamedPaths
 pub mod NumbersInTurn
 pub mod Orders
+pub mod RowsInTurn
 pub mod Uniting

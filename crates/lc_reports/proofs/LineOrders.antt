@@ -74,7 +74,8 @@ fault_ties a b e = same_fault a b (bytes_same a.path b.path (first_ties _ _ e))
 -- ---- reasons
 
 abbrev source_at : (place depth : ℕ) → RuleSource
-source_at place depth = cond (place == 0) CommandLine (cond (place == 1) ExcludeFrom (cond (place == 2) (InfoExclude depth) (Gitignore depth)))
+source_at place depth =
+    cond (place == 0) CommandLine (cond (place == 1) ExcludeFrom (cond (place == 2) (InfoExclude depth) (Gitignore depth)))
 
 -- the reason whose word begins with this letter
 abbrev reason_at : (b depth place line : ℕ) → (word : List ℕ) → Reason
