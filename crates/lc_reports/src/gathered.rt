@@ -25,6 +25,7 @@ fn with_rows(sums: Sums, rows: &[TallyRow]) -> Option<Sums>
 /// The sums of the numbers of several reports.
 #[derive(Drop)]
 pub(crate) struct Numbers {
+    // Tested with the other sums, before memory is taken: so a join that lacks memory has no sum that is too large.
     rows: Sums,
     pub(crate) totals: Sums,
     pub(crate) directories: u64,
