@@ -11,11 +11,10 @@ use Rattle.lc_glob.specs.Pieces.{is_byte}
 use Rattle.lc_level.specs.Level.{FileLineModel}
 use Rattle.lc_reports.proofs.NamedPaths.{last_after}
 use Rattle.lc_reports.proofs.NumbersInTurn.{totals_cons}
-use Rattle.lc_reports.specs.Joined.{IsJoined, all_files, all_rows, all_totals, if_wanted}
+use Rattle.lc_reports.specs.Joined.{all_files, all_rows, all_totals, if_wanted}
 use Rattle.lc_reports.specs.Laws.{HasPath, JoinTotalsLaw, NameTotalsLaw}
-use Rattle.lc_reports.specs.Named.{IsNamed, named_file, named_path}
+use Rattle.lc_reports.specs.Named.{named_file, named_path}
 use Rattle.lc_walk.proofs.Joining.{stands_both, stands_none, sums_permuted, tally_added_up, tally_permuted}
-use Rattle.lc_walk.proofs.ReportTotals.{tally_sums}
 use Rattle.lc_walk.proofs.RowSums.{has_same, sums_of_both}
 use Rattle.lc_walk.proofs.Totals.{same_totals}
 use Rattle.lc_walk.specs.Extension.{extension_of}
@@ -90,7 +89,8 @@ join_totals rs r all is =
 -- ---- below a name
 
 -- the name of a file is the same
-kept_name : (name : List ℕ) (b : ℕ) (bs : List ℕ) → after_last (is_byte slash) (named_path name (b ∷ bs)) ≡ after_last (is_byte slash) (b ∷ bs)
+kept_name : (name : List ℕ) (b : ℕ) (bs : List ℕ)
+    → after_last (is_byte slash) (named_path name (b ∷ bs)) ≡ after_last (is_byte slash) (b ∷ bs)
 kept_name name b bs = last_after name slash (b ∷ bs) refl
 
 same_line : (name : List ℕ) (f : FileLineModel) → 0 < length f.path → counted_line (named_file name f) ≡ counted_line f
@@ -102,7 +102,8 @@ same_line name f long = at f.path long
     at [] long = absurd (omega arith)
     at (b ∷ bs) long = ap (λ n. counted (extension_of n) f.text f.count) (kept_name name b bs)
 
-same_counted : (name : List ℕ) (fs : List FileLineModel) → All HasPath fs → map counted_line (map (named_file name) fs) ≡ map counted_line fs
+same_counted : (name : List ℕ) (fs : List FileLineModel) → All HasPath fs
+    → map counted_line (map (named_file name) fs) ≡ map counted_line fs
 same_counted name [] all = refl
 same_counted name (f ∷ fs) all =
     ap₂ (λ x xs. x ∷ xs) (same_line name f (All-head HasPath f fs all)) (same_counted name fs (All-tail HasPath f fs all))

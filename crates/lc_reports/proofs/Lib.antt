@@ -1,7 +1,10 @@
 pub mod AddedTotals
 pub mod Gathering
+pub mod KeyTies
 pub mod LineOrders
 pub mod NamedPaths
 pub mod NumbersInTurn
+pub mod OneReport
 pub mod Orders
+pub mod RowsInTurn
 pub mod Uniting

@@ -22,17 +22,17 @@ use Rattle.lc_tree.specs.declared.entry.OtherKind.TheVariants.{Special, Mounted}
 
 -- ---- what ties
 
-first_ties : (a b : Ordering) → ordering_then a b ≡ Equal → a ≡ Equal
+pub first_ties : (a b : Ordering) → ordering_then a b ≡ Equal → a ≡ Equal
 first_ties Less b e = absurd (cc)
 first_ties Equal b e = refl
 first_ties Greater b e = absurd (cc)
 
-then_ties : (a b : Ordering) → ordering_then a b ≡ Equal → b ≡ Equal
+pub then_ties : (a b : Ordering) → ordering_then a b ≡ Equal → b ≡ Equal
 then_ties Less b e = absurd (cc)
 then_ties Equal b e = e
 then_ties Greater b e = absurd (cc)
 
-bytes_same : (xs ys : List ℕ) → bytes_cmp xs ys ≡ Equal → xs ≡ ys
+pub bytes_same : (xs ys : List ℕ) → bytes_cmp xs ys ≡ Equal → xs ≡ ys
 bytes_same = slice_cmp-IsAntisymmetric nat_cmp-IsAntisymmetric
 
 abbrev first : List ℕ → ℕ
@@ -74,7 +74,8 @@ fault_ties a b e = same_fault a b (bytes_same a.path b.path (first_ties _ _ e))
 -- ---- reasons
 
 abbrev source_at : (place depth : ℕ) → RuleSource
-source_at place depth = cond (place == 0) CommandLine (cond (place == 1) ExcludeFrom (cond (place == 2) (InfoExclude depth) (Gitignore depth)))
+source_at place depth =
+    cond (place == 0) CommandLine (cond (place == 1) ExcludeFrom (cond (place == 2) (InfoExclude depth) (Gitignore depth)))
 
 -- the reason whose word begins with this letter
 abbrev reason_at : (b depth place line : ℕ) → (word : List ℕ) → Reason

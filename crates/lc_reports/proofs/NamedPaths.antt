@@ -1,15 +1,16 @@
 -- What is at the front and at the end of a path below a name.
-use Rattle.std.proofs.Common.{◌≡◌, ℕ, zero, suc, ◌+◌, ◌-◌, ◌≤◌, Bool, true, false, not, cond, List, [], ◌∷◌, ◌++◌, length, drop, take, reverse}
+use Rattle.std.proofs.Common.{◌≡◌, ℕ, zero, suc, ◌+◌, ◌-◌, ◌≤◌, Bool, true, false, not, cond, List, [], ◌∷◌, ◌++◌, length, drop, take}
+use Rattle.std.proofs.Common.{reverse}
 use Rattle.std.proofs.Common.{refl, sym, ◌∙◌, ap, arith, append_assoc, length-append, one-add, suc-add, zero-add}
-use Rattle.std.specs.List.{after_first, after_last, onto_first, position_or_len, prefix_len, slice_split, suffix_len}
+use Rattle.std.specs.List.{after_first, after_last, onto_first, position_or_len, prefix_len, suffix_len}
 use Rattle.std.proofs.Math.Seq.{drop-append-add, take-append-add}
 use Rattle.std.proofs.lemmas.List.{reverse-append}
 use Rattle.std.proofs.lemmas.List.Sums.{suffix_len-le-length}
 use Rattle.lc_glob.specs.Bytes.{slash}
 use Rattle.lc_glob.specs.Path.{segments_of}
 use Rattle.lc_glob.specs.Pieces.{is_byte}
-use Rattle.lc_reports.specs.Laws.{IsNamedWith, NamedRulesLaw}
-use Rattle.lc_reports.specs.Named.{named_depth, named_path, named_source}
+use Rattle.lc_reports.specs.Laws.{NamedRulesLaw}
+use Rattle.lc_reports.specs.Named.{named_depth}
 use Rattle.lc_rules.specs.Verdicts.{below}
 use Rattle.lc_text.specs.RulePlaces.{above}
 
@@ -36,7 +37,8 @@ last_after front c ys is =
     let same : suffix_len q (front ++ c ∷ ys) ≡ suffix_len q ys = same_suffix q front ys c (ap not is) in
     let few = suffix_len-le-length q ys in
     let long = length-append front (c ∷ ys) in
-    let place : length (front ++ c ∷ ys) - suffix_len q (front ++ c ∷ ys) ≡ length front + (1 + (length ys - suffix_len q ys)) = omega arith in
+    let place : length (front ++ c ∷ ys) - suffix_len q (front ++ c ∷ ys) ≡ length front + (1 + (length ys - suffix_len q ys)) =
+    omega arith in
     ap (λ n. drop n (front ++ c ∷ ys)) place ∙ drop-append-add front (c ∷ ys) (1 + (length ys - suffix_len q ys))
     ∙ ap (λ n. drop n (c ∷ ys)) (one-add (length ys - suffix_len q ys))
 

@@ -81,7 +81,8 @@ module _ (part others : List Report) (one r : Report) (first : IsJoined part one
   rows_of_parts : AddsUp (all_rows (part ++ others)) r.rows.items
   rows_of_parts =
       let rows : Report → List TallyRowModel = λ x. x.rows.items in
-      let inside = has_both (all_rows part) one.rows.items (all_rows others) (all_rows others) first.rows.same (has_same (all_rows others)) in
+      let same = has_same (all_rows others) in
+      let inside = has_both (all_rows part) one.rows.items (all_rows others) (all_rows others) first.rows.same same in
       let added = subst (λ l. AddsUp l r.rows.items) (flat_map-cons rows one others) is.rows in
       subst (λ l. AddsUp l r.rows.items) (sym (lists_of_parts rows)) (record {
         same = has_further (all_rows part ++ all_rows others) (one.rows.items ++ all_rows others) r.rows.items inside added.same;

@@ -1,7 +1,7 @@
 -- Lines that are sorted, and then kept once each.
-use Rattle.std.proofs.Common.{◌≡◌, ◌⊎◌, Bool, List, ◌++◌, refl, IsPermutation, ⊎_elim}
+use Rattle.std.proofs.Common.{◌≡◌, List, ◌++◌, refl, IsPermutation, ⊎_elim}
 use Rattle.std.specs.Cmp.{IsTotalOrder}
-use Rattle.std.specs.List.{Contains, dedup}
+use Rattle.std.specs.List.{dedup}
 use Rattle.std.specs.List.Sorted.{IsSorted}
 use Rattle.std.specs.Ordering.{eq_by_cmp}
 use Rattle.std.specs.declared.cmp.Ordering.{Ordering}

@@ -1,30 +1,38 @@
 -- What is gathered of several reports before they are joined.
-use Rattle.std.specs.Prelude.{◌≡◌, ℕ, ◌+◌, ◌<◌, ◌^◌, List, ◌++◌}
+use Rattle.std.specs.Prelude.{◌≡◌, ◌+◌, ◌<◌, ◌^◌, List, ◌++◌}
 use Rattle.lc_reports.specs.Joined.{all_rows, all_files, all_faults, all_skipped, all_totals, all_directories, all_entries, if_wanted}
 use Rattle.lc_reports.specs.declared.gathered.Gathered.{Gathered}
 use Rattle.lc_reports.specs.declared.gathered.Numbers.{Numbers}
 use Rattle.lc_walk.specs.Sums.{IsInRange, no_files, plus}
+use Rattle.lc_walk.specs.TallyRows.{sums_of_rows}
 use Rattle.lc_walk.specs.declared.options.ReportLists.{ReportLists}
 use Rattle.lc_walk.specs.declared.report.Report.{Report}
 
 -- ---- numbers
 
 abbrev pub no_numbers : Numbers
-no_numbers = record { totals = no_files; directories = 0; entries = 0 }
+no_numbers = record { rows = no_files; totals = no_files; directories = 0; entries = 0 }
 
 -- the sums of these numbers and those of a report
 abbrev pub numbers_with : Numbers → Report → Numbers
 numbers_with n r = record {
+  rows = plus n.rows (sums_of_rows r.rows.items);
   totals = plus n.totals r.totals;
   directories = n.directories + r.directories;
   entries = n.entries + r.entries;
 }
 
 abbrev pub numbers_of : List Report → Numbers
-numbers_of rs = record { totals = all_totals rs; directories = all_directories rs; entries = all_entries rs }
+numbers_of rs = record {
+  rows = sums_of_rows (all_rows rs);
+  totals = all_totals rs;
+  directories = all_directories rs;
+  entries = all_entries rs;
+}
 
 -- each fits its type
 pub record NumbersFit (n : Numbers) : Type 0 where
+  pub rows : IsInRange n.rows
   pub totals : IsInRange n.totals
   pub directories : n.directories < 2 ^ 64
   pub entries : n.entries < 2 ^ 64

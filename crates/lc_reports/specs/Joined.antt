@@ -82,9 +82,9 @@ pub record Fits (rs : List Report) : Type 0 where
   pub directories : all_directories rs < 2 ^ 64
   pub entries : all_entries rs < 2 ^ 64
 
--- why there is none: memory is refused, or some sum does not fit
+-- why there is none: some sum does not fit, or each does and memory is refused
 abbrev pub IsUnjoined : List Report → JoinFault → Type 0
-IsUnjoined rs Memory = Unit {0}
+IsUnjoined rs Memory = Fits rs
 IsUnjoined rs TooLarge = Fits rs → ⊥
 
 abbrev pub Joins : List Report → Result Report JoinFault → Type 0

@@ -4,12 +4,13 @@ use Rattle.std.specs.List.{All}
 use Rattle.std.specs.List.Sorted.{IsPermutation}
 use Rattle.lc_glob.specs.Bytes.{slash}
 use Rattle.lc_level.specs.Level.{FileLineModel}
-use Rattle.lc_reports.specs.Joined.{IsJoined}
+use Rattle.lc_reports.specs.Joined.{IsJoined, all_rows}
 use Rattle.lc_reports.specs.Named.{IsNamed, named_path, named_source}
 use Rattle.lc_rules.specs.declared.rule_source.RuleSource.{RuleSource}
 use Rattle.lc_rules.specs.declared.rule_source.RuleSource.TheVariants.{InfoExclude, Gitignore}
 use Rattle.lc_text.specs.RulePlaces.{source_directory}
 use Rattle.lc_walk.specs.ReportTotals.{TotalsAddUp}
+use Rattle.lc_walk.specs.TallyRows.{TallyRowModel}
 use Rattle.lc_walk.specs.declared.report.Report.{Report}
 
 -- the report of several is that of the same in any order
@@ -19,6 +20,25 @@ JoinOrderLaw = (rs moved : List Report) (r : Report) → IsPermutation rs moved 
 -- and where one of them is the report of some, it is the report of these and of the others
 abbrev pub JoinGroupLaw : Type 0
 JoinGroupLaw = (part others : List Report) (one r : Report) → IsJoined part one → IsJoined (one ∷ others) r → IsJoined (part ++ others) r
+
+-- a row has a file
+abbrev pub HasFile : TallyRowModel → Type 0
+HasFile row = 0 < row.sums.files
+
+-- the same report, but for the order of files that have the same path: in both, files are in order of their paths
+pub record IsSame (r s : Report) : Type 0 where
+  pub rows : r.rows.items ≡ s.rows.items
+  pub totals : r.totals ≡ s.totals
+  pub directories : r.directories ≡ s.directories
+  pub entries : r.entries ≡ s.entries
+  pub lists : r.lists ≡ s.lists
+  pub files : IsPermutation r.files.items s.files.items
+  pub faults : r.faults.items ≡ s.faults.items
+  pub skipped : r.skipped.items ≡ s.skipped.items
+
+-- reports whose rows all have a file have one joined report
+abbrev pub JoinOnceLaw : Type 0
+JoinOnceLaw = (rs : List Report) (r s : Report) → All HasFile (all_rows rs) → IsJoined rs r → IsJoined rs s → IsSame r s
 
 -- where the totals of each add up, so do theirs
 abbrev pub JoinTotalsLaw : Type 0

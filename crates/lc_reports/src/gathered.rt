@@ -3,13 +3,30 @@ ghost use Rattle.std.specs.Prelude.{◌≡◌, IfOk, MatchOption, OnOk};
 ghost use Rattle.std.specs.List.{list_all};
 ghost use Rattle.lc_reports.specs.Gathered.{Adds, IsGathered, NumbersFit, no_numbers, numbers_of, numbers_with};
 ghost use Rattle.lc_reports.specs.Joined.{shared_lists};
+ghost use Rattle.lc_walk.specs.Sums.{IsInRange, plus};
+ghost use Rattle.lc_walk.specs.TallyRows.{sums_of_rows};
 
 use lc_walk::{FaultLine, FileLine, Report, ReportLists, SkippedLine, Sums, TallyRow};
 use std::alloc::{AllocError, Global};
 
+/// These sums and those over some rows, if each fits its type.
+fn with_rows(sums: Sums, rows: &[TallyRow]) -> Option<Sums>
+    ensures { MatchOption result (IsInRange (plus sums (sums_of_rows rows.now)) → ⊥) (λ all. all ≡ plus sums (sums_of_rows rows.now)) }
+{
+    let mut all = sums;
+    let mut rest = rows;
+    'rows: while let Some((row, others)) = rest.split_first() {
+        all = all.checked_add(row.sums())?;
+        rest = others;
+    }
+    Some(all)
+}
+
 /// The sums of the numbers of several reports.
 #[derive(Drop)]
 pub(crate) struct Numbers {
+    // Tested with the other sums, before memory is taken: so a join that lacks memory has no sum that is too large.
+    rows: Sums,
     pub(crate) totals: Sums,
     pub(crate) directories: u64,
     pub(crate) entries: u64,
@@ -20,6 +37,7 @@ impl Numbers {
         ensures { result ≡ no_numbers }
     {
         Numbers {
+            rows: Sums::none(),
             totals: Sums::none(),
             directories: 0,
             entries: 0,
@@ -27,10 +45,12 @@ impl Numbers {
     }
 
     /// These numbers and those of a report, if each sum fits its type.
+    #[tactic(auto, using(crate::proofs::NumbersInTurn::same_numbers))]
     fn with(self, report: &Report) -> Option<Numbers>
         ensures { MatchOption result (NumbersFit (numbers_with self report.now) → ⊥) (λ n. n ≡ numbers_with self report.now) }
     {
         Some(Numbers {
+            rows: with_rows(self.rows, &report.rows)?,
             totals: self.totals.checked_add(report.totals)?,
             directories: self.directories.checked_add(report.directories)?,
             entries: self.entries.checked_add(report.entries)?,

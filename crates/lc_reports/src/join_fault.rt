@@ -6,7 +6,7 @@ use thiserror::Error;
 /// Why several reports have no sum.
 #[derive(Debug, Clone, Copy, PartialEq, Eq, Error)]
 pub enum JoinFault {
-    /// There is no memory for the lists.
+    /// Each sum fits its type, but there is no memory for the lists.
     #[error("out of memory")]
     Memory,
     /// A sum does not fit its type: 2^64 files, directories or entries, or 2^128 lines, blank lines or bytes.

@@ -27,7 +27,8 @@ fn unite_skipped(skipped: &mut Vec<SkippedLine>)
 /// Joins reports: it adds up their rows and their numbers, and has the lists that each of them has. A fault or a skipped entry that several
 /// have, the same in all fields, is in it once.
 ///
-/// Its time is that of a sort of all lines. It takes memory for the lists, but not for paths.
+/// Its time is that of a sort of all lines. It takes memory for the lists, but not for paths. Before that, it finds out whether a sum is
+/// too large.
 ///
 /// ```
 /// let both = joined(alloc, reports)?;

@@ -1,5 +1,5 @@
 //! Laws of the definitions that the contracts cite. The functions do nothing: their contracts are what is proved.
-ghost use Rattle.lc_reports.specs.Laws.{JoinGroupLaw, JoinOrderLaw, JoinTotalsLaw, NameTotalsLaw, NamedRulesLaw};
+ghost use Rattle.lc_reports.specs.Laws.{JoinGroupLaw, JoinOnceLaw, JoinOrderLaw, JoinTotalsLaw, NameTotalsLaw, NamedRulesLaw};
 
 /// The report of several does not depend on their order.
 pub fn a_joined_report_has_no_order()
@@ -9,6 +9,11 @@ pub fn a_joined_report_has_no_order()
 /// Where one of several reports is itself that of some, they may stand in its place. So reports may be joined in any groups.
 pub fn a_joined_report_has_no_grouping()
     ensures { JoinGroupLaw }
+{}
+
+/// Reports have one joined report, if each of their rows has a file. Only files with the same path may be in another order.
+pub fn reports_are_joined_in_one_way()
+    ensures { JoinOnceLaw }
 {}
 
 /// The totals of the report of several are the sums over its rows, and over its files if it has them, where those of each are.

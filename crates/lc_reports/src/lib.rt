@@ -17,6 +17,7 @@ pub use join_fault::JoinFault;
 pub use joining::joined;
 pub use laws::{
     a_joined_report_has_no_grouping, a_joined_report_has_no_order, names_change_no_number,
-    rules_of_a_named_report_are_in_named_files, totals_of_a_joined_report_add_up,
+    reports_are_joined_in_one_way, rules_of_a_named_report_are_in_named_files,
+    totals_of_a_joined_report_add_up,
 };
 pub use naming::named;

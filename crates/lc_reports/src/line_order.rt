@@ -1,8 +1,8 @@
 //! The order of lines that may have one path.
 ghost use Rattle.std.specs.Prelude.{◌≡◌};
 ghost use Rattle.lc_level.specs.Reasons.{reason_model};
-ghost use Rattle.lc_reports.specs.LineOrder.{attribute_word, fault_cmp, kind_place, reason_cmp, rule_depth, rule_line, rule_place, skipped_cmp};
-ghost use Rattle.lc_reports.specs.LineOrder.{source_place};
+ghost use Rattle.lc_reports.specs.LineOrder.{attribute_word, fault_cmp, kind_place, reason_cmp, rule_depth, rule_line, rule_place};
+ghost use Rattle.lc_reports.specs.LineOrder.{skipped_cmp, source_place};
 ghost use Rattle.lc_rules.specs.Verdicts.{depth_at};
 
 use lc_level::Reason;

@@ -1,7 +1,8 @@
 //! A report below a name.
 ghost use Rattle.std.specs.Prelude.{◌≡◌, ◌+◌, ℕ, List, IfOk, map};
 ghost use Rattle.lc_level.specs.Reasons.{reason_model};
-ghost use Rattle.lc_reports.specs.Named.{IsNamed, named_depth, named_fault, named_file, named_path, named_reason, named_skipped, named_source};
+ghost use Rattle.lc_reports.specs.Named.{IsNamed, named_depth, named_fault, named_file, named_path, named_reason, named_skipped};
+ghost use Rattle.lc_reports.specs.Named.{named_source};
 
 use lc_glob::path::depth_of;
 use lc_level::Reason;

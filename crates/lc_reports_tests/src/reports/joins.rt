@@ -1,0 +1,221 @@
+//! Reports of several: what is added up, which lists there are, and what is kept once.
+
+use crate::reports::reading::reports_of;
+use crate::reports::telling::report_text;
+use lc_reports::joined;
+use lc_tests::has_words;
+use std::alloc::Global;
+use std::process::Abort;
+use std::test::Fail;
+
+/// What is shown, the lines of each report, and those of the report of all.
+type Case = (&'static str, &'static [&'static str], &'static str);
+
+const A: &str = "
+    row - - lf 1 4 1 9
+    row .c - lf 2 10 3 65
+    total 3 14 4 74
+    directories 2
+    entries 7
+    file - lf 4 1 9 a/Makefile
+    file - lf 7 0 50 a/main.c
+    file - lf 3 3 15 a/z.c
+    left git a/.git/
+    left rule a/.gitignore:1 a/a.log
+    fault read a/old";
+
+const B: &str = "
+    row .c - lf 1 1 0 5
+    row .c - crlf 1 2 2 4
+    row .c auto lf 1 1 1 1
+    row .h - lf 1 8 0 90
+    total 4 12 3 100
+    directories 3
+    entries 9
+    file - lf 1 0 5 B.c
+    file - crlf 2 2 4 a/b.c
+    file auto lf 1 1 1 b/a.c
+    file - lf 8 0 90 b/a.h
+    left other b/link@
+    left include a/a.py
+    fault twice a/new";
+
+const A_AND_B: &str = "
+    row - - lf 1 4 1 9
+    row .c auto lf 1 1 1 1
+    row .c - lf 3 11 3 70
+    row .c - crlf 1 2 2 4
+    row .h - lf 1 8 0 90
+    total 7 26 7 174
+    directories 5
+    entries 16
+    file - lf 1 0 5 B.c
+    file - lf 4 1 9 a/Makefile
+    file - crlf 2 2 4 a/b.c
+    file - lf 7 0 50 a/main.c
+    file - lf 3 3 15 a/z.c
+    file auto lf 1 1 1 b/a.c
+    file - lf 8 0 90 b/a.h
+    left git a/.git/
+    left rule a/.gitignore:1 a/a.log
+    left include a/a.py
+    left other b/link@
+    fault twice a/new
+    fault read a/old";
+
+const SUMS: &[Case] = &[
+    ("no report", &[], ""),
+    ("one report", &[A], A),
+    ("a report of nothing", &[A, ""], A),
+    ("two reports", &[A, B], A_AND_B),
+    ("in the other order", &[B, A], A_AND_B),
+    (
+        "a report twice",
+        &[
+            "row .c - lf 2 10 3 65
+             total 2 10 3 65
+             directories 2
+             entries 7",
+            "row .c - lf 2 10 3 65
+             total 2 10 3 65
+             directories 2
+             entries 7",
+        ],
+        "row .c - lf 4 20 6 130
+         total 4 20 6 130
+         directories 4
+         entries 14",
+    ),
+    (
+        "three reports",
+        &[
+            "row .c - lf 1 1 1 1
+             total 1 1 1 1
+             directories 1
+             entries 1",
+            "row .c - lf 1 2 3 4
+             total 1 2 3 4
+             directories 10
+             entries 100",
+            "row .c - lf 1 20 30 40
+             total 1 20 30 40
+             directories 100
+             entries 1000",
+        ],
+        "row .c - lf 3 23 34 45
+         total 3 23 34 45
+         directories 111
+         entries 1101",
+    ),
+];
+
+const LISTED: &str = "
+    file - lf 1 0 2 x.c
+    left git .git/
+    fault read d";
+
+const LISTS: &[Case] = &[
+    (
+        "one report has no files",
+        &[LISTED, "no-files\nleft git a/.git/"],
+        "no-files
+         left git .git/
+         left git a/.git/
+         fault read d",
+    ),
+    (
+        "one report has no skipped entries",
+        &["no-left\nfile - lf 1 0 2 a.c", LISTED],
+        "file - lf 1 0 2 a.c
+         file - lf 1 0 2 x.c
+         no-left
+         fault read d",
+    ),
+    (
+        "each report lacks one list",
+        &[
+            "no-left\nfile - lf 1 0 2 a.c",
+            "no-files\nleft git .git/\nfault read d",
+        ],
+        "no-files
+         no-left
+         fault read d",
+    ),
+    (
+        "the second of three lacks both lists",
+        &[LISTED, "no-files\nno-left\nfault read e", LISTED],
+        "no-files
+         no-left
+         fault read d
+         fault read e",
+    ),
+    (
+        "no report has files",
+        &["no-files\nleft git .git/", "no-files\nleft git a/.git/"],
+        "no-files
+         left git .git/
+         left git a/.git/",
+    ),
+];
+
+const REPEATED: &[Case] = &[
+    (
+        "a skipped entry of two reports",
+        &["left rule .gitignore:1 gen/", "left rule .gitignore:1 gen/"],
+        "left rule .gitignore:1 gen/",
+    ),
+    (
+        "a fault of three reports",
+        &["fault read d", "fault read d", "fault read d"],
+        "fault read d",
+    ),
+    (
+        "lines twice in one report",
+        &["left git .git/\nfault read d\nfault read d\nleft git .git/"],
+        "left git .git/\nfault read d",
+    ),
+    (
+        "a skipped entry between others",
+        &[
+            "left git a\nleft git b\nleft git c",
+            "left git b\nleft git d",
+        ],
+        "left git a\nleft git b\nleft git c\nleft git d",
+    ),
+    (
+        "the same attribute",
+        &["left attribute made a.c", "left attribute made a.c"],
+        "left attribute made a.c",
+    ),
+    // a path that was counted twice is in the list twice
+    (
+        "a file of two reports",
+        &["file - lf 1 0 2 a.c", "file - lf 1 0 2 a.c"],
+        "file - lf 1 0 2 a.c
+         file - lf 1 0 2 a.c",
+    ),
+];
+
+fn check_all(rt: &impl Abort, alloc: Global, cases: &[Case]) -> Result<(), Fail> {
+    for (name, reports, wanted) in cases {
+        let report = joined(alloc, reports_of(alloc, reports)?)?;
+        let found = report_text(alloc, &report)?;
+        assert!(rt; has_words(&found, wanted), "{name}: {found}");
+    }
+    Ok(())
+}
+
+#[test]
+fn numbers_are_added_up(rt: HostRuntime) -> Result<(), Fail> {
+    check_all(&rt, rt.alloc(), SUMS)
+}
+
+#[test]
+fn lists_are_those_that_each_report_has(rt: HostRuntime) -> Result<(), Fail> {
+    check_all(&rt, rt.alloc(), LISTS)
+}
+
+#[test]
+fn equal_lines_are_kept_once(rt: HostRuntime) -> Result<(), Fail> {
+    check_all(&rt, rt.alloc(), REPEATED)
+}

@@ -1,0 +1,165 @@
+//! Reports below names: the paths that a person opens, and the files of rules.
+
+use crate::reports::reading::report_of;
+use crate::reports::telling::report_text;
+use lc_reports::named;
+use lc_tests::has_words;
+use std::alloc::{AllocError, Global};
+use std::process::Abort;
+use std::test::Fail;
+
+/// A name, the lines of a report, and those of the report below the name.
+type Case = (&'static str, &'static str, &'static str);
+
+const PATHS: &[Case] = &[
+    ("src", "fault read .", "fault read src"),
+    ("src", "file - lf 3 1 9 x.c", "file - lf 3 1 9 src/x.c"),
+    ("src", "left git .git/", "left git src/.git/"),
+    ("src", "fault absent d/x.c", "fault absent src/d/x.c"),
+    ("../lib", "fault read .", "fault read ../lib"),
+    (
+        "../lib",
+        "file - lf 3 1 9 x.c",
+        "file - lf 3 1 9 ../lib/x.c",
+    ),
+    ("../lib", "left other d/x.c@", "left other ../lib/d/x.c@"),
+    // the name of the directory `/`
+    ("", "fault read .", "fault read /"),
+    ("", "file auto crlf 3 1 9 x.c", "file auto crlf 3 1 9 /x.c"),
+    ("", "left include d/x.c", "left include /d/x.c"),
+    ("", "fault long d/.gitignore", "fault long /d/.gitignore"),
+    ("a//b", "fault read .", "fault read a//b"),
+    ("a//b", "file - lf 3 1 9 x.c", "file - lf 3 1 9 a//b/x.c"),
+    (
+        "a//b",
+        "left filesystem d/x.c@/",
+        "left filesystem a//b/d/x.c@/",
+    ),
+    (".", "fault many d", "fault many ./d"),
+    ("/usr", "file - nul 3 1 9 x.c", "file - nul 3 1 9 /usr/x.c"),
+    (
+        "src",
+        "left attribute export-ignore d/",
+        "left attribute export-ignore src/d/",
+    ),
+];
+
+const RULES: &[Case] = &[
+    (
+        "src",
+        "left rule .gitignore:3 d/e/a.o",
+        "left rule src/.gitignore:3 src/d/e/a.o",
+    ),
+    (
+        "src",
+        "left rule d/e/.gitignore:3 d/e/a.o",
+        "left rule src/d/e/.gitignore:3 src/d/e/a.o",
+    ),
+    (
+        "src",
+        "left rule .git/info/exclude:3 d/e/a.o",
+        "left rule src/.git/info/exclude:3 src/d/e/a.o",
+    ),
+    (
+        "../lib",
+        "left rule .gitignore:3 a.o",
+        "left rule ../lib/.gitignore:3 ../lib/a.o",
+    ),
+    (
+        "../lib",
+        "left rule d/e/.git/info/exclude:3 d/e/a.o",
+        "left rule ../lib/d/e/.git/info/exclude:3 ../lib/d/e/a.o",
+    ),
+    (
+        "",
+        "left rule .gitignore:3 a.o",
+        "left rule /.gitignore:3 /a.o",
+    ),
+    (
+        "",
+        "left rule d/e/.gitignore:3 d/e/a.o",
+        "left rule /d/e/.gitignore:3 /d/e/a.o",
+    ),
+    (
+        "",
+        "left rule .git/info/exclude:3 a.o",
+        "left rule /.git/info/exclude:3 /a.o",
+    ),
+    (
+        "a//b",
+        "left rule .gitignore:3 a.o",
+        "left rule a//b/.gitignore:3 a//b/a.o",
+    ),
+    (
+        "a//b",
+        "left rule d/e/.git/info/exclude:3 d/e/a.o",
+        "left rule a//b/d/e/.git/info/exclude:3 a//b/d/e/a.o",
+    ),
+    (
+        "src",
+        "left rule --exclude:3 d/e/a.o",
+        "left rule --exclude:3 src/d/e/a.o",
+    ),
+    (
+        "",
+        "left rule --exclude-from:3 a.o",
+        "left rule --exclude-from:3 /a.o",
+    ),
+];
+
+/// What is no path stays, and so does the order of the lines.
+const WHOLE: Case = (
+    "b",
+    "row - - lf 1 4 1 9
+     row .c - lf 2 10 3 65
+     total 3 14 4 74
+     directories 2
+     entries 7
+     no-files
+     left git z/.git/
+     left git a/.git/
+     fault read z
+     fault read .
+     fault read a",
+    "row - - lf 1 4 1 9
+     row .c - lf 2 10 3 65
+     total 3 14 4 74
+     directories 2
+     entries 7
+     no-files
+     left git b/z/.git/
+     left git b/a/.git/
+     fault read b/z
+     fault read b
+     fault read b/a",
+);
+
+fn check(rt: &impl Abort, alloc: Global, case: &Case) -> Result<(), AllocError> {
+    let (name, lines, wanted) = *case;
+    let report = named(alloc, name.as_bytes(), report_of(alloc, lines)?)?;
+    let found = report_text(alloc, &report)?;
+    assert!(rt; has_words(&found, wanted), "below {name}: {found}");
+    Ok(())
+}
+
+#[test]
+fn paths_are_below_the_name(rt: HostRuntime) -> Result<(), Fail> {
+    for case in PATHS {
+        check(&rt, rt.alloc(), case)?;
+    }
+    Ok(())
+}
+
+#[test]
+fn files_of_rules_are_below_the_name(rt: HostRuntime) -> Result<(), Fail> {
+    for case in RULES {
+        check(&rt, rt.alloc(), case)?;
+    }
+    Ok(())
+}
+
+#[test]
+fn numbers_and_order_stay(rt: HostRuntime) -> Result<(), Fail> {
+    check(&rt, rt.alloc(), &WHOLE)?;
+    Ok(())
+}

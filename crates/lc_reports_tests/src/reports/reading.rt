@@ -1,0 +1,209 @@
+//! Reports that are read of their lines.
+
+use lc_census::Count;
+use lc_level::{FaultWord, Reason};
+use lc_rules::RuleSource;
+use lc_tests::{eol_of_word, text_of_word};
+use lc_tree::{Kind, OtherKind};
+use lc_walk::{FaultLine, FileLine, Report, ReportLists, SkippedLine, Sums, TallyRow};
+use std::alloc::{AllocError, Global};
+use std::str::SplitAsciiWhitespace;
+
+const FAULT_WORDS: &[FaultWord] = &[
+    FaultWord::Absent,
+    FaultWord::Endless,
+    FaultWord::Long,
+    FaultWord::Many,
+    FaultWord::Name,
+    FaultWord::Twice,
+];
+
+fn next<'a>(words: &mut SplitAsciiWhitespace<'a>) -> &'a str {
+    words.next().unwrap_or("-")
+}
+
+fn small_number(words: &mut SplitAsciiWhitespace<'_>) -> u64 {
+    next(words).parse::<u64>().unwrap_or(0)
+}
+
+fn number(words: &mut SplitAsciiWhitespace<'_>) -> u128 {
+    next(words).parse::<u128>().unwrap_or(0)
+}
+
+/// The path of a word. That of the top is written as a dot.
+fn path_of(alloc: Global, word: &str) -> Result<Vec<u8>, AllocError> {
+    let path = if word == "." { "" } else { word };
+    path.as_bytes().to_vec(alloc)
+}
+
+fn sums(words: &mut SplitAsciiWhitespace<'_>) -> Sums {
+    Sums {
+        files: small_number(words),
+        lines: number(words),
+        blank: number(words),
+        bytes: number(words),
+    }
+}
+
+fn row(alloc: Global, words: &mut SplitAsciiWhitespace<'_>) -> Result<TallyRow, AllocError> {
+    let ext = match next(words).strip_prefix('.') {
+        Some(ext) => Some(ext.as_bytes().to_vec(alloc)?),
+        None => None,
+    };
+    let text = text_of_word(next(words));
+    let eol = eol_of_word(next(words));
+    let sums = sums(words);
+    Ok(TallyRow {
+        ext,
+        text,
+        eol,
+        files: sums.files,
+        lines: sums.lines,
+        blank: sums.blank,
+        bytes: sums.bytes,
+    })
+}
+
+fn file(alloc: Global, words: &mut SplitAsciiWhitespace<'_>) -> Result<FileLine, AllocError> {
+    let text = text_of_word(next(words));
+    let eol = eol_of_word(next(words));
+    let count = Count {
+        lines: small_number(words),
+        blank: small_number(words),
+        bytes: small_number(words),
+        eol,
+    };
+    let path = path_of(alloc, next(words))?;
+    Ok(FileLine { path, text, count })
+}
+
+fn fault(alloc: Global, words: &mut SplitAsciiWhitespace<'_>) -> Result<FaultLine, AllocError> {
+    let name = next(words);
+    let mut found = FAULT_WORDS.iter().filter(|word| word.as_str() == name);
+    let word = found.next().copied().unwrap_or(FaultWord::Read);
+    let path = path_of(alloc, next(words))?;
+    Ok(FaultLine { path, word })
+}
+
+/// How many directories a path names before its last segment.
+fn depth_of(path: &str) -> u32 {
+    let slashes = path.bytes().filter(|byte| *byte == b'/').count();
+    u32::try_from(slashes).unwrap_or(0)
+}
+
+fn source_of(file: &str) -> RuleSource {
+    if file == "--exclude" {
+        return RuleSource::CommandLine;
+    }
+    if file == "--exclude-from" {
+        return RuleSource::ExcludeFrom;
+    }
+    match file.strip_suffix(".git/info/exclude") {
+        Some(directory) => RuleSource::InfoExclude(depth_of(directory)),
+        None => RuleSource::Gitignore(depth_of(file)),
+    }
+}
+
+/// The rule at a place, such as `src/.gitignore:3`.
+fn rule_at(place: &str) -> Reason {
+    let (file, line) = place.rsplit_once(':').unwrap_or((place, "0"));
+    Reason::Rule {
+        source: source_of(file),
+        line: line.parse::<u32>().unwrap_or(0),
+    }
+}
+
+fn reason(alloc: Global, words: &mut SplitAsciiWhitespace<'_>) -> Result<Reason, AllocError> {
+    match next(words) {
+        "rule" => Ok(rule_at(next(words))),
+        "attribute" => Ok(Reason::Attribute(next(words).as_bytes().to_vec(alloc)?)),
+        "include" => Ok(Reason::NotIncluded),
+        "other" => Ok(Reason::OtherKind(OtherKind::Special)),
+        "filesystem" => Ok(Reason::OtherKind(OtherKind::Mounted)),
+        _ => Ok(Reason::Git),
+    }
+}
+
+/// The path and the kind that a word names by its end.
+fn path_and_kind(word: &str) -> (&str, Kind) {
+    if let Some(path) = word.strip_suffix("@/") {
+        return (path, Kind::Other(OtherKind::Mounted));
+    }
+    if let Some(path) = word.strip_suffix('@') {
+        return (path, Kind::Other(OtherKind::Special));
+    }
+    match word.strip_suffix('/') {
+        Some(path) => (path, Kind::Dir),
+        None => (word, Kind::File),
+    }
+}
+
+fn skipped(alloc: Global, words: &mut SplitAsciiWhitespace<'_>) -> Result<SkippedLine, AllocError> {
+    let reason = reason(alloc, words)?;
+    let (path, kind) = path_and_kind(next(words));
+    let path = path_of(alloc, path)?;
+    Ok(SkippedLine { path, kind, reason })
+}
+
+/// A report of nothing, which has both lists.
+fn nothing(alloc: Global) -> Report {
+    Report {
+        rows: Vec::new(alloc),
+        totals: Sums::none(),
+        directories: 0,
+        entries: 0,
+        lists: ReportLists {
+            files: true,
+            left_out: true,
+        },
+        files: Vec::new(alloc),
+        faults: Vec::new(alloc),
+        skipped: Vec::new(alloc),
+    }
+}
+
+fn put_line(alloc: Global, report: &mut Report, line: &str) -> Result<(), AllocError> {
+    let mut words = line.split_ascii_whitespace();
+    match next(&mut words) {
+        "row" => report.rows.push(row(alloc, &mut words)?)?,
+        "total" => report.totals = sums(&mut words),
+        "directories" => report.directories = small_number(&mut words),
+        "entries" => report.entries = small_number(&mut words),
+        "no-files" => report.lists.files = false,
+        "no-left" => report.lists.left_out = false,
+        "file" => report.files.push(file(alloc, &mut words)?)?,
+        "fault" => report.faults.push(fault(alloc, &mut words)?)?,
+        "left" => report.skipped.push(skipped(alloc, &mut words)?)?,
+        _ => {}
+    }
+    Ok(())
+}
+
+/// The report of these lines. What no line names is 0, and each list is there:
+///
+/// | Line | What the report has |
+/// |---|---|
+/// | `row .c - lf 2 10 1 80` | a row: the extension, the attribute `text`, the line ends; files, lines, blank lines, bytes |
+/// | `total 2 10 1 80` | these totals |
+/// | `directories 2`, `entries 7` | these numbers |
+/// | `no-files`, `no-left` | no list of files, or of skipped entries |
+/// | `file - lf 5 1 40 src/a.c` | a file: the attribute `text`, the line ends; lines, blank lines, bytes; the path |
+/// | `left rule src/.gitignore:3 src/gen/` | a skipped directory, of which a rule of that file is the reason |
+/// | `left attribute export-ignore a.c` | a skipped file; an `@` at the end is a special file, and `@/` a mounted directory |
+/// | `fault read src` | a directory or a file that could not be read |
+pub(super) fn report_of(alloc: Global, lines: &str) -> Result<Report, AllocError> {
+    let mut report = nothing(alloc);
+    for line in lines.lines() {
+        put_line(alloc, &mut report, line)?;
+    }
+    Ok(report)
+}
+
+/// The reports of these lines, a text for each.
+pub(super) fn reports_of(alloc: Global, texts: &[&str]) -> Result<Vec<Report>, AllocError> {
+    let mut reports = Vec::new(alloc);
+    for text in texts {
+        reports.push(report_of(alloc, text)?)?;
+    }
+    Ok(reports)
+}

@@ -1,0 +1,124 @@
+//! Reports as lines, as `reading` reads them.
+
+use lc_level::Reason;
+use lc_tests::{eol_word, push_kind, push_name, text_word};
+use lc_text::{PathStyle, push_rule_source};
+use lc_walk::{FileLine, Report, SkippedLine, Sums, TallyRow};
+use std::alloc::{AllocError, Global};
+
+fn push_sums(text: &mut String, sums: Sums) -> Result<(), AllocError> {
+    let Sums {
+        files,
+        lines,
+        blank,
+        bytes,
+    } = sums;
+    write!(text, "{files} {lines} {blank} {bytes}\n")
+}
+
+fn push_row(text: &mut String, row: &TallyRow) -> Result<(), AllocError> {
+    text.push_str("row ")?;
+    match &row.ext {
+        Some(ext) => {
+            text.push_str(".")?;
+            push_name(text, ext)?;
+        }
+        None => text.push_str("-")?,
+    }
+    let (state, eol) = (text_word(row.text), eol_word(row.eol));
+    write!(text, " {state} {eol} ")?;
+    push_sums(text, row.sums())
+}
+
+fn push_numbers(text: &mut String, report: &Report) -> Result<(), AllocError> {
+    if report.totals != Sums::none() {
+        text.push_str("total ")?;
+        push_sums(text, report.totals)?;
+    }
+    if report.directories != 0 {
+        write!(text, "directories {}\n", report.directories)?;
+    }
+    if report.entries != 0 {
+        write!(text, "entries {}\n", report.entries)?;
+    }
+    Ok(())
+}
+
+fn push_file(text: &mut String, file: &FileLine) -> Result<(), AllocError> {
+    let count = &file.count;
+    let (state, eol) = (text_word(file.text), eol_word(count.eol));
+    write!(
+        text,
+        "file {state} {eol} {} {} {} ",
+        count.lines, count.blank, count.bytes
+    )?;
+    push_name(text, &file.path)?;
+    text.push_str("\n")
+}
+
+/// Adds what a person reads behind the word of a reason: the place of the rule, or the attribute.
+fn push_detail(text: &mut String, entry: &SkippedLine) -> Result<(), AllocError> {
+    match &entry.reason {
+        Reason::Rule { source, line } => {
+            let mut place = Vec::new(*entry.path.allocator());
+            push_rule_source(&mut place, PathStyle::Escaped, &entry.path, *source, *line)?;
+            push_name(text, &place)?;
+            text.push_str(" ")
+        }
+        Reason::Attribute(word) => {
+            push_name(text, word)?;
+            text.push_str(" ")
+        }
+        Reason::Git | Reason::NotIncluded | Reason::OtherKind(_) => Ok(()),
+    }
+}
+
+fn push_skipped(text: &mut String, entry: &SkippedLine) -> Result<(), AllocError> {
+    write!(text, "left {} ", entry.reason.word())?;
+    push_detail(text, entry)?;
+    push_name(text, &entry.path)?;
+    push_kind(text, entry.kind)?;
+    text.push_str("\n")
+}
+
+fn push_faults(text: &mut String, report: &Report) -> Result<(), AllocError> {
+    for fault in &report.faults {
+        write!(text, "fault {} ", fault.word.as_str())?;
+        push_name(text, &fault.path)?;
+        text.push_str("\n")?;
+    }
+    Ok(())
+}
+
+fn push_files(text: &mut String, report: &Report) -> Result<(), AllocError> {
+    if !report.lists.files {
+        text.push_str("no-files\n")?;
+    }
+    for file in &report.files {
+        push_file(text, file)?;
+    }
+    Ok(())
+}
+
+fn push_left(text: &mut String, report: &Report) -> Result<(), AllocError> {
+    if !report.lists.left_out {
+        text.push_str("no-left\n")?;
+    }
+    for entry in &report.skipped {
+        push_skipped(text, entry)?;
+    }
+    Ok(())
+}
+
+/// The lines of a report: rows, numbers that are not 0, files, skipped entries, faults.
+pub(super) fn report_text(alloc: Global, report: &Report) -> Result<String, AllocError> {
+    let mut text = String::new(alloc);
+    for row in &report.rows {
+        push_row(&mut text, row)?;
+    }
+    push_numbers(&mut text, report)?;
+    push_files(&mut text, report)?;
+    push_left(&mut text, report)?;
+    push_faults(&mut text, report)?;
+    Ok(text)
+}
