@@ -36,6 +36,7 @@ test-memory: rt
 test-program: lc
 	tools/cases
 	tools/definitions
+	tools/proved
 	tools/options
 	tools/edits
 	tools/examples
