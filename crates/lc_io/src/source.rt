@@ -1,15 +1,14 @@
-//! Where bytes come from.
+//! The trait of readers.
 ghost use Rattle.std.specs.Prelude.{◌≡◌, ℕ, ◌≤◌, length, take, drop, IfOk};
 ghost use Rattle.lc_io.specs.Reads.{Answer, gave, answer_of};
 
-/// A read failed, for whatever cause.
+/// A read failed, for any cause.
 #[derive(Clone, Copy, Debug, Drop, PartialEq, Eq)]
 pub struct Failed;
 
 /// A reader of bytes.
 ///
-/// Each type says by `may_give` which answers its reads may give; what the reads of a whole call gave is defined
-/// over it (`specs/Reads.antt`).
+/// Each type states by `may_give` what its reads may return. `specs/Reads.antt` defines over it what the reads of a whole call returned.
 pub trait Source {
     // A read of this reader, into a buffer of this length, may give this answer and leave this reader.
     ghost may_give: { Self → ℕ → Answer → Self → Type 0 };

@@ -1,4 +1,4 @@
-//! A line of an answer about a path.
+//! Writing a line about a path.
 
 ghost use Rattle.std.specs.Prelude.{◌≡◌, ◌++◌, OnOk, option_map};
 ghost use Rattle.lc_paths.specs.AnswerLines.{place_text, pattern_text, answer_line};

@@ -3,7 +3,7 @@ use crate::ListingFault;
 use std::alloc::{AllocError, AllocFailed};
 use thiserror::Error;
 
-/// Why a directory was not listed, or a file not opened. A file is refused by `Failed` or `Memory` alone.
+/// Why a directory was not listed, or a file not opened. For a file the error is `Failed` or `Memory`.
 #[derive(Clone, Copy, Debug, Drop, PartialEq, Eq, Error)]
 pub enum ReadFault {
     /// The system did not give it, or nothing of this kind is there.
@@ -15,7 +15,7 @@ pub enum ReadFault {
     /// A name is empty, `.` or `..`, or has a slash or a NUL byte.
     #[error("a bad name")]
     BadName,
-    /// A name stands twice.
+    /// A name is there twice.
     #[error("a name stands twice")]
     Twice,
     /// There are too many entries.

@@ -1,6 +1,6 @@
-//! Matching one path after another with the rules.
+//! Matching paths with the rules, one after another.
 //!
-//! Paths come in runs that share their directories, so the rules are matched with these once for a run.
+//! Paths come in runs that share their directories, so the rules are matched with these directories once for a run.
 
 ghost use Rattle.std.specs.Prelude.{◌≡◌, ℕ, ◌<◌, ◌≤◌, length, take, option_map, false, IfSome, MatchOption};
 ghost use Rattle.lc_paths.specs.Checks.CheckText.{file_verdict, is_ignored, is_ignored_parent, IsClearTo, path_word};
@@ -51,8 +51,8 @@ fn ignoring<'a>(rules: &'a IgnoreFile, directory: &[u8]) -> Option<&'a Rule>
     }
 }
 
-/// Returns the rule that ignores the directory of so many bytes of a path, if it is ignored. Where all directories above the path were
-/// matched together, the rule is taken from there; `place` of them are above this one.
+/// Returns the rule that ignores the directory whose path is this many bytes of a path, if one does. If all directories above the path were
+/// matched together, the rule is already known; `place` is the number of directories above this one.
 fn ignoring_among<'a>(
     rules: &'a IgnoreFile,
     above: Option<&DirectoriesAbove<'a>>,

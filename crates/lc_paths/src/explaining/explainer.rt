@@ -25,7 +25,7 @@ use lc_text::{PathStyle, is_bad_path, is_top};
 use lc_tree::{Kind, Tree};
 use std::alloc::{AllocError, Global};
 
-/// Returns the kind that rules are asked about: that of the entry, or what the path says if there is no entry.
+/// Returns the kind by which rules are matched: that of the entry, or what the path says if there is no entry.
 fn kind_asked(as_dir: bool, there: Option<Kind>) -> Kind
     ensures { result ≡ kind_asked as_dir there }
 {
