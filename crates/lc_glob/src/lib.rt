@@ -4,13 +4,13 @@
 //! patterns and finds the last one that matches. Everything is bytes: neither a pattern nor a path need be text, letter case
 //! counts, and a byte is a character.
 //!
-//! | In a pattern | Stands for |
+//! | In a pattern | Matches |
 //! |---|---|
 //! | `*` | any bytes but a slash, none included |
 //! | `?` | one byte but a slash |
 //! | `[a-z]`, `[!a-z]`, `[[:digit:]]` | one byte of the set, or one that is neither in it nor a slash |
 //! | `\` and a byte | that byte |
-//! | `/` | the end of a segment; the last one asks for a directory, and any other anchors the pattern |
+//! | `/` | the end of a segment; at the end the pattern is for directories only, and elsewhere it is anchored |
 //! | `**` between separators | any run of segments, and as the last segment one or more |
 //!
 //! A pattern that can't be read is dead and matches nothing. Such a pattern ends in a single backslash, has a bracket without its close or

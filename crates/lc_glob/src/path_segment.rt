@@ -69,7 +69,7 @@ impl<'a> PathSegment<'a> {
         self.bytes.len()
     }
 
-    /// Returns the segment without its first byte, which is not looked at.
+    /// Returns the segment without its first byte, which is not read.
     pub(crate) fn skip_first(self) -> Option<Self>
         ensures { SkipsFirst self.entry.bytes.now result }
     {
@@ -115,7 +115,7 @@ impl<'a> PathSegment<'a> {
         self.bytes.len() == literals.len() && self.is_all(literals, tests)
     }
 
-    /// Returns the same, with a test for each literal in any case.
+    /// Like `is`, but always counts a test for each literal.
     #[inline(never)]
     fn is_all(self, literals: &[u8], tests: &mut ByteTests) -> bool
         ensures same { result ≡ bytes_eq self.entry.bytes.now literals.now }
@@ -135,7 +135,7 @@ impl<'a> PathSegment<'a> {
         literals.len() <= self.bytes.len() && self.ends_with_all(literals, tests)
     }
 
-    /// Returns the same, with a test for each literal in any case.
+    /// Like `ends_with`, but always counts a test for each literal.
     #[inline(never)]
     fn ends_with_all(self, literals: &[u8], tests: &mut ByteTests) -> bool
         ensures ends { result ≡ ends_with nat_eq self.entry.bytes.now literals.now }

@@ -88,7 +88,7 @@ fn most_helpers(names: usize) -> u32
     parts.saturating_sub(1) as u32
 }
 
-// The entries of names that are looked at in a part for each helper and one more.
+// Returns the entries of names. Each helper and this thread read the metadata of a part of them.
 fn look_in_parts<T: Tree, R: Threads + Sync>(
     rt: &R,
     alloc: Global,

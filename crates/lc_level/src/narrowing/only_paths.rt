@@ -36,7 +36,7 @@ impl<'o> Model for OnlyPaths<'o> {
     ghost invariant = { λ p. map (λ path. path.now) p.sorted.items ≡ each_once (map (λ path. path.now) p.asked.now) };
 }
 
-/// Paths in the order of their bytes, each once.
+/// Returns the paths in the order of their bytes, each once.
 fn sorted_once<'o>(alloc: Global, asked: &[&'o [u8]]) -> Result<Vec<&'o [u8]>, AllocError>
     ensures { IfOk result (λ paths. map (λ path. path.now) paths.items ≡ each_once (map (λ path. path.now) asked.now)) }
 {

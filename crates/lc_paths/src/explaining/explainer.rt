@@ -166,8 +166,8 @@ impl<'t, T: Tree> Explainer<'t, T> {
         }
     }
 
-    /// Explains the rest of a path below something that is no directory, or isn't there, by the rules above it. The job is that of
-    /// such a place.
+    /// Explains the rest of a path under something that is no directory, or does not exist, by the rules above it. The job is that of such
+    /// a place.
     fn beside<'p>(
         &self,
         job: Job,
