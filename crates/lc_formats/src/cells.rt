@@ -17,7 +17,7 @@ pub(crate) struct Cell<'a> {
     value: Value<'a>,
 }
 
-/// Appends a character so many times.
+/// Appends a character this many times.
 pub(crate) fn push_copies(text: &mut String, c: char, count: usize) -> Result<(), AllocError>
     requires { c < 128 }
     ensures { OnOk result (string_bytes text.new ≡ string_bytes text.old ++ replicate count c) }
@@ -30,7 +30,7 @@ pub(crate) fn push_copies(text: &mut String, c: char, count: usize) -> Result<()
     Ok(())
 }
 
-/// Appends so many blanks before other cells; at the end of a line none.
+/// Appends this many blanks before other cells, but none at the end of a line.
 fn push_blanks(text: &mut String, count: usize, others: &[Cell<'_>]) -> Result<(), AllocError>
     ensures { OnOk result (string_bytes text.new ≡ string_bytes text.old ++ blanks_before (cells_of others.now) count) }
 {

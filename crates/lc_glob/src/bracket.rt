@@ -107,7 +107,7 @@ fn colon_at(after_colon: &[u8], close: usize) -> Colon
     Colon::Class(ranges, close + 2)
 }
 
-/// Pushes the range of an item that is an element or a range, and says how many bytes after `b` it takes.
+/// Pushes the range of an item that is an element or a range, and returns how many bytes after `b` belong to it.
 fn push_plain(b: u8, rest: &[u8], tokens: &mut Vec<Token>) -> Result<Option<usize>, AllocError>
     ensures is { IfOk result (λ r. Pushes range_tokens (plain_item b rest.now) tokens.old.items tokens.new.items r) }
     ensures within { IfOk result (λ r. IfSome r (λ k. k ≤ length rest.now)) }
@@ -142,7 +142,7 @@ fn first_close(bytes: &[u8]) -> usize
     }
 }
 
-/// Pushes the ranges of an item that begins with `[:`, and says how many bytes after the `[` it takes.
+/// Pushes the ranges of an item that begins with `[:`, and returns how many bytes after the `[` belong to it.
 fn push_colon(
     after_bracket: &[u8],
     after_colon: &[u8],

@@ -97,7 +97,7 @@ impl<'a> Candidate<'a> {
         self.whole
     }
 
-    /// Returns whether the path is these bytes. It makes a byte test for each of them, where the path has as many.
+    /// Returns whether the path is these bytes. If the path has as many bytes, it makes a byte test for each.
     #[inline]
     pub(crate) fn is(&self, bytes: &[u8], tests: &mut ByteTests) -> bool
         ensures same { result ≡ bytes_eq self.now bytes.now }

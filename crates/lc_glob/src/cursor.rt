@@ -37,7 +37,7 @@ pub(crate) enum FrontStep<'p, 'n, E> {
 }
 
 impl<'p, 'n, E: Element> Cursor<'p, 'n, E> {
-    /// Goes back to these tokens, with one byte more for the star before them, where there is one.
+    /// Goes back to these tokens, with one more byte for the star before them, if there is one.
     pub(crate) fn retry(self) -> Option<Self>
         ensures { RetryIs self.entry result }
     {

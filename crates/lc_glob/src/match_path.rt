@@ -133,7 +133,7 @@ impl<'p, 'n> PathCursor<'p, 'n> {
         }
     }
 
-    /// Goes back to these segments, with one more of the path's for the double star before them, where there is one.
+    /// Goes back to these segments, with one more of the path's for the double star before them, if there is one.
     fn retry(self) -> Option<Self>
         ensures { PathRetryIs self.entry result }
     {

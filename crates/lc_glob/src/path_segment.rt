@@ -105,7 +105,7 @@ impl<'a> PathSegment<'a> {
         }
     }
 
-    /// Returns whether the segment is these literals. It makes a byte test for each, where there are as many.
+    /// Returns whether the segment is these literals. If it has as many bytes, it makes a byte test for each.
     #[inline]
     pub(crate) fn is(self, literals: &[u8], tests: &mut ByteTests) -> bool
         ensures same { result ≡ bytes_eq self.entry.bytes.now literals.now }
@@ -125,7 +125,7 @@ impl<'a> PathSegment<'a> {
         self.bytes == literals
     }
 
-    /// Returns whether the segment ends with these literals. It makes a byte test for each, where there are enough.
+    /// Returns whether the segment ends with these literals. If it has enough bytes, it makes a byte test for each.
     #[inline]
     pub(crate) fn ends_with(self, literals: &[u8], tests: &mut ByteTests) -> bool
         ensures ends { result ≡ ends_with nat_eq self.entry.bytes.now literals.now }

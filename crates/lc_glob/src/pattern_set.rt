@@ -26,7 +26,7 @@ pub(crate) enum PatternForm {
 #[derive(Clone, Copy)]
 pub(crate) struct PatternSpan {
     form: PatternForm,
-    /// Where its bytes or tokens begin.
+    /// The index at which its bytes or tokens begin.
     start: u32,
     /// How many it has.
     len: u32,

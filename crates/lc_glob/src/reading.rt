@@ -150,7 +150,7 @@ fn of_literals(is_dir_only: bool, kind: SimpleKind, literals: SmallVec<u8, 16>) 
     }
 }
 
-/// Returns the literals, where the tokens are literals alone.
+/// Returns the literals, if the tokens are literals alone.
 fn literals_of(alloc: Global, tokens: &[Token]) -> Result<Option<SmallVec<u8, 16>>, AllocError>
     ensures { IfOk result (λ r. IfSome r (λ literals. tokens.now ≡ literal_tokens literals.items)) }
 {

@@ -52,8 +52,7 @@ pub(crate) struct SimpleForm {
     pub(crate) kind: SimpleKind,
 }
 
-/// A simple pattern: its form, and those of its bytes that are kept, without the separators at its ends and, where it is a suffix,
-/// without the star.
+/// A simple pattern: its form, and the bytes that it is matched from. These have no separators at the ends, and those of a suffix no star.
 #[derive(Clone, Copy)]
 pub(crate) struct SimplePattern<'p> {
     pub(crate) form: SimpleForm,

@@ -13,7 +13,7 @@ pub trait Source {
     // A read of this reader, into a buffer of this length, may give this answer and leave this reader.
     ghost may_give: { Self → ℕ → Answer → Self → Type 0 };
 
-    /// Puts the next bytes at the front of the buffer, and says how many there are.
+    /// Reads the next bytes to the front of the buffer, and returns how many there are.
     ///
     /// No byte into a buffer that is not empty means that the reader is at its end. After a failure nothing is known
     /// of the buffer's bytes.

@@ -62,7 +62,7 @@ fn child_job(alloc: Global, job: &Job, path: &[u8]) -> Result<Job, OpenFault>
 }
 
 impl<T: Tree> LevelReader<'_, T> {
-    /// Adds a skipped entry, where these are kept.
+    /// Adds a skipped entry, if these are kept.
     fn leave_out(
         &self,
         name: Vec<u8>,

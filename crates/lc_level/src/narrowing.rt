@@ -82,7 +82,7 @@ fn is_led_to(entries: &[Entry], rest: &[u8]) -> bool
     }
 }
 
-/// Adds the fault of a path that is seen from a directory, where no entry leads to it.
+/// Adds the error of a path to which no entry of the directory leads. The path is relative to the directory.
 fn add_unled(
     alloc: Global,
     rest: &[u8],

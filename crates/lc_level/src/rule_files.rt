@@ -40,7 +40,7 @@ impl IgnoreRead {
 }
 
 impl<T: Tree> LevelReader<'_, T> {
-    /// Returns the bytes that were read, where texts are kept.
+    /// Returns the bytes that were read, if texts are kept.
     fn text_of(&self, bytes: &[u8]) -> Result<Option<Vec<u8>>, AllocError>
         ensures { IfOk result (λ text. text_items text ≡ text_if self.now.options.texts (Some bytes.now)) }
     {

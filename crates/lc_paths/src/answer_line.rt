@@ -49,7 +49,7 @@ fn push_pattern(
     }
 }
 
-/// Appends a line of an answer: a word, where its cause is, the pattern that is the cause, and a path.
+/// Appends a line of an answer: a word, the place of its cause, the pattern that is the cause, and a path.
 pub(crate) fn push_answer(
     text: &mut Vec<u8>,
     style: PathStyle,

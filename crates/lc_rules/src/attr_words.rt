@@ -90,7 +90,7 @@ fn has_name_bytes(name: &[u8]) -> bool
     name.iter().all(|b| is_name_byte(*b))
 }
 
-/// Returns an assignment, where its name is one.
+/// Returns an assignment, if the name is an attribute's name.
 fn named<'a>(name: &'a [u8], state: State<'a>) -> Option<Assignment<'a>>
     ensures { seen_assign result ≡ named name.now (state_model state.entry) }
 {

@@ -32,7 +32,7 @@ pub struct DirectoriesAbove<'a> {
     file: &'a IgnoreFile,
     path: &'a [u8],
     is_dir: bool,
-    /// Where in the path each directory ends, the highest first.
+    /// The index in the path at which each directory ends, the highest first.
     ends: [usize; MAX_DEPTH],
     /// The rule that was found for each.
     found: [Option<&'a Rule>; MAX_DEPTH],
@@ -40,7 +40,7 @@ pub struct DirectoriesAbove<'a> {
     count: usize,
     /// Whether the path was matched together with them.
     is_whole: bool,
-    /// The rule that was found for the path, where it is known.
+    /// The rule that was found for the path, if it is known.
     own: Option<Option<&'a Rule>>,
     ghost within: { count ≤ 256 },
     ghost decided: { (k : ℕ) → k < count → option_map (λ r. (Gitignore 0, r.now)) (slice_index_or found k None)
@@ -191,7 +191,7 @@ fn newest_match<'a>(found: Option<&'a Rule>, rule: &'a Rule, is_matched: bool) -
     Some(rule)
 }
 
-/// Fills in a rule for the directories that it matches, where no newer rule was found.
+/// Fills in a rule for the directories that it matches and for which no newer rule was found.
 fn fill_undecided<'a>(rule: &'a Rule, flags: &[bool], found: &mut [Option<&'a Rule>])
     requires { length flags.now ≤ length found.old }
     ensures len { length found.new ≡ length found.old }
@@ -206,7 +206,8 @@ fn fill_undecided<'a>(rule: &'a Rule, flags: &[bool], found: &mut [Option<&'a Ru
     }
 }
 
-/// Returns the number of directories down to the highest that is ignored, or of all, where a rule was found of each of these.
+/// Returns the number of directories down to the highest ignored one, if a rule was found for each of these; or of all, if a rule was found
+/// for all.
 fn told_count(found: &[Option<&Rule>]) -> Option<usize>
     ensures { IfSome result (λ count. AreFound found.now count) }
 {

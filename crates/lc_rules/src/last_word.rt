@@ -25,7 +25,7 @@ fn trimmed_end<'a>(bytes: &'a [u8]) -> &'a [u8]
     rest
 }
 
-/// Where the last word begins, in bytes that end with it.
+/// Returns the index at which the last word begins, in bytes that end with it.
 fn last_word_start(bytes: &[u8]) -> usize
     ensures within { result ≤ length bytes.now }
     ensures is { IsLastWordAt result bytes.now }

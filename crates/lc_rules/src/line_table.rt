@@ -19,12 +19,12 @@ use std::marker::Model;
 
 /// Lines in order, and the names that they assign, so that a file that can't decide an attribute is skipped whole.
 ///
-/// Of a line no more is kept than its pattern and where it begins in the text, so many lines of a few bytes take a few
-/// bytes each. The assignments of a line are read from the text when they are needed.
+/// A line is stored as its pattern and the index in the text at which it begins, so a line of a few bytes takes a few bytes more. Its
+/// assignments are read from the text when they are needed.
 #[derive(Drop)]
 pub(crate) struct LineTable {
     text: Vec<u8>,
-    /// Where each line begins in the text.
+    /// The index in the text at which each line begins.
     starts: Vec<u32>,
     patterns: PatternSet,
     names: BTreeSet<Vec<u8>>,

@@ -50,7 +50,7 @@ pub enum Column {
     Kind,
     /// Why an entry is skipped.
     Reason,
-    /// Where the rule is that skips an entry, or the attribute that does.
+    /// The place of the rule that skips an entry, or the attribute that does.
     Place,
     /// The path of a skipped entry, with a slash if it is a directory.
     Entry,

@@ -3,7 +3,7 @@
 use crate::column::{Column, Number};
 use crate::table_options::Columns;
 
-/// The number whose shares lines show.
+/// The number whose shares lines show, with its total and its largest value.
 #[derive(Debug, Clone, Copy, PartialEq, Eq)]
 pub struct Shares {
     /// The number.

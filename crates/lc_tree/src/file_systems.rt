@@ -17,7 +17,7 @@ pub enum FileSystems {
     One,
 }
 
-/// Where a tree of the system ends.
+/// The bounds of a tree of the system.
 #[derive(Clone, Copy, Debug)]
 pub(crate) enum Bounds {
     /// It enters all directories.

@@ -29,8 +29,8 @@ pub(crate) trait Look {
         ensures { may_answer self.now path.now result };
 }
 
-/// The looks of the system itself, tried again where a signal interrupts them. What they answer is not known: std's contract of
-/// `symlink_metadata` says nothing of it.
+/// The looks of the system itself, which are tried again if a signal interrupts them. Their answers are unknown: std's contract of
+/// `symlink_metadata` says nothing of them.
 #[derive(Drop)]
 pub(crate) struct SysLook<'a, R> {
     pub(crate) files: &'a R,

@@ -11,7 +11,7 @@ use std::mem;
 pub enum Cell<J, R> {
     /// Open, with its job.
     Waiting(J),
-    /// Claimed by this worker, which has posted so many under it.
+    /// Claimed by this worker, which has posted this many numbers under it.
     Held { worker: u32, posts: u32 },
     /// Ended, by this row.
     Done(Ended<R>),

@@ -93,7 +93,7 @@ impl<J: Drop + Send, R: Drop + Send> Shared<J, R> for Words<J, R> {
         }
     }
 
-    /// Ends a claim as `Words::give` does.
+    /// Ends a claim like `Words::give`.
     fn give<W: Wait>(&self, _rt: &W, pass: &mut WordsPass<J, R>, row: R)
         requires pass { Owns self.now pass.old }
         requires holds { holding (told pass.old) ≢ None }

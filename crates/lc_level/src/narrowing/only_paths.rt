@@ -66,7 +66,7 @@ fn first_past(paths: &[&[u8]], directory: &[u8]) -> usize
     paths.partition_point(|path| comes_before(path, directory))
 }
 
-/// Returns the sorted paths below a directory, seen from it, where none of the paths comes before these.
+/// Returns the paths under a directory, relative to it. The paths are sorted, and none comes before those under the directory.
 fn seen_from<'o>(
     alloc: Global,
     directory: &[u8],
@@ -114,7 +114,7 @@ impl<'o> OnlyPaths<'o> {
         self.asked.is_empty() || is_within(sorted, directory)
     }
 
-    /// Returns the paths below a directory, seen from it. Where there are none, this costs no memory.
+    /// Returns the paths under a directory, relative to it. If there are none, nothing is allocated.
     fn rests(&self, alloc: Global, directory: &[u8]) -> Result<Vec<&'o [u8]>, AllocError>
         ensures { IfOk result (λ seen. map (λ rest. rest.now) seen.items ≡ rests self.now directory.now) }
     {

@@ -14,10 +14,10 @@ use lc_rules::{DirectoriesAbove, IgnoreFile, Rule, Verdict};
 use lc_text::is_bad_path;
 use memchr::memchr;
 
-/// Up to so many names of which nothing is known, directories are matched one by one even if a pattern has nested wildcards.
+/// The number of unknown names up to which directories are matched one by one, even if a pattern has nested wildcards.
 const FEW_NAMES: usize = 2;
 
-/// Up to so many where no pattern has: past it, most rules match all directories together sooner than one after another.
+/// The same number if no pattern has nested wildcards. Past it, most rules match all directories together sooner than one after another.
 const SOME_NAMES: usize = 8;
 
 /// Returns the number of bytes that two paths share at their front.
@@ -99,7 +99,7 @@ pub(crate) struct Checker<'a> {
     rules: &'a IgnoreFile,
     directory: &'a [u8],
     excluded_by: Option<&'a Rule>,
-    /// Up to so many unknown names the directories are matched one by one.
+    /// The number of unknown names up to which directories are matched one by one.
     few_names: usize,
     // no directory above this one is ignored, and the rule is the one that ignores this one
     ghost clear: { (k : ℕ) → k < length directory.now → is_ignored_parent (file_verdict rules.now) directory.now k ≡ false },

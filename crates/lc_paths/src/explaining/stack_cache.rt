@@ -156,7 +156,7 @@ impl StackCache {
         Ok(at)
     }
 
-    /// Drops every stack but those of the directories above the last one of `stack`, and raises the limit by what they hold.
+    /// Drops every stack but those of the directories above the last one of `stack`, and raises the limit by the size of these.
     fn drop_beside(&mut self, stack: &DirStack) -> Result<(), AllocError>
         ensures { OnOk result (AreFirstOf self.new stack.now) }
     {
