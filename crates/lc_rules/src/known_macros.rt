@@ -57,7 +57,7 @@ fn find_in<'a>(table: Option<&'a MacroTable>, name: &[u8]) -> Option<&'a [u8]>
     }
 }
 
-/// Returns the macros of a table that may be there.
+/// Returns the macros of a table, or none if there is no table.
 pub(crate) fn macros_in<'a>(table: Option<&'a MacroTable>) -> &'a [Macro]
     ensures { map macro_model result.now ≡ defined_in table.entry }
 {
