@@ -127,7 +127,7 @@ impl<J: Drop, R: Drop> Plain<J, R> {
         self.end(worker, Ended::Faulted(row));
     }
 
-    /// Ends the claim of the worker. It takes no memory.
+    /// Ends the claim of the worker. It allocates nothing.
     pub(crate) fn end(&mut self, worker: u32, ended: Ended<R>)
         requires worker { worker < workers_of self.old }
         requires holds { held_by self.old worker ≢ None }

@@ -12,7 +12,7 @@ use std::sync::Wait;
 
 /// The pass of one worker.
 pub trait Token<J, R> {
-    /// What contracts see of a pass: its worker, its events, and whether it was refused.
+    /// What contracts see of a pass: its worker, its events, and whether the board was full or memory ran out.
     ghost view: { Self → Pass J R };
 
     /// Returns the worker's number, from 0.
@@ -85,7 +85,7 @@ pub trait Shared<J, R>: Sized + Sync + Drop {
         ensures pass { owns self.now pass.new }
         ensures mine { Self.Pass.view pass.new ≡ after_give (Self.Pass.view pass.old) row };
 
-    /// Ends the claim of the pass, under which nothing was posted, by the row of a fault.
+    /// Ends the claim of the pass by the row of an error. Nothing was posted under the claim.
     fn fault<W: Wait>(&self, rt: &W, pass: &mut Self::Pass, row: R)
         requires pass { owns self.now pass.old }
         requires holds { holding (Self.Pass.view pass.old) ≢ None }

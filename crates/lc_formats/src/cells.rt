@@ -59,7 +59,7 @@ impl<'a> Cell<'a> {
         }
     }
 
-    /// Makes the cell of what a line has in a column.
+    /// Makes the cell of a line in a column.
     pub(crate) fn of<L: Lines>(line: &'a L::Line, form: Form, column: Column) -> Cell<'a>
         ensures { cell_model result ≡ cell_of column (L.value_in form line.entry.now column) }
     {
@@ -69,7 +69,7 @@ impl<'a> Cell<'a> {
         }
     }
 
-    /// Returns how wide its column must be for it.
+    /// Returns how wide the column must be for the cell.
     pub(crate) fn width(&self, made: &mut String) -> Result<usize, AllocError>
         ensures { IfOk result (λ width. width ≡ width_at (cell_model self.now).side (cell_model self.now).text) }
     {
@@ -79,7 +79,7 @@ impl<'a> Cell<'a> {
         }
     }
 
-    /// Returns whether it shows something: it has a text, or is the end of its line.
+    /// Returns whether the cell shows something: it has a text, or is the end of its line.
     pub(crate) fn is_shown(&self, made: &mut String) -> Result<bool, AllocError>
         ensures { IfOk result (λ shown. shown ≡ is_shown (cell_model self.now).side (cell_model self.now).text) }
     {
@@ -92,7 +92,7 @@ impl<'a> Cell<'a> {
         }
     }
 
-    /// Appends it as it is shown in a column of this width before other cells. No blanks follow the last cell of a line.
+    /// Appends the cell, as it is shown in a column of this width before other cells. No blanks follow the last cell of a line.
     pub(crate) fn push_before(
         &self,
         others: &[Cell<'_>],
@@ -130,7 +130,7 @@ fn push_headings(cells: &mut Vec<Cell<'_>>, columns: &[Column]) -> Result<(), Al
     Ok(())
 }
 
-/// Sets the cells to those of the headings of columns.
+/// Sets the cells to the headings of columns.
 pub(crate) fn set_headings(cells: &mut Vec<Cell<'_>>, columns: &[Column]) -> Result<(), AllocError>
     ensures { OnOk result (cells_of cells.new.items ≡ heading_cells columns.now) }
 {
@@ -138,7 +138,7 @@ pub(crate) fn set_headings(cells: &mut Vec<Cell<'_>>, columns: &[Column]) -> Res
     push_headings(cells, columns)
 }
 
-/// Appends the cell of what a line has in a column.
+/// Appends the cell of a line in a column.
 fn push_cell<'l, L: Lines>(
     cells: &mut Vec<Cell<'l>>,
     line: &'l L::Line,
@@ -169,7 +169,7 @@ fn push_cells<'l, L: Lines>(
     Ok(())
 }
 
-/// Sets the cells to those of what a line has in each column.
+/// Sets the cells to the values of a line in each column.
 pub(crate) fn set_cells<'l, L: Lines>(
     cells: &mut Vec<Cell<'l>>,
     line: &'l L::Line,

@@ -11,14 +11,14 @@ use crate::segments_left::SegmentsLeft;
 use crate::simple_pattern::{OtherKind, SimpleKind};
 use std::marker::Model;
 
-/// A pattern, by what of a path it is matched with.
+/// A pattern, by the part of a path that it is matched with.
 #[derive(Drop)]
 pub(crate) struct PatternView<'p> {
     pub(crate) is_dir_only: bool,
     pub(crate) kind: KindRef<'p>,
 }
 
-/// What of a path a pattern is matched with.
+/// The part of a path that a pattern is matched with.
 #[derive(Clone, Copy)]
 pub(crate) enum KindRef<'p> {
     /// Nothing, since the pattern is dead.

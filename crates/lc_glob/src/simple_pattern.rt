@@ -60,8 +60,8 @@ pub(crate) struct SimplePattern<'p> {
 }
 
 impl<'p> SimplePattern<'p> {
-    /// Reads bytes as a simple pattern, perhaps a dead one. It gives `None` where a byte is quoted or opens a bracket, and takes no
-    /// memory.
+    /// Reads bytes as a simple pattern, perhaps a dead one. It returns `None` if a byte is quoted or opens a bracket, and allocates
+    /// nothing.
     pub(crate) fn read(bytes: &'p [u8]) -> Option<Self>
         ensures { MatchOption result (list_all is_simple bytes.now ≡ false) (λ p. form_model p.form p.bytes.now ≡ pattern_of bytes.now) }
     {
@@ -133,7 +133,7 @@ impl<'p> SimplePattern<'p> {
         }
     }
 
-    /// Returns whether the pattern matches a path that is a directory where it must be one.
+    /// Returns whether the pattern matches a path. If the pattern is for directories, the path must be that of one.
     #[inline(never)]
     fn matched_by(self, other: OtherKind, path: &Candidate, tests: &mut ByteTests) -> bool
         ensures meaning { IsTrue result ↔ Matches (simple_model false (Other other) self.entry.bytes.now) path.now false }

@@ -22,7 +22,7 @@ pub trait Source {
         ensures given { may_give self.old (length buffer.old) (answer_of result buffer.new) self.new };
 }
 
-/// A slice gives its bytes from the first on, as many a read as the buffer holds. It never fails and takes no memory.
+/// A slice returns its bytes from the first on, as many a read as the buffer holds. It never fails and allocates nothing.
 impl Source for &[u8] {
     ghost may_give = { λ old room answer new. (answer ≡ gave (take room old.now)) × (new.now ≡ drop room old.now) };
 

@@ -10,7 +10,7 @@ use lc_tree::ReadFault;
 pub enum FaultWord {
     /// A listing, an open or a read failed.
     Read,
-    /// A listing has a bad name, or one that the system can't give as text.
+    /// A listing has a bad name, or one that is not UTF-8.
     Name,
     /// A listing has a name twice.
     Twice,

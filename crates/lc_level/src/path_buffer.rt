@@ -8,7 +8,7 @@ use lc_glob::path::{is_too_long, push_name};
 use std::alloc::{AllocError, Global};
 use std::marker::Model;
 
-/// The path of a directory, followed by the name of one entry at a time, so that a path costs no memory of its own.
+/// The path of a directory, followed by the name of one entry at a time, so that a path needs no allocation of its own.
 #[derive(Debug, Drop)]
 pub(crate) struct PathBuffer {
     bytes: Vec<u8>,

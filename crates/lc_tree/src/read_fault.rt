@@ -6,10 +6,10 @@ use thiserror::Error;
 /// Why a directory was not listed, or a file not opened. For a file the error is `Failed` or `Memory`.
 #[derive(Clone, Copy, Debug, Drop, PartialEq, Eq, Error)]
 pub enum ReadFault {
-    /// The system did not give it, or nothing of this kind is there.
+    /// The system reported an error, or nothing of this kind is there.
     #[error("cannot be read")]
     Failed,
-    /// A name of the directory can't be given as text.
+    /// A name of the directory is not UTF-8.
     #[error("a name is no text")]
     Unnamed,
     /// A name is empty, `.` or `..`, or has a slash or a NUL byte.

@@ -15,7 +15,7 @@ use std::rt::Files;
 /// The length of the buffer of one read of a directory, which has room for the names of a few hundred entries.
 const NAMES_LEN: usize = 8_192;
 
-/// Opens the directory at a path of the system. Its reads give the names in it, each with a NUL byte after it.
+/// Opens the directory at a path of the system. Its reads return the names in it, each with a NUL byte after it.
 pub(crate) fn open_dir<R: Files>(files: &R, path: &str) -> Result<StdSource<R::Dir>, ReadFault>
     ensures { MatchResult result (λ _. Unit {0}) IsFaultOfOpening }
 {

@@ -52,8 +52,8 @@ impl<'a, R> Model for SysTree<'a, R> {
 }
 
 impl<'a, R: Files> SysTree<'a, R> {
-    /// Makes the tree of the directory at a path, or of the one that a symbolic link there leads to. It calls no system call: if no
-    /// directory is there, the tree's top can't be listed.
+    /// Makes the tree of the directory at a path, or of the one that a symbolic link there leads to. It lists nothing yet: if no directory
+    /// is there, the tree's top can't be listed. To stay on one file system, it reads which one the top is on.
     ///
     /// ```
     /// let tree = SysTree::new(&rt, rt.alloc(), "src", FileSystems::All)?;

@@ -43,10 +43,10 @@ pub trait Tree: Sync {
         Ok(None)
     }
 
-    /// Looks at those names in the directory at a path, one after another up to the first fault. Returns the entries of those that are
-    /// still there, in the order of the names.
+    /// Reads the metadata of those names in the directory at a path, one after another up to the first error. Returns the entries of those
+    /// that are still there, in the order of the names.
     ///
-    /// By default, in a tree that gives no names, it answers `ReadFault::Memory`.
+    /// The default, for a tree that gives no names, is `ReadFault::Memory`.
     fn look(
         &self,
         _alloc: Global,

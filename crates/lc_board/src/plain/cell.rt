@@ -18,7 +18,7 @@ pub enum Cell<J, R> {
 }
 
 impl<J: Drop, R: Drop> Cell<J, R> {
-    /// Claims an open number, and gives its job.
+    /// Claims an open number, and returns its job.
     pub(crate) fn take_job(&mut self, worker: u32) -> J
         requires { IsOpen (Some self.old) }
         ensures here { self.old ≡ Waiting result }

@@ -29,7 +29,7 @@ impl<J, R> Words<J, R> {
         true
     }
 
-    /// Draws the number at the front of the pass, and opens it with the job. Or else gives that back.
+    /// Draws the number at the front of the pass, and opens it with the job. If another worker draws it first, the job is returned.
     fn draw_and_open(&self, pass: &mut WordsPass<J, R>, job: J) -> Result<u32, J>
         requires board { IsPassOf self.now pass.old }
         requires holds { IsSome pass.old.holding }

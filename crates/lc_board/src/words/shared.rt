@@ -104,7 +104,7 @@ impl<J: Drop + Send, R: Drop + Send> Shared<J, R> for Words<J, R> {
         Words::give(self, pass, row);
     }
 
-    /// Ends a claim as `Words::fault` does.
+    /// Ends a claim like `Words::fault`.
     fn fault<W: Wait>(&self, _rt: &W, pass: &mut WordsPass<J, R>, row: R)
         requires pass { Owns self.now pass.old }
         requires holds { holding (told pass.old) ≢ None }

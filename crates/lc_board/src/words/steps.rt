@@ -36,7 +36,7 @@ fn next_taken(number: u32, taken: u32, found: Word) -> u32
 }
 
 impl<J, R> Words<J, R> {
-    /// Looks at a word, and gives it.
+    /// Reads the word of a number, and returns it.
     pub(crate) fn look(&self, pass: &mut WordsPass<J, R>, number: u32) -> Word
         requires board { IsPassOf self.now pass.old }
         requires near { number < self.now.capacity }
@@ -50,7 +50,7 @@ impl<J, R> Words<J, R> {
         found
     }
 
-    /// Tries to claim an open number, and takes its job. Or else gives the word as it was found.
+    /// Tries to claim an open number. It returns the number's job, or the word that it found instead.
     pub(crate) fn try_claim(&self, pass: &mut WordsPass<J, R>, number: u32) -> Result<J, Word>
         requires board { IsPassOf self.now pass.old }
         requires free { pass.old.holding ≡ None }
