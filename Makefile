@@ -1,7 +1,7 @@
 # lc: see README.md. `make run` shows it at work, `make test` proves and tests everything.
 
 PREFIX ?= /usr/local
-# the oldest processor that lc is to run on, such as x86-64-v3: that of the last build, and at first x86-64-v2
+# the oldest processor that lc is to run on, such as x86-64-v3; without it that of the last build, and at first x86-64-v2
 CPU ?= $(or $(shell cat crates/lc/out/cpu 2> /dev/null),x86-64-v2)
 SHELL := /bin/bash
 
@@ -12,7 +12,7 @@ lc: $(shell find crates -name out -prune -o -type f -print 2>/dev/null) crates.t
 	@tools/build $(CPU)
 	@echo "make: ./lc is ready; it may be copied anywhere"
 
-# changes where lc is asked for another processor than it was built for
+# changes if CPU is another processor than that of the last build
 crates/lc/out/cpu: FORCE
 	@mkdir -p $(@D)
 	@[ "$$(cat $@ 2> /dev/null)" = $(CPU) ] || echo $(CPU) > $@
@@ -36,6 +36,7 @@ test-memory: rt
 test-program: lc
 	tools/cases
 	tools/definitions
+	tools/proved
 	tools/options
 	tools/edits
 	tools/examples
@@ -56,7 +57,7 @@ test-faults: lc
 test-fuzz: lc
 	tools/test-fuzz
 
-# the edits that must fail which the gate leaves out (not part of the gate); tools/test-edits NAME tries those of one crate
+# the mutants that the gate does not try (not part of the gate); tools/test-edits NAME tries those of one crate
 test-edits: rt
 	tools/test-edits
 

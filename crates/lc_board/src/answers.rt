@@ -1,8 +1,8 @@
-//! What the calls of a board answer.
+//! The answers of a board's calls.
 ghost use Rattle.std.specs.Prelude.{◌≡◌};
 ghost use Rattle.lc_board.specs.Ending.{row_in};
 
-/// What a claim answers.
+/// The answer of a claim.
 #[derive(PartialEq, Eq, Debug, Drop)]
 pub enum Claim<J> {
     /// The number that was claimed, with its job.
@@ -15,7 +15,7 @@ pub enum Claim<J> {
     Memory,
 }
 
-/// Why a job was not posted. The fault has the job.
+/// Why a job was not posted. The error returns the job.
 #[derive(PartialEq, Eq, Debug, Drop)]
 pub enum PostFault<J> {
     /// All numbers of the board are used.
@@ -53,7 +53,7 @@ impl<R> Ended<R> {
     }
 }
 
-/// What a closed board leaves: the row of each number, at its place.
+/// The rows of a closed board, each at the place of its number.
 #[derive(PartialEq, Eq, Debug, Drop)]
 pub struct Closed<R> {
     pub rows: Vec<Ended<R>>,

@@ -1,4 +1,4 @@
-//! What a worker does on a board.
+//! The events of a board: what workers do.
 
 /// One event of a board, with the job or the row that it moves.
 #[derive(PartialEq, Eq, Debug, Drop)]

@@ -1,11 +1,12 @@
-//! The board that workers share: numbered directories, each open, claimed by a worker, or ended by a row.
+//! The board that workers share: a number for each directory, which is open, claimed by a worker, or ended by a row.
 //!
-//! Number 0 is the root's. Who has claimed a number may post further ones under it, each with a job, and ends the claim by a row. A
-//! board is over once no number is open or claimed, and then gives the row of each number.
+//! The root has number 0. A worker that has claimed a number may post further numbers under it, each with a job, and ends the claim by a
+//! row. A board is over once no number is open or claimed. Closing it returns the row of each number.
 //!
-//! - `shared`: the trait of boards that threads share; `event`, `answers`: what its calls do and answer; `limits`: how large a board may be
+//! - `shared`: the trait of boards that threads share; `event`, `answers`: the events and the answers of its calls; `limits`: the limits of
+//!   a board
 //! - `words`: the board of the program, which has a word of a table for each number
-//! - `locked`: a board with a lock, with which tests compare `words`; `plain`: the board of one thread under that lock
+//! - `locked`: a board with a lock, which tests compare with `words`; `plain`: the board of one thread under that lock
 //! - `laws`: what legal histories have in common
 #![tactic(auto)]
 

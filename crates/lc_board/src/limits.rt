@@ -1,7 +1,7 @@
-//! How large a board may be.
+//! The limits of a board.
 
-/// The most numbers that a board may have.
+/// The greatest number of numbers of a board.
 pub const MAX_CAPACITY: u32 = 1_048_576;
 
-/// The most workers that may share a board.
+/// The greatest number of workers that share a board.
 pub const MAX_WORKERS: u32 = 16;

@@ -1,7 +1,6 @@
 //! The board that workers share under one lock.
 //!
-//! A lock tells nothing of its value but what its type keeps, so that the board under it agrees with the passes is compared when the
-//! board is closed.
+//! A lock promises of its value only what the value's type states. So closing the board compares its history with the passes.
 ghost use Rattle.std.specs.Prelude.{◌≡◌, ◌≢◌, ℕ, ◌≤◌, Some, IfOk, IfErr, map, slice_get, vec_len};
 ghost use Rattle.lc_board.specs.{ClosedBoard.{Settled, RefusesClose}, LockedBoard.told, RecordedCalls.locked_promises};
 ghost use Rattle.lc_board.specs.Limits.{capacity_limit, workers_limit};
@@ -19,7 +18,7 @@ mod recorded;
 use pass::LockedPass;
 use recorded::Recorded;
 
-/// A board under one lock. It doesn't promise that the rows that it gives back are in place.
+/// A board under one lock. It doesn't promise that the rows that it returns are in place.
 #[derive(Drop)]
 pub struct Locked<J, R> {
     alloc: Global,

@@ -1,4 +1,4 @@
-//! The board of one thread. A call names the worker for whom it acts.
+//! The board of one thread. Each call names the worker for which it acts.
 ghost use Rattle.std.specs.Prelude.{◌≡◌, ◌≢◌, ℕ, ◌<◌, ◌≤◌, ◌^◌, [], None, map, slice_set, true, false, IfOk, IfErr, IfSome, IfNone};
 ghost use Rattle.std.specs.Prelude.{MatchBool};
 ghost use Rattle.lc_board.specs.{Ending.{MayEnd, end_event}, LegalHistory.IsOver, RowsInPlace.InPlace};
@@ -41,7 +41,7 @@ impl<J, R> Model for Plain<J, R> {
 }
 
 impl<J: Drop, R: Drop> Plain<J, R> {
-    /// A board on which number 0 is open with the job of the root. If an allocation fails, the root is dropped.
+    /// Makes a board on which number 0 is open with the job of the root. If an allocation fails, the root is dropped.
     pub fn start(
         alloc: Global,
         capacity: u32,
@@ -66,7 +66,7 @@ impl<J: Drop, R: Drop> Plain<J, R> {
         })
     }
 
-    /// Claims the least open number for a worker that has claimed none. It takes no memory, and never answers Memory.
+    /// Claims the least open number for a worker that has claimed none. It allocates nothing and never answers Memory.
     pub fn claim(&mut self, worker: u32) -> Claim<J>
         requires worker { worker < workers_of self.old }
         requires free { held_by self.old worker ≡ None }
@@ -106,7 +106,7 @@ impl<J: Drop, R: Drop> Plain<J, R> {
         Ok(number as u32)
     }
 
-    /// Ends the claim of the worker by a row. It takes no memory.
+    /// Ends the claim of the worker by a row. It allocates nothing.
     pub fn give(&mut self, worker: u32, row: R)
         requires worker { worker < workers_of self.old }
         requires holds { held_by self.old worker ≢ None }
@@ -116,7 +116,7 @@ impl<J: Drop, R: Drop> Plain<J, R> {
         self.end(worker, Ended::Returned(row));
     }
 
-    /// Ends the claim of the worker, which has posted nothing under it, by the row of a fault. It takes no memory.
+    /// Ends the claim of the worker by the row of an error. The worker has posted nothing under it. It allocates nothing.
     pub fn fault(&mut self, worker: u32, row: R)
         requires worker { worker < workers_of self.old }
         requires holds { held_by self.old worker ≢ None }
@@ -127,7 +127,7 @@ impl<J: Drop, R: Drop> Plain<J, R> {
         self.end(worker, Ended::Faulted(row));
     }
 
-    /// Ends the claim of the worker. It takes no memory.
+    /// Ends the claim of the worker. It allocates nothing.
     pub(crate) fn end(&mut self, worker: u32, ended: Ended<R>)
         requires worker { worker < workers_of self.old }
         requires holds { held_by self.old worker ≢ None }
@@ -142,7 +142,7 @@ impl<J: Drop, R: Drop> Plain<J, R> {
         self.held[worker as usize] = None;
     }
 
-    /// No number is open or claimed.
+    /// Returns whether no number is open or claimed.
     pub fn is_over(&self) -> bool
         ensures over { result ≡ true → NoneOpen self.now × NoneHeld self.now }
         ensures left { result ≡ false → (k : ℕ) × IsLeft (cell_at self.now k) }
@@ -153,7 +153,7 @@ impl<J: Drop, R: Drop> Plain<J, R> {
         !is_any_held(&self.held)
     }
 
-    /// The row of each number. Where it is refused the rows are dropped.
+    /// Returns the row of each number. On an error the rows are dropped.
     pub fn into_rows(self, alloc: Global) -> Result<Closed<R>, CloseFault>
         ensures rows { IfOk result (λ c. map cell_of c.rows.items ≡ self.cells) }
         ensures placed { IfOk result (λ c. (root : J) (h : _) → IsAfter root h self → IsOver h × InPlace root h c.rows.items) }
@@ -189,7 +189,7 @@ impl<J: Drop, R: Drop> Plain<J, R> {
         self.capacity
     }
 
-    /// The number that a worker has claimed.
+    /// Returns the number that a worker has claimed.
     pub(crate) fn held_by(&self, worker: u32) -> Option<u32>
         requires { worker < workers_of self.now }
         ensures { result ≡ held_by self.now worker }
@@ -197,7 +197,7 @@ impl<J: Drop, R: Drop> Plain<J, R> {
         self.held[worker as usize]
     }
 
-    /// The posts under the claim of a worker.
+    /// Returns the posts under the claim of a worker.
     pub(crate) fn posts_by(&self, worker: u32) -> u32
         requires worker { worker < workers_of self.now }
         requires holds { held_by self.now worker ≢ None }
@@ -209,7 +209,7 @@ impl<J: Drop, R: Drop> Plain<J, R> {
         self.cells[number as usize].posts()
     }
 
-    /// The least number that has not ended.
+    /// Returns the least number that has not ended.
     pub(crate) fn first_left(&self) -> Option<u32>
         ensures some { IfSome result (IsLeftLeast self.now) }
         ensures none { IfNone result (NoneLeft self.now) }

@@ -1,7 +1,7 @@
-//! What a board has to be for workers on threads.
+//! The trait of boards that threads share.
 //!
-//! Each worker has a pass, by which it claims a number, posts further jobs under that claim, and ends it by a row. The calls of all
-//! workers stand in one legal history, of which each pass has its worker's part; `close` says so of all passes at once.
+//! Each worker has a pass. With it the worker claims a number, posts further jobs under that claim, and ends it by a row. The calls of all
+//! workers form one legal history, and each pass has the events of its worker. The clauses of `close` state this for all passes together.
 ghost use Rattle.std.specs.Prelude.{◌≡◌, ◌≢◌, ℕ, ◌≤◌, Some, None, IfOk, IfErr, slice_get, vec_len, map};
 ghost use Rattle.lc_board.specs.Pass.{Pass, holding, posted, new_pass, after_claim, after_post, after_give, after_fault, job_back};
 ghost use Rattle.lc_board.specs.{ClosedBoard.{Promises, Settled, RefusesClose}, Limits.{capacity_limit, workers_limit}};
@@ -10,12 +10,12 @@ use crate::answers::{Claim, CloseFault, Closed, PostFault};
 use std::alloc::{AllocError, Global};
 use std::sync::Wait;
 
-/// A worker's pass.
+/// The pass of one worker.
 pub trait Token<J, R> {
-    /// What contracts see of a pass: its worker, its events, and whether it was refused.
+    /// What contracts see of a pass: its worker, its events, and whether the board was full or memory ran out.
     ghost view: { Self → Pass J R };
 
-    /// The worker's number, from 0.
+    /// Returns the worker's number, from 0.
     fn worker(&self) -> u32
         ensures { result ≡ (view self.now).worker };
 
@@ -23,13 +23,13 @@ pub trait Token<J, R> {
     fn holding(&self) -> Option<u32>
         ensures { result ≡ holding (view self.now) };
 
-    /// The number of posts under the present claim.
+    /// Returns the number of posts under the present claim.
     fn posted(&self) -> u32
         ensures { result ≡ posted (view self.now) };
 }
 
-/// A board that workers share. A call that may wait promises only if it returns. What every caller needs of the type to move it between
-/// threads and to let it go stands here, so that a worker asks for `B: Shared<J, R>` alone.
+/// A board that workers share. The clauses of a call that may wait hold only if it returns. The trait includes what every caller needs to
+/// move the board between threads and to drop it, so a worker's bound is `B: Shared<J, R>` alone.
 pub trait Shared<J, R>: Sized + Sync + Drop {
     type Pass: Token<J, R> + Send + Drop;
 
@@ -39,7 +39,7 @@ pub trait Shared<J, R>: Sized + Sync + Drop {
     /// The number of workers that share the board.
     ghost workers_of: { Self → ℕ };
 
-    /// The job of number 0, as far as the board tells it.
+    /// The job of number 0, as far as the board states it.
     ghost is_root: { Self → J → Type 0 };
 
     /// The pass is this board's.
@@ -85,7 +85,7 @@ pub trait Shared<J, R>: Sized + Sync + Drop {
         ensures pass { owns self.now pass.new }
         ensures mine { Self.Pass.view pass.new ≡ after_give (Self.Pass.view pass.old) row };
 
-    /// Ends the claim of the pass, under which nothing was posted, by the row of a fault.
+    /// Ends the claim of the pass by the row of an error. Nothing was posted under the claim.
     fn fault<W: Wait>(&self, rt: &W, pass: &mut Self::Pass, row: R)
         requires pass { owns self.now pass.old }
         requires holds { holding (Self.Pass.view pass.old) ≢ None }
@@ -93,8 +93,8 @@ pub trait Shared<J, R>: Sized + Sync + Drop {
         ensures pass { owns self.now pass.new }
         ensures mine { Self.Pass.view pass.new ≡ after_fault (Self.Pass.view pass.old) row };
 
-    /// The rows, once each number has ended. It takes all passes of the board, in their workers' order. Where it is refused the rows
-    /// are dropped.
+    /// Returns the rows, once each number has ended. It takes all passes of the board, in their workers' order. On an error the rows are
+    /// dropped.
     fn close(self, passes: Vec<Self::Pass>) -> Result<Closed<R>, CloseFault>
         requires all { vec_len passes ≡ Self.workers_of self }
         requires each { (w : ℕ) (p : Self.Pass) → slice_get passes.items w ≡ Some p → owns self p × ((Self.Pass.view p).worker ≡ w) }

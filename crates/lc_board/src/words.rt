@@ -1,7 +1,7 @@
-//! The board of words: a word for each number, which workers change by single exchanges.
+//! The board of words: a word for each number, which workers change by one exchange at a time.
 //!
-//! Its own calls `claim`, `post`, `give` and `fault` wait for nobody and take no memory. A slot holds the job of its number, later its
-//! row. Both are moved by the thread that changed the word, so that jobs and rows that are boxes make slots of 16 bytes.
+//! Its own calls `claim`, `post`, `give` and `fault` wait for no thread and allocate nothing. A slot has the job of its number, later its
+//! row. The thread that changed the word moves both. So jobs and rows that are boxes make slots of 16 bytes.
 ghost use Rattle.std.specs.Prelude.{◌≡◌, ◌≤◌};
 ghost use Rattle.lc_board.specs.Limits.{capacity_limit, workers_limit};
 
@@ -23,7 +23,7 @@ mod start;
 mod steps;
 pub mod view;
 
-/// A board of words. It keeps values: the rows that it gives back are in place.
+/// A board of words. The rows that it returns are in place.
 #[derive(Drop)]
 pub struct Words<J, R> {
     pub(crate) table: Table<Slot<J, R>, View<J, R>, BoardSetup<J>, OneHistory, Global>,

@@ -1,4 +1,4 @@
-//! A census that is fed its bytes piece by piece.
+//! A census that reads its bytes piece by piece.
 ghost use Rattle.std.specs.Prelude.{◌≡◌, ℕ, ◌+◌, ◌≤◌, ◌^◌, List, [], ◌++◌, length};
 ghost use Rattle.lc_census.specs.Bytes.{is_end};
 ghost use Rattle.lc_census.specs.Census.{IsCensus, class_of};
@@ -9,10 +9,9 @@ use crate::scan::Scan;
 use crate::simd::scan_simd;
 use std::marker::Model;
 
-/// The census of the bytes that it was fed so far.
+/// The census of the bytes so far.
 ///
-/// The bytes may be cut into pieces anywhere, also between a CR and its LF, and a piece may be empty. No memory is
-/// taken.
+/// The bytes may be cut into pieces anywhere, also between a CR and its LF, and a piece may be empty. Nothing is allocated.
 ///
 /// ```
 /// let mut census = Census::new();
@@ -38,7 +37,7 @@ impl Model for Census {
 }
 
 impl Census {
-    /// The census of no bytes.
+    /// Returns the census of no bytes.
     pub fn new() -> Self
         ensures none { LeadTo [] result }
         ensures bytes { result.bytes ≡ 0 }
@@ -50,7 +49,7 @@ impl Census {
         }
     }
 
-    /// Goes on with the next piece of the bytes. All pieces together may have 2^48 bytes.
+    /// Adds the next piece of the bytes. All pieces together may have 2^48 bytes.
     pub fn feed(&mut self, piece: &[u8])
         requires { self.old.bytes + length piece.now ≤ 2 ^ 48 }
         ensures bytes { self.new.bytes ≡ self.old.bytes + length piece.now }
@@ -63,7 +62,7 @@ impl Census {
         }
     }
 
-    /// The census of all the bytes that were fed.
+    /// Returns the census of all the bytes that were fed.
     pub fn finish(self) -> Count
         ensures { (bytes : List ℕ) → LeadTo bytes self → IsCensus bytes result }
     {

@@ -1,4 +1,4 @@
-//! The census of what a reader gives.
+//! The census of a reader's bytes.
 ghost use Rattle.std.specs.Prelude.{◌≡◌, ◌≢◌, ◌<◌, ◌≤◌, length};
 ghost use Rattle.lc_census.specs.Counting.{AnswersCount};
 ghost use Rattle.lc_census.specs.declared.counting.CensusFault.TheVariants.{Memory};
@@ -10,7 +10,7 @@ use crate::line_count::Count;
 use lc_io::{Source, new_buffer};
 use std::alloc::{AllocError, Global};
 
-/// Why there is no count. The reader has then given what it gave.
+/// Why there is no count. The reader has then advanced past the bytes that were read.
 #[derive(Clone, Copy, Debug, Drop, PartialEq, Eq)]
 pub enum CensusFault {
     /// A read failed, whatever the kind of its error. It was the last.
@@ -29,12 +29,12 @@ impl From<AllocError> for CensusFault {
     }
 }
 
-/// The turns of `count`, and the most that `count_within` and `count_source` take: 2^32.
+/// The limit of reads of `count`, and the greatest limit of `count_within` and `count_source`: 2^32.
 pub const MAX_TURNS: u64 = 4_294_967_296;
 
-/// Counts what the reader gives up to its end, in at most `turns` reads into the caller's buffer.
+/// Counts a reader's bytes up to its end, in at most `turns` reads into the caller's buffer.
 ///
-/// A worker lends one buffer for all its files. It takes no memory, so the fault is never `Memory`.
+/// A worker lends one buffer for all its files. Nothing is allocated, so the error is never `Memory`.
 ///
 /// ```
 /// let mut buffer = new_buffer(alloc)?;
@@ -65,9 +65,9 @@ pub fn count_source<S: Source>(
     Err(CensusFault::Endless)
 }
 
-/// Counts what the reader gives up to its end, in at most `turns` reads of up to 65,536 bytes.
+/// Counts a reader's bytes up to its end, in at most `turns` reads of up to 65,536 bytes.
 ///
-/// The buffer is taken from memory before the first read.
+/// The buffer is allocated before the first read.
 ///
 /// ```
 /// let mut reader = b"ab".as_slice();
@@ -85,7 +85,7 @@ pub fn count_within<S: Source>(
     count_source(&mut buffer, reader, turns)
 }
 
-/// Counts what the reader gives up to its end, in at most 2^32 reads of up to 65,536 bytes.
+/// Counts a reader's bytes up to its end, in at most 2^32 reads of up to 65,536 bytes.
 ///
 /// ```
 /// let mut reader = b"one\n\ntwo".as_slice();

@@ -5,12 +5,12 @@ ghost use Rattle.lc_census.specs.Limits.{max_turns};
 
 use crate::counting::MAX_TURNS;
 
-/// Bytes are cut into lines in exactly one way.
+/// The law that bytes can be cut into lines in exactly one way.
 pub fn bytes_have_one_cutting()
     ensures { (bytes : List ℕ) → HasOneCutting bytes }
 {}
 
-/// The constant is the limit that the definitions name.
+/// The law that the constant is the limit that the definitions name.
 pub fn the_limit_is_this_number()
     ensures { MAX_TURNS ≡ max_turns }
 {}

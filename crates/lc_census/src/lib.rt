@@ -1,10 +1,10 @@
-//! Counts lines, blank lines, bytes and line endings of any reader's bytes, in whatever pieces they come.
+//! Counting the lines, blank lines, bytes and line ends of a reader's bytes, in whatever pieces they come.
 //!
 //! - `line_count`: what a census counts
-//! - `census`: the census of bytes that are fed piece by piece
-//! - `counting`: the census of all that a reader gives
-//! - `scan`, `scalar`, `simd`: the two bodies of the census, a byte at a time and by vectors, under one contract; they
-//!   are public for benchmarks alone
+//! - `census`: the census of bytes, piece by piece
+//! - `counting`: the census of all of a reader's bytes
+//! - `scan`, `scalar`, `simd`: the two bodies of the census, by bytes and by vectors, under one contract; they are public for benchmarks
+//!   alone
 //! - `laws`: what is true of the definitions that the contracts cite
 #![tactic(auto)]
 

@@ -1,4 +1,4 @@
-//! The counts of a census.
+//! The counts of a census. A module may not have the name of a function in the same place, and `count` is one, so this is `line_count`.
 
 ghost use Rattle.std.specs.Prelude.{◌≡◌};
 ghost use Rattle.lc_census.specs.EolWords.{eol_word};
@@ -21,7 +21,7 @@ pub enum Eol {
 }
 
 impl Eol {
-    /// The word by which reports name the kind, such as `crlf`.
+    /// Returns the word by which reports name the kind, such as `crlf`.
     pub fn as_str(self) -> &'static str
         ensures { result.now ≡ eol_word self }
     {

@@ -1,7 +1,7 @@
 //! The scan of bytes for their lines.
 ghost use Rattle.std.specs.Prelude.{◌≡◌};
 
-/// The ends so far, and where in a line the next byte stands.
+/// The line ends so far, and the position of the next byte in its line.
 ///
 /// A line is counted at its LF or its CR. An LF right after a CR belongs to that CR's end and adds to `crlf` alone, so
 /// no byte waits for the next one, and a piece may end anywhere.
@@ -26,7 +26,7 @@ pub struct Scan {
 impl Scan {
     ghost use Rattle.lc_census.specs.Scan.{start};
 
-    /// Before the first byte.
+    /// Returns the scan before the first byte.
     pub fn new() -> Self
         ensures { result ≡ start }
     {

@@ -1,4 +1,4 @@
-//! The scan by vectors of 64 bytes, whose lanes are the bits of words.
+//! The scan by vectors of 64 bytes, whose lanes become the bits of words.
 ghost use Rattle.std.specs.Prelude.{◌≡◌, ◌≤◌, ◌||◌, ◌==◌, length};
 ghost use Rattle.std.specs.Int.RustNames.{count_ones};
 ghost use Rattle.lc_census.specs.Bytes.{is_lf, is_cr, is_end, is_space, is_nul};
@@ -23,8 +23,8 @@ fn equal_to_either(v: u8x64, one: u8, other: u8) -> u64
     (v.simd_eq(u8x64::splat(one)) | v.simd_eq(u8x64::splat(other))).to_bitmask()
 }
 
-// The bytes before which the line so far is blank, where `first` says it of byte 0: those after an end, and those that
-// only spaces part from one. An end or the block's start carries through the spaces after it as the sum's carry does.
+// Marks the bytes before which the line so far is blank: those after an end, and those with only spaces in between. `first` is whether byte
+// 0 is such a byte. The carry of a sum goes on through the spaces after an end or after the block's start.
 #[inline(always)]
 fn blank_befores(first: bool, v: u8x64, ends: u64, space: u64) -> u64
     requires ends { Marks ends is_end v }
@@ -36,7 +36,7 @@ fn blank_befores(first: bool, v: u8x64, ends: u64, space: u64) -> u64
     starts | (lone.wrapping_add(space) ^ lone ^ space)
 }
 
-// The bytes right after a CR, where `first` says it of byte 0.
+// Marks the bytes right after a CR. `first` is whether byte 0 is one.
 #[inline(always)]
 fn cr_befores(first: bool, v: u8x64, cr: u64) -> u64
     requires { Marks cr is_cr v }
@@ -92,7 +92,7 @@ fn scan_block(scan: &mut Scan, v: u8x64)
     }
 }
 
-/// The scan after these bytes, 64 at a time, and the last few one at a time.
+/// Returns the scan after these bytes, which are read 64 at a time, and the last few one at a time.
 pub fn scan_simd(scan: Scan, bytes: &[u8]) -> Scan
     requires { HasRoom scan (length bytes.now) }
     ensures { result ≡ after_all scan bytes.now }

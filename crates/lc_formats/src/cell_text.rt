@@ -1,4 +1,4 @@
-//! The text of a value for reading.
+//! The texts of values in formats for reading.
 
 ghost use Rattle.std.specs.Prelude.{◌≡◌, ◌++◌, IfOk, OnOk, string_bytes};
 ghost use Rattle.lc_formats.specs.Cells.{shown_text};

@@ -1,4 +1,4 @@
-//! The cells in which a line is shown.
+//! The cells of a line.
 
 ghost use Rattle.std.specs.Prelude.{◌≡◌, ◌<◌, ◌++◌, ◌∷◌, [], IfOk, OnOk, replicate, string_bytes};
 ghost use Rattle.lc_formats.specs.Cells.{cell_at, cell_model, cell_of, cells_of, heading_cell, heading_cells, line_cells};
@@ -17,7 +17,7 @@ pub(crate) struct Cell<'a> {
     value: Value<'a>,
 }
 
-/// Appends a character so many times.
+/// Appends a character this many times.
 pub(crate) fn push_copies(text: &mut String, c: char, count: usize) -> Result<(), AllocError>
     requires { c < 128 }
     ensures { OnOk result (string_bytes text.new ≡ string_bytes text.old ++ replicate count c) }
@@ -30,7 +30,7 @@ pub(crate) fn push_copies(text: &mut String, c: char, count: usize) -> Result<()
     Ok(())
 }
 
-/// Appends so many blanks before other cells; at the end of a line none.
+/// Appends this many blanks before other cells, but none at the end of a line.
 fn push_blanks(text: &mut String, count: usize, others: &[Cell<'_>]) -> Result<(), AllocError>
     ensures { OnOk result (string_bytes text.new ≡ string_bytes text.old ++ blanks_before (cells_of others.now) count) }
 {
@@ -59,7 +59,7 @@ impl<'a> Cell<'a> {
         }
     }
 
-    /// Makes the cell of what a line has in a column.
+    /// Makes the cell of a line in a column.
     pub(crate) fn of<L: Lines>(line: &'a L::Line, form: Form, column: Column) -> Cell<'a>
         ensures { cell_model result ≡ cell_of column (L.value_in form line.entry.now column) }
     {
@@ -69,7 +69,7 @@ impl<'a> Cell<'a> {
         }
     }
 
-    /// Returns how wide its column must be for it.
+    /// Returns how wide the column must be for the cell.
     pub(crate) fn width(&self, made: &mut String) -> Result<usize, AllocError>
         ensures { IfOk result (λ width. width ≡ width_at (cell_model self.now).side (cell_model self.now).text) }
     {
@@ -79,7 +79,7 @@ impl<'a> Cell<'a> {
         }
     }
 
-    /// Returns whether it shows something: it has a text, or is the end of its line.
+    /// Returns whether the cell shows something: it has a text, or is the end of its line.
     pub(crate) fn is_shown(&self, made: &mut String) -> Result<bool, AllocError>
         ensures { IfOk result (λ shown. shown ≡ is_shown (cell_model self.now).side (cell_model self.now).text) }
     {
@@ -92,7 +92,7 @@ impl<'a> Cell<'a> {
         }
     }
 
-    /// Appends it as it is shown in a column of this width before other cells. No blanks follow the last cell of a line.
+    /// Appends the cell, as it is shown in a column of this width before other cells. No blanks follow the last cell of a line.
     pub(crate) fn push_before(
         &self,
         others: &[Cell<'_>],
@@ -130,7 +130,7 @@ fn push_headings(cells: &mut Vec<Cell<'_>>, columns: &[Column]) -> Result<(), Al
     Ok(())
 }
 
-/// Sets the cells to those of the headings of columns.
+/// Sets the cells to the headings of columns.
 pub(crate) fn set_headings(cells: &mut Vec<Cell<'_>>, columns: &[Column]) -> Result<(), AllocError>
     ensures { OnOk result (cells_of cells.new.items ≡ heading_cells columns.now) }
 {
@@ -138,7 +138,7 @@ pub(crate) fn set_headings(cells: &mut Vec<Cell<'_>>, columns: &[Column]) -> Res
     push_headings(cells, columns)
 }
 
-/// Appends the cell of what a line has in a column.
+/// Appends the cell of a line in a column.
 fn push_cell<'l, L: Lines>(
     cells: &mut Vec<Cell<'l>>,
     line: &'l L::Line,
@@ -169,7 +169,7 @@ fn push_cells<'l, L: Lines>(
     Ok(())
 }
 
-/// Sets the cells to those of what a line has in each column.
+/// Sets the cells to the values of a line in each column.
 pub(crate) fn set_cells<'l, L: Lines>(
     cells: &mut Vec<Cell<'l>>,
     line: &'l L::Line,

@@ -2,7 +2,7 @@
 
 ghost use Rattle.lc_formats.specs.CsvLaws.{RecordsLaw};
 
-/// A reader of CSV gives the records of a sheet, and no others.
+/// The law that a reader of CSV returns the records of a sheet, and no others.
 pub fn csv_reads_back()
     ensures { RecordsLaw }
 {}

@@ -140,8 +140,8 @@ fn push_records<R: Lines, T: Lines, F: Lines, S: Lines, E: Lines>(
 
 /// Makes the text of a sheet as CSV (RFC 4180): records of one kind below their headings.
 ///
-/// There is one for each file if the sheet lists files, else one for each skipped entry if it counts entries, and else one for each row.
-/// Bytes are as they are, with quotes around a field that needs them.
+/// A record is for a file if the sheet lists files, otherwise for a skipped entry if the sheet counts entries, and otherwise for a row.
+/// Bytes stay as they are. A field that needs quotes has them.
 pub fn csv_text<R: Lines, T: Lines, F: Lines, S: Lines, E: Lines>(
     alloc: Global,
     sheet: &Sheet<'_, R, T, F, S, E>,

@@ -106,8 +106,8 @@ fn write_sheet<R: Lines, T: Lines, F: Lines, S: Lines, E: Lines>(
 
 /// Makes the text of a sheet as one JSON object on one line.
 ///
-/// A section is an array of objects, and a line of sums is an object. A value has the name of its column. There is no member for a column
-/// over which a line is summed, or which does not apply to it. Bytes that are not UTF-8 are a list of numbers, under a name that ends with
+/// A section is an array of objects, and a line of sums is an object. A value has the name of its column. A line has no member for a column
+/// that does not apply to it, or over which it is a sum. Bytes that are not UTF-8 are a list of numbers, under a name that ends with
 /// `_bytes`.
 pub fn json_text<R: Lines, T: Lines, F: Lines, S: Lines, E: Lines>(
     alloc: Global,

@@ -32,7 +32,7 @@ fn write_name(
     text.bytes_member(column.name(), joined)
 }
 
-/// Writes the member of a value in a column, where it has one.
+/// Writes the member of a value in a column, if it has one.
 #[inline(always)]
 fn write_value(
     text: &mut JsonText,
@@ -131,7 +131,7 @@ pub(crate) fn write_list<L: Lines>(
     Ok(())
 }
 
-/// Writes one line of a section as an object, where the section has this line.
+/// Writes one line of a section as an object, if the section has this line.
 pub(crate) fn write_line_at<L: Lines>(
     text: &mut JsonText,
     joined: &mut Vec<u8>,

@@ -1,12 +1,12 @@
-//! The formats in which a sheet is printed. A format knows values, columns and sections, and nothing of where they come from.
+//! The formats in which a sheet is printed. A format knows values, columns and sections, and not where they come from.
 //!
-//! - `tsv`: the text with a tab between fields
-//! - `csv_sheet`: the text as CSV, by `csv_records`: a text that is written record by record
-//! - `json_sheet`: the text as JSON, by `json_values` and `json_writer`
-//! - `markdown`: the text as Markdown, by `markdown_line` and `markdown_escape`
-//! - `table`: the text in columns, for reading, by `section_lines` and `widths`
-//! - `joined`: a name with what is before and after its bytes, for CSV and JSON
-//! - `cells`: the cells in which a line is shown; `cell_text`, `numbers`, `shares`: the texts in them
+//! - `tsv`: fields with tabs between them
+//! - `csv_sheet`: CSV, which `csv_records` writes record by record
+//! - `json_sheet`: JSON, with `json_values` and `json_writer`
+//! - `markdown`: Markdown, with `markdown_line` and `markdown_escape`
+//! - `table`: columns for reading, with `section_lines` and `widths`
+//! - `joined`: names as bytes, with what is before and after them, for CSV and JSON
+//! - `cells`: the cells of a line; `cell_text`, `numbers`, `shares`: the texts in them
 //! - `csv_laws`, `markdown_laws`, `table_laws`: what is true of the definitions that the contracts cite
 #![tactic(auto)]
 

@@ -142,8 +142,8 @@ fn push_counts(
 
 /// Makes the text of a sheet as Markdown.
 ///
-/// Lists of files and of skipped entries come first, then the rows with their sums in bold, the number of directories, and last what could
-/// not be read. Names are shown as [`push_visible`](lc_text::push_visible) has them.
+/// Lists of files and of skipped entries come first. Then come the rows with their sums in bold, the number of directories, and last what
+/// could not be read. Names are escaped like [`push_visible`](lc_text::push_visible) does.
 pub fn markdown_text<R: Lines, T: Lines, F: Lines, S: Lines, E: Lines>(
     alloc: Global,
     sheet: &Sheet<'_, R, T, F, S, E>,

@@ -1,4 +1,4 @@
-//! Texts in cells of Markdown.
+//! Escaping texts in cells of Markdown.
 
 ghost use Rattle.std.specs.Prelude.{◌≡◌, ◌++◌, OnOk};
 ghost use Rattle.lc_formats.specs.MarkdownCells.{begins_address, break_in, cell_byte, is_markup, markdown};

@@ -2,7 +2,8 @@
 
 ghost use Rattle.lc_formats.specs.MarkdownLaws.{BlankLaw, EscapedLaw, LinkLaw, UnescapedLaw};
 
-/// In Markdown all markup of a name is escaped, no address in it is a link, no blank at its ends is dropped, and the name reads back.
+/// The law that in Markdown each markup byte of a name is escaped, no address in it is a link, no blank at its ends is dropped, and it
+/// reads back.
 pub fn markdown_has_no_markup_of_names()
     ensures reads_back { UnescapedLaw }
     ensures escaped { EscapedLaw }

@@ -11,7 +11,7 @@ const SHARE_PARTS: u16 = 1_000;
 /// The parts of the longest bar: eighths of 20 cells.
 const BAR_PARTS: u16 = 160;
 
-/// Divides a whole into so many parts, and returns how many of them a part of it is, rounded half up.
+/// Divides a whole into `count` parts, and returns how many of them a part of it is, rounded half up.
 ///
 /// It stops with an error only if the divisor or the dividend overflows, which takes numbers of 2^111 or more.
 fn rounded_parts(count: u16, part: u128, whole: u128) -> Result<u128, AllocError>
@@ -34,7 +34,7 @@ fn push_decimal(text: &mut String, n: u128) -> Result<(), AllocError>
     text.push_str(buffer.format(n))
 }
 
-/// Appends a share of so many tenths of a per cent.
+/// Appends a share in tenths of a per cent.
 fn push_tenths(text: &mut String, tenths: u128) -> Result<(), AllocError>
     ensures { OnOk result (string_bytes text.new ≡ string_bytes text.old ++ share_word tenths) }
 {
@@ -71,7 +71,7 @@ fn last_block(eighths: u128) -> &'static str
     }
 }
 
-/// Appends a bar of so many eighths of a cell.
+/// Appends a bar whose length is in eighths of a cell.
 fn push_eighths(text: &mut String, eighths: u128) -> Result<(), AllocError>
     ensures { OnOk result (string_bytes text.new ≡ string_bytes text.old ++ bar eighths) }
 {

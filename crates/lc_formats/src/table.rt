@@ -126,7 +126,7 @@ fn push_counts(
     }
 }
 
-/// Appends the files, where these are asked for.
+/// Appends the files, if these are requested.
 fn push_files<F: Lines>(
     alloc: Global,
     files: &Option<Section<'_, F>>,
@@ -143,8 +143,8 @@ fn push_files<F: Lines>(
 
 /// Makes the text of a sheet in columns, for reading.
 ///
-/// Lists come first, and the rows with their sums last, so that a terminal shows them. Paths are shown as
-/// [`push_visible`](lc_text::push_visible) has them.
+/// Lists come first, and the rows with their sums last, so that a terminal shows them. Paths are escaped like
+/// [`push_visible`](lc_text::push_visible) does.
 pub fn table_text<R: Lines, T: Lines, F: Lines, S: Lines, E: Lines>(
     alloc: Global,
     sheet: &Sheet<'_, R, T, F, S, E>,

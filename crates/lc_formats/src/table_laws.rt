@@ -4,32 +4,32 @@ ghost use Rattle.lc_formats.specs.CommaLaws.{CommasLaw};
 ghost use Rattle.lc_formats.specs.ShareLaws.{BarLengthLaw, NearestLaw, PartsLaw, WholeLaw};
 ghost use Rattle.lc_formats.specs.WidthLaws.{CountsWidthLaw, LineEndsLaw, ListingWidthLaw, SummaryWidthLaw};
 
-/// In a text for reading a number without its commas reads back as that number.
+/// The law that in a text for reading, a number without its commas reads back.
 pub fn numbers_with_commas_read_back()
     ensures { CommasLaw }
 {}
 
-/// In a text for reading the lines of a part are padded to one width, and printed without the blanks at their ends. Where the last
-/// column ends its line, what is before it is equally wide.
+/// The law that in a text for reading, the lines of a part are padded to one width, and printed without the blanks at their ends. If the
+/// last column ends its line, what is before it is equally wide.
 pub fn lines_of_a_part_are_as_wide()
     ensures summary { SummaryWidthLaw }
     ensures counts { CountsWidthLaw }
     ensures listing { ListingWidthLaw }
 {}
 
-/// In a text for reading no line ends with a blank, unless the last text of a listed line does.
+/// The law that in a text for reading, no line ends with a blank, unless the last text of a listed line does.
 pub fn lines_end_without_blanks()
     ensures { LineEndsLaw }
 {}
 
-/// Shares are rounded half up. The whole has 100.0 per cent, and no part of it has more.
+/// The law that shares are rounded half up, that the whole has 100.0 per cent, and that no part has more.
 pub fn shares_are_of_the_whole()
     ensures nearest { NearestLaw }
     ensures whole { WholeLaw }
     ensures parts { PartsLaw }
 {}
 
-/// A bar has a character for each cell that it fills or begins.
+/// The law that a bar has a character for each cell that it fills or begins.
 pub fn bars_are_as_long_as_their_cells()
     ensures { BarLengthLaw }
 {}

@@ -223,9 +223,9 @@ fn push_entries(text: &mut Vec<u8>, entries: Option<u64>) -> Result<(), AllocErr
 
 /// Makes the text of a sheet with a tab between fields.
 ///
-/// After a header there is a line for each row, one for the rows that were cut off, one for the totals, one with the number of
-/// directories, one for each file and each skipped entry, where the sheet has these, and one for each error, with paths as
-/// [`escape`](lc_text::escape) has them.
+/// It has a header, then a line for each row, for the rows that are cut off, for the totals and for the number of directories. Then come
+/// lines for files and for skipped entries, if the sheet has these, and for errors. Paths are escaped like [`escape`](lc_text::escape)
+/// does.
 pub fn tsv_text<R: Lines, T: Lines, F: Lines, S: Lines, E: Lines>(
     alloc: Global,
     sheet: &Sheet<'_, R, T, F, S, E>,

@@ -1,4 +1,4 @@
-//! What stands between brackets, read from its bytes into the tokens of a pattern.
+//! What is between brackets, read from its bytes into the tokens of a pattern.
 
 ghost use Rattle.std.specs.Prelude.{◌≡◌, ◌<◌, ◌≤◌, ◌+◌, ◌++◌, length, [], ◌∷◌, MatchOption, IfOk, IfSome, Some, None, true, not, ◌&&◌};
 ghost use Rattle.std.specs.Prelude.{◌==◌};
@@ -10,7 +10,7 @@ use crate::token::Token;
 use memchr::memchr;
 use std::alloc::AllocError;
 
-/// An element that begins with the byte `b`, and how many of the bytes after it are taken.
+/// Returns an element that begins with the byte `b`, and how many of the bytes after it belong to it.
 fn element_at(b: u8, rest: &[u8]) -> Option<(u8, usize)>
     ensures is { result ≡ element b rest.now }
     ensures within { IfSome result (λ r. (r.1 ≤ length rest.now) × (r.1 ≤ 1)) }
@@ -22,7 +22,7 @@ fn element_at(b: u8, rest: &[u8]) -> Option<(u8, usize)>
     Some((*c, 1))
 }
 
-/// The element `x`, after which `taken` bytes are used, and perhaps a range from it.
+/// Returns the element `x`, after which `taken` bytes are used, and perhaps a range from it.
 fn range_at(x: u8, taken: usize, rest: &[u8]) -> Option<((u8, u8), usize)>
     requires { taken ≤ 1 }
     ensures is { MatchOption result (range_from x taken rest.now ≡ None) (λ r. range_from x taken rest.now ≡ Some (r.0 ∷ [], r.1)) }
@@ -41,7 +41,7 @@ fn range_at(x: u8, taken: usize, rest: &[u8]) -> Option<((u8, u8), usize)>
     Some(((x, x.max(y)), taken + 2 + more))
 }
 
-/// The ranges of a class with more than letters and digits, in ASCII.
+/// Returns the ranges of a class with more than letters and digits, in ASCII.
 fn other_class_at(name: &[u8]) -> Option<&'static [(u8, u8)]>
     ensures { MatchOption result (other_class_of name.now ≡ None) (λ r. other_class_of name.now ≡ Some r.now) }
 {
@@ -62,7 +62,7 @@ fn other_class_at(name: &[u8]) -> Option<&'static [(u8, u8)]>
     }
 }
 
-/// The ranges of a class, in ASCII.
+/// Returns the ranges of a class, in ASCII.
 fn class_at(name: &[u8]) -> Option<&'static [(u8, u8)]>
     ensures { MatchOption result (class_of name.now ≡ None) (λ r. class_of name.now ≡ Some r.now) }
 {
@@ -93,7 +93,7 @@ enum Colon {
     Ordinary,
 }
 
-/// What begins with a `[:`, by the bytes after these two, whose first close is at `close`.
+/// Returns what begins with a `[:`, by the bytes after these two, whose first close is at `close`.
 fn colon_at(after_colon: &[u8], close: usize) -> Colon
     requires { close < length after_colon.now }
     ensures { ColonIs result after_colon.now close }
@@ -107,7 +107,7 @@ fn colon_at(after_colon: &[u8], close: usize) -> Colon
     Colon::Class(ranges, close + 2)
 }
 
-/// Pushes the range of an item that is an element or a range, and says how many bytes after `b` it takes.
+/// Pushes the range of an item that is an element or a range, and returns how many bytes after `b` belong to it.
 fn push_plain(b: u8, rest: &[u8], tokens: &mut Vec<Token>) -> Result<Option<usize>, AllocError>
     ensures is { IfOk result (λ r. Pushes range_tokens (plain_item b rest.now) tokens.old.items tokens.new.items r) }
     ensures within { IfOk result (λ r. IfSome r (λ k. k ≤ length rest.now)) }
@@ -131,7 +131,7 @@ fn push_ranges(ranges: &[(u8, u8)], tokens: &mut Vec<Token>) -> Result<(), Alloc
     Ok(())
 }
 
-/// The place of the first close, or the length.
+/// Returns the place of the first close, or the length.
 fn first_close(bytes: &[u8]) -> usize
     ensures is { result ≡ first_close bytes.now }
     ensures within { result ≤ length bytes.now }
@@ -142,7 +142,7 @@ fn first_close(bytes: &[u8]) -> usize
     }
 }
 
-/// Pushes the ranges of an item that begins with `[:`, and says how many bytes after the `[` it takes.
+/// Pushes the ranges of an item that begins with `[:`, and returns how many bytes after the `[` belong to it.
 fn push_colon(
     after_bracket: &[u8],
     after_colon: &[u8],
@@ -166,8 +166,8 @@ fn push_colon(
     }
 }
 
-/// Pushes the ranges of the item that begins with `b`, and says how many bytes after it are taken; `None` where it makes
-/// the pattern dead.
+/// Pushes the ranges of the item that begins with `b`, and returns how many bytes after it belong to it. It returns `None` if the item
+/// makes the pattern dead.
 fn push_item(b: u8, rest: &[u8], tokens: &mut Vec<Token>) -> Result<Option<usize>, AllocError>
     ensures is { IfOk result (λ r. Pushes range_tokens (item b rest.now) tokens.old.items tokens.new.items r) }
     ensures within { IfOk result (λ r. IfSome r (λ k. k ≤ length rest.now)) }
@@ -182,14 +182,14 @@ fn push_item(b: u8, rest: &[u8], tokens: &mut Vec<Token>) -> Result<Option<usize
     }
 }
 
-/// Whether the byte is the close, which the first item can't be.
+/// Returns whether the byte is the close, which the first item can't be.
 fn closes(b: u8, first: bool) -> bool
     ensures { result ≡ (b == closing && not first) }
 {
     b == b']' && !first
 }
 
-/// Pushes the ranges of the items up to the close, and says how many bytes are taken, the close too.
+/// Pushes the ranges of the items up to the close, and returns how many bytes were read, the close included.
 fn push_items(bytes: &[u8], tokens: &mut Vec<Token>) -> Result<Option<usize>, AllocError>
     ensures is { IfOk result (λ r. Pushes range_tokens (items true 0 bytes.now) tokens.old.items tokens.new.items r) }
     ensures within { IfOk result (λ r. IfSome r (λ k. k ≤ length bytes.now)) }
@@ -211,7 +211,7 @@ fn push_items(bytes: &[u8], tokens: &mut Vec<Token>) -> Result<Option<usize>, Al
     }
 }
 
-/// Pushes the bracket that opened before these bytes, and says how many of them are taken; `None` where it makes the
+/// Pushes the bracket that opened before these bytes, and returns how many of them belong to it. It returns `None` if the bracket makes the
 /// pattern dead.
 pub(crate) fn push_bracket(
     bytes: &[u8],

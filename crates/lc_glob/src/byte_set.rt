@@ -1,4 +1,4 @@
-//! The bytes that a bracket stands for.
+//! The set of bytes that a bracket matches.
 
 ghost use Rattle.std.specs.Prelude.{◌≡◌};
 ghost use Rattle.lc_glob.specs.{TokenLists.ranges_first, Tokens.{class, in_ranges, takes}, Views.set_model};
@@ -26,7 +26,7 @@ impl<'p> ByteSet<'p> {
         b != b'/' && self.negated != self.has(b)
     }
 
-    /// Whether the byte is in one of the ranges.
+    /// Returns whether the byte is in one of the ranges.
     fn has(self, b: u8) -> bool
         ensures { result ≡ in_ranges (ranges_first self.entry.tokens.now) b }
     {

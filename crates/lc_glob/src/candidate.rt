@@ -7,15 +7,15 @@ use crate::lengths::Lengths;
 use crate::path_segment::{ByteTests, PathLeft, PathSegment};
 use std::marker::Model;
 
-/// The least number of bytes of a path that is measured. To look at each segment of a shorter one costs less.
+/// The least number of bytes of a path that is measured. For a shorter path, comparing each segment costs less.
 const LONG_PATH: usize = 256;
 
 /// The least number of patterns for which a path is measured. Fewer cost less than to measure it.
 const MANY_PATTERNS: usize = 64;
 
-/// A path that is matched with many patterns: where its last segment begins is found once.
+/// A path that is matched with many patterns. The beginning of its last segment is searched once.
 ///
-/// To make one costs one search for a slash from the end of the path, one pass over a path that is measured, and no memory.
+/// Making one costs a search for a slash from the end of the path, one pass over a path that is measured, and no memory.
 ///
 /// ```
 /// let candidate = Candidate::new(b"src/main.c");
@@ -51,8 +51,8 @@ impl<'a> Candidate<'a> {
         Self::measured_from(path, usize::MAX)
     }
 
-    /// Makes the candidate of a path for so many patterns. Where they are many, a long path is measured, so that a pattern
-    /// with a segment that is shorter or longer than each of the path's is rejected without a byte test.
+    /// Makes the candidate of a path for this many patterns. For many patterns a long path is measured. A pattern with a segment that is
+    /// shorter or longer than each of the path's is then rejected without a byte test.
     pub fn for_patterns(path: &'a [u8], patterns: usize) -> Self
         ensures { result ≡ path.now }
     {
@@ -89,7 +89,7 @@ impl<'a> Candidate<'a> {
         }
     }
 
-    /// The whole path, as if it were one segment.
+    /// Returns the whole path, as if it were one segment.
     #[inline]
     pub(crate) fn whole(&self) -> PathSegment<'a>
         ensures { result.bytes.now ≡ self.now }
@@ -97,7 +97,7 @@ impl<'a> Candidate<'a> {
         self.whole
     }
 
-    /// Whether the path is these bytes. It makes a byte test for each of them, where the path has as many.
+    /// Returns whether the path is these bytes. If the path has as many bytes, it makes a byte test for each.
     #[inline]
     pub(crate) fn is(&self, bytes: &[u8], tests: &mut ByteTests) -> bool
         ensures same { result ≡ bytes_eq self.now bytes.now }

@@ -1,4 +1,4 @@
-//! How far the match of a segment has come, whatever its tokens are kept as.
+//! How far the match of a segment has come, for tokens of any form.
 
 ghost use Rattle.lc_glob.specs.Steps.{RetryIs};
 
@@ -16,7 +16,7 @@ pub(crate) struct Cursor<'p, 'n, E> {
 pub(crate) enum EndStep<'p, 'n, E> {
     /// It is a star.
     Star,
-    /// It stands for the last byte, and these are before them.
+    /// The token matches the last byte, and these elements are before it.
     Taken(Cursor<'p, 'n, E>),
     /// The tokens fit the segment: there are neither, or a star alone.
     Fitted,
@@ -28,7 +28,7 @@ pub(crate) enum EndStep<'p, 'n, E> {
 pub(crate) enum FrontStep<'p, 'n, E> {
     /// It is a star, and these tokens are after it.
     Star(&'p [E]),
-    /// It stands for the first byte, and these are after them.
+    /// The token matches the first byte, and these elements are after it.
     Taken(Cursor<'p, 'n, E>),
     /// The tokens fit the segment from here: there are neither, or a star alone.
     Fitted,
@@ -37,7 +37,7 @@ pub(crate) enum FrontStep<'p, 'n, E> {
 }
 
 impl<'p, 'n, E: Element> Cursor<'p, 'n, E> {
-    /// Goes back to these tokens, with one byte more for the star before them, where there is one.
+    /// Goes back to these tokens, with one more byte for the star before them, if there is one.
     pub(crate) fn retry(self) -> Option<Self>
         ensures { RetryIs self.entry result }
     {

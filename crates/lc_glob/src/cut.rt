@@ -1,4 +1,4 @@
-//! Bytes cut at the first of a byte.
+//! Cutting bytes at the first occurrence of a byte.
 
 ghost use Rattle.std.specs.{Prelude.{◌≡◌, ◌<◌, ◌∷◌, ◌++◌, [], length, IfSome, MatchOption}, List.{before_first, after_first}};
 ghost use Rattle.lc_glob.specs.Pieces.{is_byte, pieces_of, pieces_left};
@@ -7,7 +7,7 @@ use memchr::memchr;
 
 /// Splits bytes at the first `byte`: those before it, and those after it. Without that byte it returns all bytes and `None`.
 ///
-/// It reads the bytes that it returns first once, and allocates nothing.
+/// It reads once the bytes before the cut, and allocates nothing.
 ///
 /// ```
 /// let (name, value) = cut_at_first(b'=', b"eol=lf=");

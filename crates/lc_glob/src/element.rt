@@ -1,4 +1,4 @@
-//! What patterns are made of: the bytes of a simple one, or tokens that were read. Paths are made of bytes too.
+//! What patterns are made of: the bytes of a simple pattern, or tokens that were read.
 
 ghost use Rattle.std.specs.Prelude.{◌≡◌, ◌∷◌, ◌++◌, [], not, ◌==◌, Bool, List, map, count_by, MatchOption, IfSome, IsTrue};
 ghost use Rattle.std.specs.List.{list_any, slice_split};
@@ -12,31 +12,31 @@ use memchr::memrchr;
 
 /// A byte, or a token that was read.
 pub(crate) trait Element: Copy {
-    /// The tokens that elements between two separators stand for.
+    /// The tokens that elements between two separators mean.
     ghost tokens_in: { List Self → List TokenModel };
 
     /// Whether an element separates segments.
     ghost separates: { Self → Bool };
 
-    /// The first token, and the elements of the others.
+    /// Returns the first token, and the elements of the others.
     fn split_first_token<'p>(elements: &'p [Self]) -> Option<(TokenRef<'p>, &'p [Self])>
         ensures { MatchOption result (tokens_in elements.now ≡ [])
             (λ p. tokens_in elements.now ≡ token_ref_model p.0 ∷ tokens_in p.1.now) };
 
-    /// The last token, and the elements of the others.
+    /// Returns the last token, and the elements of the others.
     fn split_last_token<'p>(elements: &'p [Self]) -> Option<(TokenRef<'p>, &'p [Self])>
         ensures { MatchOption result (tokens_in elements.now ≡ [])
             (λ p. tokens_in elements.now ≡ tokens_in p.1.now ++ token_ref_model p.0 ∷ []) };
 
-    /// The literal that the last element is, whatever stands before it.
+    /// Returns the literal that the last element is, whatever precedes it.
     fn last_literal(elements: &[Self]) -> Option<u8>
         ensures { IfSome result (λ b. EndsWithLiteral tokens_in separates elements.now b) };
 
-    /// The literal that the first element is, whatever stands after it.
+    /// Returns the literal that the first element is, whatever follows it.
     fn first_literal(elements: &[Self]) -> Option<u8>
         ensures { IfSome result (λ b. BeginsWithLiteral tokens_in separates elements.now b) };
 
-    /// The least number of bytes of a name that the tokens fit: one for each token that is no star.
+    /// Returns the least number of bytes of a name that the tokens fit: one for each token that is no star.
     fn least_bytes(elements: &[Self]) -> usize
         ensures { result ≡ least_bytes (tokens_in elements.now) };
 
@@ -158,7 +158,7 @@ impl Element for Token {
     }
 }
 
-/// A byte of a simple pattern that is a literal, and separates no segments.
+/// Returns a byte of a simple pattern that is a literal, and separates no segments.
 fn segment_literal(b: u8) -> Option<u8>
     ensures { IfSome result (λ c. (c ≡ b) × IsTrue (is_segment_literal b)) }
 {
@@ -169,7 +169,7 @@ fn segment_literal(b: u8) -> Option<u8>
     }
 }
 
-/// How many bytes of a simple pattern are no star.
+/// Returns how many bytes of a simple pattern are no star.
 fn count_bytes(bytes: &[u8]) -> usize
     ensures { result ≡ count_by (λ b. not (is_star (byte_token b))) bytes.now }
 {
@@ -179,21 +179,21 @@ fn count_bytes(bytes: &[u8]) -> usize
         .count()
 }
 
-/// How many tokens stand for one byte.
+/// Returns how many tokens match one byte.
 fn count_tokens(tokens: &[Token]) -> usize
     ensures { result ≡ count_by is_for_byte tokens.now }
 {
     tokens.iter().filter(|token| token.is_for_byte()).count()
 }
 
-/// Whether elements stand for no token.
+/// Returns whether elements mean no token.
 pub(crate) fn has_no_token<E: Element>(elements: &[E]) -> bool
     ensures { result ≡ is_empty (E.tokens_in elements.now) }
 {
     E::split_first_token(elements).is_none()
 }
 
-/// Whether elements stand for two stars and nothing else.
+/// Returns whether elements mean two stars and nothing else.
 pub(crate) fn are_two_stars<E: Element>(elements: &[E]) -> bool
     ensures { result ≡ is_double_star (E.tokens_in elements.now) }
 {
@@ -209,7 +209,7 @@ pub(crate) fn are_two_stars<E: Element>(elements: &[E]) -> bool
     second.is_star() && has_no_token(rest)
 }
 
-/// Whether a star is among the tokens.
+/// Returns whether a star is among the tokens.
 pub(crate) fn has_star<E: Element>(elements: &[E]) -> bool
     ensures { result ≡ list_any is_star (E.tokens_in elements.now) }
 {

@@ -1,5 +1,5 @@
-//! Compares one byte at an end of a path with the elements of a pattern. This rejects most paths that the pattern doesn't match, and
-//! is within what a match may cost, since no match needs all of that.
+//! Compares one byte at an end of a path with the elements of a pattern. This rejects most paths that the pattern doesn't match. The byte
+//! test is within the bound of a match, since no match needs as many tests as the bound allows.
 
 ghost use Rattle.std.specs.Prelude.{◌≡◌, ◌≤◌, ◌+◌, ◌⊎◌, IsFalse};
 ghost use Rattle.lc_glob.specs.EndLooks.{DiffersAtEnd, HasLiteralEnd};
@@ -8,7 +8,8 @@ use crate::element::Element;
 use crate::path_segment::{ByteTests, PathSegment};
 use crate::token::TokenRef;
 
-/// Whether the elements agree with `last` where their last is a literal, and else with `first` where their first is one: by one byte test.
+/// Returns whether the elements agree with `last` where their last is a literal, and else with `first` where their first is one: by one
+/// byte test.
 #[inline]
 pub(crate) fn agrees_at_end<E: Element>(
     elements: &[E],

@@ -1,4 +1,4 @@
-//! How long the segments of a path are. A pattern with a segment that none of them can fit is rejected by that.
+//! The lengths of the segments of a path. They reject a pattern with a segment that none of them can fit.
 
 ghost use Rattle.std.specs.{Prelude.{◌≡◌, ◌≤◌, ℕ, List, IsTrue, length}, List.All};
 ghost use Rattle.lc_glob.specs.{Leads.Leads, Lengths.{AreBetween, FitsSome}, Path.segments_left, Patterns.plain};
@@ -16,7 +16,7 @@ pub(crate) struct Lengths {
 }
 
 impl Lengths {
-    /// The lengths of a path that was not measured: any segment has such a length.
+    /// Returns the lengths of a path that was not measured: any segment has such a length.
     pub(crate) fn unknown() -> Self
         ensures { (names : List (List ℕ)) → All (λ name. length name ≤ usize.MAX) names → AreBetween result names }
     {
@@ -41,8 +41,8 @@ impl Lengths {
         Lengths { shortest, longest }
     }
 
-    /// Whether a pattern's segments may lead to the end of names of such lengths. It looks at no byte of a name, and where
-    /// nothing is known at no segment.
+    /// Returns whether a pattern's segments may lead to the end of names of such lengths. It looks at no byte of a name, and where nothing
+    /// is known at no segment.
     #[inline]
     pub(crate) fn allow(self, segments: SegmentsRef) -> bool
         ensures { (names : List (List ℕ)) → AreBetween self names → Leads (segments_ref_model segments.entry) names → IsTrue result }
@@ -50,7 +50,7 @@ impl Lengths {
         self.longest == usize::MAX || self.allow_each(segments)
     }
 
-    /// Like `allow`, by a look at each segment.
+    /// Like `allow`, but compares each segment.
     #[inline(never)]
     fn allow_each(self, segments: SegmentsRef) -> bool
         ensures { (names : List (List ℕ)) → AreBetween self names → Leads (segments_ref_model segments.entry) names → IsTrue result }
@@ -65,7 +65,7 @@ impl Lengths {
         true
     }
 
-    /// Whether a segment may fit a name of such a length.
+    /// Returns whether a segment may fit a name of such a length.
     fn allow_segment(self, segment: SegmentRef) -> bool
         ensures { FitsSome self (segment_ref_model segment.entry) → IsTrue result }
     {
@@ -75,7 +75,7 @@ impl Lengths {
         }
     }
 
-    /// Whether tokens may fit a name of such a length.
+    /// Returns whether tokens may fit a name of such a length.
     fn allow_tokens(self, tokens: TokensRef) -> bool
         ensures { FitsSome self (plain (tokens_ref_model tokens.entry)) → IsTrue result }
     {
@@ -87,7 +87,7 @@ impl Lengths {
         }
     }
 
-    /// Whether tokens of any kind may fit a name of such a length.
+    /// Returns whether tokens of any kind may fit a name of such a length.
     fn allow_elements<E: Element>(self, elements: &[E]) -> bool
         ensures { FitsSome self (plain (E.tokens_in elements.now)) → IsTrue result }
     {
@@ -99,7 +99,7 @@ impl Lengths {
         }
     }
 
-    /// Whether a name may have this length.
+    /// Returns whether a name may have this length.
     fn has(self, length: usize) -> bool
         ensures { self.shortest ≤ length → length ≤ self.longest → IsTrue result }
     {

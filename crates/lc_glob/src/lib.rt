@@ -4,31 +4,30 @@
 //! patterns and finds the last one that matches. Everything is bytes: neither a pattern nor a path need be text, letter case
 //! counts, and a byte is a character.
 //!
-//! | In a pattern | Stands for |
+//! | In a pattern | Matches |
 //! |---|---|
 //! | `*` | any bytes but a slash, none included |
 //! | `?` | one byte but a slash |
 //! | `[a-z]`, `[!a-z]`, `[[:digit:]]` | one byte of the set, or one that is neither in it nor a slash |
 //! | `\` and a byte | that byte |
-//! | `/` | the end of a segment; the last one asks for a directory, and any other anchors the pattern |
+//! | `/` | the end of a segment; at the end the pattern is for directories only, and elsewhere it is anchored |
 //! | `**` between separators | any run of segments, and as the last segment one or more |
 //!
-//! A pattern that can't be read so is dead: it ends in a single backslash, has a bracket without its close or with an
-//! unknown class, or an empty segment. A dead pattern matches nothing.
+//! A pattern that can't be read is dead and matches nothing. Such a pattern ends in a single backslash, has a bracket without its close or
+//! with an unknown class, or has an empty segment.
 //!
-//! A line of an ignore file may have more than a pattern, such as negation, a comment or trailing spaces. That is no part of
-//! the pattern.
+//! A line of an ignore file may have more than a pattern, such as negation, a comment or trailing spaces. These are no part of the pattern.
 //!
-//! Reading takes memory, and matching none. `matches_counted` and `match_directories_counted` return the number of byte
-//! tests: for a pattern of `p` bytes and a path of `q` they make at most `(p + 1) * (q + 1)`. The other calls match in the
-//! same way, but no contract bounds the tests that they make.
+//! Reading allocates memory, and matching allocates none. `matches_counted` and `match_directories_counted` return the number of byte
+//! tests: at most `(p + 1) * (q + 1)` for a pattern of `p` bytes and a path of `q`. The other calls match in the same way, but no contract
+//! bounds their tests.
 //!
-//! One byte test at an end rejects most paths that a pattern does not match (`end_look`). The segments of a long path are
-//! measured once, so that a pattern with a segment that none of them can fit is rejected without a byte test (`lengths`).
+//! One byte test at an end rejects most paths that a pattern does not match (`end_look`). The segments of a long path are measured once
+//! (`lengths`). This rejects a pattern with a segment that none of them can fit, without a byte test.
 //!
-//! - `pattern`, `pattern_set`, `candidate`: a pattern; many patterns in order; a path that many patterns are matched with
+//! - `pattern`, `pattern_set`, `candidate`: a pattern; many patterns in order; a path that is matched with many patterns
 //! - `reading`, `bracket`, `byte_set`, `token`, `scope`: bytes read as a pattern, and what the slashes in it mean
-//! - `simple_pattern`, `token_pattern`, `pattern_ref`, `pattern_view`: the two forms that patterns are kept in: bytes, and tokens
+//! - `simple_pattern`, `token_pattern`, `pattern_ref`, `pattern_view`: the two forms of patterns, bytes and tokens
 //! - `element`, `segment_ref`, `segments_left`, `path_segment`: segments of patterns and of paths, from either end
 //! - `match_path`, `match_segment`, `match_tokens`, `cursor`: matching a path; `match_above`: matching all directories above it
 //! - `path`, `cut`: paths and names, for all crates; bytes cut at a byte

@@ -1,7 +1,7 @@
-//! Which of the directories above a path a pattern matches, found in one pass over its segments.
+//! Which of the directories above a path a pattern matches, found in one pass over the pattern's segments.
 //!
-//! A flag for each name on the way down tells whether the segments that were passed lead to what stands above the name.
-//! So no segment is tried twice at a name, however many double stars stand before it.
+//! Each name on the way down has a flag. It shows whether the segments so far match the path above the name. So no segment is tried twice
+//! at a name, whatever number of double stars precede it.
 
 ghost use Rattle.std.specs.Prelude.{◌≡◌, ◌↔◌, ◌≤◌, ◌+◌, ◌*◌, IsTrue, false, length, take, slice_index_or, []};
 ghost use Rattle.lc_glob.specs.{Above.{names_of, IsSet, AreSet, Before, UpTo, has_nested_after}, Costs.{bytes_with_ends, full_cost}};
@@ -35,7 +35,7 @@ pub(crate) fn match_above(
     }
 }
 
-/// Flags the names of which the segments lead to what stands above.
+/// Sets the flags of the names above which the segments match the path.
 fn lead_above(segments: SegmentsRef, names: PathNames, flags: &mut [bool], tests: &mut ByteTests)
     requires { length names.names.now ≡ length flags.old }
     ensures len { length flags.new ≡ length flags.old }
@@ -81,7 +81,7 @@ pub(crate) fn keep(flags: &mut [bool], names: PathNames, tokens: TokensRef, test
     }
 }
 
-/// Whether a flag is kept: it is set, and the tokens fit the name.
+/// Returns whether a flag is kept: it is set, and the tokens fit the name.
 #[inline]
 fn keeps(is_set: bool, tokens: TokensRef, name: PathSegment, tests: &mut ByteTests) -> bool
     ensures kept { IsTrue result ↔ (IsTrue is_set × Fits (tokens_ref_model tokens.entry) name.entry.bytes.now) }
@@ -115,7 +115,7 @@ fn spread(flags: &mut [bool])
     }
 }
 
-/// Whether a double star comes after another one or after a segment with a star.
+/// Returns whether a double star comes after another one or after a segment with a star.
 pub(crate) fn has_nested_wildcards(segments: SegmentsRef) -> bool
     ensures { result ≡ has_nested_after false (segments_ref_model segments.entry) }
 {

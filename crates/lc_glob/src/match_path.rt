@@ -1,8 +1,8 @@
-//! Whether a pattern's segments match a path's.
+//! Matching a pattern's segments with those of a path.
 //!
-//! What stands after the last double star is compared from the end of the path, so that it costs no more than the
-//! pattern is long. Only what stands before it is looked for, from the front, with one place to go back to: the last
-//! double star that was passed, since the shortest run that serves one serves all before it.
+//! The segments after the last double star are compared from the end of the path, so they cost no more than the pattern is long. The
+//! segments before it are searched from the front. A shortest match of what precedes a double star leaves the most for the rest, so the
+//! search goes back only to the last double star that was passed.
 
 ghost use Rattle.std.specs.Prelude.{◌↔◌, ◌≤◌, ◌+◌, ◌-◌, IsTrue};
 ghost use Rattle.lc_glob.specs.{Matches.MatchesPath, Path.{segments_of, segments_left}};
@@ -14,7 +14,7 @@ use crate::match_segment::fits;
 use crate::path_segment::{ByteTests, PathLeft};
 use crate::segment_ref::{SegmentRef, SegmentsRef};
 
-/// Whether the segments match the path's. It is inlined, so that segments of each kind have code of their own: to test which kind
+/// Returns whether the segments match the path's. It is inlined, so that segments of each kind have code of their own: to test which kind
 /// they are, and to pass them on in memory, costs more than to compare the last of them, which rejects most paths.
 #[inline(always)]
 pub(crate) fn matches_path(segments: SegmentsRef, path: &Candidate, tests: &mut ByteTests) -> bool
@@ -133,7 +133,7 @@ impl<'p, 'n> PathCursor<'p, 'n> {
         }
     }
 
-    /// Goes back to these segments, with one more of the path's for the double star before them, where there is one.
+    /// Goes back to these segments, with one more of the path's for the double star before them, if there is one.
     fn retry(self) -> Option<Self>
         ensures { PathRetryIs self.entry result }
     {
@@ -144,7 +144,7 @@ impl<'p, 'n> PathCursor<'p, 'n> {
         })
     }
 
-    /// Whether the segments lead to the end of the path, from the last of both on.
+    /// Returns whether the segments lead to the end of the path, from the last of both on.
     #[inline(never)]
     fn leads_from_end(self, tests: &mut ByteTests) -> bool
         ensures leads { IsTrue result ↔ LeadsAt self.entry }
@@ -161,7 +161,7 @@ impl<'p, 'n> PathCursor<'p, 'n> {
         }
     }
 
-    /// Whether the segments lead to the end of the path, from the first of both on.
+    /// Returns whether the segments lead to the end of the path, from the first of both on.
     #[inline(never)]
     fn leads_from_front(self, tests: &mut ByteTests) -> bool
         ensures leads { IsTrue result ↔ LeadsAt self.entry }

@@ -1,4 +1,4 @@
-//! Whether a segment's tokens fit a segment of a path, by what they are kept as.
+//! Matching tokens of each form with a segment of a path.
 
 ghost use Rattle.std.specs.Prelude.{◌↔◌, ◌<◌, ◌+◌, ◌*◌, IsTrue, length};
 ghost use Rattle.lc_glob.specs.{Fits.Fits, Simple.end_tokens, Views.tokens_ref_model};
@@ -8,7 +8,7 @@ use crate::element::Element;
 use crate::path_segment::{ByteTests, PathSegment};
 use crate::segment_ref::TokensRef;
 
-/// Whether the tokens fit the segment.
+/// Returns whether the tokens fit the segment.
 #[inline]
 pub(crate) fn fits(tokens: TokensRef, segment: PathSegment, tests: &mut ByteTests) -> bool
     ensures fits { IsTrue result ↔ Fits (tokens_ref_model tokens.entry) segment.entry.bytes.now }
@@ -22,7 +22,7 @@ pub(crate) fn fits(tokens: TokensRef, segment: PathSegment, tests: &mut ByteTest
     }
 }
 
-/// Whether literals fit the segment, alone or after a star. One function for both costs less than a jump to either.
+/// Returns whether literals fit the segment, alone or after a star. One function for both costs less than a jump to either.
 #[inline]
 pub(crate) fn fits_end(
     literals: &[u8],
@@ -40,7 +40,7 @@ pub(crate) fn fits_end(
     segment.ends_with(literals, tests)
 }
 
-/// Whether tokens of any kind fit the segment.
+/// Returns whether tokens of any kind fit the segment.
 #[inline(never)]
 pub(crate) fn fits_elements<E: Element>(
     tokens: &[E],

@@ -1,8 +1,7 @@
-//! Whether the tokens of a segment fit a segment of a path, whatever they are kept as.
+//! Matching the tokens of a segment, of any form, with a segment of a path.
 //!
-//! What stands after the last star is compared from the end, once. Only what stands before it is looked for, from the
-//! front, with one place to go back to: the last star that was passed, since the fewest bytes that serve one star serve
-//! all before it.
+//! The tokens after the last star are compared from the end, once. The tokens before it are searched from the front. A shortest match of
+//! what precedes a star leaves the most for the rest, so the search goes back only to the last star that was passed.
 
 ghost use Rattle.std.specs.Prelude.{◌≡◌, ◌↔◌, ◌≤◌, ◌+◌, IsTrue, length};
 ghost use Rattle.lc_glob.specs.Steps.{FitsAt, cost_at, cost_after, FrontStepIs, EndStepIs};
@@ -64,7 +63,7 @@ impl<'p, 'n, E: Element> Cursor<'p, 'n, E> {
         }
     }
 
-    /// Whether the tokens fit the segment, from the last of both on.
+    /// Returns whether the tokens fit the segment, from the last of both on.
     pub(crate) fn fits(self, tests: &mut ByteTests) -> bool
         ensures fits { IsTrue result ↔ FitsAt E.tokens_in self.entry }
         ensures cost { tests.new.made ≤ tests.old.made + cost_at E.tokens_in self.entry }
@@ -80,7 +79,7 @@ impl<'p, 'n, E: Element> Cursor<'p, 'n, E> {
         }
     }
 
-    /// Whether the tokens fit the segment, from the first of both on.
+    /// Returns whether the tokens fit the segment, from the first of both on.
     #[inline(never)]
     fn fits_from_front(self, tests: &mut ByteTests) -> bool
         ensures fits { IsTrue result ↔ FitsAt E.tokens_in self.entry }

@@ -1,4 +1,4 @@
-//! What a path is: the names from a directory down to one of its entries, joined by slashes.
+//! Paths: the names from a directory down to one of its entries, joined by slashes.
 
 ghost use Rattle.std.specs.Prelude.{◌≡◌, nat_lt, length, OnOk, OnErr};
 ghost use Rattle.lc_glob.specs.Path.{is_good_name, is_good_path, depth_of, path_in, max_path, max_depth};
@@ -6,14 +6,14 @@ ghost use Rattle.lc_glob.specs.Path.{is_good_name, is_good_path, depth_of, path_
 use crate::cut::cut_at_first;
 use std::alloc::AllocError;
 
-/// The most bytes of a path.
+/// The greatest number of bytes of a path.
 pub const MAX_PATH: usize = 4_096;
 
-/// The most segments of a directory's path.
+/// The greatest number of segments of a directory's path.
 pub const MAX_DEPTH: usize = 256;
 
-/// Whether a directory can have an entry of this name: it is neither empty nor `.` nor `..`, and has neither a slash nor a
-/// NUL byte.
+/// Returns whether a directory can have an entry of this name: it is neither empty nor `.` nor `..`, and has neither a slash nor a NUL
+/// byte.
 ///
 /// ```
 /// assert!(rt; is_good_name(b"...") && !is_good_name(b".."));
@@ -24,7 +24,7 @@ pub fn is_good_name(name: &[u8]) -> bool
     !matches!(name, [] | [b'.'] | [b'.', b'.']) && !name.contains(&b'/') && !name.contains(&0)
 }
 
-/// Whether a tree can have an entry of this path: each of its segments is a good name. The empty path is none.
+/// Returns whether a tree can have an entry of this path: each of its segments is a good name. The empty path is none.
 ///
 /// ```
 /// assert!(rt; is_good_path(b"a/b") && !is_good_path(b"a//b"));
@@ -45,14 +45,14 @@ pub fn is_good_path(path: &[u8]) -> bool
     }
 }
 
-/// Whether a path has more than `MAX_PATH` bytes.
+/// Returns whether a path has more than `MAX_PATH` bytes.
 pub fn is_too_long(path: &[u8]) -> bool
     ensures { result ≡ nat_lt max_path (length path.now) }
 {
     path.len() > MAX_PATH
 }
 
-/// The number of segments of a path. The empty path, which is that of the directory itself, has none.
+/// Returns the number of segments of a path. The empty path, which is that of the directory itself, has none.
 ///
 /// ```
 /// assert!(rt; depth_of(b"") == 0 && depth_of(b"a/b") == 2);
@@ -70,14 +70,14 @@ pub fn depth_of(path: &[u8]) -> usize
     depth
 }
 
-/// Whether a directory's path has more than `MAX_DEPTH` segments.
+/// Returns whether a directory's path has more than `MAX_DEPTH` segments.
 pub fn is_too_deep(path: &[u8]) -> bool
     ensures { result ≡ nat_lt max_depth (depth_of path.now) }
 {
     depth_of(path) > MAX_DEPTH
 }
 
-/// Turns the path of a directory into that of its entry of this name. If an allocation fails, the path stays as it was.
+/// Adds the name of an entry to the path of its directory. If an allocation fails, the path stays as it was.
 ///
 /// ```
 /// push_name(&mut path, b"main.c")?; // of `src`

@@ -1,7 +1,7 @@
-//! Segments of a path, whose bytes are seen only through tests that are counted.
+//! Segments of a path, whose bytes are read only by counted tests.
 //!
-//! What is matched leaves this module as `PathSegment`s, `PathLeft`s and `PathNames`, whose bytes no other module can read. The search
-//! for slashes is not counted.
+//! Other modules get a path as `PathSegment`s, `PathLeft`s and `PathNames`, whose bytes they cannot read. The search for slashes is not
+//! counted.
 
 ghost use Rattle.std.specs.Prelude.{◌≡◌, ◌↔◌, ◌==◌, ◌<◌, ◌∷◌, ◌++◌, [], nat_le, nat_lt, IsTrue, MatchOption, length, bytes_eq, nat_eq};
 ghost use Rattle.std.specs.{Prelude.slice_index_or, List.ends_with};
@@ -44,7 +44,7 @@ impl ByteTests {
     }
 }
 
-/// A segment of a path, or what is left of one. Only the byte tests, which are counted, look at its bytes.
+/// A segment of a path, or the rest of one. Only the byte tests, which are counted, read its bytes.
 #[derive(Clone, Copy)]
 pub(crate) struct PathSegment<'a> {
     bytes: &'a [u8],
@@ -69,7 +69,7 @@ impl<'a> PathSegment<'a> {
         self.bytes.len()
     }
 
-    /// The segment without its first byte, which is not looked at.
+    /// Returns the segment without its first byte, which is not read.
     pub(crate) fn skip_first(self) -> Option<Self>
         ensures { SkipsFirst self.entry.bytes.now result }
     {
@@ -77,7 +77,7 @@ impl<'a> PathSegment<'a> {
         Some(PathSegment { bytes })
     }
 
-    /// The segment without its first byte, where a token that is no star stands for that one.
+    /// Returns the segment without its first byte, if a token that is no star matches that byte.
     pub(crate) fn strip_first(self, token: TokenRef, tests: &mut ByteTests) -> Option<Self>
         ensures strips { StripsFirst (token_ref_model token.entry) self.entry.bytes.now result }
         ensures counted { tests.new.made ≡ tests_if (nat_lt 0 (length self.entry.bytes.now)) tests.old.made 1 }
@@ -91,7 +91,7 @@ impl<'a> PathSegment<'a> {
         }
     }
 
-    /// The segment without its last byte, where a token that is no star stands for that one.
+    /// Returns the segment without its last byte, if a token that is no star matches that byte.
     pub(crate) fn strip_last(self, token: TokenRef, tests: &mut ByteTests) -> Option<Self>
         ensures strips { StripsLast (token_ref_model token.entry) self.entry.bytes.now result }
         ensures counted { tests.new.made ≡ tests_if (nat_lt 0 (length self.entry.bytes.now)) tests.old.made 1 }
@@ -105,7 +105,7 @@ impl<'a> PathSegment<'a> {
         }
     }
 
-    /// Whether the segment is these literals. It makes a byte test for each, where there are as many.
+    /// Returns whether the segment is these literals. If it has as many bytes, it makes a byte test for each.
     #[inline]
     pub(crate) fn is(self, literals: &[u8], tests: &mut ByteTests) -> bool
         ensures same { result ≡ bytes_eq self.entry.bytes.now literals.now }
@@ -115,7 +115,7 @@ impl<'a> PathSegment<'a> {
         self.bytes.len() == literals.len() && self.is_all(literals, tests)
     }
 
-    /// The same, with a test for each literal in any case.
+    /// Like `is`, but always counts a test for each literal.
     #[inline(never)]
     fn is_all(self, literals: &[u8], tests: &mut ByteTests) -> bool
         ensures same { result ≡ bytes_eq self.entry.bytes.now literals.now }
@@ -125,7 +125,7 @@ impl<'a> PathSegment<'a> {
         self.bytes == literals
     }
 
-    /// Whether the segment ends with these literals. It makes a byte test for each, where there are enough.
+    /// Returns whether the segment ends with these literals. If it has enough bytes, it makes a byte test for each.
     #[inline]
     pub(crate) fn ends_with(self, literals: &[u8], tests: &mut ByteTests) -> bool
         ensures ends { result ≡ ends_with nat_eq self.entry.bytes.now literals.now }
@@ -135,7 +135,7 @@ impl<'a> PathSegment<'a> {
         literals.len() <= self.bytes.len() && self.ends_with_all(literals, tests)
     }
 
-    /// The same, with a test for each literal in any case.
+    /// Like `ends_with`, but always counts a test for each literal.
     #[inline(never)]
     fn ends_with_all(self, literals: &[u8], tests: &mut ByteTests) -> bool
         ensures ends { result ≡ ends_with nat_eq self.entry.bytes.now literals.now }
@@ -154,7 +154,7 @@ pub(crate) struct PathLeft<'a> {
 }
 
 impl<'a> PathLeft<'a> {
-    /// The segments above the last of a path, and the last.
+    /// Returns the segments above the last of a path, and the last.
     pub(crate) fn split_path(path: PathSegment<'a>) -> (Self, PathSegment<'a>)
         ensures { segments_of path.entry.bytes.now ≡ segments_left result.0.rest ++ result.1.bytes.now ∷ [] }
     {
@@ -162,7 +162,7 @@ impl<'a> PathLeft<'a> {
         (PathLeft { rest }, PathSegment { bytes: last })
     }
 
-    /// Whether no segment is left.
+    /// Returns whether no segment is left.
     pub(crate) fn is_over(self) -> bool
         ensures { IsTrue result ↔ (segments_left self.entry.rest ≡ []) }
     {
@@ -172,7 +172,7 @@ impl<'a> PathLeft<'a> {
         }
     }
 
-    /// The first of the segments, and the others.
+    /// Returns the first of the segments, and the others.
     pub(crate) fn split_first(self) -> Option<(PathSegment<'a>, Self)>
         ensures { MatchOption result (segments_left self.entry.rest ≡ [])
             (λ p. segments_left self.entry.rest ≡ p.0.bytes.now ∷ segments_left p.1.rest) }
@@ -181,7 +181,7 @@ impl<'a> PathLeft<'a> {
         Some((PathSegment { bytes: first }, PathLeft { rest }))
     }
 
-    /// The segments before the last, and the last.
+    /// Returns the segments before the last, and the last.
     pub(crate) fn split_last(self) -> Option<(Self, PathSegment<'a>)>
         ensures { MatchOption result (segments_left self.entry.rest ≡ [])
             (λ p. segments_left self.entry.rest ≡ segments_left p.0.rest ++ p.1.bytes.now ∷ []) }
@@ -204,7 +204,7 @@ impl<'a> PathNames<'a> {
         PathNames { names }
     }
 
-    /// The name at a place.
+    /// Returns the name at a place.
     pub(crate) fn at(self, place: usize) -> PathSegment<'a>
         requires { place < length self.names.now }
         ensures { result.bytes.now ≡ slice_index_or (names_of self.entry.names.now) place [] }

@@ -1,4 +1,4 @@
-//! A pattern, and whether it matches a path.
+//! Patterns, and matching them with paths.
 
 ghost use Rattle.std.specs.Prelude.{◌≡◌, ◌↔◌, ◌≤◌, ◌+◌, ◌*◌, IsTrue, length, List, ℕ, IfOk};
 ghost use Rattle.lc_glob.specs.{Above.{names_of, TellMatches, has_nested_wildcards}, IsMatch.{is_match, IsMatchDecides}, Matches.Matches};
@@ -46,7 +46,7 @@ impl Model for Pattern {
 }
 
 impl Pattern {
-    /// Reads bytes as a pattern. Any bytes are one, perhaps a dead one.
+    /// Reads bytes as a pattern. Any bytes make one; bytes that are no valid pattern make a dead one.
     ///
     /// The bytes are the pattern alone, without the `!` of a negated line and without its trailing spaces. The only error
     /// is a failed allocation.
@@ -60,32 +60,32 @@ impl Pattern {
         read_pattern(alloc, bytes)
     }
 
-    /// Whether the bytes could not be read, so that the pattern matches nothing, such as `[a` and `a//b`.
+    /// Returns whether the bytes could not be read, so that the pattern matches nothing, such as `[a` and `a//b`.
     pub fn is_dead(&self) -> bool
         ensures { result ≡ self.now.is_dead }
     {
         self.as_ref().is_dead()
     }
 
-    /// Whether the pattern matches directories only, such as `build/`. It is false for a dead pattern.
+    /// Returns whether the pattern matches directories only, such as `build/`. It is false for a dead pattern.
     pub fn is_dir_only(&self) -> bool
         ensures { result ≡ self.now.is_dir_only }
     {
         self.as_ref().is_dir_only()
     }
 
-    /// Whether the pattern is matched with a whole path, such as `/a` and `a/b`, and not with a path's last segment alone,
-    /// such as `a`. It is false for a dead pattern.
+    /// Returns whether the pattern is matched with a whole path, such as `/a` and `a/b`, and not with a path's last segment alone, such as
+    /// `a`. It is false for a dead pattern.
     pub fn is_anchored(&self) -> bool
         ensures { result ≡ self.now.is_anchored }
     {
         self.as_ref().is_anchored()
     }
 
-    /// Whether the pattern matches the path.
+    /// Returns whether the pattern matches the path.
     ///
-    /// The path is relative to the directory of the pattern's file: segments separated by single slashes, and no slash at
-    /// its ends. `is_dir` tells whether it is a directory. Whether a directory matches says nothing of what is inside it.
+    /// The path is relative to the directory of the pattern's file: segments separated by single slashes, and no slash at its ends.
+    /// `is_dir` is true for a directory. A pattern that matches a directory need not match the paths inside it.
     ///
     /// ```
     /// assert!(rt; Pattern::read(alloc, b"frotz/")?.matches(b"a/frotz", true));
@@ -129,8 +129,8 @@ impl Pattern {
         (found, tests.made())
     }
 
-    /// Finds which of the directories above a path the pattern matches, in one pass for all of them. The flag of each name
-    /// is that of the directory whose path has the names up to that one. It allocates nothing.
+    /// Finds which of the directories above a path the pattern matches, in one pass for all of them. The flag at a name is for the
+    /// directory whose path ends with that name. It allocates nothing.
     ///
     /// ```
     /// let mut flags = [false; 3];
@@ -146,8 +146,8 @@ impl Pattern {
             .match_directories(PathNames::new(names), flags);
     }
 
-    /// Like `match_directories`, but also counts byte tests: for all directories together it makes no more than one match
-    /// with the whole path may make.
+    /// Like `match_directories`, but also counts byte tests. For all directories together the bound is that of one match with the whole
+    /// path.
     ///
     /// ```
     /// let mut flags = [false; 2];
@@ -167,9 +167,8 @@ impl Pattern {
         tests.made()
     }
 
-    /// Whether matching one directory after another repeats work: a double star comes after another one or after a segment
-    /// with a star, as in `**/a/**`. Such a pattern is better matched with all directories above a path in one pass, by
-    /// `match_directories`.
+    /// Returns whether matching one directory after another repeats work: a double star comes after another one or after a segment with a
+    /// star, as in `**/a/**`. Such a pattern is better matched with all directories above a path in one pass, by `match_directories`.
     pub fn has_nested_wildcards(&self) -> bool
         ensures { result ≡ has_nested_wildcards self.now }
     {
@@ -192,8 +191,8 @@ impl Pattern {
     }
 }
 
-/// The law that the two definitions of a match agree: `is_match`, which computes, is true exactly where the relation
-/// `Matches` holds. The function does nothing when it runs.
+/// The law that the two definitions of a match agree: `is_match`, which computes, is true exactly if the relation `Matches` holds. The
+/// function does nothing when it runs.
 pub fn is_match_decides()
     ensures { IsMatchDecides }
 {}

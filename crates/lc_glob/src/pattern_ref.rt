@@ -1,4 +1,4 @@
-//! A pattern that is lent, and whether it matches.
+//! A borrowed pattern, and matching it.
 
 ghost use Rattle.std.specs.Prelude.{◌≡◌, ◌↔◌, ◌≤◌, ◌+◌, IsTrue, length};
 ghost use Rattle.lc_glob.specs.{Above.{names_of, TellMatches, has_nested_wildcards}, Costs.{full_cost, match_cost}, IsMatch.is_match};

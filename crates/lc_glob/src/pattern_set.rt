@@ -1,4 +1,4 @@
-//! Many patterns in order, kept side by side.
+//! Many patterns in order, stored side by side.
 
 ghost use Rattle.std.specs.{Prelude.{◌≡◌, ◌↔◌, ◌<◌, ◌≤◌, ◌++◌, ◌∷◌, [], length, IfOk, IfSome, IsTrue, OnErr, OnOk}, List.list_any};
 ghost use Rattle.lc_glob.specs.{Above.{names_of, TellMatches, has_nested_wildcards}, PatternSets.{last_match_below, pattern_at}};
@@ -26,7 +26,7 @@ pub(crate) enum PatternForm {
 #[derive(Clone, Copy)]
 pub(crate) struct PatternSpan {
     form: PatternForm,
-    /// Where its bytes or tokens begin.
+    /// The index at which its bytes or tokens begin.
     start: u32,
     /// How many it has.
     len: u32,
@@ -46,7 +46,7 @@ impl PatternSpan {
 
 /// Patterns in order, such as those of an ignore file's rules. A path is matched with all of them in one call.
 ///
-/// A pattern takes 12 bytes, and those of its bytes or tokens that it is matched from, which are kept side by side.
+/// A pattern takes 12 bytes besides the bytes or tokens that it is matched from, which are stored side by side.
 ///
 /// ```
 /// let mut set = PatternSet::new(alloc);
@@ -84,8 +84,7 @@ impl PatternSet {
         }
     }
 
-    /// Adds a copy of a pattern at the end. More than 4 GiB of bytes or of tokens are refused like a failed allocation. After
-    /// an error the set is as it was.
+    /// Adds a copy of a pattern at the end. If an allocation fails, or with more than 4 GiB of bytes or of tokens, the set stays as it was.
     pub fn push(&mut self, pattern: &Pattern) -> Result<(), AllocError>
         ensures ok { OnOk result (self.new ≡ self.old ++ pattern.now ∷ []) }
         ensures err { OnErr result (self.new ≡ self.old) }
@@ -129,14 +128,14 @@ impl PatternSet {
         self.tokens.shrink_to_fit();
     }
 
-    /// The number of patterns, dead ones included.
+    /// Returns the number of patterns, dead ones included.
     pub fn len(&self) -> usize
         ensures { result ≡ length self.now }
     {
         self.spans.len()
     }
 
-    /// Whether the set has no pattern.
+    /// Returns whether the set has no pattern.
     pub fn is_empty(&self) -> bool
         ensures { IsTrue result ↔ (self.now ≡ []) }
     {
@@ -187,7 +186,7 @@ impl PatternSet {
         None
     }
 
-    /// Whether the pattern at an index matches directories only, such as `build/`. A dead pattern does not.
+    /// Returns whether the pattern at an index matches directories only, such as `build/`. A dead pattern does not.
     pub fn is_dir_only(&self, index: usize) -> bool
         requires { index < length self.now }
         ensures { result ≡ (pattern_at self.now index).is_dir_only }
@@ -206,7 +205,7 @@ impl PatternSet {
             .match_directories(PathNames::new(names), flags);
     }
 
-    /// Whether some pattern has nested wildcards, as `Pattern::has_nested_wildcards` says.
+    /// Returns whether some pattern has nested wildcards, as `Pattern::has_nested_wildcards` says.
     pub fn has_nested_wildcards(&self) -> bool
         ensures { result ≡ list_any has_nested_wildcards self.now }
     {
@@ -221,7 +220,7 @@ impl PatternSet {
     }
 }
 
-/// A number of bytes or of tokens in four bytes.
+/// Returns a number of bytes or of tokens in four bytes.
 fn to_u32(count: usize) -> Result<u32, AllocError>
     ensures { IfOk result (λ number. number ≡ count) }
 {

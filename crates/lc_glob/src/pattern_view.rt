@@ -1,4 +1,4 @@
-//! A pattern seen by what of a path it is matched with.
+//! Views of a pattern, by the part of a path that it is matched with.
 
 ghost use Rattle.std.specs.Prelude.{◌≡◌, ◌≤◌, ◌+◌, Bool, length};
 ghost use Rattle.lc_glob.specs.{Above.{names_of, TellMatches, has_nested_wildcards}, Costs.full_cost};
@@ -11,14 +11,14 @@ use crate::segments_left::SegmentsLeft;
 use crate::simple_pattern::{OtherKind, SimpleKind};
 use std::marker::Model;
 
-/// A pattern, by what of a path it is matched with.
+/// A pattern, by the part of a path that it is matched with.
 #[derive(Drop)]
 pub(crate) struct PatternView<'p> {
     pub(crate) is_dir_only: bool,
     pub(crate) kind: KindRef<'p>,
 }
 
-/// What of a path a pattern is matched with.
+/// The part of a path that a pattern is matched with.
 #[derive(Clone, Copy)]
 pub(crate) enum KindRef<'p> {
     /// Nothing, since the pattern is dead.
@@ -55,7 +55,7 @@ impl<'p> KindRef<'p> {
 }
 
 impl<'p> PatternView<'p> {
-    /// The view of a simple pattern.
+    /// Returns the view of a simple pattern.
     pub(crate) fn of_simple(is_dir_only: bool, kind: SimpleKind, bytes: &'p [u8]) -> Self
         ensures { result ≡ simple_model is_dir_only kind bytes.now }
     {

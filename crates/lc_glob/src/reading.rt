@@ -1,4 +1,4 @@
-//! Bytes read as a pattern: their tokens, and what those are kept as.
+//! Reading bytes as a pattern: their tokens, and the form in which these are stored.
 
 ghost use Rattle.std.specs.Prelude.{◌≡◌, ◌≤◌, ◌∷◌, [], length, false, MatchOption, IfOk, IfSome, Some, None};
 ghost use Rattle.lc_glob.specs.{Elements.parts_in, TokenLists.{is_separator, literal_tokens, tokens_model}, Patterns.{dead, plain}};
@@ -13,7 +13,7 @@ use crate::token::Token;
 use smallvec::SmallVec;
 use std::alloc::{AllocError, Global};
 
-/// The token of a byte that means itself: a slash separates, quoted or not.
+/// Returns the token of a byte that means itself: a slash separates, quoted or not.
 fn own_token(b: u8) -> Token
     ensures { lexeme_tokens (literal_lexeme b) ≡ result ∷ [] }
 {
@@ -24,7 +24,7 @@ fn own_token(b: u8) -> Token
     }
 }
 
-/// The token of a byte that neither quotes nor opens a bracket.
+/// Returns the token of a byte that neither quotes nor opens a bracket.
 fn byte_token(b: u8) -> Token
     ensures { lexeme_tokens (byte_lexeme b) ≡ result ∷ [] }
 {
@@ -35,7 +35,7 @@ fn byte_token(b: u8) -> Token
     }
 }
 
-/// Pushes the byte after a backslash, and says how many are taken; `None` where there is none, so that the pattern is dead.
+/// Pushes the byte after a backslash, and returns how many bytes it read. It returns `None` if there is none, so that the pattern is dead.
 fn push_quoted(rest: &[u8], tokens: &mut Vec<Token>) -> Result<Option<usize>, AllocError>
     ensures is { IfOk result (λ r. Pushes lexeme_tokens (quoted rest.now) tokens.old.items tokens.new.items r) }
     ensures within { IfOk result (λ r. IfSome r (λ k. k ≤ length rest.now)) }
@@ -47,7 +47,7 @@ fn push_quoted(rest: &[u8], tokens: &mut Vec<Token>) -> Result<Option<usize>, Al
     Ok(Some(1))
 }
 
-/// Pushes what begins with the byte `b`, and says how many of the bytes after it are taken; `None` where it makes the
+/// Pushes the token that begins with the byte `b`, and returns how many of the bytes after it were read. It returns `None` if they make the
 /// pattern dead.
 fn push_lexeme(b: u8, rest: &[u8], tokens: &mut Vec<Token>) -> Result<Option<usize>, AllocError>
     ensures is { IfOk result (λ r. Pushes lexeme_tokens (lexeme b rest.now) tokens.old.items tokens.new.items r) }
@@ -63,7 +63,7 @@ fn push_lexeme(b: u8, rest: &[u8], tokens: &mut Vec<Token>) -> Result<Option<usi
     Ok(Some(0))
 }
 
-/// The tokens of the bytes, or `None` where the pattern is dead.
+/// Returns the tokens of the bytes, or `None` where the pattern is dead.
 fn read_tokens(alloc: Global, bytes: &[u8]) -> Result<Option<Vec<Token>>, AllocError>
     ensures { IfOk result (λ r. MatchOption r (parts 0 bytes.now ≡ None)
         (λ tokens. parts 0 bytes.now ≡ Some (parts_in tokens_model is_separator tokens.items))) }
@@ -98,7 +98,7 @@ pub(crate) fn read_pattern(alloc: Global, bytes: &[u8]) -> Result<Pattern, Alloc
     keep_last(alloc, scope.is_dir_only, tokens)
 }
 
-/// The pattern with bytes of its own.
+/// Returns the pattern with bytes of its own.
 fn keep_simple(alloc: Global, simple: SimplePattern) -> Result<Pattern, AllocError>
     ensures { IfOk result (λ p. p ≡ form_model simple.entry.form simple.entry.bytes.now) }
 {
@@ -108,7 +108,7 @@ fn keep_simple(alloc: Global, simple: SimplePattern) -> Result<Pattern, AllocErr
     })
 }
 
-/// The pattern with tokens of its own.
+/// Returns the pattern with tokens of its own.
 fn keep_tokens(alloc: Global, scope: Scope, tokens: &[Token]) -> Result<Pattern, AllocError>
     ensures { IfOk result (λ p. p ≡ token_pattern_model scope tokens.now) }
 {
@@ -117,7 +117,7 @@ fn keep_tokens(alloc: Global, scope: Scope, tokens: &[Token]) -> Result<Pattern,
     })
 }
 
-/// The pattern of one segment. If it has only literals, such as `\\#a`, or a star and then literals, such as `*\\ `, their bytes
+/// Returns the pattern of one segment. If it has only literals, such as `\\#a`, or a star and then literals, such as `*\\ `, their bytes
 /// are kept.
 fn keep_last(alloc: Global, is_dir_only: bool, tokens: &[Token]) -> Result<Pattern, AllocError>
     ensures { IfOk result (λ p. p ≡ live_model is_dir_only false (plain (tokens_model tokens.now) ∷ [])) }
@@ -150,7 +150,7 @@ fn of_literals(is_dir_only: bool, kind: SimpleKind, literals: SmallVec<u8, 16>) 
     }
 }
 
-/// The literals, where the tokens are literals alone.
+/// Returns the literals, if the tokens are literals alone.
 fn literals_of(alloc: Global, tokens: &[Token]) -> Result<Option<SmallVec<u8, 16>>, AllocError>
     ensures { IfOk result (λ r. IfSome r (λ literals. tokens.now ≡ literal_tokens literals.items)) }
 {

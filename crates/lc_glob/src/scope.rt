@@ -1,4 +1,4 @@
-//! What the separators of a pattern say of it: at its ends and between its segments.
+//! The meaning of a pattern's separators: at its ends and between its segments.
 
 ghost use Rattle.std.specs.Prelude.{◌≡◌, ◌++◌, [], nat_lt, length, MatchOption, if◌then◌else◌, Some};
 ghost use Rattle.lc_glob.specs.{Elements.{parts_in, trimmed_model}, Patterns.dead};
@@ -36,7 +36,7 @@ pub(crate) fn trim<'p, E: Element>(elements: &'p [E]) -> Option<(Scope, &'p [E])
     Some((scope, segments))
 }
 
-/// The elements without the separator that is last, and whether it was there.
+/// Returns the elements without the separator that is last, and whether it was there.
 fn without_last_separator<'p, E: Element>(elements: &'p [E]) -> (&'p [E], bool)
     ensures ends { result.1 ≡ ends_empty (parts_in E.tokens_in E.separates elements.now) }
     ensures parts { parts_in E.tokens_in E.separates result.0.now
@@ -54,7 +54,7 @@ fn without_last_separator<'p, E: Element>(elements: &'p [E]) -> (&'p [E], bool)
     }
 }
 
-/// The elements without the separator that is first, and whether it was there.
+/// Returns the elements without the separator that is first, and whether it was there.
 fn without_first_separator<'p, E: Element>(elements: &'p [E]) -> (&'p [E], bool)
     ensures begins { result.1 ≡ begins_empty (parts_in E.tokens_in E.separates elements.now) }
     ensures parts { parts_in E.tokens_in E.separates result.0.now
@@ -72,7 +72,7 @@ fn without_first_separator<'p, E: Element>(elements: &'p [E]) -> (&'p [E], bool)
     }
 }
 
-/// Whether a segment is empty, which makes the pattern dead.
+/// Returns whether a segment is empty, which makes the pattern dead.
 fn has_empty<E: Element>(elements: &[E]) -> bool
     ensures { result ≡ some_empty (parts_in E.tokens_in E.separates elements.now) }
 {

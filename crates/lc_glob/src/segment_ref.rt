@@ -45,20 +45,20 @@ pub(crate) enum SegmentRef<'p> {
 }
 
 impl<'p> SegmentRef<'p> {
-    /// The segment of the bytes between two separators of a simple pattern.
+    /// Returns the segment of the bytes between two separators of a simple pattern.
     #[inline(always)]
     fn of_bytes(bytes: &'p [u8]) -> Self
         ensures { segment_ref_model result ≡ bytes_segment bytes.now }
     {
         match bytes {
             [b'*', b'*'] => SegmentRef::DoubleStar,
-            // Any name fits it, which a suffix tells at one look.
+            // Any name fits it, and an empty suffix shows that at once.
             [b'*'] => SegmentRef::Plain(TokensRef::Suffix(&[])),
             _ => SegmentRef::Plain(TokensRef::Bytes(bytes)),
         }
     }
 
-    /// The segment of the tokens between two separators.
+    /// Returns the segment of the tokens between two separators.
     #[inline(always)]
     fn of_tokens(tokens: &'p [Token]) -> Self
         ensures { segment_ref_model result ≡ segment_from true (tokens_model tokens.now) }
@@ -70,7 +70,7 @@ impl<'p> SegmentRef<'p> {
         }
     }
 
-    /// The segment of bytes that are a double star, or literals, alone or after a star.
+    /// Returns the segment of bytes that are a double star, or literals, alone or after a star.
     #[inline(always)]
     fn of_end(bytes: &'p [u8]) -> Self
         ensures { segment_ref_model result ≡ ends_segment bytes.now }
@@ -88,7 +88,7 @@ impl<'p> SegmentRef<'p> {
         matches!(self, SegmentRef::DoubleStar)
     }
 
-    /// Whether the segment is a double star or has a star.
+    /// Returns whether the segment is a double star or has a star.
     pub(crate) fn is_wide(self) -> bool
         ensures { result ≡ is_wide (segment_ref_model self.entry) }
     {
@@ -113,7 +113,7 @@ pub(crate) enum SegmentsRef<'p> {
 }
 
 impl<'p> SegmentsRef<'p> {
-    /// Whether no segment is left.
+    /// Returns whether no segment is left.
     pub(crate) fn is_empty(self) -> bool
         ensures { IsTrue result ↔ (segments_ref_model self.entry ≡ []) }
     {
@@ -125,7 +125,7 @@ impl<'p> SegmentsRef<'p> {
         }
     }
 
-    /// The first segment, and the others.
+    /// Returns the first segment, and the others.
     pub(crate) fn split_first(self) -> Option<(SegmentRef<'p>, SegmentsRef<'p>)>
         ensures { MatchOption result (segments_ref_model self.entry ≡ [])
             (λ p. segments_ref_model self.entry ≡ segment_ref_model p.0 ∷ segments_ref_model p.1) }
@@ -151,7 +151,7 @@ impl<'p> SegmentsRef<'p> {
         }
     }
 
-    /// The last segment, and the others.
+    /// Returns the last segment, and the others.
     #[inline(always)]
     pub(crate) fn split_last(self) -> Option<(SegmentRef<'p>, SegmentsRef<'p>)>
         ensures { MatchOption result (segments_ref_model self.entry ≡ [])

@@ -1,4 +1,4 @@
-//! Segments of a pattern, cut by separators, that are found one by one from either end.
+//! Segments of a pattern, cut at separators, one by one from either end.
 
 ghost use Rattle.std.specs.{Prelude.{◌≡◌, ◌↔◌, IsTrue, [], ◌∷◌, ◌++◌, MatchOption}, List.slice_split};
 ghost use Rattle.lc_glob.specs.Pieces.{cuts_left};
@@ -12,7 +12,7 @@ pub(crate) struct SegmentsLeft<'a, E> {
 }
 
 impl<'a, E: Element> SegmentsLeft<'a, E> {
-    /// All segments of the elements.
+    /// Returns all segments of the elements.
     pub(crate) fn of(elements: &'a [E]) -> Self
         ensures { cuts_left E.separates result.rest ≡ slice_split E.separates elements.now }
     {
@@ -21,7 +21,7 @@ impl<'a, E: Element> SegmentsLeft<'a, E> {
         }
     }
 
-    /// Whether no segment is left.
+    /// Returns whether no segment is left.
     pub(crate) fn is_over(self) -> bool
         ensures { IsTrue result ↔ (cuts_left E.separates self.entry.rest ≡ []) }
     {
@@ -31,7 +31,7 @@ impl<'a, E: Element> SegmentsLeft<'a, E> {
         }
     }
 
-    /// The first of the segments, and the others.
+    /// Returns the first of the segments, and the others.
     pub(crate) fn split_first(self) -> Option<(&'a [E], SegmentsLeft<'a, E>)>
         ensures { MatchOption result (cuts_left E.separates self.entry.rest ≡ [])
             (λ p. cuts_left E.separates self.entry.rest ≡ p.0.now ∷ cuts_left E.separates p.1.rest) }
@@ -40,7 +40,7 @@ impl<'a, E: Element> SegmentsLeft<'a, E> {
         Some((first, SegmentsLeft { rest }))
     }
 
-    /// The segments before the last, and the last.
+    /// Returns the segments before the last, and the last.
     pub(crate) fn split_last(self) -> Option<(SegmentsLeft<'a, E>, &'a [E])>
         ensures { MatchOption result (cuts_left E.separates self.entry.rest ≡ [])
             (λ p. cuts_left E.separates self.entry.rest ≡ cuts_left E.separates p.0.rest ++ p.1.now ∷ []) }

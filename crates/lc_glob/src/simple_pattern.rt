@@ -52,8 +52,7 @@ pub(crate) struct SimpleForm {
     pub(crate) kind: SimpleKind,
 }
 
-/// A simple pattern: its form, and those of its bytes that are kept, without the separators at its ends and, where it is a suffix,
-/// without the star.
+/// A simple pattern: its form, and the bytes that it is matched from. These have no separators at the ends, and those of a suffix no star.
 #[derive(Clone, Copy)]
 pub(crate) struct SimplePattern<'p> {
     pub(crate) form: SimpleForm,
@@ -61,8 +60,8 @@ pub(crate) struct SimplePattern<'p> {
 }
 
 impl<'p> SimplePattern<'p> {
-    /// Reads bytes as a simple pattern, perhaps a dead one. It gives `None` where a byte is quoted or opens a bracket, and takes no
-    /// memory.
+    /// Reads bytes as a simple pattern, perhaps a dead one. It returns `None` if a byte is quoted or opens a bracket, and allocates
+    /// nothing.
     pub(crate) fn read(bytes: &'p [u8]) -> Option<Self>
         ensures { MatchOption result (list_all is_simple bytes.now ≡ false) (λ p. form_model p.form p.bytes.now ≡ pattern_of bytes.now) }
     {
@@ -100,8 +99,8 @@ impl<'p> SimplePattern<'p> {
         PatternView::of_simple(self.form.is_dir_only, self.form.kind, self.bytes)
     }
 
-    /// Whether the pattern matches. The most usual kind is matched inline, so that most patterns aren't passed on in memory, and
-    /// no view is made of it: either would cost more than most matches.
+    /// Returns whether the pattern matches. The most usual kind is matched inline, so that most patterns aren't passed on in memory, and no
+    /// view is made of it: either would cost more than most matches.
     #[inline]
     pub(crate) fn matched(self, path: &Candidate, is_dir: bool, tests: &mut ByteTests) -> bool
         ensures meaning { IsTrue result ↔ Matches (form_model self.entry.form self.entry.bytes.now) path.now is_dir }
@@ -118,7 +117,7 @@ impl<'p> SimplePattern<'p> {
         }
     }
 
-    /// Whether the path agrees with the pattern at an end. That rejects most paths that it does not match.
+    /// Returns whether the path agrees with the pattern at an end. That rejects most paths that it does not match.
     #[inline]
     fn agrees(self, other: OtherKind, path: &Candidate, tests: &mut ByteTests) -> bool
         ensures told { Matches (simple_model false (Other other) self.entry.bytes.now) path.now false → IsTrue result }
@@ -134,7 +133,7 @@ impl<'p> SimplePattern<'p> {
         }
     }
 
-    /// Whether the pattern matches a path that is a directory where it must be one.
+    /// Returns whether the pattern matches a path. If the pattern is for directories, the path must be that of one.
     #[inline(never)]
     fn matched_by(self, other: OtherKind, path: &Candidate, tests: &mut ByteTests) -> bool
         ensures meaning { IsTrue result ↔ Matches (simple_model false (Other other) self.entry.bytes.now) path.now false }
@@ -156,7 +155,7 @@ impl<'p> SimplePattern<'p> {
     }
 }
 
-/// Whether segments of literals alone match a path, which then has the same bytes.
+/// Returns whether segments of literals alone match a path, which then has the same bytes.
 #[inline]
 fn matches_exactly(bytes: &[u8], path: &Candidate, tests: &mut ByteTests) -> bool
     ensures same { IsTrue result ↔ MatchesPath (map exact_segment (segments_of bytes.now)) (segments_of path.now) }
@@ -165,7 +164,7 @@ fn matches_exactly(bytes: &[u8], path: &Candidate, tests: &mut ByteTests) -> boo
     path.is(bytes, tests)
 }
 
-/// Whether no byte of a pattern is quoted, and none opens a bracket.
+/// Returns whether no byte of a pattern is quoted, and none opens a bracket.
 fn are_simple(bytes: &[u8]) -> bool
     ensures { result ≡ list_all is_simple bytes.now }
 {
@@ -178,7 +177,7 @@ fn is_simple(b: u8) -> bool
     b != b'\\' && b != b'['
 }
 
-/// Whether each segment is a double star, or literals, alone or after a star.
+/// Returns whether each segment is a double star, or literals, alone or after a star.
 fn has_ends(bytes: &[u8]) -> bool
     ensures { result ≡ list_all is_ends_segment (segments_of bytes.now) }
 {
@@ -192,7 +191,7 @@ fn has_ends(bytes: &[u8]) -> bool
     true
 }
 
-/// Whether bytes are literals, alone or after a star.
+/// Returns whether bytes are literals, alone or after a star.
 fn is_end(bytes: &[u8]) -> bool
     ensures { result ≡ is_end bytes.now }
 {

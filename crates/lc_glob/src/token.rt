@@ -32,7 +32,7 @@ impl Token {
         matches!(self, Token::Separator)
     }
 
-    /// Whether the token stands for one byte.
+    /// Returns whether the token matches one byte.
     pub(crate) fn is_for_byte(self) -> bool
         ensures { result ≡ is_for_byte self }
     {
@@ -50,7 +50,7 @@ pub(crate) enum TokenRef<'p> {
 }
 
 impl<'p> TokenRef<'p> {
-    /// The token of a byte of a simple pattern.
+    /// Returns the token of a byte of a simple pattern.
     pub(crate) fn of_byte(b: u8) -> Self
         ensures { token_ref_model result ≡ byte_token b }
     {
@@ -81,7 +81,7 @@ impl<'p> TokenRef<'p> {
         matches!(self, TokenRef::Star)
     }
 
-    /// Whether a token that is no star stands for this byte.
+    /// Returns whether a token that is no star matches this byte.
     pub(crate) fn takes(self, b: u8) -> bool
         ensures { result ≡ takes (token_ref_model self.entry) b }
     {

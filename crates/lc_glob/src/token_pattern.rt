@@ -1,4 +1,4 @@
-//! Patterns that aren't simple, which are matched from their tokens.
+//! Patterns that are not simple, which are matched from their tokens.
 
 ghost use Rattle.std.specs.Prelude.{◌≡◌, ◌≤◌, ◌+◌, ◌↔◌, IsTrue};
 ghost use Rattle.lc_glob.specs.{Costs.match_cost, Matches.Matches, Views.token_pattern_model};
@@ -36,7 +36,7 @@ impl<'p> TokenPattern<'p> {
         }
     }
 
-    /// Whether the pattern matches. It is not inlined, so that the code that matches a simple pattern stays short.
+    /// Returns whether the pattern matches. It is not inlined, so that the code that matches a simple pattern stays short.
     #[inline(never)]
     pub(crate) fn matched(self, path: &Candidate, is_dir: bool, tests: &mut ByteTests) -> bool
         ensures meaning { IsTrue result ↔ Matches (token_pattern_model self.entry.scope self.entry.tokens.now) path.now is_dir }

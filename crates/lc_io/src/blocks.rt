@@ -1,4 +1,4 @@
-//! A text that is written in blocks as it is made, so that it never stands whole in memory.
+//! Writing a text in blocks while it is made, so that it is never in memory as a whole.
 
 ghost use Rattle.std.specs.Prelude.{◌≡◌, ◌≢◌, []};
 ghost use Rattle.lc_io.specs.Blocks.{AnswersBlock};
@@ -9,12 +9,12 @@ use crate::printing::{PrintFault, print};
 use crate::sink::Sink;
 use std::alloc::Global;
 
-/// The bytes from which on a block is full: 64 KiB.
+/// The number of bytes at which a block is full: 64 KiB.
 pub const BLOCK_SIZE: usize = 65_536;
 
-/// The end of a text that is not written yet. Lines are appended to it, and it is written whole as soon as it is full.
+/// The end of a text that is not written yet. Lines are appended to it, and it is written as soon as it is full.
 ///
-/// It may grow past [`BLOCK_SIZE`] by one line, and keeps its room from one write to the next.
+/// It may grow past [`BLOCK_SIZE`] by one line. Its memory is kept from one write to the next.
 ///
 /// ```
 /// let mut block = Block::new(alloc);
@@ -32,7 +32,7 @@ pub struct Block {
 }
 
 impl Block {
-    /// Makes an empty block. It has no room yet.
+    /// Makes an empty block, without allocating.
     pub fn new(alloc: Global) -> Block
         ensures { result.text.items ≡ [] }
     {
@@ -41,7 +41,7 @@ impl Block {
         }
     }
 
-    /// Writes the block whole and empties it if it is full. Else it does nothing.
+    /// Writes the block whole and empties it, if it is full. Otherwise it does nothing.
     pub fn print_if_full<O: Sink>(&mut self, out: &mut O) -> Result<(), PrintFault>
         ensures { AnswersBlock O.may_take out.old self.old.text.items result out.new self.new.text.items }
     {

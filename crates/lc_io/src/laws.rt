@@ -9,7 +9,7 @@ ghost use Rattle.lc_io.specs.Writes.{AppendsAll, Writes};
 use crate::buffer::BUFFER_LEN;
 use crate::source::Source;
 
-/// Reads of a slice up to its end give the slice's bytes, however they are cut, and none of them fails.
+/// The law that reads of a slice up to its end return the slice's bytes, in whatever pieces, and that none of them fails.
 pub fn a_slice_gives_its_bytes()
     ensures whole { (old new : _) (bytes : List ℕ)
         → GivesBytes ⟦<&'static [u8] as Source>⟧.may_give AnyRoom old bytes at_end new → bytes ≡ old.now }
@@ -17,14 +17,14 @@ pub fn a_slice_gives_its_bytes()
         → GivesBytes ⟦<&'static [u8] as Source>⟧.may_give AnyRoom old bytes at_failure new → ⊥ }
 {}
 
-/// A text that was written to a vector is at its end, in one piece or in several.
+/// The law that a text that was written to a vector is at its end, whether it was written in one piece or in several.
 pub fn a_vector_takes_the_text()
     ensures whole { (old new : Vec ℕ Global) (text : List ℕ) → Writes AppendsAll old text new → new.items ≡ old.items ++ text }
     ensures in_pieces { (old new : Vec ℕ Global) (text : List ℕ) → WritesInPieces AppendsAll old text new
         → new.items ≡ old.items ++ text }
 {}
 
-/// The constant is the length that the definitions name.
+/// The law that the constant is the length that the definitions name.
 pub fn the_buffer_has_this_length()
     ensures { BUFFER_LEN ≡ buffer_len }
 {}

@@ -1,8 +1,8 @@
-//! Where bytes come from and where they go.
+//! Readers and writers of bytes.
 //!
-//! - `source`, `std_source`: where bytes come from, and what the reads of a call gave
+//! - `source`, `std_source`: the trait of readers, and readers of std
 //! - `buffer`: a buffer for reads; `whole`: the bytes of a reader, up to a limit
-//! - `sink`: where text is written; `printing`: a text is written whole, or why not; `blocks`: a text is written as it is made
+//! - `sink`: the trait of writers; `printing`: writing a text whole; `blocks`: writing a text while it is made
 //! - `laws`: what is true of the definitions that the contracts cite
 #![tactic(auto)]
 

@@ -1,4 +1,4 @@
-//! Outputs.
+//! The trait of writers, and writers of std.
 
 ghost use Rattle.std.specs.Prelude.{ℕ, ◌≤◌, ◌≢◌, length, IfOk, IfErr, List, Result};
 ghost use Rattle.std.specs.Io.{WritesAtMost};
@@ -13,7 +13,7 @@ use std::io::{self, Error, ErrorKind, Write};
 
 /// A writer of bytes.
 ///
-/// Each type states which answers its writes may give, so that a contract can speak of the writes of a call.
+/// Each type states what its writes may return, so that a contract can speak of the writes of a call.
 pub trait Sink {
     /// Whether a write of these bytes may give this answer and leave the sink so.
     ghost may_take: { Self → List ℕ → Result ℕ Failed → Self → Type 0 };
@@ -38,8 +38,8 @@ impl Sink for Vec<u8> {
 
 /// A sink over a writer of std, such as a file or standard output.
 ///
-/// A `write` that a signal interrupts has taken nothing, and is tried again, up to `MAX_TRIES` times in all; every other error
-/// of the writer is a failure. Where it is known which bytes the writer holds, as of a vector, those grow by what is taken.
+/// A `write` that a signal interrupts has written nothing, and is tried again, up to `MAX_TRIES` times in all. Every other error of the
+/// writer is a failure. If it is known which bytes the writer holds, such as for a vector, those grow by what is written.
 #[derive(Drop)]
 pub struct StdSink<W>(pub W);
 

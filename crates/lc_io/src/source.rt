@@ -1,20 +1,19 @@
-//! Where bytes come from.
+//! The trait of readers.
 ghost use Rattle.std.specs.Prelude.{◌≡◌, ℕ, ◌≤◌, length, take, drop, IfOk};
 ghost use Rattle.lc_io.specs.Reads.{Answer, gave, answer_of};
 
-/// A read failed, for whatever cause.
+/// A read failed, for any cause.
 #[derive(Clone, Copy, Debug, Drop, PartialEq, Eq)]
 pub struct Failed;
 
 /// A reader of bytes.
 ///
-/// Each type says by `may_give` which answers its reads may give; what the reads of a whole call gave is defined
-/// over it (`specs/Reads.antt`).
+/// Each type states by `may_give` what its reads may return. `specs/Reads.antt` defines over it what the reads of a whole call returned.
 pub trait Source {
     // A read of this reader, into a buffer of this length, may give this answer and leave this reader.
     ghost may_give: { Self → ℕ → Answer → Self → Type 0 };
 
-    /// Puts the next bytes at the front of the buffer, and says how many there are.
+    /// Reads the next bytes to the front of the buffer, and returns how many there are.
     ///
     /// No byte into a buffer that is not empty means that the reader is at its end. After a failure nothing is known
     /// of the buffer's bytes.
@@ -23,7 +22,7 @@ pub trait Source {
         ensures given { may_give self.old (length buffer.old) (answer_of result buffer.new) self.new };
 }
 
-/// A slice gives its bytes from the first on, as many a read as the buffer holds. It never fails and takes no memory.
+/// A slice returns its bytes from the first on, as many a read as the buffer holds. It never fails and allocates nothing.
 impl Source for &[u8] {
     ghost may_give = { λ old room answer new. (answer ≡ gave (take room old.now)) × (new.now ≡ drop room old.now) };
 

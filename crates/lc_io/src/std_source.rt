@@ -1,4 +1,4 @@
-//! A source over a reader of std.
+//! Readers of std as sources.
 ghost use Rattle.std.specs.Prelude.{◌≢◌, IfErr};
 ghost use Rattle.std.specs.Io.{ReadsAtMost};
 ghost use Rattle.std.specs.Io.KnownBytes.{ReadConsumes};
@@ -9,13 +9,13 @@ use crate::source::{Failed, Source};
 use std::io;
 use std::io::{Error, ErrorKind, Read};
 
-/// How often one call of the system is tried, if a signal interrupts it each time.
+/// How many times one system call is tried, if a signal interrupts it each time.
 pub const MAX_TRIES: u32 = 65_536;
 
-/// A reader of std, as a file or standard input.
+/// A reader of std, such as a file or standard input.
 ///
-/// A `read` that a signal interrupts is tried again, up to `MAX_TRIES` times in all; every other error of the reader is a
-/// failure. Where it is known which bytes the reader has left, as of a slice, those are what it gives.
+/// A `read` that a signal interrupts is tried again, up to `MAX_TRIES` times in all. Every other error of the reader is a failure. If it is
+/// known which bytes the reader has left, such as for a slice, the reads return those.
 ///
 /// ```
 /// let mut reader = StdSource(fs::open(rt, "notes.txt")?);

@@ -1,4 +1,4 @@
-//! A reader that is read whole, up to a limit.
+//! Reading a reader whole, up to a limit.
 ghost use Rattle.std.specs.Prelude.{◌+◌, ◌^◌, ◌<◌, length};
 ghost use Rattle.lc_io.specs.Whole.{AnswersWhole};
 
@@ -17,8 +17,8 @@ pub enum WholeFault {
 
 /// Reads to the reader's end, or up to the first byte past the limit.
 ///
-/// The buffer and the vector are the caller's: a worker lends the same two for all its files. The vector is cleared
-/// first; after a fault it has the bytes that were read before.
+/// The caller lends the buffer and the vector; a worker lends the same two for all its files. The vector is cleared first. After an error
+/// it has the bytes that were read before.
 ///
 /// ```
 /// let mut buffer = new_buffer(alloc)?;

@@ -1,4 +1,4 @@
-//! The entries of a directory: those that stay by its rules and the filters, and those that are skipped.
+//! Deciding which entries of a directory stay, by its rules and the filters, and which are skipped.
 ghost use Rattle.std.specs.Prelude.{◌≡◌, ◌≤◌, true, false, length, nat_lt, option_map};
 ghost use Rattle.std.specs.Option.{option_or};
 ghost use Rattle.lc_glob.specs.Path.{depth_of, max_depth, max_path};
@@ -29,7 +29,7 @@ pub(crate) struct Classified {
     pub(crate) skipped: Vec<SkippedLine>,
 }
 
-/// A directory that is to be walked.
+/// A directory that is to be visited.
 #[derive(Drop)]
 pub struct ChildDirectory {
     /// The name of the directory in its parent.
@@ -47,7 +47,7 @@ impl Model for ChildDirectory {
     ghost view = { λ c. (c.name.items, c.job) };
 }
 
-/// The job of a child directory, unless its path has too many segments for a walk.
+/// Returns the job of a child directory, unless its path has too many segments for a walk.
 fn child_job(alloc: Global, job: &Job, path: &[u8]) -> Result<Job, OpenFault>
     requires { length path.now ≤ max_path }
     ensures { IsChild job.now path.now result }
@@ -62,7 +62,7 @@ fn child_job(alloc: Global, job: &Job, path: &[u8]) -> Result<Job, OpenFault>
 }
 
 impl<T: Tree> LevelReader<'_, T> {
-    /// Adds a skipped entry, where these are kept.
+    /// Adds a skipped entry, if these are kept.
     fn leave_out(
         &self,
         name: Vec<u8>,

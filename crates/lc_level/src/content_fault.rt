@@ -7,6 +7,6 @@ use crate::FaultWord;
 pub(crate) enum ContentFault {
     /// The report has this word for it.
     Fault(FaultWord),
-    /// Memory was refused.
+    /// An allocation failed.
     Memory,
 }

@@ -80,8 +80,8 @@ impl<T: Tree> LevelReader<'_, T> {
         }
     }
 
-    /// Counts the files of these names, in order. The faults of absent paths stay before theirs. The scratch paths are those of the
-    /// directory.
+    /// Counts the files with these names, in order. The errors of absent paths come before those of files. The scratch paths are those of
+    /// the directory.
     pub fn count(
         &self,
         job: &Job,

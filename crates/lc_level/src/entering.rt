@@ -17,7 +17,7 @@ use crate::scratch::Scratch;
 use lc_tree::{Entry, Listing, ReadFault, Tree};
 use std::alloc::AllocError;
 
-/// The bytes of the ignore files that apply from a directory on, as far as they are there and texts are kept.
+/// The bytes of the ignore files that apply from a directory on, as far as these exist and their texts are kept.
 #[derive(Drop)]
 pub struct RuleTexts {
     /// The bytes of `.git/info/exclude`, which is read in the top alone.
@@ -85,7 +85,7 @@ impl<T: Tree> LevelReader<'_, T> {
         self.read_pair(listing, names, scratch)
     }
 
-    /// The directory of a job with these rule files in both chains.
+    /// Returns the directory of a job with these rule files in both chains.
     fn with_files(&self, job: &Job, info: RulePair, own: RulePair) -> Result<Job, AllocError>
         ensures path { IfOk result (λ k. k.path ≡ job.now.path) }
         ensures files { IfOk result (λ k. (i o : Pair) → AreFilesOf true info i → AreFilesOf (is_top job.now.path) own o
@@ -133,7 +133,7 @@ impl<T: Tree> LevelReader<'_, T> {
         })
     }
 
-    /// Lists the directory of a job and reads its rule files, up to the first fault. The scratch paths are then those of the directory.
+    /// Lists the directory of a job and reads its rule files, up to the first error. The scratch paths are then those of the directory.
     pub fn enter(&self, job: &Job, scratch: &mut Scratch) -> Result<Entered, OpenFault>
         ensures at { IfOk result (λ e. scratch.new.path.directory ≡ e.job.path) }
         ensures enters { EntersLevel (T.lists self.now.tree.now) (T.gives self.now.tree.now) job.now self.now.options.texts result }

@@ -1,4 +1,4 @@
-//! What is looked for among the entries of a directory.
+//! Searching the entries of a directory.
 ghost use Rattle.std.specs.Prelude.{◌≡◌, bytes_eq, find, option_map};
 ghost use Rattle.lc_level.specs.EntryLooks.{has_file, has_dir};
 ghost use Rattle.lc_tree.specs.ByteOrder.{bytes_cmp};
@@ -7,7 +7,7 @@ ghost use Rattle.lc_tree.specs.Listing.{EntryModel, IsListing};
 use lc_tree::{Entry, Listing};
 use std::cmp::Ordering;
 
-/// The entry of this name, if there is one, among entries in the order of their names. It is found by halving.
+/// Returns the entry with this name, if there is one, by a binary search. The entries are in the order of their names.
 ///
 /// ```
 /// let found = entry_named(listing.entries(), b"src");
@@ -26,7 +26,7 @@ pub fn entry_named<'e>(entries: &'e [Entry], name: &[u8]) -> Option<&'e Entry>
     }
 }
 
-/// Whether there is a file of this name.
+/// Returns whether there is a file of this name.
 pub(crate) fn has_file(listing: &Listing, name: &[u8]) -> bool
     ensures { result ≡ has_file name.now listing.now }
 {
@@ -36,7 +36,7 @@ pub(crate) fn has_file(listing: &Listing, name: &[u8]) -> bool
     }
 }
 
-/// Whether there is a directory of this name.
+/// Returns whether there is a directory of this name.
 pub(crate) fn has_dir(listing: &Listing, name: &[u8]) -> bool
     ensures { result ≡ has_dir name.now listing.now }
 {

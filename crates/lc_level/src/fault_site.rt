@@ -1,11 +1,11 @@
-//! Which path of a directory could not be read.
+//! The places of errors in a directory.
 ghost use Rattle.std.specs.Prelude.{◌≡◌, IfOk};
 ghost use Rattle.lc_level.specs.SitePaths.{site_path};
 
 use crate::paths::path_in;
 use std::alloc::{AllocError, Global};
 
-/// Which path of a directory could not be read. Only the top has those below `.git`.
+/// The place in a directory that could not be read. Only the top has the places in `.git`.
 #[derive(Clone, Copy, PartialEq, Eq, Debug, Drop)]
 pub enum FaultSite {
     /// The directory itself.
@@ -25,7 +25,7 @@ pub enum FaultSite {
 }
 
 impl FaultSite {
-    /// The path that could not be read, seen from the top of the tree. `directory` is the path of the directory.
+    /// Returns the path that could not be read, relative to the top of the tree. `directory` is the path of the directory.
     pub fn path(self, alloc: Global, directory: &[u8]) -> Result<Vec<u8>, AllocError>
         ensures { IfOk result (λ path. path.items ≡ site_path directory.now self) }
     {

@@ -1,16 +1,16 @@
-//! Why a part of a tree was not counted.
+//! The words by which reports name errors.
 
 ghost use Rattle.std.specs.Prelude.{◌≡◌};
 ghost use Rattle.lc_level.specs.FaultWords.{fault_word, fault_word_of};
 
 use lc_tree::ReadFault;
 
-/// Why a listing or a file was not read.
+/// Why a listing or a file was not read, as reports name it.
 #[derive(Clone, Copy, Debug, Drop, PartialEq, Eq)]
 pub enum FaultWord {
     /// A listing, an open or a read failed.
     Read,
-    /// A listing has a bad name, or one that the system can't give as text.
+    /// A listing has a bad name, or one that is not UTF-8.
     Name,
     /// A listing has a name twice.
     Twice,
@@ -20,12 +20,12 @@ pub enum FaultWord {
     Long,
     /// A file's reads did not come to an end.
     Endless,
-    /// A path that was asked for is not there, or is below what is no directory.
+    /// A path of `--only` does not exist, or is under something that is no directory.
     Absent,
 }
 
 impl FaultWord {
-    /// The word for a directory that was not listed. Out of memory has none, since there is no report then.
+    /// Returns the word for a directory that was not listed. A failed allocation has none, since there is no report then.
     pub fn of(fault: ReadFault) -> Option<FaultWord>
         ensures { result ≡ fault_word_of fault }
     {
@@ -39,7 +39,7 @@ impl FaultWord {
         }
     }
 
-    /// The word that is printed, such as `read`.
+    /// Returns the word that is printed, such as `read`.
     pub fn as_str(self) -> &'static str
         ensures { result.now ≡ fault_word self }
     {

@@ -1,4 +1,4 @@
-//! Which entries of a tree take part, besides what its own rule files say.
+//! The filters of a tree: which entries stay, besides what its own rule files say.
 ghost use Rattle.std.specs.Prelude.{◌≡◌, IfOk, option_map, map};
 ghost use Rattle.lc_level.specs.Filters.{attribute_of, include_rules, is_state, no_filters, patterns_for, value_of};
 ghost use Rattle.lc_level.specs.Level.{attribute_reason, by_attribute, is_met};
@@ -19,7 +19,7 @@ use std::alloc::{AllocError, Global};
 use std::marker::Model;
 use std::sync::Arc;
 
-/// Which entries of a tree take part, besides what its own rule files say. Made once, and lent to all that read the tree.
+/// What decides, besides a tree's own rule files, which entries stay. It is made once, and lent to all that read the tree.
 ///
 /// ```
 /// let as_it_is = Filters::none(alloc);
@@ -34,15 +34,15 @@ pub struct Filters<'p> {
     pub exclude_from: Option<RuleText>,
     /// The patterns of the command line, one a line, which override the rules of all files (gitignore(5)).
     pub exclude: Option<RuleText>,
-    /// The patterns for files, one a line and none negated; if there are none, all files take part. A file takes part only if a pattern
-    /// matches it, or a directory above it below the top. Directories are visited all the same.
+    /// The patterns for files, one a line and none negated; if there are none, all files stay. A file stays only if a pattern matches it,
+    /// or a directory above it below the top. Directories are visited, whether or not a pattern matches them.
     pub include: Option<RuleText>,
     /// Whether no ignore file of the tree is read: no `.gitignore`, and no `.git/info/exclude`.
     pub no_ignore: bool,
-    /// Files and directories are skipped where an attribute is Set, such as `linguist-vendored`, or has exactly a value, such as
-    /// `linguist-generated=true` (gitattributes(5)). What `git archive` leaves out has `export-ignore`.
+    /// The attributes for which files and directories are skipped. Such an attribute is Set, such as `linguist-vendored`, or has exactly a
+    /// value, such as `linguist-generated=true` (gitattributes(5)). `git archive` skips what has `export-ignore`.
     pub without: Vec<Vec<u8>>,
-    /// The paths that alone take part, with what is under them and the directories above them; if there are none, everything takes part.
+    /// The paths of `--only`: only these stay, with what is under them and the directories above them. If there are none, everything stays.
     pub only: OnlyPaths<'p>,
 }
 
@@ -62,7 +62,7 @@ impl<'p> Model for Filters<'p> {
     } };
 }
 
-/// Splits a word at its first `=`: the attribute that it names, and the value that it asks for.
+/// Splits a word at its first `=`: the attribute that it names, and the value that it requires.
 fn split_word(word: &[u8]) -> (&[u8], Option<&[u8]>)
     ensures attribute { result.0.now ≡ attribute_of word.now }
     ensures value { option_map (λ v. v.now) result.1 ≡ value_of word.now }
@@ -70,7 +70,7 @@ fn split_word(word: &[u8]) -> (&[u8], Option<&[u8]>)
     cut_at_first(b'=', word)
 }
 
-/// Whether a state is the one that is asked for: this value, or Set where no value is asked for.
+/// Returns whether a state is the required one: this value, or Set if no value is required.
 fn is_state(wanted: Option<&[u8]>, state: State<'_>) -> bool
     ensures { result ≡ is_state (option_map (λ v. v.now) wanted.entry) (state_model state.entry) }
 {
@@ -85,7 +85,7 @@ fn is_state(wanted: Option<&[u8]>, state: State<'_>) -> bool
     }
 }
 
-/// Whether an attribute has the state at a path that a word asks for. Memory is taken for the attribute's macros alone.
+/// Returns whether an attribute has at a path the state that a word requires. Only the attribute's macros are allocated.
 fn is_met(
     alloc: Global,
     job: &Job,
@@ -111,7 +111,7 @@ fn shared_rules(text: &Option<RuleText>) -> Result<Option<Arc<IgnoreFile, Global
 }
 
 impl<'p> Filters<'p> {
-    /// The filters by which nothing but a tree's own rules decides.
+    /// Makes the filters that skip only what a tree's own rules ignore.
     pub fn none(alloc: Global) -> Filters<'p>
         ensures { result ≡ no_filters }
     {
@@ -125,7 +125,7 @@ impl<'p> Filters<'p> {
         }
     }
 
-    /// The chain of the top of a tree, by the rules for the whole tree.
+    /// Returns the chain of the top of a tree, by the rules for the whole tree.
     pub(crate) fn top_chain(&self) -> Result<Chain, AllocError>
         ensures { IfOk result (λ chain. chain ≡ (top_job self.now).ignore) }
     {
@@ -134,7 +134,7 @@ impl<'p> Filters<'p> {
         Ok(asked.with_no_ignore(self.no_ignore))
     }
 
-    /// What the paths select of a directory.
+    /// Returns what the paths select of a directory.
     pub(crate) fn wanted_in(
         &self,
         alloc: Global,
@@ -146,7 +146,7 @@ impl<'p> Filters<'p> {
         Ok(wanted)
     }
 
-    /// The patterns that a file of a directory must match to take part, if not all its files do.
+    /// Returns the patterns of which one must match a file of a directory. There are none if all its files stay.
     pub(crate) fn include_in(&self, directory: &[u8]) -> Option<&IgnoreFile>
         ensures { option_map (λ p. p.now) result ≡ patterns_for (include_rules self.now) directory.now }
     {
@@ -154,7 +154,7 @@ impl<'p> Filters<'p> {
         patterns_for(text.rules(), directory)
     }
 
-    /// The first word for whose attribute a path is skipped. Memory is taken for the attributes' macros alone.
+    /// Returns the first word for whose attribute a path is skipped. Only the attributes' macros are allocated.
     pub(crate) fn first_met(
         &self,
         alloc: Global,

@@ -1,4 +1,4 @@
-//! A directory to be visited.
+//! The directories that a walk visits.
 ghost use Rattle.std.specs.Prelude.{◌≡◌, ◌≤◌, length, option_map, IfOk};
 ghost use Rattle.std.specs.Arc.{arc_value};
 ghost use Rattle.lc_glob.specs.Path.{depth_of, max_path};
@@ -14,8 +14,8 @@ use std::alloc::{AllocError, Global};
 use std::marker::Model;
 use std::sync::Arc;
 
-/// A directory to be visited: its path, and both chains of its parent. The chains are shared by all directories under the
-/// same rule files. A job is one word long, so that it moves at no cost.
+/// A directory to be visited: its path, and both chains of its parent. All directories under the same rule files share the chains. A
+/// directory with its own rule files is a job too, so both answer the same questions. A job is one word long, so it moves at no cost.
 ///
 /// ```
 /// let top = Job::top(alloc, &Filters::none(alloc))?; // its path is empty, and its chains have no rule
@@ -89,28 +89,28 @@ impl Job {
         }
     }
 
-    /// The chain of ignore files above the directory's own.
+    /// Returns the chain of ignore files above the directory's own.
     pub(crate) fn ignore(&self) -> &Arc<Chain, Global>
         ensures { arc_value result.now ≡ self.now.ignore }
     {
         &self.parts.ignore
     }
 
-    /// Whether no ignore file of the tree is read.
+    /// Returns whether no ignore file of the tree is read.
     pub(crate) fn no_ignore(&self) -> bool
         ensures { result ≡ self.now.ignore.no_ignore }
     {
         self.parts.ignore.no_ignore()
     }
 
-    /// The chain of attribute files above the directory's own.
+    /// Returns the chain of attribute files above the directory's own.
     pub(crate) fn attributes(&self) -> &Arc<AttrChain, Global>
         ensures { arc_value result.now ≡ self.now.attributes }
     {
         &self.parts.attributes
     }
 
-    /// The job of this directory with other chains.
+    /// Returns the job of this directory with other chains.
     pub(crate) fn with_chains(
         &self,
         alloc: Global,
@@ -123,7 +123,7 @@ impl Job {
         Job::new(alloc, path, ignore, attributes)
     }
 
-    /// The number of segments of the directory's path.
+    /// Returns the number of segments of the directory's path.
     pub(crate) fn depth(&self) -> u32
         ensures { result ≡ depth_of self.now.path }
     {
@@ -140,21 +140,21 @@ impl Job {
         Job::new(alloc, path, ignore, Arc::try_clone(&self.parts.attributes)?)
     }
 
-    /// The last rule that matches a path, and which file has it.
+    /// Returns the last rule that matches a path, and which file has it.
     pub fn last_match(&self, path: &[u8], is_dir: bool) -> Option<(RuleSource, &Rule)>
         ensures { option_map (λ r. (r.0, r.1.now)) result ≡ last_match (rules_in self.now.ignore) path.now is_dir }
     {
         self.parts.ignore.last_match(path, is_dir)
     }
 
-    /// The path of the directory: at most 4,096 bytes.
+    /// Returns the path of the directory: at most 4,096 bytes.
     pub fn path(&self) -> &[u8]
         ensures { result.now ≡ self.now.path }
     {
         &self.parts.path
     }
 
-    /// The path of the directory alone, without a copy. It is in a box, so that it is one word long as a job is.
+    /// Returns the path of the directory without a copy, and drops the rest. The path is in a box, so that it is one word long as a job is.
     pub fn into_path(self) -> Box<Vec<u8>, Global>
         ensures { result.value.items ≡ self.path }
     {

@@ -8,7 +8,7 @@ use lc_census::bytes_have_one_cutting;
 use lc_tree::{Tree, trees_of_memory_list_once};
 use std::alloc::Global;
 
-/// What opening a directory and counting its files answer is its level.
+/// The law that opening a directory and counting its files together give its level.
 pub fn work_is_a_level<T: Tree>(tree: &T)
     ensures opened { OpenedLaw (T.lists tree.now) (T.gives tree.now) }
     ensures counted { CountedLaw (T.lists tree.now) (T.gives tree.now) }
@@ -16,14 +16,14 @@ pub fn work_is_a_level<T: Tree>(tree: &T)
     let _tree = tree;
 }
 
-/// A tree that answers each question in one way has one level for each directory.
+/// The law that a tree that answers each question in one way has one level for each directory.
 pub fn one_answer_is_one_level<T: Tree>(tree: &T)
     ensures { OneLevelLaw (T.lists tree.now) (T.gives tree.now) }
 {
     let _tree = tree;
 }
 
-/// A file of a tree of memory is read as rules in one way, and counted in one way where it has under 2^47 bytes.
+/// The law that a file of a tree in memory is read as rules in one way. A file with under 2^47 bytes is also counted in one way.
 pub fn files_of_memory_are_read_once()
     ensures counts { CountsOnce }
     ensures rules { ReadsRulesOnce }
@@ -31,7 +31,7 @@ pub fn files_of_memory_are_read_once()
     bytes_have_one_cutting();
 }
 
-/// A tree of memory answers each question in one way, where each of its files has under 2^47 bytes.
+/// The law that a tree in memory answers each question in one way, if each of its files has under 2^47 bytes.
 pub fn trees_of_memory_give_one()
     ensures { MemoryLaw }
 {
@@ -39,8 +39,8 @@ pub fn trees_of_memory_give_one()
     files_of_memory_are_read_once();
 }
 
-/// A node of memory is one tree, given as a value: its answers are some that a tree of memory may give, and where each
-/// file has under 2^47 bytes no others give another level.
+/// The law that a node is one tree in memory, as a value. The answers of that value are some that the tree may give. If each file has under
+/// 2^47 bytes, no other answers give another level.
 pub fn a_node_is_one_tree()
     ensures answers { NodeAnswersLaw }
     ensures levels { NodeLevelsLaw }
@@ -49,7 +49,7 @@ pub fn a_node_is_one_tree()
     trees_of_memory_give_one();
 }
 
-/// The definitions of the tree of a node of memory hold on a small node.
+/// The law that the definitions of a node's tree give the expected results on a small node.
 pub fn level_examples_hold(alloc: Global)
     ensures { LevelExamplesHold alloc }
 {

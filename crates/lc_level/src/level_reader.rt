@@ -1,22 +1,22 @@
-//! What is lent for the reading of a tree's directories. The methods stand in the modules of what they read.
+//! What all methods that read a tree's directories share. The methods are in the modules of what they read.
 ghost use Rattle.std.specs.Prelude.{◌≡◌};
 
 use crate::filters::Filters;
 use crate::named_attributes::NamedAttributes;
 use std::alloc::Global;
 
-/// What a reader keeps besides what a count needs. What it does not keep costs nothing.
+/// What a reader keeps besides what a count needs. Nothing else is kept, so options that are off cost nothing.
 #[derive(Clone, Copy, Drop)]
 pub struct ReaderOptions<'n> {
     /// Whether to keep the skipped entries, with their reasons.
     pub left_out: bool,
     /// Whether to keep the bytes of `.git/info/exclude` and of each `.gitignore`.
     pub texts: bool,
-    /// Where to note which attributes the attribute files of the tree name. It changes no answer.
+    /// Where to note which attributes the attribute files of the tree name. The notes change no answer.
     pub named: Option<&'n NamedAttributes>,
 }
 
-/// Reads a tree, a directory at a time: it opens the directory, and counts the files that stay in it.
+/// Reads a tree directory by directory: it opens a directory, and counts the files that stay in it.
 ///
 /// ```
 /// let filters = Filters::none(alloc);
@@ -36,7 +36,7 @@ pub struct LevelReader<'t, T> {
 }
 
 impl<'t, T> LevelReader<'t, T> {
-    /// Makes the reader of a tree, by these filters. It asks the tree nothing.
+    /// Makes the reader of a tree, by these filters. It reads nothing yet.
     pub fn new(
         alloc: Global,
         tree: &'t T,

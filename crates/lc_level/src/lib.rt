@@ -1,16 +1,16 @@
-//! What one directory gives: its listing, its rule files, its entries in order.
+//! One directory: its listing, its rule files, and what happens to its entries.
 //!
-//! - `job`: a directory to be visited; `filters`: which entries take part, besides what a tree's own rules say
+//! - `job`: a directory to be visited; `filters`: which entries stay, besides what a tree's own rules say
 //! - `fault_site`: where an error is
-//! - `listing`: a directory's listing; `entering`: that and its rule files, read whole; `opening`: which of its entries stay
-//! - `rule_files`: its rule files, and both chains by them
-//! - `entry_looks`, `classify`: what is looked for among its entries, and which of them stay; `skip_reason`, `reason`: why the others don't
-//! - `narrowing`: which entries take part by the paths that alone are asked for
-//! - `lines`: what is said of files, faults and skipped entries; `counting`: counting files; `threads`: by several threads
-//! - `files`, `content_fault`: opening one file, to count it or to read it as rules, and why that was not possible
-//! - `paths`: the path of a name in a directory, and a path seen from a directory
-//! - `level_reader`: what is lent for all of this; `scratch`, `path_buffer`: its buffers, and the paths of entries one after another
-//! - `open_fault`: why a directory gives nothing of its entries; `fault_word`: the words by which a report names errors
+//! - `listing`: listing a directory; `entering`: reading its rule files too; `opening`: deciding which of its entries stay
+//! - `rule_files`: the rule files of a directory, and its chains
+//! - `entry_looks`, `classify`: searching entries, and deciding which of them stay; `skip_reason`, `reason`: why the others are skipped
+//! - `narrowing`: which entries stay by the paths of `--only`
+//! - `lines`: what a report has of files, errors and skipped entries; `counting`: counting files; `threads`: with several threads
+//! - `files`, `content_fault`: opening one file, to count it or to read it as rules, and why that failed
+//! - `paths`: the path of a name in a directory, and a path relative to a directory
+//! - `level_reader`: what all of these methods share; `scratch`, `path_buffer`: its buffers, and the paths of entries one after another
+//! - `open_fault`: why a directory contributes nothing; `fault_word`: the words by which a report names errors
 //! - `laws`: that this work makes the level of the definitions
 #![tactic(auto)]
 

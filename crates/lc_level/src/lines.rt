@@ -1,4 +1,4 @@
-//! What is said of a counted file, of a fault and of a skipped entry.
+//! The lines of a report: counted files, errors and skipped entries.
 ghost use Rattle.std.specs.Prelude.{◌≡◌, ℕ, List, IfOk};
 ghost use Rattle.lc_level.specs.FaultLines.{fault_below};
 ghost use Rattle.lc_level.specs.Level.{file_below, skipped_below};
@@ -12,7 +12,8 @@ use lc_tree::Kind;
 use std::alloc::{AllocError, Global};
 use std::marker::Model;
 
-/// What is said of something at a path: the names down to it, joined by slashes, from a directory or from the top of a tree.
+/// A line of a report about something at a path. The path is the names down to it, joined by slashes, from a directory or from the top of a
+/// tree.
 pub trait Line: Sized {
     ghost path_of: { Self → List ℕ };
 
@@ -67,7 +68,7 @@ impl Line for FileLine {
 /// A file or a directory that was not counted, and why.
 #[derive(Debug, Drop)]
 pub struct FaultLine {
-    /// The names down to the file or directory, joined by slashes; empty for the directory itself from which the path is.
+    /// The names down to the file or directory, joined by slashes. It is empty if the path is relative to that directory itself.
     pub path: Vec<u8>,
     /// Why the file or directory was not counted.
     pub word: FaultWord,

@@ -1,4 +1,4 @@
-//! Listing a directory for the sake of its entries or of the rule files in it.
+//! Listing a directory, for its entries or for the rule files in it.
 ghost use Rattle.lc_level.specs.GitInfo.{ListsFor};
 ghost use Rattle.lc_tree.specs.Trees.{Lists};
 
@@ -8,7 +8,7 @@ use crate::{FaultSite, FaultWord};
 use lc_tree::{Listing, ReadFault, Tree};
 
 impl<T: Tree> LevelReader<'_, T> {
-    /// A listing of the directory at a path, or its fault, which is one of this site.
+    /// Returns a listing of the directory at a path, or its fault, which is one of this site.
     pub(crate) fn listed_for(
         &self,
         path: &[u8],

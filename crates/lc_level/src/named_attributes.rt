@@ -1,4 +1,4 @@
-//! Which attributes the attribute files of a tree name.
+//! The attributes that the attribute files of a tree name.
 
 ghost use Rattle.std.specs.Prelude.{◌≡◌, IfOk, OnOk};
 ghost use Rattle.lc_level.specs.NamedAttributes.{AddsAtMost, AreSomeAttributes, attributes_of, noted};
@@ -8,10 +8,10 @@ use memchr::memmem;
 use std::alloc::{AllocError, Global};
 use std::sync::atomic::{AtomicBool, Ordering};
 
-/// The attributes that a command line names, and which of them the attribute files of a tree contain. Workers note this as they read
-/// the files.
+/// The attributes that a command line names, and which of them the attribute files of a tree contain. Workers note these as they read the
+/// files.
 ///
-/// No contract says which attributes the files contain, so it serves for a hint alone. The name of an attribute also counts if it is a
+/// No contract says which attributes the files contain, so this serves for a hint alone. The name of an attribute also counts if it is a
 /// part of another word, or is in a comment.
 ///
 /// ```
@@ -45,7 +45,7 @@ impl NotedWord {
 }
 
 impl NamedAttributes {
-    /// Takes words, each of them `ATTR` or `ATTR=VALUE`. No attribute is named yet.
+    /// Makes the list of the attributes that words name, each word `ATTR` or `ATTR=VALUE`. None is noted yet.
     pub fn new(alloc: Global, words: &[&str]) -> Result<NamedAttributes, AllocError>
         ensures { IfOk result (λ named. noted named ≡ attributes_of words.now) }
     {
@@ -60,7 +60,7 @@ impl NamedAttributes {
         Ok(NamedAttributes { words: noted })
     }
 
-    /// Returns the attributes that no attribute file contains of those that were read, in the order of the words.
+    /// Returns the attributes that no attribute file which was read contains, in the order of the words.
     pub fn unnamed(&self, alloc: Global) -> Result<Vec<Vec<u8>>, AllocError>
         ensures { IfOk result (λ told. AreSomeAttributes (noted self.now) told.items) }
     {

@@ -1,4 +1,4 @@
-//! Which entries of a directory take part by the paths of `--only`, and which of these paths are absent.
+//! Deciding which entries of a directory stay by the paths of `--only`, and which of these paths are absent.
 ghost use Rattle.std.specs.Prelude.{◌≡◌, ◌∷◌, ◌++◌, [], IfOk, map};
 ghost use Rattle.std.specs.List.{filter, list_any};
 ghost use Rattle.lc_level.specs.Level.{absent_faults};
@@ -43,7 +43,7 @@ impl<'o> Model for Wanted<'o> {
     ghost invariant = { λ w. AreInOrder (map (λ rest. rest.now) w.rests.items) };
 }
 
-/// Whether an entry of a directory leads to one of the paths that are seen from it.
+/// Returns whether an entry of a directory leads to one of the paths that are seen from it.
 fn leads_on(rests: &[&[u8]], entry: &Entry) -> bool
     requires { AreInOrder (map (λ rest. rest.now) rests.now) }
     ensures { result ≡ list_any (leads_to entry.now) (map (λ rest. rest.now) rests.now) }
@@ -57,7 +57,7 @@ fn leads_on(rests: &[&[u8]], entry: &Entry) -> bool
     }
 }
 
-/// Whether an entry of a directory leads to a path that is seen from it.
+/// Returns whether an entry of a directory leads to a path that is seen from it.
 fn leads_to(entry: &Entry, rest: &[u8]) -> bool
     ensures { result ≡ leads_to entry.now rest.now }
 {
@@ -70,7 +70,7 @@ fn leads_to(entry: &Entry, rest: &[u8]) -> bool
     }
 }
 
-/// Whether one of a directory's entries leads to a path. Only the entry of the path's first name can.
+/// Returns whether one of a directory's entries leads to a path. Only the entry of the path's first name can.
 fn is_led_to(entries: &[Entry], rest: &[u8]) -> bool
     requires { IsListing entries.now }
     ensures { result ≡ is_led_to entries.now rest.now }
@@ -82,7 +82,7 @@ fn is_led_to(entries: &[Entry], rest: &[u8]) -> bool
     }
 }
 
-/// Adds the fault of a path that is seen from a directory, where no entry leads to it.
+/// Adds the error of a path to which no entry of the directory leads. The path is relative to the directory.
 fn add_unled(
     alloc: Global,
     rest: &[u8],
@@ -106,7 +106,7 @@ fn add_unled(
 }
 
 impl<'o> Wanted<'o> {
-    /// The entries of the directory that take part. Where all of it is selected, this costs no memory.
+    /// Returns the entries of the directory that stay. If all of it is selected, nothing is allocated.
     pub(crate) fn part_of(
         &self,
         alloc: Global,
@@ -126,7 +126,7 @@ impl<'o> Wanted<'o> {
         Ok(part)
     }
 
-    /// The faults of the paths to which none of the directory's entries leads.
+    /// Returns the faults of the paths to which none of the directory's entries leads.
     pub(crate) fn absent(
         &self,
         alloc: Global,

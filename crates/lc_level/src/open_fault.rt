@@ -1,4 +1,4 @@
-//! Why a directory gives nothing of its entries.
+//! The errors of opening a directory.
 
 ghost use Rattle.std.specs.Prelude.{◌≡◌};
 ghost use Rattle.lc_level.specs.RulePairs.{open_fault_by};
@@ -6,19 +6,19 @@ ghost use Rattle.lc_level.specs.RulePairs.{open_fault_by};
 use crate::content_fault::ContentFault;
 use crate::{FaultSite, FaultWord};
 
-/// Why a directory gives nothing of its entries.
+/// Why a directory contributes none of its entries.
 #[derive(Clone, Copy, Debug, Drop, PartialEq, Eq)]
 pub enum OpenFault {
     /// Its listing or one of its rule files, at this site, was not read: the report has this word for it.
     Faulted(FaultSite, FaultWord),
-    /// Memory was refused.
+    /// An allocation failed.
     Memory,
     /// An entry's path has over 4,096 bytes, or a directory's over 256 segments.
     TooDeep,
 }
 
 impl ContentFault {
-    /// The fault of a directory whose file at this site was not read.
+    /// Returns the error of a directory whose file at this place was not read.
     pub fn at(self, site: FaultSite) -> OpenFault
         ensures { result ≡ open_fault_by site self }
     {

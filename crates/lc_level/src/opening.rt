@@ -1,4 +1,4 @@
-//! Opening a directory: which of its entries take part, and which its rule files leave in.
+//! Opening a directory: deciding which of its entries stay.
 ghost use Rattle.std.specs.Prelude.{◌≡◌, IfOk};
 ghost use Rattle.lc_level.specs.Opens.{OpensLevel};
 ghost use Rattle.lc_tree.specs.Trees.{Lists};
@@ -23,11 +23,11 @@ pub struct Opened {
     pub files: Vec<Vec<u8>>,
     /// The directories that are to be visited.
     pub children: Vec<ChildDirectory>,
-    /// The skipped entries, in the order of the listing; none unless they are kept.
+    /// The skipped entries, in the order of the listing. There are none unless they are requested.
     pub skipped: Vec<SkippedLine>,
-    /// The paths that are asked for and absent, seen from the directory.
+    /// The paths of `--only` that are absent, relative to the directory.
     pub absent: Vec<FaultLine>,
-    /// The number of the entries that take part.
+    /// The number of entries that the paths of `--only` select.
     pub entries: u32,
 }
 
@@ -69,8 +69,8 @@ impl<T: Tree> LevelReader<'_, T> {
         }
     }
 
-    /// Lists and opens the directory of a job, up to the first fault or an entry that is too deep for a walk. The scratch paths are
-    /// then those of the directory.
+    /// Lists the directory of a job and decides which entries stay, up to the first error or an entry that is too deep for a walk. The
+    /// scratch paths are then those of the directory.
     pub fn open(&self, job: &Job, scratch: &mut Scratch) -> Result<Opened, OpenFault>
         ensures at { IfOk result (λ o. scratch.new.path.directory ≡ o.job.path) }
         ensures opens { OpensLevel (T.lists self.now.tree.now) (T.gives self.now.tree.now) self.now.options.left_out
@@ -80,7 +80,7 @@ impl<T: Tree> LevelReader<'_, T> {
         self.open_listed(job, listing, scratch)
     }
 
-    /// Opens the directory of a job, as `open` does. If it is large, idle threads help to look at its entries.
+    /// Like `open`, but idle threads help with the entries of a large directory.
     pub fn open_in_parts<R: Threads + Sync>(
         &self,
         threads: &SpareThreads<'_, R>,

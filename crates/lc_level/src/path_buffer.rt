@@ -1,4 +1,4 @@
-//! A directory's path, and those of its entries one after another.
+//! A buffer for a directory's path, and for those of its entries one after another.
 ghost use Rattle.std.specs.Prelude.{◌≡◌, OnOk};
 ghost use Rattle.lc_glob.specs.Path.{path_in};
 ghost use Rattle.lc_level.specs.PathBuffers.{IsNamed};
@@ -8,7 +8,7 @@ use lc_glob::path::{is_too_long, push_name};
 use std::alloc::{AllocError, Global};
 use std::marker::Model;
 
-/// The path of a directory, followed by the name of one entry at a time, so that a path costs no memory of its own.
+/// The path of a directory, followed by the name of one entry at a time, so that a path needs no allocation of its own.
 #[derive(Debug, Drop)]
 pub(crate) struct PathBuffer {
     bytes: Vec<u8>,
@@ -28,7 +28,7 @@ impl Model for PathBuffer {
 }
 
 impl PathBuffer {
-    /// The buffer of the empty path.
+    /// Returns the buffer of the empty path.
     pub(crate) fn new(alloc: Global) -> PathBuffer {
         PathBuffer {
             bytes: Vec::new(alloc),

@@ -1,10 +1,10 @@
-//! Paths of entries: of a name in a directory, and seen from a directory.
+//! Joining the path of a directory and a name, and splitting them again.
 ghost use Rattle.std.specs.Prelude.{◌≡◌, ◌≢◌, ℕ, List, IfOk, MatchOption};
 ghost use Rattle.lc_glob.specs.Path.{path_in};
 
 use std::alloc::{AllocError, Global};
 
-/// The path of a name in a directory.
+/// Returns the path of a name in a directory. `lc_glob::path::push_name` adds the name in place.
 pub fn path_in(alloc: Global, directory: &[u8], name: &[u8]) -> Result<Vec<u8>, AllocError>
     ensures { IfOk result (λ p. p.items ≡ path_in directory.now name.now) }
 {
@@ -16,7 +16,7 @@ pub fn path_in(alloc: Global, directory: &[u8], name: &[u8]) -> Result<Vec<u8>, 
     Ok(path)
 }
 
-/// A path seen from a directory that it is below: `a/b/c` is `c` from `a/b`. From the top every path is itself.
+/// Returns a path relative to a directory above it: `a/b/c` is `c` from `a/b`. From the top every path is itself.
 ///
 /// ```
 /// assert_eq!(relative_to(b"a/b", b"a/b/c"), Some(b"c"));

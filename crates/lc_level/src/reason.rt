@@ -1,4 +1,4 @@
-//! Why an entry is skipped.
+//! The reasons for which entries are skipped.
 
 ghost use Rattle.std.specs.Prelude.{◌≡◌, IfOk, option_map};
 ghost use Rattle.lc_level.specs.Reasons.{reason_model, reason_ref_model};
@@ -8,14 +8,14 @@ use lc_rules::RuleSource;
 use lc_tree::OtherKind;
 use std::alloc::{AllocError, Global};
 
-/// Why an entry is skipped: the first of these that holds.
+/// Why an entry is skipped: the first of these reasons that holds.
 #[derive(Debug, Drop)]
 pub enum Reason {
     /// It is named `.git`.
     Git,
     /// The last rule that matches it ignores it. The rule is in the file of this source, on the line with this number, from 1.
     Rule { source: RuleSource, line: u32 },
-    /// An attribute has the state for it that this word of the filters asks for, such as `ATTR` or `ATTR=VALUE`.
+    /// An attribute has the state that this word of the filters requires, such as `ATTR` or `ATTR=VALUE`.
     Attribute(Vec<u8>),
     /// It is a file, and no pattern of the filters includes it.
     NotIncluded,
@@ -40,7 +40,7 @@ impl Reason {
         }
     }
 
-    /// The word by which reports name the reason, such as `rule`.
+    /// Returns the word by which reports name the reason, such as `rule`.
     pub fn word(&self) -> &'static str
         ensures { result.now ≡ reason_word (reason_model self.now) }
     {
@@ -54,7 +54,7 @@ impl Reason {
         }
     }
 
-    /// The source of the rule and the number of its line, if a rule is the reason.
+    /// Returns the source of the rule and the number of its line, if a rule is the reason.
     pub fn rule(&self) -> Option<(RuleSource, u32)>
         ensures { result ≡ rule_of (reason_model self.now) }
     {
@@ -64,7 +64,7 @@ impl Reason {
         }
     }
 
-    /// The word of the filters, such as `ATTR` or `ATTR=VALUE`, if an attribute is the reason.
+    /// Returns the word of the filters, such as `ATTR` or `ATTR=VALUE`, if an attribute is the reason.
     pub fn attribute(&self) -> Option<&[u8]>
         ensures { option_map (λ word. word.now) result ≡ attribute_of (reason_model self.entry.now) }
     {
@@ -86,7 +86,7 @@ pub(crate) enum ReasonRef<'a> {
 }
 
 impl ReasonRef<'_> {
-    /// The reason with the attribute's word in memory of its own.
+    /// Returns the reason with the attribute's word in memory of its own.
     pub(crate) fn to_reason(self, alloc: Global) -> Result<Reason, AllocError>
         ensures { IfOk result (λ r. reason_model r ≡ reason_ref_model self.entry) }
     {

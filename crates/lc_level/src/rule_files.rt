@@ -1,4 +1,4 @@
-//! The rule files of a directory, read whole.
+//! Reading the rule files of a directory.
 ghost use Rattle.std.specs.Prelude.{◌≡◌, ◌&&◌, not, None, Some, IfOk};
 ghost use Rattle.lc_glob.specs.Path.{path_in};
 ghost use Rattle.lc_rules.specs.AttrLines.{attribute_file_of};
@@ -40,7 +40,7 @@ impl IgnoreRead {
 }
 
 impl<T: Tree> LevelReader<'_, T> {
-    /// The bytes that were read, where texts are kept.
+    /// Returns the bytes that were read, if texts are kept.
     fn text_of(&self, bytes: &[u8]) -> Result<Option<Vec<u8>>, AllocError>
         ensures { IfOk result (λ text. text_items text ≡ text_if self.now.options.texts (Some bytes.now)) }
     {

@@ -6,7 +6,7 @@ use crate::path_buffer::PathBuffer;
 use lc_census::new_buffer;
 use std::alloc::{AllocError, Global};
 
-/// The buffers that a worker lends to all its directories, so that a directory takes no memory for what it does not keep.
+/// The buffers that a worker lends to all its directories, so that a directory allocates only what it keeps.
 #[derive(Drop)]
 pub struct Scratch {
     // Of one read of a file.

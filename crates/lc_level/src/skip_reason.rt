@@ -1,4 +1,4 @@
-//! Why an entry is skipped, by the rules, the filters and its kind.
+//! Deciding why an entry is skipped, by the rules, the filters and its kind.
 ghost use Rattle.std.specs.Prelude.{◌≡◌, IfOk, option_map};
 ghost use Rattle.lc_glob.specs.Path.{path_in};
 ghost use Rattle.lc_level.specs.Level.{rule_reason, reason_at, reason_for};
@@ -14,7 +14,7 @@ use lc_rules::Verdict;
 use lc_tree::Kind;
 use std::alloc::AllocError;
 
-/// The last rule that matches a path, if it ignores the path.
+/// Returns the last rule that matches a path, if it ignores the path.
 fn ignored_by(job: &Job, path: &[u8], is_dir: bool) -> Option<ReasonRef<'static>>
     ensures { option_map reason_ref_model result ≡ rule_reason (last_match (rules_in job.now.ignore) path.now is_dir) }
 {
@@ -29,7 +29,7 @@ fn ignored_by(job: &Job, path: &[u8], is_dir: bool) -> Option<ReasonRef<'static>
 }
 
 impl<'t, T> LevelReader<'t, T> {
-    /// Why the rules or the filters skip a path, if they do. Memory is taken for attributes' macros alone.
+    /// Returns why the rules or the filters skip a path, if they do. Only attributes' macros are allocated.
     pub(crate) fn reason_at(
         &self,
         job: &Job,
@@ -47,7 +47,7 @@ impl<'t, T> LevelReader<'t, T> {
         }
     }
 
-    /// Why a walk skips the entry of this name, if it does. `path` is the entry's path.
+    /// Returns why a walk skips the entry of this name, if it does. `path` is the entry's path.
     pub fn reason(
         &self,
         job: &Job,

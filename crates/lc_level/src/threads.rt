@@ -1,6 +1,6 @@
-//! Counting the files of a directory by several threads side by side.
+//! Counting the files of a directory with several threads side by side.
 //!
-//! - `in_parts`: where there are many; `after_large`: where a large one may be followed by others
+//! - `in_parts`: many files; `after_large`: the files after a large one
 //! - `spare_threads`: the threads that may help
 
 pub(crate) mod after_large;

@@ -1,4 +1,4 @@
-//! What one directory's work answers for trees of memory.
+//! Tests of one directory's work on trees in memory.
 
 mod after_large;
 mod entering;

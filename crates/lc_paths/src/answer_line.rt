@@ -1,4 +1,4 @@
-//! A line of an answer about a path.
+//! Writing a line about a path.
 
 ghost use Rattle.std.specs.Prelude.{◌≡◌, ◌++◌, OnOk, option_map};
 ghost use Rattle.lc_paths.specs.AnswerLines.{place_text, pattern_text, answer_line};
@@ -49,7 +49,7 @@ fn push_pattern(
     }
 }
 
-/// Appends a line of an answer: a word, where its cause is, the pattern that is the cause, and a path.
+/// Appends a line of an answer: a word, the place of its cause, the pattern that is the cause, and a path.
 pub(crate) fn push_answer(
     text: &mut Vec<u8>,
     style: PathStyle,

@@ -1,6 +1,6 @@
-//! Checks of paths by the rules of one file: an input is read whole, then answered, then written.
+//! Checks of paths by the rules of one file. The input is read whole, then answered, then written.
 //!
-//! - `joined`: rules and paths in one input; `text`: the text of a check; `explained`: that with the rules, written as it is made
+//! - `joined`: rules and paths in one input; `text`: the text of a check; `explained`: the text with rules, written while it is made
 //! - `checker`: matching one path after another; `finding`: what the rules decide about a path
 
 ghost use Rattle.lc_paths.specs.Checks.Answers.{AnswersCheck, AnswersExplainedCheck, no_rules};
@@ -27,7 +27,7 @@ pub use text::check_text;
 
 /// Reads paths to the input's end, and writes the word of each ([`check_text`]).
 ///
-/// After any fault but `Write` nothing was written.
+/// After any error but `Write` nothing was written.
 pub fn check<S: Source, O: Sink>(
     alloc: Global,
     rules: &IgnoreFile,
@@ -44,15 +44,15 @@ pub fn check<S: Source, O: Sink>(
     Ok(())
 }
 
-/// Reads paths to the input's end, and writes the word of each with the rule that gives it, in the file of this name.
+/// Reads paths to the input's end, and writes the word of each with its rule, which is from the file with this name.
 ///
-/// A line of the text is four fields with tabs between: the word, as [`check_text`] has it; where the rule is that gives it, as
-/// `NAME:LINE`, lines being counted from 1; the text of that line, with its `!`, without its trailing spaces; and the path. Of
-/// `below` it is the rule that ignores the highest ignored directory above the path. Where no rule gives the word, the second field and
-/// the third are dashes. Name, text and path are printed in a style.
+/// A line of the text has four fields, separated by tabs: the word, as in [`check_text`]; the place of the rule, `NAME:LINE`, with lines
+/// counted from 1; the text of that line, with its `!` and without its trailing spaces; and the path. For `below` the rule is that of the
+/// highest ignored directory above the path. If no rule decides, the second field and the third are dashes. Name, text and path are printed
+/// in a style.
 ///
-/// The text is written in blocks as it is made ([`Block`](lc_text::Block)). After a fault of the input nothing was written, and after
-/// any other a prefix of the text.
+/// The text is written in blocks while it is made ([`Block`](lc_text::Block)). After an error of the input nothing was written, and after
+/// any other error a prefix of the text.
 pub fn check_explained<S: Source, O: Sink>(
     alloc: Global,
     name: &[u8],
@@ -73,7 +73,7 @@ pub fn check_explained<S: Source, O: Sink>(
 
 /// Reads rules, a line `--` and paths from one input, and writes the word of each path ([`check_text`]).
 ///
-/// Without such a line all of the input is rules, and there are no paths. After any fault but `Write` nothing was written.
+/// Without such a line all of the input is rules, and there are no paths. After any error but `Write` nothing was written.
 pub fn check_joined<S: Source, O: Sink>(
     alloc: Global,
     format: PathFormat,

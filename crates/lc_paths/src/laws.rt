@@ -3,14 +3,14 @@
 ghost use Rattle.lc_paths.specs.Checks.Laws.{WordLaw};
 ghost use Rattle.lc_paths.specs.Explanations.Laws.{EntryLaw, IntoLaw};
 
-/// The rule that gives a path its word says it: below an ignored directory it is one that ignores, and else the word is what the
-/// rule says, or `none` where there is none.
+/// The law that the rule of a line agrees with its word. Under an ignored directory the rule ignores. Otherwise the word is what the rule
+/// says, or `none` if there is no rule.
 pub fn the_rule_gives_the_word()
     ensures { WordLaw }
 {}
 
-/// What is said of an entry in its directory is what the directory's level decides: it is left out for the same reason, or taken. And a
-/// directory is gone into exactly where its level walks it.
+/// The law that an entry is explained as its directory's level decides: it is skipped for the same reason, or stays. A directory is entered
+/// exactly if the level visits it.
 pub fn entries_are_explained_as_decided()
     ensures entry { EntryLaw }
     ensures into { IntoLaw }

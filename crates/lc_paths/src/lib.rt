@@ -1,7 +1,7 @@
-//! Answers about paths: what the rules of one file decide, and which rule of a tree does.
+//! Answers about paths: which rule of one file, or of a tree, decides a path.
 //!
-//! - `checking`: the checks of paths by the rules of one file: a word for each path, a line each
-//! - `explaining`: explanations of the paths of a tree, a line each
+//! - `checking`: checks of paths by the rules of one file, a line for each path
+//! - `explaining`: explanations of the paths of a tree, a line for each path
 //! - `paths`: the paths that are answered; `answer_line`: a line of an answer
 //! - `laws`: what is true of the definitions that the contracts cite
 #![tactic(auto)]

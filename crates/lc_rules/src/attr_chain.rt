@@ -77,10 +77,9 @@ fn decide_by_info<'a>(
     decide_by_file(query, file, path, is_dir, resolver)
 }
 
-/// The attribute files for a directory's entries: those of the tree from the top down, each with the depth of its
-/// directory, and that of `.git/info`. A later one overrides those before it, and that of `.git/info` overrides all.
-/// The macros known are `binary`, which is built in, those of the first file, where it was read as top-level, and those of
-/// `.git/info`; a later one overrides one of its name before it.
+/// The attribute files for a directory's entries, from the lowest precedence to the highest: those of the tree from the top down, each with
+/// the depth of its directory, then that of `.git/info`. The macros known are `binary`, which is built in, those of the first file, if it
+/// was read as top-level, and those of `.git/info`. A later macro overrides an earlier one of its name.
 #[derive(Drop)]
 pub struct AttrChain {
     files: ChainFiles<AttrFile>,
@@ -97,7 +96,7 @@ impl Model for AttrChain {
 }
 
 impl AttrChain {
-    /// The chain without a file. It knows the macro `binary` alone.
+    /// Returns the chain without a file, which knows the macro `binary` alone.
     pub fn top() -> AttrChain
         ensures { result ≡ no_files }
     {
@@ -107,7 +106,7 @@ impl AttrChain {
         }
     }
 
-    /// The chain with one file more of the tree, or an equal one. The file is that of a directory with `depth` segments.
+    /// Returns the chain with one more file of the tree, or an equal chain. `depth` is the number of segments of the file's directory.
     pub fn below(
         &self,
         alloc: Global,
@@ -121,8 +120,8 @@ impl AttrChain {
         Ok(AttrChain { files, info })
     }
 
-    /// The chain with the file of `.git/info/attributes`, or an equal one. The file was read as a top-level one; it
-    /// stands above every file that the chain has or gains later, and in place of one that it had.
+    /// Returns the chain with the file of `.git/info/attributes`, or an equal chain. The file was read as a top-level one. It overrides
+    /// every file that the chain has or gains later, and replaces an earlier file of `.git/info`.
     pub fn with_info(
         &self,
         alloc: Global,
@@ -139,7 +138,7 @@ impl AttrChain {
         Ok(AttrChain { files, info })
     }
 
-    /// The state of an attribute for a path. A name that no assignment decides is unspecified.
+    /// Returns the state of an attribute for a path. A name that no assignment decides is unspecified.
     pub fn state(
         &self,
         alloc: Global,
@@ -160,7 +159,7 @@ impl AttrChain {
         }
     }
 
-    /// The state of the attribute `text` for a file.
+    /// Returns the state of the attribute `text` for a file.
     pub fn text(&self, alloc: Global, path: &[u8]) -> Result<TextState, AllocError>
         ensures { IfOk result (λ text. text ≡ as_text (state_of self.now path.now false (codes "text"))) }
     {
@@ -204,7 +203,7 @@ impl AttrChain {
     }
 }
 
-/// The macros of the first file, if it is top-level.
+/// Returns the macros of the first file, if it is top-level.
 fn top_macros<'a>(files: FilesLeft<'a, AttrFile>) -> Option<&'a MacroTable>
     ensures { defined_in result ≡ top_macros files.entry }
 {

@@ -83,7 +83,7 @@ fn read_pattern_line<'a>(pattern: PatternText<'a>, assignments: &'a [u8]) -> Opt
     }))
 }
 
-/// The name of the macro that a first word defines.
+/// Returns the name of the macro that a first word defines.
 fn macro_word<'a>(word: &'a [u8]) -> Option<&'a [u8]>
     ensures { MatchOption result (macro_word word.now ≡ None) (λ n. macro_word word.now ≡ Some n.now) }
 {
@@ -133,7 +133,7 @@ pub(crate) fn read_line<'a>(
     }
 }
 
-/// The pattern of a line that has one, and what follows it.
+/// Returns the pattern of a line that has one, and what follows it.
 pub(crate) fn split_line<'a>(
     alloc: Global,
     line: &'a [u8],

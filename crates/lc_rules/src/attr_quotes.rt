@@ -27,7 +27,7 @@ fn octal(bytes: &[u8]) -> Option<(u8, usize)>
     }
 }
 
-/// The byte of an escape, and how many bytes it takes.
+/// Returns the byte of an escape, and how many bytes it takes.
 fn escape(bytes: &[u8]) -> Option<(u8, usize)>
     ensures is { result ≡ escape bytes.now }
     ensures within { IfSome result (λ r. r.1 ≤ length bytes.now) }
@@ -47,7 +47,7 @@ fn escape(bytes: &[u8]) -> Option<(u8, usize)>
     }
 }
 
-/// The text up to the closing quote, and what follows it.
+/// Returns the text up to the closing quote, and what follows it.
 pub(crate) fn unquoted<'a>(
     alloc: Global,
     bytes: &'a [u8],

@@ -20,7 +20,7 @@ pub(crate) fn is_white(b: u8) -> bool
     b == b' ' || b == b'\t' || b == b'\r'
 }
 
-/// A line without the white space at its start.
+/// Returns a line without the white space at its start.
 pub(crate) fn trimmed<'a>(line: &'a [u8]) -> &'a [u8]
     ensures is { result.now ≡ trimmed line.now }
     ensures shorter { length result.now ≤ length line.now }
@@ -36,7 +36,7 @@ pub(crate) fn trimmed<'a>(line: &'a [u8]) -> &'a [u8]
     rest
 }
 
-/// The place of the first white byte, or the length.
+/// Returns the place of the first white byte, or the length.
 pub(crate) fn word_end(bytes: &[u8]) -> usize
     ensures is { result ≡ position_or_len is_white bytes.now }
     ensures within { result ≤ length bytes.now }
@@ -49,7 +49,7 @@ pub(crate) fn word_end(bytes: &[u8]) -> usize
     bytes.len()
 }
 
-/// The first word, and what follows it.
+/// Returns the first word, and what follows it.
 pub(crate) fn split_word<'a>(bytes: &'a [u8]) -> Option<(&'a [u8], &'a [u8])>
     ensures cases { MatchOption result (words bytes.now ≡ []) (λ p. words bytes.now ≡ p.0.now ∷ words p.1.now) }
     ensures smaller { IfSome result (λ p. length p.1.now < length bytes.now) }
@@ -73,8 +73,8 @@ fn is_name_byte(b: u8) -> bool
         || b == b'_'
 }
 
-/// Whether an attribute or a macro can have this name: letters and digits of ASCII, `-`, `.` and `_`, one or more, of which a `-`
-/// isn't the first, as `linguist-vendored` (gitattributes(5)).
+/// Returns whether an attribute or a macro can have this name: one or more ASCII letters, digits, `-`, `.` and `_`, without a `-` at the
+/// beginning, such as `linguist-vendored` (gitattributes(5)).
 pub fn is_attribute_name(name: &[u8]) -> bool
     ensures { result ≡ is_name name.now }
 {
@@ -90,7 +90,7 @@ fn has_name_bytes(name: &[u8]) -> bool
     name.iter().all(|b| is_name_byte(*b))
 }
 
-/// An assignment, where its name is one.
+/// Returns an assignment, if the name is an attribute's name.
 fn named<'a>(name: &'a [u8], state: State<'a>) -> Option<Assignment<'a>>
     ensures { seen_assign result ≡ named name.now (state_model state.entry) }
 {
@@ -116,7 +116,7 @@ fn read_plain<'a>(word: &'a [u8]) -> Option<Assignment<'a>>
     named(&word[..i], State::Value(&word[i + 1..]))
 }
 
-/// The assignment of a word.
+/// Returns the assignment of a word.
 pub(crate) fn read_assignment<'a>(word: &'a [u8]) -> Option<Assignment<'a>>
     ensures { seen_assign result ≡ assign word.now }
 {
@@ -128,7 +128,7 @@ pub(crate) fn read_assignment<'a>(word: &'a [u8]) -> Option<Assignment<'a>>
     }
 }
 
-/// Whether all words are assignments.
+/// Returns whether all words are assignments.
 pub(crate) fn are_assignments(bytes: &[u8]) -> bool
     ensures { assigns (words bytes.now) ≡ all_assigned result bytes.now }
 {
@@ -142,7 +142,7 @@ pub(crate) fn are_assignments(bytes: &[u8]) -> bool
     true
 }
 
-/// The first assignment, and what follows it.
+/// Returns the first assignment, and what follows it.
 pub(crate) fn split_assignment<'a>(bytes: &'a [u8]) -> Option<(Assignment<'a>, &'a [u8])>
     ensures cases { MatchOption result (assigned bytes.now ≡ []) (λ p. assigned bytes.now ≡ assignment_model p.0 ∷ assigned p.1.now) }
     ensures smaller { IfSome result (λ p. length p.1.now < length bytes.now) }

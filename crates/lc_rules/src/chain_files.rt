@@ -1,4 +1,4 @@
-//! The files of a chain, whatever their kind.
+//! The files of a chain, of either kind.
 
 ghost use Rattle.std.specs.Prelude.{◌≡◌, ◌∷◌, [], IfOk, MatchOption};
 ghost use Rattle.std.specs.List.{filter_map};
@@ -82,7 +82,7 @@ impl<F: Drop> ChainFiles<F> {
         ChainFiles { entries: None }
     }
 
-    /// A copy of the chain, with one more file below the others if there is one.
+    /// Returns a copy of the chain, with one more file below the others if there is one.
     pub(crate) fn with(
         &self,
         alloc: Global,
@@ -104,7 +104,7 @@ impl<F: Drop> ChainFiles<F> {
         })
     }
 
-    /// The files from the first on.
+    /// Returns the files from the first on.
     pub(crate) fn left(&self) -> FilesLeft<'_, F>
         ensures { result ≡ self.now }
     {
@@ -153,7 +153,7 @@ impl<'a, F> Model for FilesLeft<'a, F> {
 }
 
 impl<'a, F> FilesLeft<'a, F> {
-    /// The first file with its depth, and the others.
+    /// Returns the first file with its depth, and the others.
     pub(crate) fn split_first(self) -> Option<(u32, &'a F, FilesLeft<'a, F>)>
         ensures { MatchOption result (self.entry ≡ []) (λ r. self.entry ≡ (r.0, r.1.now) ∷ r.2) }
     {

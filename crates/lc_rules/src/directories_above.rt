@@ -1,4 +1,4 @@
-//! The rules that decide all directories above a path, found in one pass over the rules of one ignore file.
+//! Finding the rules that decide all directories above a path, in one pass over the rules of one ignore file.
 
 ghost use Rattle.std.specs.Prelude.{◌≡◌, ◌<◌, ◌≤◌, ◌-◌, ◌&&◌, ◌||◌, ℕ, true, false, not, IsTrue, Option, None, Some};
 ghost use Rattle.std.specs.Prelude.{IfSome, cond, length, take, option_map, slice_index_or};
@@ -19,8 +19,8 @@ use std::marker::Model;
 
 /// A path and the directories above it, with the rules of one ignore file that decide them.
 ///
-/// Each rule is matched with all of them in one pass, from the newest on, until the highest directory that is ignored is
-/// known. Directories below that one, and below the first `MAX_DEPTH`, are matched one by one when they are needed.
+/// Each rule is matched with all directories in one pass, from the last rule on, until the highest ignored directory is known. Directories
+/// below that one, and below the first `MAX_DEPTH`, are matched one by one when they are needed.
 ///
 /// ```
 /// let file = IgnoreFile::read(alloc, b"**/b/\n!/a\n")?;
@@ -32,7 +32,7 @@ pub struct DirectoriesAbove<'a> {
     file: &'a IgnoreFile,
     path: &'a [u8],
     is_dir: bool,
-    /// Where in the path each directory ends, the highest first.
+    /// The index in the path at which each directory ends, the highest first.
     ends: [usize; MAX_DEPTH],
     /// The rule that was found for each.
     found: [Option<&'a Rule>; MAX_DEPTH],
@@ -40,7 +40,7 @@ pub struct DirectoriesAbove<'a> {
     count: usize,
     /// Whether the path was matched together with them.
     is_whole: bool,
-    /// The rule that was found for the path, where it is known.
+    /// The rule that was found for the path, if it is known.
     own: Option<Option<&'a Rule>>,
     ghost within: { count ≤ 256 },
     ghost decided: { (k : ℕ) → k < count → option_map (λ r. (Gitignore 0, r.now)) (slice_index_or found k None)
@@ -58,7 +58,7 @@ impl<'a> Model for DirectoriesAbove<'a> {
 }
 
 impl<'a> DirectoriesAbove<'a> {
-    /// Matches the rules of a file with a path and all directories above it. `is_dir` tells whether the path is a directory.
+    /// Matches the rules of a file with a path and all directories above it. `is_dir` is true if the path is a directory.
     pub fn of(file: &'a IgnoreFile, path: &'a [u8], is_dir: bool) -> Self
         ensures rules { result.rules ≡ file.now }
         ensures path { result.path ≡ path.now }
@@ -83,8 +83,8 @@ impl<'a> DirectoriesAbove<'a> {
         }
     }
 
-    /// The last rule of the file that matches the directory whose path is the first `len` bytes. `place` is the number of
-    /// directories above it.
+    /// Returns the last rule of the file that matches the directory whose path is the first `len` bytes. `place` is the number of
+    /// directories above that directory.
     pub fn last_match(&self, place: usize, len: usize) -> Option<&'a Rule>
         requires { len ≤ length self.now.path }
         ensures { option_map (λ r. (Gitignore 0, r.now)) result ≡ last_match (at_depth 0 self.now.rules) (take len self.now.path) true }
@@ -96,7 +96,7 @@ impl<'a> DirectoriesAbove<'a> {
         self.file.last_match(&self.path[..len], true)
     }
 
-    /// The last rule of the file that matches the path itself.
+    /// Returns the last rule of the file that matches the path itself.
     pub fn last_match_of_path(&self) -> Option<&'a Rule>
         ensures { option_map (λ r. (Gitignore 0, r.now)) result ≡ last_match (at_depth 0 self.now.rules) self.now.path self.now.is_dir }
     {
@@ -173,7 +173,7 @@ fn decide<'a>(
     (above, Some(own))
 }
 
-/// Whether a pattern matches a path, by whether it matches a directory of that path.
+/// Returns whether a pattern matches a path, by whether it matches a directory of that path.
 fn is_matched(is_directory_matched: bool, is_dir: bool, is_dir_only: bool) -> bool
     ensures { result ≡ (is_directory_matched && (not is_dir_only || is_dir)) }
 {
@@ -191,7 +191,7 @@ fn newest_match<'a>(found: Option<&'a Rule>, rule: &'a Rule, is_matched: bool) -
     Some(rule)
 }
 
-/// Fills in a rule for the directories that it matches, where no newer rule was found.
+/// Fills in a rule for the directories that it matches and for which no newer rule was found.
 fn fill_undecided<'a>(rule: &'a Rule, flags: &[bool], found: &mut [Option<&'a Rule>])
     requires { length flags.now ≤ length found.old }
     ensures len { length found.new ≡ length found.old }
@@ -206,7 +206,8 @@ fn fill_undecided<'a>(rule: &'a Rule, flags: &[bool], found: &mut [Option<&'a Ru
     }
 }
 
-/// The number of directories down to the highest that is ignored, or of all, where a rule was found of each of these.
+/// Returns the number of directories down to the highest ignored one, if a rule was found for each of these; or of all, if a rule was found
+/// for all.
 fn told_count(found: &[Option<&Rule>]) -> Option<usize>
     ensures { IfSome result (λ count. AreFound found.now count) }
 {

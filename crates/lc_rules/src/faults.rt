@@ -1,4 +1,4 @@
-//! Why a file of rules is refused.
+//! The errors of reading a file of rules.
 
 ghost use Rattle.std.specs.Prelude.{◌≡◌, ◌↔◌, ◌<◌, length, IsTrue};
 ghost use Rattle.lc_rules.specs.Limits.{max_rule_bytes};
@@ -8,10 +8,10 @@ use std::alloc::AllocError;
 use std::error::Error;
 use std::fmt;
 
-/// The most bytes of an ignore file or an attribute file.
+/// The greatest number of bytes of an ignore file or an attribute file.
 pub const MAX_RULE_BYTES: usize = 1_048_576;
 
-/// Whether a file has more than `MAX_RULE_BYTES` bytes.
+/// Returns whether a file has more than `MAX_RULE_BYTES` bytes.
 pub(crate) fn is_too_long(bytes: &[u8]) -> bool
     ensures { IsTrue result ↔ (max_rule_bytes < length bytes.now) }
 {

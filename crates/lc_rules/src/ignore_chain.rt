@@ -18,8 +18,8 @@ use std::alloc::{AllocError, Global};
 use std::marker::Model;
 use std::sync::Arc;
 
-/// The rules for a directory's entries: the exclude file of the whole tree, that of `.git/info`, those of the tree from the top
-/// down, each with the depth of its directory, and the patterns of the command line. Each overrides those before it.
+/// The rules for a directory's entries, from the lowest precedence to the highest: the exclude file of the whole tree, that of `.git/info`,
+/// those of the tree from the top down, each with the depth of its directory, and the patterns of the command line.
 #[derive(Drop)]
 pub struct Chain {
     exclude: Option<Arc<IgnoreFile, Global>>,
@@ -45,7 +45,7 @@ impl Model for Chain {
 }
 
 impl Chain {
-    /// The chain without a file.
+    /// Returns the chain without a file.
     pub fn top() -> Chain
         ensures { result ≡ no_ignore_files }
     {
@@ -58,7 +58,7 @@ impl Chain {
         }
     }
 
-    /// The chain with the exclude file of the whole tree, or an equal one.
+    /// Returns the chain with the exclude file of the whole tree, or an equal chain.
     pub fn with_exclude(self, file: Option<Arc<IgnoreFile, Global>>) -> Chain
         ensures { result ≡ with_exclude self file }
     {
@@ -71,8 +71,8 @@ impl Chain {
         }
     }
 
-    /// The chain with the patterns of the command line, or an equal one. They override the rules of every file, also of those that
-    /// the chain gains later.
+    /// Returns the chain with the patterns of the command line, or an equal chain. They override the rules of every file, also of those
+    /// that the chain gains later.
     pub fn with_command_line(self, file: Option<Arc<IgnoreFile, Global>>) -> Chain
         ensures { result ≡ with_command_line self file }
     {
@@ -85,21 +85,21 @@ impl Chain {
         }
     }
 
-    /// The chain of a tree of which no ignore file is read, or of which each is read.
+    /// Returns the chain of a tree whose ignore files are all read, or with `no_ignore` not read.
     pub fn with_no_ignore(self, no_ignore: bool) -> Chain
         ensures { result ≡ with_no_ignore self no_ignore }
     {
         Chain { no_ignore, ..self }
     }
 
-    /// Whether no ignore file of the tree is read.
+    /// Returns whether no ignore file of the tree is read.
     pub fn no_ignore(&self) -> bool
         ensures { result ≡ self.now.no_ignore }
     {
         self.no_ignore
     }
 
-    /// The chain with the file of `.git/info/exclude`, or an equal one.
+    /// Returns the chain with the file of `.git/info/exclude`, or an equal chain.
     pub fn with_info(self, file: Option<Arc<IgnoreFile, Global>>) -> Chain
         ensures { result ≡ with_info self file }
     {
@@ -112,7 +112,7 @@ impl Chain {
         }
     }
 
-    /// The chain with one file more of the tree, or an equal one. The file is that of a directory with `depth` segments.
+    /// Returns the chain with one more file of the tree, or an equal chain. `depth` is the number of segments of the file's directory.
     pub fn below(
         &self,
         alloc: Global,
@@ -134,7 +134,7 @@ impl Chain {
         })
     }
 
-    /// The verdict of the last rule that matches a path. Each file of the tree sees the path without its first segments, as
+    /// Returns the verdict of the last rule that matches a path. A file of the tree is matched with the path without its first segments, as
     /// many as the file's depth.
     pub fn verdict(&self, path: &[u8], is_dir: bool) -> Verdict
         ensures { result ≡ verdict_of (rules_in self.now) path.now is_dir }
@@ -145,7 +145,7 @@ impl Chain {
         }
     }
 
-    /// The last rule that matches a path, and the file that it was read from.
+    /// Returns the last rule that matches a path, and the file that it was read from.
     pub fn last_match(&self, path: &[u8], is_dir: bool) -> Option<(RuleSource, &Rule)>
         ensures { option_map (λ r. (r.0, r.1.now)) result ≡ last_match (rules_in self.now) path.now is_dir }
     {

@@ -55,28 +55,28 @@ impl IgnoreFile {
         &self.rules
     }
 
-    /// The number of rules, those with a dead pattern included.
+    /// Returns the number of rules, those with a dead pattern included.
     pub fn len(&self) -> usize
         ensures { result ≡ length self.now }
     {
         self.rules.len()
     }
 
-    /// Whether the file has no rule.
+    /// Returns whether the file has no rule.
     pub fn is_empty(&self) -> bool
         ensures { IsTrue result ↔ (self.now ≡ []) }
     {
         self.rules.is_empty()
     }
 
-    /// The patterns of the rules, in the same order.
+    /// Returns the patterns of the rules, in the same order.
     pub(crate) fn patterns(&self) -> &PatternSet
         ensures { result.now ≡ patterns_of self.now }
     {
         &self.patterns
     }
 
-    /// Whether matching one directory after another repeats work, by the pattern of some rule, as
+    /// Returns whether matching one directory after another repeats work, by the pattern of some rule, as
     /// `lc_glob::Pattern::has_nested_wildcards` says. `DirectoriesAbove` then costs less for all directories above a path.
     pub fn has_nested_wildcards(&self) -> bool
         ensures { result ≡ list_any has_nested_wildcards (patterns_of self.now) }
@@ -84,7 +84,7 @@ impl IgnoreFile {
         self.patterns.has_nested_wildcards()
     }
 
-    /// The verdict of the file alone on a path below its directory.
+    /// Returns the verdict of the file alone on a path below its directory.
     pub fn verdict(&self, path: &[u8], is_dir: bool) -> Verdict
         ensures { result ≡ verdict_of (at_depth 0 self.now) path.now is_dir }
     {
@@ -94,7 +94,7 @@ impl IgnoreFile {
         }
     }
 
-    /// The last rule of the file that matches a path below its directory.
+    /// Returns the last rule of the file that matches a path below its directory.
     ///
     /// ```
     /// let file = IgnoreFile::read(alloc, b"*.log\n\n!keep.log\n")?;

@@ -10,7 +10,7 @@ use std::alloc::{AllocError, Global};
 use std::marker::Model;
 use std::snapshot::Snapshot;
 
-/// A rule of an ignore file, which keeps its pattern.
+/// A rule of an ignore file without its pattern, which the file keeps.
 #[derive(Drop)]
 pub struct Rule {
     line: u32,
@@ -30,14 +30,14 @@ impl Model for Rule {
 }
 
 impl Rule {
-    /// The number of its line in the file, counted from 1. Empty lines and comments count too.
+    /// Returns the number of the rule's line in the file, counted from 1. Empty lines and comments count too.
     pub fn line(&self) -> u32
         ensures { result ≡ self.now.line }
     {
         self.line
     }
 
-    /// The verdict of this rule on a path that its pattern matches.
+    /// Returns the verdict of this rule on a path that its pattern matches.
     pub fn verdict(&self) -> Verdict
         ensures { result ≡ verdict_by self.now }
     {
@@ -48,7 +48,7 @@ impl Rule {
         }
     }
 
-    /// Whether the rule ignores the paths that its pattern matches.
+    /// Returns whether the rule ignores the paths that its pattern matches.
     pub(crate) fn ignores(&self) -> bool
         ensures { result ≡ not self.now.is_negated }
     {
@@ -65,7 +65,7 @@ fn without_return<'a>(line: &'a [u8]) -> &'a [u8]
     if *last == b'\r' { rest } else { line }
 }
 
-/// A line without the spaces at its end that no backslash quotes.
+/// Returns a line without the spaces at its end that no backslash quotes.
 fn without_spaces<'a>(line: &'a [u8]) -> &'a [u8]
     ensures { result.now ≡ without_spaces line.now }
 {
@@ -86,8 +86,8 @@ fn without_spaces<'a>(line: &'a [u8]) -> &'a [u8]
     &line[..kept]
 }
 
-/// The part of a line of an ignore file that is read as a rule: the line without one carriage return at its end, and then
-/// without the spaces at its end that no backslash quotes.
+/// Returns the part of a line of an ignore file that is read as a rule: the line without one carriage return at its end, and then without
+/// the spaces at its end that no backslash quotes.
 ///
 /// ```
 /// assert!(rt; text_of_line(b"!*.log  \r") == b"!*.log".as_slice());

@@ -13,7 +13,7 @@ use crate::macro_table::{Macro, MacroTable};
 use crate::states::State;
 use std::alloc::AllocError;
 
-/// The assignments that a macro stands for.
+/// The assignments of a macro.
 #[derive(Clone, Copy)]
 pub(crate) enum MacroBody<'a> {
     /// The words of its assignments.
@@ -29,7 +29,7 @@ pub(crate) struct KnownMacros<'a> {
 }
 
 impl<'a> KnownMacros<'a> {
-    /// The assignments that the macro of this name stands for.
+    /// Returns the assignments of the macro with this name.
     pub(crate) fn find(self, name: &[u8]) -> Option<MacroBody<'a>>
         ensures { MatchOption result (macro_of (known_macros self.entry) name.now ≡ None)
             (λ body. macro_of (known_macros self.entry) name.now ≡ Some (macro_body_model body)) }
@@ -57,7 +57,7 @@ fn find_in<'a>(table: Option<&'a MacroTable>, name: &[u8]) -> Option<&'a [u8]>
     }
 }
 
-/// The macros of a table that may be there.
+/// Returns the macros of a table, or none if there is no table.
 pub(crate) fn macros_in<'a>(table: Option<&'a MacroTable>) -> &'a [Macro]
     ensures { map macro_model result.now ≡ defined_in table.entry }
 {

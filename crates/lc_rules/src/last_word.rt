@@ -9,7 +9,7 @@ ghost use Rattle.lc_rules.specs.WrittenLines.{assigned};
 use crate::assignment::Assignment;
 use crate::attr_words::{is_white, read_assignment};
 
-/// The bytes without the white space at their end.
+/// Returns the bytes without the white space at their end.
 fn trimmed_end<'a>(bytes: &'a [u8]) -> &'a [u8]
     ensures same { words result.now ≡ words bytes.now }
     ensures shorter { length result.now ≤ length bytes.now }
@@ -25,7 +25,7 @@ fn trimmed_end<'a>(bytes: &'a [u8]) -> &'a [u8]
     rest
 }
 
-/// Where the last word begins, in bytes that end with it.
+/// Returns the index at which the last word begins, in bytes that end with it.
 fn last_word_start(bytes: &[u8]) -> usize
     ensures within { result ≤ length bytes.now }
     ensures is { IsLastWordAt result bytes.now }
@@ -37,7 +37,7 @@ fn last_word_start(bytes: &[u8]) -> usize
     start
 }
 
-/// The last word, and what stands before it.
+/// Returns the last word, and the bytes before it.
 fn split_last_word<'a>(bytes: &'a [u8]) -> Option<(&'a [u8], &'a [u8])>
     ensures cases { MatchOption result (words bytes.now ≡ []) (λ p. words bytes.now ≡ words p.0.now ++ p.1.now ∷ []) }
     ensures smaller { IfSome result (λ p. length p.0.now < length bytes.now) }
@@ -50,7 +50,7 @@ fn split_last_word<'a>(bytes: &'a [u8]) -> Option<(&'a [u8], &'a [u8])>
     Some((&rest[..start], &rest[start..]))
 }
 
-/// The last assignment, and what stands before it.
+/// Returns the last assignment, and the bytes before it.
 pub(crate) fn split_last_assignment<'a>(bytes: &'a [u8]) -> Option<(Assignment<'a>, &'a [u8])>
     ensures cases { MatchOption result (assigned bytes.now ≡ [])
         (λ p. assigned bytes.now ≡ assigned p.1.now ++ assignment_model p.0 ∷ []) }

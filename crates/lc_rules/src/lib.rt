@@ -3,13 +3,13 @@
 //! The formats are those of gitignore(5) and gitattributes(5); `docs/RULES.md` has each rule with an example.
 //!
 //! - `ignore_line`, `ignore_file`, `ignore_chain`: a rule, an ignore file, and the chain of those that apply to a path
-//! - `matchable`: whether a line gives a rule that can match
+//! - `matchable`: the lines that give a rule that can match
 //! - `attr_line`, `attr_words`, `last_word`, `attr_quotes`, `assignment`: a line of an attribute file
 //! - `attr_file`, `line_table`, `macro_table`, `attr_chain`: an attribute file, and the chain of those that apply to a path
 //! - `known_macros`, `resolver`, `states`: deciding one attribute
 //! - `lines`, `chain_files`, `paths`: what both kinds of files share
-//! - `directories_above`: the last match of each directory above a path; `verdicts`, `rule_source`: what rules answer
-//! - `faults`: why a file is no rule file; `laws`: that these answers are those of gitignore(5)
+//! - `directories_above`: the last match of each directory above a path; `verdicts`, `rule_source`: what a rule says, and its file
+//! - `faults`: why a file can't be read as rules; `laws`: that these answers are those of gitignore(5)
 #![tactic(auto)]
 
 mod assignment;

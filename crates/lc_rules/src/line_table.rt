@@ -19,12 +19,12 @@ use std::marker::Model;
 
 /// Lines in order, and the names that they assign, so that a file that can't decide an attribute is skipped whole.
 ///
-/// Of a line no more is kept than its pattern and where it begins in the text, so many lines of a few bytes take a few
-/// bytes each. The assignments of a line are read from the text when they are needed.
+/// A line is stored as its pattern and the index in the text at which it begins, so a line of a few bytes takes a few bytes more. Its
+/// assignments are read from the text when they are needed.
 #[derive(Drop)]
 pub(crate) struct LineTable {
     text: Vec<u8>,
-    /// Where each line begins in the text.
+    /// The index in the text at which each line begins.
     starts: Vec<u32>,
     patterns: PatternSet,
     names: BTreeSet<Vec<u8>>,
@@ -82,14 +82,14 @@ impl LineTable {
         self.patterns.shrink_to_fit();
     }
 
-    /// The patterns of the lines, in the same order.
+    /// Returns the patterns of the lines, in the same order.
     pub(crate) fn patterns(&self) -> &PatternSet
         ensures { result.now ≡ patterns_in self.now.lines }
     {
         &self.patterns
     }
 
-    /// The words of the assignments of the line at an index. The pattern is skipped, which takes memory if it is quoted.
+    /// Returns the words of the assignments of the line at an index. The pattern is skipped, which takes memory if it is quoted.
     pub(crate) fn assignments_at<'a>(
         &'a self,
         alloc: Global,
@@ -104,7 +104,7 @@ impl LineTable {
         }
     }
 
-    /// The pattern of the line that begins at a place of the text, and the words of its assignments.
+    /// Returns the pattern of the line that begins at a place of the text, and the words of its assignments.
     fn line_from<'a>(
         &'a self,
         alloc: Global,
@@ -118,7 +118,7 @@ impl LineTable {
         split_line(alloc, line)
     }
 
-    /// Whether some line may decide the attribute, by its name or by a macro.
+    /// Returns whether some line may decide the attribute, by its name or by a macro.
     pub(crate) fn can_decide(&self, query: Query) -> bool
         ensures { result ≡ false → some_matters (macros_for query.entry) query.entry.name.now self.now.lines ≡ false }
     {
@@ -131,7 +131,7 @@ impl LineTable {
         self.names.contains(name)
     }
 
-    /// Whether some line may name a macro.
+    /// Returns whether some line may name a macro.
     fn may_name_some(&self, macros: KnownMacros) -> bool
         ensures { result ≡ false → NameNone self.now.lines (known_macros macros.entry) }
     {
@@ -144,7 +144,7 @@ impl LineTable {
         self.may_name_some_in(macros_in(macros.info))
     }
 
-    /// Whether some line may name one of these macros. They are not looked for where they are more than the names.
+    /// Returns whether some line may name one of these macros. They are not looked for where they are more than the names.
     fn may_name_some_in(&self, defined: &[Macro]) -> bool
         ensures { result ≡ false → NameNone self.now.lines (map macro_model defined.now) }
     {

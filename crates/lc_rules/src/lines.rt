@@ -6,7 +6,7 @@ ghost use Rattle.lc_rules.specs.RuleLines.{without_mark, lines_of};
 use lc_glob::cut_at_first;
 use std::marker::Model;
 
-/// The lines of a file of rules, from one of them on.
+/// The lines of a file of rules that are still to be read.
 ///
 /// ```
 /// let Some((line, others)) = Lines::of(b"*.log\n!keep.log\n").split_first() else { .. };
@@ -26,7 +26,7 @@ impl<'a> Model for Lines<'a> {
 }
 
 impl<'a> Lines<'a> {
-    /// The lines of a file, without its byte order mark.
+    /// Returns the lines of a file, without its byte order mark.
     pub fn of(bytes: &'a [u8]) -> Self
         ensures { result ≡ lines_of bytes.now }
     {
@@ -35,7 +35,7 @@ impl<'a> Lines<'a> {
         }
     }
 
-    /// The first line, and the others.
+    /// Returns the first line, and the others.
     pub fn split_first(self) -> Option<(&'a [u8], Lines<'a>)>
         ensures { MatchOption result (self.entry ≡ []) (λ p. self.entry ≡ p.0.now ∷ p.1) }
     {
@@ -44,7 +44,7 @@ impl<'a> Lines<'a> {
     }
 }
 
-/// The bytes of a file without its byte order mark.
+/// Returns the bytes of a file without its byte order mark.
 pub(crate) fn without_mark<'a>(bytes: &'a [u8]) -> &'a [u8]
     ensures { result.now ≡ without_mark bytes.now }
 {

@@ -10,7 +10,7 @@ use std::alloc::{AllocError, Global};
 use std::collections::BTreeMap;
 use std::marker::Model;
 
-/// A name that stands for assignments, and their words.
+/// The name of a macro, and the words of its assignments.
 #[derive(Drop)]
 pub(crate) struct Macro {
     pub(crate) name: Vec<u8>,
@@ -60,7 +60,7 @@ impl MacroTable {
         Ok(())
     }
 
-    /// The words of the assignments that the last macro of this name stands for.
+    /// Returns the words of the last macro with this name.
     pub(crate) fn find(&self, name: &[u8]) -> Option<&[u8]>
         ensures { MatchOption result (macro_of self.now name.now ≡ None)
             (λ body. macro_of self.now name.now ≡ Some (assigned body.now)) }

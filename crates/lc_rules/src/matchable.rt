@@ -1,4 +1,4 @@
-//! Lines whose rules match nothing.
+//! Finding lines whose rules match nothing.
 
 ghost use Rattle.std.specs.Prelude.{◌≡◌, IfOk};
 ghost use Rattle.lc_glob.specs.Path.{segments_of};

@@ -1,4 +1,4 @@
-//! Paths as the file of a directory sees them.
+//! Paths relative to the directory of a rule file.
 
 ghost use Rattle.std.specs.Prelude.{◌≡◌};
 ghost use Rattle.std.specs.List.{after_first};
@@ -49,7 +49,7 @@ impl<'a> PathBelow<'a> {
     }
 }
 
-/// A path without its first segments.
+/// Returns a path without its first segments.
 fn below<'a>(path: &'a [u8], depth: u32) -> &'a [u8]
     ensures { result.now ≡ below depth path.now }
 {

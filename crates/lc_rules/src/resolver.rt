@@ -1,4 +1,4 @@
-//! How one attribute of a path is decided, from the assignments of the highest precedence on.
+//! Deciding one attribute of a path, from the assignments of the highest precedence down.
 
 ghost use Rattle.std.specs.Prelude.{◌≡◌, ◌≤◌, ◌∷◌, [], ◌++◌, false, reverse, IfOk, IfNone};
 ghost use Rattle.lc_rules.specs.Decision.{DecidesByEquations};
@@ -24,8 +24,8 @@ pub(crate) struct Query<'q, 'a> {
     pub(crate) macros: KnownMacros<'a>,
 }
 
-/// The macros that are decided, in whatever state, and the assignments of macros that are still to be read, the next on
-/// top. Names that are no macros decide nothing else, so they aren't kept; no memory is taken until a macro is met.
+/// The macros that are decided, in whatever state, and the assignments of macros that are still to be read, the next on top. Other names
+/// decide nothing else, so they aren't kept. Nothing is allocated before the first macro.
 #[derive(Drop)]
 pub(crate) struct Resolver<'a> {
     alloc: Global,
@@ -162,9 +162,9 @@ pub(crate) fn decide_by_lines<'a>(
     Ok(None)
 }
 
-/// The law that the decision, of which `AttrChain::state` tells one name, keeps its equations, and that nothing else does:
-/// nothing is left to be read, a name that is decided stays so, and the first assignment of a name decides it and, where
-/// it sets a macro, puts the macro's assignments before the rest.
+/// The law that the decision, of which `AttrChain::state` returns one name, satisfies its equations, and that no other does. Nothing is
+/// left to be read, and a name that is decided stays so. The first assignment of a name decides it; if it sets a macro, the macro's
+/// assignments come before the rest.
 pub fn decides_by_equations()
     ensures { DecidesByEquations }
 {}

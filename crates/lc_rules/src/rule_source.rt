@@ -1,6 +1,6 @@
 //! The file that a rule was read from.
 
-/// The file that a rule was read from, or the command line: gitignore(5), DESCRIPTION. Each overrides those before it.
+/// The file that a rule was read from, or the command line, from the lowest precedence to the highest: gitignore(5), DESCRIPTION.
 #[derive(Debug, Clone, Copy, PartialEq, Eq)]
 pub enum RuleSource {
     /// The file of `--exclude-from`, which holds for the whole tree.

@@ -26,7 +26,7 @@ pub enum TextState {
 }
 
 impl TextState {
-    /// The word by which reports name the state, such as `auto`. There is none if the attribute is unspecified.
+    /// Returns the word by which reports name the state, such as `auto`. An unspecified attribute has none.
     pub fn word(self) -> Option<&'static str>
         ensures { option_map (λ word. word.now) result ≡ text_word self }
     {

@@ -1,7 +1,7 @@
 //! Verdicts of rules on paths.
 
-/// The verdict of the last rule that matches a path. It is about the path alone: a path below an ignored directory is
-/// skipped, whatever its own verdict is.
+/// The verdict of the last rule that matches a path. It is about the path alone: a path under an ignored directory is skipped, whatever its
+/// own verdict is.
 #[derive(Clone, Copy, Debug, PartialEq, Eq)]
 pub enum Verdict {
     Ignored,

@@ -16,7 +16,7 @@ pub enum Number {
     Bytes,
 }
 
-/// The side of its column at which a value is.
+/// The side of a column at which a value is aligned.
 #[derive(Debug, Clone, Copy, PartialEq, Eq)]
 pub enum Side {
     /// Words are at the left.
@@ -50,7 +50,7 @@ pub enum Column {
     Kind,
     /// Why an entry is skipped.
     Reason,
-    /// Where the rule is that skips an entry, or the attribute that does.
+    /// The place of the rule that skips an entry, or the attribute that does.
     Place,
     /// The path of a skipped entry, with a slash if it is a directory.
     Entry,
@@ -67,7 +67,7 @@ pub enum Column {
 }
 
 impl Number {
-    /// The name of the number, which is its heading too.
+    /// Returns the name of the number, which is its heading too.
     pub fn name(self) -> &'static str
         ensures { result.now ≡ number_name self }
     {
@@ -81,7 +81,7 @@ impl Number {
 }
 
 impl Column {
-    /// The name of the column in the formats that programs read.
+    /// Returns the name of the column in the formats that programs read.
     pub fn name(self) -> &'static str
         ensures { result.now ≡ column_name self }
     {
@@ -105,7 +105,7 @@ impl Column {
         }
     }
 
-    /// The heading of the column in the formats that people read. It is another word than the name, or none, for a few columns.
+    /// Returns the heading of the column in the formats that people read. It is another word than the name, or none, for a few columns.
     pub fn heading(self) -> &'static str
         ensures { result.now ≡ heading self }
     {
@@ -120,7 +120,7 @@ impl Column {
         }
     }
 
-    /// The side at which the values of the column are.
+    /// Returns the side at which the values of the column are.
     pub fn side(self) -> Side
         ensures { result ≡ side_of self }
     {

@@ -122,7 +122,7 @@ fn number_of(value: Value<'_>) -> u128
 }
 
 impl Condition<'_> {
-    /// Returns whether the condition holds of what a file has in the column.
+    /// Returns whether a file with this value in the column meets the condition.
     pub fn holds(&self, value: Value<'_>) -> bool
         ensures { result ≡ meets self.now.test (value_model value.entry) }
     {
@@ -135,7 +135,7 @@ impl Condition<'_> {
         }
     }
 
-    /// Returns whether the condition is on a number, which only a file has by itself.
+    /// Returns whether the condition is on a number. A row has no such number of its own, only a file.
     pub fn is_on_number(&self) -> bool
         ensures { result ≡ is_on_number self.now }
     {
@@ -143,7 +143,7 @@ impl Condition<'_> {
     }
 }
 
-/// Returns whether one of the conditions is on a number, so that only a report with its files can show what they hold of.
+/// Returns whether one of the conditions is on a number. Then only a report with its files can show which files meet them.
 pub fn needs_files(conditions: &[Condition<'_>]) -> bool
     ensures { result ≡ needs_files conditions.now }
 {

@@ -1,7 +1,8 @@
-//! What a report shows, whatever its format: sections of lines, each with a value in each column. And the options by which it is shown.
+//! The sheet of a report: what is shown of it in any format, as sections of lines with a value in each column. Also the options of a table.
 //!
 //! - `column`: the columns; `value`: what a line has in a column
-//! - `form`: what every line depends on; `lines`: kinds of lines; `section`: lines of one kind in columns; `sheet`: the sections of a report
+//! - `form`: what every line depends on; `lines`: the kinds of lines; `section`: lines of one kind in columns; `sheet`: the sections of a
+//!   report
 //! - `table_options`: the format of a table, its columns, its order, and where it is cut
 //! - `condition`: which files a table shows
 #![tactic(auto)]

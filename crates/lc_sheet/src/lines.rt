@@ -9,14 +9,14 @@ use crate::column::Column;
 use crate::form::Form;
 use crate::value::Value;
 
-/// A kind of lines: what a line of this kind has in a column.
+/// A kind of lines. It states which value a line of this kind has in a column.
 pub trait Lines {
     /// A line of this kind.
     type Line;
 
     ghost value_in: { Form → Self.Line → Column → ValueModel };
 
-    /// The value of a line in a column.
+    /// Returns the value of a line in a column.
     fn value<'l>(line: &'l Self::Line, form: Form, column: Column) -> Value<'l>
         ensures { value_model result ≡ value_in form line.now column };
 }

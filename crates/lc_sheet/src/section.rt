@@ -25,7 +25,7 @@ impl<'a, L: Lines> Model for Section<'a, L> {
 }
 
 impl<'a, L: Lines> Section<'a, L> {
-    /// Shows lines in columns.
+    /// Makes a section of these lines in these columns.
     pub fn new(form: Form, columns: &'a [Column], lines: &'a [L::Line]) -> Section<'a, L>
         ensures { result ≡ record { columns = columns.entry.now; lines = lines_of (L.value_in form) columns.entry.now lines.entry.now } }
     {
@@ -36,14 +36,14 @@ impl<'a, L: Lines> Section<'a, L> {
         }
     }
 
-    /// The columns of the section.
+    /// Returns the columns of the section.
     pub fn columns(&self) -> &'a [Column]
         ensures { result.now ≡ self.now.columns }
     {
         self.columns
     }
 
-    /// What the lines depend on, the columns and the lines.
+    /// Returns the form of the section, its columns and its lines.
     pub fn parts(&self) -> (Form, &'a [Column], &'a [L::Line])
         ensures columns { result.1.now ≡ self.now.columns }
         ensures lines { lines_of (L.value_in result.0) result.1.now result.2.now ≡ self.now.lines }

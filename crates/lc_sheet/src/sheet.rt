@@ -1,10 +1,10 @@
-//! A sheet: what a report shows, whatever its format.
+//! Sheets: what is shown of a report in any format.
 
 use crate::lines::Lines;
 use crate::section::Section;
 use std::marker::Model;
 
-/// What a report shows: its rows, sums, files, skipped entries and errors.
+/// What is shown of a report: its rows, sums, files, skipped entries and errors.
 #[derive(Drop)]
 pub struct Sheet<'a, R: Lines, T: Lines, F: Lines, S: Lines, E: Lines> {
     /// The rows.
@@ -17,9 +17,9 @@ pub struct Sheet<'a, R: Lines, T: Lines, F: Lines, S: Lines, E: Lines> {
     pub some_binary: bool,
     /// The number of directories.
     pub directories: u64,
-    /// The number of their entries, where skipped entries are asked for.
+    /// The number of their entries, if skipped entries are requested.
     pub entries: Option<u64>,
-    /// The files, where these are asked for.
+    /// The files, if these are requested.
     pub files: Option<Section<'a, F>>,
     /// The skipped entries.
     pub skipped: Section<'a, S>,

@@ -20,10 +20,10 @@ pub enum Format {
     Html,
 }
 
-/// The columns by which the rows of a table are kept apart. Rows are summed over the columns that it leaves out.
+/// The columns by which the rows of a table are kept apart. Rows that differ only in other columns are added up.
 #[derive(Debug, Clone, Copy, PartialEq, Eq)]
 pub struct Columns {
-    /// The directory that holds the file, relative to the counted directory and cut to its first segments, this many (1 to 256).
+    /// The directory that holds the file, relative to the counted directory. It is cut to this many of its first segments (1 to 256).
     pub dir: Option<u32>,
     /// The extension of the file's name.
     pub ext: bool,
@@ -34,7 +34,7 @@ pub struct Columns {
 }
 
 impl Columns {
-    /// All columns of a report's rows, so that none are summed.
+    /// All columns of a report's rows, so that no rows are added up.
     pub const ALL: Columns = Columns {
         dir: None,
         ext: true,
@@ -63,7 +63,7 @@ pub struct TableOptions {
     pub format: Format,
     /// The columns by which its rows are kept apart.
     pub by: Columns,
-    /// The number by which its rows and its files are sorted. Those with equal numbers, and all without one, come in the order of their
+    /// The number that sorts rows and files, largest first. Those with equal numbers, and all without a number, are in the order of their
     /// keys and of their paths.
     pub sort: Option<Number>,
     /// The most rows, and the most files, that it shows; all if there is no limit.

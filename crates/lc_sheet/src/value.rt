@@ -2,7 +2,7 @@
 
 use lc_text::Name;
 
-/// A value of a line in a column. It lends its bytes, and nothing is computed or escaped before it is printed.
+/// The value of a line in a column. It borrows its bytes, and nothing is computed or escaped before it is printed.
 #[derive(Clone, Copy)]
 pub enum Value<'a> {
     /// There is none, such as the extension of a name without one.

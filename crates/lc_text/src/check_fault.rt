@@ -1,4 +1,4 @@
-//! Why the paths of an input were not answered.
+//! The errors of a check or an explanation.
 
 ghost use Rattle.std.specs.Prelude.{◌≡◌};
 ghost use Rattle.lc_text.specs.CheckFaults.{input_fault, rules_fault, print_fault};
@@ -9,7 +9,7 @@ use lc_rules::RuleFault;
 use std::alloc::AllocError;
 use thiserror::Error;
 
-/// Why a check or an explanation of paths was not written, or not whole.
+/// Why a check or an explanation of paths was not written, or not whole. An explanation never answers `RulesTooLong`; one type serves both.
 #[derive(Debug, Clone, Copy, PartialEq, Eq, Error)]
 pub enum CheckFault {
     /// A read of the input failed.

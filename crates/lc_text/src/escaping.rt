@@ -1,4 +1,4 @@
-//! Paths as they are printed for a program.
+//! Escaping paths for a program.
 
 ghost use Rattle.std.specs.Prelude.{◌≡◌, ◌<◌, ◌++◌, IfOk, OnOk};
 ghost use Rattle.std.specs.List.{list_all};
@@ -52,7 +52,7 @@ fn push_each_escaped(text: &mut Vec<u8>, bytes: &[u8]) -> Result<(), AllocError>
     Ok(())
 }
 
-/// Appends bytes as they are printed: a backslash as two, a control byte as `\x` and two hexadecimal digits.
+/// Appends bytes, escaped for a program: a backslash becomes two, a control byte `\x` and two hexadecimal digits.
 pub fn push_escaped(text: &mut Vec<u8>, bytes: &[u8]) -> Result<(), AllocError>
     ensures { OnOk result (text.new.items ≡ text.old.items ++ escape_bytes bytes.now) }
 {
@@ -64,7 +64,7 @@ pub fn push_escaped(text: &mut Vec<u8>, bytes: &[u8]) -> Result<(), AllocError>
     }
 }
 
-/// Appends a path as [`escape`] has it.
+/// Appends a path, escaped like [`escape`] does.
 pub fn push_path(text: &mut Vec<u8>, path: &[u8]) -> Result<(), AllocError>
     ensures { OnOk result (text.new.items ≡ text.old.items ++ escape_path path.now) }
 {
@@ -75,9 +75,9 @@ pub fn push_path(text: &mut Vec<u8>, path: &[u8]) -> Result<(), AllocError>
     }
 }
 
-/// Returns a path as it is printed, on one line and without a tab, whatever its bytes. The top's empty path is a dot.
+/// Returns a path, escaped for a program, so that it is on one line and has no tab. The top's empty path becomes a dot.
 ///
-/// `t`, the byte 1 and `.c` are printed `t\x01.c`, and `a\b` is printed `a\\b`.
+/// `t`, the byte 1 and `.c` become `t\x01.c`, and `a\b` becomes `a\\b`.
 pub fn escape(alloc: Global, path: &[u8]) -> Result<Vec<u8>, AllocError>
     ensures { IfOk result (λ text. text.items ≡ escape_path path.now) }
 {

@@ -1,11 +1,11 @@
-//! The input of a check or of an explanation: it is read whole, and each of its lines names a path.
+//! Reading the input of a check or of an explanation. It is read whole, and each of its lines names a path.
 
 ghost use Rattle.lc_text.specs.Input.{ReadsInput};
 
 use lc_io::{Source, WholeFault, new_buffer, read_whole};
 use std::alloc::Global;
 
-/// The most bytes of an input: 16 MiB.
+/// The greatest number of bytes of an input: 16 MiB.
 pub const MAX_INPUT: usize = 16_777_216;
 
 /// Reads an input to its end, or up to the first byte past [`MAX_INPUT`].

@@ -1,11 +1,11 @@
-//! What all that `lc` prints shares: how paths and rules are printed.
+//! Printing paths, names and the places of rules, for all crates that print.
 //!
-//! - `escaping`: how paths are printed; `visible`: how they are shown in a terminal; `style`: the one or the other
-//! - `quoting`: how a shell takes a text for one argument
+//! - `escaping`: escaping paths for a program; `visible`: escaping them for a terminal; `style`: one of the two
+//! - `quoting`: quoting a text as one argument of a shell
 //! - `places`: where a rule is; `name`: a path or an extension with what is printed before and after it
-//! - `input`: an input of paths, read whole; `lines`, `path_line`: its paths, and the path of a line; `check_fault`: why its paths were not
-//!   answered
-//! - `outcome`: whether what was written shows an error
+//! - `input`: reading an input of paths; `lines`, `path_line`: its paths, and the path of a line; `check_fault`: why its paths have no
+//!   answer
+//! - `outcome`: whether the text that was written shows an error
 //! - `laws`: what is true of the definitions that the contracts cite
 #![tactic(auto)]
 

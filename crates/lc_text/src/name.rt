@@ -1,4 +1,4 @@
-//! A name as it is printed: the path of an entry, of a rule or of a directory, or an extension.
+//! Names as they are printed: the path of an entry, of a rule file or of a directory, or an extension.
 
 ghost use Rattle.std.specs.Prelude.{◌≡◌, ◌++◌, OnOk, string_bytes};
 ghost use Rattle.lc_text.specs.Escape.{escape_bytes};
@@ -41,7 +41,7 @@ fn push_line(text: &mut Vec<u8>, line: Option<u32>) -> Result<(), AllocError>
     }
 }
 
-/// Appends a name with its bytes as [`push_escaped`] has them.
+/// Appends a name, with its bytes escaped like [`push_escaped`] does.
 pub fn push_name(text: &mut Vec<u8>, name: Name<'_>) -> Result<(), AllocError>
     ensures { OnOk result (text.new.items ≡ text.old.items ++ named escape_bytes (name_model name.entry)) }
 {
@@ -60,7 +60,7 @@ fn push_visible_line(text: &mut String, line: Option<u32>) -> Result<(), AllocEr
     }
 }
 
-/// Appends a name with its bytes as [`push_visible`] has them.
+/// Appends a name, with its bytes escaped like [`push_visible`] does.
 pub fn push_visible_name(text: &mut String, name: Name<'_>) -> Result<(), AllocError>
     ensures { OnOk result (string_bytes text.new ≡ string_bytes text.old ++ named visible_bytes (name_model name.entry)) }
 {

@@ -1,6 +1,6 @@
-//! The outcome of a text that was written.
+//! The outcomes of writing a text.
 
-/// The outcome of a text that was written: whether it shows something that could not be read.
+/// Whether a text that was written shows something that could not be read.
 #[derive(Debug, Clone, Copy, PartialEq, Eq)]
 pub enum Outcome {
     /// All that was met could be read.

@@ -29,7 +29,7 @@ fn or_dot(path: &[u8]) -> &[u8]
     }
 }
 
-/// Returns a line without any `./` at its beginning, and without further slashes after such a dot. Where nothing else is left, it is `.`.
+/// Returns a line without any `./` at its beginning, and without further slashes after such a dot. If nothing is left, it returns `.`.
 ///
 /// ```
 /// assert!(rt; undotted(b".//./src/") == b"src/".as_slice() && undotted(b"./") == b".".as_slice());

@@ -23,7 +23,7 @@ fn after_slash(path: &[u8]) -> &[u8]
     }
 }
 
-/// The part of a path above what a file of the directory with `depth` segments sees: that directory's path with a slash at its end,
+/// Returns the part of a path above what a file of the directory with `depth` segments sees: that directory's path with a slash at its end,
 /// or nothing at the top.
 fn above(path: &[u8], depth: u32) -> &[u8]
     ensures { result.now ≡ above depth path.now }
@@ -37,9 +37,9 @@ fn above(path: &[u8], depth: u32) -> &[u8]
     &path[..path.len() - rest.len()]
 }
 
-/// Returns the directory of the file that a rule was read from, as the front of a path that the rule decides.
+/// Returns the directory of the file that a rule was read from. It is the beginning of a path that the rule decides.
 ///
-/// It ends with a slash. At the top, and where the file's name is all of its path, there is none.
+/// It ends with a slash. It is empty at the top, and for a file whose name is all of its path.
 ///
 /// ```
 /// assert!(rt; source_directory(b"src/gen/a.c", RuleSource::Gitignore(1)) == b"src/".as_slice());
@@ -65,8 +65,8 @@ pub fn source_name(source: RuleSource) -> &'static str
     }
 }
 
-/// Appends where the rule is that decides a path: the path of its file in a style, and the number of its line, as `src/.gitignore:3`,
-/// `.git/info/exclude:2`, `--exclude-from:7` or `--exclude:2`, the second pattern of the command line.
+/// Appends the place of the rule that decides a path: the path of its file in a style, and the number of its line. Such places are
+/// `src/.gitignore:3`, `.git/info/exclude:2`, `--exclude-from:7` and `--exclude:2`, the second pattern of the command line.
 ///
 /// ```
 /// push_rule_source(&mut text, PathStyle::Escaped, b"src/gen/a.c", RuleSource::Gitignore(1), 3)?; // src/.gitignore:3

@@ -1,4 +1,4 @@
-//! Words of a command line as a shell reads them.
+//! Quoting arguments for a shell.
 
 ghost use Rattle.std.specs.Prelude.{◌≡◌, ◌++◌, OnOk, encode_utf8, flat_map, string_bytes};
 ghost use Rattle.std.specs.List.{list_all};
@@ -38,7 +38,7 @@ fn push_each_quoted(text: &mut String, word: &str) -> Result<(), AllocError>
     Ok(())
 }
 
-/// Appends a word as a POSIX shell takes it for one argument: as it is if that is safe, else in single quotes.
+/// Appends a text as one argument of a POSIX shell: as it is if that is safe, otherwise in single quotes.
 ///
 /// ```
 /// push_quoted(&mut text, "it's")?;

@@ -1,4 +1,4 @@
-//! Paths as they are shown in a terminal.
+//! Escaping paths for a terminal.
 
 ghost use Rattle.std.specs.Prelude.{◌≡◌, ◌++◌, OnOk, chars, encode_utf8, flat_map, string_bytes};
 ghost use Rattle.std.specs.List.{list_all};
@@ -101,8 +101,8 @@ fn push_text(text: &mut String, shown: &str) -> Result<(), AllocError>
     }
 }
 
-/// Appends bytes as a terminal shows them: like [`push_escaped`](crate::push_escaped), but also with `\x` and two digits for each byte
-/// of a character that moves the cursor or turns the direction of text, or for each byte from 128 on where the bytes are not UTF-8.
+/// Appends bytes, escaped for a terminal. Like [`push_escaped`](crate::push_escaped), but it also writes `\x` and two digits for each byte
+/// of a character that moves the cursor or turns the direction of text. If the bytes are not UTF-8, it does so for each byte from 128 on.
 pub fn push_visible(text: &mut String, bytes: &[u8]) -> Result<(), AllocError>
     ensures { OnOk result (string_bytes text.new ≡ string_bytes text.old ++ visible_bytes bytes.now) }
 {
@@ -112,7 +112,7 @@ pub fn push_visible(text: &mut String, bytes: &[u8]) -> Result<(), AllocError>
     }
 }
 
-/// Appends a path as a terminal shows it; the top's empty path is a dot.
+/// Appends a path, escaped for a terminal. The top's empty path becomes a dot.
 ///
 /// ```
 /// push_visible_path(&mut text, "a\u{202e}b".as_bytes())?;

@@ -13,7 +13,7 @@ pub enum OtherKind {
     Mounted,
 }
 
-/// What stands under a name in a directory.
+/// The kind of a directory's entry.
 #[derive(Clone, Copy, Debug, Drop, PartialEq, Eq)]
 pub enum Kind {
     /// A regular file.
@@ -25,14 +25,14 @@ pub enum Kind {
 }
 
 impl Kind {
-    /// Whether it is a regular file.
+    /// Returns whether it is a regular file.
     pub fn is_file(self) -> bool
         ensures { result ≡ is_file self }
     {
         matches!(self, Kind::File)
     }
 
-    /// Whether it is a directory.
+    /// Returns whether it is a directory.
     pub fn is_dir(self) -> bool
         ensures { result ≡ is_dir self }
     {
@@ -40,7 +40,7 @@ impl Kind {
     }
 }
 
-/// A name in a directory, and what stands under it.
+/// An entry of a directory: its name and its kind.
 #[derive(Debug, Drop)]
 pub struct Entry {
     /// The bytes of the name, in no particular encoding.

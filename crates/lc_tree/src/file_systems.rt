@@ -17,19 +17,19 @@ pub enum FileSystems {
     One,
 }
 
-/// Where a tree of the system ends.
+/// The bounds of a tree of the system.
 #[derive(Clone, Copy, Debug)]
 pub(crate) enum Bounds {
     /// It enters all directories.
     Everywhere,
     /// It enters the directories on the device of this number.
     Device(u64),
-    /// It enters its top alone, since the top's device can't be told.
+    /// It enters its top alone, since the top's device is unknown.
     TopAlone,
 }
 
 impl Bounds {
-    /// The bounds of the tree whose top has this path in the system.
+    /// Returns the bounds of the tree whose top has this path in the system.
     pub(crate) fn of<R: Files>(files: &R, top: &str, entered: FileSystems) -> Bounds
         ensures { stays result ≡ is_one entered }
     {
@@ -42,7 +42,7 @@ impl Bounds {
         }
     }
 
-    /// Whether a directory with this metadata is on a file system that the tree does not enter.
+    /// Returns whether a directory with this metadata is on a file system that the tree does not enter.
     pub(crate) fn leave_out(self, found: &Metadata) -> bool
         ensures { IsTrue result → IsTrue (stays self) }
     {

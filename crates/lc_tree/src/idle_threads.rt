@@ -1,23 +1,22 @@
-//! How many threads have nothing to do.
+//! Counting the threads that have nothing to do.
 ghost use Rattle.std.specs.Prelude.{◌≡◌, ◌-◌, ◌≤◌};
 
 use std::marker::Model;
 use std::sync::atomic::{AtomicU32, Ordering};
 
-/// A count of the threads that have nothing to do, which threads share so that one with much work can split it.
+/// The number of threads that have nothing to do. Threads share it, so that one with much work can split it.
 ///
-/// It is a hint: the count may be old when it is used, so it decides only how much is done side by side, never what the answer is.
+/// It is a hint, and may be out of date when it is used. So it decides only how much is done side by side, never what the answer is.
 ///
-/// Two numbers are kept, and each is never below 0:
+/// It stores two numbers, neither of them below 0:
 ///
-/// - idle: how many threads have begun to be idle and have not ended
-/// - lent: how many idle threads were taken and not given back
+/// - idle: how many threads have called `begin` and not yet `end`
+/// - lent: how many idle threads `take` has returned that were not given back
 ///
-/// What may be taken is idle less lent, and nothing where more are lent than idle. So two callers never take the same idle
-/// thread. A thread that finds work while it is lent only lowers what may be taken, and the count is right again once what was
-/// taken is given back.
+/// `take` returns at most idle less lent, or nothing if more are lent than idle. So two callers never get the same idle thread. A thread
+/// that finds work while it is lent only lowers that number. The count is right again once the lent threads are given back.
 ///
-/// Contracts see how many threads there are. A caller of `take` has work itself, so it gets fewer, whatever is counted.
+/// Contracts see how many threads there are. A caller of `take` has work itself, so it gets fewer than that, whatever the count is.
 ///
 /// ```
 /// let idle = IdleThreads::new(2);
@@ -42,7 +41,7 @@ impl Model for IdleThreads {
     ghost view = { λ t. t.threads };
 }
 
-/// Idle threads that were taken. They can't be let go: `IdleThreads::give_back` takes them.
+/// Idle threads that `IdleThreads::take` returned. They can't be dropped, only given back to `IdleThreads::give_back`.
 pub struct Helpers {
     count: u32,
 }
@@ -56,7 +55,7 @@ impl Model for Helpers {
 }
 
 impl Helpers {
-    /// How many they are.
+    /// Returns the number of threads.
     pub fn count(&self) -> u32
         ensures { result ≡ self.now }
     {
@@ -65,7 +64,7 @@ impl Helpers {
 }
 
 impl IdleThreads {
-    /// A count of this many threads, none of which is idle.
+    /// Makes a count for this many threads, none of which is idle.
     pub const fn new(threads: u32) -> IdleThreads
         ensures { result ≡ threads }
     {
@@ -76,7 +75,7 @@ impl IdleThreads {
         }
     }
 
-    /// A count of this many threads, all of them idle, such as workers that are about to start.
+    /// Makes a count for this many threads, all of them idle, such as workers that are about to start.
     pub const fn all_idle(threads: u32) -> IdleThreads
         ensures { result ≡ threads }
     {
@@ -87,7 +86,7 @@ impl IdleThreads {
         }
     }
 
-    /// One thread more is idle.
+    /// Counts the calling thread as idle.
     pub fn begin(&self) {
         let more = |idle: u32| idle.checked_add(1);
         let _ = self
@@ -95,12 +94,12 @@ impl IdleThreads {
             .fetch_update(Ordering::SeqCst, Ordering::SeqCst, more);
     }
 
-    /// One thread less is idle, also where it was taken. Where none is idle, nothing changes.
+    /// Counts the calling thread as busy again, even if it is lent. If none is idle, nothing changes.
     pub fn end(&self) {
         lower(&self.idle, 1);
     }
 
-    /// Takes up to `most` idle threads, and fewer than there are threads.
+    /// Takes up to `most` idle threads, but always fewer than there are threads.
     pub fn take(&self, most: u32) -> Helpers
         ensures most { result ≤ most }
         ensures others { result ≤ self.now - 1 }
@@ -128,7 +127,7 @@ impl IdleThreads {
     }
 }
 
-// How many threads may be taken, up to `most`.
+// Returns how many idle threads can be lent, up to `most`.
 fn free(idle: u32, lent: u32, most: u32) -> u32
     ensures { result ≤ most }
 {

@@ -5,12 +5,12 @@ ghost use Rattle.lc_tree.specs.OneAnswer.{ListsOnce};
 
 use crate::listing::MAX_ENTRIES;
 
-/// The constant is the limit of the definitions.
+/// The law that the constant is the limit of the definitions.
 pub fn the_limit_is_this_number()
     ensures { MAX_ENTRIES ≡ max_entries }
 {}
 
-/// A tree of memory lists each path in one way.
+/// The law that a tree in memory has one listing for each path.
 pub fn trees_of_memory_list_once()
     ensures { ListsOnce }
 {}

@@ -1,4 +1,4 @@
-//! The listing of a large directory, whose entries are looked at in parts side by side.
+//! Listing a large directory with several threads, which read the metadata of its entries in parts.
 ghost use Rattle.std.specs.Prelude.{◌≡◌, ◌+◌, ◌<◌, ◌≤◌, IfOk, MatchResult, vec_len};
 ghost use Rattle.lc_tree.specs.Named.{bytes_of, ListsThese, LooksAt};
 ghost use Rattle.lc_tree.specs.Parts.{all_of, AreJoined, HaveLooked, IsFaultOfJoining};
@@ -18,8 +18,8 @@ const MAX_PARTS: usize = 16;
 
 /// Lists the directory at a path of a tree, as `Tree::list` does, with the help of idle threads.
 ///
-/// Where the tree gives names, at least 1,024 of them, and idle threads can be taken, up to 15 of them look at a part of the entries
-/// each. They are given back before the listing is returned. The entries and the faults are as if one entry was looked at after another.
+/// If the tree gives at least 1,024 names and threads are idle, up to 15 of these threads help. Each reads the metadata of a part of the
+/// entries. They are given back before the listing is returned. The entries and the error are those of reading one entry after another.
 ///
 /// ```
 /// let idle = IdleThreads::new(4);
@@ -58,7 +58,7 @@ fn list_names<T: Tree, R: Threads + Sync>(
     }
 }
 
-// The entries of names, in parts where idle threads can be taken.
+// Returns the entries of names, in parts if idle threads can be taken.
 fn look_at_all<T: Tree, R: Threads + Sync>(
     rt: &R,
     alloc: Global,
@@ -88,7 +88,7 @@ fn most_helpers(names: usize) -> u32
     parts.saturating_sub(1) as u32
 }
 
-// The entries of names that are looked at in a part for each helper and one more.
+// Returns the entries of names. Each helper and this thread read the metadata of a part of them.
 fn look_in_parts<T: Tree, R: Threads + Sync>(
     rt: &R,
     alloc: Global,
@@ -108,7 +108,7 @@ fn look_in_parts<T: Tree, R: Threads + Sync>(
     join(alloc, parts)
 }
 
-// The entries of each run of names, by a thread for each but one. No more threads are started than were taken.
+// Returns the entries of each run of names, with a thread for each run but one. It starts no more threads than were taken.
 fn look_at_runs<T: Tree, R: Threads + Sync>(
     rt: &R,
     alloc: Global,

@@ -13,10 +13,10 @@ use lc_glob::path::is_good_name;
 use std::marker::Model;
 use thiserror::Error;
 
-/// The most entries of a listing.
+/// The greatest number of entries of a listing.
 pub const MAX_ENTRIES: usize = 1_048_576;
 
-/// Why entries make no listing. Where several hold, the first one is answered.
+/// Why entries make no listing: the first of these that holds.
 #[derive(Clone, Copy, Debug, Drop, PartialEq, Eq, Error)]
 pub enum ListingFault {
     /// A name is empty, `.` or `..`, or has a slash or a NUL byte.
@@ -35,8 +35,8 @@ pub enum ListingFault {
 
 /// The entries of a directory, in the order of their names' bytes.
 ///
-/// Each name is good (neither empty nor `.` nor `..`, without a slash and a NUL byte) and stands once, and there are at
-/// most `MAX_ENTRIES` of them.
+/// Each name is good: it is neither empty nor `.` nor `..`, and has neither a slash nor a NUL byte. No name is there twice, and there are
+/// at most `MAX_ENTRIES` of them.
 #[derive(Debug, Drop)]
 pub struct Listing {
     entries: Vec<Entry>,
@@ -54,8 +54,8 @@ impl Model for Listing {
 }
 
 impl Listing {
-    /// Sorts the entries in place, in `O(n log n)` comparisons of names. It takes no memory, so it never answers
-    /// `ListingFault::Memory`. A refusal gives up the entries.
+    /// Sorts the entries in place, in `O(n log n)` comparisons of names. It allocates nothing, so it never answers `ListingFault::Memory`.
+    /// On an error the entries are dropped.
     ///
     /// ```
     /// let listing = Listing::new(entries)?; // of `b` and `a`
@@ -78,7 +78,7 @@ impl Listing {
         Ok(Listing { entries })
     }
 
-    /// All entries, in the order of their names' bytes, to be moved out one by one.
+    /// Returns all entries, in the order of their names' bytes, to be moved out one by one.
     pub fn into_entries(self) -> Vec<Entry>
         ensures same { result.items ≡ self }
         ensures listing { IsListing result.items }
@@ -87,7 +87,7 @@ impl Listing {
         entries
     }
 
-    /// All entries, in the order of their names' bytes.
+    /// Returns all entries, in the order of their names' bytes.
     pub fn entries(&self) -> &[Entry]
         ensures same { result.now ≡ self.now }
         ensures listing { IsListing result.now }
@@ -116,7 +116,7 @@ fn sort_by_name(entries: &mut Vec<Entry>)
     entries.sort_unstable_by(|a, b| a.name.cmp(&b.name));
 }
 
-// Whether no name of sorted entries stands twice.
+// Returns whether sorted entries have distinct names.
 fn are_distinct(entries: &[Entry]) -> bool
     requires { IsSorted by_name entries.now }
     ensures { MatchBool result (IsStrictlySortedBy bytes_cmp (names entries.now)) (HaveDistinctNames entries.now → ⊥) }

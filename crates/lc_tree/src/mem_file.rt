@@ -1,4 +1,4 @@
-//! A file of a tree of memory.
+//! Files of a tree in memory.
 ghost use Rattle.std.specs.Prelude.{◌≡◌, MatchOption};
 ghost use Rattle.lc_tree.specs.MemTrees.{content_of, nothing};
 
@@ -6,8 +6,7 @@ use crate::Node;
 use lc_io::{Failed, Source};
 use std::marker::Model;
 
-/// What is left of a file of a tree of memory. Reads give it from the front, as much as the buffer holds, and take no
-/// memory.
+/// The rest of a file of a tree in memory. A read returns bytes from the front, as many as the buffer holds, and allocates nothing.
 #[derive(Debug, Drop)]
 pub struct MemFile<'a> {
     bytes: &'a [u8],

@@ -1,4 +1,4 @@
-//! A tree of memory.
+//! Trees in memory.
 ghost use Rattle.std.specs.Prelude.{◌≡◌, ◌≢◌, IfOk, map};
 ghost use Rattle.lc_tree.specs.MemTrees.{ReadsContent, mem_gives};
 ghost use Rattle.lc_tree.specs.Nodes.{entry_of_child};
@@ -9,10 +9,10 @@ use crate::{Entry, Listing, Node, ReadFault, Tree};
 use std::alloc::{AllocError, Global};
 use std::marker::Model;
 
-/// A tree of memory, which gives one answer for each path, unless an allocation fails.
+/// A tree in memory, which has one answer for each path, unless an allocation fails.
 ///
-/// A path that is not there, or where something of another kind is, can't be read. Entries that make no listing are that
-/// fault of their directory; of a name that stands twice the first entry is asked.
+/// A path that does not exist, or is of another kind, can't be read. If the entries of a directory make no listing, its answer is that
+/// error. If a name is there twice, the first entry counts.
 #[derive(Debug, Drop)]
 pub struct MemTree<'a> {
     top: &'a Node,
@@ -31,7 +31,7 @@ impl<'a> Model for MemTree<'a> {
 }
 
 impl<'a> MemTree<'a> {
-    /// The tree of this node. It takes no memory.
+    /// Makes the tree of this node. It allocates nothing.
     ///
     /// ```
     /// let tree = MemTree::new(&top);

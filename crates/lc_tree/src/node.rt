@@ -1,4 +1,4 @@
-//! What a tree of memory holds.
+//! The contents of a tree in memory.
 ghost use Rattle.std.specs.Prelude.{◌≡◌};
 ghost use Rattle.std.specs.Option.{option_copied};
 ghost use Rattle.lc_glob.specs.Path.{segments_of};
@@ -7,10 +7,10 @@ ghost use Rattle.lc_tree.specs.Nodes.{kind_of, child_among, child_of, node_below
 use crate::{Kind, OtherKind};
 use lc_glob::cut_at_first;
 
-/// A part of a tree of memory.
+/// A directory, a file or another entry of a tree in memory.
 #[derive(Debug, Drop)]
 pub enum Node {
-    /// A directory: the names of its entries, in any order, and what stands under each.
+    /// A directory: the names of its entries, in any order, and the node of each.
     Dir(Vec<(Vec<u8>, Node)>),
     /// A directory that can't be listed.
     Closed,
@@ -34,7 +34,7 @@ impl Node {
         }
     }
 
-    // What stands under a name of a directory.
+    // Returns the node of a name in a directory.
     fn child(&self, name: &[u8]) -> Option<&Node>
         ensures { option_copied result ≡ child_of name.now self.now }
     {
@@ -44,7 +44,7 @@ impl Node {
         }
     }
 
-    // What stands at a path.
+    // Returns the node at a path.
     pub(crate) fn at(&self, path: &[u8]) -> Option<&Node>
         ensures { option_copied result ≡ node_at self.now path.now }
     {
@@ -54,7 +54,7 @@ impl Node {
         self.below(path)
     }
 
-    // What stands at a path that is not empty, or has an empty name.
+    // Returns the node at a path that is not empty, or that has an empty name.
     fn below(&self, path: &[u8]) -> Option<&Node>
         ensures { option_copied result ≡ node_below (segments_of path.now) self.now }
     {
@@ -74,7 +74,7 @@ impl Node {
     }
 }
 
-// What stands under the first entry of a name.
+// Returns the node of the first entry with a name.
 fn child_among<'a>(children: &'a [(Vec<u8>, Node)], name: &[u8]) -> Option<&'a Node>
     ensures { option_copied result ≡ child_among name.now children.now }
 {

@@ -3,19 +3,19 @@ use crate::ListingFault;
 use std::alloc::{AllocError, AllocFailed};
 use thiserror::Error;
 
-/// Why a directory was not listed, or a file not opened. A file is refused by `Failed` or `Memory` alone.
+/// Why a directory was not listed, or a file not opened. For a file the error is `Failed` or `Memory`.
 #[derive(Clone, Copy, Debug, Drop, PartialEq, Eq, Error)]
 pub enum ReadFault {
-    /// The system did not give it, or nothing of this kind is there.
+    /// The system reported an error, or nothing of this kind is there.
     #[error("cannot be read")]
     Failed,
-    /// A name of the directory can't be given as text.
+    /// A name of the directory is not UTF-8.
     #[error("a name is no text")]
     Unnamed,
     /// A name is empty, `.` or `..`, or has a slash or a NUL byte.
     #[error("a bad name")]
     BadName,
-    /// A name stands twice.
+    /// A name is there twice.
     #[error("a name stands twice")]
     Twice,
     /// There are too many entries.

@@ -11,8 +11,8 @@ use crate::{Entry, Kind, OtherKind, ReadFault};
 use lc_glob::path::MAX_PATH;
 use std::alloc::Global;
 
-/// The entries of those names that are still there, in the directory at a path of the tree and at one of the system. The names are looked
-/// at one after another, up to the first fault.
+/// Returns the entries of those names that are still there, in the directory at a path of the tree and at one of the system. The metadata
+/// are read one name after another, up to the first error.
 pub(crate) fn look_in<L: Look>(
     looks: &L,
     alloc: Global,
@@ -74,8 +74,8 @@ fn look_at_one<L: Look>(
     Ok(())
 }
 
-// What stands under a name in a directory. An entry whose path in the tree is too long is not looked at: the system may refuse so
-// long a path, and the whole directory would be at fault, where a walk refuses the entry whatever it is.
+// Returns what a name in a directory names. An entry whose path in the tree is too long is not looked at: the system may refuse so long a
+// path, and the whole directory would be an error. A walk reports such an entry as too deep, whatever it is.
 fn kind_in<L: Look>(
     looks: &L,
     directory: &[u8],

@@ -1,4 +1,4 @@
-//! Looks at paths of the system.
+//! Reading the metadata of paths of the system.
 ghost use Rattle.std.specs.Prelude.{List, ℕ};
 ghost use Rattle.lc_tree.specs.Bounds.{stays};
 ghost use Rattle.lc_tree.specs.SysLooks.{Answers, AnyLook, IsKindOf, Tells};
@@ -11,7 +11,7 @@ use std::io;
 use std::io::ErrorKind;
 use std::rt::Files;
 
-/// What a look at a path found.
+/// The metadata of a path, and whether it is on another file system.
 #[derive(Drop)]
 pub(crate) struct Looked {
     pub(crate) metadata: Metadata,
@@ -21,7 +21,7 @@ pub(crate) struct Looked {
 
 /// Looks at paths of the system. A symbolic link is not followed.
 pub(crate) trait Look {
-    // What a look at a path may answer.
+    // What reading the metadata of a path may answer.
     ghost may_answer: { Self → List ℕ → Answers };
 
     /// Looks at a path.
@@ -29,8 +29,8 @@ pub(crate) trait Look {
         ensures { may_answer self.now path.now result };
 }
 
-/// The looks of the system itself, tried again where a signal interrupts them. What they answer is not known: std's contract of
-/// `symlink_metadata` says nothing of it.
+/// The looks of the system itself, which are tried again if a signal interrupts them. Their answers are unknown: std's contract of
+/// `symlink_metadata` says nothing of them.
 #[derive(Drop)]
 pub(crate) struct SysLook<'a, R> {
     pub(crate) files: &'a R,
@@ -65,7 +65,7 @@ pub(crate) fn kind_at<L: Look>(looks: &L, path: &str) -> Result<Option<Kind>, Re
     }
 }
 
-// The kind of what a look found.
+// Returns the kind of an entry with this metadata.
 fn kind_of(found: &Looked) -> Kind
     ensures { IsKindOf found.now result }
 {

@@ -15,7 +15,7 @@ use std::rt::Files;
 /// The length of the buffer of one read of a directory, which has room for the names of a few hundred entries.
 const NAMES_LEN: usize = 8_192;
 
-/// Opens the directory at a path of the system. Its reads give the names in it, each with a NUL byte after it.
+/// Opens the directory at a path of the system. Its reads return the names in it, each with a NUL byte after it.
 pub(crate) fn open_dir<R: Files>(files: &R, path: &str) -> Result<StdSource<R::Dir>, ReadFault>
     ensures { MatchResult result (λ _. Unit {0}) IsFaultOfOpening }
 {
@@ -25,7 +25,7 @@ pub(crate) fn open_dir<R: Files>(files: &R, path: &str) -> Result<StdSource<R::D
     }
 }
 
-/// All names that the reads of a directory give up to its end, but for `.` and `..`.
+/// Returns all names that the reads of a directory return up to its end, but for `.` and `..`.
 pub(crate) fn read_names<S: Source>(alloc: Global, dir: &mut S) -> Result<Vec<Vec<u8>>, ReadFault>
     ensures { MatchResult result (λ names. AreNamesRead S.may_give dir.old (bytes_of names.items) dir.new) IsFaultOfOpening }
 {
@@ -76,7 +76,7 @@ fn add_name(alloc: Global, name: &[u8], all: &mut Vec<Vec<u8>>) -> Result<(), Al
     Ok(())
 }
 
-/// The path of a directory with a slash at its end, which stands before the name of an entry.
+/// Returns the path of a directory with a slash at its end, to which the name of an entry is appended.
 pub(crate) fn with_slash(path: String) -> Result<String, AllocError>
     ensures { IfOk result (λ text. string_bytes text ≡ with_slash (string_bytes path)) }
 {

@@ -20,20 +20,19 @@ use std::rt::Files;
 /// Room after the path of a directory for a slash and the name of an entry.
 const NAME_ROOM: usize = 256;
 
-/// A directory of the system, with what is below it.
+/// A directory of the system, with everything under it.
 ///
-/// Symbolic links below it, and all that is neither a regular file nor a directory, are `Kind::Other`, and so are
-/// directories on other file systems where the tree stays on that of its top. What the system
-/// does not give is `ReadFault::Failed`, and a name that is not UTF-8 makes its directory `ReadFault::Unnamed`. An entry
-/// that is removed while its directory is listed is left out. A call that a signal interrupts is tried again, up to
-/// `MAX_TRIES` times in all.
+/// Symbolic links in it, and all that is neither a regular file nor a directory, are `Kind::Other`. So are directories on other file
+/// systems, if the tree stays on that of its top. An error of the system is `ReadFault::Failed`, and a name that is not UTF-8 makes its
+/// directory `ReadFault::Unnamed`. An entry that is removed while its directory is listed is no entry. A call that a signal interrupts is
+/// tried again, up to `MAX_TRIES` times in all.
 ///
-/// An entry whose path has over `MAX_PATH` bytes is `Kind::Other` without a look at it, which the system would refuse: a
-/// walk refuses it whatever it is. A path of fewer bytes that has over 4,095 with that of the top before it makes its directory
+/// An entry whose path has over `MAX_PATH` bytes is `Kind::Other`, and its metadata are not read: the system would refuse the path, and a
+/// walk stops at the entry whatever it is. A shorter path that has over 4,095 bytes with the path of the top before it makes its directory
 /// `ReadFault::Failed`.
 ///
-/// Between the look at an entry and its opening the file may be replaced: then what stands there is opened, also through
-/// a symbolic link, and a named pipe waits for its writer.
+/// A file may be replaced after its metadata were read and before it is opened. Then whatever is there is opened, also through a symbolic
+/// link, and a named pipe waits for its writer.
 #[derive(Drop)]
 pub struct SysTree<'a, R> {
     files: &'a R,
@@ -53,8 +52,8 @@ impl<'a, R> Model for SysTree<'a, R> {
 }
 
 impl<'a, R: Files> SysTree<'a, R> {
-    /// The tree of the directory at a path, or of the one that a symbolic link there leads to. The system is not asked yet:
-    /// where no directory is there, the tree's top can't be listed.
+    /// Makes the tree of the directory at a path, or of the one that a symbolic link there leads to. It lists nothing yet: if no directory
+    /// is there, the tree's top can't be listed. To stay on one file system, it reads which one the top is on.
     ///
     /// ```
     /// let tree = SysTree::new(&rt, rt.alloc(), "src", FileSystems::All)?;

@@ -1,4 +1,4 @@
-//! Calls of the system.
+//! Repeating system calls that a signal interrupts.
 ghost use Rattle.std.specs.Prelude.{◌≢◌, Ok, IfOk, IfErr};
 ghost use Rattle.std.specs.IoError.{error_kind};
 

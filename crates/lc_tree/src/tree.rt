@@ -7,11 +7,11 @@ use crate::{Entry, Listing, ReadFault};
 use lc_io::Source;
 use std::alloc::Global;
 
-/// A tree of directories and files, which several workers ask at the same time.
+/// A tree of directories and files, which several workers read at the same time.
 ///
-/// A path is that of a directory or a file relative to the tree's top: names joined by single slashes, and the empty path
-/// for the top itself. A tree says by `lists` and `gives` which answers may come; two openings of one file may differ. By `has_names`
-/// and `shows` it says how a directory is listed by its names.
+/// The path of a directory or a file is relative to the tree's top: names joined by single slashes, and the empty path for the top itself.
+/// A tree states by `lists` and `gives` which answers may come; two openings of one file may differ. By `has_names` and `shows` it states
+/// how a directory is listed by its names.
 pub trait Tree: Sync {
     /// An opened file.
     type File: Source + Send + Drop;
@@ -25,28 +25,28 @@ pub trait Tree: Sync {
     // Which names the directory at a path may give; the default is that of a tree that gives none.
     ghost has_names: { Self → List ℕ → Names } = { λ t path. NoNames };
 
-    // What a look at a name in the directory at a path may show.
+    // What the metadata of a name in the directory at a path may show.
     ghost shows: { Self → List ℕ → Looks } = { λ t path. NoLooks };
 
     /// Lists the directory at a path.
     fn list(&self, alloc: Global, path: &[u8]) -> Result<Listing, ReadFault>
         ensures { Lists (lists self.now path.now) result };
 
-    /// Opens the file at a path. It is refused by `ReadFault::Failed` or `ReadFault::Memory` alone.
+    /// Opens the file at a path. The error is `ReadFault::Failed` or `ReadFault::Memory`.
     fn open_file(&self, alloc: Global, path: &[u8]) -> Result<Self::File, ReadFault>
         ensures { Opens Self.File.may_give (gives self.now path.now) result };
 
-    /// The names in the directory at a path, at which `look` then looks; or `None` where the tree only lists a directory as a whole.
+    /// Returns the names in the directory at a path, for `look`. It returns `None` if the tree only lists a directory as a whole.
     fn names(&self, _alloc: Global, path: &[u8]) -> Result<Option<Vec<Vec<u8>>>, ReadFault>
         ensures { GivesNames (has_names self.now path.now) result }
     {
         Ok(None)
     }
 
-    /// Looks at those names in the directory at a path, one after another up to the first fault. Returns the entries of those that are
-    /// still there, in the order of the names.
+    /// Reads the metadata of those names in the directory at a path, one after another up to the first error. Returns the entries of those
+    /// that are still there, in the order of the names.
     ///
-    /// By default, in a tree that gives no names, it answers `ReadFault::Memory`.
+    /// The default, for a tree that gives no names, is `ReadFault::Memory`.
     fn look(
         &self,
         _alloc: Global,

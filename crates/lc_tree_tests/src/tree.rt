@@ -1,5 +1,5 @@
-//! What listings say of values from outside, what folders of the system and trees of memory give, also with the help of idle
-//! threads, and that each call can succeed.
+//! Tests of listings of values from outside, of folders of the system and of trees in memory, also with the help of idle threads. Each call
+//! is shown to succeed.
 
 mod checks;
 mod idle_threads;

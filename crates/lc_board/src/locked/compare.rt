@@ -1,4 +1,4 @@
-//! The stored history of a locked board against what its passes have stored.
+//! Comparing the stored history of a locked board with the events that its passes have stored.
 ghost use Rattle.std.specs.Prelude.{◌≡◌, ◌≢◌, ℕ, ◌≤◌, length, true, false, IfSome, IfNone, Some, slice_get};
 ghost use Rattle.lc_board.specs.{Part.worker_of, Bare.bare, Notes.valued, ComparedPass.IsSame, Limits.workers_limit};
 
@@ -18,7 +18,7 @@ fn worker_in(event: &BareEvent) -> u32
     }
 }
 
-/// The event of a note, without its job or row.
+/// Returns the event of a note, without its job or row.
 fn event_in<J, R>(note: &Event<Snapshot<J>, Snapshot<R>>) -> BareEvent
     ensures { result ≡ bare (valued note.now) }
 {
@@ -86,7 +86,7 @@ fn matches<J, R>(
     own.is_empty()
 }
 
-/// The first worker of whom the history has something else than its pass.
+/// Returns the first worker whose events in the history differ from those of its pass.
 pub fn first_mismatch<J, R>(history: &[BareEvent], passes: &[LockedPass<J, R>]) -> Option<u32>
     requires { length passes.now ≤ workers_limit }
     ensures some { IfSome result (λ w. (p : _) × (slice_get passes.now w ≡ Some p) × (¬ IsSame w history.now p.notes.items)) }

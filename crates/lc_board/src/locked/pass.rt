@@ -9,7 +9,7 @@ use std::snapshot::Snapshot;
 
 mod noting;
 
-/// A pass, which stores the events of its worker. Of their jobs and rows it stores nothing: contracts alone remember them.
+/// A pass that stores the events of its worker without their jobs and rows, which only contracts remember.
 #[derive(Drop)]
 pub struct LockedPass<J, R> {
     worker: u32,

@@ -1,4 +1,4 @@
-//! What lies under the lock: a board of one thread beside the history of its events.
+//! The value under the lock: a board of one thread, and the history of its events.
 ghost use Rattle.std.specs.Prelude.{◌≡◌, ℕ, ◌≤◌, [], IfOk, IfErr, MatchBool, map, length};
 ghost use Rattle.lc_board.specs.{LockedBoard.told, Bare.bare, Ending.{MayEnd, end_event}, PlainBoard.{first_board, posts_by, IsFull}};
 ghost use Rattle.lc_board.specs.RecordedCalls.{Holds, MayFault, Records, RefusesRecorded, locked_promises, RecordsClaim, RecordsPost};
@@ -33,7 +33,7 @@ impl<J, R> Model for Recorded<J, R> {
 }
 
 impl<J: Drop, R: Drop> Recorded<J, R> {
-    /// The board before the first event.
+    /// Returns the board before the first event.
     pub fn start(
         alloc: Global,
         capacity: u32,
@@ -51,7 +51,7 @@ impl<J: Drop, R: Drop> Recorded<J, R> {
         })
     }
 
-    /// Claims for a worker. First it makes room for this event, and for the end of each claim.
+    /// Claims a number for a worker. First it makes room for this event, and for the end of each claim.
     pub fn claim(&mut self, worker: u32) -> Claim<J>
         ensures { RecordsClaim worker self.old result self.new }
     {
@@ -83,7 +83,8 @@ impl<J: Drop, R: Drop> Recorded<J, R> {
         self.plain.is_full()
     }
 
-    /// Posts under the claim that the worker has of the parent, and keeps the room for the ends. Full comes before Memory.
+    /// Posts a job under the worker's claim of the parent, and keeps the room for the ends. If no number is left, the error is Full, even
+    /// if there is no memory either.
     pub fn post(&mut self, worker: u32, parent: u32, job: J) -> Result<u32, PostFault<J>>
         ensures { RecordsPost worker parent self.old job result self.new }
     {
@@ -108,7 +109,7 @@ impl<J: Drop, R: Drop> Recorded<J, R> {
         }
     }
 
-    /// Ends the claim of the number by a row; false where the worker has not claimed it.
+    /// Ends the claim of the number by a row. It returns false if the worker has not claimed the number.
     pub fn give(&mut self, worker: u32, number: u32, row: R) -> bool
         ensures { RecordsEnd (Holds worker number self.old.board) self.old (Return worker number row) result self.new }
     {
@@ -119,7 +120,8 @@ impl<J: Drop, R: Drop> Recorded<J, R> {
         true
     }
 
-    /// Ends the claim of the number by the row of a fault; false where the worker has not claimed it or has posted under it.
+    /// Ends the claim of the number by the row of an error. It returns false if the worker has not claimed the number, or has posted under
+    /// it.
     pub fn fault(&mut self, worker: u32, number: u32, row: R) -> bool
         ensures { RecordsEnd (MayFault worker number self.old.board) self.old (Fault worker number row) result self.new }
     {
@@ -130,7 +132,7 @@ impl<J: Drop, R: Drop> Recorded<J, R> {
         true
     }
 
-    /// The event by which the worker ends its claim, without the row.
+    /// Returns the event by which the worker ends its claim, without the row.
     fn event_of_end(worker: u32, number: u32, ended: &Ended<R>) -> BareEvent
         ensures { result ≡ bare {J = J} {R = R} (end_event worker number ended.now) }
     {
@@ -166,7 +168,7 @@ impl<J: Drop, R: Drop> Recorded<J, R> {
         worker < self.plain.workers() && self.plain.held_by(worker) == Some(number)
     }
 
-    /// The rows, where each number has ended and the history agrees with each pass.
+    /// Returns the rows, if each number has ended and the history agrees with each pass.
     pub fn close(
         self,
         alloc: Global,

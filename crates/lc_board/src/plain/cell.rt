@@ -6,19 +6,19 @@ ghost use Rattle.lc_board.specs.{declared.plain.cell.Cell.TheVariants.{Waiting, 
 use crate::answers::Ended;
 use std::mem;
 
-/// What a board keeps of a number.
+/// What a board stores for a number.
 #[derive(Drop)]
 pub enum Cell<J, R> {
     /// Open, with its job.
     Waiting(J),
-    /// Claimed by this worker, which has posted so many under it.
+    /// Claimed by this worker, which has posted this many numbers under it.
     Held { worker: u32, posts: u32 },
     /// Ended, by this row.
     Done(Ended<R>),
 }
 
 impl<J: Drop, R: Drop> Cell<J, R> {
-    /// Claims an open number, and gives its job.
+    /// Claims an open number, and returns its job.
     pub(crate) fn take_job(&mut self, worker: u32) -> J
         requires { IsOpen (Some self.old) }
         ensures here { self.old ≡ Waiting result }
@@ -44,7 +44,7 @@ impl<J: Drop, R: Drop> Cell<J, R> {
         }
     }
 
-    /// The row of a number that has ended.
+    /// Returns the row of a number that has ended.
     pub(crate) fn into_row(self) -> Ended<R>
         requires { ¬ IsLeft (Some self) }
         ensures { cell_of result ≡ self }
@@ -58,7 +58,7 @@ impl<J: Drop, R: Drop> Cell<J, R> {
 }
 
 impl<J, R> Cell<J, R> {
-    /// The posts under a claim.
+    /// Returns the posts under a claim.
     pub(crate) fn posts(&self) -> u32
         requires { IsHeld (Some self.now) }
         ensures { result ≡ posts_in (Some self.now) }

@@ -1,4 +1,4 @@
-//! All cells of a board of one thread, and who holds them.
+//! Searching all cells of a board of one thread, and what its workers have claimed.
 ghost use Rattle.std.specs.Prelude.{◌≡◌, ◌≢◌, ℕ, ◌<◌, ◌≤◌, false, true, Some, IfOk, IfSome, IfNone, length, map, slice_get};
 ghost use Rattle.lc_board.specs.{PlainCalls.{IsLeft, cell_of}, Limits.capacity_limit};
 
@@ -6,7 +6,7 @@ use crate::answers::Ended;
 use crate::plain::cell::Cell;
 use std::alloc::{AllocError, Global};
 
-/// Some worker holds a number.
+/// Returns whether some worker has claimed a number.
 pub fn is_any_held(held: &[Option<u32>]) -> bool
     ensures some { result ≡ true → (w i : ℕ) × (slice_get held.now w ≡ Some (Some i)) }
     ensures none { result ≡ false → (w i : ℕ) → slice_get held.now w ≢ Some (Some i) }
@@ -19,7 +19,7 @@ pub fn is_any_held(held: &[Option<u32>]) -> bool
     false
 }
 
-/// The least number that has not ended.
+/// Returns the least number that has not ended.
 pub fn first_left<J, R>(cells: &[Cell<J, R>]) -> Option<u32>
     requires { length cells.now ≤ capacity_limit }
     ensures some { IfSome result (λ n. IsLeft (slice_get cells.now n) × ((k : ℕ) → k < n → ¬ IsLeft (slice_get cells.now k))) }
@@ -33,7 +33,7 @@ pub fn first_left<J, R>(cells: &[Cell<J, R>]) -> Option<u32>
     None
 }
 
-/// The rows of cells that have all ended.
+/// Returns the rows of cells that have all ended.
 pub fn all_ended<J: Drop, R: Drop>(
     alloc: Global,
     cells: Vec<Cell<J, R>>,

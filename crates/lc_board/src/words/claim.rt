@@ -1,8 +1,8 @@
-//! A claim tries the number that its pass posted last, by one exchange. Then it goes up over the words once.
+//! Claims. A claim tries the number that its pass posted last, by one exchange. Then it goes up over the words once.
 //!
-//! It begins at the low mark and goes up over the numbers that have ended. If it meets somebody who is busy, it jumps to the mark of the
-//! numbers that are taken, and goes up from there to the first number that is open or absent. So it takes at most two steps on a word: a
-//! number that it tried in vain is never open again, and gets one look.
+//! It begins at the low mark and goes up over the numbers that have ended. If it meets a busy number, it jumps to the mark of the taken
+//! numbers, and goes up from there to the first number that is open or absent. So it takes at most two steps on a word: a number that it
+//! tried in vain is never open again, and its word is read once more.
 ghost use Rattle.std.specs.Prelude.{◌≡◌, ◌+◌, ◌<◌, None, IfSome, IfNone, cond};
 ghost use Rattle.lc_board.specs.{Limits.capacity_limit, WordSteps.{Extends, is_last_word, larger}};
 ghost use Rattle.lc_board.specs.WordsBoard.{AnswersWordsClaim, IsPassOf, IsSamePass, TriesClaim, known};
@@ -20,7 +20,7 @@ fn is_last(capacity: u32, number: u32, found: Word) -> bool
     found.is_absent() || (found.has_ended() && number + 1 == capacity)
 }
 
-/// Returns the number that a claim visits after this one: the next, or the mark of the numbers that are taken if it has met somebody busy.
+/// Returns the number that a claim visits after this one: the next, or the mark of the taken numbers if it has met a busy number.
 fn number_after(number: u32, taken: u32, busy: bool) -> u32
     requires { number < capacity_limit }
     ensures { result ≡ cond busy (larger (number + 1) taken) (number + 1) }
@@ -97,7 +97,7 @@ impl<J, R> Words<J, R> {
         Claim::Later
     }
 
-    /// Claims an open number, with its job. It takes at most two steps on a word, waits for nobody, takes no memory and never answers
+    /// Claims an open number, with its job. It takes at most two steps on a word, waits for no thread, allocates nothing and never answers
     /// Memory.
     pub fn claim(&self, pass: &mut WordsPass<J, R>) -> Claim<J>
         requires board { IsPassOf self.now pass.old }

@@ -1,4 +1,4 @@
-//! A board of words is closed: the passes are taken in, and the rows are taken out.
+//! Closing a board of words: one pass takes in the others, and the rows are taken out.
 ghost use Rattle.std.specs.Prelude.{◌≡◌, ℕ, ◌<◌, ◌≤◌, true, false, slice_index_or, slice_get, [], Some, IfOk, map, vec_len};
 ghost use Rattle.std.specs.Mem.Slots.{slots_items, slots_filled, slots_len, IsFull, Ownership.Filled};
 ghost use Rattle.lc_board.specs.{WordSteps.{IsSameTold, merged}, WordsBoard.{IsPassOf, IsSamePass, known, told}};
@@ -28,7 +28,7 @@ pub(crate) fn drain<S: Drop>(mut closed: Closed<S, Global>, from: usize)
     closed.free();
 }
 
-/// How many numbers there are, if all have ended. Or else the least that has not.
+/// Returns how many numbers there are, if all have ended. Or else the least that has not.
 pub(crate) fn count_ended<S>(closed: &Closed<S, Global>, capacity: u32) -> Result<u32, u32>
     requires words { slots_len closed.now.words ≡ capacity }
     requires full { IsFull closed.now.words }
@@ -46,7 +46,7 @@ pub(crate) fn count_ended<S>(closed: &Closed<S, Global>, capacity: u32) -> Resul
     Ok(capacity)
 }
 
-/// The row of a number that has ended, by its word.
+/// Returns the row of a number that has ended, by its word.
 fn ended_row<R>(word: Word, row: R) -> Ended<R>
     requires { has_ended word ≡ true }
     ensures { ended_as (shown word) row ≡ Some result }
@@ -90,7 +90,7 @@ pub(crate) fn take_rows<J: Drop, R: Drop>(
 }
 
 impl<J, R> Words<J, R> {
-    /// The seat of a pass that is about to be taken in. If it holds a claim, the slot of that goes home.
+    /// Returns the seat of a pass that another pass is about to take in. If it has a claim, the slot of that number goes back to the board.
     fn emptied(&self, pass: WordsPass<J, R>) -> Seat<Slot<J, R>, View<J, R>>
         requires board { IsPassOf self.now pass }
         ensures board { result.table_id ≡ self.now.table.shared.table_id }
@@ -125,7 +125,7 @@ impl<J, R> Words<J, R> {
         }
     }
 
-    /// The words and slots, once each pass has been taken in.
+    /// Returns the words and slots, once one pass has taken in each other pass.
     pub(crate) fn gather(self, mut passes: Vec<WordsPass<J, R>>) -> Closed<Slot<J, R>, Global>
         requires all { vec_len passes ≡ self.workers }
         requires some { 0 < self.workers }

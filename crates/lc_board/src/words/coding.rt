@@ -1,11 +1,11 @@
-//! What a word of the board says of its number, and the code under which it is stored.
+//! The words of a board, and the codes under which they are stored.
 ghost use Rattle.std.specs.Prelude.{◌≡◌};
 ghost use Rattle.lc_board.specs.WordCode.{code, word_of, end_word, is_absent, is_open, has_ended, is_busy, is_taken};
 ghost use Rattle.lc_board.specs.declared.words.coding.Word.TheVariants.{Drawn, Claimed};
 
 use crate::answers::Ended;
 
-/// What a word says of its number. A worker is as wide as the word that names it.
+/// The state of a number, as its word stores it. A worker's number has the type that is stored in a word.
 #[derive(Clone, Copy, Drop)]
 pub enum Word {
     /// Not used yet.
@@ -37,21 +37,21 @@ pub const FAULTED: u64 = 3;
 /// From here on a code names a worker: an even one has drawn the number, an odd one has claimed it.
 const BUSY: u64 = 4;
 
-/// The code of a number that the worker has drawn.
+/// Returns the code of a number that the worker has drawn.
 pub fn drawn_by(worker: u32) -> u64
     ensures { result ≡ code (Drawn worker) }
 {
     BUSY + 2 * worker as u64
 }
 
-/// The code of a number that the worker has claimed.
+/// Returns the code of a number that the worker has claimed.
 pub fn claimed_by(worker: u32) -> u64
     ensures { result ≡ code (Claimed worker) }
 {
     BUSY + 1 + 2 * worker as u64
 }
 
-/// The code of a number that has ended so.
+/// Returns the code of a number that ended by this row.
 pub fn ended_by<R>(ended: &Ended<R>) -> u64
     ensures { result ≡ code (end_word ended.now) }
 {
@@ -62,7 +62,7 @@ pub fn ended_by<R>(ended: &Ended<R>) -> u64
 }
 
 impl Word {
-    /// The word of a code.
+    /// Returns the word of a code.
     pub fn of(code: u64) -> Word
         ensures { result ≡ word_of code }
     {
@@ -109,7 +109,7 @@ impl Word {
         }
     }
 
-    /// Drawn or claimed.
+    /// Returns whether the number is drawn or claimed.
     pub fn is_busy(self) -> bool
         ensures { result ≡ is_busy self }
     {
@@ -119,7 +119,7 @@ impl Word {
         }
     }
 
-    /// It has ended or is claimed.
+    /// Returns whether the number has ended or is claimed.
     pub fn is_taken(self) -> bool
         ensures { result ≡ is_taken self }
     {

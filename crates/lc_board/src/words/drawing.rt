@@ -1,4 +1,4 @@
-//! The steps of a post on the seat of a pass: a number is drawn, its slot is filled, and it is opened.
+//! The steps of a post on the seat of a pass: it draws a number, fills its slot, and opens the number.
 ghost use Rattle.std.specs.Prelude.{◌≡◌, ◌<◌, ◌∷◌};
 ghost use Rattle.atomic_table.specs.Table.{rest};
 ghost use Rattle.lc_board.specs.{WordSteps.{MayDraw, TriesDraw, MayOpen, OpensDrawn}, declared.words.view.Slot.TheVariants.Empty};

@@ -1,9 +1,9 @@
-//! The numbers that a pass posted last, which its next claims try first. They are hints, and nothing is promised of them: whether a number
-//! is open is told by its word.
+//! The numbers that a pass posted last, which its next claims try first. They are hints without a promise: only its word shows whether a
+//! number is open.
 ghost use Rattle.std.specs.Prelude.{◌<◌};
 ghost use Rattle.lc_board.specs.Limits.{capacity_limit};
 
-/// The numbers from `start` on, and below `end`.
+/// The numbers from `start` up to `end`, without `end`.
 #[derive(Clone, Copy, Drop)]
 pub struct Newest {
     start: u32,
@@ -11,13 +11,13 @@ pub struct Newest {
 }
 
 impl Newest {
-    /// Has no number.
+    /// Makes a list without numbers.
     pub fn new() -> Newest {
         Newest { start: 0, end: 0 }
     }
 
-    /// Notes a number that was posted. The first one under a claim replaces those that are left. A later one comes on top of them, with the
-    /// numbers that others have posted in between.
+    /// Notes a number that was posted. The first number under a claim replaces those that are left. A later one is added on top of them,
+    /// with the numbers that others have posted in between.
     pub fn note(&mut self, number: u32, is_first: bool)
         requires { number < capacity_limit }
     {
@@ -27,7 +27,7 @@ impl Newest {
         self.end = number + 1;
     }
 
-    /// Takes the highest number.
+    /// Removes the highest number and returns it.
     pub fn take(&mut self) -> Option<u32> {
         if self.start >= self.end {
             return None;
@@ -36,7 +36,7 @@ impl Newest {
         Some(self.end)
     }
 
-    /// Drops all numbers: others have come to them.
+    /// Drops all numbers, since other workers have begun to claim them.
     pub fn clear(&mut self) {
         self.end = self.start;
     }

@@ -8,7 +8,7 @@ use crate::words::newest::Newest;
 use crate::words::view::{Slot, View};
 use atomic_table::Seat;
 
-/// A pass, which steps on the words for its worker.
+/// A pass of a board of words, which changes the words for its worker.
 #[derive(Drop)]
 pub struct WordsPass<J, R> {
     pub(crate) seat: Seat<Slot<J, R>, View<J, R>>,

@@ -1,4 +1,4 @@
-//! A job is posted at the front of a pass, or beyond it.
+//! Posting a job at the front of a pass, or beyond it.
 ghost use Rattle.std.specs.Prelude.{◌≡◌, ◌+◌, ◌<◌, MatchBool, IsSome};
 ghost use Rattle.lc_board.specs.{WordSteps.ExtendsFairly, WordsBoard.{AnswersWordsPost, IsPassOf, IsSamePass, TriesPost, known}};
 
@@ -29,7 +29,7 @@ impl<J, R> Words<J, R> {
         true
     }
 
-    /// Draws the number at the front of the pass, and opens it with the job. Or else gives that back.
+    /// Draws the number at the front of the pass, and opens it with the job. If another worker draws it first, the job is returned.
     fn draw_and_open(&self, pass: &mut WordsPass<J, R>, job: J) -> Result<u32, J>
         requires board { IsPassOf self.now pass.old }
         requires holds { IsSome pass.old.holding }
@@ -68,8 +68,8 @@ impl<J, R> Words<J, R> {
         }
     }
 
-    /// Posts the job at an unused number, the least one at or above the front of the pass. If all numbers are used, it hands the
-    /// job back. It waits for nobody, takes no memory and never answers Memory.
+    /// Posts the job at the least unused number at or above the front of the pass. If all numbers are used, it returns the job. It waits
+    /// for no thread, allocates nothing and never answers Memory.
     pub fn post(&self, pass: &mut WordsPass<J, R>, mut job: J) -> Result<u32, PostFault<J>>
         requires board { IsPassOf self.now pass.old }
         requires holds { IsSome pass.old.holding }

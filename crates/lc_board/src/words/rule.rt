@@ -1,4 +1,4 @@
-//! The rule that the words of a board keep, and what each step on a word tells.
+//! The invariant of a board's words, and what each step on a word shows.
 ghost use Rattle.std.specs.Prelude.{Some};
 ghost use Rattle.lc_board.specs.WordRow.{IsRow};
 ghost use Rattle.lc_board.specs.WordSteps.{looked, stepped_over, drew, opened, claimed, ended, put_down};
@@ -15,7 +15,7 @@ pub struct BoardSetup<J> {
     pub workers: u32,
 }
 
-/// The words show the state of one legal history.
+/// The invariant that the words show the state of one legal history.
 pub struct OneHistory;
 
 impl<J, R> TableRule<Slot<J, R>, View<J, R>, BoardSetup<J>> for OneHistory {
@@ -30,7 +30,7 @@ impl<J, R> Play<Slot<J, R>, View<J, R>> for Look {
     ghost then = { looked };
 }
 
-/// A look before a draw.
+/// The step that reads a word before a number is drawn.
 pub struct StepOver;
 
 impl<J, R> Play<Slot<J, R>, View<J, R>> for StepOver {
@@ -61,14 +61,14 @@ impl<J, R> Play<Slot<J, R>, View<J, R>> for End {
     ghost then = { λ s m r n. ended s m r n };
 }
 
-/// A look at the word of one's own claim, by which its slot goes home.
+/// The step that reads the word of the pass's own claim and returns its slot to the board.
 pub struct PutDown;
 
 impl<J, R> Play<Slot<J, R>, View<J, R>> for PutDown {
     ghost then = { λ s m r n. put_down s m r n };
 }
 
-/// How one pass makes another, and takes it in.
+/// The steps by which one pass makes another, and takes it in.
 pub struct Deal;
 
 impl<J, R> Split<View<J, R>> for Deal {

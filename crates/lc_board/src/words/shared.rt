@@ -1,4 +1,4 @@
-//! A board of words is one that workers share.
+//! A board of words as a board that threads share.
 ghost use Rattle.std.specs.Prelude.{◌≡◌, ◌≢◌, ◌≤◌, ℕ, [], None, Some, IfOk, IfErr, map, slice_get, vec_len};
 ghost use Rattle.lc_board.specs.{ClosedBoard.{Settled, RefusesClose}, WordClose.words_promises};
 ghost use Rattle.lc_board.specs.Pass.{holding, posted, new_pass, after_claim, after_post, after_give, after_fault, job_back};
@@ -93,7 +93,7 @@ impl<J: Drop + Send, R: Drop + Send> Shared<J, R> for Words<J, R> {
         }
     }
 
-    /// Ends a claim as `Words::give` does.
+    /// Ends a claim like `Words::give`.
     fn give<W: Wait>(&self, _rt: &W, pass: &mut WordsPass<J, R>, row: R)
         requires pass { Owns self.now pass.old }
         requires holds { holding (told pass.old) ≢ None }
@@ -104,7 +104,7 @@ impl<J: Drop + Send, R: Drop + Send> Shared<J, R> for Words<J, R> {
         Words::give(self, pass, row);
     }
 
-    /// Ends a claim as `Words::fault` does.
+    /// Ends a claim like `Words::fault`.
     fn fault<W: Wait>(&self, _rt: &W, pass: &mut WordsPass<J, R>, row: R)
         requires pass { Owns self.now pass.old }
         requires holds { holding (told pass.old) ≢ None }

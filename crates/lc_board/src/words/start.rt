@@ -1,4 +1,4 @@
-//! A board is made, and its passes are made.
+//! Making a board of words and its passes.
 ghost use Rattle.std.specs.Prelude.{◌≡◌, ◌<◌, ◌≤◌, ◌∷◌, replicate, IfOk, Some};
 ghost use Rattle.lc_board.specs.declared.words.{coding.Word.TheVariants.{Absent, Open}, view.Slot.TheVariants.{Empty, Job}};
 ghost use Rattle.lc_board.specs.{WordCode.code, WordSteps.{view_before_split, left_of_split, right_of_split}};
@@ -41,7 +41,7 @@ fn slot_row<J: Drop, R: Drop>(
 }
 
 impl<J: Drop, R: Drop> Words<J, R> {
-    /// A board with the root at number 0, and the pass of worker 0.
+    /// Returns a board with the root at number 0, and the pass of worker 0.
     pub(crate) fn open(
         alloc: Global,
         capacity: u32,

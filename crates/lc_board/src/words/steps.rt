@@ -1,4 +1,4 @@
-//! One number is looked at, claimed, or ended.
+//! The steps on one number: reading, claiming and ending it.
 ghost use Rattle.std.specs.Prelude.{◌≡◌, ◌<◌, IsSome, None};
 ghost use Rattle.lc_board.specs.WordSteps.{HasLooked, low_after, taken_after};
 ghost use Rattle.lc_board.specs.{WordsBoard.{EndsClaim, IsPassOf, IsSamePass, TriesClaim, known}, Ending.MayEnd};
@@ -11,7 +11,7 @@ use crate::words::pass::WordsPass;
 use crate::words::rule::{End, Look, Take};
 use crate::words::view::Slot;
 
-/// The low mark after a look at the number.
+/// Returns the low mark after the word of this number was read.
 fn next_low(capacity: u32, number: u32, low: u32, found: Word) -> u32
     requires { number < capacity }
     ensures { result ≡ low_after capacity number low found }
@@ -23,7 +23,7 @@ fn next_low(capacity: u32, number: u32, low: u32, found: Word) -> u32
     }
 }
 
-/// The mark of the numbers that are taken, after a look at the number.
+/// Returns the mark of the taken numbers after the word of this number was read.
 fn next_taken(number: u32, taken: u32, found: Word) -> u32
     requires { number < capacity_limit }
     ensures { result ≡ taken_after number taken found }
@@ -36,7 +36,7 @@ fn next_taken(number: u32, taken: u32, found: Word) -> u32
 }
 
 impl<J, R> Words<J, R> {
-    /// Looks at a word, and gives it.
+    /// Reads the word of a number, and returns it.
     pub(crate) fn look(&self, pass: &mut WordsPass<J, R>, number: u32) -> Word
         requires board { IsPassOf self.now pass.old }
         requires near { number < self.now.capacity }
@@ -50,7 +50,7 @@ impl<J, R> Words<J, R> {
         found
     }
 
-    /// Tries to claim an open number, and takes its job. Or else gives the word as it was found.
+    /// Tries to claim an open number. It returns the number's job, or the word that it found instead.
     pub(crate) fn try_claim(&self, pass: &mut WordsPass<J, R>, number: u32) -> Result<J, Word>
         requires board { IsPassOf self.now pass.old }
         requires free { pass.old.holding ≡ None }
@@ -79,7 +79,7 @@ impl<J, R> Words<J, R> {
         }
     }
 
-    /// Ends the claim of the pass by a row. It waits for nobody, takes no memory and is never refused.
+    /// Ends the claim of the pass by a row. It waits for no thread, allocates nothing and never fails.
     pub fn give(&self, pass: &mut WordsPass<J, R>, row: R)
         requires board { IsPassOf self.now pass.old }
         requires holds { IsSome pass.old.holding }
@@ -89,7 +89,7 @@ impl<J, R> Words<J, R> {
         self.end(pass, Ended::Returned(row));
     }
 
-    /// Ends the claim of the pass, under which nothing was posted, by the row of a fault. As `give`.
+    /// Ends the claim of the pass by the row of an error, like `give`. The pass has posted nothing under the claim.
     pub fn fault(&self, pass: &mut WordsPass<J, R>, row: R)
         requires board { IsPassOf self.now pass.old }
         requires holds { IsSome pass.old.holding × (pass.old.posted ≡ 0) }

@@ -77,7 +77,7 @@ fn what_was_posted_last_is_claimed_first(rt: HostRuntime) -> Result<(), Fail> {
     Ok(())
 }
 
-/// So many numbers that claims that looked at all that is taken would take minutes.
+/// A number of numbers for which claims that look at all taken numbers would need minutes.
 const CROWD: u32 = 1 << 19;
 
 /// How the root ends once all below it have ended.

@@ -1,4 +1,4 @@
-//! A locked board where memory is refused: nothing has changed, and the same call goes through once there is memory.
+//! A locked board whose allocations fail: nothing changes, and the same call succeeds once there is memory.
 use crate::board::script::{Call, ROOT, Told, says};
 use crate::board::shared_scripts::tell;
 use lc_board::{Locked, LockedPass, Shared, Token};
@@ -7,7 +7,7 @@ use std::process::Abort;
 use std::sync::Wait;
 use std::test::Fail;
 
-/// After the call the pass has this claim and so many posts.
+/// Checks that after the call the pass has this claim and this many posts.
 fn stands<R: Abort>(
     rt: &R,
     call: Call,
@@ -21,7 +21,7 @@ fn stands<R: Abort>(
     );
 }
 
-/// What a call answers where memory is refused.
+/// Returns the answer of a call whose allocation fails.
 fn refusal(call: Call) -> Option<Told> {
     match call {
         Call::Claim(_) => Some(Told::NoClaim),

@@ -57,7 +57,7 @@ fn claim<B: Shared<u32, u32>, W: Wait>(
     Ok(())
 }
 
-/// How many jobs are to be posted under a number: all together, one more than there is room for.
+/// Returns how many jobs are to be posted under a number: together one more than there is room for.
 fn wanted(number: u32) -> u32 {
     if number == 0 { 2 } else { 1 }
 }

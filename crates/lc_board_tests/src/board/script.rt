@@ -6,7 +6,7 @@ use std::process::Abort;
 /// The job of the root.
 pub const ROOT: u32 = 7;
 
-/// One call, by the worker that stands first.
+/// One call, by the worker that is named first.
 #[derive(Clone, Copy, Debug, Drop)]
 pub enum Call {
     Claim(u32),
@@ -64,7 +64,7 @@ impl From<Result<u32, PostFault<u32>>> for Told {
     }
 }
 
-/// A call answered what it is to answer.
+/// Checks that a call has this answer.
 pub fn says<R: Abort>(rt: &R, call: Call, answer: Told, told: Told) {
     assert!(rt; answer == told, "{call:?}");
 }

@@ -2,7 +2,7 @@ ghost use Rattle.std.specs.Prelude.{◌<◌};
 
 use lc_census::{Scan, scan_scalar, scan_simd};
 
-/// The bytes that a scan tells apart, and `x` for all others.
+/// The bytes that a scan distinguishes, and `x` for all others.
 const LETTERS: [u8; 6] = [b'\n', b'\r', 0, b' ', b'\t', b'x'];
 
 /// How many words of six letters there are.

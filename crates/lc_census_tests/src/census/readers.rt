@@ -30,8 +30,8 @@ const TWO_LINES: Outcome = Ok(Count {
 /// How many turns a count has, its answer, and its reads.
 type Case = (&'static str, u64, Outcome, u64);
 
-/// Whether a count of this reader, in reads of 65,536 bytes, answers so by so many reads. Want of memory is passed up, after which no
-/// read was made.
+/// Returns whether a count of this reader, in reads of 65,536 bytes, has this answer after this many reads. A failed allocation is passed
+/// up; no read was made before it.
 fn answers<S: Source + Drop>(alloc: Global, source: S, case: &Case) -> Result<bool, AllocError> {
     let (_, turns, want, reads) = *case;
     let mut reader = Counted::new(source);
@@ -102,7 +102,7 @@ fn a_failed_read_is_the_last(rt: HostRuntime) -> Result<(), Fail> {
     Ok(())
 }
 
-/// Whether a count finds the two lines. Want of memory is passed up.
+/// Returns whether a count finds the two lines. A failed allocation is passed up.
 fn has_two_lines<S: Source>(alloc: Global, reader: &mut S) -> Result<bool, AllocError> {
     match count(alloc, reader) {
         Err(CensusFault::Memory) => Err(AllocError),

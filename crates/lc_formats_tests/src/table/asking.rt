@@ -19,7 +19,7 @@ use std::sync::Wait;
 use std::test::Fail;
 use std::thread::Threads;
 
-/// The rules that exclude, the lists that are asked for, and whether the view is an archive's.
+/// The rules of `--exclude-from`, the lists that are requested, and whether `--archive` is.
 #[derive(Clone, Copy)]
 pub(super) struct Asked<'a> {
     pub(super) exclude: &'a [u8],
@@ -52,7 +52,7 @@ pub(super) const WITH_LEFT_OUT: Asked<'static> = Asked {
     ..PLAIN
 };
 
-/// What is shown, a tree, what is asked of a run over it, and the outcome and the lines below the header.
+/// What the case shows, a tree, the arguments of a run over it, and the outcome and the lines below the header.
 #[derive(Clone, Copy)]
 pub(super) struct Case<'a> {
     pub(super) name: &'a str,
@@ -86,7 +86,7 @@ fn excluding(alloc: Global, rules: &[u8]) -> Result<Option<RuleText>, AllocError
     }
 }
 
-/// The filters that are asked for.
+/// Makes the filters that the arguments request.
 fn filters_of<'p>(alloc: Global, asked: &Asked<'_>) -> Result<Filters<'p>, AllocError> {
     let mut without = Vec::new(alloc);
     if asked.archive {
@@ -194,7 +194,7 @@ fn answer_over<B: Shared<Job, Row>, R: Threads + Wait + Sync, T: Tree>(
     Ok(outcome_of(&report.faults))
 }
 
-/// An answer, but for want of memory where nothing is written.
+/// Returns an answer. If an allocation fails, nothing is written.
 pub(super) fn settled(
     answer: Result<Outcome, RunFault>,
     out: &Narrow,

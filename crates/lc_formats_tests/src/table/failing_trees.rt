@@ -36,7 +36,7 @@ const FILES: [&[u8]; 4] = [
     b"file\tset\tlf\t2\t1\t3\td/b.c",
 ];
 
-/// The paths of which one is at fault where a call fails.
+/// The paths of which one is unreadable if a call fails.
 const PATHS: [&[u8]; 7] = [
     b".",
     b".gitignore",
@@ -47,7 +47,7 @@ const PATHS: [&[u8]; 7] = [
     b"d/e",
 ];
 
-/// How many lines of a table tell of a file and of a fault.
+/// How many lines of a table show files, and how many errors.
 #[derive(Clone, Copy)]
 struct Told {
     files: usize,
@@ -69,7 +69,8 @@ fn is_counted(table: &[u8], path: &[u8]) -> bool {
     false
 }
 
-/// What the lines of a table tell, or nothing where one is none of the files above, or a path is at fault that was counted.
+/// Returns how many lines of a table show files and errors. It returns nothing if a line is none of the files above, or shows an error of a
+/// path that was counted.
 fn lines_told(table: &[u8]) -> Option<Told> {
     let mut files = 0usize;
     let mut faults = 0usize;
@@ -93,14 +94,14 @@ fn lines_told(table: &[u8]) -> Option<Told> {
 /// How many calls a walk makes: three listings, and six times a file is opened, read, and read to its end.
 const CALLS: u64 = 21;
 
-/// What a run answers, what its table tells, and how many calls it made.
+/// The answer of a run, the lines of its table, and how many calls it made.
 type Found = (Result<Outcome, RunFault>, Option<Told>, u64);
 
 fn has_one_fault((answer, told, _): &Found) -> bool {
     *answer == Ok(Outcome::SomeFaults) && matches!(told, Some(Told { faults: 1, .. }))
 }
 
-/// No call of it failed.
+/// Returns whether no call of the run failed.
 fn is_whole((answer, told, calls): &Found) -> bool {
     *answer == Ok(Outcome::Clean)
         && matches!(

@@ -9,7 +9,7 @@ use std::alloc::{AllocError, Global};
 use std::process::Abort;
 use std::test::Fail;
 
-/// What stands below the rows.
+/// The lines below the rows.
 const TOTALS: &[u8] = b"total\t*\t*\t7\t30\t8\t157\ndirectories\t2\n";
 
 const SUMMED: Case = Case {

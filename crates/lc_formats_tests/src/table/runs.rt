@@ -1,4 +1,4 @@
-//! Runs over trees of memory: their tables, by any number of workers, and where they stop.
+//! Runs over trees in memory: their tables, with any number of workers, and their errors.
 
 use crate::table::asking::{
     Asked, Case, HEADER, PLAIN, WITH_FILES, WITH_LEFT_OUT, answer_of, compare_all, compare_by,
@@ -16,7 +16,7 @@ use std::sync::Wait;
 use std::test::Fail;
 use std::thread::Threads;
 
-/// What stands in a directory: a name, and what has it.
+/// An entry of a directory: its name, and its node.
 type Entry = (&'static [u8], Sketch<'static>);
 
 pub(super) const RULES: &[u8] = b"*.log\n!keep.log\n/build/\n";

@@ -1,4 +1,4 @@
-//! What was left out, in each format.
+//! Skipped entries in each format.
 
 use crate::table::asking::{HEADER, TSV};
 use crate::table::screens::EMPTY;
@@ -13,7 +13,7 @@ use std::alloc::{AllocError, Global};
 use std::process::Abort;
 use std::test::Fail;
 
-/// Why an entry was left out.
+/// Why an entry was skipped.
 #[derive(Clone, Copy)]
 enum Why {
     Git,

@@ -217,7 +217,7 @@ pub(super) fn report_of(alloc: Global, case: &Case) -> Result<Report, AllocError
     })
 }
 
-/// A header, rows, and what stands below them.
+/// A header, rows, and the lines below them.
 type Parts<'a> = (&'a [u8], &'a [u8], &'a [u8]);
 
 fn is_made_of(text: &[u8], (header, rows, below): Parts<'_>) -> bool {

@@ -1,4 +1,4 @@
-//! Which of the directories above a path patterns match, asked at once.
+//! The directories above a path that patterns match, found in one call.
 
 use lc_glob::Pattern;
 use std::test::Fail;

@@ -21,7 +21,7 @@ fn check(
     Ok(())
 }
 
-/// Patterns that one path is asked of, and whether they match it.
+/// Patterns for one path, and whether they match it.
 const PATTERNS: &[(&'static [u8], bool)] = &[
     (b"*.o", true),
     (b"/src/**/a.o", true),
@@ -57,7 +57,7 @@ fn literals_are_compared_as_bytes(rt: HostRuntime) -> Result<(), Fail> {
     Ok(())
 }
 
-/// A pattern, and a path that it doesn't match, as one byte at an end tells.
+/// A pattern, and a path that it doesn't match, which one byte at an end shows.
 const OTHER_ENDS: &[(&'static [u8], &'static [u8])] = &[
     (b"src/*.o", b"src/main.c"),
     (b"a/**/b", b"a/x/y"),
@@ -79,7 +79,7 @@ fn another_byte_at_an_end_is_told_by_one_look(rt: HostRuntime) -> Result<(), Fai
     Ok(())
 }
 
-/// What stands first, what is repeated so many times, and what stands last.
+/// The beginning, a part that is repeated, how many times, and the end.
 type Repeated = (&'static [u8], &'static [u8], usize, &'static [u8]);
 
 /// A pattern, a path, whether it matches, and the most byte tests.

@@ -74,7 +74,7 @@ const OTHER_STARS: &[Case] = &[
     (b"***/b", b"q/r/b", FILE, false),
 ];
 
-/// A last separator asks for a directory.
+/// A separator at the end makes a pattern for directories.
 const LAST_SEPARATOR: &[Case] = &[
     (b"doc/frotz/", b"doc/frotz", DIR, true),
     (b"frotz/", b"frotz", DIR, true),
@@ -84,7 +84,7 @@ const LAST_SEPARATOR: &[Case] = &[
     (b"frotz/", b"frotz", FILE, false),
 ];
 
-/// A bracket stands for its members.
+/// A bracket matches its members.
 const MEMBERS: &[Case] = &[
     (b"[]a]", b"]", FILE, true),
     (b"[]a]", b"a", FILE, true),
@@ -103,7 +103,7 @@ const MEMBERS: &[Case] = &[
     (b"[\\]]", b"]", FILE, true),
 ];
 
-/// A bracket stands for nothing else.
+/// A bracket matches no other byte.
 const OTHER_BYTES: &[Case] = &[
     (b"[]a]", b"b", FILE, false),
     (b"[!a-c]", b"b", FILE, false),
@@ -205,7 +205,7 @@ fn each_pattern_tells_what_it_is(rt: HostRuntime) -> Result<(), Fail> {
     Ok(())
 }
 
-/// How many patterns stand behind the last one that matches.
+/// Returns how many patterns come after the last one that matches.
 fn behind_the_last(patterns: &[Pattern], path: &[u8]) -> Option<usize> {
     let candidate = Candidate::new(path);
     patterns

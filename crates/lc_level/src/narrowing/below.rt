@@ -1,4 +1,4 @@
-//! Paths that stand below others.
+//! Paths that are under others.
 ghost use Rattle.std.specs.Prelude.{◌≡◌, ◌∷◌, ◌++◌, [], None, option_map};
 ghost use Rattle.std.specs.Ordering.{is_lt};
 ghost use Rattle.lc_glob.specs.Bytes.{slash};
@@ -7,14 +7,14 @@ ghost use Rattle.lc_tree.specs.ByteOrder.{bytes_cmp};
 
 use crate::paths::relative_to;
 
-/// The rest of a text that begins with these bytes.
+/// Returns the rest of a text that begins with these bytes.
 fn after<'p>(front: &[u8], text: &'p [u8]) -> Option<&'p [u8]>
     ensures { option_map (λ rest. rest.now) result ≡ after front.now text.entry.now }
 {
     text.strip_prefix(front)
 }
 
-/// Whether a path is below another: `a/b` is below `a`, and `ab` is not.
+/// Returns whether a path is below another: `a/b` is below `a`, and `ab` is not.
 pub(crate) fn stands_below(path: &[u8], other: &[u8]) -> bool
     ensures { result ≡ stands_below path.now other.now }
 {
@@ -24,7 +24,7 @@ pub(crate) fn stands_below(path: &[u8], other: &[u8]) -> bool
     }
 }
 
-/// A path seen from a directory that it is below and not the same as: `a/b/c` is `c` from `a/b`, and the empty path is below none.
+/// Returns a path seen from a directory that it is below and not the same as: `a/b/c` is `c` from `a/b`, and the empty path is below none.
 pub(crate) fn rest_from<'p>(directory: &[u8], path: &'p [u8]) -> Option<&'p [u8]>
     ensures { option_map (λ rest. rest.now) result ≡ rest_from directory.now path.entry.now }
 {
@@ -34,8 +34,8 @@ pub(crate) fn rest_from<'p>(directory: &[u8], path: &'p [u8]) -> Option<&'p [u8]
     relative_to(directory, path)
 }
 
-/// Whether a path comes before all paths below another, in the order of their bytes: `a`, `a-b` and `a.b` come before those below `a`,
-/// and `a/b` and `ab` do not.
+/// Returns whether a path comes before all paths below another, in the order of their bytes: `a`, `a-b` and `a.b` come before those below
+/// `a`, and `a/b` and `ab` do not.
 pub(crate) fn is_before_below(path: &[u8], other: &[u8]) -> bool
     ensures { result ≡ is_lt (bytes_cmp path.now (other.now ++ slash ∷ [])) }
 {

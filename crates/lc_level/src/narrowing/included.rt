@@ -4,14 +4,14 @@ ghost use Rattle.lc_level.specs.Filters.{has_matched_parent, is_included, is_wit
 
 use lc_rules::IgnoreFile;
 
-/// Whether one of the patterns matches a path.
+/// Returns whether one of the patterns matches a path.
 fn matches(patterns: &IgnoreFile, path: &[u8], is_dir: bool) -> bool
     ensures { result ≡ matches patterns.now path.now is_dir }
 {
     patterns.last_match(path, is_dir).is_some()
 }
 
-/// Whether a pattern matches a directory above a path, below the top.
+/// Returns whether a pattern matches a directory above a path, below the top.
 fn has_matched_parent(patterns: &IgnoreFile, path: &[u8]) -> bool
     ensures { result ≡ has_matched_parent patterns.now path.now }
 {
@@ -23,7 +23,7 @@ fn has_matched_parent(patterns: &IgnoreFile, path: &[u8]) -> bool
     false
 }
 
-/// Whether a pattern matches the directory at a path, or one above it, below the top.
+/// Returns whether a pattern matches the directory at a path, or one above it, below the top.
 fn is_within(patterns: &IgnoreFile, directory: &[u8]) -> bool
     ensures { result ≡ is_within patterns.now directory.now }
 {
@@ -33,7 +33,7 @@ fn is_within(patterns: &IgnoreFile, directory: &[u8]) -> bool
     matches(patterns, directory, true) || has_matched_parent(patterns, directory)
 }
 
-/// Of patterns for files, those that a file of a directory must match to take part. There are none where a pattern matches the directory or
+/// Of patterns for files, returns those of which one must match a file of a directory. There are none if a pattern matches the directory or
 /// one above it.
 pub(crate) fn patterns_for<'p>(patterns: &'p IgnoreFile, directory: &[u8]) -> Option<&'p IgnoreFile>
     ensures { option_map (λ p. p.now) result ≡ patterns_for (Some patterns.entry.now) directory.now }
@@ -44,7 +44,7 @@ pub(crate) fn patterns_for<'p>(patterns: &'p IgnoreFile, directory: &[u8]) -> Op
     Some(patterns)
 }
 
-/// Whether a file matches one of the patterns that it must match.
+/// Returns whether a file matches one of the patterns that it must match.
 pub(crate) fn is_included(patterns: Option<&IgnoreFile>, path: &[u8]) -> bool
     ensures { result ≡ is_included (option_map (λ p. p.now) patterns.entry) path.now }
 {

@@ -1,4 +1,4 @@
-//! The paths of `--only`, sorted once, and what they select of a directory.
+//! The paths of `--only`, sorted once, and what they select in a directory.
 ghost use Rattle.std.specs.Prelude.{◌≡◌, ◌≤◌, IfOk, [], false, true, length, map};
 ghost use Rattle.std.specs.List.{filter_map, AllByRecursion};
 ghost use Rattle.std.specs.List.Sorted.{IsPartitionPoint};
@@ -12,7 +12,7 @@ use crate::narrowing::sorted_paths::is_within;
 use std::alloc::{AllocError, Global};
 use std::marker::Model;
 
-/// The paths of `--only`, sorted once, so that each directory finds those that concern it by a binary search.
+/// The paths of `--only`. They are sorted once, so that each directory finds those that concern it by a binary search.
 ///
 /// ```
 /// let only = OnlyPaths::new(alloc, &[b"src", b"docs/a.md"])?;
@@ -36,7 +36,7 @@ impl<'o> Model for OnlyPaths<'o> {
     ghost invariant = { λ p. map (λ path. path.now) p.sorted.items ≡ each_once (map (λ path. path.now) p.asked.now) };
 }
 
-/// Paths in the order of their bytes, each once.
+/// Returns the paths in the order of their bytes, each once.
 fn sorted_once<'o>(alloc: Global, asked: &[&'o [u8]]) -> Result<Vec<&'o [u8]>, AllocError>
     ensures { IfOk result (λ paths. map (λ path. path.now) paths.items ≡ each_once (map (λ path. path.now) asked.now)) }
 {
@@ -46,7 +46,7 @@ fn sorted_once<'o>(alloc: Global, asked: &[&'o [u8]]) -> Result<Vec<&'o [u8]>, A
     Ok(paths)
 }
 
-/// Whether a path comes before all paths below a directory, in the order of their bytes.
+/// Returns whether a path comes before all paths below a directory, in the order of their bytes.
 fn comes_before(path: &[u8], directory: &[u8]) -> bool
     ensures { result ≡ comes_before directory.now path.now }
 {
@@ -56,7 +56,7 @@ fn comes_before(path: &[u8], directory: &[u8]) -> bool
     is_before_below(path, directory)
 }
 
-/// The place of the first of sorted paths that does not come before those below a directory.
+/// Returns the place of the first of sorted paths that does not come before those below a directory.
 fn first_past(paths: &[&[u8]], directory: &[u8]) -> usize
     requires { AreInOrder (map (λ path. path.now) paths.now) }
     ensures within { result ≤ length paths.now }
@@ -66,7 +66,7 @@ fn first_past(paths: &[&[u8]], directory: &[u8]) -> usize
     paths.partition_point(|path| comes_before(path, directory))
 }
 
-/// The sorted paths below a directory, seen from it, where none of the paths comes before these.
+/// Returns the paths under a directory, relative to it. The paths are sorted, and none comes before those under the directory.
 fn seen_from<'o>(
     alloc: Global,
     directory: &[u8],
@@ -88,7 +88,7 @@ fn seen_from<'o>(
 }
 
 impl<'o> OnlyPaths<'o> {
-    /// No path, which selects all of a tree.
+    /// Makes a list without paths, which selects all of a tree.
     pub fn none(alloc: Global) -> OnlyPaths<'o>
         ensures { result ≡ [] }
     {
@@ -98,7 +98,7 @@ impl<'o> OnlyPaths<'o> {
         }
     }
 
-    /// Sorts the paths, which are relative to the top, with no slash at the end. Where there are none, all of a tree is selected.
+    /// Sorts the paths, which are relative to the top, with no slash at the end. If there are none, all of a tree is selected.
     pub fn new(alloc: Global, asked: &'o [&'o [u8]]) -> Result<OnlyPaths<'o>, AllocError>
         ensures { IfOk result (λ only. only ≡ map (λ path. path.now) asked.entry.now) }
     {
@@ -106,7 +106,7 @@ impl<'o> OnlyPaths<'o> {
         Ok(OnlyPaths { asked, sorted })
     }
 
-    /// Whether all of a directory is selected.
+    /// Returns whether all of a directory is selected.
     fn is_whole(&self, directory: &[u8]) -> bool
         ensures { result ≡ is_whole self.now directory.now }
     {
@@ -114,7 +114,7 @@ impl<'o> OnlyPaths<'o> {
         self.asked.is_empty() || is_within(sorted, directory)
     }
 
-    /// The paths below a directory, seen from it. Where there are none, this costs no memory.
+    /// Returns the paths under a directory, relative to it. If there are none, nothing is allocated.
     fn rests(&self, alloc: Global, directory: &[u8]) -> Result<Vec<&'o [u8]>, AllocError>
         ensures { IfOk result (λ seen. map (λ rest. rest.now) seen.items ≡ rests self.now directory.now) }
     {
@@ -124,7 +124,7 @@ impl<'o> OnlyPaths<'o> {
         Ok(seen)
     }
 
-    /// What the paths select of a directory.
+    /// Returns what the paths select of a directory.
     pub(crate) fn wanted_in(
         &self,
         alloc: Global,

@@ -7,7 +7,7 @@ ghost use Rattle.lc_tree.specs.ByteOrder.{AreInOrder};
 
 use crate::narrowing::below::{is_before_below, stands_below};
 
-/// Whether a path is among sorted paths.
+/// Returns whether a path is among sorted paths.
 pub(crate) fn is_among(paths: &[&[u8]], path: &[u8]) -> bool
     requires { AreInOrder (map (λ other. other.now) paths.now) }
     ensures { result ≡ list_any (bytes_eq path.now) (map (λ other. other.now) paths.now) }
@@ -16,7 +16,7 @@ pub(crate) fn is_among(paths: &[&[u8]], path: &[u8]) -> bool
     at < paths.len() && path == paths[at]
 }
 
-/// Whether one of sorted paths is below another path.
+/// Returns whether one of sorted paths is below another path.
 pub(crate) fn has_below(paths: &[&[u8]], other: &[u8]) -> bool
     requires { AreInOrder (map (λ path. path.now) paths.now) }
     ensures { result ≡ list_any (λ path. stands_below path other.now) (map (λ path. path.now) paths.now) }
@@ -25,7 +25,7 @@ pub(crate) fn has_below(paths: &[&[u8]], other: &[u8]) -> bool
     at < paths.len() && stands_below(paths[at], other)
 }
 
-/// Whether a byte of a directory's path is a slash, and what is before it is among sorted paths.
+/// Returns whether a byte of a directory's path is a slash, and what is before it is among sorted paths.
 fn is_cut_among(paths: &[&[u8]], directory: &[u8], at: usize) -> bool
     requires order { AreInOrder (map (λ path. path.now) paths.now) }
     requires within { at < length directory.now }
@@ -34,7 +34,7 @@ fn is_cut_among(paths: &[&[u8]], directory: &[u8], at: usize) -> bool
     directory[at] == b'/' && is_among(paths, &directory[..at])
 }
 
-/// Whether a directory is one of sorted paths, or is below one. It makes a search for each segment of the directory.
+/// Returns whether a directory is one of sorted paths, or is below one. It makes a search for each segment of the directory.
 pub(crate) fn is_within(paths: &[&[u8]], directory: &[u8]) -> bool
     requires { AreInOrder (map (λ path. path.now) paths.now) }
     ensures { result ≡ list_any (λ path. bytes_eq path directory.now || stands_below directory.now path)

@@ -1,4 +1,4 @@
-//! Both chains of a directory, by its rule files.
+//! Adding a directory's rule files to both chains.
 ghost use Rattle.std.specs.Prelude.{◌≡◌, ◌<◌, ◌^◌, IfOk};
 ghost use Rattle.std.specs.Arc.{arc_value};
 ghost use Rattle.lc_level.specs.RuleFiles.{with_file_at, first_of};
@@ -8,7 +8,7 @@ use lc_rules::{AttrChain, AttrFile, Chain, IgnoreFile};
 use std::alloc::{AllocError, Global};
 use std::sync::Arc;
 
-/// A chain of ignore files with that of `.git/info` and a directory's own. Where there is neither, the chain is shared as it is.
+/// Returns a chain of ignore files with that of `.git/info` and a directory's own. If there is neither, the chain is shared.
 pub(crate) fn ignore_below(
     alloc: Global,
     chain: &Arc<Chain, Global>,
@@ -29,8 +29,8 @@ pub(crate) fn ignore_below(
     Ok(Arc::new(alloc, below.with_info(info))?)
 }
 
-/// A chain of attribute files with that of `.git/info`, which overrides all others, and a directory's own. Where there is neither, the
-/// chain is shared as it is.
+/// Returns a chain of attribute files with that of `.git/info`, which overrides all others, and a directory's own. If there is neither, the
+/// chain is shared.
 pub(crate) fn attributes_below(
     alloc: Global,
     chain: &Arc<AttrChain, Global>,

@@ -11,14 +11,14 @@ use lc_tree::{Listing, Tree};
 use std::alloc::Global;
 use std::sync::Arc;
 
-/// A file of rules and a file of attributes, as far as they are there.
+/// The ignore file and the attribute file of a directory, each if it exists.
 #[derive(Drop)]
 pub(crate) struct RulePair {
     pub(crate) rules: Option<Arc<IgnoreFile, Global>>,
     pub(crate) attributes: Option<Arc<AttrFile, Global>>,
 }
 
-/// Both rule files of a directory, and the bytes of the rules, as far as they are there and texts are kept.
+/// Both rule files of a directory, each if it exists, and the bytes of the ignore file if texts are kept.
 #[derive(Drop)]
 pub(crate) struct PairRead {
     pub(crate) files: RulePair,

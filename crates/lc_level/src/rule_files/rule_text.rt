@@ -1,4 +1,4 @@
-//! A file of rules that is read by itself, and kept with its text.
+//! Reading a single file of rules, and keeping its text.
 
 ghost use Rattle.std.specs.Prelude.{◌≡◌, ◌≢◌, IfOk};
 ghost use Rattle.std.specs.Arc.{arc_value};
@@ -14,7 +14,7 @@ use std::marker::Model;
 use std::sync::Arc;
 use thiserror::Error;
 
-/// Why a file gave no rules.
+/// Why a file could not be read as rules.
 #[derive(Debug, Clone, Copy, PartialEq, Eq, Error)]
 pub enum RulesFileFault {
     /// The file was not opened, or a read failed.
@@ -71,7 +71,7 @@ impl From<RuleFault> for RulesFileFault {
     }
 }
 
-/// The text of an ignore file, with the rules that it gives.
+/// The text of an ignore file, with its rules.
 #[derive(Drop)]
 pub struct RuleText {
     bytes: Vec<u8>,
@@ -128,7 +128,7 @@ fn read_rule_bytes<S: Source>(alloc: Global, file: &mut S) -> Result<Vec<u8>, Wh
 
 /// Reads a file of rules to its end, or up to the first byte past [`MAX_RULE_BYTES`], and keeps its text.
 ///
-/// The text is kept so that the line of a rule can be shown.
+/// The text is kept so that reports can show the line of a rule.
 ///
 /// ```
 /// let mut file = StdSource(fs::open(rt, ".gitignore")?);

@@ -1,4 +1,4 @@
-//! Counting the files that are left in a directory after a large one by several threads side by side.
+//! Counting the files after a large one in a directory, with several threads side by side.
 ghost use Rattle.std.specs.Prelude.{◌≡◌, ◌++◌, ◌∷◌, ◌-◌, ◌≤◌, [], List, ℕ, IfOk, OnOk, Vec};
 ghost use Rattle.std.specs.Global.{Global};
 ghost use Rattle.lc_level.specs.CountedNames.{IsCounted};
@@ -29,7 +29,7 @@ fn take_helpers(idle: &IdleThreads, files: usize) -> Helpers
 }
 
 impl CountedFiles {
-    /// Whether the file that was counted last is large.
+    /// Returns whether the file that was counted last is large.
     fn ends_large(&self) -> bool {
         match self.files.last() {
             Some(file) => file.count.bytes > LARGE_FILE,

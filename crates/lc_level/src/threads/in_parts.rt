@@ -1,4 +1,4 @@
-//! Counting the files of a large directory by several threads side by side.
+//! Counting the files of a large directory, with several threads side by side.
 ghost use Rattle.std.specs.Prelude.{◌≡◌, ◌++◌, ◌+◌, ◌-◌, ◌≤◌, [], IfOk, OnOk, vec_len};
 ghost use Rattle.lc_level.specs.CountedNames.{IsCounted};
 ghost use Rattle.lc_level.specs.CountedParts.{HaveCounted, Joins};
@@ -76,7 +76,7 @@ impl<T: Tree> LevelReader<'_, T> {
         self.count(job, names, Vec::new(self.alloc), &mut scratch)
     }
 
-    // Counts the files of each run, by a thread for each but one. No more threads are started than were taken.
+    // Counts the files of each run, with a thread for each run but one. It starts no more threads than were taken.
     fn count_runs<R: Threads + Sync>(
         &self,
         rt: &R,
@@ -111,10 +111,10 @@ impl<T: Tree> LevelReader<'_, T> {
         Ok(found)
     }
 
-    /// Counts the files of these names as `count` does, in parts side by side where they are many and threads are idle: a part for each
-    /// idle thread that can be taken, and one more. The few files after one of over 16 MiB are counted in parts too.
+    /// Like `count`, but counts many files in parts side by side: a part for each idle thread that it can take, and one more. The files
+    /// after one of over 16 MiB are counted in parts too, even if they are few.
     ///
-    /// Each part takes a buffer of its own.
+    /// Each part allocates a buffer of its own.
     pub fn count_divided<R: Threads + Sync>(
         &self,
         threads: &SpareThreads<'_, R>,

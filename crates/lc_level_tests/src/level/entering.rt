@@ -109,7 +109,7 @@ fn entries_and_texts(rt: HostRuntime) -> Result<(), Fail> {
     Ok(())
 }
 
-/// A path, and its rule that decides with where it stands.
+/// A path, and the rule that decides it, with its place.
 type Deciding = (&'static [u8], Option<(RuleSource, u32, Verdict)>);
 
 const TOP: RuleSource = RuleSource::Gitignore(0);
@@ -130,7 +130,7 @@ fn check_last_match(rt: &impl Abort, inside: &Job) {
     }
 }
 
-/// An entry, and why it is left out, if it is.
+/// An entry, and why it is skipped, if it is.
 type Judged = (&'static [u8], Kind, &'static str);
 
 const JUDGED: &[Judged] = &[

@@ -1,4 +1,4 @@
-//! Directories at fault: at which place, and with which word.
+//! Errors of directories: at which place, and with which word.
 
 use crate::level::work::{Case, check, check_anywhere};
 use std::test::Fail;

@@ -73,7 +73,8 @@ pub(super) fn count_flat<'t, R: Threads + Sync>(
     }
 }
 
-/// With so many idle threads the files are what they are without, and the threads are free again, also where memory is refused.
+/// Checks that with this many idle threads the files are the same as without, and that the threads are free again, even if an allocation
+/// fails.
 pub(super) fn check<R: Threads + Sync + Abort>(
     rt: &R,
     alloc: Global,

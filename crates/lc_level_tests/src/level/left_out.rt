@@ -1,4 +1,4 @@
-//! The entries that are left out: which, of which kind and why.
+//! The skipped entries: which, of which kind and why.
 
 use crate::level::work::{Case, Part, check, check_parts};
 use lc_level::Reason;

@@ -1,4 +1,4 @@
-//! Directories of which some paths alone are asked for: which entries take part, and which paths are absent.
+//! Directories with paths of `--only`: which entries stay, and which paths are absent.
 
 use crate::level::work::{Part, check_parts};
 use std::test::Fail;

@@ -1,4 +1,4 @@
-//! One directory's work on a tree of memory, and what is found there as text.
+//! Opening and counting one directory of a tree in memory, with the results as text.
 
 use lc_level::{
     ChildDirectory, CountedFiles, FaultWord, Filters, Job, LevelReader, OpenFault, Opened,
@@ -9,13 +9,13 @@ use lc_tree::{MemTree, Node};
 use std::alloc::{AllocError, Global};
 use std::process::Abort;
 
-/// A name, the sketch of a tree, what is asked as on a command line, and what is found, or what stops it.
+/// A name, the sketch of a tree, arguments as on a command line, and the expected result or error.
 pub(crate) type Case<'a> = (&'a str, &'a str, &'a str, &'a str);
 
-/// What is found in a directory by what is asked.
+/// The expected result of a directory with these arguments.
 pub(crate) type Part<'a> = (&'a str, &'a str, &'a str);
 
-/// Nothing beside what a count needs.
+/// Nothing besides what a count needs.
 pub(crate) const NOTHING: ReaderOptions<'static> = ReaderOptions {
     left_out: false,
     texts: false,
@@ -124,7 +124,7 @@ fn push_skipped(text: &mut String, entries: &[SkippedLine]) -> Result<(), AllocE
     Ok(())
 }
 
-/// The counted files, the faults, the child directories, and what is left out.
+/// Returns the counted files, the errors, the child directories and the skipped entries as text.
 fn text_of(alloc: Global, found: &Found) -> Result<String, AllocError> {
     let mut text = String::new(alloc);
     push_counted(&mut text, &found.counted)?;
@@ -136,7 +136,7 @@ fn text_of(alloc: Global, found: &Found) -> Result<String, AllocError> {
     Ok(text)
 }
 
-/// Each entry that takes part is counted, at fault, walked or left out.
+/// Returns whether each entry that the paths of `--only` select is counted, unreadable, visited or skipped.
 fn is_whole(found: &Found) -> bool {
     let faults = found.counted.faults.iter();
     let unread = faults
@@ -147,7 +147,7 @@ fn is_whole(found: &Found) -> bool {
     found.entries as usize == counted.wrapping_add(walked)
 }
 
-/// What is found in a directory of a tree, or what stops it; and how many entries take part.
+/// Returns the result of a directory of a tree, or its error, and how many entries the paths of `--only` select.
 fn found_in(
     rt: &impl Abort,
     alloc: Global,
@@ -175,7 +175,7 @@ fn found_in(
     }
 }
 
-/// What is found is the same whether entries that are left out are kept or not, but for these.
+/// Checks that the result is the same whether skipped entries are kept or not, but for these.
 fn check_node(
     rt: &impl Abort,
     alloc: Global,

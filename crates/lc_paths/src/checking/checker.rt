@@ -1,6 +1,6 @@
-//! Matching one path after another with the rules.
+//! Matching paths with the rules, one after another.
 //!
-//! Paths come in runs that share their directories, so the rules are matched with these once for a run.
+//! Paths come in runs that share their directories, so the rules are matched with these directories once for a run.
 
 ghost use Rattle.std.specs.Prelude.{◌≡◌, ℕ, ◌<◌, ◌≤◌, length, take, option_map, false, IfSome, MatchOption};
 ghost use Rattle.lc_paths.specs.Checks.CheckText.{file_verdict, is_ignored, is_ignored_parent, IsClearTo, path_word};
@@ -14,10 +14,10 @@ use lc_rules::{DirectoriesAbove, IgnoreFile, Rule, Verdict};
 use lc_text::is_bad_path;
 use memchr::memchr;
 
-/// Up to so many names of which nothing is known, directories are matched one by one even if a pattern has nested wildcards.
+/// The number of unknown names up to which directories are matched one by one, even if a pattern has nested wildcards.
 const FEW_NAMES: usize = 2;
 
-/// Up to so many where no pattern has: past it, most rules match all directories together sooner than one after another.
+/// The same number if no pattern has nested wildcards. Past it, most rules match all directories together sooner than one after another.
 const SOME_NAMES: usize = 8;
 
 /// Returns the number of bytes that two paths share at their front.
@@ -51,8 +51,8 @@ fn ignoring<'a>(rules: &'a IgnoreFile, directory: &[u8]) -> Option<&'a Rule>
     }
 }
 
-/// Returns the rule that ignores the directory of so many bytes of a path, if it is ignored. Where all directories above the path were
-/// matched together, the rule is taken from there; `place` of them are above this one.
+/// Returns the rule that ignores the directory whose path is this many bytes of a path, if one does. If all directories above the path were
+/// matched together, the rule is already known; `place` is the number of directories above this one.
 fn ignoring_among<'a>(
     rules: &'a IgnoreFile,
     above: Option<&DirectoriesAbove<'a>>,
@@ -99,7 +99,7 @@ pub(crate) struct Checker<'a> {
     rules: &'a IgnoreFile,
     directory: &'a [u8],
     excluded_by: Option<&'a Rule>,
-    /// Up to so many unknown names the directories are matched one by one.
+    /// The number of unknown names up to which directories are matched one by one.
     few_names: usize,
     // no directory above this one is ignored, and the rule is the one that ignores this one
     ghost clear: { (k : ℕ) → k < length directory.now → is_ignored_parent (file_verdict rules.now) directory.now k ≡ false },

@@ -1,4 +1,4 @@
-//! The text of an explained check, written as it is made.
+//! The text of a check with rules, written while it is made.
 
 ghost use Rattle.std.specs.Prelude.{◌≡◌, ◌++◌, IfSome, OnOk, IfOk, map, option_map, flat_map};
 ghost use Rattle.lc_rules.specs.IgnoreLaws.{IsOnLine};

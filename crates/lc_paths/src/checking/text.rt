@@ -30,8 +30,8 @@ fn push_checked<'a>(
 
 /// Makes the text of a check: the word of each path.
 ///
-/// A line of the text is a word, a tab and the path, in a style. One slash at a path's end means a directory. The word is the
-/// first that holds of
+/// A line of the text is a word, a tab and the path, in a style. One slash at a path's end means a directory. The word is the first of
+/// these that holds:
 ///
 /// - `bad`: no entry of a tree can have this path, or it has over 4,096 bytes;
 /// - `below`: some directory above it is ignored, so that nothing can include it again (gitignore(5), PATTERN FORMAT);

@@ -11,7 +11,7 @@ use lc_text::PathStyle;
 /// ```
 #[derive(Drop)]
 pub struct ExplainOptions<'o> {
-    /// Which entries a walk takes, besides what the tree's own rules say. Every path may be explained: the paths of `--only` in it have no
+    /// Which entries a walk skips, besides what the tree's own rules say. Every path may be explained: the paths of `--only` have no
     /// effect.
     pub filters: &'o Filters<'o>,
     /// How paths and patterns are printed.

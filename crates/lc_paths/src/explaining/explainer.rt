@@ -25,7 +25,7 @@ use lc_text::{PathStyle, is_bad_path, is_top};
 use lc_tree::{Kind, Tree};
 use std::alloc::{AllocError, Global};
 
-/// Returns the kind that rules are asked about: that of the entry, or what the path says if there is no entry.
+/// Returns the kind by which rules are matched: that of the entry, or what the path says if there is no entry.
 fn kind_asked(as_dir: bool, there: Option<Kind>) -> Kind
     ensures { result ≡ kind_asked as_dir there }
 {
@@ -166,8 +166,8 @@ impl<'t, T: Tree> Explainer<'t, T> {
         }
     }
 
-    /// Explains the rest of a path below something that is no directory, or isn't there, by the rules above it. The job is that of
-    /// such a place.
+    /// Explains the rest of a path under something that is no directory, or does not exist, by the rules above it. The job is that of such
+    /// a place.
     fn beside<'p>(
         &self,
         job: Job,

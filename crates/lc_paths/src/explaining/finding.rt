@@ -16,7 +16,7 @@ pub(crate) struct RulePlace {
     pub(crate) line: u32,
 }
 
-/// A directory that could not be opened: its path, and what is at fault.
+/// A directory that could not be opened: its path, and the error.
 #[derive(Clone, Copy, Debug)]
 pub(crate) struct DirectoryFault<'a> {
     pub(crate) directory: &'a [u8],
@@ -52,7 +52,7 @@ impl Decision {
 pub(crate) enum Finding<'a> {
     /// No entry of a tree can have this path.
     Bad,
-    /// A directory above the path is at fault.
+    /// A directory above the path could not be opened.
     Fault(DirectoryFault<'a>),
     /// This rule decides.
     Ruled(Decision, RulePlace),

@@ -1,4 +1,4 @@
-//! A directory that was opened to explain a path below it.
+//! Directories that were opened to explain a path below them.
 
 ghost use Rattle.std.specs.Prelude.{◌≡◌, IfSome};
 ghost use Rattle.lc_level.specs.RuleReads.{text_items};
@@ -10,10 +10,10 @@ use lc_level::{Entered, Job, RuleTexts, entry_named, relative_to};
 use lc_tree::{Entry, Kind};
 use std::marker::Model;
 
-/// About how many bytes a directory takes beside its entries, its path and its texts.
+/// About how many bytes a directory takes besides its entries, its path and its texts.
 const DIRECTORY_BYTES: usize = 512;
 
-/// About how many bytes an entry takes beside its name.
+/// About how many bytes an entry takes besides its name.
 const ENTRY_BYTES: usize = 64;
 
 /// About how many bytes a byte of the directory's path takes: the path is kept twice, and each name on it makes the stack longer.

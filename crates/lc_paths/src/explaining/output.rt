@@ -1,4 +1,4 @@
-//! The text of explanations, a line for each path.
+//! The text of an explanation.
 
 ghost use Rattle.std.specs.Prelude.{◌≡◌, ◌++◌, if◌then◌else◌, [], OnOk};
 ghost use Rattle.lc_level.specs.Reasons.{reason_model};
@@ -90,7 +90,7 @@ fn reason_name(reason: &Reason) -> Name<'_>
     }
 }
 
-/// The path, or a dot for the empty path of the top.
+/// Returns the path, or a dot for the empty path of the top.
 fn or_dot(path: &[u8]) -> &[u8]
     ensures { result.now ≡ or_dot path.now }
 {

@@ -1,4 +1,4 @@
-//! Explanations of many paths, written in blocks as they are made.
+//! Explaining many paths, and writing the text in blocks while it is made.
 
 ghost use Rattle.lc_paths.specs.Paths.{paths_in};
 ghost use Rattle.lc_paths.specs.Explanations.Answers.{AnswersLines};

@@ -1,4 +1,4 @@
-//! A cache of directory stacks, so that a path that comes back to a directory doesn't open it again.
+//! A cache of directory stacks, so that a directory is not opened again for a later path.
 
 ghost use Rattle.std.specs.Prelude.{◌≡◌, ◌∷◌, ◌++◌, [], ◌-◌, Some, length, slice_get, IfOk, OnOk, IfSome};
 ghost use Rattle.std.specs.Option.{option_copied};
@@ -15,10 +15,10 @@ use std::alloc::{AllocError, Global};
 use std::collections::BTreeMap;
 use std::marker::Model;
 
-/// The memory that opened directories may take before some of them are dropped: about 96 MiB.
+/// The memory that opened directories may use before some of them are dropped: about 96 MiB.
 ///
-/// The directories above the path at hand are kept however large they are. When more than this is held beside them, opening one more
-/// directory drops all others.
+/// The directories above the present path are kept however large they are. If all others together use more than this, opening one more
+/// directory drops these others.
 pub const MAX_KEPT: usize = 96 * 1024 * 1024;
 
 /// A cached stack whose last directory is above a path, and the rest of the path below that directory.
@@ -156,7 +156,7 @@ impl StackCache {
         Ok(at)
     }
 
-    /// Drops every stack but those of the directories above the last one of `stack`, and raises the limit by what they hold.
+    /// Drops every stack but those of the directories above the last one of `stack`, and raises the limit by the size of these.
     fn drop_beside(&mut self, stack: &DirStack) -> Result<(), AllocError>
         ensures { OnOk result (AreFirstOf self.new stack.now) }
     {
@@ -171,7 +171,7 @@ impl StackCache {
         Ok(())
     }
 
-    /// Caches a stack and returns its number. Past the limit it first drops the stacks beside this one.
+    /// Caches a stack and returns its number. Past the limit it first drops all other stacks.
     ///
     /// That happens again only after another `MAX_KEPT` bytes, so dropping costs less than opening what was dropped.
     pub(crate) fn keep(&mut self, stack: DirStack) -> Result<usize, AllocError>

@@ -15,7 +15,7 @@ fn text_or_none(text: &Option<RuleText>) -> &[u8]
     }
 }
 
-/// Returns the text of the rules of this source, where no file of the tree was read.
+/// Returns the text of the rules of this source, which is no file of the tree.
 pub(crate) fn top_text<'f>(filters: &'f Filters<'_>, source: RuleSource) -> &'f [u8]
     ensures { result.now ≡ text_in filters.entry.now [] source }
 {

@@ -16,14 +16,14 @@ const RULES: &[u8] = b"a\n";
 
 const PATHS: &[u8] = b"a\nb\n";
 
-/// How rules and paths come, and what is told of each path.
+/// The forms of a check: where rules and paths come from, and what is printed for each path.
 #[derive(Clone, Copy)]
 enum Form {
     /// The rules are read before.
     Paths,
     /// The rules come before the paths.
     Joined,
-    /// The rules are read before, and told of.
+    /// The rules are read first, and printed with the paths.
     Explained,
 }
 
@@ -58,7 +58,7 @@ fn check_told<S: Source>(alloc: Global, input: &mut S, out: &mut Narrow) -> Resu
     }
 }
 
-/// A check of this form, but for want of memory, where nothing is written: the texts are shorter than a block.
+/// Makes a check of this form. If an allocation fails, nothing is written, since the texts are shorter than a block.
 fn checked<S: Source>(
     rt: &impl Abort,
     alloc: Global,

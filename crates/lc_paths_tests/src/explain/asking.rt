@@ -1,4 +1,4 @@
-//! Asking about paths of a tree of memory.
+//! Explaining paths of a tree in memory.
 
 use lc_census::Source;
 use lc_level::{Filters, RuleText, read_rule_text};
@@ -14,12 +14,12 @@ use std::test::Fail;
 /// What is shown, the tree, lines of paths, and their text.
 pub(crate) type Case = (&'static str, Sketch<'static>, &'static [u8], &'static [u8]);
 
-/// What is asked by these filters, with paths in this style.
+/// Makes options with these filters, and with paths in this style.
 pub(crate) fn in_style<'o>(filters: &'o Filters<'_>, style: PathStyle) -> ExplainOptions<'o> {
     ExplainOptions { filters, style }
 }
 
-/// What is asked by these filters, for a pipe.
+/// Makes options with these filters, for a pipe.
 pub(crate) fn for_a_pipe<'o>(filters: &'o Filters<'_>) -> ExplainOptions<'o> {
     in_style(filters, PathStyle::Escaped)
 }
@@ -33,7 +33,7 @@ pub(crate) fn rule_text(alloc: Global, bytes: &[u8]) -> Result<RuleText, AllocEr
     }
 }
 
-/// An explanation of less than a block, but for want of memory, where nothing of it is written.
+/// Makes an explanation of less than a block. If an allocation fails, nothing of it is written.
 pub(crate) fn explained<T: Tree, S: Source>(
     rt: &impl Abort,
     alloc: Global,

@@ -1,4 +1,4 @@
-//! Trees of which a directory on the way is at fault, and trees of which one call fails.
+//! Trees with an unreadable directory on the way, and trees of which one call fails.
 
 use crate::explain::asking::{Case, check, for_a_pipe, plainly};
 use lc_level::Filters;
@@ -87,7 +87,7 @@ const CALLS: u64 = 8;
 
 const WHOLE: &[u8] = b"ignored\t.gitignore:1\t*.o\td/a.o\nincluded\td/.gitignore:1\t!k.o\td/k.o\n";
 
-/// The text where the call at a place fails: the first path's line tells of it, and the second path is asked about anew.
+/// Returns the text if the call at a place fails: the first path's line names the error, and the second path is read again.
 fn text_at(place: u64) -> &'static [u8] {
     match place {
         0 => b"fault\tread\t-\t.\nincluded\td/.gitignore:1\t!k.o\td/k.o\n",

@@ -48,7 +48,7 @@ const AND_NO_FILE: &[Directory] = &[(0, Some(b"*.c")), (0, Some(b"!x.c")), (3, N
 /// A file sees paths below its directory.
 const SECOND: &[Directory] = &[(2, Some(b"/c\nd/e/"))];
 
-/// More files than stand inline.
+/// More files than a chain stores inline.
 const MANY: &[Directory] = &[
     (0, Some(b"a\nb")),
     (0, Some(b"!b")),

@@ -1,4 +1,4 @@
-//! Which rule decides, by the line that it stands on.
+//! The rules that decide, by their lines.
 
 use lc_rules::{Chain, DirectoriesAbove, IgnoreFile, Lines, RuleSource, Verdict, text_of_line};
 use std::alloc::{AllocError, Global};
@@ -106,7 +106,7 @@ fn chain_of(alloc: Global, files: &[(Put, &'static [u8])]) -> Result<Chain, Allo
     Ok(chain)
 }
 
-/// A path, and where the rule stands that decides it.
+/// A path, and the place of the rule that decides it.
 type Place = (&'static [u8], Option<(RuleSource, u32)>);
 
 const NEARER: &[Place] = &[

@@ -1,11 +1,11 @@
-//! Where a rule stands, as it is printed.
+//! The places of rules, as they are printed.
 
 use lc_rules::RuleSource::{self, CommandLine, ExcludeFrom, Gitignore, InfoExclude};
 use lc_text::{PathStyle, push_rule_source};
 use std::process::Abort;
 use std::test::Fail;
 
-/// What is shown, a path, where the file of its rule stands, the number of the line, and the text.
+/// What the case shows, a path, the file of its rule, the number of the line, and the text.
 type Case = (&'static str, &'static [u8], RuleSource, u32, &'static [u8]);
 
 const CASES: &[Case] = &[

@@ -1,4 +1,4 @@
-//! What a tree answers, and what is wanted of it.
+//! The answers of a tree, compared with what is expected.
 
 use lc_io::{Source, WholeFault, read_whole};
 use lc_tree::{Kind, Listing, ReadFault, Tree};

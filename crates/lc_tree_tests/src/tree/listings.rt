@@ -33,7 +33,7 @@ const CASES: &[Case] = &[
         &[(b"", Kind::File), (b"a", Kind::Other(OtherKind::Special))],
         BAD_NAME,
     ),
-    // A bad name goes before a name that stands twice.
+    // A bad name is reported before a name that is there twice.
     (&[(b"", Kind::File), (b"", Kind::File)], BAD_NAME),
     (
         &[(b"a", Kind::File), (b"a", Kind::File), (b"..", Kind::Dir)],

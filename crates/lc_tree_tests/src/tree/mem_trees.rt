@@ -1,4 +1,4 @@
-//! What trees of memory answer.
+//! The answers of trees in memory.
 
 use crate::tree::checks::{Entries, Given, Listed, check_files, check_listings};
 use lc_io::WholeFault;
@@ -8,7 +8,7 @@ use std::alloc::Global;
 use std::process::Abort;
 use std::test::Fail;
 
-/// A directory with a node of each kind, one in which a name stands twice, and one with a bad name twice.
+/// A directory with a node of each kind, one with a name twice, and one with a bad name twice.
 const NODES: Sketch = Sketch::Dir(&[
     (
         b"twice",

@@ -28,8 +28,8 @@ impl Signals {
     }
 }
 
-/// The files of the host. Where reads are given, its one directory is `top/`, and what stands under a name there is told by its
-/// first byte: `f`, `d` and `l` are a file, a directory and a symbolic link, a name with `g` is gone, and others are not told.
+/// The files of the host. If reads are given, its one directory is `top/`. The first byte of a name there shows its kind: `f`, `d` and `l`
+/// are a file, a directory and a symbolic link, a name with `g` is gone, and others are unknown.
 #[derive(Drop)]
 pub(super) struct System<'a> {
     pub host: &'a HostRuntime,
@@ -82,7 +82,7 @@ fn unsupported<T>() -> IoResult<T> {
     Err(Error::from(ErrorKind::Unsupported))
 }
 
-/// What stands at a path of the directory whose names are given.
+/// Returns the metadata of a path in the directory whose names are given.
 fn told_of(path: &str) -> IoResult<Metadata> {
     match path.as_bytes() {
         [b't', b'o', b'p', b'/', b'f', ..] => Ok(Metadata::of_file(1)),

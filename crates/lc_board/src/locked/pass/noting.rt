@@ -1,4 +1,4 @@
-//! What a pass of a locked board notes of each call.
+//! Storing the event of each call in a pass of a locked board.
 ghost use Rattle.std.specs.Prelude.{◌≡◌, ◌≢◌, ℕ, ◌<◌, ◌≤◌, ◌+◌, None, OnOk, Ok, vec_len, vec_capacity};
 ghost use Rattle.lc_board.specs.Pass.{holding, new_pass, filled, refusing, after_claim, after_post, after_give, after_fault};
 ghost use Rattle.lc_board.specs.{LockedBoard.told, Limits.capacity_limit};
