@@ -10,6 +10,7 @@ use Rattle.lc_sheet.specs.Sheets.{SheetModel}
 use Rattle.lc_sheet.specs.Values as value
 use Rattle.lc_sheet.specs.Values.{ValueModel}
 use Rattle.lc_sheet.specs.declared.column.Number.{Number}
+use Rattle.lc_picture.specs.declared.scale.Scale.{Scale}
 use Rattle.lc_picture.specs.Boxes.{BoxModel, box_of, boxes_in, closing, closings, drawn_boxes, left_beside, next_box, opening}
 use Rattle.lc_picture.specs.Chart.{cell, cells, cells_in, coloured_line, coloured_lines, plain_line, plain_lines}
 use Rattle.lc_picture.specs.Colours.{main_colour, path_of, rows_from, shared_colour}
@@ -24,20 +25,20 @@ closings_show : (n : ℕ) → filter is_shown (closings n) ≡ []
 closings_show zero = refl
 closings_show (suc n) = closings_show n
 
-box_shows : (by : Number) (within : ℕ) (b : BoxModel) (bs : List BoxModel) → filter is_shown (next_box by within b bs) ≡ shown_of_box b
-box_shows by within b bs =
-    filter-append is_shown (closings (within - b.depth)) (opening by b (left_beside by b.depth (number_in by b.sums) bs))
-    ∙ ap (λ (ps : List Piece). ps ++ shown_of_box b) (closings_show (within - b.depth))
+box_shows : (scale : Scale) (within : ℕ) (b : BoxModel) (bs : List BoxModel) → filter is_shown (next_box scale within b bs) ≡ shown_of_box scale b
+box_shows scale within b bs =
+    filter-append is_shown (closings (within - b.depth)) (opening scale b (left_beside scale.by b.depth (number_in scale.by b.sums) bs))
+    ∙ ap (λ (ps : List Piece). ps ++ shown_of_box scale b) (closings_show (within - b.depth))
 
-boxes_show : (by : Number) (within : ℕ) (bs : List BoxModel) → filter is_shown (boxes_in by within bs) ≡ flat_map shown_of_box bs
-boxes_show by within [] = closings_show within
-boxes_show by within (b ∷ bs) =
-    filter-append is_shown (next_box by within b bs) (boxes_in by (min within b.depth + 1) bs)
-    ∙ ap₂ (λ (ps qs : List Piece). ps ++ qs) (box_shows by within b bs) (boxes_show by (min within b.depth + 1) bs)
+boxes_show : (scale : Scale) (within : ℕ) (bs : List BoxModel) → filter is_shown (boxes_in scale within bs) ≡ flat_map (shown_of_box scale) bs
+boxes_show scale within [] = closings_show within
+boxes_show scale within (b ∷ bs) =
+    filter-append is_shown (next_box scale within b bs) (boxes_in scale (min within b.depth + 1) bs)
+    ∙ ap₂ (λ (ps qs : List Piece). ps ++ qs) (box_shows scale within b bs) (boxes_show scale (min within b.depth + 1) bs)
 
-tree_shows : (by : Number) (bs : List BoxModel) → filter is_shown (tree_part by bs) ≡ flat_map shown_of_box bs
-tree_shows by bs =
-    filter-append is_shown (boxes_in by 0 bs) _ ∙ append-nil (filter is_shown (boxes_in by 0 bs)) ∙ boxes_show by 0 bs
+tree_shows : (scale : Scale) (bs : List BoxModel) → filter is_shown (tree_part scale bs) ≡ flat_map (shown_of_box scale) bs
+tree_shows scale bs =
+    filter-append is_shown (boxes_in scale 0 bs) _ ∙ append-nil (filter is_shown (boxes_in scale 0 bs)) ∙ boxes_show scale 0 bs
 
 value_shows : (v : ValueModel) → filter is_shown (cell v) ≡ shown_of_value v
 value_shows value.missing = refl
@@ -77,10 +78,10 @@ chart_shows s =
     ∙ ap₂ (λ (ps qs : List Piece). ps ++ qs) (coloured_show 0 s.rows.lines) (plain_show s.others.lines)
 
 pub shown_law : ShownLaw
-shown_law by s boxes =
+shown_law scale s boxes =
     ap (λ (ps : List Piece). shown_of_head s.totals ++ ps)
-    (filter-append is_shown (chart_part s) (tree_part by boxes)
-    ∙ ap₂ (λ (ps qs : List Piece). ps ++ qs) (chart_shows s) (tree_shows by boxes))
+    (filter-append is_shown (chart_part s) (tree_part scale boxes)
+    ∙ ap₂ (λ (ps qs : List Piece). ps ++ qs) (chart_shows s) (tree_shows scale boxes))
 
 -- ---- the directories that are drawn
 
@@ -116,21 +117,21 @@ closings_nameless : (n : ℕ) → map nameless (closings n) ≡ closings n
 closings_nameless zero = refl
 closings_nameless (suc n) = ap (λ (ps : List Piece). closing ∷ ps) (closings_nameless n)
 
-box_nameless : (by : Number) (within : ℕ) (b : BoxModel) (bs : List BoxModel)
-    → map nameless (next_box by within (outline b) (map outline bs)) ≡ map nameless (next_box by within b bs)
-box_nameless by within b bs =
-    let begin = λ (left : ℕ). map nameless (closings (within - b.depth) ++ opening by (outline b) left) in
-    ap begin (left_same by b.depth (number_in by b.sums) bs)
+box_nameless : (scale : Scale) (within : ℕ) (b : BoxModel) (bs : List BoxModel)
+    → map nameless (next_box scale within (outline b) (map outline bs)) ≡ map nameless (next_box scale within b bs)
+box_nameless scale within b bs =
+    let begin = λ (left : ℕ). map nameless (closings (within - b.depth) ++ opening scale (outline b) left) in
+    ap begin (left_same scale.by b.depth (number_in scale.by b.sums) bs)
     ∙ map-append nameless (closings (within - b.depth)) _ ∙ sym (map-append nameless (closings (within - b.depth)) _)
 
-boxes_nameless : (by : Number) (within : ℕ) (bs : List BoxModel)
-    → map nameless (boxes_in by within (map outline bs)) ≡ map nameless (boxes_in by within bs)
-boxes_nameless by within [] = refl
-boxes_nameless by within (b ∷ bs) =
-    map-append nameless (next_box by within (outline b) (map outline bs)) _
-    ∙ ap₂ (λ (ps qs : List Piece). ps ++ qs) (box_nameless by within b bs) (boxes_nameless by (min within b.depth + 1) bs)
-    ∙ sym (map-append nameless (next_box by within b bs) _)
+boxes_nameless : (scale : Scale) (within : ℕ) (bs : List BoxModel)
+    → map nameless (boxes_in scale within (map outline bs)) ≡ map nameless (boxes_in scale within bs)
+boxes_nameless scale within [] = refl
+boxes_nameless scale within (b ∷ bs) =
+    map-append nameless (next_box scale within (outline b) (map outline bs)) _
+    ∙ ap₂ (λ (ps qs : List Piece). ps ++ qs) (box_nameless scale within b bs) (boxes_nameless scale (min within b.depth + 1) bs)
+    ∙ sym (map-append nameless (next_box scale within b bs) _)
 
 pub outline_law : OutlineLaw
-outline_law by bs cs e =
-    sym (boxes_nameless by 0 bs) ∙ ap (λ (ds : List BoxModel). map nameless (boxes_in by 0 ds)) e ∙ boxes_nameless by 0 cs
+outline_law scale bs cs e =
+    sym (boxes_nameless scale 0 bs) ∙ ap (λ (ds : List BoxModel). map nameless (boxes_in scale 0 ds)) e ∙ boxes_nameless scale 0 cs

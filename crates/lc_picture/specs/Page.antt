@@ -11,23 +11,18 @@ use Rattle.lc_sheet.specs.declared.table_options.Columns.{Columns}
 use Rattle.lc_sheet.specs.declared.table_options.Format.TheVariants.{Html}
 use Rattle.lc_sheet.specs.declared.table_options.TableOptions.{TableOptions}
 use Rattle.lc_sheet.specs.declared.column.Number.{Number}
-use Rattle.lc_sheet.specs.declared.column.Number.TheVariants.{Files, Lines, Blank, Bytes}
+use Rattle.lc_sheet.specs.declared.column.Number.TheVariants.{Lines}
 use Rattle.lc_walk.specs.declared.report.Report.{Report}
 use Rattle.lc_walk.specs.declared.tally.sums.Sums.{Sums}
+use Rattle.lc_picture.specs.declared.scale.Scale.{Scale}
 use Rattle.lc_picture.specs.Boxes.{BoxModel, boxes_in, drawn_boxes, least_drawn}
 use Rattle.lc_picture.specs.Chart.{chart}
 use Rattle.lc_picture.specs.Head.{head}
-use Rattle.lc_picture.specs.Pieces.{Piece, markup, text_of}
+use Rattle.lc_picture.specs.Pieces.{Piece, markup, text_of, word}
 use Rattle.lc_picture.specs.Style.{page_begin, style, sums_begin}
 use Rattle.lc_level.specs.Level.{FileLineModel}
 
 -- ---- the page of a sheet and of boxes
-
-abbrev pub number_word : Number → List ℕ
-number_word Files = codes "files"
-number_word Lines = codes "lines"
-number_word Blank = codes "blank lines"
-number_word Bytes = codes "bytes"
 
 abbrev pub head_part : SectionModel → List Piece
 head_part totals = markup page_begin ∷ markup style ∷ markup sums_begin ∷ head totals
@@ -35,7 +30,7 @@ head_part totals = markup page_begin ∷ markup style ∷ markup sums_begin ∷ 
 abbrev pub chart_begin : List ℕ
 chart_begin =
     codes "</p>\n<h2>By extension</h2>\n<table>\n<tr><th>extension</th><th>files</th><th>lines</th><th>blank</th><th>bytes</th>"
-    ++ codes "<td></td></tr>\n"
+    ++ codes "<th>share</th><td></td></tr>\n"
 
 abbrev pub chart_part : SheetModel → List Piece
 chart_part s = markup chart_begin ∷ chart s
@@ -48,13 +43,17 @@ boxes_begin =
     codes ", in the colour of the extension that has most of them. Others are the files right in a directory, "
     ++ codes "and directories with less than a thousandth of all. Fold a box to make room for the rest.</p>\n<div class=\"tree\">\n"
 
-abbrev pub tree_part : Number → List BoxModel → List Piece
-tree_part by boxes =
-    markup tree_begin ∷ markup (number_word by) ∷ markup boxes_begin
-    ∷ (boxes_in by 0 boxes ++ markup (codes "</div>\n</body>\n</html>\n") ∷ [])
+abbrev pub tree_part : Scale → List BoxModel → List Piece
+tree_part scale boxes =
+    markup tree_begin ∷ word scale.by ∷ markup boxes_begin
+    ∷ (boxes_in scale 0 boxes ++ markup (codes "</div>\n</body>\n</html>\n") ∷ [])
 
-abbrev pub page_pieces : Number → SheetModel → List BoxModel → List Piece
-page_pieces by s boxes = head_part s.totals ++ (chart_part s ++ tree_part by boxes)
+abbrev pub page_pieces : Scale → SheetModel → List BoxModel → List Piece
+page_pieces scale s boxes = head_part s.totals ++ (chart_part s ++ tree_part scale boxes)
+
+-- what a page is drawn by, of the sums over all files
+abbrev pub scale_of : Number → Sums → Scale
+scale_of by totals = record { by = by; whole = number_in by totals }
 
 -- ---- the page of a report
 
@@ -108,4 +107,4 @@ pub record IsPageOf (by : Number) (r : Report) (text : List ℕ) : Type 0 where
   pub are_extensions : AreShown chart_columns (Some by) r.rows.items r.files.items extensions
   pub boxes : List BoxModel
   pub are_boxes : AreBoxesOf by r.totals r.files.items (chart_view extensions).rows boxes
-  pub is : text ≡ text_of (page_pieces by (sheet_of (chart_options by) r (chart_view extensions)) boxes)
+  pub is : text ≡ text_of (page_pieces (scale_of by r.totals) (sheet_of (chart_options by) r (chart_view extensions)) boxes)

@@ -70,6 +70,7 @@ fn first_number<L: Lines>(number: Number, section: &Section<'_, L>) -> u128
 pub(crate) fn push_head<L: Lines>(
     text: &mut Vec<u8>,
     totals: &Section<'_, L>,
+    made: &mut String,
 ) -> Result<(), AllocError>
     ensures { OnOk result (text.new.items ≡ text.old.items ++ text_of (head totals.now)) }
 {
@@ -79,5 +80,6 @@ pub(crate) fn push_head<L: Lines>(
         first_number(Number::Files, totals),
         first_number(Number::Blank, totals),
         first_number(Number::Bytes, totals),
+        made,
     )
 }

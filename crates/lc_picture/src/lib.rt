@@ -4,7 +4,7 @@
 //! - `boxes`, `directory_box`: the boxes of the directories, each inside that of the directory that holds it
 //! - `colours`: the colours of extensions and of directories
 //! - `head`: the numbers of all files; `chart`, `cells`: the bar chart, and the cells of its lines, both of a sheet
-//! - `sums`: numbers, each with its word
+//! - `sums`, `percents`: numbers, each with its word, and shares; `scale`: what a picture is drawn by
 //! - `report_page`: the page of a report
 //! - `laws`: what is true of the definitions that the contracts cite
 #![tactic(auto)]
@@ -17,7 +17,9 @@ mod directory_box;
 mod escaping;
 mod head;
 mod laws;
+mod percents;
 mod report_page;
+mod scale;
 mod style;
 mod sums;
 

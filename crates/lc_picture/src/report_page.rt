@@ -3,16 +3,16 @@
 ghost use Rattle.std.specs.Prelude.{◌≡◌, ◌++◌, IfOk, OnOk, Some};
 ghost use Rattle.lc_rows.specs.Views.{first_of};
 ghost use Rattle.lc_picture.specs.Page.{AreBoxesOf, IsPageOf, chart_options, chart_part, chart_rows, drawn_number, head_part};
-ghost use Rattle.lc_picture.specs.Page.{page_pieces, tree_part};
+ghost use Rattle.lc_picture.specs.Page.{page_pieces, scale_of, tree_part};
 ghost use Rattle.lc_picture.specs.Pieces.{text_of};
 
 use crate::boxes::push_boxes;
 use crate::chart::push_chart;
 use crate::directory_box::{DirectoryBox, drawn_boxes, least_drawn};
 use crate::head::push_head;
-use crate::style::{
-    boxes_begin, chart_begin, number_word, page_begin, style, sums_begin, tree_begin,
-};
+use crate::scale::Scale;
+use crate::style::{boxes_begin, chart_begin, page_begin, style, sums_begin, tree_begin};
+use crate::sums::number_word;
 use lc_rows::{Shown, ShownRow, number_in, shown_rows, tree_rows};
 use lc_sheet::{Columns, Format, Lines, Number, Section, Sheet, TableOptions};
 use lc_walk::{FileLine, Report, Sums};
@@ -46,13 +46,17 @@ const KIND_COLUMNS: Columns = Columns {
     ..TREE_COLUMNS
 };
 
-fn push_head_part<L: Lines>(text: &mut Vec<u8>, totals: &Section<'_, L>) -> Result<(), AllocError>
+fn push_head_part<L: Lines>(
+    text: &mut Vec<u8>,
+    totals: &Section<'_, L>,
+    made: &mut String,
+) -> Result<(), AllocError>
     ensures { OnOk result (text.new.items ≡ text.old.items ++ text_of (head_part totals.now)) }
 {
     text.extend_from_slice(page_begin())?;
     text.extend_from_slice(style())?;
     text.extend_from_slice(sums_begin())?;
-    push_head(text, totals)?;
+    push_head(text, totals, made)?;
     Ok(())
 }
 
@@ -70,34 +74,44 @@ fn push_chart_part<R: Lines, T: Lines, F: Lines, S: Lines, E: Lines>(
 
 fn push_tree_part(
     text: &mut Vec<u8>,
-    by: Number,
+    scale: Scale,
     boxes: &[DirectoryBox<'_>],
     made: &mut String,
 ) -> Result<(), AllocError>
-    ensures { OnOk result (text.new.items ≡ text.old.items ++ text_of (tree_part by boxes.now)) }
+    ensures { OnOk result (text.new.items ≡ text.old.items ++ text_of (tree_part scale boxes.now)) }
 {
     text.extend_from_slice(tree_begin())?;
-    text.extend_from_slice(number_word(by))?;
+    text.extend_from_slice(number_word(scale.by))?;
     text.extend_from_slice(boxes_begin())?;
-    push_boxes(text, by, boxes, made)?;
+    push_boxes(text, scale, boxes, made)?;
     text.extend_from_slice(b"</div>\n</body>\n</html>\n")?;
     Ok(())
 }
 
 fn page_text<R: Lines, T: Lines, F: Lines, S: Lines, E: Lines>(
     alloc: Global,
-    by: Number,
+    scale: Scale,
     sheet: &Sheet<'_, R, T, F, S, E>,
     boxes: &[DirectoryBox<'_>],
 ) -> Result<Vec<u8>, AllocError>
-    ensures { IfOk result (λ text. text.items ≡ text_of (page_pieces by sheet.now boxes.now)) }
+    ensures { IfOk result (λ text. text.items ≡ text_of (page_pieces scale sheet.now boxes.now)) }
 {
     let mut text = Vec::new(alloc);
     let mut made = String::new(alloc);
-    push_head_part(&mut text, &sheet.totals)?;
+    push_head_part(&mut text, &sheet.totals, &mut made)?;
     push_chart_part(&mut text, sheet, &mut made)?;
-    push_tree_part(&mut text, by, boxes, &mut made)?;
+    push_tree_part(&mut text, scale, boxes, &mut made)?;
     Ok(text)
+}
+
+/// Returns what a page is drawn by, of the sums over all files.
+fn scale_of(by: Number, totals: Sums) -> Scale
+    ensures { result ≡ scale_of by totals }
+{
+    Scale {
+        by,
+        whole: number_in(by, totals),
+    }
 }
 
 /// Returns the options of the sheet of a page.
@@ -145,7 +159,7 @@ fn page_by(alloc: Global, report: &Report, by: Number) -> Result<Vec<u8>, AllocE
     let chart = first_rows(&extensions);
     let boxes = boxes_of(alloc, by, report.totals, &report.files, chart)?;
     let shown = Shown::with_rows(alloc, report, &chart_options(by), extensions)?;
-    let text = page_text(alloc, by, &shown.sheet(), &boxes)?;
+    let text = page_text(alloc, scale_of(by, report.totals), &shown.sheet(), &boxes)?;
     Ok(text)
 }
 

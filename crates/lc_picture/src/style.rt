@@ -1,10 +1,8 @@
 //! The fixed parts of a page.
 
 ghost use Rattle.std.specs.Prelude.{◌≡◌};
-ghost use Rattle.lc_picture.specs.Page.{boxes_begin, chart_begin, number_word, tree_begin};
+ghost use Rattle.lc_picture.specs.Page.{boxes_begin, chart_begin, tree_begin};
 ghost use Rattle.lc_picture.specs.Style.{page_begin, style, sums_begin};
-
-use lc_sheet::Number;
 
 /// The begin of a page, up to its style.
 pub(crate) fn page_begin() -> &'static [u8]
@@ -60,7 +58,7 @@ pub(crate) fn chart_begin() -> &'static [u8]
     ensures { result.now ≡ chart_begin }
 {
     b"</p>\n<h2>By extension</h2>\n<table>\n<tr><th>extension</th><th>files</th><th>lines</th><th>blank</th><th>bytes</th>\
-      <td></td></tr>\n"
+      <th>share</th><td></td></tr>\n"
 }
 
 /// What is between the chart and the name of the number that the boxes are drawn by.
@@ -68,18 +66,6 @@ pub(crate) fn tree_begin() -> &'static [u8]
     ensures { result.now ≡ tree_begin }
 {
     b"</table>\n<h2>By directory</h2>\n<p>Each box is as tall as its share of the "
-}
-
-/// The name of a number.
-pub(crate) fn number_word(by: Number) -> &'static [u8]
-    ensures { result.now ≡ number_word by }
-{
-    match by {
-        Number::Files => b"files",
-        Number::Lines => b"lines",
-        Number::Blank => b"blank lines",
-        Number::Bytes => b"bytes",
-    }
 }
 
 /// What is between that name and the boxes.

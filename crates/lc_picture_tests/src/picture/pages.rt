@@ -51,23 +51,32 @@ const CASES: &[Case] = &[
         ],
         parts: [
             b"lines 18, files 5, blank 5, bytes 109",
-            b"<tr class=\"e0\"><th>.c</th><td>3</td><td>13</td><td>4</td><td>85</td><td><div class=\"bar\">\
-                <i style=\"--n:13\"></i><u style=\"--n:0\"></u></div></td></tr>\n\
-                <tr class=\"e1\"><th>-</th><td>1</td><td>4</td><td>1</td><td>9</td><td><div class=\"bar\">\
-                <i style=\"--n:4\"></i><u style=\"--n:9\"></u></div></td></tr>\n\
-                <tr class=\"e2\"><th>.h</th><td>1</td><td>1</td><td>0</td><td>15</td><td><div class=\"bar\">\
-                <i style=\"--n:1\"></i><u style=\"--n:12\"></u></div></td></tr>\n",
+            b"<tr class=\"e0\"><th>.c</th><td>3</td><td>13</td><td>4</td>\
+                <td>85</td><td>72.2%</td><td><div class=\"bar\"><i style=\"--n:13\">\
+                </i><u style=\"--n:0\"></u></div></td></tr>\n\
+                <tr class=\"e1\"><th>-</th><td>1</td><td>4</td><td>1</td>\
+                <td>9</td><td>22.2%</td><td><div class=\"bar\"><i style=\"--n:4\">\
+                </i><u style=\"--n:9\"></u></div></td></tr>\n\
+                <tr class=\"e2\"><th>.h</th><td>1</td><td>1</td><td>0</td>\
+                <td>15</td><td>5.6%</td><td><div class=\"bar\"><i style=\"--n:1\">\
+                </i><u style=\"--n:12\"></u></div></td></tr>\n",
             b"lines",
-            b"<details open class=\"e0\" style=\"--n:18\"><summary><b>.</b> lines 18, files 5, blank 5, bytes 109\
-                </summary><div><i style=\"--n:4\"></i><details open class=\"e0\" style=\"--n:11\"><summary><b>src\
-                </b> lines 11, files 3, blank 3, bytes 85</summary><div><i style=\"--n:7\"></i>\
-                <details open class=\"e0\" style=\"--n:4\"><summary><b>view</b> lines 4, files 2, blank 3, bytes 35\
-                </summary><div><i style=\"--n:3\"></i><details open class=\"e2\" style=\"--n:1\"><summary><b>old\
-                </b> lines 1, files 1, blank 0, bytes 15</summary><div><i style=\"--n:1\"></i></div></details>\n\
+            b"<details open class=\"e0\" style=\"--n:18\"><summary title=\".: lines 18, files 5, blank 5, bytes 109, 100.0% \
+                of all lines\"><b>.</b> <span>lines 18 (100.0%)</span></summary>\
+                <div><i style=\"--n:4\"></i><details open class=\"e0\" style=\"--n:11\">\
+                <summary title=\"src: lines 11, files 3, blank 3, bytes 85, 61.1% of all lines\">\
+                <b>src</b> <span>lines 11 (61.1%)</span></summary><div><i style=\"--n:7\">\
+                </i><details open class=\"e0\" style=\"--n:4\"><summary title=\"src/view: lines 4, files 2, blank 3, bytes \
+                35, 22.2% of all lines\"><b>view</b> <span>lines 4 (22.2%)\
+                </span></summary><div><i style=\"--n:3\"></i><details open class=\"e2\" style=\"--n:1\">\
+                <summary title=\"src/view/old: lines 1, files 1, blank 0, bytes 15, 5.6% of all lines\">\
+                <b>old</b> <span>lines 1 (5.6%)</span></summary><div><i style=\"--n:1\">\
+                </i></div></details>\n\
                 </div></details>\n\
                 </div></details>\n\
-                <details open class=\"e0\" style=\"--n:3\"><summary><b>src-old</b> lines 3, files 1, blank 1, bytes 15\
-                </summary><div><i style=\"--n:3\"></i></div></details>\n\
+                <details open class=\"e0\" style=\"--n:3\"><summary title=\"src-old: lines 3, files 1, blank 1, bytes 15, \
+                16.7% of all lines\"><b>src-old</b> <span>lines 3 (16.7%)\
+                </span></summary><div><i style=\"--n:3\"></i></div></details>\n\
                 </div></details>\n",
         ],
     },
@@ -88,25 +97,77 @@ const CASES: &[Case] = &[
             (b"\xff/\xe2\x80\xae/y", [2, 0, 1_995]),
         ],
         parts: [
-            b"lines 8, files 4, blank 0, bytes 3000",
-            b"<tr class=\"e0\"><th>-</th><td>1</td><td>2</td><td>0</td><td>1995</td><td><div class=\"bar\">\
-                <i style=\"--n:1995\"></i><u style=\"--n:0\"></u></div></td></tr>\n\
-                <tr class=\"e1\"><th>.&#60;i&#62;</th><td>1</td><td>1</td><td>0</td><td>1000</td><td><div class=\"bar\">\
-                <i style=\"--n:1000\"></i><u style=\"--n:995\"></u></div></td></tr>\n\
-                <tr class=\"e2\"><th>.h</th><td>2</td><td>5</td><td>0</td><td>5</td><td><div class=\"bar\">\
-                <i style=\"--n:5\"></i><u style=\"--n:1990\"></u></div></td></tr>\n",
+            b"lines 8, files 4, blank 0, bytes 3,000",
+            b"<tr class=\"e0\"><th>-</th><td>1</td><td>2</td><td>0</td>\
+                <td>1,995</td><td>66.5%</td><td><div class=\"bar\"><i style=\"--n:1995\">\
+                </i><u style=\"--n:0\"></u></div></td></tr>\n\
+                <tr class=\"e1\"><th>.&#60;i&#62;</th><td>1</td><td>1</td>\
+                <td>0</td><td>1,000</td><td>33.3%</td><td><div class=\"bar\">\
+                <i style=\"--n:1000\"></i><u style=\"--n:995\"></u></div>\
+                </td></tr>\n\
+                <tr class=\"e2\"><th>.h</th><td>2</td><td>5</td><td>0</td>\
+                <td>5</td><td>0.2%</td><td><div class=\"bar\"><i style=\"--n:5\">\
+                </i><u style=\"--n:1990\"></u></div></td></tr>\n",
             b"bytes",
-            b"<details open class=\"e0\" style=\"--n:3000\"><summary><b>.</b> lines 8, files 4, blank 0, bytes 3000\
-                </summary><div><i style=\"--n:2\"></i><details open class=\"e1\" style=\"--n:1000\"><summary>\
-                <b>&#60;b&#62;&#38;amp;&#34;&#39;</b> lines 1, files 1, blank 0, bytes 1000</summary><div>\
-                <i style=\"--n:1000\"></i></div></details>\n\
-                <details open class=\"e2\" style=\"--n:3\"><summary><b>deep</b> lines 0, files 1, blank 0, bytes 3\
-                </summary><div><i style=\"--n:3\"></i></div></details>\n\
-                <details open class=\"e0\" style=\"--n:1995\"><summary><b>\\xff</b> lines 2, files 1, blank 0, bytes 1995\
-                </summary><div><i style=\"--n:0\"></i><details open class=\"e0\" style=\"--n:1995\"><summary>\
-                <b>\\xe2\\x80\\xae</b> lines 2, files 1, blank 0, bytes 1995</summary><div><i style=\"--n:1995\"></i>\
+            b"<details open class=\"e0\" style=\"--n:3000\"><summary title=\".: lines 8, files 4, blank 0, bytes 3,000, \
+                100.0% of all bytes\"><b>.</b> <span>bytes 3,000 (100.0%)\
+                </span></summary><div><i style=\"--n:2\"></i><details open class=\"e1\" style=\"--n:1000\">\
+                <summary title=\"&#60;b&#62;&#38;amp;&#34;&#39;: lines 1, files 1, blank 0, bytes 1,000, 33.3% of all bytes\">\
+                <b>&#60;b&#62;&#38;amp;&#34;&#39;</b> <span>bytes 1,000 (33.3%)\
+                </span></summary><div><i style=\"--n:1000\"></i></div></details>\n\
+                <details open class=\"e2\" style=\"--n:3\"><summary title=\"deep: lines 0, files 1, blank 0, bytes 3, 0.1% \
+                of all bytes\"><b>deep</b> <span>bytes 3 (0.1%)</span></summary>\
+                <div><i style=\"--n:3\"></i></div></details>\n\
+                <details open class=\"e0\" style=\"--n:1995\"><summary title=\"\\xff: lines 2, files 1, blank 0, bytes 1,995, \
+                66.5% of all bytes\"><b>\\xff</b> <span>bytes 1,995 (66.5%)\
+                </span></summary><div><i style=\"--n:0\"></i><details open class=\"e0\" style=\"--n:1995\">\
+                <summary title=\"\\xff/\\xe2\\x80\\xae: lines 2, files 1, blank 0, bytes 1,995, 66.5% of all bytes\">\
+                <b>\\xe2\\x80\\xae</b> <span>bytes 1,995 (66.5%)</span></summary>\
+                <div><i style=\"--n:1995\"></i></div></details>\n\
                 </div></details>\n\
+                </div></details>\n",
+        ],
+    },
+    Case {
+        name: "directories_that_were_named",
+        sort: None,
+        rows: &[(Some(b"c"), [3, 6, 0, 9]), (Some(b"h"), [2, 9, 0, 11])],
+        totals: [5, 15, 0, 20],
+        files: &[
+            (b"../lib/a.c", [1, 0, 2]),
+            (b"./src/m.c", [2, 0, 3]),
+            (b"/usr/include/x.h", [4, 0, 5]),
+            (b"/x.h", [5, 0, 6]),
+            (b"x.c", [3, 0, 4]),
+        ],
+        parts: [
+            b"lines 15, files 5, blank 0, bytes 20",
+            b"<tr class=\"e0\"><th>.h</th><td>2</td><td>9</td><td>0</td>\
+                <td>11</td><td>60.0%</td><td><div class=\"bar\"><i style=\"--n:9\">\
+                </i><u style=\"--n:0\"></u></div></td></tr>\n\
+                <tr class=\"e1\"><th>.c</th><td>3</td><td>6</td><td>0</td>\
+                <td>9</td><td>40.0%</td><td><div class=\"bar\"><i style=\"--n:6\">\
+                </i><u style=\"--n:3\"></u></div></td></tr>\n",
+            b"lines",
+            b"<details open class=\"e0\" style=\"--n:15\"><summary title=\".: lines 15, files 5, blank 0, bytes 20, 100.0% \
+                of all lines\"><b>.</b> <span>lines 15 (100.0%)</span></summary>\
+                <div><i style=\"--n:3\"></i><details open class=\"e0\" style=\"--n:5\">\
+                <summary title=\"/: lines 5, files 1, blank 0, bytes 6, 33.3% of all lines\">\
+                <b>/</b> <span>lines 5 (33.3%)</span></summary><div><i style=\"--n:5\">\
+                </i></div></details>\n\
+                <details open class=\"e0\" style=\"--n:4\"><summary title=\"/usr: lines 4, files 1, blank 0, bytes 5, 26.7% \
+                of all lines\"><b>/usr</b> <span>lines 4 (26.7%)</span></summary>\
+                <div><i style=\"--n:0\"></i><details open class=\"e0\" style=\"--n:4\">\
+                <summary title=\"/usr/include: lines 4, files 1, blank 0, bytes 5, 26.7% of all lines\">\
+                <b>include</b> <span>lines 4 (26.7%)</span></summary><div>\
+                <i style=\"--n:4\"></i></div></details>\n\
                 </div></details>\n\
+                <details open class=\"e1\" style=\"--n:2\"><summary title=\"./src: lines 2, files 1, blank 0, bytes 3, 13.3% \
+                of all lines\"><b>./src</b> <span>lines 2 (13.3%)</span>\
+                </summary><div><i style=\"--n:2\"></i></div></details>\n\
+                <details open class=\"e1\" style=\"--n:1\"><summary title=\"../lib: lines 1, files 1, blank 0, bytes 2, \
+                6.7% of all lines\"><b>../lib</b> <span>lines 1 (6.7%)</span>\
+                </summary><div><i style=\"--n:1\"></i></div></details>\n\
                 </div></details>\n",
         ],
     },
@@ -141,7 +202,7 @@ const MANY: &[Row] = &[
 const BETWEEN: [&[u8]; 5] = [
     b"</style>\n</head>\n<body>\n<h1>Lines by directory</h1>\n<p>",
     b"</p>\n<h2>By extension</h2>\n<table>\n\
-      <tr><th>extension</th><th>files</th><th>lines</th><th>blank</th><th>bytes</th><td></td></tr>\n",
+      <tr><th>extension</th><th>files</th><th>lines</th><th>blank</th><th>bytes</th><th>share</th><td></td></tr>\n",
     b"</table>\n<h2>By directory</h2>\n<p>Each box is as tall as its share of the ",
     b", in the colour of the extension that has most of them. \
       Others are the files right in a directory, and directories with less than a thousandth of all. \
@@ -261,9 +322,9 @@ fn a_page_is_one_whole_document(rt: HostRuntime) -> Result<(), Fail> {
 fn extensions_that_the_chart_has_no_place_for(rt: HostRuntime) -> Result<(), Fail> {
     let report = report_of(rt.alloc(), MANY, [22, 649, 231, 462], &[])?;
     let mut end =
-        b"<tr class=\"e8\"><th>.t</th><td>1</td><td>21</td><td>19</td><td>38</td><td><div class=\"bar\">\
+        b"<tr class=\"e8\"><th>.t</th><td>1</td><td>21</td><td>19</td><td>38</td><td>3.2%</td><td><div class=\"bar\">\
           <i style=\"--n:21\"></i><u style=\"--n:19\"></u></div></td></tr>\n\
-          <tr><th>others</th><td>2</td><td>39</td><td>41</td><td>82</td><td></td></tr>\n"
+          <tr><th>others</th><td>2</td><td>39</td><td>41</td><td>82</td><td>6.0%</td><td></td></tr>\n"
             .to_vec(rt.alloc())?;
     end.extend_from_slice(BETWEEN[2])?;
     end.extend_from_slice(b"lines")?;

@@ -11,10 +11,10 @@ returns g c =
     let t1 = c.push_head_part.new.text.items in
     let t2 = c.push_chart_part.new.text.items in
     let t3 = c.push_tree_part.new.text.items in
-    let by = c.args.by in
+    let scale = c.args.scale in
     let sheet = c.args.sheet.now in
     let boxes = c.args.boxes.now in
-    two_texts t0 t1 t3 (head_part sheet.totals) (chart_part sheet ++ tree_part by boxes)
+    two_texts t0 t1 t3 (head_part sheet.totals) (chart_part sheet ++ tree_part scale boxes)
     (c.in_ok-push_head_part.ensures ∙ ap (λ (s : SheetModel). t0 ++ text_of (head_part s.totals)) c.sheet.view_is)
-    (two_texts t1 t2 t3 (chart_part sheet) (tree_part by boxes) c.in_ok-push_chart_part.ensures c.in_ok-push_tree_part.ensures)
-    ∙ ap (λ (t : List ℕ). t ++ text_of (page_pieces by sheet boxes)) c.new-text.ensures.items
+    (two_texts t1 t2 t3 (chart_part sheet) (tree_part scale boxes) c.in_ok-push_chart_part.ensures c.in_ok-push_tree_part.ensures)
+    ∙ ap (λ (t : List ℕ). t ++ text_of (page_pieces scale sheet boxes)) c.new-text.ensures.items
