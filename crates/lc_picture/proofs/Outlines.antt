@@ -78,8 +78,8 @@ chart_shows s =
     ∙ ap₂ (λ (ps qs : List Piece). ps ++ qs) (coloured_show 0 s.rows.lines) (plain_show s.others.lines)
 
 pub shown_law : ShownLaw
-shown_law scale s boxes =
-    ap (λ (ps : List Piece). shown_of_head s.totals ++ ps)
+shown_law counted scale s boxes =
+    ap (λ (ps : List Piece). shown_of_head counted s.totals ++ ps)
     (filter-append is_shown (chart_part s) (tree_part scale boxes)
     ∙ ap₂ (λ (ps qs : List Piece). ps ++ qs) (chart_shows s) (tree_shows scale boxes))
 

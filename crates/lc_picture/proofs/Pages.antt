@@ -19,13 +19,13 @@ use Rattle.lc_level.specs.Level.{FileLineModel}
 abbrev pub sheet_with : TableOptions → Report → List ShownRowModel → SheetModel
 sheet_with options r rows = sheet_of options r (view_of options.top rows (listed_files options.files r.files.items))
 
-pub page_is : (by : Number) (r : Report) (text : List ℕ) (rs : List TallyRowModel) (fs gs : List FileLineModel)
+pub page_is : (counted : List ℕ) (by : Number) (r : Report) (text : List ℕ) (rs : List TallyRowModel) (fs gs : List FileLineModel)
     (extensions es chart : List ShownRowModel) (boxes bs : List BoxModel) (options : TableOptions) (s : SheetModel) (scale : Scale)
     → rs ≡ r.rows.items → fs ≡ r.files.items → gs ≡ r.files.items → es ≡ extensions → bs ≡ boxes
     → AreShown chart_columns (Some by) rs fs extensions → chart ≡ first_of (Some chart_rows) es → AreBoxesOf by r.totals gs chart boxes
     → options ≡ chart_options by → s ≡ sheet_with options r extensions → scale ≡ scale_of by r.totals
-    → text ≡ text_of (page_pieces scale s bs) → IsPageOf by r text
-page_is by r text rs fs gs extensions es chart boxes bs options s scale own_rows own_files same_files same_extensions same_boxes shown first drawn
+    → text ≡ text_of (page_pieces counted scale s bs) → IsPageOf counted by r text
+page_is counted by r text rs fs gs extensions es chart boxes bs options s scale own_rows own_files same_files same_extensions same_boxes shown first drawn
     asked sheet scaled is =
     record {
       extensions = extensions;
@@ -38,7 +38,7 @@ page_is by r text rs fs gs extensions es chart boxes bs options s scale own_rows
           (first ∙ ap (first_of (Some chart_rows)) same_extensions)
           (subst (λ (files : List FileLineModel). AreBoxesOf by r.totals files chart boxes) same_files drawn);
       is =
-          is ∙ ap (λ (q : Scale). text_of (page_pieces q s bs)) scaled
-          ∙ ap₂ (λ (t : SheetModel) (ds : List BoxModel). text_of (page_pieces (scale_of by r.totals) t ds))
+          is ∙ ap (λ (q : Scale). text_of (page_pieces counted q s bs)) scaled
+          ∙ ap₂ (λ (t : SheetModel) (ds : List BoxModel). text_of (page_pieces counted (scale_of by r.totals) t ds))
           (sheet ∙ ap (λ (o : TableOptions). sheet_with o r extensions) asked) same_boxes;
     }

@@ -62,10 +62,11 @@ is_shown (name t) = true
 abbrev pub counts : Sums → List Piece
 counts s = count s.lines ∷ count s.files ∷ count s.blank ∷ count s.bytes ∷ []
 
-abbrev pub shown_of_head : SectionModel → List Piece
-shown_of_head totals =
-    count (first_number Lines totals) ∷ count (first_number Files totals) ∷ count (first_number Blank totals)
-    ∷ count (first_number Bytes totals) ∷ []
+-- what was counted, in the title and on the page, and the numbers of the totals
+abbrev pub shown_of_head : List ℕ → SectionModel → List Piece
+shown_of_head counted totals =
+    title (visible_path counted) ∷ name (visible_path counted) ∷ count (first_number Files totals) ∷ count (first_number Lines totals)
+    ∷ count (first_number Blank totals) ∷ count (first_number Bytes totals) ∷ []
 
 -- the text of a value, or its number. Bars are numbers in tags
 abbrev pub shown_of_value : ValueModel → List Piece
@@ -92,13 +93,13 @@ shown_of_box scale b =
     title (visible_path b.path) ∷ (counts b.sums ++ share_in scale b.sums ∷ name (visible_path b.directory)
     ∷ count (number_in scale.by b.sums) ∷ share_in scale b.sums ∷ [])
 
--- a page shows the numbers of all files, the names and the numbers of the rows of its sheet and of the sums over the others, and the
+-- a page shows what was counted, the numbers of all files, the names and the numbers of the rows of its sheet and of the sums over the others, and the
 -- directories that are drawn with their sums and shares: each once, in turn, and nothing else
 abbrev pub ShownLaw : Type 0
 ShownLaw =
-    (scale : Scale) (s : SheetModel) (boxes : List BoxModel)
-    → filter is_shown (page_pieces scale s boxes)
-    ≡ shown_of_head s.totals ++ ((flat_map shown_of_line s.rows.lines ++ flat_map shown_of_line s.others.lines)
+    (counted : List ℕ) (scale : Scale) (s : SheetModel) (boxes : List BoxModel)
+    → filter is_shown (page_pieces counted scale s boxes)
+    ≡ shown_of_head counted s.totals ++ ((flat_map shown_of_line s.rows.lines ++ flat_map shown_of_line s.others.lines)
     ++ flat_map (shown_of_box scale) boxes)
 
 -- a dot and the bytes, as a terminal shows them, or `-` for none
@@ -122,13 +123,13 @@ abbrev pub shown_of_others : Scale → Option Sums → List Piece
 shown_of_others scale None = []
 shown_of_others scale (Some s) = name (codes "others") ∷ row_counts scale s
 
--- so the page of a report shows the sums over all files, each extension of the chart with its sums and its share, and the sums over the
--- others
+-- so the page of a report shows what was counted, the sums over all files, each extension of the chart with its sums and its
+-- share, and the sums over the others
 abbrev pub ReportLaw : Type 0
 ReportLaw =
-    (by : Number) (r : Report) (v : ViewModel) (boxes : List BoxModel)
-    → filter is_shown (page_pieces (scale_of by r.totals) (sheet_of (chart_options by) r v) boxes)
-    ≡ counts r.totals ++ ((flat_map (shown_of_row (scale_of by r.totals)) v.rows ++ shown_of_others (scale_of by r.totals) v.others)
+    (counted : List ℕ) (by : Number) (r : Report) (v : ViewModel) (boxes : List BoxModel)
+    → filter is_shown (page_pieces counted (scale_of by r.totals) (sheet_of (chart_options by) r v) boxes)
+    ≡ (title (visible_path counted) ∷ name (visible_path counted) ∷ cell_counts r.totals) ++ ((flat_map (shown_of_row (scale_of by r.totals)) v.rows ++ shown_of_others (scale_of by r.totals) v.others)
     ++ flat_map (shown_of_box (scale_of by r.totals)) boxes)
 
 -- each row of the chart has the colour of its extension, by which the directories are coloured too

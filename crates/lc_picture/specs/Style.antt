@@ -6,7 +6,13 @@ unfoldable pub style : List ℕ
 style =
     codes ":root{color-scheme:light dark}\n"
     ++ codes "body{margin:1rem;font:.875rem/1.35 system-ui,sans-serif}\n"
-    ++ codes "h1,h2{font-size:1.1rem}\n"
+    ++ codes "h1{margin:0;font-size:1.6rem;overflow-wrap:anywhere}\n"
+    ++ codes "h2{font-size:1.1rem}\n"
+    ++ codes ".by{margin:0}\n"
+    ++ codes ".by::first-letter{text-transform:uppercase}\n"
+    ++ codes "dl{display:flex;flex-wrap:wrap;gap:.5rem 2.5rem;margin:1rem 0}\n"
+    ++ codes "dl div{display:flex;flex-direction:column-reverse}\n"
+    ++ codes "dd{margin:0;font-size:2rem;line-height:1.1;font-variant-numeric:tabular-nums}\n"
     ++ codes "table{border-collapse:collapse;font-variant-numeric:tabular-nums}\n"
     ++ codes "th,td{padding:0 .6rem;text-align:right}\n"
     ++ codes "tr>:first-child{text-align:left}\n"
@@ -35,7 +41,12 @@ style =
 abbrev pub page_begin : List ℕ
 page_begin =
     codes "<!DOCTYPE html>\n<html lang=\"en\">\n<head>\n<meta charset=\"utf-8\">\n"
-    ++ codes "<meta name=\"viewport\" content=\"width=device-width\">\n<title>Lines by directory</title>\n<style>\n"
+    ++ codes "<meta name=\"viewport\" content=\"width=device-width\">\n<title>"
 
-abbrev pub sums_begin : List ℕ
-sums_begin = codes "</style>\n</head>\n<body>\n<h1>Lines by directory</h1>\n<p>"
+-- what is between the title and the style
+abbrev pub style_begin : List ℕ
+style_begin = codes " by directory</title>\n<style>\n"
+
+-- and between the style and the name of what was counted
+abbrev pub body_begin : List ℕ
+body_begin = codes "</style>\n</head>\n<body>\n<h1>"

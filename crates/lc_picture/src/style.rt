@@ -2,14 +2,14 @@
 
 ghost use Rattle.std.specs.Prelude.{◌≡◌};
 ghost use Rattle.lc_picture.specs.Page.{boxes_begin, chart_begin, tree_begin};
-ghost use Rattle.lc_picture.specs.Style.{page_begin, style, sums_begin};
+ghost use Rattle.lc_picture.specs.Style.{body_begin, page_begin, style, style_begin};
 
-/// The begin of a page, up to its style.
+/// The begin of a page, up to its title.
 pub(crate) fn page_begin() -> &'static [u8]
     ensures { result.now ≡ page_begin }
 {
     b"<!DOCTYPE html>\n<html lang=\"en\">\n<head>\n<meta charset=\"utf-8\">\n\
-      <meta name=\"viewport\" content=\"width=device-width\">\n<title>Lines by directory</title>\n<style>\n"
+      <meta name=\"viewport\" content=\"width=device-width\">\n<title>"
 }
 
 /// How the parts of a page look: a box beside its parent, and space by shares.
@@ -19,7 +19,13 @@ pub(crate) fn style() -> &'static [u8]
 {
     b":root{color-scheme:light dark}\n\
       body{margin:1rem;font:.875rem/1.35 system-ui,sans-serif}\n\
-      h1,h2{font-size:1.1rem}\n\
+      h1{margin:0;font-size:1.6rem;overflow-wrap:anywhere}\n\
+      h2{font-size:1.1rem}\n\
+      .by{margin:0}\n\
+      .by::first-letter{text-transform:uppercase}\n\
+      dl{display:flex;flex-wrap:wrap;gap:.5rem 2.5rem;margin:1rem 0}\n\
+      dl div{display:flex;flex-direction:column-reverse}\n\
+      dd{margin:0;font-size:2rem;line-height:1.1;font-variant-numeric:tabular-nums}\n\
       table{border-collapse:collapse;font-variant-numeric:tabular-nums}\n\
       th,td{padding:0 .6rem;text-align:right}\n\
       tr>:first-child{text-align:left}\n\
@@ -46,18 +52,25 @@ pub(crate) fn style() -> &'static [u8]
       @media print{.tree{height:24cm;overflow:hidden;break-inside:avoid;font-size:7pt}}\n"
 }
 
-/// What is between the style and the sums.
-pub(crate) fn sums_begin() -> &'static [u8]
-    ensures { result.now ≡ sums_begin }
+/// What is between the title and the style.
+pub(crate) fn style_begin() -> &'static [u8]
+    ensures { result.now ≡ style_begin }
 {
-    b"</style>\n</head>\n<body>\n<h1>Lines by directory</h1>\n<p>"
+    b" by directory</title>\n<style>\n"
 }
 
-/// What is between the sums and the rows of the chart.
+/// What is between the style and the name of what was counted.
+pub(crate) fn body_begin() -> &'static [u8]
+    ensures { result.now ≡ body_begin }
+{
+    b"</style>\n</head>\n<body>\n<h1>"
+}
+
+/// What is between the figures and the rows of the chart.
 pub(crate) fn chart_begin() -> &'static [u8]
     ensures { result.now ≡ chart_begin }
 {
-    b"</p>\n<h2>By extension</h2>\n<table>\n<tr><th>extension</th><th>files</th><th>lines</th><th>blank</th><th>bytes</th>\
+    b"</dl>\n<h2>By extension</h2>\n<table>\n<tr><th>extension</th><th>files</th><th>lines</th><th>blank</th><th>bytes</th>\
       <th>share</th><td></td></tr>\n"
 }
 

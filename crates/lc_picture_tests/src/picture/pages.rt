@@ -31,7 +31,15 @@ const CASES: &[Case] = &[
         rows: &[],
         totals: [0, 0, 0, 0],
         files: &[],
-        parts: [b"lines 0, files 0, blank 0, bytes 0", b"", b"lines", b""],
+        parts: [
+            b"<div><dt>files</dt><dd>0</dd></div>\n\
+                <div><dt>lines</dt><dd>0</dd></div>\n\
+                <div><dt>blank lines</dt><dd>0</dd></div>\n\
+                <div><dt>bytes</dt><dd>0</dd></div>\n",
+            b"",
+            b"lines",
+            b"",
+        ],
     },
     Case {
         name: "directories_in_directories",
@@ -50,7 +58,10 @@ const CASES: &[Case] = &[
             (b"src/view/rows.c", [3, 3, 20]),
         ],
         parts: [
-            b"lines 18, files 5, blank 5, bytes 109",
+            b"<div><dt>files</dt><dd>5</dd></div>\n\
+                <div><dt>lines</dt><dd>18</dd></div>\n\
+                <div><dt>blank lines</dt><dd>5</dd></div>\n\
+                <div><dt>bytes</dt><dd>109</dd></div>\n",
             b"<tr class=\"e0\"><th>.c</th><td>3</td><td>13</td><td>4</td>\
                 <td>85</td><td>72.2%</td><td><div class=\"bar\"><i style=\"--n:13\">\
                 </i><u style=\"--n:0\"></u></div></td></tr>\n\
@@ -97,7 +108,10 @@ const CASES: &[Case] = &[
             (b"\xff/\xe2\x80\xae/y", [2, 0, 1_995]),
         ],
         parts: [
-            b"lines 8, files 4, blank 0, bytes 3,000",
+            b"<div><dt>files</dt><dd>4</dd></div>\n\
+                <div><dt>lines</dt><dd>8</dd></div>\n\
+                <div><dt>blank lines</dt><dd>0</dd></div>\n\
+                <div><dt>bytes</dt><dd>3,000</dd></div>\n",
             b"<tr class=\"e0\"><th>-</th><td>1</td><td>2</td><td>0</td>\
                 <td>1,995</td><td>66.5%</td><td><div class=\"bar\"><i style=\"--n:1995\">\
                 </i><u style=\"--n:0\"></u></div></td></tr>\n\
@@ -141,7 +155,10 @@ const CASES: &[Case] = &[
             (b"x.c", [3, 0, 4]),
         ],
         parts: [
-            b"lines 15, files 5, blank 0, bytes 20",
+            b"<div><dt>files</dt><dd>5</dd></div>\n\
+                <div><dt>lines</dt><dd>15</dd></div>\n\
+                <div><dt>blank lines</dt><dd>0</dd></div>\n\
+                <div><dt>bytes</dt><dd>20</dd></div>\n",
             b"<tr class=\"e0\"><th>.h</th><td>2</td><td>9</td><td>0</td>\
                 <td>11</td><td>60.0%</td><td><div class=\"bar\"><i style=\"--n:9\">\
                 </i><u style=\"--n:0\"></u></div></td></tr>\n\
@@ -200,8 +217,8 @@ const MANY: &[Row] = &[
 ];
 
 const BETWEEN: [&[u8]; 5] = [
-    b"</style>\n</head>\n<body>\n<h1>Lines by directory</h1>\n<p>",
-    b"</p>\n<h2>By extension</h2>\n<table>\n\
+    b"<dl>\n",
+    b"</dl>\n<h2>By extension</h2>\n<table>\n\
       <tr><th>extension</th><th>files</th><th>lines</th><th>blank</th><th>bytes</th><th>share</th><td></td></tr>\n",
     b"</table>\n<h2>By directory</h2>\n<p>Each box is as tall as its share of the ",
     b", in the colour of the extension that has most of them. \
@@ -287,16 +304,18 @@ fn report_of(
     })
 }
 
-/// Whether the page of a report ends with these parts, from its sums on.
+/// Whether the page of a report ends with these parts, from its name on.
 fn has_parts(alloc: Global, case: &Case) -> Result<bool, AllocError> {
     let report = report_of(alloc, case.rows, case.totals, case.files)?;
-    let mut body = Vec::new(alloc);
+    let mut body = b"</style>\n</head>\n<body>\n<h1>a&#60;b</h1>\n<p class=\"by\">".to_vec(alloc)?;
+    body.extend_from_slice(case.parts[2])?;
+    body.extend_from_slice(b" by directory</p>\n")?;
     for (between, part) in BETWEEN.iter().zip(&case.parts) {
         body.extend_from_slice(between)?;
         body.extend_from_slice(part)?;
     }
     body.extend_from_slice(BETWEEN[4])?;
-    let text = page(alloc, &report, case.sort)?;
+    let text = page(alloc, b"a<b", &report, case.sort)?;
     Ok(text.ends_with(&body))
 }
 
@@ -311,9 +330,13 @@ fn pages(rt: HostRuntime) -> Result<(), Fail> {
 #[test]
 fn a_page_is_one_whole_document(rt: HostRuntime) -> Result<(), Fail> {
     let report = report_of(rt.alloc(), &[], [0, 0, 0, 0], &[])?;
-    let text = page(rt.alloc(), &report, None)?;
+    let text = page(rt.alloc(), b"a<b", &report, None)?;
     assert!(rt;
-        text.starts_with(b"<!DOCTYPE html>\n<html lang=\"en\">\n<head>\n<meta charset=\"utf-8\">\n")
+        text.starts_with(
+            b"<!DOCTYPE html>\n<html lang=\"en\">\n<head>\n<meta charset=\"utf-8\">\n\
+              <meta name=\"viewport\" content=\"width=device-width\">\n\
+              <title>a&#60;b: lines by directory</title>\n<style>\n"
+        )
     );
     Ok(())
 }
@@ -330,7 +353,7 @@ fn extensions_that_the_chart_has_no_place_for(rt: HostRuntime) -> Result<(), Fai
     end.extend_from_slice(b"lines")?;
     end.extend_from_slice(BETWEEN[3])?;
     end.extend_from_slice(BETWEEN[4])?;
-    let text = page(rt.alloc(), &report, Some(Number::Lines))?;
+    let text = page(rt.alloc(), b"tree", &report, Some(Number::Lines))?;
     assert!(rt; text.ends_with(&end));
     Ok(())
 }
