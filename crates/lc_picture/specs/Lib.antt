@@ -3,6 +3,7 @@ pub mod Pieces
 pub mod Style
 pub mod Colours
 pub mod Boxes
+pub mod Places
 pub mod Head
 pub mod Chart
 pub mod Page

@@ -18,6 +18,7 @@ use Rattle.lc_picture.specs.declared.scale.Scale.{Scale}
 use Rattle.lc_picture.specs.Boxes.{BoxModel, boxes_in, drawn_boxes, least_drawn}
 use Rattle.lc_picture.specs.Chart.{chart}
 use Rattle.lc_picture.specs.Head.{head_part}
+use Rattle.lc_picture.specs.Places.{AreLargestFirst}
 use Rattle.lc_picture.specs.Pieces.{Piece, markup, text_of, word}
 use Rattle.lc_level.specs.Level.{FileLineModel}
 
@@ -88,14 +89,14 @@ drawn_number sort = unwrap_or sort Lines
 abbrev pub chart_view : List ShownRowModel → ViewModel
 chart_view extensions = view_of (Some chart_rows) extensions []
 
--- the boxes of the directories that are drawn, with their colours. Directories are cut after as many names as a walk goes deep
+-- the boxes of the directories that are drawn, with their colours, the largest first. Directories are cut after as many names as a walk goes deep
 pub record AreBoxesOf (by : Number) (totals : Sums) (files : List FileLineModel) (chart : List ShownRowModel) (boxes : List BoxModel)
     : Type 0 where
   pub tree : List ShownRowModel
   pub are_tree : AreTreeRows max_depth tree_columns files tree
   pub kinds : List ShownRowModel
   pub are_kinds : AreTreeRows max_depth kind_columns files kinds
-  pub are : boxes ≡ drawn_boxes by (least_drawn (number_in by totals)) chart kinds tree
+  pub are : AreLargestFirst by (drawn_boxes by (least_drawn (number_in by totals)) chart kinds tree) boxes
 
 -- a text is the page of a report of what was counted, drawn by a number: of the sheet of its extensions, sorted, and of the directories
 -- of its files

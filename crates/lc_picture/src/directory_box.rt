@@ -41,6 +41,20 @@ impl<'a> Model for DirectoryBox<'a> {
     } };
 }
 
+impl<'a> DirectoryBox<'a> {
+    pub(crate) fn copy(&self) -> DirectoryBox<'a>
+        ensures { result ≡ self.now }
+    {
+        DirectoryBox {
+            path: self.path,
+            directory: self.directory,
+            depth: self.depth,
+            colour: self.colour,
+            sums: self.sums,
+        }
+    }
+}
+
 /// Returns the least number that is drawn: a thousandth of the total, rounded up, and not nothing.
 pub(crate) fn least_drawn(total: u128) -> u128
     ensures { result ≡ least_drawn total }

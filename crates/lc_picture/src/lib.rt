@@ -2,6 +2,7 @@
 //!
 //! - `escaping`: texts in HTML; `style`: the fixed parts of a page
 //! - `boxes`, `directory_box`: the boxes of the directories, each inside that of the directory that holds it
+//! - `largest_first`, `places`: the order of boxes
 //! - `colours`: the colours of extensions and of directories
 //! - `head`: the numbers of all files; `chart`, `cells`: the bar chart, and the cells of its lines, both of a sheet
 //! - `sums`, `percents`: numbers, each with its word, and shares; `scale`: what a picture is drawn by
@@ -16,8 +17,10 @@ mod colours;
 mod directory_box;
 mod escaping;
 mod head;
+mod largest_first;
 mod laws;
 mod percents;
+mod places;
 mod report_page;
 mod scale;
 mod style;
@@ -25,6 +28,7 @@ mod sums;
 
 pub use laws::{
     a_box_opens_inside_that_of_its_parent, a_page_shows_each_directory_once, boxes_are_nested,
-    names_are_never_markup, names_change_no_tag, rows_have_the_colours_of_their_extensions,
+    larger_boxes_come_first, names_are_never_markup, names_change_no_tag,
+    rows_have_the_colours_of_their_extensions,
 };
 pub use report_page::page;

@@ -10,6 +10,7 @@ use crate::boxes::push_boxes;
 use crate::chart::push_chart;
 use crate::directory_box::{DirectoryBox, drawn_boxes, least_drawn};
 use crate::head::push_head_part;
+use crate::largest_first::largest_first;
 use crate::scale::Scale;
 use crate::style::{boxes_begin, chart_begin, tree_begin};
 use crate::sums::number_word;
@@ -135,7 +136,8 @@ fn boxes_of<'a>(
     let tree = tree_rows(alloc, files, TREE_COLUMNS, TREE_DEPTH)?;
     let kinds = tree_rows(alloc, files, KIND_COLUMNS, TREE_DEPTH)?;
     let least = least_drawn(number_in(by, totals));
-    let boxes = drawn_boxes(alloc, by, least, &tree, chart, &kinds)?;
+    let drawn = drawn_boxes(alloc, by, least, &tree, chart, &kinds)?;
+    let boxes = largest_first(alloc, by, &drawn)?;
     Ok(boxes)
 }
 
@@ -151,14 +153,20 @@ fn page_by(
     let chart = first_rows(&extensions);
     let boxes = boxes_of(alloc, by, report.totals, &report.files, chart)?;
     let shown = Shown::with_rows(alloc, report, &chart_options(by), extensions)?;
-    let text = page_text(alloc, counted, scale_of(by, report.totals), &shown.sheet(), &boxes)?;
+    let text = page_text(
+        alloc,
+        counted,
+        scale_of(by, report.totals),
+        &shown.sheet(),
+        &boxes,
+    )?;
     Ok(text)
 }
 
 /// Makes the page of a report: one file of HTML with no script, no font and no address.
 ///
 /// It has what was counted, which is `counted` as terminals show it, the sums over all files, a bar for each of the first extensions, and a box for each directory, inside that of the directory
-/// that holds it. Bars and boxes are drawn by the number `sort`, or by lines, and the browser divides the space by these numbers.
+/// that holds it, the largest first. Bars and boxes are drawn by the number `sort`, or by lines, and the browser divides the space by these numbers.
 /// Directories with less than a thousandth of the total have no boxes. A reader folds a box to give its space to others.
 ///
 /// The report must have its files. It stops with an error if there is no memory, and for numbers that no walk has, whose sums overflow.

@@ -125,20 +125,21 @@ const CASES: &[Case] = &[
             b"bytes",
             b"<details open class=\"e0\" style=\"--n:3000\"><summary title=\".: lines 8, files 4, blank 0, bytes 3,000, \
                 100.0% of all bytes\"><b>.</b> <span>bytes 3,000 (100.0%)\
-                </span></summary><div><i style=\"--n:2\"></i><details open class=\"e1\" style=\"--n:1000\">\
-                <summary title=\"&#60;b&#62;&#38;amp;&#34;&#39;: lines 1, files 1, blank 0, bytes 1,000, 33.3% of all bytes\">\
-                <b>&#60;b&#62;&#38;amp;&#34;&#39;</b> <span>bytes 1,000 (33.3%)\
-                </span></summary><div><i style=\"--n:1000\"></i></div></details>\n\
-                <details open class=\"e2\" style=\"--n:3\"><summary title=\"deep: lines 0, files 1, blank 0, bytes 3, 0.1% \
-                of all bytes\"><b>deep</b> <span>bytes 3 (0.1%)</span></summary>\
-                <div><i style=\"--n:3\"></i></div></details>\n\
-                <details open class=\"e0\" style=\"--n:1995\"><summary title=\"\\xff: lines 2, files 1, blank 0, bytes 1,995, \
-                66.5% of all bytes\"><b>\\xff</b> <span>bytes 1,995 (66.5%)\
-                </span></summary><div><i style=\"--n:0\"></i><details open class=\"e0\" style=\"--n:1995\">\
+                </span></summary><div><i style=\"--n:2\"></i><details open class=\"e0\" style=\"--n:1995\">\
+                <summary title=\"\\xff: lines 2, files 1, blank 0, bytes 1,995, 66.5% of all bytes\">\
+                <b>\\xff</b> <span>bytes 1,995 (66.5%)</span></summary><div>\
+                <i style=\"--n:0\"></i><details open class=\"e0\" style=\"--n:1995\">\
                 <summary title=\"\\xff/\\xe2\\x80\\xae: lines 2, files 1, blank 0, bytes 1,995, 66.5% of all bytes\">\
                 <b>\\xe2\\x80\\xae</b> <span>bytes 1,995 (66.5%)</span></summary>\
                 <div><i style=\"--n:1995\"></i></div></details>\n\
                 </div></details>\n\
+                <details open class=\"e1\" style=\"--n:1000\"><summary title=\"&#60;b&#62;&#38;amp;&#34;&#39;: lines 1, \
+                files 1, blank 0, bytes 1,000, 33.3% of all bytes\"><b>&#60;b&#62;&#38;amp;&#34;&#39;\
+                </b> <span>bytes 1,000 (33.3%)</span></summary><div><i style=\"--n:1000\">\
+                </i></div></details>\n\
+                <details open class=\"e2\" style=\"--n:3\"><summary title=\"deep: lines 0, files 1, blank 0, bytes 3, 0.1% \
+                of all bytes\"><b>deep</b> <span>bytes 3 (0.1%)</span></summary>\
+                <div><i style=\"--n:3\"></i></div></details>\n\
                 </div></details>\n",
         ],
     },
