@@ -25,12 +25,14 @@ closings_show : (n : ℕ) → filter is_shown (closings n) ≡ []
 closings_show zero = refl
 closings_show (suc n) = closings_show n
 
-box_shows : (scale : Scale) (within : ℕ) (b : BoxModel) (bs : List BoxModel) → filter is_shown (next_box scale within b bs) ≡ shown_of_box scale b
+box_shows : (scale : Scale) (within : ℕ) (b : BoxModel) (bs : List BoxModel)
+    → filter is_shown (next_box scale within b bs) ≡ shown_of_box scale b
 box_shows scale within b bs =
     filter-append is_shown (closings (within - b.depth)) (opening scale b (left_beside scale.by b.depth (number_in scale.by b.sums) bs))
     ∙ ap (λ (ps : List Piece). ps ++ shown_of_box scale b) (closings_show (within - b.depth))
 
-boxes_show : (scale : Scale) (within : ℕ) (bs : List BoxModel) → filter is_shown (boxes_in scale within bs) ≡ flat_map (shown_of_box scale) bs
+boxes_show : (scale : Scale) (within : ℕ) (bs : List BoxModel)
+    → filter is_shown (boxes_in scale within bs) ≡ flat_map (shown_of_box scale) bs
 boxes_show scale within [] = closings_show within
 boxes_show scale within (b ∷ bs) =
     filter-append is_shown (next_box scale within b bs) (boxes_in scale (min within b.depth + 1) bs)

@@ -25,8 +25,8 @@ pub page_is : (counted : List ℕ) (by : Number) (r : Report) (text : List ℕ) 
     → AreShown chart_columns (Some by) rs fs extensions → chart ≡ first_of (Some chart_rows) es → AreBoxesOf by r.totals gs chart boxes
     → options ≡ chart_options by → s ≡ sheet_with options r extensions → scale ≡ scale_of by r.totals
     → text ≡ text_of (page_pieces counted scale s bs) → IsPageOf counted by r text
-page_is counted by r text rs fs gs extensions es chart boxes bs options s scale own_rows own_files same_files same_extensions same_boxes shown first drawn
-    asked sheet scaled is =
+page_is counted by r text rs fs gs extensions es chart boxes bs options s scale own_rows own_files same_files same_extensions same_boxes
+    shown first drawn asked sheet scaled is =
     record {
       extensions = extensions;
       are_extensions =

@@ -35,17 +35,20 @@ row_shows : (by : Number) (r : Report) (v : ViewModel) (row : ShownRowModel)
 row_shows by r v row = ap (λ (ps : List Piece). ps ++ row_counts (scale_of by r.totals) row.sums) (extension_shows row.key.extension)
 
 rows_show : (by : Number) (r : Report) (v : ViewModel) (rows : List ShownRowModel)
-    → flat_map shown_of_line (lines_of (row_value (form_in by r v)) (columns_in by) rows) ≡ flat_map (shown_of_row (scale_of by r.totals)) rows
+    → flat_map shown_of_line (lines_of (row_value (form_in by r v)) (columns_in by) rows)
+    ≡ flat_map (shown_of_row (scale_of by r.totals)) rows
 rows_show by r v [] = refl
 rows_show by r v (row ∷ rows) = ap₂ (λ (ps qs : List Piece). ps ++ qs) (row_shows by r v row) (rows_show by r v rows)
 
 others_show : (by : Number) (r : Report) (v : ViewModel) (others : Option Sums)
-    → flat_map shown_of_line (lines_of (sums_value (form_in by r v)) (columns_in by) (others_lines others)) ≡ shown_of_others (scale_of by r.totals) others
+    → flat_map shown_of_line (lines_of (sums_value (form_in by r v)) (columns_in by) (others_lines others))
+    ≡ shown_of_others (scale_of by r.totals) others
 others_show by r v None = refl
 others_show by r v (Some s) = refl
 
 pub report_law : ReportLaw
 report_law counted by r v boxes =
     shown_law counted (scale_of by r.totals) (sheet_of (chart_options by) r v) boxes
-    ∙ ap₂ (λ (ps qs : List Piece). (title (visible_path counted) ∷ name (visible_path counted) ∷ cell_counts r.totals) ++ ((ps ++ qs) ++ flat_map (shown_of_box (scale_of by r.totals)) boxes)) (rows_show by r v v.rows)
+    ∙ ap₂ (λ (ps qs : List Piece). (title (visible_path counted) ∷ name (visible_path counted) ∷ cell_counts r.totals)
+    ++ ((ps ++ qs) ++ flat_map (shown_of_box (scale_of by r.totals)) boxes)) (rows_show by r v v.rows)
     (others_show by r v v.others)

@@ -93,8 +93,8 @@ shown_of_box scale b =
     title (visible_path b.path) ∷ (counts b.sums ++ share_in scale b.sums ∷ name (visible_path b.directory)
     ∷ count (number_in scale.by b.sums) ∷ share_in scale b.sums ∷ [])
 
--- a page shows what was counted, the numbers of all files, the names and the numbers of the rows of its sheet and of the sums over the others, and the
--- directories that are drawn with their sums and shares: each once, in turn, and nothing else
+-- a page shows what was counted, the numbers of all files, the names and the numbers of the rows of its sheet and of the sums over the
+-- others, and the directories that are drawn with their sums and shares: each once, in turn, and nothing else
 abbrev pub ShownLaw : Type 0
 ShownLaw =
     (counted : List ℕ) (scale : Scale) (s : SheetModel) (boxes : List BoxModel)
@@ -129,7 +129,8 @@ abbrev pub ReportLaw : Type 0
 ReportLaw =
     (counted : List ℕ) (by : Number) (r : Report) (v : ViewModel) (boxes : List BoxModel)
     → filter is_shown (page_pieces counted (scale_of by r.totals) (sheet_of (chart_options by) r v) boxes)
-    ≡ (title (visible_path counted) ∷ name (visible_path counted) ∷ cell_counts r.totals) ++ ((flat_map (shown_of_row (scale_of by r.totals)) v.rows ++ shown_of_others (scale_of by r.totals) v.others)
+    ≡ (title (visible_path counted) ∷ name (visible_path counted) ∷ cell_counts r.totals)
+    ++ ((flat_map (shown_of_row (scale_of by r.totals)) v.rows ++ shown_of_others (scale_of by r.totals) v.others)
     ++ flat_map (shown_of_box (scale_of by r.totals)) boxes)
 
 -- each row of the chart has the colour of its extension, by which the directories are coloured too

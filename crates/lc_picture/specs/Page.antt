@@ -89,7 +89,8 @@ drawn_number sort = unwrap_or sort Lines
 abbrev pub chart_view : List ShownRowModel → ViewModel
 chart_view extensions = view_of (Some chart_rows) extensions []
 
--- the boxes of the directories that are drawn, with their colours, the largest first. Directories are cut after as many names as a walk goes deep
+-- the boxes of the directories that are drawn, with their colours, the largest first. Directories are cut after as many names as a walk
+-- goes deep
 pub record AreBoxesOf (by : Number) (totals : Sums) (files : List FileLineModel) (chart : List ShownRowModel) (boxes : List BoxModel)
     : Type 0 where
   pub tree : List ShownRowModel

@@ -1,7 +1,8 @@
 -- The fixed parts of a page.
 use Rattle.std.specs.Prelude.{ℕ, List, ◌++◌, codes}
 
--- how the parts of a page look: a box beside its parent, and space by shares
+-- how the parts of a page look: a box beside its parent, space by shares, and a label whole or not there. A text that does not fit under
+-- those before it goes into a next column, which is out of sight
 unfoldable pub style : List ℕ
 style =
     codes ":root{color-scheme:light dark}\n"
@@ -23,10 +24,16 @@ style =
     ++ codes "details:hover,details:focus-within{min-height:2.8em}\n"
     ++ codes "details:not([open]){flex-grow:0;min-height:1.5em}\n"
     ++ codes "summary{position:absolute;inset:0 auto 0 0;box-sizing:border-box;width:11em;padding:0 .3rem;overflow:hidden;"
-    ++ codes "overflow-wrap:anywhere;border:1px solid #888;border-width:1px 0 0 1px}\n"
+    ++ codes "overflow-wrap:anywhere;border:1px solid #888;border-width:1px 0 0 1px;cursor:pointer;"
+    ++ codes "display:flex;flex-flow:column wrap;align-content:flex-start;container-type:size}\n"
+    ++ codes "summary::before{content:\"\"}\n"
+    ++ codes "summary>*,summary::before{flex:none;width:100%}\n"
+    ++ codes "details:not([open])>summary>b::before{content:\"+ \"}\n"
     ++ codes "details>div{position:absolute;inset:0 0 0 11em;display:flex;flex-direction:column}\n"
-    ++ codes "details>div>i{order:1;flex:var(--n) 0 0;overflow:hidden;padding-left:.3rem}\n"
+    ++ codes "details>div>i{order:1;flex:var(--n) 0 0;overflow:hidden;padding-left:.3rem;container-type:size}\n"
     ++ codes "details>div>i:not(:only-child)::after{content:\"others\"}\n"
+    ++ codes "@container (height<2.7em){summary>span{display:none}}\n"
+    ++ codes "@container (height<1.35em){summary>b,details>div>i::after{display:none}}\n"
     ++ codes ".e0>summary,.e0 .bar i{background:#4e79a780}\n"
     ++ codes ".e1>summary,.e1 .bar i{background:#f28e2b80}\n"
     ++ codes ".e2>summary,.e2 .bar i{background:#59a14f80}\n"

@@ -12,7 +12,7 @@ pub(crate) fn page_begin() -> &'static [u8]
       <meta name=\"viewport\" content=\"width=device-width\">\n<title>"
 }
 
-/// How the parts of a page look: a box beside its parent, and space by shares.
+/// How the parts of a page look: a box beside its parent, space by shares, and a label whole or not there.
 #[tactic(auto, unfolding(crate::specs::Style::style))]
 pub(crate) fn style() -> &'static [u8]
     ensures { result.now ≡ style }
@@ -36,10 +36,16 @@ pub(crate) fn style() -> &'static [u8]
       details:hover,details:focus-within{min-height:2.8em}\n\
       details:not([open]){flex-grow:0;min-height:1.5em}\n\
       summary{position:absolute;inset:0 auto 0 0;box-sizing:border-box;width:11em;padding:0 .3rem;overflow:hidden;\
-      overflow-wrap:anywhere;border:1px solid #888;border-width:1px 0 0 1px}\n\
+      overflow-wrap:anywhere;border:1px solid #888;border-width:1px 0 0 1px;cursor:pointer;\
+      display:flex;flex-flow:column wrap;align-content:flex-start;container-type:size}\n\
+      summary::before{content:\"\"}\n\
+      summary>*,summary::before{flex:none;width:100%}\n\
+      details:not([open])>summary>b::before{content:\"+ \"}\n\
       details>div{position:absolute;inset:0 0 0 11em;display:flex;flex-direction:column}\n\
-      details>div>i{order:1;flex:var(--n) 0 0;overflow:hidden;padding-left:.3rem}\n\
+      details>div>i{order:1;flex:var(--n) 0 0;overflow:hidden;padding-left:.3rem;container-type:size}\n\
       details>div>i:not(:only-child)::after{content:\"others\"}\n\
+      @container (height<2.7em){summary>span{display:none}}\n\
+      @container (height<1.35em){summary>b,details>div>i::after{display:none}}\n\
       .e0>summary,.e0 .bar i{background:#4e79a780}\n\
       .e1>summary,.e1 .bar i{background:#f28e2b80}\n\
       .e2>summary,.e2 .bar i{background:#59a14f80}\n\
