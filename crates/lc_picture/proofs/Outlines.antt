@@ -1,6 +1,6 @@
 -- What a page shows, and what of it depends on no name.
 use Rattle.std.proofs.Common.{◌≡◌, ℕ, ◌+◌, ◌-◌, ◌==◌, nat_le, Bool, true, false, if◌then◌else◌, List, [], ◌∷◌, ◌++◌, map, min, suc, zero}
-use Rattle.std.proofs.Common.{refl, sym, ap, ap₂, ◌∙◌}
+use Rattle.std.proofs.Common.{refl, sym, ap, ap₂, ◌∙◌, codes, length, nat_lt, take}
 use Rattle.std.specs.List.{filter, flat_map}
 use Rattle.std.proofs.lemmas.List.{append-nil, map-append}
 use Rattle.std.proofs.lemmas.List.Elements.{filter-append}
@@ -14,10 +14,13 @@ use Rattle.lc_picture.specs.declared.scale.Scale.{Scale}
 use Rattle.lc_picture.specs.Boxes.{BoxModel, box_of, boxes_in, closing, closings, drawn_boxes, left_beside, next_box, opening}
 use Rattle.lc_picture.specs.Chart.{cell, cells, cells_in, coloured_line, coloured_lines, plain_line, plain_lines}
 use Rattle.lc_picture.specs.Colours.{main_colour, path_of, rows_from, shared_colour}
-use Rattle.lc_picture.specs.Laws.{DrawnLaw, OutlineLaw, ShownLaw, is_shown, nameless, outline, shown_of_box, shown_of_head}
+use Rattle.lc_level.specs.FaultLines.{FaultLineModel}
+use Rattle.lc_picture.specs.Faults.{fault_lines, faults_end, faults_listed, faults_part, more_faults}
+use Rattle.lc_picture.specs.Laws.{DrawnLaw, OutlineLaw, ShownLaw, is_shown, nameless, outline, shown_of_box, shown_of_fault}
+use Rattle.lc_picture.specs.Laws.{shown_of_faults, shown_of_head, shown_of_more}
 use Rattle.lc_picture.specs.Laws.{shown_of_line, shown_of_value, without_colour}
 use Rattle.lc_picture.specs.Page.{chart_part, tree_part}
-use Rattle.lc_picture.specs.Pieces.{Piece}
+use Rattle.lc_picture.specs.Pieces.{Piece, count, markup}
 
 -- ---- what a page shows
 
@@ -79,11 +82,31 @@ chart_shows s =
     filter-append is_shown (coloured_lines 0 s.rows.lines) (plain_lines s.others.lines)
     ∙ ap₂ (λ (ps qs : List Piece). ps ++ qs) (coloured_show 0 s.rows.lines) (plain_show s.others.lines)
 
+fault_shows : (fs : List FaultLineModel) → filter is_shown (fault_lines fs) ≡ flat_map shown_of_fault fs
+fault_shows [] = refl
+fault_shows (f ∷ fs) = ap (λ (ps : List Piece). shown_of_fault f ++ ps) (fault_shows fs)
+
+more_shows : (listed all : ℕ) (some : Bool) → nat_lt listed all ≡ some
+    → filter is_shown (more_faults listed all ++ markup (codes "</ul>\n") ∷ []) ≡ shown_of_more listed all
+more_shows listed all true e = rw e refl
+more_shows listed all false e = rw e refl
+
+faults_show : (fs : List FaultLineModel) → filter is_shown (faults_part fs) ≡ shown_of_faults fs
+faults_show [] = refl
+faults_show (f ∷ fs) =
+    let all : ℕ = length (f ∷ fs) in
+    let first : List FaultLineModel = take faults_listed (f ∷ fs) in
+    ap (λ (ps : List Piece). count all ∷ ps)
+    (filter-append is_shown (fault_lines first) (faults_end all)
+    ∙ ap₂ (λ (ps qs : List Piece). ps ++ qs) (fault_shows first) (more_shows faults_listed all _ refl))
+
 pub shown_law : ShownLaw
-shown_law counted scale s boxes =
+shown_law counted scale faults s boxes =
     ap (λ (ps : List Piece). shown_of_head counted s.totals ++ ps)
+    (filter-append is_shown (faults_part faults) (chart_part s ++ tree_part scale boxes)
+    ∙ ap₂ (λ (ps qs : List Piece). ps ++ qs) (faults_show faults)
     (filter-append is_shown (chart_part s) (tree_part scale boxes)
-    ∙ ap₂ (λ (ps qs : List Piece). ps ++ qs) (chart_shows s) (tree_shows scale boxes))
+    ∙ ap₂ (λ (ps qs : List Piece). ps ++ qs) (chart_shows s) (tree_shows scale boxes)))
 
 -- ---- the directories that are drawn
 

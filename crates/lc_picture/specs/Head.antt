@@ -33,9 +33,12 @@ figure number n =
 abbrev pub figures : ℕ → ℕ → ℕ → ℕ → List Piece
 figures files lines blank bytes = figure Files files ++ (figure Lines lines ++ (figure Blank blank ++ figure Bytes bytes))
 
+abbrev pub figures_end : List Piece
+figures_end = markup (codes "</dl>\n") ∷ []
+
 -- the numbers of the first line of the totals
 abbrev pub figures_of : SectionModel → List Piece
 figures_of totals = figures (first_number Files totals) (first_number Lines totals) (first_number Blank totals) (first_number Bytes totals)
 
 abbrev pub head_part : List ℕ → Number → SectionModel → List Piece
-head_part counted by totals = page_top counted by ++ (heading counted by ++ figures_of totals)
+head_part counted by totals = page_top counted by ++ (heading counted by ++ (figures_of totals ++ figures_end))

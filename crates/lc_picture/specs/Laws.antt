@@ -1,6 +1,6 @@
 -- What is true of pages.
 use Rattle.std.specs.Prelude.{◌≡◌, ◌+◌, ◌*◌, ◌-◌, ℕ, nat_eq, Bool, true, false, if◌then◌else◌, List, [], ◌∷◌, ◌++◌, map, flat_map, codes}
-use Rattle.std.specs.Prelude.{◌==◌, ◌<◌, bytes_eq, length, nat_le, Option, Some, None}
+use Rattle.std.specs.Prelude.{◌==◌, ◌<◌, bytes_eq, length, nat_le, nat_lt, take, Option, Some, None}
 use Rattle.std.specs.List.{filter, list_any, slice_index_or}
 use Rattle.lc_rows.specs.RowKeys.{ShownRowModel}
 use Rattle.lc_rows.specs.SheetLaws.{first_number}
@@ -21,9 +21,12 @@ use Rattle.lc_picture.specs.Boxes.{BoxModel, box_of, boxes_in, drawn_boxes}
 use Rattle.lc_picture.specs.Chart.{line_colour}
 use Rattle.lc_picture.specs.Colours.{colour_of}
 use Rattle.lc_picture.specs.Escaping.{html}
+use Rattle.lc_picture.specs.Faults.{faults_listed}
 use Rattle.lc_picture.specs.Page.{chart_columns, chart_options, chart_view, page_pieces, scale_of}
 use Rattle.lc_picture.specs.Pieces.{Piece, count, markup, name, percent, share, title, word}
 use Rattle.lc_picture.specs.declared.scale.Scale.{Scale}
+use Rattle.lc_level.specs.FaultLines.{FaultLineModel}
+use Rattle.lc_level.specs.FaultWords.{fault_word}
 use Rattle.lc_level.specs.Level.{FileLineModel}
 
 -- whether a byte can begin or end a tag or an attribute
@@ -68,6 +71,18 @@ shown_of_head counted totals =
     title (visible_path counted) ∷ name (visible_path counted) ∷ count (first_number Files totals) ∷ count (first_number Lines totals)
     ∷ count (first_number Blank totals) ∷ count (first_number Bytes totals) ∷ []
 
+-- what could not be read: how many there are, the first of them, and how many more
+abbrev pub shown_of_fault : FaultLineModel → List Piece
+shown_of_fault f = name (visible_path f.path) ∷ name (fault_word f.word) ∷ []
+
+abbrev pub shown_of_more : ℕ → ℕ → List Piece
+shown_of_more listed all = if nat_lt listed all then count (all - listed) ∷ [] else []
+
+abbrev pub shown_of_faults : List FaultLineModel → List Piece
+shown_of_faults [] = []
+shown_of_faults (f ∷ fs) =
+    count (length (f ∷ fs)) ∷ (flat_map shown_of_fault (take faults_listed (f ∷ fs)) ++ shown_of_more faults_listed (length (f ∷ fs)))
+
 -- the text of a value, or its number. Bars are numbers in tags
 abbrev pub shown_of_value : ValueModel → List Piece
 shown_of_value value.missing = name (codes "-") ∷ []
@@ -93,14 +108,15 @@ shown_of_box scale b =
     title (visible_path b.path) ∷ (counts b.sums ++ share_in scale b.sums ∷ name (visible_path b.directory)
     ∷ count (number_in scale.by b.sums) ∷ share_in scale b.sums ∷ [])
 
--- a page shows what was counted, the numbers of all files, the names and the numbers of the rows of its sheet and of the sums over the
--- others, and the directories that are drawn with their sums and shares: each once, in turn, and nothing else
+-- a page shows what was counted, the numbers of all files, what could not be read, the names and the numbers of the rows of its sheet and
+-- of the sums over the others, and the directories that are drawn with their sums and shares: each once, in turn, and nothing else
 abbrev pub ShownLaw : Type 0
 ShownLaw =
-    (counted : List ℕ) (scale : Scale) (s : SheetModel) (boxes : List BoxModel)
-    → filter is_shown (page_pieces counted scale s boxes)
-    ≡ shown_of_head counted s.totals ++ ((flat_map shown_of_line s.rows.lines ++ flat_map shown_of_line s.others.lines)
-    ++ flat_map (shown_of_box scale) boxes)
+    (counted : List ℕ) (scale : Scale) (faults : List FaultLineModel) (s : SheetModel) (boxes : List BoxModel)
+    → filter is_shown (page_pieces counted scale faults s boxes)
+    ≡ shown_of_head counted s.totals
+    ++ (shown_of_faults faults ++ ((flat_map shown_of_line s.rows.lines ++ flat_map shown_of_line s.others.lines)
+    ++ flat_map (shown_of_box scale) boxes))
 
 -- a dot and the bytes, as a terminal shows them, or `-` for none
 abbrev pub visible_extension : Option (List ℕ) → List ℕ
@@ -128,10 +144,11 @@ shown_of_others scale (Some s) = name (codes "others") ∷ row_counts scale s
 abbrev pub ReportLaw : Type 0
 ReportLaw =
     (counted : List ℕ) (by : Number) (r : Report) (v : ViewModel) (boxes : List BoxModel)
-    → filter is_shown (page_pieces counted (scale_of by r.totals) (sheet_of (chart_options by) r v) boxes)
+    → filter is_shown (page_pieces counted (scale_of by r.totals) r.faults.items (sheet_of (chart_options by) r v) boxes)
     ≡ (title (visible_path counted) ∷ name (visible_path counted) ∷ cell_counts r.totals)
+    ++ (shown_of_faults r.faults.items
     ++ ((flat_map (shown_of_row (scale_of by r.totals)) v.rows ++ shown_of_others (scale_of by r.totals) v.others)
-    ++ flat_map (shown_of_box (scale_of by r.totals)) boxes)
+    ++ flat_map (shown_of_box (scale_of by r.totals)) boxes))
 
 -- each row of the chart has the colour of its extension, by which the directories are coloured too
 abbrev pub ColoursLaw : Type 0

@@ -5,6 +5,7 @@ pub mod Colours
 pub mod Boxes
 pub mod Places
 pub mod Head
+pub mod Faults
 pub mod Chart
 pub mod Page
 pub mod Laws

@@ -17,16 +17,18 @@ use Rattle.lc_walk.specs.declared.tally.sums.Sums.{Sums}
 use Rattle.lc_picture.specs.declared.scale.Scale.{Scale}
 use Rattle.lc_picture.specs.Boxes.{BoxModel, boxes_in, drawn_boxes, least_drawn}
 use Rattle.lc_picture.specs.Chart.{chart}
+use Rattle.lc_picture.specs.Faults.{faults_part}
 use Rattle.lc_picture.specs.Head.{head_part}
 use Rattle.lc_picture.specs.Places.{AreLargestFirst}
 use Rattle.lc_picture.specs.Pieces.{Piece, markup, text_of, word}
+use Rattle.lc_level.specs.FaultLines.{FaultLineModel}
 use Rattle.lc_level.specs.Level.{FileLineModel}
 
 -- ---- the page of a sheet and of boxes
 
 abbrev pub chart_begin : List ℕ
 chart_begin =
-    codes "</dl>\n<h2>By extension</h2>\n<table>\n<tr><th>extension</th><th>files</th><th>lines</th><th>blank</th><th>bytes</th>"
+    codes "<h2>By extension</h2>\n<table>\n<tr><th>extension</th><th>files</th><th>lines</th><th>blank</th><th>bytes</th>"
     ++ codes "<th>share</th><td></td></tr>\n"
 
 abbrev pub chart_part : SheetModel → List Piece
@@ -45,8 +47,9 @@ tree_part scale boxes =
     markup tree_begin ∷ word scale.by ∷ markup boxes_begin
     ∷ (boxes_in scale 0 boxes ++ markup (codes "</div>\n</body>\n</html>\n") ∷ [])
 
-abbrev pub page_pieces : List ℕ → Scale → SheetModel → List BoxModel → List Piece
-page_pieces counted scale s boxes = head_part counted scale.by s.totals ++ (chart_part s ++ tree_part scale boxes)
+abbrev pub page_pieces : List ℕ → Scale → List FaultLineModel → SheetModel → List BoxModel → List Piece
+page_pieces counted scale faults s boxes =
+    head_part counted scale.by s.totals ++ (faults_part faults ++ (chart_part s ++ tree_part scale boxes))
 
 -- what a page is drawn by, of the sums over all files
 abbrev pub scale_of : Number → Sums → Scale
@@ -106,4 +109,6 @@ pub record IsPageOf (counted : List ℕ) (by : Number) (r : Report) (text : List
   pub are_extensions : AreShown chart_columns (Some by) r.rows.items r.files.items extensions
   pub boxes : List BoxModel
   pub are_boxes : AreBoxesOf by r.totals r.files.items (chart_view extensions).rows boxes
-  pub is : text ≡ text_of (page_pieces counted (scale_of by r.totals) (sheet_of (chart_options by) r (chart_view extensions)) boxes)
+  pub is :
+      text ≡ text_of (page_pieces counted (scale_of by r.totals) r.faults.items (sheet_of (chart_options by) r (chart_view extensions))
+      boxes)

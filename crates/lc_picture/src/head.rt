@@ -167,5 +167,6 @@ pub(crate) fn push_head_part<L: Lines>(
     push_page_top(text, counted, by, made)?;
     push_heading(text, counted, by, made)?;
     push_figures_of(text, totals, made)?;
+    text.extend_from_slice(b"</dl>\n")?;
     Ok(())
 }

@@ -4,6 +4,7 @@
 //! - `boxes`, `directory_box`: the boxes of the directories, each inside that of the directory that holds it
 //! - `largest_first`, `places`: the order of boxes
 //! - `colours`: the colours of extensions and of directories
+//! - `faults`: what could not be read
 //! - `head`: the numbers of all files; `chart`, `cells`: the bar chart, and the cells of its lines, both of a sheet
 //! - `sums`, `percents`: numbers, each with its word, and shares; `scale`: what a picture is drawn by
 //! - `report_page`: the page of a report
@@ -16,6 +17,7 @@ mod chart;
 mod colours;
 mod directory_box;
 mod escaping;
+mod faults;
 mod head;
 mod largest_first;
 mod laws;

@@ -9,6 +9,7 @@ ghost use Rattle.lc_picture.specs.Pieces.{text_of};
 use crate::boxes::push_boxes;
 use crate::chart::push_chart;
 use crate::directory_box::{DirectoryBox, drawn_boxes, least_drawn};
+use crate::faults::push_faults;
 use crate::head::push_head_part;
 use crate::largest_first::largest_first;
 use crate::scale::Scale;
@@ -16,7 +17,7 @@ use crate::style::{boxes_begin, chart_begin, tree_begin};
 use crate::sums::number_word;
 use lc_rows::{Shown, ShownRow, number_in, shown_rows, tree_rows};
 use lc_sheet::{Columns, Format, Lines, Number, Section, Sheet, TableOptions};
-use lc_walk::{FileLine, Report, Sums};
+use lc_walk::{FaultLine, FileLine, Report, Sums};
 use std::alloc::{AllocError, Global};
 
 /// The columns of the chart.
@@ -79,14 +80,16 @@ fn page_text<R: Lines, T: Lines, F: Lines, S: Lines, E: Lines>(
     alloc: Global,
     counted: &[u8],
     scale: Scale,
+    faults: &[FaultLine],
     sheet: &Sheet<'_, R, T, F, S, E>,
     boxes: &[DirectoryBox<'_>],
 ) -> Result<Vec<u8>, AllocError>
-    ensures { IfOk result (λ text. text.items ≡ text_of (page_pieces counted.now scale sheet.now boxes.now)) }
+    ensures { IfOk result (λ text. text.items ≡ text_of (page_pieces counted.now scale faults.now sheet.now boxes.now)) }
 {
     let mut text = Vec::new(alloc);
     let mut made = String::new(alloc);
     push_head_part(&mut text, counted, scale.by, &sheet.totals, &mut made)?;
+    push_faults(&mut text, faults, &mut made)?;
     push_chart_part(&mut text, sheet, &mut made)?;
     push_tree_part(&mut text, scale, boxes, &mut made)?;
     Ok(text)
@@ -157,6 +160,7 @@ fn page_by(
         alloc,
         counted,
         scale_of(by, report.totals),
+        &report.faults,
         &shown.sheet(),
         &boxes,
     )?;

@@ -76,7 +76,7 @@ pub(crate) fn body_begin() -> &'static [u8]
 pub(crate) fn chart_begin() -> &'static [u8]
     ensures { result.now ≡ chart_begin }
 {
-    b"</dl>\n<h2>By extension</h2>\n<table>\n<tr><th>extension</th><th>files</th><th>lines</th><th>blank</th><th>bytes</th>\
+    b"<h2>By extension</h2>\n<table>\n<tr><th>extension</th><th>files</th><th>lines</th><th>blank</th><th>bytes</th>\
       <th>share</th><td></td></tr>\n"
 }
 

@@ -1,18 +1,10 @@
 //! Pages of reports.
 
-use lc_census::{Count, Eol};
+use crate::picture::reports::{BETWEEN, File, Row, report_of};
 use lc_picture::page;
-use lc_rules::TextState;
 use lc_sheet::Number;
-use lc_walk::{FileLine, Report, ReportLists, Sums, TallyRow};
 use std::alloc::{AllocError, Global};
 use std::test::Fail;
-
-/// A path, and the lines, blank lines and bytes.
-type File = (&'static [u8], [u64; 3]);
-
-/// An extension, and the files, lines, blank lines and bytes.
-type Row = (Option<&'static [u8]>, [u64; 4]);
 
 /// A report, and the parts of its page: the sums, the rows of the chart, the word for the number that is drawn, and the boxes.
 struct Case {
@@ -217,105 +209,19 @@ const MANY: &[Row] = &[
     (Some(b"v"), [1, 19, 21, 42]),
 ];
 
-const BETWEEN: [&[u8]; 5] = [
-    b"<dl>\n",
-    b"</dl>\n<h2>By extension</h2>\n<table>\n\
-      <tr><th>extension</th><th>files</th><th>lines</th><th>blank</th><th>bytes</th><th>share</th><td></td></tr>\n",
-    b"</table>\n<h2>By directory</h2>\n<p>Each box is as tall as its share of the ",
-    b", in the colour of the extension that has most of them. \
-      Others are the files right in a directory, and directories with less than a thousandth of all. \
-      Fold a box to make room for the rest.</p>\n<div class=\"tree\">\n",
-    b"</div>\n</body>\n</html>\n",
-];
-
-fn sums([files, lines, blank, bytes]: [u64; 4]) -> Sums {
-    Sums {
-        files,
-        lines: u128::from(lines),
-        blank: u128::from(blank),
-        bytes: u128::from(bytes),
-    }
-}
-
-fn row_of(alloc: Global, row: &Row) -> Result<TallyRow, AllocError> {
-    let (extension, [files, lines, blank, bytes]) = *row;
-    let ext = match extension {
-        Some(name) => Some(name.to_vec(alloc)?),
-        None => None,
-    };
-    Ok(TallyRow {
-        ext,
-        text: TextState::Unspecified,
-        eol: Eol::Lf,
-        files,
-        lines: u128::from(lines),
-        blank: u128::from(blank),
-        bytes: u128::from(bytes),
-    })
-}
-
-fn rows_of(alloc: Global, rows: &[Row]) -> Result<Vec<TallyRow>, AllocError> {
-    let mut made = Vec::new(alloc);
-    for row in rows {
-        made.push(row_of(alloc, row)?)?;
-    }
-    Ok(made)
-}
-
-fn file_of(alloc: Global, file: &File) -> Result<FileLine, AllocError> {
-    let (path, [lines, blank, bytes]) = *file;
-    Ok(FileLine {
-        path: path.to_vec(alloc)?,
-        text: TextState::Unspecified,
-        count: Count {
-            lines,
-            blank,
-            bytes,
-            eol: Eol::Lf,
-        },
-    })
-}
-
-fn files_of(alloc: Global, files: &[File]) -> Result<Vec<FileLine>, AllocError> {
-    let mut made = Vec::new(alloc);
-    for file in files {
-        made.push(file_of(alloc, file)?)?;
-    }
-    Ok(made)
-}
-
-fn report_of(
-    alloc: Global,
-    rows: &[Row],
-    totals: [u64; 4],
-    files: &[File],
-) -> Result<Report, AllocError> {
-    Ok(Report {
-        rows: rows_of(alloc, rows)?,
-        totals: sums(totals),
-        directories: 1,
-        entries: 0,
-        lists: ReportLists {
-            files: true,
-            left_out: false,
-        },
-        files: files_of(alloc, files)?,
-        faults: Vec::new(alloc),
-        skipped: Vec::new(alloc),
-    })
-}
-
 /// Whether the page of a report ends with these parts, from its name on.
 fn has_parts(alloc: Global, case: &Case) -> Result<bool, AllocError> {
     let report = report_of(alloc, case.rows, case.totals, case.files)?;
     let mut body = b"</style>\n</head>\n<body>\n<h1>a&#60;b</h1>\n<p class=\"by\">".to_vec(alloc)?;
     body.extend_from_slice(case.parts[2])?;
-    body.extend_from_slice(b" by directory</p>\n")?;
-    for (between, part) in BETWEEN.iter().zip(&case.parts) {
+    body.extend_from_slice(b" by directory</p>\n<dl>\n")?;
+    body.extend_from_slice(case.parts[0])?;
+    body.extend_from_slice(b"</dl>\n")?;
+    for (between, part) in BETWEEN.iter().zip(&case.parts[1..]) {
         body.extend_from_slice(between)?;
         body.extend_from_slice(part)?;
     }
-    body.extend_from_slice(BETWEEN[4])?;
+    body.extend_from_slice(BETWEEN[3])?;
     let text = page(alloc, b"a<b", &report, case.sort)?;
     Ok(text.ends_with(&body))
 }
@@ -350,10 +256,10 @@ fn extensions_that_the_chart_has_no_place_for(rt: HostRuntime) -> Result<(), Fai
           <i style=\"--n:21\"></i><u style=\"--n:19\"></u></div></td></tr>\n\
           <tr><th>others</th><td>2</td><td>39</td><td>41</td><td>82</td><td>6.0%</td><td></td></tr>\n"
             .to_vec(rt.alloc())?;
-    end.extend_from_slice(BETWEEN[2])?;
+    end.extend_from_slice(BETWEEN[1])?;
     end.extend_from_slice(b"lines")?;
+    end.extend_from_slice(BETWEEN[2])?;
     end.extend_from_slice(BETWEEN[3])?;
-    end.extend_from_slice(BETWEEN[4])?;
     let text = page(rt.alloc(), b"tree", &report, Some(Number::Lines))?;
     assert!(rt; text.ends_with(&end));
     Ok(())
