@@ -35,11 +35,11 @@ pub(crate) fn style() -> &'static [u8]
       details{position:relative;flex:var(--n) 0 0;min-width:11em}\n\
       details:hover,details:focus-within{min-height:2.8em}\n\
       details:not([open]){flex-grow:0;min-height:1.5em}\n\
-      summary{position:absolute;inset:0 auto 0 0;box-sizing:border-box;width:11em;padding:0 .3rem;overflow:hidden;\
+      summary{position:absolute;inset:0 auto 0 0;box-sizing:border-box;width:11em;overflow:hidden;\
       overflow-wrap:anywhere;border:1px solid #888;border-width:1px 0 0 1px;cursor:pointer;\
       display:flex;flex-flow:column wrap;align-content:flex-start;container-type:size}\n\
       summary::before{content:\"\"}\n\
-      summary>*,summary::before{flex:none;width:100%}\n\
+      summary>*,summary::before{flex:none;box-sizing:border-box;width:100%;padding:0 .3rem}\n\
       details:not([open])>summary>b::before{content:\"+ \"}\n\
       details>div{position:absolute;inset:0 0 0 11em;display:flex;flex-direction:column}\n\
       details>div>i{order:1;flex:var(--n) 0 0;overflow:hidden;padding-left:.3rem;container-type:size}\n\
