@@ -52,11 +52,11 @@ pub record AreLargestFirst (by : Number) (boxes sorted : List BoxModel) : Type 0
   pub in_order : AreInOrder by boxes placed
   pub are : sorted ≡ map (λ (p : PlacedModel). p.drawn) placed
 
--- of two boxes whose directories are right in the same one, the later has no larger number
+-- of two boxes whose directories are right in the same one, so that their places but for the last are the same, the later has no larger
+-- number
 abbrev pub FallingLaw : Type 0
 FallingLaw =
     (by : Number) (boxes : List BoxModel) (placed : List PlacedModel) (d : PlacedModel) (i j : ℕ) (above : List PlaceModel)
-    → AreInOrder by boxes placed → i < j → j < length placed
-    → (slice_index_or placed i d).branch ≡ above ++ place_of by (slice_index_or placed i d).drawn ∷ []
-    → (slice_index_or placed j d).branch ≡ above ++ place_of by (slice_index_or placed j d).drawn ∷ []
+    (a b : PlaceModel) → AreInOrder by boxes placed → i < j → j < length placed
+    → (slice_index_or placed i d).branch ≡ above ++ a ∷ [] → (slice_index_or placed j d).branch ≡ above ++ b ∷ []
     → number_in by (slice_index_or placed j d).drawn.sums ≤ number_in by (slice_index_or placed i d).drawn.sums
