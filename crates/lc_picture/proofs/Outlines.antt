@@ -16,7 +16,8 @@ use Rattle.lc_picture.specs.Chart.{cell, cells, cells_in, coloured_line, coloure
 use Rattle.lc_picture.specs.Colours.{main_colour, path_of, rows_from, shared_colour}
 use Rattle.lc_level.specs.FaultLines.{FaultLineModel}
 use Rattle.lc_picture.specs.Faults.{fault_lines, faults_end, faults_listed, faults_part, more_faults}
-use Rattle.lc_picture.specs.Laws.{DrawnLaw, OutlineLaw, ShownLaw, is_shown, nameless, outline, shown_of_box, shown_of_fault}
+use Rattle.lc_picture.specs.Laws.{DrawnLaw, OutlineLaw, ShownLaw, is_shown, nameless, outline, shown_of_box, shown_of_boxes}
+use Rattle.lc_picture.specs.Laws.{shown_of_fault}
 use Rattle.lc_picture.specs.Laws.{shown_of_faults, shown_of_head, shown_of_more}
 use Rattle.lc_picture.specs.Laws.{shown_of_line, shown_of_value, without_colour}
 use Rattle.lc_picture.specs.Page.{chart_part, tree_part}
@@ -29,19 +30,20 @@ closings_show zero = refl
 closings_show (suc n) = closings_show n
 
 box_shows : (scale : Scale) (within : ℕ) (b : BoxModel) (bs : List BoxModel)
-    → filter is_shown (next_box scale within b bs) ≡ shown_of_box scale b
+    → filter is_shown (next_box scale within b bs)
+    ≡ shown_of_box scale b (left_beside scale.by b.depth (number_in scale.by b.sums) bs)
 box_shows scale within b bs =
-    filter-append is_shown (closings (within - b.depth)) (opening scale b (left_beside scale.by b.depth (number_in scale.by b.sums) bs))
-    ∙ ap (λ (ps : List Piece). ps ++ shown_of_box scale b) (closings_show (within - b.depth))
+    let left : ℕ = left_beside scale.by b.depth (number_in scale.by b.sums) bs in
+    filter-append is_shown (closings (within - b.depth)) (opening scale b left)
+    ∙ ap (λ (ps : List Piece). ps ++ shown_of_box scale b left) (closings_show (within - b.depth))
 
-boxes_show : (scale : Scale) (within : ℕ) (bs : List BoxModel)
-    → filter is_shown (boxes_in scale within bs) ≡ flat_map (shown_of_box scale) bs
+boxes_show : (scale : Scale) (within : ℕ) (bs : List BoxModel) → filter is_shown (boxes_in scale within bs) ≡ shown_of_boxes scale bs
 boxes_show scale within [] = closings_show within
 boxes_show scale within (b ∷ bs) =
     filter-append is_shown (next_box scale within b bs) (boxes_in scale (min within b.depth + 1) bs)
     ∙ ap₂ (λ (ps qs : List Piece). ps ++ qs) (box_shows scale within b bs) (boxes_show scale (min within b.depth + 1) bs)
 
-tree_shows : (scale : Scale) (bs : List BoxModel) → filter is_shown (tree_part scale bs) ≡ flat_map (shown_of_box scale) bs
+tree_shows : (scale : Scale) (bs : List BoxModel) → filter is_shown (tree_part scale bs) ≡ shown_of_boxes scale bs
 tree_shows scale bs =
     filter-append is_shown (boxes_in scale 0 bs) _ ∙ append-nil (filter is_shown (boxes_in scale 0 bs)) ∙ boxes_show scale 0 bs
 

@@ -14,7 +14,7 @@ use Rattle.lc_sheet.specs.declared.form.Form.{Form}
 use Rattle.lc_walk.specs.declared.report.Report.{Report}
 use Rattle.lc_walk.specs.declared.tally.sums.Sums.{Sums}
 use Rattle.lc_text.specs.Visible.{visible_path}
-use Rattle.lc_picture.specs.Laws.{ReportLaw, cell_counts, row_counts, shown_of_box, shown_of_faults, shown_of_line}
+use Rattle.lc_picture.specs.Laws.{ReportLaw, cell_counts, row_counts, shown_of_boxes, shown_of_faults, shown_of_line}
 use Rattle.lc_picture.specs.Laws.{shown_of_others, shown_of_row}
 use Rattle.lc_picture.specs.Laws.{shown_of_value, visible_extension}
 use Rattle.lc_picture.specs.Page.{chart_options, scale_of}
@@ -51,5 +51,5 @@ pub report_law : ReportLaw
 report_law counted by r v boxes =
     shown_law counted (scale_of by r.totals) r.faults.items (sheet_of (chart_options by) r v) boxes
     ∙ ap₂ (λ (ps qs : List Piece). (title (visible_path counted) ∷ name (visible_path counted) ∷ cell_counts r.totals)
-    ++ (shown_of_faults r.faults.items ++ ((ps ++ qs) ++ flat_map (shown_of_box (scale_of by r.totals)) boxes))) (rows_show by r v v.rows)
+    ++ (shown_of_faults r.faults.items ++ ((ps ++ qs) ++ shown_of_boxes (scale_of by r.totals) boxes))) (rows_show by r v v.rows)
     (others_show by r v v.others)

@@ -66,9 +66,10 @@ abbrev pub label : Scale → List ℕ → ℕ → List Piece
 label scale directory n =
     markup (codes "\"><b>") ∷ name (visible_path directory) ∷ markup (codes "</b> <span>") ∷ number_drawn scale n
 
--- the space of the files right in a directory and of the directories in it that are not drawn
+-- the space of the files right in a directory and of the directories in it that are not drawn, and its number
 abbrev pub space : ℕ → List Piece
-space left = markup (codes "<i style=\"--n:") ∷ share left ∷ markup (codes "\"></i>") ∷ []
+space left =
+    markup (codes "<i style=\"--n:") ∷ share left ∷ markup (codes "\"><em>others ") ∷ count left ∷ markup (codes "</em></i>") ∷ []
 
 -- the begin of a box
 abbrev pub opening : Scale → BoxModel → ℕ → List Piece

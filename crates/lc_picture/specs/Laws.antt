@@ -17,7 +17,7 @@ use Rattle.lc_walk.specs.declared.report.Report.{Report}
 use Rattle.lc_walk.specs.declared.tally.sums.Sums.{Sums}
 use Rattle.lc_text.specs.Names.{named}
 use Rattle.lc_text.specs.Visible.{visible_bytes, visible_path}
-use Rattle.lc_picture.specs.Boxes.{BoxModel, box_of, boxes_in, drawn_boxes}
+use Rattle.lc_picture.specs.Boxes.{BoxModel, box_of, boxes_in, drawn_boxes, left_beside}
 use Rattle.lc_picture.specs.Chart.{line_colour}
 use Rattle.lc_picture.specs.Colours.{colour_of}
 use Rattle.lc_picture.specs.Escaping.{html}
@@ -102,11 +102,17 @@ shown_of_line values = flat_map shown_of_value values
 abbrev pub share_in : Scale → Sums → Piece
 share_in scale s = percent (number_in scale.by s) scale.whole
 
--- the path of a directory, its sums and its share; and its name, with the number that is drawn and the share once more
-abbrev pub shown_of_box : Scale → BoxModel → List Piece
-shown_of_box scale b =
+-- the path of a directory, its sums and its share; and its name, with the number that is drawn and the share once more;
+-- and the number of what is in no box right in it
+abbrev pub shown_of_box : Scale → BoxModel → ℕ → List Piece
+shown_of_box scale b left =
     title (visible_path b.path) ∷ (counts b.sums ++ share_in scale b.sums ∷ name (visible_path b.directory)
-    ∷ count (number_in scale.by b.sums) ∷ share_in scale b.sums ∷ [])
+    ∷ count (number_in scale.by b.sums) ∷ share_in scale b.sums ∷ count left ∷ [])
+
+abbrev pub shown_of_boxes : Scale → List BoxModel → List Piece
+shown_of_boxes scale [] = []
+shown_of_boxes scale (b ∷ bs) =
+    shown_of_box scale b (left_beside scale.by b.depth (number_in scale.by b.sums) bs) ++ shown_of_boxes scale bs
 
 -- a page shows what was counted, the numbers of all files, what could not be read, the names and the numbers of the rows of its sheet and
 -- of the sums over the others, and the directories that are drawn with their sums and shares: each once, in turn, and nothing else
@@ -116,7 +122,7 @@ ShownLaw =
     → filter is_shown (page_pieces counted scale faults s boxes)
     ≡ shown_of_head counted s.totals
     ++ (shown_of_faults faults ++ ((flat_map shown_of_line s.rows.lines ++ flat_map shown_of_line s.others.lines)
-    ++ flat_map (shown_of_box scale) boxes))
+    ++ shown_of_boxes scale boxes))
 
 -- a dot and the bytes, as a terminal shows them, or `-` for none
 abbrev pub visible_extension : Option (List ℕ) → List ℕ
@@ -148,7 +154,7 @@ ReportLaw =
     ≡ (title (visible_path counted) ∷ name (visible_path counted) ∷ cell_counts r.totals)
     ++ (shown_of_faults r.faults.items
     ++ ((flat_map (shown_of_row (scale_of by r.totals)) v.rows ++ shown_of_others (scale_of by r.totals) v.others)
-    ++ flat_map (shown_of_box (scale_of by r.totals)) boxes))
+    ++ shown_of_boxes (scale_of by r.totals) boxes))
 
 -- each row of the chart has the colour of its extension, by which the directories are coloured too
 abbrev pub ColoursLaw : Type 0

@@ -100,12 +100,14 @@ fn push_label(
     push_drawn_number(text, scale, n, made)
 }
 
-fn push_space(text: &mut Vec<u8>, left: u128) -> Result<(), AllocError>
+fn push_space(text: &mut Vec<u8>, left: u128, made: &mut String) -> Result<(), AllocError>
     ensures { OnOk result (text.new.items ≡ text.old.items ++ text_of (space left)) }
 {
     text.extend_from_slice(b"<i style=\"--n:")?;
     push_number(text, left)?;
-    text.extend_from_slice(b"\"></i>")?;
+    text.extend_from_slice(b"\"><em>others ")?;
+    push_count(text, left, made)?;
+    text.extend_from_slice(b"</em></i>")?;
     Ok(())
 }
 
@@ -128,7 +130,7 @@ fn push_opening(
         number_in(scale.by, drawn.sums),
         made,
     )?;
-    push_space(text, left)?;
+    push_space(text, left, made)?;
     Ok(())
 }
 

@@ -42,10 +42,10 @@ pub(crate) fn style() -> &'static [u8]
       summary>*,summary::before{flex:none;box-sizing:border-box;width:100%;padding:0 .3rem}\n\
       details:not([open])>summary>b::before{content:\"+ \"}\n\
       details>div{position:absolute;inset:0 0 0 11em;display:flex;flex-direction:column}\n\
-      details>div>i{order:1;flex:var(--n) 0 0;overflow:hidden;padding-left:.3rem;container-type:size}\n\
-      details>div>i:not(:only-child)::after{content:\"others\"}\n\
+      details>div>i{order:1;flex:var(--n) 0 0;overflow:hidden;padding-left:.3rem;white-space:nowrap;container-type:size}\n\
+      details>div>i:only-child>em{display:none}\n\
       @container (height<2.7em){summary>span{display:none}}\n\
-      @container (height<1.35em){summary>b,details>div>i::after{display:none}}\n\
+      @container (height<1.35em){summary>b,details>div>i>em{display:none}}\n\
       .e0>summary,.e0 .bar i{background:#4e79a780}\n\
       .e1>summary,.e1 .bar i{background:#f28e2b80}\n\
       .e2>summary,.e2 .bar i{background:#59a14f80}\n\
