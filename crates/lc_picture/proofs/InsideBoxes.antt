@@ -2,7 +2,7 @@
 use Rattle.std.proofs.Common.{◌≡◌, ℕ, ◌+◌, ◌-◌, List, [], ◌∷◌, ◌++◌, drop, length, min, suc, zero}
 use Rattle.std.proofs.Common.{refl, ap, ap₂, ◌∙◌, append_assoc, arith, length-append}
 use Rattle.lc_rows.specs.ShownRows.{number_in}
-use Rattle.lc_sheet.specs.declared.column.Number.{Number}
+use Rattle.lc_picture.specs.declared.scale.Scale.{Scale}
 use Rattle.lc_picture.specs.Boxes.{BoxModel, boxes_in, closings, left_beside, opening}
 use Rattle.lc_picture.specs.Inside.{AreBoxesAt, ComeDepthFirst, InsideLaw, boxes_read}
 use Rattle.lc_picture.specs.Pieces.{Piece}
@@ -18,30 +18,30 @@ read_to_end : (around : List (List ℕ)) (n : ℕ) → boxes_read around (closin
 read_to_end around zero = refl
 read_to_end around (suc n) = read_to_end (drop 1 around) n
 
-read_opened : (around : List (List ℕ)) (by : Number) (b : BoxModel) (left : ℕ) (ps : List Piece)
-    → boxes_read around (opening by b left ++ ps)
+read_opened : (around : List (List ℕ)) (scale : Scale) (b : BoxModel) (left : ℕ) (ps : List Piece)
+    → boxes_read around (opening scale b left ++ ps)
     ≡ (visible_path b.directory ∷ around) ∷ boxes_read (visible_path b.directory ∷ around) ps
-read_opened around by b left ps = refl
+read_opened around scale b left ps = refl
 
-all_inside : (by : Number) (before : List (List ℕ)) (bs : List BoxModel) (ds : List (List (List ℕ))) → ComeDepthFirst before ds
-    → AreBoxesAt bs ds → boxes_read before (boxes_in by (length before) bs) ≡ ds
-all_inside by before [] [] come at = read_to_end before (length before)
-all_inside by before [] (d ∷ ds) come at = absurd at
-all_inside by before (b ∷ bs) [] come at = absurd at
-all_inside by before (b ∷ bs) ([] ∷ ds) come at = absurd at
-all_inside by before (b ∷ bs) ((own ∷ above) ∷ ds) ((left, is), come) ((named, deep), at) =
-    let rest : ℕ → List Piece = λ n. boxes_in by n bs in
-    let inside = left_beside by b.depth (number_in by b.sums) bs in
+all_inside : (scale : Scale) (before : List (List ℕ)) (bs : List BoxModel) (ds : List (List (List ℕ))) → ComeDepthFirst before ds
+    → AreBoxesAt bs ds → boxes_read before (boxes_in scale (length before) bs) ≡ ds
+all_inside scale before [] [] come at = read_to_end before (length before)
+all_inside scale before [] (d ∷ ds) come at = absurd at
+all_inside scale before (b ∷ bs) [] come at = absurd at
+all_inside scale before (b ∷ bs) ([] ∷ ds) come at = absurd at
+all_inside scale before (b ∷ bs) ((own ∷ above) ∷ ds) ((left, is), come) ((named, deep), at) =
+    let rest : ℕ → List Piece = λ n. boxes_in scale n bs in
+    let inside = left_beside scale.by b.depth (number_in scale.by b.sums) bs in
     let many : length before ≡ length left + length above = ap length is ∙ length-append left above in
     let closed : length before - b.depth ≡ length left = omega (arith, many, deep) in
     let more : ℕ = min (length before) b.depth + 1 in
     let next : more ≡ suc (length above) = omega (arith, many, deep) in
-    let opened : List Piece = opening by b inside ++ rest more in
-    ap (boxes_read before) (append_assoc (closings (length before - b.depth)) (opening by b inside) (rest more))
+    let opened : List Piece = opening scale b inside ++ rest more in
+    ap (boxes_read before) (append_assoc (closings (length before - b.depth)) (opening scale b inside) (rest more))
     ∙ ap₂ (λ (around : List (List ℕ)) (n : ℕ). boxes_read around (closings n ++ opened)) is closed
-    ∙ read_closed left above opened ∙ read_opened above by b inside (rest more)
+    ∙ read_closed left above opened ∙ read_opened above scale b inside (rest more)
     ∙ ap₂ (λ (o : List ℕ) (n : ℕ). (o ∷ above) ∷ boxes_read (o ∷ above) (rest n)) named next
-    ∙ ap (λ (found : List (List (List ℕ))). (own ∷ above) ∷ found) (all_inside by (own ∷ above) bs ds come at)
+    ∙ ap (λ (found : List (List (List ℕ))). (own ∷ above) ∷ found) (all_inside scale (own ∷ above) bs ds come at)
 
 pub inside_law : InsideLaw
-inside_law by bs ds come at = all_inside by [] bs ds come at
+inside_law scale bs ds come at = all_inside scale [] bs ds come at

@@ -6,6 +6,8 @@ pub mod Outlines
 pub mod ReportShown
 pub mod ChartColours
 pub mod Boxing
+pub mod Falling
+pub mod Branches
 pub mod Pages
 pub mod Nesting
 pub mod InsideBoxes

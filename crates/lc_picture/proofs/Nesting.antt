@@ -4,7 +4,7 @@ use Rattle.std.proofs.Common.{refl, sym, ap, ◌∙◌, append_assoc, arith}
 use Rattle.std.proofs.lemmas.Bool.{ne_eqb}
 use Rattle.std.proofs.lemmas.List.{append-nil}
 use Rattle.lc_rows.specs.ShownRows.{number_in}
-use Rattle.lc_sheet.specs.declared.column.Number.{Number}
+use Rattle.lc_picture.specs.declared.scale.Scale.{Scale}
 use Rattle.lc_picture.specs.Boxes.{BoxModel, boxes_in, closings, left_beside, opening}
 use Rattle.lc_picture.specs.Laws.{NestingLaw, open_after}
 use Rattle.lc_picture.specs.Pieces.{Piece}
@@ -18,22 +18,22 @@ closed_after n (suc k) ps le =
     let next : n - 1 - k ≡ n - suc k = omega arith in
     one_closed n (closings k ++ ps) (omega arith) ∙ closed_after (n - 1) k ps (omega arith) ∙ ap (λ (m : ℕ). open_after m ps) next
 
-opened_after : (n : ℕ) (by : Number) (b : BoxModel) (left : ℕ) (ps : List Piece)
-    → open_after n (opening by b left ++ ps) ≡ open_after (n + 1) ps
-opened_after n by b left ps = refl
+opened_after : (n : ℕ) (scale : Scale) (b : BoxModel) (left : ℕ) (ps : List Piece)
+    → open_after n (opening scale b left ++ ps) ≡ open_after (n + 1) ps
+opened_after n scale b left ps = refl
 
-all_closed : (by : Number) (within : ℕ) (bs : List BoxModel) → open_after within (boxes_in by within bs) ≡ Some 0
-all_closed by within [] =
+all_closed : (scale : Scale) (within : ℕ) (bs : List BoxModel) → open_after within (boxes_in scale within bs) ≡ Some 0
+all_closed scale within [] =
     let none : within - within ≡ 0 = omega arith in
     ap (open_after within) (sym (append-nil (closings within))) ∙ closed_after within within [] (omega arith) ∙ ap (λ (n : ℕ). Some n) none
-all_closed by within (b ∷ bs) =
-    let left = left_beside by b.depth (number_in by b.sums) bs in
-    let rest = boxes_in by (min within b.depth + 1) bs in
+all_closed scale within (b ∷ bs) =
+    let left = left_beside scale.by b.depth (number_in scale.by b.sums) bs in
+    let rest = boxes_in scale (min within b.depth + 1) bs in
     let open_boxes : within - (within - b.depth) ≡ min within b.depth = omega arith in
-    ap (open_after within) (append_assoc (closings (within - b.depth)) (opening by b left) rest)
-    ∙ closed_after within (within - b.depth) (opening by b left ++ rest) (omega arith)
-    ∙ opened_after (within - (within - b.depth)) by b left rest ∙ ap (λ (n : ℕ). open_after (n + 1) rest) open_boxes
-    ∙ all_closed by (min within b.depth + 1) bs
+    ap (open_after within) (append_assoc (closings (within - b.depth)) (opening scale b left) rest)
+    ∙ closed_after within (within - b.depth) (opening scale b left ++ rest) (omega arith)
+    ∙ opened_after (within - (within - b.depth)) scale b left rest ∙ ap (λ (n : ℕ). open_after (n + 1) rest) open_boxes
+    ∙ all_closed scale (min within b.depth + 1) bs
 
 pub nesting_law : NestingLaw
-nesting_law by bs = all_closed by 0 bs
+nesting_law scale bs = all_closed scale 0 bs

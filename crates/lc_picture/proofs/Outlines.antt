@@ -1,6 +1,6 @@
 -- What a page shows, and what of it depends on no name.
 use Rattle.std.proofs.Common.{◌≡◌, ℕ, ◌+◌, ◌-◌, ◌==◌, nat_le, Bool, true, false, if◌then◌else◌, List, [], ◌∷◌, ◌++◌, map, min, suc, zero}
-use Rattle.std.proofs.Common.{refl, sym, ap, ap₂, ◌∙◌}
+use Rattle.std.proofs.Common.{refl, sym, ap, ap₂, ◌∙◌, codes, length, nat_lt, take}
 use Rattle.std.specs.List.{filter, flat_map}
 use Rattle.std.proofs.lemmas.List.{append-nil, map-append}
 use Rattle.std.proofs.lemmas.List.Elements.{filter-append}
@@ -10,13 +10,18 @@ use Rattle.lc_sheet.specs.Sheets.{SheetModel}
 use Rattle.lc_sheet.specs.Values as value
 use Rattle.lc_sheet.specs.Values.{ValueModel}
 use Rattle.lc_sheet.specs.declared.column.Number.{Number}
+use Rattle.lc_picture.specs.declared.scale.Scale.{Scale}
 use Rattle.lc_picture.specs.Boxes.{BoxModel, box_of, boxes_in, closing, closings, drawn_boxes, left_beside, next_box, opening}
 use Rattle.lc_picture.specs.Chart.{cell, cells, cells_in, coloured_line, coloured_lines, plain_line, plain_lines}
 use Rattle.lc_picture.specs.Colours.{main_colour, path_of, rows_from, shared_colour}
-use Rattle.lc_picture.specs.Laws.{DrawnLaw, OutlineLaw, ShownLaw, is_shown, nameless, outline, shown_of_box, shown_of_head}
+use Rattle.lc_level.specs.FaultLines.{FaultLineModel}
+use Rattle.lc_picture.specs.Faults.{fault_lines, faults_end, faults_listed, faults_part, more_faults}
+use Rattle.lc_picture.specs.Laws.{DrawnLaw, OutlineLaw, ShownLaw, is_shown, nameless, outline, shown_of_box, shown_of_boxes}
+use Rattle.lc_picture.specs.Laws.{shown_of_fault}
+use Rattle.lc_picture.specs.Laws.{shown_of_faults, shown_of_head, shown_of_more}
 use Rattle.lc_picture.specs.Laws.{shown_of_line, shown_of_value, without_colour}
 use Rattle.lc_picture.specs.Page.{chart_part, tree_part}
-use Rattle.lc_picture.specs.Pieces.{Piece}
+use Rattle.lc_picture.specs.Pieces.{Piece, count, markup}
 
 -- ---- what a page shows
 
@@ -24,20 +29,23 @@ closings_show : (n : ℕ) → filter is_shown (closings n) ≡ []
 closings_show zero = refl
 closings_show (suc n) = closings_show n
 
-box_shows : (by : Number) (within : ℕ) (b : BoxModel) (bs : List BoxModel) → filter is_shown (next_box by within b bs) ≡ shown_of_box b
-box_shows by within b bs =
-    filter-append is_shown (closings (within - b.depth)) (opening by b (left_beside by b.depth (number_in by b.sums) bs))
-    ∙ ap (λ (ps : List Piece). ps ++ shown_of_box b) (closings_show (within - b.depth))
+box_shows : (scale : Scale) (within : ℕ) (b : BoxModel) (bs : List BoxModel)
+    → filter is_shown (next_box scale within b bs)
+    ≡ shown_of_box scale b (left_beside scale.by b.depth (number_in scale.by b.sums) bs)
+box_shows scale within b bs =
+    let left : ℕ = left_beside scale.by b.depth (number_in scale.by b.sums) bs in
+    filter-append is_shown (closings (within - b.depth)) (opening scale b left)
+    ∙ ap (λ (ps : List Piece). ps ++ shown_of_box scale b left) (closings_show (within - b.depth))
 
-boxes_show : (by : Number) (within : ℕ) (bs : List BoxModel) → filter is_shown (boxes_in by within bs) ≡ flat_map shown_of_box bs
-boxes_show by within [] = closings_show within
-boxes_show by within (b ∷ bs) =
-    filter-append is_shown (next_box by within b bs) (boxes_in by (min within b.depth + 1) bs)
-    ∙ ap₂ (λ (ps qs : List Piece). ps ++ qs) (box_shows by within b bs) (boxes_show by (min within b.depth + 1) bs)
+boxes_show : (scale : Scale) (within : ℕ) (bs : List BoxModel) → filter is_shown (boxes_in scale within bs) ≡ shown_of_boxes scale bs
+boxes_show scale within [] = closings_show within
+boxes_show scale within (b ∷ bs) =
+    filter-append is_shown (next_box scale within b bs) (boxes_in scale (min within b.depth + 1) bs)
+    ∙ ap₂ (λ (ps qs : List Piece). ps ++ qs) (box_shows scale within b bs) (boxes_show scale (min within b.depth + 1) bs)
 
-tree_shows : (by : Number) (bs : List BoxModel) → filter is_shown (tree_part by bs) ≡ flat_map shown_of_box bs
-tree_shows by bs =
-    filter-append is_shown (boxes_in by 0 bs) _ ∙ append-nil (filter is_shown (boxes_in by 0 bs)) ∙ boxes_show by 0 bs
+tree_shows : (scale : Scale) (bs : List BoxModel) → filter is_shown (tree_part scale bs) ≡ shown_of_boxes scale bs
+tree_shows scale bs =
+    filter-append is_shown (boxes_in scale 0 bs) _ ∙ append-nil (filter is_shown (boxes_in scale 0 bs)) ∙ boxes_show scale 0 bs
 
 value_shows : (v : ValueModel) → filter is_shown (cell v) ≡ shown_of_value v
 value_shows value.missing = refl
@@ -76,11 +84,31 @@ chart_shows s =
     filter-append is_shown (coloured_lines 0 s.rows.lines) (plain_lines s.others.lines)
     ∙ ap₂ (λ (ps qs : List Piece). ps ++ qs) (coloured_show 0 s.rows.lines) (plain_show s.others.lines)
 
+fault_shows : (fs : List FaultLineModel) → filter is_shown (fault_lines fs) ≡ flat_map shown_of_fault fs
+fault_shows [] = refl
+fault_shows (f ∷ fs) = ap (λ (ps : List Piece). shown_of_fault f ++ ps) (fault_shows fs)
+
+more_shows : (listed all : ℕ) (some : Bool) → nat_lt listed all ≡ some
+    → filter is_shown (more_faults listed all ++ markup (codes "</ul>\n") ∷ []) ≡ shown_of_more listed all
+more_shows listed all true e = rw e refl
+more_shows listed all false e = rw e refl
+
+faults_show : (fs : List FaultLineModel) → filter is_shown (faults_part fs) ≡ shown_of_faults fs
+faults_show [] = refl
+faults_show (f ∷ fs) =
+    let all : ℕ = length (f ∷ fs) in
+    let first : List FaultLineModel = take faults_listed (f ∷ fs) in
+    ap (λ (ps : List Piece). count all ∷ ps)
+    (filter-append is_shown (fault_lines first) (faults_end all)
+    ∙ ap₂ (λ (ps qs : List Piece). ps ++ qs) (fault_shows first) (more_shows faults_listed all _ refl))
+
 pub shown_law : ShownLaw
-shown_law by s boxes =
-    ap (λ (ps : List Piece). shown_of_head s.totals ++ ps)
-    (filter-append is_shown (chart_part s) (tree_part by boxes)
-    ∙ ap₂ (λ (ps qs : List Piece). ps ++ qs) (chart_shows s) (tree_shows by boxes))
+shown_law counted scale faults s boxes =
+    ap (λ (ps : List Piece). shown_of_head counted s.totals ++ ps)
+    (filter-append is_shown (faults_part faults) (chart_part s ++ tree_part scale boxes)
+    ∙ ap₂ (λ (ps qs : List Piece). ps ++ qs) (faults_show faults)
+    (filter-append is_shown (chart_part s) (tree_part scale boxes)
+    ∙ ap₂ (λ (ps qs : List Piece). ps ++ qs) (chart_shows s) (tree_shows scale boxes)))
 
 -- ---- the directories that are drawn
 
@@ -116,21 +144,21 @@ closings_nameless : (n : ℕ) → map nameless (closings n) ≡ closings n
 closings_nameless zero = refl
 closings_nameless (suc n) = ap (λ (ps : List Piece). closing ∷ ps) (closings_nameless n)
 
-box_nameless : (by : Number) (within : ℕ) (b : BoxModel) (bs : List BoxModel)
-    → map nameless (next_box by within (outline b) (map outline bs)) ≡ map nameless (next_box by within b bs)
-box_nameless by within b bs =
-    let begin = λ (left : ℕ). map nameless (closings (within - b.depth) ++ opening by (outline b) left) in
-    ap begin (left_same by b.depth (number_in by b.sums) bs)
+box_nameless : (scale : Scale) (within : ℕ) (b : BoxModel) (bs : List BoxModel)
+    → map nameless (next_box scale within (outline b) (map outline bs)) ≡ map nameless (next_box scale within b bs)
+box_nameless scale within b bs =
+    let begin = λ (left : ℕ). map nameless (closings (within - b.depth) ++ opening scale (outline b) left) in
+    ap begin (left_same scale.by b.depth (number_in scale.by b.sums) bs)
     ∙ map-append nameless (closings (within - b.depth)) _ ∙ sym (map-append nameless (closings (within - b.depth)) _)
 
-boxes_nameless : (by : Number) (within : ℕ) (bs : List BoxModel)
-    → map nameless (boxes_in by within (map outline bs)) ≡ map nameless (boxes_in by within bs)
-boxes_nameless by within [] = refl
-boxes_nameless by within (b ∷ bs) =
-    map-append nameless (next_box by within (outline b) (map outline bs)) _
-    ∙ ap₂ (λ (ps qs : List Piece). ps ++ qs) (box_nameless by within b bs) (boxes_nameless by (min within b.depth + 1) bs)
-    ∙ sym (map-append nameless (next_box by within b bs) _)
+boxes_nameless : (scale : Scale) (within : ℕ) (bs : List BoxModel)
+    → map nameless (boxes_in scale within (map outline bs)) ≡ map nameless (boxes_in scale within bs)
+boxes_nameless scale within [] = refl
+boxes_nameless scale within (b ∷ bs) =
+    map-append nameless (next_box scale within (outline b) (map outline bs)) _
+    ∙ ap₂ (λ (ps qs : List Piece). ps ++ qs) (box_nameless scale within b bs) (boxes_nameless scale (min within b.depth + 1) bs)
+    ∙ sym (map-append nameless (next_box scale within b bs) _)
 
 pub outline_law : OutlineLaw
-outline_law by bs cs e =
-    sym (boxes_nameless by 0 bs) ∙ ap (λ (ds : List BoxModel). map nameless (boxes_in by 0 ds)) e ∙ boxes_nameless by 0 cs
+outline_law scale bs cs e =
+    sym (boxes_nameless scale 0 bs) ∙ ap (λ (ds : List BoxModel). map nameless (boxes_in scale 0 ds)) e ∙ boxes_nameless scale 0 cs

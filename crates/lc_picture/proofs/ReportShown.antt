@@ -13,10 +13,12 @@ use Rattle.lc_sheet.specs.declared.column.Number.{Number}
 use Rattle.lc_sheet.specs.declared.form.Form.{Form}
 use Rattle.lc_walk.specs.declared.report.Report.{Report}
 use Rattle.lc_walk.specs.declared.tally.sums.Sums.{Sums}
-use Rattle.lc_picture.specs.Laws.{ReportLaw, cell_counts, counts, shown_of_box, shown_of_line, shown_of_others, shown_of_row}
+use Rattle.lc_text.specs.Visible.{visible_path}
+use Rattle.lc_picture.specs.Laws.{ReportLaw, cell_counts, row_counts, shown_of_boxes, shown_of_faults, shown_of_line}
+use Rattle.lc_picture.specs.Laws.{shown_of_others, shown_of_row}
 use Rattle.lc_picture.specs.Laws.{shown_of_value, visible_extension}
-use Rattle.lc_picture.specs.Page.{chart_options}
-use Rattle.lc_picture.specs.Pieces.{Piece, name}
+use Rattle.lc_picture.specs.Page.{chart_options, scale_of}
+use Rattle.lc_picture.specs.Pieces.{Piece, name, title}
 use Rattle.lc_picture.proofs.Outlines.{shown_law}
 
 extension_shows : (e : Option (List ℕ)) → shown_of_value (extension_value e) ≡ name (visible_extension e) ∷ []
@@ -30,21 +32,24 @@ abbrev columns_in : Number → List Column
 columns_in by = row_columns (chart_options by)
 
 row_shows : (by : Number) (r : Report) (v : ViewModel) (row : ShownRowModel)
-    → shown_of_line (line_of (row_value (form_in by r v)) (columns_in by) row) ≡ shown_of_row row
-row_shows by r v row = ap (λ (ps : List Piece). ps ++ cell_counts row.sums) (extension_shows row.key.extension)
+    → shown_of_line (line_of (row_value (form_in by r v)) (columns_in by) row) ≡ shown_of_row (scale_of by r.totals) row
+row_shows by r v row = ap (λ (ps : List Piece). ps ++ row_counts (scale_of by r.totals) row.sums) (extension_shows row.key.extension)
 
 rows_show : (by : Number) (r : Report) (v : ViewModel) (rows : List ShownRowModel)
-    → flat_map shown_of_line (lines_of (row_value (form_in by r v)) (columns_in by) rows) ≡ flat_map shown_of_row rows
+    → flat_map shown_of_line (lines_of (row_value (form_in by r v)) (columns_in by) rows)
+    ≡ flat_map (shown_of_row (scale_of by r.totals)) rows
 rows_show by r v [] = refl
 rows_show by r v (row ∷ rows) = ap₂ (λ (ps qs : List Piece). ps ++ qs) (row_shows by r v row) (rows_show by r v rows)
 
 others_show : (by : Number) (r : Report) (v : ViewModel) (others : Option Sums)
-    → flat_map shown_of_line (lines_of (sums_value (form_in by r v)) (columns_in by) (others_lines others)) ≡ shown_of_others others
+    → flat_map shown_of_line (lines_of (sums_value (form_in by r v)) (columns_in by) (others_lines others))
+    ≡ shown_of_others (scale_of by r.totals) others
 others_show by r v None = refl
 others_show by r v (Some s) = refl
 
 pub report_law : ReportLaw
-report_law by r v boxes =
-    shown_law by (sheet_of (chart_options by) r v) boxes
-    ∙ ap₂ (λ (ps qs : List Piece). counts r.totals ++ ((ps ++ qs) ++ flat_map shown_of_box boxes)) (rows_show by r v v.rows)
+report_law counted by r v boxes =
+    shown_law counted (scale_of by r.totals) r.faults.items (sheet_of (chart_options by) r v) boxes
+    ∙ ap₂ (λ (ps qs : List Piece). (title (visible_path counted) ∷ name (visible_path counted) ∷ cell_counts r.totals)
+    ++ (shown_of_faults r.faults.items ++ ((ps ++ qs) ++ shown_of_boxes (scale_of by r.totals) boxes))) (rows_show by r v v.rows)
     (others_show by r v v.others)

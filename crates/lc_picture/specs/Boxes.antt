@@ -7,18 +7,22 @@ use Rattle.lc_rows.specs.ShownRows.{number_in}
 use Rattle.lc_text.specs.Visible.{visible_path}
 use Rattle.lc_sheet.specs.declared.column.Number.{Number}
 use Rattle.lc_walk.specs.declared.tally.sums.Sums.{Sums}
+use Rattle.lc_picture.specs.declared.scale.Scale.{Scale}
 use Rattle.lc_picture.specs.Colours.{main_colour, path_of, rows_from, shared_colour}
-use Rattle.lc_picture.specs.Pieces.{Piece, markup, name, share, sums_pieces}
+use Rattle.lc_picture.specs.Pieces.{Piece, count, markup, name, percent, share, share_pieces, sums_pieces, title, word}
 
--- a directory: its path from the directory right above it on, how many directories are above it, its colour, and the sums over the files in it and below it
+-- a directory: its path, the part of it from the directory right above it on, how many directories are above it, its colour, and the sums
+-- over the files in it and below it
 pub record BoxModel : Type 0 where
+  pub path : List ℕ
   pub directory : List ℕ
   pub depth : ℕ
   pub colour : ℕ
   pub sums : Sums
 
 abbrev pub box_of : ShownRowModel → ℕ → BoxModel
-box_of r colour = record { directory = own_part (path_of r); depth = level_of (path_of r); colour = colour; sums = r.sums }
+box_of r colour =
+    record { path = path_of r; directory = own_part (path_of r); depth = level_of (path_of r); colour = colour; sums = r.sums }
 
 -- the least number that is drawn: a thousandth of the total, rounded up, and not nothing
 abbrev pub least_drawn : ℕ → ℕ
@@ -41,20 +45,36 @@ left_beside by depth n (b ∷ bs) =
     else left_beside by depth (if b.depth == depth + 1 then n - number_in by b.sums else n) bs
 
 -- the tag of a box, with its colour and its number
-abbrev pub tag : Number → BoxModel → List Piece
-tag by b =
-    markup (codes "<details open class=\"e") ∷ share b.colour ∷ markup (codes "\" style=\"--n:") ∷ share (number_in by b.sums)
-    ∷ markup (codes "\"><summary><b>") ∷ []
+abbrev pub tag : Number → ℕ → Sums → List Piece
+tag by colour s =
+    markup (codes "<details open class=\"e") ∷ share colour ∷ markup (codes "\" style=\"--n:") ∷ share (number_in by s)
+    ∷ markup (codes "\"><summary title=\"") ∷ []
 
--- the name and the sums of a box, and the space of the files right in it and of the directories in it that are not drawn
-abbrev pub label : BoxModel → ℕ → List Piece
-label b left =
-    name (visible_path b.directory) ∷ markup (codes "</b> ")
-    ∷ (sums_pieces b.sums ++ markup (codes "</summary><div><i style=\"--n:") ∷ share left ∷ markup (codes "\"></i>") ∷ [])
+-- what a box is, which the browser shows at the pointer: the path, the sums, and the share of the number that is drawn
+abbrev pub title_of : Scale → List ℕ → Sums → List Piece
+title_of scale path s =
+    title (visible_path path) ∷ markup (codes ": ") ∷ (sums_pieces s ++ share_pieces scale (number_in scale.by s))
+
+-- the number that is drawn, and its share
+abbrev pub number_drawn : Scale → ℕ → List Piece
+number_drawn scale n =
+    word scale.by ∷ markup (codes " ") ∷ count n ∷ markup (codes " (") ∷ percent n scale.whole
+    ∷ markup (codes ")</span></summary><div>") ∷ []
+
+-- the name of a directory, and the number that is drawn
+abbrev pub label : Scale → List ℕ → ℕ → List Piece
+label scale directory n =
+    markup (codes "\"><b>") ∷ name (visible_path directory) ∷ markup (codes "</b> <span>") ∷ number_drawn scale n
+
+-- the space of the files right in a directory and of the directories in it that are not drawn, and its number
+abbrev pub space : ℕ → List Piece
+space left =
+    markup (codes "<i style=\"--n:") ∷ share left ∷ markup (codes "\"><em>others ") ∷ count left ∷ markup (codes "</em></i>") ∷ []
 
 -- the begin of a box
-abbrev pub opening : Number → BoxModel → ℕ → List Piece
-opening by b left = tag by b ++ label b left
+abbrev pub opening : Scale → BoxModel → ℕ → List Piece
+opening scale b left =
+    tag scale.by b.colour b.sums ++ (title_of scale b.path b.sums ++ (label scale b.directory (number_in scale.by b.sums) ++ space left))
 
 abbrev pub closing : Piece
 closing = markup (codes "</div></details>\n")
@@ -63,10 +83,11 @@ abbrev pub closings : ℕ → List Piece
 closings n = replicate n closing
 
 -- the next box: the open ones that don't hold it are closed before it begins
-abbrev pub next_box : Number → ℕ → BoxModel → List BoxModel → List Piece
-next_box by within b bs = closings (within - b.depth) ++ opening by b (left_beside by b.depth (number_in by b.sums) bs)
+abbrev pub next_box : Scale → ℕ → BoxModel → List BoxModel → List Piece
+next_box scale within b bs =
+    closings (within - b.depth) ++ opening scale b (left_beside scale.by b.depth (number_in scale.by b.sums) bs)
 
 -- the boxes of directories that come depth first, while so many boxes are open
-abbrev pub boxes_in : Number → ℕ → List BoxModel → List Piece
-boxes_in by within [] = closings within
-boxes_in by within (b ∷ bs) = next_box by within b bs ++ boxes_in by (min within b.depth + 1) bs
+abbrev pub boxes_in : Scale → ℕ → List BoxModel → List Piece
+boxes_in scale within [] = closings within
+boxes_in scale within (b ∷ bs) = next_box scale within b bs ++ boxes_in scale (min within b.depth + 1) bs

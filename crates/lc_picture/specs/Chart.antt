@@ -7,7 +7,7 @@ use Rattle.lc_sheet.specs.Values.{ValueModel}
 use Rattle.lc_text.specs.Names.{named}
 use Rattle.lc_text.specs.Visible.{visible_bytes, visible_path}
 use Rattle.lc_picture.specs.Colours.{shared_colour}
-use Rattle.lc_picture.specs.Pieces.{Piece, count, markup, name, share}
+use Rattle.lc_picture.specs.Pieces.{Piece, count, markup, name, percent, share}
 
 -- a text is the head of its line
 abbrev pub name_cell : List ℕ → List Piece
@@ -15,6 +15,9 @@ name_cell text = markup (codes "<th>") ∷ name text ∷ markup (codes "</th>") 
 
 abbrev pub number_cell : ℕ → List Piece
 number_cell n = markup (codes "<td>") ∷ count n ∷ markup (codes "</td>") ∷ []
+
+abbrev pub share_cell : ℕ → ℕ → List Piece
+share_cell part whole = markup (codes "<td>") ∷ percent part whole ∷ markup (codes "</td>") ∷ []
 
 abbrev pub empty_cell : List Piece
 empty_cell = markup (codes "<td></td>") ∷ []
@@ -25,7 +28,7 @@ bar_cell part whole =
     markup (codes "<td><div class=\"bar\"><i style=\"--n:") ∷ share part ∷ markup (codes "\"></i><u style=\"--n:")
     ∷ share (whole - part) ∷ markup (codes "\"></u></div></td>") ∷ []
 
--- a value in its cell. Texts are as a terminal shows them, and a chart shows no shares
+-- a value in its cell. Texts are as a terminal shows them
 abbrev pub cell : ValueModel → List Piece
 cell value.missing = name_cell (codes "-")
 cell value.summed = empty_cell
@@ -34,7 +37,7 @@ cell (value.word w) = name_cell w
 cell (value.name n) = name_cell (named visible_bytes n)
 cell (value.path p) = name_cell (visible_path p)
 cell (value.number n) = number_cell n
-cell (value.share part whole) = empty_cell
+cell (value.share part whole) = share_cell part whole
 cell (value.bar part whole) = bar_cell part whole
 
 abbrev pub cells_in : List ValueModel → List Piece

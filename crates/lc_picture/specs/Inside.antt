@@ -1,10 +1,10 @@
 -- That a box opens inside the box of the directory that holds it.
 use Rattle.std.specs.Prelude.{◌≡◌, ℕ, if◌then◌else◌, List, [], ◌∷◌, ◌++◌, drop, length, ⊤}
-use Rattle.lc_sheet.specs.declared.column.Number.{Number}
 use Rattle.lc_text.specs.Visible.{visible_path}
+use Rattle.lc_picture.specs.declared.scale.Scale.{Scale}
 use Rattle.lc_picture.specs.Boxes.{BoxModel, boxes_in}
 use Rattle.lc_picture.specs.Laws.{ends_box}
-use Rattle.lc_picture.specs.Pieces.{Piece, count, markup, name, share}
+use Rattle.lc_picture.specs.Pieces.{Piece, count, markup, name, percent, share, title, word}
 
 -- a reader of a page, by the names of the boxes that are open, the innermost first. A name opens a box; it is read with the names around
 -- it. A closing tag ends the innermost box
@@ -12,7 +12,10 @@ abbrev pub boxes_read : List (List ℕ) → List Piece → List (List (List ℕ)
 boxes_read around [] = []
 boxes_read around (markup t ∷ ps) = boxes_read (if ends_box (markup t) then drop 1 around else around) ps
 boxes_read around (share n ∷ ps) = boxes_read around ps
+boxes_read around (word n ∷ ps) = boxes_read around ps
 boxes_read around (count n ∷ ps) = boxes_read around ps
+boxes_read around (percent part whole ∷ ps) = boxes_read around ps
+boxes_read around (title t ∷ ps) = boxes_read around ps
 boxes_read around (name t ∷ ps) = (t ∷ around) ∷ boxes_read (t ∷ around) ps
 
 -- directories, each as its name and those of the directories above it. They come depth first: each is right in the one before it or in
@@ -35,5 +38,5 @@ AreBoxesAt (b ∷ bs) ((own ∷ above) ∷ ds) =
 -- then a reader finds each directory, inside those above it
 abbrev pub InsideLaw : Type 0
 InsideLaw =
-    (by : Number) (bs : List BoxModel) (ds : List (List (List ℕ))) → ComeDepthFirst [] ds → AreBoxesAt bs ds
-    → boxes_read [] (boxes_in by 0 bs) ≡ ds
+    (scale : Scale) (bs : List BoxModel) (ds : List (List (List ℕ))) → ComeDepthFirst [] ds → AreBoxesAt bs ds
+    → boxes_read [] (boxes_in scale 0 bs) ≡ ds

@@ -1,6 +1,6 @@
 -- What is true of pages.
 use Rattle.std.specs.Prelude.{◌≡◌, ◌+◌, ◌*◌, ◌-◌, ℕ, nat_eq, Bool, true, false, if◌then◌else◌, List, [], ◌∷◌, ◌++◌, map, flat_map, codes}
-use Rattle.std.specs.Prelude.{◌==◌, ◌<◌, bytes_eq, length, nat_le, Option, Some, None}
+use Rattle.std.specs.Prelude.{◌==◌, ◌<◌, bytes_eq, length, nat_le, nat_lt, take, Option, Some, None}
 use Rattle.std.specs.List.{filter, list_any, slice_index_or}
 use Rattle.lc_rows.specs.RowKeys.{ShownRowModel}
 use Rattle.lc_rows.specs.SheetLaws.{first_number}
@@ -17,12 +17,16 @@ use Rattle.lc_walk.specs.declared.report.Report.{Report}
 use Rattle.lc_walk.specs.declared.tally.sums.Sums.{Sums}
 use Rattle.lc_text.specs.Names.{named}
 use Rattle.lc_text.specs.Visible.{visible_bytes, visible_path}
-use Rattle.lc_picture.specs.Boxes.{BoxModel, box_of, boxes_in, drawn_boxes}
+use Rattle.lc_picture.specs.Boxes.{BoxModel, box_of, boxes_in, drawn_boxes, left_beside}
 use Rattle.lc_picture.specs.Chart.{line_colour}
 use Rattle.lc_picture.specs.Colours.{colour_of}
 use Rattle.lc_picture.specs.Escaping.{html}
-use Rattle.lc_picture.specs.Page.{chart_columns, chart_options, chart_view, page_pieces}
-use Rattle.lc_picture.specs.Pieces.{Piece, count, markup, name, share}
+use Rattle.lc_picture.specs.Faults.{faults_listed}
+use Rattle.lc_picture.specs.Page.{chart_columns, chart_options, chart_view, page_pieces, scale_of}
+use Rattle.lc_picture.specs.Pieces.{Piece, count, markup, name, percent, share, title, word}
+use Rattle.lc_picture.specs.declared.scale.Scale.{Scale}
+use Rattle.lc_level.specs.FaultLines.{FaultLineModel}
+use Rattle.lc_level.specs.FaultWords.{fault_word}
 use Rattle.lc_level.specs.Level.{FileLineModel}
 
 -- whether a byte can begin or end a tag or an attribute
@@ -51,17 +55,33 @@ UnescapedLaw = (text : List ℕ) → unescaped (html text) ≡ text
 abbrev pub is_shown : Piece → Bool
 is_shown (markup t) = false
 is_shown (share n) = false
+is_shown (word n) = false
 is_shown (count n) = true
+is_shown (percent part whole) = true
+is_shown (title t) = true
 is_shown (name t) = true
 
 -- sums, in the order of their words
 abbrev pub counts : Sums → List Piece
 counts s = count s.lines ∷ count s.files ∷ count s.blank ∷ count s.bytes ∷ []
 
-abbrev pub shown_of_head : SectionModel → List Piece
-shown_of_head totals =
-    count (first_number Lines totals) ∷ count (first_number Files totals) ∷ count (first_number Blank totals)
-    ∷ count (first_number Bytes totals) ∷ []
+-- what was counted, in the title and on the page, and the numbers of the totals
+abbrev pub shown_of_head : List ℕ → SectionModel → List Piece
+shown_of_head counted totals =
+    title (visible_path counted) ∷ name (visible_path counted) ∷ count (first_number Files totals) ∷ count (first_number Lines totals)
+    ∷ count (first_number Blank totals) ∷ count (first_number Bytes totals) ∷ []
+
+-- what could not be read: how many there are, the first of them, and how many more
+abbrev pub shown_of_fault : FaultLineModel → List Piece
+shown_of_fault f = name (visible_path f.path) ∷ name (fault_word f.word) ∷ []
+
+abbrev pub shown_of_more : ℕ → ℕ → List Piece
+shown_of_more listed all = if nat_lt listed all then count (all - listed) ∷ [] else []
+
+abbrev pub shown_of_faults : List FaultLineModel → List Piece
+shown_of_faults [] = []
+shown_of_faults (f ∷ fs) =
+    count (length (f ∷ fs)) ∷ (flat_map shown_of_fault (take faults_listed (f ∷ fs)) ++ shown_of_more faults_listed (length (f ∷ fs)))
 
 -- the text of a value, or its number. Bars are numbers in tags
 abbrev pub shown_of_value : ValueModel → List Piece
@@ -72,24 +92,37 @@ shown_of_value (value.word w) = name w ∷ []
 shown_of_value (value.name n) = name (named visible_bytes n) ∷ []
 shown_of_value (value.path p) = name (visible_path p) ∷ []
 shown_of_value (value.number n) = count n ∷ []
-shown_of_value (value.share part whole) = []
+shown_of_value (value.share part whole) = percent part whole ∷ []
 shown_of_value (value.bar part whole) = []
 
 abbrev pub shown_of_line : List ValueModel → List Piece
 shown_of_line values = flat_map shown_of_value values
 
--- the name and the sums of a directory
-abbrev pub shown_of_box : BoxModel → List Piece
-shown_of_box b = name (visible_path b.directory) ∷ counts b.sums
+-- the share of the number that a picture is drawn by
+abbrev pub share_in : Scale → Sums → Piece
+share_in scale s = percent (number_in scale.by s) scale.whole
 
--- a page shows the numbers of all files, the names and the numbers of the rows of its sheet and of the sums over the others, and the
--- directories that are drawn with their sums: each once, in turn, and nothing else
+-- the path of a directory, its sums and its share; and its name, with the number that is drawn and the share once more;
+-- and the number of what is in no box right in it
+abbrev pub shown_of_box : Scale → BoxModel → ℕ → List Piece
+shown_of_box scale b left =
+    title (visible_path b.path) ∷ (counts b.sums ++ share_in scale b.sums ∷ name (visible_path b.directory)
+    ∷ count (number_in scale.by b.sums) ∷ share_in scale b.sums ∷ count left ∷ [])
+
+abbrev pub shown_of_boxes : Scale → List BoxModel → List Piece
+shown_of_boxes scale [] = []
+shown_of_boxes scale (b ∷ bs) =
+    shown_of_box scale b (left_beside scale.by b.depth (number_in scale.by b.sums) bs) ++ shown_of_boxes scale bs
+
+-- a page shows what was counted, the numbers of all files, what could not be read, the names and the numbers of the rows of its sheet and
+-- of the sums over the others, and the directories that are drawn with their sums and shares: each once, in turn, and nothing else
 abbrev pub ShownLaw : Type 0
 ShownLaw =
-    (by : Number) (s : SheetModel) (boxes : List BoxModel)
-    → filter is_shown (page_pieces by s boxes)
-    ≡ shown_of_head s.totals ++ ((flat_map shown_of_line s.rows.lines ++ flat_map shown_of_line s.others.lines)
-    ++ flat_map shown_of_box boxes)
+    (counted : List ℕ) (scale : Scale) (faults : List FaultLineModel) (s : SheetModel) (boxes : List BoxModel)
+    → filter is_shown (page_pieces counted scale faults s boxes)
+    ≡ shown_of_head counted s.totals
+    ++ (shown_of_faults faults ++ ((flat_map shown_of_line s.rows.lines ++ flat_map shown_of_line s.others.lines)
+    ++ shown_of_boxes scale boxes))
 
 -- a dot and the bytes, as a terminal shows them, or `-` for none
 abbrev pub visible_extension : Option (List ℕ) → List ℕ
@@ -100,20 +133,28 @@ visible_extension (Some e) = codes "." ++ visible_bytes e
 abbrev pub cell_counts : Sums → List Piece
 cell_counts s = count s.files ∷ count s.lines ∷ count s.blank ∷ count s.bytes ∷ []
 
--- the extension and the sums of a row
-abbrev pub shown_of_row : ShownRowModel → List Piece
-shown_of_row r = name (visible_extension r.key.extension) ∷ cell_counts r.sums
+-- the sums of a row and its share
+abbrev pub row_counts : Scale → Sums → List Piece
+row_counts scale s = cell_counts s ++ share_in scale s ∷ []
 
-abbrev pub shown_of_others : Option Sums → List Piece
-shown_of_others None = []
-shown_of_others (Some s) = name (codes "others") ∷ cell_counts s
+-- the extension, the sums and the share of a row
+abbrev pub shown_of_row : Scale → ShownRowModel → List Piece
+shown_of_row scale r = name (visible_extension r.key.extension) ∷ row_counts scale r.sums
 
--- so the page of a report shows the sums over all files, each extension of the chart with its sums, and the sums over the others
+abbrev pub shown_of_others : Scale → Option Sums → List Piece
+shown_of_others scale None = []
+shown_of_others scale (Some s) = name (codes "others") ∷ row_counts scale s
+
+-- so the page of a report shows what was counted, the sums over all files, each extension of the chart with its sums and its
+-- share, and the sums over the others
 abbrev pub ReportLaw : Type 0
 ReportLaw =
-    (by : Number) (r : Report) (v : ViewModel) (boxes : List BoxModel)
-    → filter is_shown (page_pieces by (sheet_of (chart_options by) r v) boxes)
-    ≡ counts r.totals ++ ((flat_map shown_of_row v.rows ++ shown_of_others v.others) ++ flat_map shown_of_box boxes)
+    (counted : List ℕ) (by : Number) (r : Report) (v : ViewModel) (boxes : List BoxModel)
+    → filter is_shown (page_pieces counted (scale_of by r.totals) r.faults.items (sheet_of (chart_options by) r v) boxes)
+    ≡ (title (visible_path counted) ∷ name (visible_path counted) ∷ cell_counts r.totals)
+    ++ (shown_of_faults r.faults.items
+    ++ ((flat_map (shown_of_row (scale_of by r.totals)) v.rows ++ shown_of_others (scale_of by r.totals) v.others)
+    ++ shown_of_boxes (scale_of by r.totals) boxes))
 
 -- each row of the chart has the colour of its extension, by which the directories are coloured too
 abbrev pub ColoursLaw : Type 0
@@ -123,7 +164,7 @@ ColoursLaw =
     → colour_of (chart_view extensions).rows (slice_index_or (chart_view extensions).rows place d).key.extension ≡ line_colour place
 
 abbrev pub without_colour : BoxModel → BoxModel
-without_colour b = record { directory = b.directory; depth = b.depth; colour = 0; sums = b.sums }
+without_colour b = record { path = b.path; directory = b.directory; depth = b.depth; colour = 0; sums = b.sums }
 
 -- whatever the colours, the directories that are drawn are those with at least the least number, each once
 abbrev pub DrawnLaw : Type 0
@@ -136,30 +177,39 @@ DrawnLaw =
 abbrev pub nameless : Piece → Piece
 nameless (markup t) = markup t
 nameless (share n) = share n
+nameless (word n) = word n
 nameless (count n) = count n
+nameless (percent part whole) = percent part whole
+nameless (title t) = title []
 nameless (name t) = name []
 
 -- a directory without its name
 abbrev pub outline : BoxModel → BoxModel
-outline b = record { directory = []; depth = b.depth; colour = b.colour; sums = b.sums }
+outline b = record { path = []; directory = []; depth = b.depth; colour = b.colour; sums = b.sums }
 
 -- but for the names, the boxes depend on depths, colours and sums alone: no name adds a tag, or takes one away
 abbrev pub OutlineLaw : Type 0
 OutlineLaw =
-    (by : Number) (bs cs : List BoxModel) → map outline bs ≡ map outline cs
-    → map nameless (boxes_in by 0 bs) ≡ map nameless (boxes_in by 0 cs)
+    (scale : Scale) (bs cs : List BoxModel) → map outline bs ≡ map outline cs
+    → map nameless (boxes_in scale 0 bs) ≡ map nameless (boxes_in scale 0 cs)
 
 -- whether a piece begins a box, and whether it ends one
 abbrev pub begins_box : Piece → Bool
 begins_box (markup t) = bytes_eq t (codes "<details open class=\"e")
 begins_box (share n) = false
+begins_box (word n) = false
 begins_box (count n) = false
+begins_box (percent part whole) = false
+begins_box (title t) = false
 begins_box (name t) = false
 
 abbrev pub ends_box : Piece → Bool
 ends_box (markup t) = bytes_eq t (codes "</div></details>\n")
 ends_box (share n) = false
+ends_box (word n) = false
 ends_box (count n) = false
+ends_box (percent part whole) = false
+ends_box (title t) = false
 ends_box (name t) = false
 
 -- how many boxes are open behind some pieces, if so many are before them; none, if a box is closed where none is open
@@ -172,4 +222,4 @@ open_after n (p ∷ ps) =
 
 -- each box that is opened is closed, and no others
 abbrev pub NestingLaw : Type 0
-NestingLaw = (by : Number) (bs : List BoxModel) → open_after 0 (boxes_in by 0 bs) ≡ Some 0
+NestingLaw = (scale : Scale) (bs : List BoxModel) → open_after 0 (boxes_in scale 0 bs) ≡ Some 0

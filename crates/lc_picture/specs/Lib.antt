@@ -3,7 +3,9 @@ pub mod Pieces
 pub mod Style
 pub mod Colours
 pub mod Boxes
+pub mod Places
 pub mod Head
+pub mod Faults
 pub mod Chart
 pub mod Page
 pub mod Laws

@@ -1,4 +1,4 @@
--- The page of a report: the numbers of all files, a bar chart of its extensions, and the boxes of its directories.
+-- The page of a report: a head with the numbers of all files, a bar chart of its extensions, and the boxes of its directories.
 use Rattle.std.specs.Prelude.{◌≡◌, ℕ, true, false, List, [], ◌∷◌, ◌++◌, codes, unwrap_or, Option, Some, None}
 use Rattle.lc_glob.specs.Path.{max_depth}
 use Rattle.lc_rows.specs.RowKeys.{ShownRowModel}
@@ -6,36 +6,30 @@ use Rattle.lc_rows.specs.Sheets.{sheet_of}
 use Rattle.lc_rows.specs.ShownRows.{AreShown, number_in}
 use Rattle.lc_rows.specs.TreeRows.{AreTreeRows}
 use Rattle.lc_rows.specs.Views.{ViewModel, view_of}
-use Rattle.lc_sheet.specs.Sheets.{SectionModel, SheetModel}
+use Rattle.lc_sheet.specs.Sheets.{SheetModel}
 use Rattle.lc_sheet.specs.declared.table_options.Columns.{Columns}
 use Rattle.lc_sheet.specs.declared.table_options.Format.TheVariants.{Html}
 use Rattle.lc_sheet.specs.declared.table_options.TableOptions.{TableOptions}
 use Rattle.lc_sheet.specs.declared.column.Number.{Number}
-use Rattle.lc_sheet.specs.declared.column.Number.TheVariants.{Files, Lines, Blank, Bytes}
+use Rattle.lc_sheet.specs.declared.column.Number.TheVariants.{Lines}
 use Rattle.lc_walk.specs.declared.report.Report.{Report}
 use Rattle.lc_walk.specs.declared.tally.sums.Sums.{Sums}
+use Rattle.lc_picture.specs.declared.scale.Scale.{Scale}
 use Rattle.lc_picture.specs.Boxes.{BoxModel, boxes_in, drawn_boxes, least_drawn}
 use Rattle.lc_picture.specs.Chart.{chart}
-use Rattle.lc_picture.specs.Head.{head}
-use Rattle.lc_picture.specs.Pieces.{Piece, markup, text_of}
-use Rattle.lc_picture.specs.Style.{page_begin, style, sums_begin}
+use Rattle.lc_picture.specs.Faults.{faults_part}
+use Rattle.lc_picture.specs.Head.{head_part}
+use Rattle.lc_picture.specs.Places.{AreLargestFirst}
+use Rattle.lc_picture.specs.Pieces.{Piece, markup, text_of, word}
+use Rattle.lc_level.specs.FaultLines.{FaultLineModel}
 use Rattle.lc_level.specs.Level.{FileLineModel}
 
 -- ---- the page of a sheet and of boxes
 
-abbrev pub number_word : Number → List ℕ
-number_word Files = codes "files"
-number_word Lines = codes "lines"
-number_word Blank = codes "blank lines"
-number_word Bytes = codes "bytes"
-
-abbrev pub head_part : SectionModel → List Piece
-head_part totals = markup page_begin ∷ markup style ∷ markup sums_begin ∷ head totals
-
 abbrev pub chart_begin : List ℕ
 chart_begin =
-    codes "</p>\n<h2>By extension</h2>\n<table>\n<tr><th>extension</th><th>files</th><th>lines</th><th>blank</th><th>bytes</th>"
-    ++ codes "<td></td></tr>\n"
+    codes "<h2>By extension</h2>\n<table>\n<tr><th>extension</th><th>files</th><th>lines</th><th>blank</th><th>bytes</th>"
+    ++ codes "<th>share</th><td></td></tr>\n"
 
 abbrev pub chart_part : SheetModel → List Piece
 chart_part s = markup chart_begin ∷ chart s
@@ -48,13 +42,18 @@ boxes_begin =
     codes ", in the colour of the extension that has most of them. Others are the files right in a directory, "
     ++ codes "and directories with less than a thousandth of all. Fold a box to make room for the rest.</p>\n<div class=\"tree\">\n"
 
-abbrev pub tree_part : Number → List BoxModel → List Piece
-tree_part by boxes =
-    markup tree_begin ∷ markup (number_word by) ∷ markup boxes_begin
-    ∷ (boxes_in by 0 boxes ++ markup (codes "</div>\n</body>\n</html>\n") ∷ [])
+abbrev pub tree_part : Scale → List BoxModel → List Piece
+tree_part scale boxes =
+    markup tree_begin ∷ word scale.by ∷ markup boxes_begin
+    ∷ (boxes_in scale 0 boxes ++ markup (codes "</div>\n</body>\n</html>\n") ∷ [])
 
-abbrev pub page_pieces : Number → SheetModel → List BoxModel → List Piece
-page_pieces by s boxes = head_part s.totals ++ (chart_part s ++ tree_part by boxes)
+abbrev pub page_pieces : List ℕ → Scale → List FaultLineModel → SheetModel → List BoxModel → List Piece
+page_pieces counted scale faults s boxes =
+    head_part counted scale.by s.totals ++ (faults_part faults ++ (chart_part s ++ tree_part scale boxes))
+
+-- what a page is drawn by, of the sums over all files
+abbrev pub scale_of : Number → Sums → Scale
+scale_of by totals = record { by = by; whole = number_in by totals }
 
 -- ---- the page of a report
 
@@ -93,19 +92,23 @@ drawn_number sort = unwrap_or sort Lines
 abbrev pub chart_view : List ShownRowModel → ViewModel
 chart_view extensions = view_of (Some chart_rows) extensions []
 
--- the boxes of the directories that are drawn, with their colours. Directories are cut after as many names as a walk goes deep
+-- the boxes of the directories that are drawn, with their colours, the largest first. Directories are cut after as many names as a walk
+-- goes deep
 pub record AreBoxesOf (by : Number) (totals : Sums) (files : List FileLineModel) (chart : List ShownRowModel) (boxes : List BoxModel)
     : Type 0 where
   pub tree : List ShownRowModel
   pub are_tree : AreTreeRows max_depth tree_columns files tree
   pub kinds : List ShownRowModel
   pub are_kinds : AreTreeRows max_depth kind_columns files kinds
-  pub are : boxes ≡ drawn_boxes by (least_drawn (number_in by totals)) chart kinds tree
+  pub are : AreLargestFirst by (drawn_boxes by (least_drawn (number_in by totals)) chart kinds tree) boxes
 
--- a text is the page of a report, drawn by a number: of the sheet of its extensions, sorted, and of the directories of its files
-pub record IsPageOf (by : Number) (r : Report) (text : List ℕ) : Type 0 where
+-- a text is the page of a report of what was counted, drawn by a number: of the sheet of its extensions, sorted, and of the directories
+-- of its files
+pub record IsPageOf (counted : List ℕ) (by : Number) (r : Report) (text : List ℕ) : Type 0 where
   pub extensions : List ShownRowModel
   pub are_extensions : AreShown chart_columns (Some by) r.rows.items r.files.items extensions
   pub boxes : List BoxModel
   pub are_boxes : AreBoxesOf by r.totals r.files.items (chart_view extensions).rows boxes
-  pub is : text ≡ text_of (page_pieces by (sheet_of (chart_options by) r (chart_view extensions)) boxes)
+  pub is :
+      text ≡ text_of (page_pieces counted (scale_of by r.totals) r.faults.items (sheet_of (chart_options by) r (chart_view extensions))
+      boxes)

@@ -1,19 +1,37 @@
 -- The pieces of a page. Names are in pieces of their own, so all other pieces depend on numbers alone.
 use Rattle.std.specs.Prelude.{ℕ, List, [], ◌∷◌, flat_map, codes, decimal}
+use Rattle.lc_formats.specs.CellWords.{with_commas}
+use Rattle.lc_formats.specs.Shares.{rounded_parts, share_word}
+use Rattle.lc_sheet.specs.declared.column.Number.{Number}
+use Rattle.lc_sheet.specs.declared.column.Number.TheVariants.{Files, Lines, Blank, Bytes}
 use Rattle.lc_walk.specs.declared.tally.sums.Sums.{Sums}
+use Rattle.lc_picture.specs.declared.scale.Scale.{Scale}
 use Rattle.lc_picture.specs.Escaping.{html}
 
--- fixed text with its tags, a number in a tag, a number that the page shows, or a name as terminals show it
+abbrev pub number_word : Number → List ℕ
+number_word Files = codes "files"
+number_word Lines = codes "lines"
+number_word Blank = codes "blank lines"
+number_word Bytes = codes "bytes"
+
+-- fixed text with its tags, the word for a number, a number in a tag, a number that the page shows, the share that a part is of a whole, a
+-- path in a title, or a name, both as terminals show them
 pub data Piece : Type 0 where
   markup : List ℕ → Piece
+  word : Number → Piece
   share : ℕ → Piece
   count : ℕ → Piece
+  percent : ℕ → ℕ → Piece
+  title : List ℕ → Piece
   name : List ℕ → Piece
 
 abbrev pub piece_text : Piece → List ℕ
 piece_text (markup t) = t
+piece_text (word n) = number_word n
 piece_text (share n) = decimal n
-piece_text (count n) = decimal n
+piece_text (count n) = with_commas (decimal n)
+piece_text (percent part whole) = share_word (rounded_parts 1000 part whole)
+piece_text (title t) = html t
 piece_text (name t) = html t
 
 abbrev pub text_of : List Piece → List ℕ
@@ -28,3 +46,8 @@ numbers lines files blank bytes =
 -- sums in words
 abbrev pub sums_pieces : Sums → List Piece
 sums_pieces s = numbers s.lines s.files s.blank s.bytes
+
+-- the share that a number is of the whole
+abbrev pub share_pieces : Scale → ℕ → List Piece
+share_pieces scale n =
+    markup (codes ", ") ∷ percent n scale.whole ∷ markup (codes " of all ") ∷ word scale.by ∷ []

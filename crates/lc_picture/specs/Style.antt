@@ -1,12 +1,19 @@
 -- The fixed parts of a page.
 use Rattle.std.specs.Prelude.{ℕ, List, ◌++◌, codes}
 
--- how the parts of a page look: a box beside its parent, and space by shares
+-- how the parts of a page look: a box beside its parent, space by shares, and a label whole or not there. A text that does not fit under
+-- those before it goes into a next column, which is out of sight
 unfoldable pub style : List ℕ
 style =
     codes ":root{color-scheme:light dark}\n"
     ++ codes "body{margin:1rem;font:.875rem/1.35 system-ui,sans-serif}\n"
-    ++ codes "h1,h2{font-size:1.1rem}\n"
+    ++ codes "h1{margin:0;font-size:1.6rem;overflow-wrap:anywhere}\n"
+    ++ codes "h2{font-size:1.1rem}\n"
+    ++ codes ".by{margin:0}\n"
+    ++ codes ".by::first-letter{text-transform:uppercase}\n"
+    ++ codes "dl{display:flex;flex-wrap:wrap;gap:.5rem 2.5rem;margin:1rem 0}\n"
+    ++ codes "dl div{display:flex;flex-direction:column-reverse}\n"
+    ++ codes "dd{margin:0;font-size:2rem;line-height:1.1;font-variant-numeric:tabular-nums}\n"
     ++ codes "table{border-collapse:collapse;font-variant-numeric:tabular-nums}\n"
     ++ codes "th,td{padding:0 .6rem;text-align:right}\n"
     ++ codes "tr>:first-child{text-align:left}\n"
@@ -16,11 +23,17 @@ style =
     ++ codes "details{position:relative;flex:var(--n) 0 0;min-width:11em}\n"
     ++ codes "details:hover,details:focus-within{min-height:2.8em}\n"
     ++ codes "details:not([open]){flex-grow:0;min-height:1.5em}\n"
-    ++ codes "summary{position:absolute;inset:0 auto 0 0;box-sizing:border-box;width:11em;padding:0 .3rem;overflow:hidden;"
-    ++ codes "overflow-wrap:anywhere;border:1px solid #888;border-width:1px 0 0 1px}\n"
+    ++ codes "summary{position:absolute;inset:0 auto 0 0;box-sizing:border-box;width:11em;overflow:hidden;"
+    ++ codes "overflow-wrap:anywhere;border:1px solid #888;border-width:1px 0 0 1px;cursor:pointer;"
+    ++ codes "display:flex;flex-flow:column wrap;align-content:flex-start;container-type:size}\n"
+    ++ codes "summary::before{content:\"\"}\n"
+    ++ codes "summary>*,summary::before{flex:none;box-sizing:border-box;width:100%;padding:0 .3rem}\n"
+    ++ codes "details:not([open])>summary>b::before{content:\"+ \"}\n"
     ++ codes "details>div{position:absolute;inset:0 0 0 11em;display:flex;flex-direction:column}\n"
-    ++ codes "details>div>i{order:1;flex:var(--n) 0 0;overflow:hidden;padding-left:.3rem}\n"
-    ++ codes "details>div>i:not(:only-child)::after{content:\"others\"}\n"
+    ++ codes "details>div>i{order:1;flex:var(--n) 0 0;overflow:hidden;padding-left:.3rem;white-space:nowrap;container-type:size}\n"
+    ++ codes "details>div>i:only-child>em{display:none}\n"
+    ++ codes "@container (height<2.7em){summary>span{display:none}}\n"
+    ++ codes "@container (height<1.35em){summary>b,details>div>i>em{display:none}}\n"
     ++ codes ".e0>summary,.e0 .bar i{background:#4e79a780}\n"
     ++ codes ".e1>summary,.e1 .bar i{background:#f28e2b80}\n"
     ++ codes ".e2>summary,.e2 .bar i{background:#59a14f80}\n"
@@ -35,7 +48,12 @@ style =
 abbrev pub page_begin : List ℕ
 page_begin =
     codes "<!DOCTYPE html>\n<html lang=\"en\">\n<head>\n<meta charset=\"utf-8\">\n"
-    ++ codes "<meta name=\"viewport\" content=\"width=device-width\">\n<title>Lines by directory</title>\n<style>\n"
+    ++ codes "<meta name=\"viewport\" content=\"width=device-width\">\n<title>"
 
-abbrev pub sums_begin : List ℕ
-sums_begin = codes "</style>\n</head>\n<body>\n<h1>Lines by directory</h1>\n<p>"
+-- what is between the title and the style
+abbrev pub style_begin : List ℕ
+style_begin = codes " by directory</title>\n<style>\n"
+
+-- and between the style and the name of what was counted
+abbrev pub body_begin : List ℕ
+body_begin = codes "</style>\n</head>\n<body>\n<h1>"

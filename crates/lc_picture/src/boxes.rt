@@ -2,14 +2,18 @@
 
 ghost use Rattle.std.specs.Prelude.{◌≡◌, ◌+◌, ◌-◌, ◌==◌, if◌then◌else◌, ◌++◌, IfOk, OnOk, min};
 ghost use Rattle.lc_rows.specs.ShownRows.{number_in};
-ghost use Rattle.lc_picture.specs.Boxes.{boxes_in, closings, label, left_beside, next_box, tag};
+ghost use Rattle.lc_picture.specs.Boxes.{boxes_in, closings, label, left_beside, next_box, number_drawn, opening, space, tag};
+ghost use Rattle.lc_picture.specs.Boxes.{title_of};
 ghost use Rattle.lc_picture.specs.Pieces.{text_of};
 
 use crate::directory_box::DirectoryBox;
 use crate::escaping::push_path;
-use crate::sums::{push_number, push_sums};
+use crate::percents::push_percent;
+use crate::scale::Scale;
+use crate::sums::{number_word, push_count, push_number, push_share, push_sums};
 use lc_rows::number_in;
 use lc_sheet::Number;
+use lc_walk::Sums;
 use std::alloc::AllocError;
 
 /// Returns what is left of a number without that of the next box, if this is right in a box of this depth.
@@ -37,31 +41,96 @@ fn left_beside<'a>(by: Number, depth: usize, number: u128, after: &[DirectoryBox
     left
 }
 
-fn push_tag(text: &mut Vec<u8>, by: Number, drawn: &DirectoryBox<'_>) -> Result<(), AllocError>
-    ensures { OnOk result (text.new.items ≡ text.old.items ++ text_of (tag by drawn.now)) }
+fn push_tag(text: &mut Vec<u8>, by: Number, colour: usize, sums: Sums) -> Result<(), AllocError>
+    ensures { OnOk result (text.new.items ≡ text.old.items ++ text_of (tag by colour sums)) }
 {
     text.extend_from_slice(b"<details open class=\"e")?;
-    push_number(text, drawn.colour as u128)?;
+    push_number(text, colour as u128)?;
     text.extend_from_slice(b"\" style=\"--n:")?;
-    push_number(text, number_in(by, drawn.sums))?;
-    text.extend_from_slice(b"\"><summary><b>")?;
+    push_number(text, number_in(by, sums))?;
+    text.extend_from_slice(b"\"><summary title=\"")?;
     Ok(())
+}
+
+/// Appends what the browser shows at the pointer: the path, the sums, and the share of the number that is drawn.
+fn push_title(
+    text: &mut Vec<u8>,
+    scale: Scale,
+    path: &[u8],
+    sums: Sums,
+    made: &mut String,
+) -> Result<(), AllocError>
+    ensures { OnOk result (text.new.items ≡ text.old.items ++ text_of (title_of scale path.now sums)) }
+{
+    push_path(text, path, made)?;
+    text.extend_from_slice(b": ")?;
+    push_sums(text, sums, made)?;
+    push_share(text, scale, number_in(scale.by, sums))
+}
+
+/// Appends the number that is drawn, and its share.
+fn push_drawn_number(
+    text: &mut Vec<u8>,
+    scale: Scale,
+    n: u128,
+    made: &mut String,
+) -> Result<(), AllocError>
+    ensures { OnOk result (text.new.items ≡ text.old.items ++ text_of (number_drawn scale n)) }
+{
+    text.extend_from_slice(number_word(scale.by))?;
+    text.extend_from_slice(b" ")?;
+    push_count(text, n, made)?;
+    text.extend_from_slice(b" (")?;
+    push_percent(text, n, scale.whole)?;
+    text.extend_from_slice(b")</span></summary><div>")
 }
 
 fn push_label(
     text: &mut Vec<u8>,
+    scale: Scale,
+    directory: &[u8],
+    n: u128,
+    made: &mut String,
+) -> Result<(), AllocError>
+    ensures { OnOk result (text.new.items ≡ text.old.items ++ text_of (label scale directory.now n)) }
+{
+    text.extend_from_slice(b"\"><b>")?;
+    push_path(text, directory, made)?;
+    text.extend_from_slice(b"</b> <span>")?;
+    push_drawn_number(text, scale, n, made)
+}
+
+fn push_space(text: &mut Vec<u8>, left: u128, made: &mut String) -> Result<(), AllocError>
+    ensures { OnOk result (text.new.items ≡ text.old.items ++ text_of (space left)) }
+{
+    text.extend_from_slice(b"<i style=\"--n:")?;
+    push_number(text, left)?;
+    text.extend_from_slice(b"\"><em>others ")?;
+    push_count(text, left, made)?;
+    text.extend_from_slice(b"</em></i>")?;
+    Ok(())
+}
+
+/// Begins a box.
+fn push_opening(
+    text: &mut Vec<u8>,
+    scale: Scale,
     drawn: &DirectoryBox<'_>,
     left: u128,
     made: &mut String,
 ) -> Result<(), AllocError>
-    ensures { OnOk result (text.new.items ≡ text.old.items ++ text_of (label drawn.now left)) }
+    ensures { OnOk result (text.new.items ≡ text.old.items ++ text_of (opening scale drawn.now left)) }
 {
-    push_path(text, drawn.directory, made)?;
-    text.extend_from_slice(b"</b> ")?;
-    push_sums(text, drawn.sums)?;
-    text.extend_from_slice(b"</summary><div><i style=\"--n:")?;
-    push_number(text, left)?;
-    text.extend_from_slice(b"\"></i>")?;
+    push_tag(text, scale.by, drawn.colour, drawn.sums)?;
+    push_title(text, scale, drawn.path, drawn.sums, made)?;
+    push_label(
+        text,
+        scale,
+        drawn.directory,
+        number_in(scale.by, drawn.sums),
+        made,
+    )?;
+    push_space(text, left, made)?;
     Ok(())
 }
 
@@ -80,35 +149,46 @@ fn push_closings(text: &mut Vec<u8>, count: usize) -> Result<(), AllocError>
 /// Closes the open boxes that do not hold the next one, and begins that. It returns how many boxes are open then.
 fn push_box<'a>(
     text: &mut Vec<u8>,
-    by: Number,
+    scale: Scale,
     within: usize,
     drawn: &DirectoryBox<'a>,
     after: &[DirectoryBox<'a>],
     made: &mut String,
 ) -> Result<usize, AllocError>
-    ensures text { OnOk result (text.new.items ≡ text.old.items ++ text_of (next_box by within drawn.now after.now)) }
+    ensures text { OnOk result (text.new.items ≡ text.old.items ++ text_of (next_box scale within drawn.now after.now)) }
     ensures within { IfOk result (λ next. next ≡ min within drawn.now.depth + 1) }
 {
     let next = within.min(drawn.depth).checked_add(1).ok_or(AllocError)?;
     push_closings(text, within.saturating_sub(drawn.depth))?;
-    let left = left_beside(by, drawn.depth, number_in(by, drawn.sums), after);
-    push_tag(text, by, drawn)?;
-    push_label(text, drawn, left, made)?;
+    let left = left_beside(
+        scale.by,
+        drawn.depth,
+        number_in(scale.by, drawn.sums),
+        after,
+    );
+    push_opening(text, scale, drawn, left, made)?;
     Ok(next)
 }
 
 /// Appends the boxes of directories that come depth first.
 pub(crate) fn push_boxes<'a>(
     text: &mut Vec<u8>,
-    by: Number,
+    scale: Scale,
     boxes: &[DirectoryBox<'a>],
     made: &mut String,
 ) -> Result<(), AllocError>
-    ensures { OnOk result (text.new.items ≡ text.old.items ++ text_of (boxes_in by 0 boxes.now)) }
+    ensures { OnOk result (text.new.items ≡ text.old.items ++ text_of (boxes_in scale 0 boxes.now)) }
 {
     let mut within = 0;
     for index in 0..boxes.len() {
-        within = push_box(text, by, within, &boxes[index], &boxes[index + 1..], made)?;
+        within = push_box(
+            text,
+            scale,
+            within,
+            &boxes[index],
+            &boxes[index + 1..],
+            made,
+        )?;
     }
     push_closings(text, within)
 }

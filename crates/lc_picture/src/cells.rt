@@ -5,11 +5,12 @@ ghost use Rattle.lc_sheet.specs.Sheets.{line_of};
 ghost use Rattle.lc_sheet.specs.Values.{value_model};
 ghost use Rattle.lc_text.specs.Names.{name_model, named};
 ghost use Rattle.lc_text.specs.Visible.{visible_bytes, visible_path};
-ghost use Rattle.lc_picture.specs.Chart.{bar_cell, cell, cells, cells_in, empty_cell, name_cell, number_cell};
+ghost use Rattle.lc_picture.specs.Chart.{bar_cell, cell, cells, cells_in, empty_cell, name_cell, number_cell, share_cell};
 ghost use Rattle.lc_picture.specs.Pieces.{text_of};
 
 use crate::escaping::{push_html, push_name, push_path};
-use crate::sums::push_number;
+use crate::percents::push_percent;
+use crate::sums::{push_count, push_number};
 use lc_sheet::{Column, Form, Lines, Value};
 use lc_text::Name;
 use std::alloc::AllocError;
@@ -42,11 +43,20 @@ fn push_path_cell(text: &mut Vec<u8>, path: &[u8], made: &mut String) -> Result<
     Ok(())
 }
 
-fn push_number_cell(text: &mut Vec<u8>, n: u128) -> Result<(), AllocError>
+fn push_number_cell(text: &mut Vec<u8>, n: u128, made: &mut String) -> Result<(), AllocError>
     ensures { OnOk result (text.new.items ≡ text.old.items ++ text_of (number_cell n)) }
 {
     text.extend_from_slice(b"<td>")?;
-    push_number(text, n)?;
+    push_count(text, n, made)?;
+    text.extend_from_slice(b"</td>")?;
+    Ok(())
+}
+
+fn push_share_cell(text: &mut Vec<u8>, part: u128, whole: u128) -> Result<(), AllocError>
+    ensures { OnOk result (text.new.items ≡ text.old.items ++ text_of (share_cell part whole)) }
+{
+    text.extend_from_slice(b"<td>")?;
+    push_percent(text, part, whole)?;
     text.extend_from_slice(b"</td>")?;
     Ok(())
 }
@@ -77,9 +87,10 @@ fn push_value(text: &mut Vec<u8>, value: Value<'_>, made: &mut String) -> Result
         Value::Word(word) => push_word_cell(text, word.as_bytes()),
         Value::Name(name) => push_name_cell(text, name, made),
         Value::Path(path) => push_path_cell(text, path, made),
-        Value::Number(n) => push_number_cell(text, n),
+        Value::Number(n) => push_number_cell(text, n, made),
+        Value::Share { part, whole } => push_share_cell(text, part, whole),
         Value::Bar { part, whole } => push_bar_cell(text, part, whole),
-        Value::Summed | Value::Blank | Value::Share { .. } => push_empty_cell(text),
+        Value::Summed | Value::Blank => push_empty_cell(text),
     }
 }
 

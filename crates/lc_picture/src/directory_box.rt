@@ -15,7 +15,9 @@ use std::marker::Model;
 /// A directory that is drawn.
 #[derive(Drop)]
 pub(crate) struct DirectoryBox<'a> {
-    /// Its path from the directory right above it on, which is its last name in most trees; empty for the top.
+    /// Its path; empty for the top.
+    pub(crate) path: &'a [u8],
+    /// The part of its path from the directory right above it on, which is its last name in most trees; empty for the top.
     pub(crate) directory: &'a [u8],
     /// The number of directories above it.
     pub(crate) depth: usize,
@@ -30,7 +32,27 @@ impl<'a> Model for DirectoryBox<'a> {
 
     ghost Value = { BoxModel };
 
-    ghost view = { λ b. record { directory = b.directory.now; depth = b.depth; colour = b.colour; sums = b.sums } };
+    ghost view = { λ b. record {
+      path = b.path.now;
+      directory = b.directory.now;
+      depth = b.depth;
+      colour = b.colour;
+      sums = b.sums;
+    } };
+}
+
+impl<'a> DirectoryBox<'a> {
+    pub(crate) fn copy(&self) -> DirectoryBox<'a>
+        ensures { result ≡ self.now }
+    {
+        DirectoryBox {
+            path: self.path,
+            directory: self.directory,
+            depth: self.depth,
+            colour: self.colour,
+            sums: self.sums,
+        }
+    }
 }
 
 /// Returns the least number that is drawn: a thousandth of the total, rounded up, and not nothing.
@@ -52,6 +74,7 @@ fn box_of<'a>(row: &ShownRow<'a>, colour: usize) -> DirectoryBox<'a>
 {
     let path = path_of(row);
     DirectoryBox {
+        path,
         directory: own_part(path),
         depth: level_of(path),
         colour,

@@ -1,13 +1,15 @@
-//! The head of a page: the numbers of all files.
+//! The head of a page: what was counted, the number that is drawn, and the numbers of all files.
 
 ghost use Rattle.std.specs.Prelude.{◌≡◌, ◌++◌, OnOk};
 ghost use Rattle.lc_rows.specs.SheetLaws.{first_number, is_number, number_at, number_of, same_number};
 ghost use Rattle.lc_sheet.specs.Sheets.{line_of};
 ghost use Rattle.lc_sheet.specs.Values.{value_model};
-ghost use Rattle.lc_picture.specs.Head.{head};
+ghost use Rattle.lc_picture.specs.Head.{figure, figures, figures_of, head_part, heading, page_top};
 ghost use Rattle.lc_picture.specs.Pieces.{text_of};
 
-use crate::sums::push_numbers;
+use crate::escaping::push_path;
+use crate::style::{body_begin, page_begin, style, style_begin};
+use crate::sums::{number_word, push_count};
 use lc_sheet::{Column, Form, Lines, Number, Section, Value};
 use std::alloc::AllocError;
 
@@ -66,18 +68,105 @@ fn first_number<L: Lines>(number: Number, section: &Section<'_, L>) -> u128
     }
 }
 
+/// Appends the begin of a page: the title in a browser's tab, and the style.
+fn push_page_top(
+    text: &mut Vec<u8>,
+    counted: &[u8],
+    by: Number,
+    made: &mut String,
+) -> Result<(), AllocError>
+    ensures { OnOk result (text.new.items ≡ text.old.items ++ text_of (page_top counted.now by)) }
+{
+    text.extend_from_slice(page_begin())?;
+    push_path(text, counted, made)?;
+    text.extend_from_slice(b": ")?;
+    text.extend_from_slice(number_word(by))?;
+    text.extend_from_slice(style_begin())?;
+    text.extend_from_slice(style())?;
+    Ok(())
+}
+
+/// Appends what was counted, and the number that is drawn.
+fn push_heading(
+    text: &mut Vec<u8>,
+    counted: &[u8],
+    by: Number,
+    made: &mut String,
+) -> Result<(), AllocError>
+    ensures { OnOk result (text.new.items ≡ text.old.items ++ text_of (heading counted.now by)) }
+{
+    text.extend_from_slice(body_begin())?;
+    push_path(text, counted, made)?;
+    text.extend_from_slice(b"</h1>\n<p class=\"by\">")?;
+    text.extend_from_slice(number_word(by))?;
+    text.extend_from_slice(b" by directory</p>\n<dl>\n")
+}
+
+/// Appends a number and its word.
+fn push_figure(
+    text: &mut Vec<u8>,
+    number: Number,
+    n: u128,
+    made: &mut String,
+) -> Result<(), AllocError>
+    ensures { OnOk result (text.new.items ≡ text.old.items ++ text_of (figure number n)) }
+{
+    text.extend_from_slice(b"<div><dt>")?;
+    text.extend_from_slice(number_word(number))?;
+    text.extend_from_slice(b"</dt><dd>")?;
+    push_count(text, n, made)?;
+    text.extend_from_slice(b"</dd></div>\n")
+}
+
+fn push_figures(
+    text: &mut Vec<u8>,
+    files: u128,
+    lines: u128,
+    blank: u128,
+    bytes: u128,
+    made: &mut String,
+) -> Result<(), AllocError>
+    ensures { OnOk result (text.new.items ≡ text.old.items ++ text_of (figures files lines blank bytes)) }
+{
+    push_figure(text, Number::Files, files, made)?;
+    push_figure(text, Number::Lines, lines, made)?;
+    push_figure(text, Number::Blank, blank, made)?;
+    push_figure(text, Number::Bytes, bytes, made)?;
+    Ok(())
+}
+
 /// Appends the numbers of the first line of the totals, each with its word.
-pub(crate) fn push_head<L: Lines>(
+fn push_figures_of<L: Lines>(
     text: &mut Vec<u8>,
     totals: &Section<'_, L>,
+    made: &mut String,
 ) -> Result<(), AllocError>
-    ensures { OnOk result (text.new.items ≡ text.old.items ++ text_of (head totals.now)) }
+    ensures { OnOk result (text.new.items ≡ text.old.items ++ text_of (figures_of totals.now)) }
 {
-    push_numbers(
+    push_figures(
         text,
-        first_number(Number::Lines, totals),
         first_number(Number::Files, totals),
+        first_number(Number::Lines, totals),
         first_number(Number::Blank, totals),
         first_number(Number::Bytes, totals),
-    )
+        made,
+    )?;
+    Ok(())
+}
+
+/// Appends the head of a page, with the numbers of the first line of the totals.
+pub(crate) fn push_head_part<L: Lines>(
+    text: &mut Vec<u8>,
+    counted: &[u8],
+    by: Number,
+    totals: &Section<'_, L>,
+    made: &mut String,
+) -> Result<(), AllocError>
+    ensures { OnOk result (text.new.items ≡ text.old.items ++ text_of (head_part counted.now by totals.now)) }
+{
+    push_page_top(text, counted, by, made)?;
+    push_heading(text, counted, by, made)?;
+    push_figures_of(text, totals, made)?;
+    text.extend_from_slice(b"</dl>\n")?;
+    Ok(())
 }

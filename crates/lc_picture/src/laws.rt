@@ -1,6 +1,7 @@
 //! Laws of the definitions that the contracts cite. The functions do nothing: their contracts are what is proved.
 
 ghost use Rattle.lc_picture.specs.Inside.{InsideLaw};
+ghost use Rattle.lc_picture.specs.Places.{FallingLaw};
 ghost use Rattle.lc_picture.specs.Laws.{ColoursLaw, DrawnLaw, NestingLaw, OutlineLaw, ReportLaw, ShownLaw, TagLaw, UnescapedLaw};
 
 /// A name in the page begins and ends no tag and no attribute, and with its character references read it is the name as terminals show it.
@@ -32,6 +33,11 @@ pub fn boxes_are_nested()
 /// boxes finds the path of each directory.
 pub fn a_box_opens_inside_that_of_its_parent()
     ensures { InsideLaw }
+{}
+
+/// Of two boxes whose directories are right in the same one, the first has the larger number, or the same.
+pub fn larger_boxes_come_first()
+    ensures { FallingLaw }
 {}
 
 /// But for the names themselves, the boxes are the same for any names.

@@ -2,9 +2,11 @@
 //!
 //! - `escaping`: texts in HTML; `style`: the fixed parts of a page
 //! - `boxes`, `directory_box`: the boxes of the directories, each inside that of the directory that holds it
+//! - `largest_first`, `places`: the order of boxes
 //! - `colours`: the colours of extensions and of directories
+//! - `faults`: what could not be read
 //! - `head`: the numbers of all files; `chart`, `cells`: the bar chart, and the cells of its lines, both of a sheet
-//! - `sums`: numbers, each with its word
+//! - `sums`, `percents`: numbers, each with its word, and shares; `scale`: what a picture is drawn by
 //! - `report_page`: the page of a report
 //! - `laws`: what is true of the definitions that the contracts cite
 #![tactic(auto)]
@@ -15,14 +17,20 @@ mod chart;
 mod colours;
 mod directory_box;
 mod escaping;
+mod faults;
 mod head;
+mod largest_first;
 mod laws;
+mod percents;
+mod places;
 mod report_page;
+mod scale;
 mod style;
 mod sums;
 
 pub use laws::{
     a_box_opens_inside_that_of_its_parent, a_page_shows_each_directory_once, boxes_are_nested,
-    names_are_never_markup, names_change_no_tag, rows_have_the_colours_of_their_extensions,
+    larger_boxes_come_first, names_are_never_markup, names_change_no_tag,
+    rows_have_the_colours_of_their_extensions,
 };
 pub use report_page::page;

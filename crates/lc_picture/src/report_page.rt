@@ -2,20 +2,22 @@
 
 ghost use Rattle.std.specs.Prelude.{◌≡◌, ◌++◌, IfOk, OnOk, Some};
 ghost use Rattle.lc_rows.specs.Views.{first_of};
-ghost use Rattle.lc_picture.specs.Page.{AreBoxesOf, IsPageOf, chart_options, chart_part, chart_rows, drawn_number, head_part};
-ghost use Rattle.lc_picture.specs.Page.{page_pieces, tree_part};
+ghost use Rattle.lc_picture.specs.Page.{AreBoxesOf, IsPageOf, chart_options, chart_part, chart_rows, drawn_number};
+ghost use Rattle.lc_picture.specs.Page.{page_pieces, scale_of, tree_part};
 ghost use Rattle.lc_picture.specs.Pieces.{text_of};
 
 use crate::boxes::push_boxes;
 use crate::chart::push_chart;
 use crate::directory_box::{DirectoryBox, drawn_boxes, least_drawn};
-use crate::head::push_head;
-use crate::style::{
-    boxes_begin, chart_begin, number_word, page_begin, style, sums_begin, tree_begin,
-};
+use crate::faults::push_faults;
+use crate::head::push_head_part;
+use crate::largest_first::largest_first;
+use crate::scale::Scale;
+use crate::style::{boxes_begin, chart_begin, tree_begin};
+use crate::sums::number_word;
 use lc_rows::{Shown, ShownRow, number_in, shown_rows, tree_rows};
 use lc_sheet::{Columns, Format, Lines, Number, Section, Sheet, TableOptions};
-use lc_walk::{FileLine, Report, Sums};
+use lc_walk::{FaultLine, FileLine, Report, Sums};
 use std::alloc::{AllocError, Global};
 
 /// The columns of the chart.
@@ -46,16 +48,6 @@ const KIND_COLUMNS: Columns = Columns {
     ..TREE_COLUMNS
 };
 
-fn push_head_part<L: Lines>(text: &mut Vec<u8>, totals: &Section<'_, L>) -> Result<(), AllocError>
-    ensures { OnOk result (text.new.items ≡ text.old.items ++ text_of (head_part totals.now)) }
-{
-    text.extend_from_slice(page_begin())?;
-    text.extend_from_slice(style())?;
-    text.extend_from_slice(sums_begin())?;
-    push_head(text, totals)?;
-    Ok(())
-}
-
 fn push_chart_part<R: Lines, T: Lines, F: Lines, S: Lines, E: Lines>(
     text: &mut Vec<u8>,
     sheet: &Sheet<'_, R, T, F, S, E>,
@@ -70,34 +62,47 @@ fn push_chart_part<R: Lines, T: Lines, F: Lines, S: Lines, E: Lines>(
 
 fn push_tree_part(
     text: &mut Vec<u8>,
-    by: Number,
+    scale: Scale,
     boxes: &[DirectoryBox<'_>],
     made: &mut String,
 ) -> Result<(), AllocError>
-    ensures { OnOk result (text.new.items ≡ text.old.items ++ text_of (tree_part by boxes.now)) }
+    ensures { OnOk result (text.new.items ≡ text.old.items ++ text_of (tree_part scale boxes.now)) }
 {
     text.extend_from_slice(tree_begin())?;
-    text.extend_from_slice(number_word(by))?;
+    text.extend_from_slice(number_word(scale.by))?;
     text.extend_from_slice(boxes_begin())?;
-    push_boxes(text, by, boxes, made)?;
+    push_boxes(text, scale, boxes, made)?;
     text.extend_from_slice(b"</div>\n</body>\n</html>\n")?;
     Ok(())
 }
 
 fn page_text<R: Lines, T: Lines, F: Lines, S: Lines, E: Lines>(
     alloc: Global,
-    by: Number,
+    counted: &[u8],
+    scale: Scale,
+    faults: &[FaultLine],
     sheet: &Sheet<'_, R, T, F, S, E>,
     boxes: &[DirectoryBox<'_>],
 ) -> Result<Vec<u8>, AllocError>
-    ensures { IfOk result (λ text. text.items ≡ text_of (page_pieces by sheet.now boxes.now)) }
+    ensures { IfOk result (λ text. text.items ≡ text_of (page_pieces counted.now scale faults.now sheet.now boxes.now)) }
 {
     let mut text = Vec::new(alloc);
     let mut made = String::new(alloc);
-    push_head_part(&mut text, &sheet.totals)?;
+    push_head_part(&mut text, counted, scale.by, &sheet.totals, &mut made)?;
+    push_faults(&mut text, faults, &mut made)?;
     push_chart_part(&mut text, sheet, &mut made)?;
-    push_tree_part(&mut text, by, boxes, &mut made)?;
+    push_tree_part(&mut text, scale, boxes, &mut made)?;
     Ok(text)
+}
+
+/// Returns what a page is drawn by, of the sums over all files.
+fn scale_of(by: Number, totals: Sums) -> Scale
+    ensures { result ≡ scale_of by totals }
+{
+    Scale {
+        by,
+        whole: number_in(by, totals),
+    }
 }
 
 /// Returns the options of the sheet of a page.
@@ -134,30 +139,49 @@ fn boxes_of<'a>(
     let tree = tree_rows(alloc, files, TREE_COLUMNS, TREE_DEPTH)?;
     let kinds = tree_rows(alloc, files, KIND_COLUMNS, TREE_DEPTH)?;
     let least = least_drawn(number_in(by, totals));
-    let boxes = drawn_boxes(alloc, by, least, &tree, chart, &kinds)?;
+    let drawn = drawn_boxes(alloc, by, least, &tree, chart, &kinds)?;
+    let boxes = largest_first(alloc, by, &drawn)?;
     Ok(boxes)
 }
 
-fn page_by(alloc: Global, report: &Report, by: Number) -> Result<Vec<u8>, AllocError>
-    ensures { IfOk result (λ text. IsPageOf by report.now text.items) }
+fn page_by(
+    alloc: Global,
+    counted: &[u8],
+    report: &Report,
+    by: Number,
+) -> Result<Vec<u8>, AllocError>
+    ensures { IfOk result (λ text. IsPageOf counted.now by report.now text.items) }
 {
     let extensions = shown_rows(alloc, &report.rows, &report.files, CHART_COLUMNS, Some(by))?;
     let chart = first_rows(&extensions);
     let boxes = boxes_of(alloc, by, report.totals, &report.files, chart)?;
     let shown = Shown::with_rows(alloc, report, &chart_options(by), extensions)?;
-    let text = page_text(alloc, by, &shown.sheet(), &boxes)?;
+    let text = page_text(
+        alloc,
+        counted,
+        scale_of(by, report.totals),
+        &report.faults,
+        &shown.sheet(),
+        &boxes,
+    )?;
     Ok(text)
 }
 
 /// Makes the page of a report: one file of HTML with no script, no font and no address.
 ///
-/// It has the sums over all files, a bar for each of the first extensions, and a box for each directory, inside that of the directory
-/// that holds it. Bars and boxes are drawn by the number `sort`, or by lines, and the browser divides the space by these numbers.
-/// Directories with less than a thousandth of the total have no boxes. A reader folds a box to give its space to others.
+/// It has what was counted, which is `counted` as terminals show it, the sums over all files, a bar for each of the first extensions, and a
+/// box for each directory, inside that of the directory that holds it, the largest first. Bars and boxes are drawn by the number `sort`, or
+/// by lines, and the browser divides the space by these numbers. Directories with less than a thousandth of the total have no boxes. A
+/// reader folds a box to give its space to others.
 ///
 /// The report must have its files. It stops with an error if there is no memory, and for numbers that no walk has, whose sums overflow.
-pub fn page(alloc: Global, report: &Report, sort: Option<Number>) -> Result<Vec<u8>, AllocError>
-    ensures { IfOk result (λ text. IsPageOf (drawn_number sort) report.now text.items) }
+pub fn page(
+    alloc: Global,
+    counted: &[u8],
+    report: &Report,
+    sort: Option<Number>,
+) -> Result<Vec<u8>, AllocError>
+    ensures { IfOk result (λ text. IsPageOf counted.now (drawn_number sort) report.now text.items) }
 {
-    page_by(alloc, report, sort.unwrap_or(Number::Lines))
+    page_by(alloc, counted, report, sort.unwrap_or(Number::Lines))
 }

@@ -1,27 +1,31 @@
 //! The fixed parts of a page.
 
 ghost use Rattle.std.specs.Prelude.{◌≡◌};
-ghost use Rattle.lc_picture.specs.Page.{boxes_begin, chart_begin, number_word, tree_begin};
-ghost use Rattle.lc_picture.specs.Style.{page_begin, style, sums_begin};
+ghost use Rattle.lc_picture.specs.Page.{boxes_begin, chart_begin, tree_begin};
+ghost use Rattle.lc_picture.specs.Style.{body_begin, page_begin, style, style_begin};
 
-use lc_sheet::Number;
-
-/// The begin of a page, up to its style.
+/// The begin of a page, up to its title.
 pub(crate) fn page_begin() -> &'static [u8]
     ensures { result.now ≡ page_begin }
 {
     b"<!DOCTYPE html>\n<html lang=\"en\">\n<head>\n<meta charset=\"utf-8\">\n\
-      <meta name=\"viewport\" content=\"width=device-width\">\n<title>Lines by directory</title>\n<style>\n"
+      <meta name=\"viewport\" content=\"width=device-width\">\n<title>"
 }
 
-/// How the parts of a page look: a box beside its parent, and space by shares.
+/// How the parts of a page look: a box beside its parent, space by shares, and a label whole or not there.
 #[tactic(auto, unfolding(crate::specs::Style::style))]
 pub(crate) fn style() -> &'static [u8]
     ensures { result.now ≡ style }
 {
     b":root{color-scheme:light dark}\n\
       body{margin:1rem;font:.875rem/1.35 system-ui,sans-serif}\n\
-      h1,h2{font-size:1.1rem}\n\
+      h1{margin:0;font-size:1.6rem;overflow-wrap:anywhere}\n\
+      h2{font-size:1.1rem}\n\
+      .by{margin:0}\n\
+      .by::first-letter{text-transform:uppercase}\n\
+      dl{display:flex;flex-wrap:wrap;gap:.5rem 2.5rem;margin:1rem 0}\n\
+      dl div{display:flex;flex-direction:column-reverse}\n\
+      dd{margin:0;font-size:2rem;line-height:1.1;font-variant-numeric:tabular-nums}\n\
       table{border-collapse:collapse;font-variant-numeric:tabular-nums}\n\
       th,td{padding:0 .6rem;text-align:right}\n\
       tr>:first-child{text-align:left}\n\
@@ -31,11 +35,17 @@ pub(crate) fn style() -> &'static [u8]
       details{position:relative;flex:var(--n) 0 0;min-width:11em}\n\
       details:hover,details:focus-within{min-height:2.8em}\n\
       details:not([open]){flex-grow:0;min-height:1.5em}\n\
-      summary{position:absolute;inset:0 auto 0 0;box-sizing:border-box;width:11em;padding:0 .3rem;overflow:hidden;\
-      overflow-wrap:anywhere;border:1px solid #888;border-width:1px 0 0 1px}\n\
+      summary{position:absolute;inset:0 auto 0 0;box-sizing:border-box;width:11em;overflow:hidden;\
+      overflow-wrap:anywhere;border:1px solid #888;border-width:1px 0 0 1px;cursor:pointer;\
+      display:flex;flex-flow:column wrap;align-content:flex-start;container-type:size}\n\
+      summary::before{content:\"\"}\n\
+      summary>*,summary::before{flex:none;box-sizing:border-box;width:100%;padding:0 .3rem}\n\
+      details:not([open])>summary>b::before{content:\"+ \"}\n\
       details>div{position:absolute;inset:0 0 0 11em;display:flex;flex-direction:column}\n\
-      details>div>i{order:1;flex:var(--n) 0 0;overflow:hidden;padding-left:.3rem}\n\
-      details>div>i:not(:only-child)::after{content:\"others\"}\n\
+      details>div>i{order:1;flex:var(--n) 0 0;overflow:hidden;padding-left:.3rem;white-space:nowrap;container-type:size}\n\
+      details>div>i:only-child>em{display:none}\n\
+      @container (height<2.7em){summary>span{display:none}}\n\
+      @container (height<1.35em){summary>b,details>div>i>em{display:none}}\n\
       .e0>summary,.e0 .bar i{background:#4e79a780}\n\
       .e1>summary,.e1 .bar i{background:#f28e2b80}\n\
       .e2>summary,.e2 .bar i{background:#59a14f80}\n\
@@ -48,19 +58,26 @@ pub(crate) fn style() -> &'static [u8]
       @media print{.tree{height:24cm;overflow:hidden;break-inside:avoid;font-size:7pt}}\n"
 }
 
-/// What is between the style and the sums.
-pub(crate) fn sums_begin() -> &'static [u8]
-    ensures { result.now ≡ sums_begin }
+/// What is between the title and the style.
+pub(crate) fn style_begin() -> &'static [u8]
+    ensures { result.now ≡ style_begin }
 {
-    b"</style>\n</head>\n<body>\n<h1>Lines by directory</h1>\n<p>"
+    b" by directory</title>\n<style>\n"
 }
 
-/// What is between the sums and the rows of the chart.
+/// What is between the style and the name of what was counted.
+pub(crate) fn body_begin() -> &'static [u8]
+    ensures { result.now ≡ body_begin }
+{
+    b"</style>\n</head>\n<body>\n<h1>"
+}
+
+/// What is between the figures and the rows of the chart.
 pub(crate) fn chart_begin() -> &'static [u8]
     ensures { result.now ≡ chart_begin }
 {
-    b"</p>\n<h2>By extension</h2>\n<table>\n<tr><th>extension</th><th>files</th><th>lines</th><th>blank</th><th>bytes</th>\
-      <td></td></tr>\n"
+    b"<h2>By extension</h2>\n<table>\n<tr><th>extension</th><th>files</th><th>lines</th><th>blank</th><th>bytes</th>\
+      <th>share</th><td></td></tr>\n"
 }
 
 /// What is between the chart and the name of the number that the boxes are drawn by.
@@ -68,18 +85,6 @@ pub(crate) fn tree_begin() -> &'static [u8]
     ensures { result.now ≡ tree_begin }
 {
     b"</table>\n<h2>By directory</h2>\n<p>Each box is as tall as its share of the "
-}
-
-/// The name of a number.
-pub(crate) fn number_word(by: Number) -> &'static [u8]
-    ensures { result.now ≡ number_word by }
-{
-    match by {
-        Number::Files => b"files",
-        Number::Lines => b"lines",
-        Number::Blank => b"blank lines",
-        Number::Bytes => b"bytes",
-    }
 }
 
 /// What is between that name and the boxes.

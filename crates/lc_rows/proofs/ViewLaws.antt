@@ -47,7 +47,7 @@ sorted_files_law None fs sorted same = subst (λ (l : List FileLineModel). IsPer
 sorted_files_law (Some n) fs sorted h = h.0
 
 -- what comes first where one order and then another decide
-first_decides : (o p : Ordering) → is_lt (ordering_then o p) ≡ false → is_lt o ≡ false
+pub first_decides : (o p : Ordering) → is_lt (ordering_then o p) ≡ false → is_lt o ≡ false
 first_decides Less p e = e
 first_decides Equal p e = refl
 first_decides Greater p e = refl

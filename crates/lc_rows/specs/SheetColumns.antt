@@ -43,7 +43,7 @@ share_columns Table = column.Share ∷ column.Bar ∷ []
 share_columns Json = []
 share_columns Csv = []
 share_columns Markdown = column.Share ∷ []
-share_columns Html = column.Bar ∷ []
+share_columns Html = column.Share ∷ column.Bar ∷ []
 
 abbrev pub row_columns : TableOptions → List Column
 row_columns options =

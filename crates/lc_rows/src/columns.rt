@@ -56,9 +56,8 @@ fn share_columns(format: Format) -> &'static [Column]
     ensures { result.now ≡ share_columns format }
 {
     match format {
-        Format::Table => &[Column::Share, Column::Bar],
+        Format::Table | Format::Html => &[Column::Share, Column::Bar],
         Format::Markdown => &[Column::Share],
-        Format::Html => &[Column::Bar],
         Format::Tsv | Format::Json | Format::Csv => &[],
     }
 }

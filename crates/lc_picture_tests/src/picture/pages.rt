@@ -1,18 +1,10 @@
 //! Pages of reports.
 
-use lc_census::{Count, Eol};
+use crate::picture::reports::{BETWEEN, File, Row, report_of};
 use lc_picture::page;
-use lc_rules::TextState;
 use lc_sheet::Number;
-use lc_walk::{FileLine, Report, ReportLists, Sums, TallyRow};
 use std::alloc::{AllocError, Global};
 use std::test::Fail;
-
-/// A path, and the lines, blank lines and bytes.
-type File = (&'static [u8], [u64; 3]);
-
-/// An extension, and the files, lines, blank lines and bytes.
-type Row = (Option<&'static [u8]>, [u64; 4]);
 
 /// A report, and the parts of its page: the sums, the rows of the chart, the word for the number that is drawn, and the boxes.
 struct Case {
@@ -31,7 +23,15 @@ const CASES: &[Case] = &[
         rows: &[],
         totals: [0, 0, 0, 0],
         files: &[],
-        parts: [b"lines 0, files 0, blank 0, bytes 0", b"", b"lines", b""],
+        parts: [
+            b"<div><dt>files</dt><dd>0</dd></div>\n\
+                <div><dt>lines</dt><dd>0</dd></div>\n\
+                <div><dt>blank lines</dt><dd>0</dd></div>\n\
+                <div><dt>bytes</dt><dd>0</dd></div>\n",
+            b"",
+            b"lines",
+            b"",
+        ],
     },
     Case {
         name: "directories_in_directories",
@@ -50,24 +50,38 @@ const CASES: &[Case] = &[
             (b"src/view/rows.c", [3, 3, 20]),
         ],
         parts: [
-            b"lines 18, files 5, blank 5, bytes 109",
-            b"<tr class=\"e0\"><th>.c</th><td>3</td><td>13</td><td>4</td><td>85</td><td><div class=\"bar\">\
-                <i style=\"--n:13\"></i><u style=\"--n:0\"></u></div></td></tr>\n\
-                <tr class=\"e1\"><th>-</th><td>1</td><td>4</td><td>1</td><td>9</td><td><div class=\"bar\">\
-                <i style=\"--n:4\"></i><u style=\"--n:9\"></u></div></td></tr>\n\
-                <tr class=\"e2\"><th>.h</th><td>1</td><td>1</td><td>0</td><td>15</td><td><div class=\"bar\">\
-                <i style=\"--n:1\"></i><u style=\"--n:12\"></u></div></td></tr>\n",
+            b"<div><dt>files</dt><dd>5</dd></div>\n\
+                <div><dt>lines</dt><dd>18</dd></div>\n\
+                <div><dt>blank lines</dt><dd>5</dd></div>\n\
+                <div><dt>bytes</dt><dd>109</dd></div>\n",
+            b"<tr class=\"e0\"><th>.c</th><td>3</td><td>13</td><td>4</td>\
+                <td>85</td><td>72.2%</td><td><div class=\"bar\"><i style=\"--n:13\">\
+                </i><u style=\"--n:0\"></u></div></td></tr>\n\
+                <tr class=\"e1\"><th>-</th><td>1</td><td>4</td><td>1</td>\
+                <td>9</td><td>22.2%</td><td><div class=\"bar\"><i style=\"--n:4\">\
+                </i><u style=\"--n:9\"></u></div></td></tr>\n\
+                <tr class=\"e2\"><th>.h</th><td>1</td><td>1</td><td>0</td>\
+                <td>15</td><td>5.6%</td><td><div class=\"bar\"><i style=\"--n:1\">\
+                </i><u style=\"--n:12\"></u></div></td></tr>\n",
             b"lines",
-            b"<details open class=\"e0\" style=\"--n:18\"><summary><b>.</b> lines 18, files 5, blank 5, bytes 109\
-                </summary><div><i style=\"--n:4\"></i><details open class=\"e0\" style=\"--n:11\"><summary><b>src\
-                </b> lines 11, files 3, blank 3, bytes 85</summary><div><i style=\"--n:7\"></i>\
-                <details open class=\"e0\" style=\"--n:4\"><summary><b>view</b> lines 4, files 2, blank 3, bytes 35\
-                </summary><div><i style=\"--n:3\"></i><details open class=\"e2\" style=\"--n:1\"><summary><b>old\
-                </b> lines 1, files 1, blank 0, bytes 15</summary><div><i style=\"--n:1\"></i></div></details>\n\
+            b"<details open class=\"e0\" style=\"--n:18\"><summary title=\".: lines 18, files 5, blank 5, bytes 109, 100.0% \
+                of all lines\"><b>.</b> <span>lines 18 (100.0%)</span></summary>\
+                <div><i style=\"--n:4\"><em>others 4</em></i><details open class=\"e0\" style=\"--n:11\">\
+                <summary title=\"src: lines 11, files 3, blank 3, bytes 85, 61.1% of all lines\">\
+                <b>src</b> <span>lines 11 (61.1%)</span></summary><div><i style=\"--n:7\">\
+                <em>others 7</em></i><details open class=\"e0\" style=\"--n:4\">\
+                <summary title=\"src/view: lines 4, files 2, blank 3, bytes 35, 22.2% of all lines\">\
+                <b>view</b> <span>lines 4 (22.2%)</span></summary><div><i style=\"--n:3\">\
+                <em>others 3</em></i><details open class=\"e2\" style=\"--n:1\">\
+                <summary title=\"src/view/old: lines 1, files 1, blank 0, bytes 15, 5.6% of all lines\">\
+                <b>old</b> <span>lines 1 (5.6%)</span></summary><div><i style=\"--n:1\">\
+                <em>others 1</em></i></div></details>\n\
                 </div></details>\n\
                 </div></details>\n\
-                <details open class=\"e0\" style=\"--n:3\"><summary><b>src-old</b> lines 3, files 1, blank 1, bytes 15\
-                </summary><div><i style=\"--n:3\"></i></div></details>\n\
+                <details open class=\"e0\" style=\"--n:3\"><summary title=\"src-old: lines 3, files 1, blank 1, bytes 15, \
+                16.7% of all lines\"><b>src-old</b> <span>lines 3 (16.7%)\
+                </span></summary><div><i style=\"--n:3\"><em>others 3</em>\
+                </i></div></details>\n\
                 </div></details>\n",
         ],
     },
@@ -88,25 +102,87 @@ const CASES: &[Case] = &[
             (b"\xff/\xe2\x80\xae/y", [2, 0, 1_995]),
         ],
         parts: [
-            b"lines 8, files 4, blank 0, bytes 3000",
-            b"<tr class=\"e0\"><th>-</th><td>1</td><td>2</td><td>0</td><td>1995</td><td><div class=\"bar\">\
-                <i style=\"--n:1995\"></i><u style=\"--n:0\"></u></div></td></tr>\n\
-                <tr class=\"e1\"><th>.&#60;i&#62;</th><td>1</td><td>1</td><td>0</td><td>1000</td><td><div class=\"bar\">\
-                <i style=\"--n:1000\"></i><u style=\"--n:995\"></u></div></td></tr>\n\
-                <tr class=\"e2\"><th>.h</th><td>2</td><td>5</td><td>0</td><td>5</td><td><div class=\"bar\">\
-                <i style=\"--n:5\"></i><u style=\"--n:1990\"></u></div></td></tr>\n",
+            b"<div><dt>files</dt><dd>4</dd></div>\n\
+                <div><dt>lines</dt><dd>8</dd></div>\n\
+                <div><dt>blank lines</dt><dd>0</dd></div>\n\
+                <div><dt>bytes</dt><dd>3,000</dd></div>\n",
+            b"<tr class=\"e0\"><th>-</th><td>1</td><td>2</td><td>0</td>\
+                <td>1,995</td><td>66.5%</td><td><div class=\"bar\"><i style=\"--n:1995\">\
+                </i><u style=\"--n:0\"></u></div></td></tr>\n\
+                <tr class=\"e1\"><th>.&#60;i&#62;</th><td>1</td><td>1</td>\
+                <td>0</td><td>1,000</td><td>33.3%</td><td><div class=\"bar\">\
+                <i style=\"--n:1000\"></i><u style=\"--n:995\"></u></div>\
+                </td></tr>\n\
+                <tr class=\"e2\"><th>.h</th><td>2</td><td>5</td><td>0</td>\
+                <td>5</td><td>0.2%</td><td><div class=\"bar\"><i style=\"--n:5\">\
+                </i><u style=\"--n:1990\"></u></div></td></tr>\n",
             b"bytes",
-            b"<details open class=\"e0\" style=\"--n:3000\"><summary><b>.</b> lines 8, files 4, blank 0, bytes 3000\
-                </summary><div><i style=\"--n:2\"></i><details open class=\"e1\" style=\"--n:1000\"><summary>\
-                <b>&#60;b&#62;&#38;amp;&#34;&#39;</b> lines 1, files 1, blank 0, bytes 1000</summary><div>\
-                <i style=\"--n:1000\"></i></div></details>\n\
-                <details open class=\"e2\" style=\"--n:3\"><summary><b>deep</b> lines 0, files 1, blank 0, bytes 3\
-                </summary><div><i style=\"--n:3\"></i></div></details>\n\
-                <details open class=\"e0\" style=\"--n:1995\"><summary><b>\\xff</b> lines 2, files 1, blank 0, bytes 1995\
-                </summary><div><i style=\"--n:0\"></i><details open class=\"e0\" style=\"--n:1995\"><summary>\
-                <b>\\xe2\\x80\\xae</b> lines 2, files 1, blank 0, bytes 1995</summary><div><i style=\"--n:1995\"></i>\
+            b"<details open class=\"e0\" style=\"--n:3000\"><summary title=\".: lines 8, files 4, blank 0, bytes 3,000, \
+                100.0% of all bytes\"><b>.</b> <span>bytes 3,000 (100.0%)\
+                </span></summary><div><i style=\"--n:2\"><em>others 2</em>\
+                </i><details open class=\"e0\" style=\"--n:1995\"><summary title=\"\\xff: lines 2, files 1, blank 0, bytes \
+                1,995, 66.5% of all bytes\"><b>\\xff</b> <span>bytes 1,995 (66.5%)\
+                </span></summary><div><i style=\"--n:0\"><em>others 0</em>\
+                </i><details open class=\"e0\" style=\"--n:1995\"><summary title=\"\\xff/\\xe2\\x80\\xae: lines 2, files \
+                1, blank 0, bytes 1,995, 66.5% of all bytes\"><b>\\xe2\\x80\\xae\
+                </b> <span>bytes 1,995 (66.5%)</span></summary><div><i style=\"--n:1995\">\
+                <em>others 1,995</em></i></div></details>\n\
                 </div></details>\n\
+                <details open class=\"e1\" style=\"--n:1000\"><summary title=\"&#60;b&#62;&#38;amp;&#34;&#39;: lines 1, \
+                files 1, blank 0, bytes 1,000, 33.3% of all bytes\"><b>&#60;b&#62;&#38;amp;&#34;&#39;\
+                </b> <span>bytes 1,000 (33.3%)</span></summary><div><i style=\"--n:1000\">\
+                <em>others 1,000</em></i></div></details>\n\
+                <details open class=\"e2\" style=\"--n:3\"><summary title=\"deep: lines 0, files 1, blank 0, bytes 3, 0.1% \
+                of all bytes\"><b>deep</b> <span>bytes 3 (0.1%)</span></summary>\
+                <div><i style=\"--n:3\"><em>others 3</em></i></div></details>\n\
+                </div></details>\n",
+        ],
+    },
+    Case {
+        name: "directories_that_were_named",
+        sort: None,
+        rows: &[(Some(b"c"), [3, 6, 0, 9]), (Some(b"h"), [2, 9, 0, 11])],
+        totals: [5, 15, 0, 20],
+        files: &[
+            (b"../lib/a.c", [1, 0, 2]),
+            (b"./src/m.c", [2, 0, 3]),
+            (b"/usr/include/x.h", [4, 0, 5]),
+            (b"/x.h", [5, 0, 6]),
+            (b"x.c", [3, 0, 4]),
+        ],
+        parts: [
+            b"<div><dt>files</dt><dd>5</dd></div>\n\
+                <div><dt>lines</dt><dd>15</dd></div>\n\
+                <div><dt>blank lines</dt><dd>0</dd></div>\n\
+                <div><dt>bytes</dt><dd>20</dd></div>\n",
+            b"<tr class=\"e0\"><th>.h</th><td>2</td><td>9</td><td>0</td>\
+                <td>11</td><td>60.0%</td><td><div class=\"bar\"><i style=\"--n:9\">\
+                </i><u style=\"--n:0\"></u></div></td></tr>\n\
+                <tr class=\"e1\"><th>.c</th><td>3</td><td>6</td><td>0</td>\
+                <td>9</td><td>40.0%</td><td><div class=\"bar\"><i style=\"--n:6\">\
+                </i><u style=\"--n:3\"></u></div></td></tr>\n",
+            b"lines",
+            b"<details open class=\"e0\" style=\"--n:15\"><summary title=\".: lines 15, files 5, blank 0, bytes 20, 100.0% \
+                of all lines\"><b>.</b> <span>lines 15 (100.0%)</span></summary>\
+                <div><i style=\"--n:3\"><em>others 3</em></i><details open class=\"e0\" style=\"--n:5\">\
+                <summary title=\"/: lines 5, files 1, blank 0, bytes 6, 33.3% of all lines\">\
+                <b>/</b> <span>lines 5 (33.3%)</span></summary><div><i style=\"--n:5\">\
+                <em>others 5</em></i></div></details>\n\
+                <details open class=\"e0\" style=\"--n:4\"><summary title=\"/usr: lines 4, files 1, blank 0, bytes 5, 26.7% \
+                of all lines\"><b>/usr</b> <span>lines 4 (26.7%)</span></summary>\
+                <div><i style=\"--n:0\"><em>others 0</em></i><details open class=\"e0\" style=\"--n:4\">\
+                <summary title=\"/usr/include: lines 4, files 1, blank 0, bytes 5, 26.7% of all lines\">\
+                <b>include</b> <span>lines 4 (26.7%)</span></summary><div>\
+                <i style=\"--n:4\"><em>others 4</em></i></div></details>\n\
                 </div></details>\n\
+                <details open class=\"e1\" style=\"--n:2\"><summary title=\"./src: lines 2, files 1, blank 0, bytes 3, 13.3% \
+                of all lines\"><b>./src</b> <span>lines 2 (13.3%)</span>\
+                </summary><div><i style=\"--n:2\"><em>others 2</em></i></div>\
+                </details>\n\
+                <details open class=\"e1\" style=\"--n:1\"><summary title=\"../lib: lines 1, files 1, blank 0, bytes 2, \
+                6.7% of all lines\"><b>../lib</b> <span>lines 1 (6.7%)</span>\
+                </summary><div><i style=\"--n:1\"><em>others 1</em></i></div>\
+                </details>\n\
                 </div></details>\n",
         ],
     },
@@ -138,104 +214,20 @@ const MANY: &[Row] = &[
     (Some(b"v"), [1, 19, 21, 42]),
 ];
 
-const BETWEEN: [&[u8]; 5] = [
-    b"</style>\n</head>\n<body>\n<h1>Lines by directory</h1>\n<p>",
-    b"</p>\n<h2>By extension</h2>\n<table>\n\
-      <tr><th>extension</th><th>files</th><th>lines</th><th>blank</th><th>bytes</th><td></td></tr>\n",
-    b"</table>\n<h2>By directory</h2>\n<p>Each box is as tall as its share of the ",
-    b", in the colour of the extension that has most of them. \
-      Others are the files right in a directory, and directories with less than a thousandth of all. \
-      Fold a box to make room for the rest.</p>\n<div class=\"tree\">\n",
-    b"</div>\n</body>\n</html>\n",
-];
-
-fn sums([files, lines, blank, bytes]: [u64; 4]) -> Sums {
-    Sums {
-        files,
-        lines: u128::from(lines),
-        blank: u128::from(blank),
-        bytes: u128::from(bytes),
-    }
-}
-
-fn row_of(alloc: Global, row: &Row) -> Result<TallyRow, AllocError> {
-    let (extension, [files, lines, blank, bytes]) = *row;
-    let ext = match extension {
-        Some(name) => Some(name.to_vec(alloc)?),
-        None => None,
-    };
-    Ok(TallyRow {
-        ext,
-        text: TextState::Unspecified,
-        eol: Eol::Lf,
-        files,
-        lines: u128::from(lines),
-        blank: u128::from(blank),
-        bytes: u128::from(bytes),
-    })
-}
-
-fn rows_of(alloc: Global, rows: &[Row]) -> Result<Vec<TallyRow>, AllocError> {
-    let mut made = Vec::new(alloc);
-    for row in rows {
-        made.push(row_of(alloc, row)?)?;
-    }
-    Ok(made)
-}
-
-fn file_of(alloc: Global, file: &File) -> Result<FileLine, AllocError> {
-    let (path, [lines, blank, bytes]) = *file;
-    Ok(FileLine {
-        path: path.to_vec(alloc)?,
-        text: TextState::Unspecified,
-        count: Count {
-            lines,
-            blank,
-            bytes,
-            eol: Eol::Lf,
-        },
-    })
-}
-
-fn files_of(alloc: Global, files: &[File]) -> Result<Vec<FileLine>, AllocError> {
-    let mut made = Vec::new(alloc);
-    for file in files {
-        made.push(file_of(alloc, file)?)?;
-    }
-    Ok(made)
-}
-
-fn report_of(
-    alloc: Global,
-    rows: &[Row],
-    totals: [u64; 4],
-    files: &[File],
-) -> Result<Report, AllocError> {
-    Ok(Report {
-        rows: rows_of(alloc, rows)?,
-        totals: sums(totals),
-        directories: 1,
-        entries: 0,
-        lists: ReportLists {
-            files: true,
-            left_out: false,
-        },
-        files: files_of(alloc, files)?,
-        faults: Vec::new(alloc),
-        skipped: Vec::new(alloc),
-    })
-}
-
-/// Whether the page of a report ends with these parts, from its sums on.
+/// Whether the page of a report ends with these parts, from its name on.
 fn has_parts(alloc: Global, case: &Case) -> Result<bool, AllocError> {
     let report = report_of(alloc, case.rows, case.totals, case.files)?;
-    let mut body = Vec::new(alloc);
-    for (between, part) in BETWEEN.iter().zip(&case.parts) {
+    let mut body = b"</style>\n</head>\n<body>\n<h1>a&#60;b</h1>\n<p class=\"by\">".to_vec(alloc)?;
+    body.extend_from_slice(case.parts[2])?;
+    body.extend_from_slice(b" by directory</p>\n<dl>\n")?;
+    body.extend_from_slice(case.parts[0])?;
+    body.extend_from_slice(b"</dl>\n")?;
+    for (between, part) in BETWEEN.iter().zip(&case.parts[1..]) {
         body.extend_from_slice(between)?;
         body.extend_from_slice(part)?;
     }
-    body.extend_from_slice(BETWEEN[4])?;
-    let text = page(alloc, &report, case.sort)?;
+    body.extend_from_slice(BETWEEN[3])?;
+    let text = page(alloc, b"a<b", &report, case.sort)?;
     Ok(text.ends_with(&body))
 }
 
@@ -250,9 +242,13 @@ fn pages(rt: HostRuntime) -> Result<(), Fail> {
 #[test]
 fn a_page_is_one_whole_document(rt: HostRuntime) -> Result<(), Fail> {
     let report = report_of(rt.alloc(), &[], [0, 0, 0, 0], &[])?;
-    let text = page(rt.alloc(), &report, None)?;
+    let text = page(rt.alloc(), b"a<b", &report, None)?;
     assert!(rt;
-        text.starts_with(b"<!DOCTYPE html>\n<html lang=\"en\">\n<head>\n<meta charset=\"utf-8\">\n")
+        text.starts_with(
+            b"<!DOCTYPE html>\n<html lang=\"en\">\n<head>\n<meta charset=\"utf-8\">\n\
+              <meta name=\"viewport\" content=\"width=device-width\">\n\
+              <title>a&#60;b: lines by directory</title>\n<style>\n"
+        )
     );
     Ok(())
 }
@@ -261,15 +257,15 @@ fn a_page_is_one_whole_document(rt: HostRuntime) -> Result<(), Fail> {
 fn extensions_that_the_chart_has_no_place_for(rt: HostRuntime) -> Result<(), Fail> {
     let report = report_of(rt.alloc(), MANY, [22, 649, 231, 462], &[])?;
     let mut end =
-        b"<tr class=\"e8\"><th>.t</th><td>1</td><td>21</td><td>19</td><td>38</td><td><div class=\"bar\">\
+        b"<tr class=\"e8\"><th>.t</th><td>1</td><td>21</td><td>19</td><td>38</td><td>3.2%</td><td><div class=\"bar\">\
           <i style=\"--n:21\"></i><u style=\"--n:19\"></u></div></td></tr>\n\
-          <tr><th>others</th><td>2</td><td>39</td><td>41</td><td>82</td><td></td></tr>\n"
+          <tr><th>others</th><td>2</td><td>39</td><td>41</td><td>82</td><td>6.0%</td><td></td></tr>\n"
             .to_vec(rt.alloc())?;
-    end.extend_from_slice(BETWEEN[2])?;
+    end.extend_from_slice(BETWEEN[1])?;
     end.extend_from_slice(b"lines")?;
+    end.extend_from_slice(BETWEEN[2])?;
     end.extend_from_slice(BETWEEN[3])?;
-    end.extend_from_slice(BETWEEN[4])?;
-    let text = page(rt.alloc(), &report, Some(Number::Lines))?;
+    let text = page(rt.alloc(), b"tree", &report, Some(Number::Lines))?;
     assert!(rt; text.ends_with(&end));
     Ok(())
 }

@@ -1,0 +1,116 @@
+//! Boxes in the order of the page: depth first, and of those right in one the largest first.
+
+ghost use Rattle.std.specs.Prelude.{◌≡◌, [], ◌∷◌, ◌++◌, IfOk, OnOk, map};
+ghost use Rattle.std.specs.Cmp.Lexicographic.{slice_cmp};
+ghost use Rattle.std.specs.List.Sorted.{IsPermutation, IsSortedByKey};
+ghost use Rattle.lc_picture.specs.Places.{AreLargestFirst, PlacedModel, branch_of, place_cmp, placed_from};
+
+use crate::directory_box::DirectoryBox;
+use crate::places::{Place, compare_branches};
+use lc_sheet::Number;
+use std::alloc::{AllocError, Global};
+use std::marker::Model;
+
+/// A box, with the places of its directory and of those above it.
+#[derive(Drop)]
+struct PlacedBox<'a> {
+    branch: Vec<Place<'a>>,
+    drawn: DirectoryBox<'a>,
+}
+
+impl<'a> Model for PlacedBox<'a> {
+    ghost use Rattle.lc_picture.specs.Places.{PlacedModel};
+
+    ghost Value = { PlacedModel };
+
+    ghost view = { λ p. record { branch = p.branch.items; drawn = p.drawn } };
+}
+
+fn copies<'a>(alloc: Global, places: &[Place<'a>]) -> Result<Vec<Place<'a>>, AllocError>
+    ensures { IfOk result (λ made. made.items ≡ places.now) }
+{
+    let mut made = Vec::with_capacity(alloc, places.len())?;
+    for place in places {
+        made.push(place.copy())?;
+    }
+    Ok(made)
+}
+
+/// Turns the places of the directory before this one, and of those above that, into those of this one.
+fn next_branch<'a>(
+    branch: &mut Vec<Place<'a>>,
+    by: Number,
+    drawn: &DirectoryBox<'a>,
+) -> Result<(), AllocError>
+    ensures { OnOk result (branch.new.items ≡ branch_of by branch.old.items drawn.now) }
+{
+    branch.truncate(drawn.depth);
+    branch.push(Place::of(by, drawn))?;
+    Ok(())
+}
+
+fn push_placed<'a>(
+    alloc: Global,
+    placed: &mut Vec<PlacedBox<'a>>,
+    branch: &[Place<'a>],
+    drawn: &DirectoryBox<'a>,
+) -> Result<(), AllocError>
+    ensures { OnOk result (placed.new.items ≡ placed.old.items ++ record { branch = branch.now; drawn = drawn.now } ∷ []) }
+{
+    let branch = copies(alloc, branch)?;
+    placed.push(PlacedBox {
+        branch,
+        drawn: drawn.copy(),
+    })?;
+    Ok(())
+}
+
+fn placed_boxes<'a>(
+    alloc: Global,
+    by: Number,
+    boxes: &[DirectoryBox<'a>],
+) -> Result<Vec<PlacedBox<'a>>, AllocError>
+    ensures { IfOk result (λ placed. placed.items ≡ placed_from by [] boxes.now) }
+{
+    let mut placed = Vec::new(alloc);
+    let mut branch = Vec::new(alloc);
+    for drawn in boxes {
+        next_branch(&mut branch, by, drawn)?;
+        push_placed(alloc, &mut placed, &branch, drawn)?;
+    }
+    Ok(placed)
+}
+
+fn sort(placed: &mut Vec<PlacedBox<'_>>)
+    ensures same { IsPermutation placed.old.items placed.new.items }
+    ensures order { IsSortedByKey (λ (p : PlacedModel). p.branch) (slice_cmp place_cmp) placed.new.items }
+{
+    placed.sort_unstable_by(|a, b| compare_branches(&a.branch, &b.branch));
+}
+
+fn boxes_of<'a>(
+    alloc: Global,
+    placed: &[PlacedBox<'a>],
+) -> Result<Vec<DirectoryBox<'a>>, AllocError>
+    ensures { IfOk result (λ boxes. boxes.items ≡ map (λ (p : PlacedModel). p.drawn) placed.now) }
+{
+    let mut boxes = Vec::with_capacity(alloc, placed.len())?;
+    for one in placed {
+        boxes.push(one.drawn.copy())?;
+    }
+    Ok(boxes)
+}
+
+/// Returns boxes that come depth first in the order of the page: depth first too, but of those right in one the largest first.
+pub(crate) fn largest_first<'a>(
+    alloc: Global,
+    by: Number,
+    boxes: &[DirectoryBox<'a>],
+) -> Result<Vec<DirectoryBox<'a>>, AllocError>
+    ensures { IfOk result (λ sorted. AreLargestFirst by boxes.now sorted.items) }
+{
+    let mut placed = placed_boxes(alloc, by, boxes)?;
+    sort(&mut placed);
+    let boxes = boxes_of(alloc, &placed)?;
+    Ok(boxes)
+}

@@ -1,0 +1,39 @@
+//! Shares in per cent.
+
+ghost use Rattle.std.specs.Prelude.{◌≡◌, ◌++◌, IfOk, OnOk};
+ghost use Rattle.lc_formats.specs.Shares.{rounded_parts, share_word};
+
+use crate::sums::push_number;
+use std::alloc::AllocError;
+
+/// Returns how many tenths of a per cent a part is of a whole, rounded half up.
+///
+/// It stops with an error only if the divisor or the dividend overflows, which takes numbers of 2^111 or more.
+fn tenths_of(part: u128, whole: u128) -> Result<u128, AllocError>
+    ensures { IfOk result (λ tenths. tenths ≡ rounded_parts 1000 part whole) }
+{
+    if whole == 0 {
+        return Ok(0);
+    }
+    let divisor = whole.checked_mul(2).ok_or(AllocError)?;
+    let product = part.checked_mul(2_000).ok_or(AllocError)?;
+    let dividend = product.checked_add(whole).ok_or(AllocError)?;
+    Ok(dividend / divisor)
+}
+
+fn push_tenths(text: &mut Vec<u8>, tenths: u128) -> Result<(), AllocError>
+    ensures { OnOk result (text.new.items ≡ text.old.items ++ share_word tenths) }
+{
+    push_number(text, tenths / 10)?;
+    text.extend_from_slice(b".")?;
+    push_number(text, tenths % 10)?;
+    text.extend_from_slice(b"%")
+}
+
+/// Appends the share in per cent that a part is of a whole, with one decimal.
+pub(crate) fn push_percent(text: &mut Vec<u8>, part: u128, whole: u128) -> Result<(), AllocError>
+    ensures { OnOk result (text.new.items ≡ text.old.items ++ share_word (rounded_parts 1000 part whole)) }
+{
+    let tenths = tenths_of(part, whole)?;
+    push_tenths(text, tenths)
+}

@@ -1,0 +1,49 @@
+//! What could not be read, at the top of a page.
+
+use crate::picture::reports::{BETWEEN, report_of};
+use lc_level::FaultWord;
+use lc_picture::page;
+use lc_walk::FaultLine;
+use std::alloc::{AllocError, Global};
+use std::test::Fail;
+
+fn fault(alloc: Global, path: &[u8], word: FaultWord) -> Result<FaultLine, AllocError> {
+    Ok(FaultLine {
+        path: path.to_vec(alloc)?,
+        word,
+    })
+}
+
+/// The end of the page of a report without files, from its faults on.
+fn end_with_faults(alloc: Global, faults: &[u8]) -> Result<Vec<u8>, AllocError> {
+    let mut end = b"</dl>\n<p>What could not be read is not in the picture. Errors: ".to_vec(
+        alloc,
+    )?;
+    for part in [
+        faults, BETWEEN[0], BETWEEN[1], b"lines", BETWEEN[2], BETWEEN[3],
+    ] {
+        end.extend_from_slice(part)?;
+    }
+    Ok(end)
+}
+
+#[test]
+fn what_could_not_be_read(rt: HostRuntime) -> Result<(), Fail> {
+    let alloc = rt.alloc();
+    let mut report = report_of(alloc, &[], [0, 0, 0, 0], &[])?;
+    report.faults.push(fault(alloc, b"", FaultWord::Name)?)?;
+    report.faults.push(fault(alloc, b"a<b", FaultWord::Read)?)?;
+    let text = page(alloc, b"tree", &report, None)?;
+    let end = end_with_faults(
+        alloc,
+        b"2</p>\n<ul>\n<li>.: name</li>\n<li>a&#60;b: read</li>\n</ul>\n",
+    )?;
+    assert!(rt; text.ends_with(&end));
+    for _ in 0..100 {
+        report.faults.push(fault(alloc, b"x", FaultWord::Read)?)?;
+    }
+    let text = page(alloc, b"tree", &report, None)?;
+    let end = b"<li>x: read</li>\n<li>and 2 more</li>\n</ul>\n<h2>";
+    assert!(rt; text.windows(end.len()).any(|part| part == end.as_slice()));
+    Ok(())
+}
