@@ -1,0 +1,2 @@
+pub mod JsonKinds
+pub mod WordTables

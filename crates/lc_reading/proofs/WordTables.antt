@@ -1,0 +1,93 @@
+-- What is found in a list of all words.
+use Rattle.std.proofs.Common.{◌≡◌, ◌≢◌, ℕ, Bool, true, false, List, [], ◌∷◌, Option, Some, None, refl, sym, ap, cond, ◌∙◌, ◌⊎◌, inl, inr}
+use Rattle.std.specs.Prelude.{MatchOption, find, bytes_eq}
+use Rattle.std.specs.Bool.{Decides}
+use Rattle.std.proofs.lemmas.Slice.Eq.{bytes_eq-Decides}
+use Rattle.lc_census.specs.EolWords.{eol_word}
+use Rattle.lc_census.specs.declared.line_count.Eol.{Eol}
+use Rattle.lc_census.specs.declared.line_count.Eol.TheVariants.{NoEnd, Lf, CrLf, Cr, Mixed, Nul}
+use Rattle.lc_level.specs.FaultWords.{fault_word}
+use Rattle.lc_level.specs.declared.fault_word.FaultWord.{FaultWord}
+use Rattle.lc_level.specs.declared.fault_word.FaultWord.TheVariants.{Read, Name, Twice, Many, Long, Endless, Absent}
+use Rattle.lc_rules.specs.TextWords.{text_word}
+use Rattle.lc_rules.specs.declared.states.TextState.{TextState}
+use Rattle.lc_rules.specs.declared.states.TextState.TheVariants.{Set, Unset, Auto, Other, Unspecified}
+use Rattle.lc_reading.specs.Members.{is_word}
+
+abbrev IsIn : {A : Type 0} → A → List A → Type 0
+IsIn a [] = ⊥
+IsIn a (x ∷ xs) = (x ≡ a) ⊎ IsIn a xs
+
+module _ {A : Type 0} (p : A → Bool) where
+  first_is : (x : A) (xs : List A) (a : A) (b : Bool) → p x ≡ b → (Some a ≡ find p xs → p a ≡ true) → Some a ≡ cond b (Some x) (find p xs) → p a ≡ true
+  first_is x xs a true is more e = let same : a ≡ x = cc in ap p same ∙ is
+  first_is x xs a false is more e = more e
+
+  some_found : (xs : List A) (a : A) → Some a ≡ find p xs → p a ≡ true
+  some_found [] a e = absurd (cc)
+  some_found (x ∷ xs) a e = first_is x xs a (p x) refl (some_found xs a) e
+
+  none_first : (x : A) (xs : List A) (a : A) (b : Bool) → p x ≡ b → (None ≡ find p xs → IsIn a xs → p a ≡ false) → None ≡ cond b (Some x) (find p xs)
+      → IsIn a (x ∷ xs) → p a ≡ false
+  none_first x xs a true is more e i = absurd (cc)
+  none_first x xs a false is more e (inl same) = ap p (sym same) ∙ is
+  none_first x xs a false is more e (inr later) = more e later
+
+  none_found : (xs : List A) (a : A) → None ≡ find p xs → IsIn a xs → p a ≡ false
+  none_found [] a e i = absurd i
+  none_found (x ∷ xs) a e i = none_first x xs a (p x) refl (none_found xs a) e i
+
+  found : (R : A → Type 0) (decides : (a : A) → Decides (p a) (R a)) (all : List A) (each : (a : A) → IsIn a all) (r : Option A) → r ≡ find p all
+      → MatchOption r ((a : A) → R a → ⊥) R
+  found R decides all each None e = λ a is. let t = (decides a).1 is in let f = none_found all a e (each a) in absurd (cc)
+  found R decides all each (Some a) e = (decides a).0 (some_found all a e)
+
+abbrev all_eols : List Eol
+all_eols = NoEnd ∷ Lf ∷ CrLf ∷ Cr ∷ Mixed ∷ Nul ∷ []
+
+each_eol : (a : Eol) → IsIn a all_eols
+each_eol NoEnd = inl refl
+each_eol Lf = inr (inl refl)
+each_eol CrLf = inr (inr (inl refl))
+each_eol Cr = inr (inr (inr (inl refl)))
+each_eol Mixed = inr (inr (inr (inr (inl refl))))
+each_eol Nul = inr (inr (inr (inr (inr (inl refl)))))
+
+pub eol_found : (w : List ℕ) (r : Option Eol) → r ≡ find (λ a. bytes_eq (eol_word a) w) all_eols
+    → MatchOption r ((a : Eol) → eol_word a ≢ w) (λ a. eol_word a ≡ w)
+eol_found w r e = found (λ a. bytes_eq (eol_word a) w) (λ a. eol_word a ≡ w) (λ a. bytes_eq-Decides (eol_word a) w) all_eols each_eol r e
+
+abbrev all_faults : List FaultWord
+all_faults = Read ∷ Name ∷ Twice ∷ Many ∷ Long ∷ Endless ∷ Absent ∷ []
+
+each_fault : (a : FaultWord) → IsIn a all_faults
+each_fault Read = inl refl
+each_fault Name = inr (inl refl)
+each_fault Twice = inr (inr (inl refl))
+each_fault Many = inr (inr (inr (inl refl)))
+each_fault Long = inr (inr (inr (inr (inl refl))))
+each_fault Endless = inr (inr (inr (inr (inr (inl refl)))))
+each_fault Absent = inr (inr (inr (inr (inr (inr (inl refl))))))
+
+pub fault_found : (w : List ℕ) (r : Option FaultWord) → r ≡ find (λ a. bytes_eq (fault_word a) w) all_faults
+    → MatchOption r ((a : FaultWord) → fault_word a ≢ w) (λ a. fault_word a ≡ w)
+fault_found w r e = found (λ a. bytes_eq (fault_word a) w) (λ a. fault_word a ≡ w) (λ a. bytes_eq-Decides (fault_word a) w) all_faults each_fault r e
+
+abbrev all_states : List TextState
+all_states = Set ∷ Unset ∷ Auto ∷ Other ∷ Unspecified ∷ []
+
+each_state : (a : TextState) → IsIn a all_states
+each_state Set = inl refl
+each_state Unset = inr (inl refl)
+each_state Auto = inr (inr (inl refl))
+each_state Other = inr (inr (inr (inl refl)))
+each_state Unspecified = inr (inr (inr (inr (inl refl))))
+
+word_decides : (w : List ℕ) (own : Option (List ℕ)) → Decides (is_word w own) (own ≡ Some w)
+word_decides w None = ((λ e. absurd (cc)), (λ e. absurd (cc)))
+word_decides w (Some own) =
+    ((λ e. ap (λ (s : List ℕ). Some s) ((bytes_eq-Decides own w).0 e)), (λ e. let same : own ≡ w = cc in (bytes_eq-Decides own w).1 same))
+
+pub state_found : (w : List ℕ) (r : Option TextState) → r ≡ find (λ a. is_word w (text_word a)) all_states
+    → MatchOption r ((a : TextState) → text_word a ≢ Some w) (λ a. text_word a ≡ Some w)
+state_found w r e = found (λ a. is_word w (text_word a)) (λ a. text_word a ≡ Some w) (λ a. word_decides w (text_word a)) all_states each_state r e

@@ -1,0 +1,2 @@
+pub mod MemberNames
+pub mod Members
