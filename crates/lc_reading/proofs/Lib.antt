@@ -1,2 +1,4 @@
 pub mod JsonKinds
+pub mod ListsRead
+pub mod Objects
 pub mod WordTables

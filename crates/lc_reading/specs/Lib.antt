@@ -1,2 +1,4 @@
 pub mod MemberNames
 pub mod Members
+pub mod Lines
+pub mod Lists

@@ -2,7 +2,7 @@
 use Rattle.std.specs.Prelude.{◌≡◌, ◌⊎◌, ℕ, Bool, false, List, [], ◌∷◌, map, cond, decimal, Option, Some, None}
 use Rattle.std.specs.Str.{bytes_eq}
 use Rattle.std.specs.Borrow.{Bor}
-use Rattle.json.specs.Json.{Json, number, string, array, object, Members, no_members, member}
+use Rattle.json.specs.Json.{Json, number, string, array, Members, no_members, member}
 use Rattle.json.specs.Value.{items_of, value_view}
 use Rattle.json.specs.declared.value.Value.{Value}
 use Rattle.lc_reading.specs.MemberNames.{member_name}

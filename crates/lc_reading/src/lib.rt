@@ -1,10 +1,16 @@
 //! Reading reports.
 #![tactic(auto)]
 
+mod fault_lines;
+mod file_lines;
+mod lines;
+mod lists;
 mod member_name;
 mod members;
 mod numbers;
 mod read_fault;
+mod rule_places;
+mod skipped_lines;
 mod values;
 mod words;
 
