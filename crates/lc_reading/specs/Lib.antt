@@ -2,3 +2,4 @@ pub mod MemberNames
 pub mod Members
 pub mod Lines
 pub mod Lists
+pub mod Rows

@@ -9,10 +9,14 @@ mod member_name;
 mod members;
 mod numbers;
 mod read_fault;
+mod row_columns;
+mod rows;
 mod rule_places;
 mod skipped_lines;
+mod sums;
 mod values;
 mod words;
 
 pub use member_name::MemberName;
 pub use read_fault::{NoReport, Part, ReadFault};
+pub use row_columns::RowColumns;

@@ -12,6 +12,7 @@ use crate::file_lines::file_of;
 use crate::lines::members_in;
 use crate::member_name::MemberName;
 use crate::read_fault::{NoReport, ReadFault};
+use crate::rows::{ReadRow, row_of};
 use crate::skipped_lines::skipped_of;
 use json::{Error, Reader, Token, Value};
 use lc_level::{FaultLine, FileLine, SkippedLine};
@@ -56,6 +57,16 @@ impl ListLine for SkippedLine {
 
     fn of<'a>(alloc: Global, members: &[(&'a str, Value<'a>)]) -> Result<SkippedLine, ReadFault> {
         skipped_of(alloc, members)
+    }
+}
+
+impl ListLine for ReadRow {
+    ghost use Rattle.lc_reading.specs.Rows.{IsRowOf};
+
+    ghost is_of = { IsRowOf };
+
+    fn of<'a>(alloc: Global, members: &[(&'a str, Value<'a>)]) -> Result<ReadRow, ReadFault> {
+        row_of(alloc, members)
     }
 }
 
