@@ -1,4 +1,4 @@
 pub mod JsonKinds
+pub mod LentObjects
 pub mod ListsRead
-pub mod Objects
 pub mod WordTables

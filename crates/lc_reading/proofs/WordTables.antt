@@ -12,7 +12,14 @@ use Rattle.lc_level.specs.declared.fault_word.FaultWord.TheVariants.{Read, Name,
 use Rattle.lc_rules.specs.TextWords.{text_word}
 use Rattle.lc_rules.specs.declared.states.TextState.{TextState}
 use Rattle.lc_rules.specs.declared.states.TextState.TheVariants.{Set, Unset, Auto, Other, Unspecified}
+use Rattle.lc_reading.specs.MemberNames.{member_name}
 use Rattle.lc_reading.specs.Members.{is_word}
+use Rattle.lc_reading.specs.Objects.{is_value}
+use Rattle.lc_reading.specs.declared.member_name.MemberName.{MemberName}
+use Rattle.lc_reading.specs.declared.member_name.MemberName.TheVariants.{Rows, Others, Total, Text, Binary, Directories, Entries, Files, Left}
+use Rattle.lc_reading.specs.declared.member_name.MemberName.TheVariants.{Faults, Path, PathBytes, Ext, ExtBytes, Lines, Blank, Bytes}
+use Rattle.lc_reading.specs.declared.member_name.MemberName.TheVariants.{Kind, Reason, File, FileBytes, Line, Attribute, AttributeBytes, Word}
+use Rattle.lc_reading.specs.declared.member_name.MemberName.TheVariants as name
 
 abbrev IsIn : {A : Type 0} → A → List A → Type 0
 IsIn a [] = ⊥
@@ -22,6 +29,10 @@ module _ {A : Type 0} (p : A → Bool) where
   first_is : (x : A) (xs : List A) (a : A) (b : Bool) → p x ≡ b → (Some a ≡ find p xs → p a ≡ true) → Some a ≡ cond b (Some x) (find p xs) → p a ≡ true
   first_is x xs a true is more e = let same : a ≡ x = cc in ap p same ∙ is
   first_is x xs a false is more e = more e
+
+  in_first : (x : A) (xs : List A) (a : A) (b : Bool) → (Some a ≡ find p xs → IsIn a xs) → Some a ≡ cond b (Some x) (find p xs) → IsIn a (x ∷ xs)
+  in_first x xs a true more e = let same : x ≡ a = cc in inl same
+  in_first x xs a false more e = inr (more e)
 
   some_found : (xs : List A) (a : A) → Some a ≡ find p xs → p a ≡ true
   some_found [] a e = absurd (cc)
@@ -41,6 +52,10 @@ module _ {A : Type 0} (p : A → Bool) where
       → MatchOption r ((a : A) → R a → ⊥) R
   found R decides all each None e = λ a is. let t = (decides a).1 is in let f = none_found all a e (each a) in absurd (cc)
   found R decides all each (Some a) e = (decides a).0 (some_found all a e)
+
+  some_in : (xs : List A) (a : A) → Some a ≡ find p xs → IsIn a xs
+  some_in [] a e = absurd (cc)
+  some_in (x ∷ xs) a e = in_first x xs a (p x) (some_in xs a) e
 
 abbrev all_eols : List Eol
 all_eols = NoEnd ∷ Lf ∷ CrLf ∷ Cr ∷ Mixed ∷ Nul ∷ []
@@ -91,3 +106,53 @@ word_decides w (Some own) =
 pub state_found : (w : List ℕ) (r : Option TextState) → r ≡ find (λ a. is_word w (text_word a)) all_states
     → MatchOption r ((a : TextState) → text_word a ≢ Some w) (λ a. text_word a ≡ Some w)
 state_found w r e = found (λ a. is_word w (text_word a)) (λ a. text_word a ≡ Some w) (λ a. word_decides w (text_word a)) all_states each_state r e
+
+abbrev value_names : List MemberName
+value_names = Others ∷ Total ∷ Text ∷ Binary ∷ Directories ∷ Entries ∷ []
+
+value_in : (n : MemberName) → is_value n ≡ true → IsIn n value_names
+value_in Others e = inl refl
+value_in Total e = inr (inl refl)
+value_in Text e = inr (inr (inl refl))
+value_in Binary e = inr (inr (inr (inl refl)))
+value_in Directories e = inr (inr (inr (inr (inl refl))))
+value_in Entries e = inr (inr (inr (inr (inr (inl refl)))))
+value_in Rows e = absurd (cc)
+value_in Files e = absurd (cc)
+value_in Left e = absurd (cc)
+value_in Faults e = absurd (cc)
+value_in Path e = absurd (cc)
+value_in PathBytes e = absurd (cc)
+value_in Ext e = absurd (cc)
+value_in ExtBytes e = absurd (cc)
+value_in name.Eol e = absurd (cc)
+value_in Lines e = absurd (cc)
+value_in Blank e = absurd (cc)
+value_in Bytes e = absurd (cc)
+value_in Kind e = absurd (cc)
+value_in Reason e = absurd (cc)
+value_in File e = absurd (cc)
+value_in FileBytes e = absurd (cc)
+value_in Line e = absurd (cc)
+value_in Attribute e = absurd (cc)
+value_in AttributeBytes e = absurd (cc)
+value_in Word e = absurd (cc)
+
+in_value : (n : MemberName) → IsIn n value_names → is_value n ≡ true
+in_value n (inl e) = ap is_value (sym e)
+in_value n (inr (inl e)) = ap is_value (sym e)
+in_value n (inr (inr (inl e))) = ap is_value (sym e)
+in_value n (inr (inr (inr (inl e)))) = ap is_value (sym e)
+in_value n (inr (inr (inr (inr (inl e))))) = ap is_value (sym e)
+in_value n (inr (inr (inr (inr (inr (inl e)))))) = ap is_value (sym e)
+in_value n (inr (inr (inr (inr (inr (inr never)))))) = absurd never
+
+pub value_found : (k : List ℕ) (r : Option MemberName) → r ≡ find (λ n. bytes_eq (member_name n) k) value_names
+    → MatchOption r ((n : MemberName) → is_value n ≡ true → k ≢ member_name n) (λ n. (is_value n ≡ true) × (k ≡ member_name n))
+value_found k None e = λ n is same.
+    let there : bytes_eq (member_name n) k ≡ true = (bytes_eq-Decides (member_name n) k).1 (sym same) in
+    let not : bytes_eq (member_name n) k ≡ false = none_found (λ n. bytes_eq (member_name n) k) value_names n e (value_in n is) in
+    absurd (cc)
+value_found k (Some n) e =
+    (in_value n (some_in (λ n. bytes_eq (member_name n) k) value_names n e),
+    sym ((bytes_eq-Decides (member_name n) k).0 (some_found (λ n. bytes_eq (member_name n) k) value_names n e)))

@@ -3,3 +3,4 @@ pub mod Members
 pub mod Lines
 pub mod Lists
 pub mod Rows
+pub mod Objects

@@ -8,12 +8,14 @@ mod lists;
 mod member_name;
 mod members;
 mod numbers;
+mod object;
 mod read_fault;
 mod row_columns;
 mod rows;
 mod rule_places;
 mod skipped_lines;
 mod sums;
+mod top_member;
 mod values;
 mod words;
 

@@ -20,7 +20,7 @@ use lc_rules::TextState;
 use std::alloc::Global;
 
 /// Lends the members of an object that is a value of this member.
-#[tactic(auto, using(crate::proofs::Objects::object_of_members))]
+#[tactic(auto, using(crate::proofs::LentObjects::object_of_members))]
 pub(crate) fn members_in<'v, 'a>(
     value: &'v Value<'a>,
     name: MemberName,
