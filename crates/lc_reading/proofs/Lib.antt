@@ -1,4 +1,5 @@
 pub mod JsonKinds
 pub mod LentObjects
 pub mod ListsRead
+pub mod ObjectsRead
 pub mod WordTables

@@ -21,7 +21,7 @@ use Rattle.lc_reading.specs.declared.member_name.MemberName.TheVariants.{Faults,
 use Rattle.lc_reading.specs.declared.member_name.MemberName.TheVariants.{Kind, Reason, File, FileBytes, Line, Attribute, AttributeBytes, Word}
 use Rattle.lc_reading.specs.declared.member_name.MemberName.TheVariants as name
 
-abbrev IsIn : {A : Type 0} → A → List A → Type 0
+abbrev pub IsIn : {A : Type 0} → A → List A → Type 0
 IsIn a [] = ⊥
 IsIn a (x ∷ xs) = (x ≡ a) ⊎ IsIn a xs
 
@@ -107,10 +107,10 @@ pub state_found : (w : List ℕ) (r : Option TextState) → r ≡ find (λ a. is
     → MatchOption r ((a : TextState) → text_word a ≢ Some w) (λ a. text_word a ≡ Some w)
 state_found w r e = found (λ a. is_word w (text_word a)) (λ a. text_word a ≡ Some w) (λ a. word_decides w (text_word a)) all_states each_state r e
 
-abbrev value_names : List MemberName
+abbrev pub value_names : List MemberName
 value_names = Others ∷ Total ∷ Text ∷ Binary ∷ Directories ∷ Entries ∷ []
 
-value_in : (n : MemberName) → is_value n ≡ true → IsIn n value_names
+pub value_in : (n : MemberName) → is_value n ≡ true → IsIn n value_names
 value_in Others e = inl refl
 value_in Total e = inr (inl refl)
 value_in Text e = inr (inr (inl refl))
@@ -153,6 +153,7 @@ value_found k None e = λ n is same.
     let there : bytes_eq (member_name n) k ≡ true = (bytes_eq-Decides (member_name n) k).1 (sym same) in
     let not : bytes_eq (member_name n) k ≡ false = none_found (λ n. bytes_eq (member_name n) k) value_names n e (value_in n is) in
     absurd (cc)
-value_found k (Some n) e =
-    (in_value n (some_in (λ n. bytes_eq (member_name n) k) value_names n e),
-    sym ((bytes_eq-Decides (member_name n) k).0 (some_found (λ n. bytes_eq (member_name n) k) value_names n e)))
+value_found k (Some n) e = (
+  in_value n (some_in (λ n. bytes_eq (member_name n) k) value_names n e),
+  sym ((bytes_eq-Decides (member_name n) k).0 (some_found (λ n. bytes_eq (member_name n) k) value_names n e)),
+)

@@ -59,6 +59,11 @@ pub record TakesMember (k : List ℕ) (old new : Object) (before after : List To
   pub tokens_are : before ≡ json_tokens value ++ after
   pub adds : (ms : List Member) → IsObjectOf ms old → IsObjectOf (ms ++ (k, value) ∷ []) new
 
+-- a value was passed over
+pub record IsPassed (before after : List Token) : Type 0 where
+  pub value : Json
+  pub tokens_are : before ≡ json_tokens value ++ after
+
 -- an object was read from the tokens
 pub record TakesObject (o : Object) (before after : List Token) : Type 0 where
   pub members : List Member
