@@ -4,3 +4,4 @@ pub mod Lines
 pub mod Lists
 pub mod Rows
 pub mod Objects
+pub mod Reports

@@ -15,6 +15,7 @@ use Rattle.lc_text.specs.RulePlaces.{source_directory, source_name}
 use Rattle.lc_tree.specs.declared.entry.Kind.{Kind}
 use Rattle.lc_tree.specs.declared.entry.Kind.TheVariants.{File, Dir, Other}
 use Rattle.lc_tree.specs.declared.entry.OtherKind.TheVariants.{Special, Mounted}
+use Rattle.lc_rows.specs.Words.{kind_word}
 use Rattle.lc_reading.specs.Members.{Member, Has, HasBytes, HasNumber, HasText}
 use Rattle.lc_reading.specs.declared.member_name.MemberName.TheVariants as member
 
@@ -56,12 +57,6 @@ pub record IsFaultOf (ms : List Member) (f : FaultLineModel) : Type 0 where
   pub path : HasBytes member.Path member.PathBytes ms f.path
 
 -- ---- skipped entries
-
-abbrev pub kind_word : Kind → List ℕ
-kind_word File = codes "file"
-kind_word Dir = codes "dir"
-kind_word (Other Special) = codes "other"
-kind_word (Other Mounted) = codes "dir"
 
 -- the kinds of which an entry is skipped for this reason
 abbrev pub HasReason : Kind → Reason → Type 0

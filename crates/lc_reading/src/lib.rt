@@ -1,6 +1,7 @@
 //! Reading reports.
 #![tactic(auto)]
 
+mod adding;
 mod fault_lines;
 mod file_lines;
 mod lines;

@@ -3,7 +3,8 @@
 ghost use Rattle.std.specs.Prelude.{◌≡◌, codes, None, IfOk, IfSome};
 ghost use Rattle.lc_level.specs.ReasonWords.{attribute_of, reason_word, rule_of};
 ghost use Rattle.lc_level.specs.Reasons.{reason_model};
-ghost use Rattle.lc_reading.specs.Lines.{HasReason, HasRule, IsReasonOf, IsSkippedOf, kind_word};
+ghost use Rattle.lc_reading.specs.Lines.{HasReason, HasRule, IsReasonOf, IsSkippedOf};
+ghost use Rattle.lc_rows.specs.Words.{kind_word};
 ghost use Rattle.lc_reading.specs.Members.{members_of};
 
 use crate::lines::entry_path_in;
