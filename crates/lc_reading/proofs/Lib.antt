@@ -1,5 +1,6 @@
 pub mod JsonKinds
 pub mod LentObjects
 pub mod ListsRead
+pub mod NulSums
 pub mod ObjectsRead
 pub mod WordTables

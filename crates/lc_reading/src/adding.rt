@@ -1,7 +1,7 @@
 //! Sums that are compared with their total.
 
-ghost use Rattle.std.specs.Prelude.{◌≡◌, filter, IfOk, IfSome, IsTrue, map};
-ghost use Rattle.lc_reading.specs.Reports.{is_nul};
+ghost use Rattle.std.specs.Prelude.{◌≡◌, IfOk, IfSome, IsTrue, map};
+ghost use Rattle.lc_reading.specs.Reports.{nul_part, nul_rows};
 ghost use Rattle.lc_walk.specs.ReportTotals.{counted_line};
 ghost use Rattle.lc_walk.specs.Sums.{plus};
 ghost use Rattle.lc_walk.specs.Tally.{IsTally, StandsFor, sums_of_files};
@@ -61,4 +61,50 @@ fn tally_of(alloc: Global, files: &[FileLine]) -> Result<Tally, AllocError>
         rest = others;
     }
     Ok(tally)
+}
+
+/// The sums of a row whose files hold a NUL byte, or those over no files.
+fn nul_part(row: &TallyRow) -> Sums
+    ensures { result ≡ nul_part row.now }
+{
+    match row.eol {
+        Eol::Nul => row.sums(),
+        _ => Sums::none(),
+    }
+}
+
+/// The sums over the rows whose files hold a NUL byte, if they fit their types.
+fn nul_sums(rows: &[TallyRow]) -> Option<Sums>
+    ensures { IfSome result (λ sums. sums ≡ sums_of_rows (nul_rows rows.now)) }
+{
+    let mut sums = Sums::none();
+    let mut rest = rows;
+    'rows: while let Some((row, others)) = rest.split_first() {
+        sums = sums.checked_add(nul_part(row))?;
+        rest = others;
+    }
+    Some(sums)
+}
+
+/// Returns whether the rows whose files hold a NUL byte add up to the sums over binary files.
+pub(crate) fn binary_adds_up(rows: &[TallyRow], binary: Sums) -> bool
+    ensures { IsTrue result → binary ≡ sums_of_rows (nul_rows rows.now) }
+{
+    match nul_sums(rows) {
+        Some(sums) => binary == sums,
+        None => false,
+    }
+}
+
+/// Makes the rows of files, and the sums over them.
+pub(crate) fn rows_of_files(
+    alloc: Global,
+    files: &[FileLine],
+) -> Result<(Vec<TallyRow>, Sums), ReadFault>
+    ensures rows { IfOk result (λ made. IsTally (map counted_line files.now) made.0.items) }
+    ensures sums { IfOk result (λ made. made.1 ≡ sums_of_files (map counted_line files.now)) }
+{
+    let tally = tally_of(alloc, files)?;
+    let sums = tally.totals();
+    Ok((tally.into_rows(), sums))
 }

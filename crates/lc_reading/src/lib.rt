@@ -9,8 +9,10 @@ mod lists;
 mod member_name;
 mod members;
 mod numbers;
+mod numbers_of;
 mod object;
 mod read_fault;
+mod read_report;
 mod row_columns;
 mod rows;
 mod rule_places;
@@ -22,4 +24,5 @@ mod words;
 
 pub use member_name::MemberName;
 pub use read_fault::{NoReport, Part, ReadFault};
+pub use read_report::ReadReport;
 pub use row_columns::RowColumns;
