@@ -5,3 +5,4 @@ pub mod Lists
 pub mod Rows
 pub mod Objects
 pub mod Reports
+pub mod Kept

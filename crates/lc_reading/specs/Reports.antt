@@ -1,5 +1,5 @@
 -- What a JSON object has to have so that it is a report, and which.
-use Rattle.std.specs.Prelude.{◌≡◌, ◌⊎◌, ℕ, Bool, true, false, if◌then◌else◌, List, [], map, filter, All, MatchOption, Option}
+use Rattle.std.specs.Prelude.{◌≡◌, ◌⊎◌, ℕ, Bool, true, false, if◌then◌else◌, List, [], ◌∷◌, map, filter, ⊤, MatchOption, Option}
 use Rattle.std.specs.Bool.{MatchBool}
 use Rattle.std.specs.List.Sorted.{IsPermutation, IsSortedByKey}
 use Rattle.lc_census.specs.declared.line_count.Eol.{Eol}
@@ -52,10 +52,15 @@ pub record HasOrdered {L : Type 0} (Says : List Member → L → Type 0) (path :
 abbrev pub row_in : ReadRow → TallyRowModel
 row_in r = r.row
 
+-- all rows have these columns
+abbrev pub HaveColumns : RowColumns → List ReadRow → Type 0
+HaveColumns columns [] = ⊤
+HaveColumns columns (r ∷ rs) = (r.columns ≡ columns) × HaveColumns columns rs
+
 -- all rows have these columns, and add up to the total
 pub record AreRowsOf (columns : RowColumns) (ms : List Member) (total : Sums) (rows : List ReadRow) : Type 0 where
   pub has : HasLines IsRowOf member.Rows ms rows
-  pub columns_are : All (λ (r : ReadRow). r.columns ≡ columns) rows
+  pub columns_are : HaveColumns columns rows
   pub total_is : total ≡ sums_of_rows (map row_in rows)
 
 -- the rows that are listed: where files are listed too, all columns are those of the files
@@ -64,7 +69,7 @@ pub record HasRows (ms : List Member) (r : ReadReport) : Type 0 where
   pub rows : List ReadRow
   pub are : AreRowsOf columns ms r.report.totals rows
   pub kept : MatchBool r.report.lists.files (r.columns ≡ record { ext = true; text = true; eol = true })
-             ((r.columns ≡ columns) × AddsUp (map row_in rows) r.report.rows.items)
+      ((r.columns ≡ columns) × AddsUp (map row_in rows) r.report.rows.items)
 
 -- an object with these members is a report
 pub record IsReportOf (ms : List Member) (r : ReadReport) : Type 0 where
@@ -74,15 +79,15 @@ pub record IsReportOf (ms : List Member) (r : ReadReport) : Type 0 where
   pub binary : HasSums member.Binary ms r.binary
   pub directories : HasNumber member.Directories ms r.report.directories
   pub entries : MatchBool r.report.lists.left_out (HasNumber member.Entries ms r.report.entries)
-                (Lacks member.Entries ms × (r.report.entries ≡ 0))
+      (Lacks member.Entries ms × (r.report.entries ≡ 0))
   pub rows : HasRows ms r
   -- a report of no files has an empty list of them
   pub files : MatchBool r.report.lists.files
-              (HasOrdered IsFileOf (λ f. f.path) member.Files ms r.report.files.items
-              ⊎ (Lacks member.Files ms × (r.report.files.items ≡ []) × (r.report.totals.files ≡ 0)))
-              (Lacks member.Files ms × (r.report.files.items ≡ []))
+      (HasOrdered IsFileOf (λ f. f.path) member.Files ms r.report.files.items
+      ⊎ (Lacks member.Files ms × (r.report.files.items ≡ []) × (r.report.totals.files ≡ 0)))
+      (Lacks member.Files ms × (r.report.files.items ≡ []))
   pub skipped : MatchBool r.report.lists.left_out (HasOrdered IsSkippedOf (λ l. l.path) member.Left ms r.report.skipped.items)
-                (Lacks member.Left ms × (r.report.skipped.items ≡ []))
+      (Lacks member.Left ms × (r.report.skipped.items ≡ []))
   pub faults : HasOrdered IsFaultOf (λ f. f.path) member.Faults ms r.report.faults.items
   pub adds_up : TotalsAddUp r.report
   pub parts : r.report.totals ≡ plus r.text r.binary

@@ -2,8 +2,10 @@
 #![tactic(auto)]
 
 mod adding;
+mod building;
 mod fault_lines;
 mod file_lines;
+mod kept_files;
 mod lines;
 mod lists;
 mod member_name;
