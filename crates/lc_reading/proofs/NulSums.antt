@@ -1,5 +1,5 @@
 -- Sums over the rows whose files hold a NUL byte.
-use Rattle.std.proofs.Common.{◌≡◌, ◌∙◌, Bool, true, false, cond, List, [], ◌∷◌, refl, sym, ap, arith, zero-add}
+use Rattle.std.proofs.Common.{◌≡◌, ◌∙◌, Bool, true, false, cond, List, [], ◌∷◌, sym, ap, arith, zero-add}
 use Rattle.lc_walk.specs.Sums.{plus, no_files}
 use Rattle.lc_walk.specs.TallyRows.{TallyRowModel, sums_of_rows}
 use Rattle.lc_walk.specs.declared.tally.sums.Sums.{Sums}

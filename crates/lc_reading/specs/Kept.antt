@@ -1,7 +1,8 @@
 -- The rows and the files that a report keeps of those that were read.
-use Rattle.std.specs.Prelude.{◌≡◌, ◌⊎◌, true, false, List, [], map, Option, Some, None}
+use Rattle.std.specs.Prelude.{◌≡◌, ◌⊎◌, true, false, List, [], map, Option, Some, None, is_some, unwrap_or}
 use Rattle.std.specs.List.Sorted.{IsPermutation, IsSortedByKey}
-use Rattle.lc_level.specs.Level.{FileLineModel}
+use Rattle.lc_level.specs.FaultLines.{FaultLineModel}
+use Rattle.lc_level.specs.Level.{FileLineModel, SkippedLineModel}
 use Rattle.lc_tree.specs.ByteOrder.{bytes_cmp}
 use Rattle.lc_walk.specs.ReportTotals.{counted_line}
 use Rattle.lc_walk.specs.Sums.{plus}
@@ -11,6 +12,7 @@ use Rattle.lc_walk.specs.declared.tally.sums.Sums.{Sums}
 use Rattle.lc_reading.specs.Reports.{nul_rows}
 use Rattle.lc_reading.specs.declared.numbers_of.Numbers.{Numbers}
 use Rattle.lc_reading.specs.declared.kept_files.Kept.{Kept}
+use Rattle.lc_reading.specs.declared.read_report.ReadReport.{ReadReport}
 use Rattle.lc_reading.specs.declared.row_columns.RowColumns.{RowColumns}
 
 -- the files in order of their paths, and the rows that they make
@@ -42,3 +44,20 @@ pub record Agrees (n : Numbers) (columns : RowColumns) (rows : List TallyRowMode
   pub kept : IsKept files columns rows n.total k
   pub parts : n.total ≡ plus n.text n.binary
   pub nul : k.columns.eol ≡ true → n.binary ≡ sums_of_rows (nul_rows k.rows.items)
+
+-- the report of these numbers, rows, files and lists
+pub record IsFinished (n : Numbers) (k : Kept) (skipped : List SkippedLineModel) (faults : List FaultLineModel) (r : ReadReport) : Type 0 where
+  pub totals_are : r.report.totals ≡ n.total
+  pub text_is : r.text ≡ n.text
+  pub binary_is : r.binary ≡ n.binary
+  pub directories_are : r.report.directories ≡ n.directories
+  pub entries_are : r.report.entries ≡ unwrap_or n.entries 0
+  pub left_out : r.report.lists.left_out ≡ is_some n.entries
+  pub has_files : r.report.lists.files ≡ k.has_files
+  pub columns_are : r.columns ≡ k.columns
+  pub rows_are : r.report.rows ≡ k.rows
+  pub files_are : r.report.files ≡ k.files
+  pub skipped_are : IsPermutation skipped r.report.skipped.items
+  pub skipped_order : IsSortedByKey (λ (l : SkippedLineModel). l.path) bytes_cmp r.report.skipped.items
+  pub faults_are : IsPermutation faults r.report.faults.items
+  pub faults_order : IsSortedByKey (λ (f : FaultLineModel). f.path) bytes_cmp r.report.faults.items

@@ -6,3 +6,4 @@ pub mod Rows
 pub mod Objects
 pub mod Reports
 pub mod Kept
+pub mod Texts

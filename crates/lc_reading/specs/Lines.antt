@@ -1,5 +1,5 @@
 -- The lines of a report, as the members of JSON objects.
-use Rattle.std.specs.Prelude.{◌≡◌, ◌==◌, ◌&&◌, ◌-◌, ℕ, length, slice_get, Bool, true, false, not, List, ◌++◌, codes, Option, Some, None, ⊤}
+use Rattle.std.specs.Prelude.{◌≡◌, ◌==◌, ◌&&◌, ◌-◌, ℕ, length, slice_get, Bool, true, false, not, List, ◌++◌, Option, Some, None, ⊤}
 use Rattle.std.specs.List.{list_any}
 use Rattle.json.specs.Json.{Json, null, string}
 use Rattle.lc_census.specs.EolWords.{eol_word}
@@ -13,8 +13,8 @@ use Rattle.lc_rules.specs.declared.rule_source.RuleSource.{RuleSource}
 use Rattle.lc_rules.specs.declared.states.TextState.{TextState}
 use Rattle.lc_text.specs.RulePlaces.{source_directory, source_name}
 use Rattle.lc_tree.specs.declared.entry.Kind.{Kind}
-use Rattle.lc_tree.specs.declared.entry.Kind.TheVariants.{File, Dir, Other}
-use Rattle.lc_tree.specs.declared.entry.OtherKind.TheVariants.{Special, Mounted}
+use Rattle.lc_tree.specs.declared.entry.Kind.TheVariants.{File, Other}
+use Rattle.lc_tree.specs.declared.entry.OtherKind.TheVariants.{Mounted}
 use Rattle.lc_rows.specs.Words.{kind_word}
 use Rattle.lc_reading.specs.Members.{Member, Has, HasBytes, HasNumber, HasText}
 use Rattle.lc_reading.specs.declared.member_name.MemberName.TheVariants as member

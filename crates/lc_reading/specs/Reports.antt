@@ -1,11 +1,9 @@
 -- What a JSON object has to have so that it is a report, and which.
-use Rattle.std.specs.Prelude.{◌≡◌, ◌⊎◌, ℕ, Bool, true, false, if◌then◌else◌, List, [], ◌∷◌, map, filter, ⊤, MatchOption, Option}
+use Rattle.std.specs.Prelude.{◌≡◌, ◌⊎◌, ℕ, Bool, true, false, if◌then◌else◌, List, [], ◌∷◌, map, filter, ⊤, MatchOption}
 use Rattle.std.specs.Bool.{MatchBool}
 use Rattle.std.specs.List.Sorted.{IsPermutation, IsSortedByKey}
 use Rattle.lc_census.specs.declared.line_count.Eol.{Eol}
 use Rattle.lc_census.specs.declared.line_count.Eol.TheVariants.{Nul}
-use Rattle.lc_level.specs.FaultLines.{FaultLineModel}
-use Rattle.lc_level.specs.Level.{FileLineModel, SkippedLineModel}
 use Rattle.lc_tree.specs.ByteOrder.{bytes_cmp}
 use Rattle.lc_walk.specs.ReportTotals.{TotalsAddUp}
 use Rattle.lc_walk.specs.Sums.{plus, no_files}

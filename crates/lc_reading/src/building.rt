@@ -4,7 +4,7 @@ ghost use Rattle.std.specs.Prelude.{◌≡◌, [], false, IfOk, List, MatchOptio
 ghost use Rattle.lc_reading.specs.Members.{Member};
 ghost use Rattle.lc_reading.specs.Objects.{IsObjectOf};
 ghost use Rattle.lc_reading.specs.Reports.{IsReportOf};
-ghost use Rattle.lc_reading.specs.Kept.{Agrees};
+ghost use Rattle.lc_reading.specs.Kept.{Agrees, IsFinished};
 
 use crate::adding::{binary_adds_up, parts_add_up, rows_add_up};
 use crate::kept_files::{Kept, columns_of_rows, kept_of, ordered, tally_rows};
@@ -14,7 +14,7 @@ use crate::object::Object;
 use crate::read_fault::{NoReport, Part, ReadFault};
 use crate::read_report::ReadReport;
 use crate::row_columns::RowColumns;
-use lc_walk::{FaultLine, FileLine, Report, ReportLists, SkippedLine, Sums, TallyRow};
+use lc_walk::{FaultLine, FileLine, Report, ReportLists, SkippedLine, TallyRow};
 use std::alloc::Global;
 
 fn lines_of<T: Drop>(lines: Option<Vec<T>>, name: MemberName) -> Result<Vec<T>, NoReport>
@@ -74,4 +74,58 @@ fn agreeing(
         return Err(ReadFault::DoNotAddUp(Part::TextAndBinary));
     }
     Ok(kept)
+}
+
+fn finished(
+    numbers: &Numbers,
+    kept: Kept,
+    skipped: Vec<SkippedLine>,
+    faults: Vec<FaultLine>,
+) -> ReadReport
+    ensures { IsFinished numbers.now kept skipped.items faults.items result }
+{
+    let lists = ReportLists {
+        files: kept.has_files,
+        left_out: numbers.entries.is_some(),
+    };
+    let report = Report {
+        rows: kept.rows,
+        totals: numbers.total,
+        directories: numbers.directories,
+        entries: numbers.entries.unwrap_or(0),
+        lists,
+        files: kept.files,
+        faults: ordered(faults),
+        skipped: ordered(skipped),
+    };
+    ReadReport {
+        report,
+        columns: kept.columns,
+        text: numbers.text,
+        binary: numbers.binary,
+    }
+}
+
+/// Makes the report of an object.
+pub(crate) fn report_of(alloc: Global, object: Object<'_>) -> Result<ReadReport, ReadFault>
+    ensures { IfOk result (λ report. (ms : List Member) → IsObjectOf ms object.entry → IsReportOf ms report) }
+{
+    let Object {
+        values,
+        rows,
+        files,
+        skipped,
+        faults,
+    } = object;
+    let numbers = numbers_of(&values)?;
+    let rows = lines_of(rows, MemberName::Rows)?;
+    let faults = lines_of(faults, MemberName::Faults)?;
+    let skipped = skipped_with(alloc, numbers.entries, skipped)?;
+    let columns = columns_of_rows(&rows)?;
+    let rows = tally_rows(alloc, rows)?;
+    if is_cut(&numbers, &files) {
+        return Err(ReadFault::CutByTop);
+    }
+    let kept = agreeing(alloc, &numbers, columns, rows, files)?;
+    Ok(finished(&numbers, kept, skipped, faults))
 }

@@ -3,6 +3,7 @@
 
 mod adding;
 mod building;
+mod cutter;
 mod fault_lines;
 mod file_lines;
 mod kept_files;
@@ -15,6 +16,7 @@ mod numbers_of;
 mod object;
 mod read_fault;
 mod read_report;
+mod reading;
 mod row_columns;
 mod rows;
 mod rule_places;
@@ -27,4 +29,5 @@ mod words;
 pub use member_name::MemberName;
 pub use read_fault::{NoReport, Part, ReadFault};
 pub use read_report::ReadReport;
+pub use reading::read_reports;
 pub use row_columns::RowColumns;
