@@ -11,5 +11,6 @@ same_members : {A : Type 0} (ms : List (Bor (List ℕ) × Value A)) → members_
 same_members [] = refl
 same_members (m ∷ ms) = ap (member m.0.now (value_view m.1)) (same_members ms)
 
-pub object_of_members : {A : Type 0} (v : Vec (Bor (List ℕ) × Value A) A) → value_view (Object v) ≡ object (members_with (members_of v.items))
+pub object_of_members : {A : Type 0} (v : Vec (Bor (List ℕ) × Value A) A)
+    → value_view (Object v) ≡ object (members_with (members_of v.items))
 object_of_members v = view-Object v ∙ ap object (same_members v.items)

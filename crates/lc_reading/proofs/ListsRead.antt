@@ -37,7 +37,8 @@ pub record SoFar {L : Type 0} (Says : List Member → L → Type 0) (start now :
 tokens_of_items : (js : List Json) → items_tokens (items_of js) ≡ flat_map json_tokens js ++ end_array ∷ []
 tokens_of_items [] = refl
 tokens_of_items (j ∷ js) =
-    ap (λ (ts : List Token). json_tokens j ++ ts) (tokens_of_items js) ∙ sym (append_assoc (json_tokens j) (flat_map json_tokens js) (end_array ∷ []))
+    ap (λ (ts : List Token). json_tokens j ++ ts) (tokens_of_items js)
+    ∙ sym (append_assoc (json_tokens j) (flat_map json_tokens js) (end_array ∷ []))
 
 module _ {L : Type 0} (Says : List Member → L → Type 0) where
   pub none_so_far : (start : List Token) → SoFar Says start start []

@@ -1,5 +1,6 @@
 -- The members of an object that is read member by member.
-use Rattle.std.proofs.Common.{◌≡◌, ◌≢◌, ◌∙◌, ℕ, Bool, true, false, cond, List, [], ◌∷◌, ◌++◌, refl, sym, ap, subst, append_assoc, Option, Some, None, option_map, inl, inr, append-nil, length, length-append, arith, ◌<◌}
+use Rattle.std.proofs.Common.{◌≡◌, ◌≢◌, ◌∙◌, ℕ, Bool, true, false, cond, List, [], ◌∷◌, ◌++◌, refl, sym, ap, subst, append_assoc, Option}
+use Rattle.std.proofs.Common.{Some, None, option_map, inl, inr, append-nil, length, length-append, arith, ◌<◌}
 use Rattle.std.specs.Borrow.{Bor}
 use Rattle.std.specs.Str.{bytes_eq}
 use Rattle.std.specs.Prelude.{OnOk, is_some, Result, Ok, Err}
@@ -30,7 +31,11 @@ use Rattle.lc_reading.specs.declared.top_member.TopMember.TheVariants.{Other}
 use Rattle.lc_reading.proofs.WordTables.{IsIn, value_in, value_names}
 
 pub value_skipped : (d : ℕ) (old new : List Token) → skip_value d old ≡ Some new → IsPassed old new
-value_skipped d old new e = let j = left_some (value d old) new e in record { value = j.0; tokens_are = value-json_tokens_back d old new j.0 j.1 }
+value_skipped d old new e = let j = left_some (value d old) new e in record {
+  value = j.0;
+  tokens_are = value-json_tokens_back d old new
+      j.0 j.1;
+}
 
 pub key_taken : (k : Option (List ℕ)) (old new : List Token) → read_key old ≡ Some (k, new) → old ≡ key_token k ∷ new
 key_taken k old new e = read_key_is old k new e
@@ -53,7 +58,8 @@ append-none (x ∷ xs) = ap (λ (s : List Json). x ∷ s) (append-none xs)
 kept : (n : List ℕ) (ms : List Member) (k : List ℕ) (j : Json) → bytes_eq k n ≡ false → values_at n (ms ++ (k, j) ∷ []) ≡ values_at n ms
 kept n ms k j e = values_more n ms k j ∙ ap (λ b. values_at n ms ++ cond b (j ∷ []) []) e ∙ append-none (values_at n ms)
 
-added : (n : List ℕ) (ms : List Member) (k : List ℕ) (j : Json) → bytes_eq k n ≡ true → values_at n (ms ++ (k, j) ∷ []) ≡ values_at n ms ++ j ∷ []
+added : (n : List ℕ) (ms : List Member) (k : List ℕ) (j : Json) → bytes_eq k n ≡ true
+    → values_at n (ms ++ (k, j) ∷ []) ≡ values_at n ms ++ j ∷ []
 added n ms k j e = values_more n ms k j ∙ ap (λ b. values_at n ms ++ cond b (j ∷ []) []) e
 
 -- ---- names apart
@@ -76,11 +82,13 @@ apart l all k e n is =
     ap (λ (s : List ℕ). bytes_eq s (member_name n)) e ∙ each_of (λ n. bytes_eq l (member_name n) ≡ false) value_names all n (value_in n is)
 
 module _ {L : Type 0} (Says : List Member → L → Type 0) (n : MemberName) (ms : List Member) (k : List ℕ) (j : Json) where
-  lines_kept : (o : Option (List L)) → bytes_eq k (member_name n) ≡ false → MayHaveLines Says n ms o → MayHaveLines Says n (ms ++ (k, j) ∷ []) o
+  lines_kept : (o : Option (List L)) → bytes_eq k (member_name n) ≡ false → MayHaveLines Says n ms o
+      → MayHaveLines Says n (ms ++ (k, j) ∷ []) o
   lines_kept None e is = kept (member_name n) ms k j e ∙ is
   lines_kept (Some ls) e is = record { value = is.value; has = kept (member_name n) ms k j e ∙ is.has; list = is.list }
 
-  lines_filled : (o : Option (List L)) (ls : List L) → o ≡ None → bytes_eq k (member_name n) ≡ true → MayHaveLines Says n ms o → IsListOf Says j ls
+  lines_filled : (o : Option (List L)) (ls : List L) → o ≡ None → bytes_eq k (member_name n) ≡ true → MayHaveLines Says n ms o
+      → IsListOf Says j ls
       → MayHaveLines Says n (ms ++ (k, j) ∷ []) (Some ls)
   lines_filled o ls none e is list =
       let lacks : Lacks n ms = subst (MayHaveLines Says n ms) none is in
@@ -111,16 +119,19 @@ rows_taken k e old new before after lines none filled vs same_files same_skipped
   tokens_are = next.tokens_are;
   adds = λ ms o. record {
     values = λ n is. ap (λ v. named n (members_of v.items)) vs ∙ o.values n is
-        ∙ sym (kept (member_name n) ms k next.value (apart (member_name name.Rows) (refl, (refl, (refl, (refl, (refl, (refl, tt)))))) k e n is));
+        ∙ sym (kept (member_name n) ms k next.value (apart (member_name name.Rows) (refl, (refl, (refl, (refl, (refl, (refl, tt)))))) k e
+        n is));
     rows = subst (MayHaveLines IsRowOf name.Rows (ms ++ (k, next.value) ∷ [])) (sym filled)
         (lines_filled IsRowOf name.Rows ms k next.value (option_map (λ v. v.items) old.rows) lines
         (ap (λ x. option_map (λ v. v.items) x) (none_if old.rows none)) (equal_to k (member_name name.Rows) e) o.rows next.is);
     files = subst (λ x. MayHaveLines IsFileOf name.Files (ms ++ (k, next.value) ∷ []) (option_map (λ v. v.items) x)) (sym same_files)
         (lines_kept IsFileOf name.Files ms k next.value _ (other_than k (member_name name.Rows) (member_name name.Files) e refl) o.files);
     skipped = subst (λ x. MayHaveLines IsSkippedOf name.Left (ms ++ (k, next.value) ∷ []) (option_map (λ v. v.items) x)) (sym same_skipped)
-        (lines_kept IsSkippedOf name.Left ms k next.value _ (other_than k (member_name name.Rows) (member_name name.Left) e refl) o.skipped);
+        (lines_kept IsSkippedOf name.Left ms k next.value _ (other_than k (member_name name.Rows) (member_name name.Left) e refl)
+        o.skipped);
     faults = subst (λ x. MayHaveLines IsFaultOf name.Faults (ms ++ (k, next.value) ∷ []) (option_map (λ v. v.items) x)) (sym same_faults)
-        (lines_kept IsFaultOf name.Faults ms k next.value _ (other_than k (member_name name.Rows) (member_name name.Faults) e refl) o.faults);
+        (lines_kept IsFaultOf name.Faults ms k next.value _ (other_than k (member_name name.Rows) (member_name name.Faults) e refl)
+        o.faults);
   };
 }
 
@@ -136,21 +147,25 @@ files_taken k e old new before after lines none filled vs same_rows same_skipped
   tokens_are = next.tokens_are;
   adds = λ ms o. record {
     values = λ n is. ap (λ v. named n (members_of v.items)) vs ∙ o.values n is
-        ∙ sym (kept (member_name n) ms k next.value (apart (member_name name.Files) (refl, (refl, (refl, (refl, (refl, (refl, tt)))))) k e n is));
+        ∙ sym (kept (member_name n) ms k next.value (apart (member_name name.Files) (refl, (refl, (refl, (refl, (refl, (refl, tt)))))) k
+        e n is));
     rows = subst (λ x. MayHaveLines IsRowOf name.Rows (ms ++ (k, next.value) ∷ []) (option_map (λ v. v.items) x)) (sym same_rows)
         (lines_kept IsRowOf name.Rows ms k next.value _ (other_than k (member_name name.Files) (member_name name.Rows) e refl) o.rows);
     files = subst (MayHaveLines IsFileOf name.Files (ms ++ (k, next.value) ∷ [])) (sym filled)
         (lines_filled IsFileOf name.Files ms k next.value (option_map (λ v. v.items) old.files) lines
         (ap (λ x. option_map (λ v. v.items) x) (none_if old.files none)) (equal_to k (member_name name.Files) e) o.files next.is);
     skipped = subst (λ x. MayHaveLines IsSkippedOf name.Left (ms ++ (k, next.value) ∷ []) (option_map (λ v. v.items) x)) (sym same_skipped)
-        (lines_kept IsSkippedOf name.Left ms k next.value _ (other_than k (member_name name.Files) (member_name name.Left) e refl) o.skipped);
+        (lines_kept IsSkippedOf name.Left ms k next.value _ (other_than k (member_name name.Files) (member_name name.Left) e refl)
+        o.skipped);
     faults = subst (λ x. MayHaveLines IsFaultOf name.Faults (ms ++ (k, next.value) ∷ []) (option_map (λ v. v.items) x)) (sym same_faults)
-        (lines_kept IsFaultOf name.Faults ms k next.value _ (other_than k (member_name name.Files) (member_name name.Faults) e refl) o.faults);
+        (lines_kept IsFaultOf name.Faults ms k next.value _ (other_than k (member_name name.Files) (member_name name.Faults) e refl)
+        o.faults);
   };
 }
 
 -- the list `skipped` was read
-pub skipped_taken : (k : List ℕ) → k ≡ member_name name.Left → (old new : Object) (before after : List Token) (lines : List SkippedLineModel)
+pub skipped_taken : (k : List ℕ) → k ≡ member_name name.Left
+    → (old new : Object) (before after : List Token) (lines : List SkippedLineModel)
     → is_some old.skipped ≡ false → option_map (λ v. v.items) new.skipped ≡ Some lines → new.values ≡ old.values
     → new.rows ≡ old.rows
     → new.files ≡ old.files
@@ -161,7 +176,8 @@ skipped_taken k e old new before after lines none filled vs same_rows same_files
   tokens_are = next.tokens_are;
   adds = λ ms o. record {
     values = λ n is. ap (λ v. named n (members_of v.items)) vs ∙ o.values n is
-        ∙ sym (kept (member_name n) ms k next.value (apart (member_name name.Left) (refl, (refl, (refl, (refl, (refl, (refl, tt)))))) k e n is));
+        ∙ sym (kept (member_name n) ms k next.value (apart (member_name name.Left) (refl, (refl, (refl, (refl, (refl, (refl, tt)))))) k e
+        n is));
     rows = subst (λ x. MayHaveLines IsRowOf name.Rows (ms ++ (k, next.value) ∷ []) (option_map (λ v. v.items) x)) (sym same_rows)
         (lines_kept IsRowOf name.Rows ms k next.value _ (other_than k (member_name name.Left) (member_name name.Rows) e refl) o.rows);
     files = subst (λ x. MayHaveLines IsFileOf name.Files (ms ++ (k, next.value) ∷ []) (option_map (λ v. v.items) x)) (sym same_files)
@@ -170,7 +186,8 @@ skipped_taken k e old new before after lines none filled vs same_rows same_files
         (lines_filled IsSkippedOf name.Left ms k next.value (option_map (λ v. v.items) old.skipped) lines
         (ap (λ x. option_map (λ v. v.items) x) (none_if old.skipped none)) (equal_to k (member_name name.Left) e) o.skipped next.is);
     faults = subst (λ x. MayHaveLines IsFaultOf name.Faults (ms ++ (k, next.value) ∷ []) (option_map (λ v. v.items) x)) (sym same_faults)
-        (lines_kept IsFaultOf name.Faults ms k next.value _ (other_than k (member_name name.Left) (member_name name.Faults) e refl) o.faults);
+        (lines_kept IsFaultOf name.Faults ms k next.value _ (other_than k (member_name name.Left) (member_name name.Faults) e refl)
+        o.faults);
   };
 }
 
@@ -186,13 +203,15 @@ faults_taken k e old new before after lines none filled vs same_rows same_files 
   tokens_are = next.tokens_are;
   adds = λ ms o. record {
     values = λ n is. ap (λ v. named n (members_of v.items)) vs ∙ o.values n is
-        ∙ sym (kept (member_name n) ms k next.value (apart (member_name name.Faults) (refl, (refl, (refl, (refl, (refl, (refl, tt)))))) k e n is));
+        ∙ sym (kept (member_name n) ms k next.value (apart (member_name name.Faults) (refl, (refl, (refl, (refl, (refl, (refl, tt)))))) k
+        e n is));
     rows = subst (λ x. MayHaveLines IsRowOf name.Rows (ms ++ (k, next.value) ∷ []) (option_map (λ v. v.items) x)) (sym same_rows)
         (lines_kept IsRowOf name.Rows ms k next.value _ (other_than k (member_name name.Faults) (member_name name.Rows) e refl) o.rows);
     files = subst (λ x. MayHaveLines IsFileOf name.Files (ms ++ (k, next.value) ∷ []) (option_map (λ v. v.items) x)) (sym same_files)
         (lines_kept IsFileOf name.Files ms k next.value _ (other_than k (member_name name.Faults) (member_name name.Files) e refl) o.files);
     skipped = subst (λ x. MayHaveLines IsSkippedOf name.Left (ms ++ (k, next.value) ∷ []) (option_map (λ v. v.items) x)) (sym same_skipped)
-        (lines_kept IsSkippedOf name.Left ms k next.value _ (other_than k (member_name name.Faults) (member_name name.Left) e refl) o.skipped);
+        (lines_kept IsSkippedOf name.Left ms k next.value _ (other_than k (member_name name.Faults) (member_name name.Left) e refl)
+        o.skipped);
     faults = subst (MayHaveLines IsFaultOf name.Faults (ms ++ (k, next.value) ∷ [])) (sym filled)
         (lines_filled IsFaultOf name.Faults ms k next.value (option_map (λ v. v.items) old.faults) lines
         (ap (λ x. option_map (λ v. v.items) x) (none_if old.faults none)) (equal_to k (member_name name.Faults) e) o.faults next.is);
@@ -228,18 +247,40 @@ small_taken n is k e old new before after j tokens pushed same_rows same_files s
     values = λ m is_m. ap (λ (s : List Member). named m s) pushed ∙ values_more (member_name m) (members_of old.values.items) k j
         ∙ same_rest _ _ (bytes_eq k (member_name m)) j (o.values m is_m) ∙ sym (values_more (member_name m) ms k j);
     rows = subst (λ x. MayHaveLines IsRowOf name.Rows (ms ++ (k, j) ∷ []) (option_map (λ v. v.items) x)) (sym same_rows)
-        (lines_kept IsRowOf name.Rows ms k j _ (list_apart (member_name name.Rows) (refl, (refl, (refl, (refl, (refl, (refl, tt)))))) n is k e) o.rows);
+        (lines_kept IsRowOf name.Rows ms k j _ (list_apart (member_name name.Rows) (refl, (refl, (refl, (refl, (refl, (refl, tt)))))) n
+        is k e) o.rows);
     files = subst (λ x. MayHaveLines IsFileOf name.Files (ms ++ (k, j) ∷ []) (option_map (λ v. v.items) x)) (sym same_files)
-        (lines_kept IsFileOf name.Files ms k j _ (list_apart (member_name name.Files) (refl, (refl, (refl, (refl, (refl, (refl, tt)))))) n is k e) o.files);
+        (lines_kept IsFileOf name.Files ms k j _ (list_apart (member_name name.Files) (refl, (refl, (refl, (refl, (refl, (refl, tt))))))
+        n is k e) o.files);
     skipped = subst (λ x. MayHaveLines IsSkippedOf name.Left (ms ++ (k, j) ∷ []) (option_map (λ v. v.items) x)) (sym same_skipped)
-        (lines_kept IsSkippedOf name.Left ms k j _ (list_apart (member_name name.Left) (refl, (refl, (refl, (refl, (refl, (refl, tt)))))) n is k e) o.skipped);
+        (lines_kept IsSkippedOf name.Left ms k j _ (list_apart (member_name name.Left) (refl, (refl, (refl, (refl, (refl, (refl, tt))))))
+        n is k e) o.skipped);
     faults = subst (λ x. MayHaveLines IsFaultOf name.Faults (ms ++ (k, j) ∷ []) (option_map (λ v. v.items) x)) (sym same_faults)
-        (lines_kept IsFaultOf name.Faults ms k j _ (list_apart (member_name name.Faults) (refl, (refl, (refl, (refl, (refl, (refl, tt)))))) n is k e) o.faults);
+        (lines_kept IsFaultOf name.Faults ms k j _ (list_apart (member_name name.Faults) (
+          refl,
+          (
+            refl,
+            (
+              refl,
+              (
+                refl,
+                (
+                  refl,
+                  (
+                    refl,
+                    tt,
+                  ),
+                ),
+              ),
+            ),
+          ),
+        ) n is k e) o.faults);
   };
 }
 
 -- a member was passed over
-pub other_taken : (k : List ℕ) → IsTopMember k Other → (old new : Object) → new ≡ old → (before after : List Token) → IsPassed before after → TakesMember k old new before after
+pub other_taken : (k : List ℕ) → IsTopMember k Other → (old new : Object) → new ≡ old → (before after : List Token)
+    → IsPassed before after → TakesMember k old new before after
 other_taken k other old new same before after passed = subst (λ o. TakesMember k old o before after) (sym same) (record {
   value = passed.value;
   tokens_are = passed.tokens_are;
@@ -272,7 +313,8 @@ tokens_of_members (m ∷ ms) =
 pub no_member_so_far : (o : Object) (start : List Token) → IsObjectOf [] o → MembersSoFar o start start
 no_member_so_far o start is = record { members = []; tokens_are = refl; is = is }
 
-pub one_member_more : (old new : Object) (start now between after : List Token) (k : List ℕ) → MembersSoFar old start now → now ≡ key k ∷ between
+pub one_member_more : (old new : Object) (start now between after : List Token) (k : List ℕ) → MembersSoFar old start now
+    → now ≡ key k ∷ between
     → TakesMember k old new between after → MembersSoFar new start after
 one_member_more old new start now between after k far named takes = record {
   members = far.members ++ (k, takes.value) ∷ [];
@@ -284,7 +326,8 @@ one_member_more old new start now between after k far named takes = record {
   is = takes.adds far.members far.is;
 }
 
-pub all_members_read : (o : Object) (start now after : List Token) → MembersSoFar o start now → now ≡ end_object ∷ after → TakesObject o (begin_object ∷ start) after
+pub all_members_read : (o : Object) (start now after : List Token) → MembersSoFar o start now → now ≡ end_object ∷ after
+    → TakesObject o (begin_object ∷ start) after
 all_members_read o start now after far ended = record {
   members = far.members;
   tokens_are = ap (λ (ts : List Token). begin_object ∷ ts) (far.tokens_are
@@ -295,7 +338,8 @@ all_members_read o start now after far ended = record {
 }
 
 -- a member takes tokens
-pub fewer : (k : List ℕ) (old new : Object) (now between after : List Token) → now ≡ key k ∷ between → TakesMember k old new between after → length after < length now
+pub fewer : (k : List ℕ) (old new : Object) (now between after : List Token) → now ≡ key k ∷ between
+    → TakesMember k old new between after → length after < length now
 fewer k old new now between after named takes =
     let a = length-append (json_tokens takes.value) after in let b = ap (λ (ts : List Token). length ts) named in
     let d = ap (λ (ts : List Token). length ts) takes.tokens_are in omega arith

@@ -1,5 +1,6 @@
 -- Texts that are cut and read one after another.
-use Rattle.std.proofs.Common.{◌≡◌, ◌∙◌, ◌<◌, ℕ, List, [], ◌∷◌, ◌++◌, length, refl, sym, ap, append_assoc, append-nil, Option, Some, None, option_and_then, true, false, arith, Result, Ok, Err}
+use Rattle.std.proofs.Common.{◌≡◌, ◌∙◌, ◌<◌, ℕ, List, [], ◌∷◌, ◌++◌, length, refl, sym, ap, append_assoc, append-nil, Option, Some, None}
+use Rattle.std.proofs.Common.{option_and_then, true, false, arith, Result, Ok, Err}
 use Rattle.std.specs.List.{flat_map, list_all}
 use Rattle.std.specs.Prelude.{IfOk, MatchOption, is_some}
 use Rattle.std.proofs.lemmas.List.Concat.{flat_map-append}
@@ -32,10 +33,13 @@ read_whole (Some (i, t ∷ ts)) j e = absurd (cc)
 same_value : (text : List ℕ) (j k : Json) → document text ≡ Some j → tokens text ≡ json_tokens k ++ [] → j ≡ k
 same_value text j k is tokens_are =
     let read : value max_depth (tokens text) ≡ Some (j, []) = read_whole (value max_depth (tokens text)) j is in
-    let spelled : value (depth k) (tokens text) ≡ Some (k, []) = ap (value (depth k)) tokens_are ∙ value-json_tokens k (depth k) [] (omega arith) in
-    ap (λ (p : Json × List Token). p.0) (Some_inj (j, []) (k, []) (one_reading max_depth (depth k) (tokens text) (j, []) (k, []) read spelled))
+    let spelled : value (depth k) (tokens text) ≡ Some (k, []) = ap (value (depth k)) tokens_are
+    ∙ value-json_tokens k (depth k) [] (omega arith) in
+    ap (λ (p : Json × List Token). p.0) (Some_inj (j, []) (k, []) (one_reading max_depth (depth k) (tokens text) (j, []) (k, []) read
+    spelled))
 
-pub report_text : (text : List ℕ) (o : Object) (rest : List Token) (r : ReadReport) → IsJson text → TakesObject o (tokens text) rest → rest ≡ []
+pub report_text : (text : List ℕ) (o : Object) (rest : List Token) (r : ReadReport) → IsJson text → TakesObject o (tokens text) rest
+    → rest ≡ []
     → ((ms : List Member) → IsObjectOf ms o → IsReportOf ms r) → IsReportText text r
 report_text text o rest r json takes none made = record {
   members = takes.members;
@@ -60,7 +64,8 @@ texts_pushed (u ∷ us) (q ∷ qs) t r are is = (are.0, texts_pushed us qs t r a
 pub no_text_so_far : (text : List ℕ) → TextsSoFar text text []
 no_text_so_far text = record { texts = []; front = refl; each = tt }
 
-pub one_text_more : (text rest piece more : List ℕ) (reports : List ReadReport) (r : ReadReport) → TextsSoFar text rest reports → rest ≡ piece ++ more
+pub one_text_more : (text rest piece more : List ℕ) (reports : List ReadReport) (r : ReadReport) → TextsSoFar text rest reports
+    → rest ≡ piece ++ more
     → IsReportText piece r → TextsSoFar text more (reports ++ r ∷ [])
 one_text_more text rest piece more reports r far cut is = record {
   texts = far.texts ++ piece ∷ [];
@@ -71,7 +76,8 @@ one_text_more text rest piece more reports r far cut is = record {
   each = texts_pushed far.texts reports piece r far.each is;
 }
 
-pub all_texts_read : (text rest : List ℕ) (reports : List ReadReport) → TextsSoFar text rest reports → list_all is_space rest ≡ true → 0 < length reports
+pub all_texts_read : (text rest : List ℕ) (reports : List ReadReport) → TextsSoFar text rest reports → list_all is_space rest ≡ true
+    → 0 < length reports
     → AreReportsOf text reports
 all_texts_read text rest reports far blank some = record {
   texts = far.texts;

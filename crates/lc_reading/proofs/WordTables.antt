@@ -16,9 +16,11 @@ use Rattle.lc_reading.specs.MemberNames.{member_name}
 use Rattle.lc_reading.specs.Members.{is_word}
 use Rattle.lc_reading.specs.Objects.{is_value}
 use Rattle.lc_reading.specs.declared.member_name.MemberName.{MemberName}
-use Rattle.lc_reading.specs.declared.member_name.MemberName.TheVariants.{Rows, Others, Total, Text, Binary, Directories, Entries, Files, Left}
+use Rattle.lc_reading.specs.declared.member_name.MemberName.TheVariants.{Rows, Others, Total, Text, Binary, Directories, Entries, Files}
+use Rattle.lc_reading.specs.declared.member_name.MemberName.TheVariants.{Left}
 use Rattle.lc_reading.specs.declared.member_name.MemberName.TheVariants.{Faults, Path, PathBytes, Ext, ExtBytes, Lines, Blank, Bytes}
-use Rattle.lc_reading.specs.declared.member_name.MemberName.TheVariants.{Kind, Reason, File, FileBytes, Line, Attribute, AttributeBytes, Word}
+use Rattle.lc_reading.specs.declared.member_name.MemberName.TheVariants.{Kind, Reason, File, FileBytes, Line, Attribute, AttributeBytes}
+use Rattle.lc_reading.specs.declared.member_name.MemberName.TheVariants.{Word}
 use Rattle.lc_reading.specs.declared.member_name.MemberName.TheVariants as name
 
 abbrev pub IsIn : {A : Type 0} → A → List A → Type 0
@@ -26,11 +28,13 @@ IsIn a [] = ⊥
 IsIn a (x ∷ xs) = (x ≡ a) ⊎ IsIn a xs
 
 module _ {A : Type 0} (p : A → Bool) where
-  first_is : (x : A) (xs : List A) (a : A) (b : Bool) → p x ≡ b → (Some a ≡ find p xs → p a ≡ true) → Some a ≡ cond b (Some x) (find p xs) → p a ≡ true
+  first_is : (x : A) (xs : List A) (a : A) (b : Bool) → p x ≡ b → (Some a ≡ find p xs → p a ≡ true)
+      → Some a ≡ cond b (Some x) (find p xs) → p a ≡ true
   first_is x xs a true is more e = let same : a ≡ x = cc in ap p same ∙ is
   first_is x xs a false is more e = more e
 
-  in_first : (x : A) (xs : List A) (a : A) (b : Bool) → (Some a ≡ find p xs → IsIn a xs) → Some a ≡ cond b (Some x) (find p xs) → IsIn a (x ∷ xs)
+  in_first : (x : A) (xs : List A) (a : A) (b : Bool) → (Some a ≡ find p xs → IsIn a xs) → Some a ≡ cond b (Some x) (find p xs)
+      → IsIn a (x ∷ xs)
   in_first x xs a true more e = let same : x ≡ a = cc in inl same
   in_first x xs a false more e = inr (more e)
 
@@ -38,7 +42,8 @@ module _ {A : Type 0} (p : A → Bool) where
   some_found [] a e = absurd (cc)
   some_found (x ∷ xs) a e = first_is x xs a (p x) refl (some_found xs a) e
 
-  none_first : (x : A) (xs : List A) (a : A) (b : Bool) → p x ≡ b → (None ≡ find p xs → IsIn a xs → p a ≡ false) → None ≡ cond b (Some x) (find p xs)
+  none_first : (x : A) (xs : List A) (a : A) (b : Bool) → p x ≡ b → (None ≡ find p xs → IsIn a xs → p a ≡ false)
+      → None ≡ cond b (Some x) (find p xs)
       → IsIn a (x ∷ xs) → p a ≡ false
   none_first x xs a true is more e i = absurd (cc)
   none_first x xs a false is more e (inl same) = ap p (sym same) ∙ is
@@ -48,7 +53,8 @@ module _ {A : Type 0} (p : A → Bool) where
   none_found [] a e i = absurd i
   none_found (x ∷ xs) a e i = none_first x xs a (p x) refl (none_found xs a) e i
 
-  found : (R : A → Type 0) (decides : (a : A) → Decides (p a) (R a)) (all : List A) (each : (a : A) → IsIn a all) (r : Option A) → r ≡ find p all
+  found : (R : A → Type 0) (decides : (a : A) → Decides (p a) (R a)) (all : List A) (each : (a : A) → IsIn a all) (r : Option A)
+      → r ≡ find p all
       → MatchOption r ((a : A) → R a → ⊥) R
   found R decides all each None e = λ a is. let t = (decides a).1 is in let f = none_found all a e (each a) in absurd (cc)
   found R decides all each (Some a) e = (decides a).0 (some_found all a e)
@@ -86,7 +92,8 @@ each_fault Absent = inr (inr (inr (inr (inr (inr (inl refl))))))
 
 pub fault_found : (w : List ℕ) (r : Option FaultWord) → r ≡ find (λ a. bytes_eq (fault_word a) w) all_faults
     → MatchOption r ((a : FaultWord) → fault_word a ≢ w) (λ a. fault_word a ≡ w)
-fault_found w r e = found (λ a. bytes_eq (fault_word a) w) (λ a. fault_word a ≡ w) (λ a. bytes_eq-Decides (fault_word a) w) all_faults each_fault r e
+fault_found w r e = found (λ a. bytes_eq (fault_word a) w) (λ a. fault_word a ≡ w) (λ a. bytes_eq-Decides (fault_word a) w) all_faults
+    each_fault r e
 
 abbrev all_states : List TextState
 all_states = Set ∷ Unset ∷ Auto ∷ Other ∷ Unspecified ∷ []
@@ -105,7 +112,8 @@ word_decides w (Some own) =
 
 pub state_found : (w : List ℕ) (r : Option TextState) → r ≡ find (λ a. is_word w (text_word a)) all_states
     → MatchOption r ((a : TextState) → text_word a ≢ Some w) (λ a. text_word a ≡ Some w)
-state_found w r e = found (λ a. is_word w (text_word a)) (λ a. text_word a ≡ Some w) (λ a. word_decides w (text_word a)) all_states each_state r e
+state_found w r e = found (λ a. is_word w (text_word a)) (λ a. text_word a ≡ Some w) (λ a. word_decides w (text_word a)) all_states
+    each_state r e
 
 abbrev pub value_names : List MemberName
 value_names = Others ∷ Total ∷ Text ∷ Binary ∷ Directories ∷ Entries ∷ []

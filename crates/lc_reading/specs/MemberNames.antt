@@ -1,9 +1,11 @@
 -- The names of members, as they are printed.
 use Rattle.std.specs.Prelude.{ℕ, List, codes}
 use Rattle.lc_reading.specs.declared.member_name.MemberName.{MemberName}
-use Rattle.lc_reading.specs.declared.member_name.MemberName.TheVariants.{Rows, Others, Total, Text, Binary, Directories, Entries, Files, Left}
+use Rattle.lc_reading.specs.declared.member_name.MemberName.TheVariants.{Rows, Others, Total, Text, Binary, Directories, Entries, Files}
+use Rattle.lc_reading.specs.declared.member_name.MemberName.TheVariants.{Left}
 use Rattle.lc_reading.specs.declared.member_name.MemberName.TheVariants.{Faults, Path, PathBytes, Ext, ExtBytes, Eol, Lines, Blank, Bytes}
-use Rattle.lc_reading.specs.declared.member_name.MemberName.TheVariants.{Kind, Reason, File, FileBytes, Line, Attribute, AttributeBytes, Word}
+use Rattle.lc_reading.specs.declared.member_name.MemberName.TheVariants.{Kind, Reason, File, FileBytes, Line, Attribute, AttributeBytes}
+use Rattle.lc_reading.specs.declared.member_name.MemberName.TheVariants.{Word}
 
 abbrev pub member_name : MemberName → List ℕ
 member_name Rows = codes "rows"

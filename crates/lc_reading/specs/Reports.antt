@@ -1,9 +1,8 @@
 -- What a JSON object has to have so that it is a report, and which.
-use Rattle.std.specs.Prelude.{◌≡◌, ◌⊎◌, ℕ, Bool, true, false, if◌then◌else◌, List, [], ◌∷◌, map, filter, ⊤, MatchOption}
+use Rattle.std.specs.Prelude.{◌≡◌, ◌⊎◌, ℕ, true, if◌then◌else◌, List, [], ◌∷◌, map, ⊤, MatchOption}
 use Rattle.std.specs.Bool.{MatchBool}
 use Rattle.std.specs.List.Sorted.{IsPermutation, IsSortedByKey}
-use Rattle.lc_census.specs.declared.line_count.Eol.{Eol}
-use Rattle.lc_census.specs.declared.line_count.Eol.TheVariants.{Nul}
+use Rattle.lc_rows.specs.Classes.{binary_sums, is_binary}
 use Rattle.lc_tree.specs.ByteOrder.{bytes_cmp}
 use Rattle.lc_walk.specs.ReportTotals.{TotalsAddUp}
 use Rattle.lc_walk.specs.Sums.{plus, no_files}
@@ -20,16 +19,9 @@ use Rattle.lc_reading.specs.declared.read_report.ReadReport.{ReadReport}
 use Rattle.lc_reading.specs.declared.row_columns.RowColumns.{RowColumns}
 use Rattle.lc_reading.specs.declared.rows.ReadRow.{ReadRow}
 
--- a file with a NUL byte is binary
-abbrev pub is_nul : Eol → Bool
-is_nul Nul = true
-is_nul _ = false
-
-abbrev pub nul_rows : List TallyRowModel → List TallyRowModel
-nul_rows rows = filter (λ r. is_nul r.key.eol) rows
-
+-- the sums of a row of binary files, and those over no files for others
 abbrev pub nul_part : TallyRowModel → Sums
-nul_part r = if is_nul r.key.eol then r.sums else no_files
+nul_part r = if is_binary r then r.sums else no_files
 
 -- the members of a report that are no lists
 pub record IsNumbersOf (ms : List Member) (n : Numbers) : Type 0 where
@@ -41,7 +33,8 @@ pub record IsNumbersOf (ms : List Member) (n : Numbers) : Type 0 where
   pub entries : MatchOption n.entries (Lacks member.Entries ms) (HasNumber member.Entries ms)
 
 -- these lines are those of the member's list, in order of their paths
-pub record HasOrdered {L : Type 0} (Says : List Member → L → Type 0) (path : L → List ℕ) (name : MemberName) (ms : List Member) (lines : List L) : Type 0 where
+pub record HasOrdered {L : Type 0} (Says : List Member → L → Type 0) (path : L
+    → List ℕ) (name : MemberName) (ms : List Member) (lines : List L) : Type 0 where
   pub listed : List L
   pub has : HasLines Says name ms listed
   pub same : IsPermutation listed lines
@@ -89,4 +82,4 @@ pub record IsReportOf (ms : List Member) (r : ReadReport) : Type 0 where
   pub faults : HasOrdered IsFaultOf (λ f. f.path) member.Faults ms r.report.faults.items
   pub adds_up : TotalsAddUp r.report
   pub parts : r.report.totals ≡ plus r.text r.binary
-  pub nul : r.columns.eol ≡ true → r.binary ≡ sums_of_rows (nul_rows r.report.rows.items)
+  pub nul : r.columns.eol ≡ true → r.binary ≡ binary_sums r.report.rows.items

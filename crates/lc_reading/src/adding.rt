@@ -1,7 +1,8 @@
 //! Sums that are compared with their total.
 
 ghost use Rattle.std.specs.Prelude.{◌≡◌, IfOk, IfSome, IsTrue, map};
-ghost use Rattle.lc_reading.specs.Reports.{nul_part, nul_rows};
+ghost use Rattle.lc_reading.specs.Reports.{nul_part};
+ghost use Rattle.lc_rows.specs.Classes.{binary_sums};
 ghost use Rattle.lc_walk.specs.ReportTotals.{counted_line};
 ghost use Rattle.lc_walk.specs.Sums.{plus};
 ghost use Rattle.lc_walk.specs.Tally.{IsTally, StandsFor, sums_of_files};
@@ -75,7 +76,7 @@ fn nul_part(row: &TallyRow) -> Sums
 
 /// The sums over the rows whose files hold a NUL byte, if they fit their types.
 fn nul_sums(rows: &[TallyRow]) -> Option<Sums>
-    ensures { IfSome result (λ sums. sums ≡ sums_of_rows (nul_rows rows.now)) }
+    ensures { IfSome result (λ sums. sums ≡ binary_sums rows.now) }
 {
     let mut sums = Sums::none();
     let mut rest = rows;
@@ -88,7 +89,7 @@ fn nul_sums(rows: &[TallyRow]) -> Option<Sums>
 
 /// Returns whether the rows whose files hold a NUL byte add up to the sums over binary files.
 pub(crate) fn binary_adds_up(rows: &[TallyRow], binary: Sums) -> bool
-    ensures { IsTrue result → binary ≡ sums_of_rows (nul_rows rows.now) }
+    ensures { IsTrue result → binary ≡ binary_sums rows.now }
 {
     match nul_sums(rows) {
         Some(sums) => binary == sums,

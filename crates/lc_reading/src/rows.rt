@@ -126,7 +126,8 @@ fn eol_in_column<'a>(members: &[(&'a str, Value<'a>)], there: bool) -> Result<Eo
 
 /// Finds the columns that a row has.
 fn columns_of<'a>(members: &[(&'a str, Value<'a>)]) -> Result<RowColumns, NoReport>
-    ensures ext { IfOk result (λ c. MatchBool c.ext ⊤ (Lacks name.Ext (members_of members.now) × Lacks name.ExtBytes (members_of members.now))) }
+    ensures ext { IfOk result (λ c. MatchBool c.ext ⊤
+        (Lacks name.Ext (members_of members.now) × Lacks name.ExtBytes (members_of members.now))) }
     ensures text { IfOk result (λ c. MatchBool c.text ⊤ (Lacks name.Text (members_of members.now))) }
     ensures eol { IfOk result (λ c. MatchBool c.eol ⊤ (Lacks name.Eol (members_of members.now))) }
 {

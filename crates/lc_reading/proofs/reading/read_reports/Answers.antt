@@ -6,5 +6,6 @@ use Rattle.lc_reading.proofs.reading.read_reports.Goals as goal
 pub texts-preserved : goal.texts-preserved
 texts-preserved c =
     subst (λ (rs : List ReadReport). TextsSoFar c.args.text.now c.in_ok-object.more.now rs) (sym c.in_ok-push.ensures.items)
-    (one_text_more c.args.text.now c.texts.rest.now c.in_ok-object.object.now c.in_ok-object.more.now c.texts.reports.items c.in_ok-report_in.field-0
+    (one_text_more c.args.text.now c.texts.rest.now c.in_ok-object.object.now c.in_ok-object.more.now c.texts.reports.items
+    c.in_ok-report_in.field-0
     c.texts.invariant c.in_ok-object.ensures.parts c.in_ok-report_in.ensures)
