@@ -1,3 +1,4 @@
+pub mod Decimals
 pub mod JsonKinds
 pub mod LentObjects
 pub mod ListsRead

@@ -1,10 +1,12 @@
 //! The lines of a report: what all of them share.
 
-ghost use Rattle.std.specs.Prelude.{◌≡◌, ◌==◌, ◌-◌, true, length, slice_get, IfOk};
+ghost use Rattle.std.specs.Prelude.{◌≡◌, ◌==◌, ◌-◌, true, length, slice_get, IfOk, OnErr};
 ghost use Rattle.std.specs.List.{list_any};
 ghost use Rattle.json.specs.Json.{object};
 ghost use Rattle.json.specs.Value.{value_view};
 ghost use Rattle.lc_census.specs.EolWords.{eol_word};
+ghost use Rattle.lc_census.specs.declared.line_count.Eol.{Eol as EolModel};
+ghost use Rattle.lc_rules.specs.declared.states.TextState.{TextState as StateModel};
 ghost use Rattle.lc_reading.specs.Lines.{HasTextState, ends_entry, is_entry_path};
 ghost use Rattle.lc_reading.specs.Members.{HasBytes, HasText, members_of, members_with};
 ghost use Rattle.lc_reading.specs.declared.member_name.MemberName.TheVariants as name;
@@ -36,7 +38,8 @@ pub(crate) fn members_in<'v, 'a>(
 /// Reads the state of the attribute `text`.
 #[tactic(auto, using(crate::proofs::JsonKinds::text_if, crate::proofs::JsonKinds::null_if))]
 pub(crate) fn text_state_in<'a>(members: &[(&'a str, Value<'a>)]) -> Result<TextState, NoReport>
-    ensures { IfOk result (HasTextState (members_of members.now)) }
+    ensures state { IfOk result (HasTextState (members_of members.now)) }
+    ensures refused { OnErr result ((state : StateModel) → HasTextState (members_of members.now) state → ⊥) }
 {
     let value = needed(members, MemberName::Text)?;
     if value.is_null() {
@@ -53,7 +56,8 @@ pub(crate) fn text_state_in<'a>(members: &[(&'a str, Value<'a>)]) -> Result<Text
 
 /// Reads how lines end.
 pub(crate) fn eol_in<'a>(members: &[(&'a str, Value<'a>)]) -> Result<Eol, NoReport>
-    ensures { IfOk result (λ eol. HasText name.Eol (members_of members.now) (eol_word eol)) }
+    ensures word { IfOk result (λ eol. HasText name.Eol (members_of members.now) (eol_word eol)) }
+    ensures refused { OnErr result ((eol : EolModel) → HasText name.Eol (members_of members.now) (eol_word eol) → ⊥) }
 {
     let word = text_in(members, MemberName::Eol)?;
     match eol_of(word) {

@@ -1,6 +1,7 @@
 //! The members of a JSON object.
 
 ghost use Rattle.std.specs.Prelude.{◌≡◌, ◌∷◌, [], ◌<◌, length, option_map, IfOk, OnErr, MatchOption, MatchResult};
+ghost use Rattle.json.specs.Json.{Json};
 ghost use Rattle.json.specs.Value.{value_view};
 ghost use Rattle.lc_reading.specs.MemberNames.{member_name};
 ghost use Rattle.lc_reading.specs.Members.{Has, Lacks, members_of, named, values_at};
@@ -53,6 +54,7 @@ pub(crate) fn needed<'v, 'a>(
     name: MemberName,
 ) -> Result<&'v Value<'a>, NoReport>
     ensures found { IfOk result (λ value. Has name (members_of members.now) (value_view value.now)) }
+    ensures refused { OnErr result ((j : Json) → Has name (members_of members.now) j → ⊥) }
 {
     match optional(members, name)? {
         Some(value) => Ok(value),

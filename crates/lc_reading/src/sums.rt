@@ -1,6 +1,8 @@
 //! Sums over files.
 
-ghost use Rattle.std.specs.Prelude.{IfOk};
+ghost use Rattle.std.specs.Prelude.{IfOk, OnErr};
+ghost use Rattle.lc_walk.specs.Sums.{IsInRange};
+ghost use Rattle.lc_walk.specs.declared.tally.sums.Sums.{Sums as SumsModel};
 ghost use Rattle.lc_reading.specs.Members.{members_of};
 ghost use Rattle.lc_reading.specs.Rows.{HasSums, IsSumsOf};
 
@@ -14,7 +16,8 @@ use lc_walk::Sums;
 
 /// Reads the sums that an object has.
 pub(crate) fn sums_of<'a>(members: &[(&'a str, Value<'a>)]) -> Result<Sums, NoReport>
-    ensures { IfOk result (IsSumsOf (members_of members.now)) }
+    ensures sums { IfOk result (IsSumsOf (members_of members.now)) }
+    ensures refused { OnErr result ((s : SumsModel) → IsInRange s → IsSumsOf (members_of members.now) s → ⊥) }
 {
     let files = count_in(members, MemberName::Files)?;
     let lines = sum_in(members, MemberName::Lines)?;

@@ -1,6 +1,6 @@
 //! Numbers, texts and bytes that members have.
 
-ghost use Rattle.std.specs.Prelude.{◌≡◌, ◌<◌, ◌^◌, map, decimal, IfOk, IfSome, MatchOption};
+ghost use Rattle.std.specs.Prelude.{ℕ, List, OnErr, ◌≡◌, ◌<◌, ◌^◌, map, decimal, IfOk, IfSome, MatchOption};
 ghost use Rattle.json.specs.Json.{number as json_number};
 ghost use Rattle.json.specs.Value.{value_view};
 ghost use Rattle.lc_reading.specs.Members.{HasBytes, HasList, HasNumber, HasText, Lacks, members_of, values_of};
@@ -18,7 +18,9 @@ pub(crate) fn sum_in<'a>(
     members: &[(&'a str, Value<'a>)],
     name: MemberName,
 ) -> Result<u128, NoReport>
-    ensures { IfOk result (HasNumber name (members_of members.now)) }
+    ensures number { IfOk result (HasNumber name (members_of members.now)) }
+    ensures fits { IfOk result (λ n. n < 2 ^ 128) }
+    ensures refused { OnErr result ((n : ℕ) → n < 2 ^ 128 → HasNumber name (members_of members.now) n → ⊥) }
 {
     let value = needed(members, name)?;
     let Some(text) = value.as_number() else {
@@ -35,7 +37,8 @@ pub(crate) fn count_in<'a>(
     members: &[(&'a str, Value<'a>)],
     name: MemberName,
 ) -> Result<u64, NoReport>
-    ensures { IfOk result (HasNumber name (members_of members.now)) }
+    ensures number { IfOk result (HasNumber name (members_of members.now)) }
+    ensures refused { OnErr result ((n : ℕ) → n < 2 ^ 64 → HasNumber name (members_of members.now) n → ⊥) }
 {
     let number = sum_in(members, name)?;
     match u64::try_from(number) {
@@ -50,7 +53,8 @@ pub(crate) fn text_in<'a>(
     members: &[(&'a str, Value<'a>)],
     name: MemberName,
 ) -> Result<&'a str, NoReport>
-    ensures { IfOk result (λ text. HasText name (members_of members.now) text.now) }
+    ensures text { IfOk result (λ text. HasText name (members_of members.now) text.now) }
+    ensures refused { OnErr result ((s : List ℕ) → HasText name (members_of members.now) s → ⊥) }
 {
     let value = needed(members, name)?;
     match value.as_str() {
