@@ -7,7 +7,7 @@ ghost use Rattle.lc_reading.specs.Reports.{IsReportOf};
 ghost use Rattle.lc_reading.specs.Kept.{Agrees, IsFinished};
 
 use crate::adding::{binary_adds_up, parts_add_up, rows_add_up};
-use crate::kept_files::{Kept, columns_of_rows, kept_of, ordered, tally_rows};
+use crate::kept_files::{Kept, columns_of_rows, in_order, kept_of, tally_rows};
 use crate::member_name::MemberName;
 use crate::numbers_of::{Numbers, numbers_of};
 use crate::object::Object;
@@ -15,7 +15,7 @@ use crate::read_fault::{NoReport, Part, ReadFault};
 use crate::read_report::ReadReport;
 use crate::row_columns::RowColumns;
 use lc_walk::{FaultLine, FileLine, Report, ReportLists, SkippedLine, TallyRow};
-use std::alloc::Global;
+use std::alloc::{AllocError, Global};
 
 fn lines_of<T: Drop>(lines: Option<Vec<T>>, name: MemberName) -> Result<Vec<T>, NoReport>
     ensures { IfOk result (λ found. lines ≡ Some found) }
@@ -81,8 +81,8 @@ fn finished(
     kept: Kept,
     skipped: Vec<SkippedLine>,
     faults: Vec<FaultLine>,
-) -> ReadReport
-    ensures { IsFinished numbers.now kept skipped.items faults.items result }
+) -> Result<ReadReport, AllocError>
+    ensures { IfOk result (IsFinished numbers.now kept skipped.items faults.items) }
 {
     let lists = ReportLists {
         files: kept.has_files,
@@ -95,15 +95,15 @@ fn finished(
         entries: numbers.entries.unwrap_or(0),
         lists,
         files: kept.files,
-        faults: ordered(faults),
-        skipped: ordered(skipped),
+        faults: in_order(faults)?,
+        skipped: in_order(skipped)?,
     };
-    ReadReport {
+    Ok(ReadReport {
         report,
         columns: kept.columns,
         text: numbers.text,
         binary: numbers.binary,
-    }
+    })
 }
 
 /// Makes the report of an object.
@@ -127,5 +127,6 @@ pub(crate) fn report_of(alloc: Global, object: Object<'_>) -> Result<ReadReport,
         return Err(ReadFault::CutByTop);
     }
     let kept = agreeing(alloc, &numbers, columns, rows, files)?;
-    Ok(finished(&numbers, kept, skipped, faults))
+    let report = finished(&numbers, kept, skipped, faults)?;
+    Ok(report)
 }

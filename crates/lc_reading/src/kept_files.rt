@@ -25,12 +25,21 @@ pub(crate) struct Kept {
 }
 
 /// Sorts lines by their paths.
-pub(crate) fn ordered<L: Line>(mut lines: Vec<L>) -> Vec<L>
+fn ordered<L: Line>(mut lines: Vec<L>) -> Vec<L>
     ensures same { IsPermutation lines.items result.items }
     ensures order { IsSortedByKey L.path_of bytes_cmp result.items }
 {
     sort_lines(&mut lines);
     lines
+}
+
+/// Sorts lines by their paths; those of one path keep their order.
+pub(crate) fn in_order<L: Line + Drop>(mut lines: Vec<L>) -> Result<Vec<L>, AllocError>
+    ensures same { IfOk result (λ sorted. IsPermutation lines.items sorted.items) }
+    ensures order { IfOk result (λ sorted. IsSortedByKey L.path_of bytes_cmp sorted.items) }
+{
+    lines.sort_by(|a, b| a.path().cmp(b.path()))?;
+    Ok(lines)
 }
 
 /// Finds the columns that all rows have. No rows have every column.

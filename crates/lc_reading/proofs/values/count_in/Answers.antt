@@ -1,4 +1,4 @@
-use Rattle.std.proofs.Common.{ℕ, ◌≡◌, ◌<◌, ◌^◌, ◌∙◌, arith, decimal, subst, sym}
+use Rattle.std.proofs.Common.{◌≡◌, ◌<◌, ◌^◌, arith, decimal}
 use Rattle.lc_reading.proofs.Decimals.{same_number}
 use Rattle.lc_reading.proofs.values.count_in.Goals as goal
 
