@@ -133,7 +133,8 @@ const CASES: &[Case] = &[
                \"file_bytes\":[255,47,46,103,105,116,105,103,110,111,114,101],\"line\":1}],\
                \"faults\":[{\"word\":\"read\",\"path\":\"o\"},{\"word\":\"name\",\"path\":\"p\"},\
                {\"word\":\"twice\",\"path\":\"q\"},{\"word\":\"many\",\"path\":\"r\"},{\"word\":\"long\",\"path\":\"s/.gitignore\"},\
-               {\"word\":\"endless\",\"path\":\"t\"},{\"word\":\"absent\",\"path\":\"u\"},{\"word\":\"read\",\"path\":\"u\"},{\"word\":\"long\",\"path\":\"u\"},{\"word\":\"read\",\"path_bytes\":[254]}]}\n",
+               {\"word\":\"endless\",\"path\":\"t\"},{\"word\":\"absent\",\"path\":\"u\"},{\"word\":\"read\",\"path\":\"u\"},\
+               {\"word\":\"long\",\"path\":\"u\"},{\"word\":\"read\",\"path_bytes\":[254]}]}\n",
     },
 ];
 
