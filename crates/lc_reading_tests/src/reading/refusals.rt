@@ -207,7 +207,7 @@ fn a_text_nests_at_most_128_deep(rt: HostRuntime) -> Result<(), Fail> {
     assert!(rt; said_of(rt.alloc(), &deep)?.as_str() == "is no report: no member total");
     let deeper = nested(rt.alloc(), 128)?;
     assert!(rt;
-        said_of(rt.alloc(), &deeper)?.as_str() == "is no report: no JSON object at byte 132"
+        said_of(rt.alloc(), &deeper)?.as_str() == "is no report: no JSON object at byte 133"
     );
     Ok(())
 }
