@@ -1,7 +1,6 @@
 //! The same reports in other texts: white space, other orders, members of no meaning, escapes, and several reports in one text.
 
-use crate::reading::printed::{BY_EXT, is_printed_as};
-use lc_reading::read_reports;
+use crate::reading::printed::{BY_EXT, is_printed_as, reports_of};
 use lc_sheet::Columns;
 use std::alloc::{AllocError, Global};
 use std::process::Abort;
@@ -99,9 +98,9 @@ fn count_of(alloc: Global, parts: &[&str]) -> Result<Option<usize>, AllocError> 
     for part in parts {
         text.extend_from_slice(part.as_bytes())?;
     }
-    match read_reports(alloc, &text) {
-        Ok(reports) => Ok(Some(reports.len())),
-        Err(_) => Ok(None),
+    match reports_of(alloc, &text)? {
+        Some(reports) => Ok(Some(reports.len())),
+        None => Ok(None),
     }
 }
 

@@ -1,7 +1,7 @@
 //! Reports that are printed as JSON, read, and printed again.
 
 use lc_formats::json_text;
-use lc_reading::{ReadReport, read_reports};
+use lc_reading::{ReadFault, ReadReport, read_reports};
 use lc_rows::Shown;
 use lc_sheet::{Columns, Format, TableOptions};
 use std::alloc::{AllocError, Global};
@@ -153,6 +153,18 @@ fn text_of(
     json_text(alloc, &shown.sheet())
 }
 
+/// Returns the reports of a text, if it is read.
+pub(super) fn reports_of(
+    alloc: Global,
+    text: &[u8],
+) -> Result<Option<Vec<ReadReport>>, AllocError> {
+    match read_reports(alloc, text) {
+        Ok(reports) => Ok(Some(reports)),
+        Err(ReadFault::Memory) => Err(AllocError),
+        Err(_) => Ok(None),
+    }
+}
+
 /// Returns whether a text is read as one report, which is printed as another text.
 pub(super) fn is_printed_as(
     alloc: Global,
@@ -160,7 +172,7 @@ pub(super) fn is_printed_as(
     (by, files): (Columns, bool),
     printed: &str,
 ) -> Result<bool, AllocError> {
-    let Ok(reports) = read_reports(alloc, text.as_bytes()) else {
+    let Some(reports) = reports_of(alloc, text.as_bytes())? else {
         return Ok(false);
     };
     let [report] = reports.as_slice() else {

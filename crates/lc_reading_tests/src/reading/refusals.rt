@@ -1,6 +1,6 @@
 //! Texts that are no reports, and why.
 
-use lc_reading::read_reports;
+use lc_reading::{ReadFault, read_reports};
 use std::alloc::{AllocError, Global};
 use std::process::Abort;
 use std::test::Fail;
@@ -151,6 +151,7 @@ const ENTRIES: &[Case] = &[
 pub(super) fn said_of(alloc: Global, text: &[u8]) -> Result<String, AllocError> {
     match read_reports(alloc, text) {
         Ok(_) => Ok(String::new(alloc)),
+        Err(ReadFault::Memory) => Err(AllocError),
         Err(fault) => format!(in alloc; "{fault}"),
     }
 }
