@@ -95,3 +95,7 @@ if_ok P Q (Err e) f p = p
 pub none_left : {A : Type 0} (P : Type 0) (Q : A → Type 0) (r : Option A) → is_some r ≡ false → MatchOption r P Q → P
 none_left P Q None e is = is
 none_left P Q (Some a) e is = absurd (cc)
+
+pub never_none : {A : Type 0} (xs : List A) (x : A) → xs ++ x ∷ [] ≡ [] → ⊥
+never_none [] x e = absurd (cc)
+never_none (y ∷ ys) x e = absurd (cc)

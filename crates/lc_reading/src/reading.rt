@@ -1,9 +1,11 @@
 //! Reading the reports of a text.
 
-ghost use Rattle.std.specs.Prelude.{◌≡◌, ◌++◌, ◌<◌, length, IfOk, OnOk};
+ghost use Rattle.std.specs.Prelude.{◌≡◌, ◌++◌, ◌<◌, true, length, Err, IfOk, OnOk};
 ghost use Rattle.std.specs.List.{list_all};
 ghost use Rattle.json.specs.Word.{is_space};
 ghost use Rattle.lc_reading.specs.Texts.{AreReportsOf, IsJson, IsReportText};
+ghost use Rattle.lc_reading.specs.declared.read_fault.NoReport.TheVariants as why;
+ghost use Rattle.lc_reading.specs.declared.read_fault.ReadFault.TheVariants as fault;
 
 use crate::building::report_of;
 use crate::cutter::object_length;
@@ -85,14 +87,21 @@ fn cut(text: &[u8], start: usize) -> Result<(&str, &[u8]), ReadFault>
 
 /// Reads the reports of a text, which are JSON objects with white space between them, or nothing.
 ///
+/// Each object is read before the next one, so the fault is that of the first object that is refused. An object that is no report is
+/// refused as such before its rows and files are counted ([`ReadFault::CutByTop`]) and its sums compared.
+///
 /// It takes memory for the reports, for as many bytes as the longest object has, and for one line of a list at a time.
 ///
 /// ```
 /// let reports = read_reports(alloc, &text)?;
 /// ```
 pub fn read_reports(alloc: Global, text: &[u8]) -> Result<Vec<ReadReport>, ReadFault>
-    ensures { IfOk result (λ reports. AreReportsOf text.now reports.items) }
+    ensures reports { IfOk result (λ reports. AreReportsOf text.now reports.items) }
+    ensures empty { list_all is_space text.now ≡ true → result ≡ Err (fault.NoReport why.Empty) }
 {
+    if is_blank(text) {
+        return Err(ReadFault::NoReport(NoReport::Empty));
+    }
     let mut scratch = Scratch::new(alloc);
     let mut reports = Vec::new(alloc);
     let mut rest = text;
@@ -101,9 +110,6 @@ pub fn read_reports(alloc: Global, text: &[u8]) -> Result<Vec<ReadReport>, ReadF
         let (object, more) = cut(rest, start)?;
         reports.push(report_in(alloc, object, start, &mut scratch)?)?;
         rest = more;
-    }
-    if reports.is_empty() {
-        return Err(ReadFault::NoReport(NoReport::Empty));
     }
     Ok(reports)
 }
