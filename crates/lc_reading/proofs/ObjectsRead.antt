@@ -1,0 +1,349 @@
+-- The members of an object that is read member by member.
+use Rattle.std.proofs.Common.{◌≡◌, ◌≢◌, ◌∙◌, ℕ, Bool, true, false, cond, List, [], ◌∷◌, ◌++◌, refl, sym, ap, subst, append_assoc, Option}
+use Rattle.std.proofs.Common.{Some, None, option_map, inl, inr, append-nil, length, length-append, arith, ◌<◌}
+use Rattle.std.specs.Borrow.{Bor}
+use Rattle.std.specs.Str.{bytes_eq}
+use Rattle.std.specs.Prelude.{OnOk, is_some, Result, Ok, Err}
+use Rattle.std.specs.List.{flat_map}
+use Rattle.std.proofs.lemmas.List.Concat.{flat_map-append}
+use Rattle.lc_level.specs.FaultLines.{FaultLineModel}
+use Rattle.lc_level.specs.Level.{FileLineModel, SkippedLineModel}
+use Rattle.std.proofs.lemmas.Slice.Eq.{bytes_eq-Decides}
+use Rattle.std.proofs.lemmas.Bool.{false_from_ne_true}
+use Rattle.json.specs.Json.{Json, skip_value, value, read_key}
+use Rattle.json.specs.Token.{Token, key, begin_object, end_object}
+use Rattle.json.specs.Tree.{json_tokens, members_tokens}
+use Rattle.json.specs.Value.{value_view}
+use Rattle.json.specs.declared.value.Value.{Value}
+use Rattle.json.proofs.Grammar.{key_token, left_some, read_key_is}
+use Rattle.json.proofs.Unique.Spelling.{value-json_tokens_back}
+use Rattle.lc_reading.specs.Lines.{IsFaultOf, IsFileOf, IsSkippedOf}
+use Rattle.lc_reading.specs.Lists.{BeginsWith, IsListOf}
+use Rattle.lc_reading.specs.MemberNames.{member_name}
+use Rattle.lc_reading.specs.Members.{Member, Lacks, members_of, members_with, named, values_at}
+use Rattle.lc_reading.specs.Objects.{IsObjectOf, IsPassed, IsTopMember, MayHaveLines, TakesMember, TakesObject, is_value}
+use Rattle.lc_reading.specs.Rows.{IsRowOf}
+use Rattle.lc_reading.specs.declared.member_name.MemberName.{MemberName}
+use Rattle.lc_reading.specs.declared.member_name.MemberName.TheVariants as name
+use Rattle.lc_reading.specs.declared.object.Object.{Object}
+use Rattle.lc_reading.specs.declared.rows.ReadRow.{ReadRow}
+use Rattle.lc_reading.specs.declared.top_member.TopMember.TheVariants.{Other}
+use Rattle.lc_reading.proofs.WordTables.{IsIn, value_in, value_names}
+
+pub value_skipped : (d : ℕ) (old new : List Token) → skip_value d old ≡ Some new → IsPassed old new
+value_skipped d old new e = let j = left_some (value d old) new e in record {
+  value = j.0;
+  tokens_are = value-json_tokens_back d old new
+      j.0 j.1;
+}
+
+pub key_taken : (k : Option (List ℕ)) (old new : List Token) → read_key old ≡ Some (k, new) → old ≡ key_token k ∷ new
+key_taken k old new e = read_key_is old k new e
+
+-- ---- one member more
+
+more_at : (n : List ℕ) (b : Bool) (j : Json) (xs ys zs : List Json) → xs ≡ ys ++ zs → cond b (j ∷ xs) xs ≡ cond b (j ∷ ys) ys ++ zs
+more_at n true j xs ys zs e = ap (λ (s : List Json). j ∷ s) e
+more_at n false j xs ys zs e = e
+
+values_more : (n : List ℕ) (ms : List Member) (k : List ℕ) (j : Json)
+    → values_at n (ms ++ (k, j) ∷ []) ≡ values_at n ms ++ cond (bytes_eq k n) (j ∷ []) []
+values_more n [] k j = refl
+values_more n (m ∷ ms) k j = more_at n (bytes_eq m.0 n) m.1 _ _ _ (values_more n ms k j)
+
+append-none : (xs : List Json) → xs ++ [] ≡ xs
+append-none [] = refl
+append-none (x ∷ xs) = ap (λ (s : List Json). x ∷ s) (append-none xs)
+
+kept : (n : List ℕ) (ms : List Member) (k : List ℕ) (j : Json) → bytes_eq k n ≡ false → values_at n (ms ++ (k, j) ∷ []) ≡ values_at n ms
+kept n ms k j e = values_more n ms k j ∙ ap (λ b. values_at n ms ++ cond b (j ∷ []) []) e ∙ append-none (values_at n ms)
+
+added : (n : List ℕ) (ms : List Member) (k : List ℕ) (j : Json) → bytes_eq k n ≡ true
+    → values_at n (ms ++ (k, j) ∷ []) ≡ values_at n ms ++ j ∷ []
+added n ms k j e = values_more n ms k j ∙ ap (λ b. values_at n ms ++ cond b (j ∷ []) []) e
+
+-- ---- names apart
+
+abbrev AllOf : {A : Type 0} → (A → Type 0) → List A → Type 0
+AllOf P [] = Unit {0}
+AllOf P (x ∷ xs) = P x × AllOf P xs
+
+each_of : {A : Type 0} (P : A → Type 0) (xs : List A) → AllOf P xs → (a : A) → IsIn a xs → P a
+each_of P [] all a i = absurd i
+each_of P (x ∷ xs) all a (inl e) = subst P e all.0
+each_of P (x ∷ xs) all a (inr i) = each_of P xs all.1 a i
+
+-- this name is that of no value
+abbrev Apart : List ℕ → Type 0
+Apart k = (n : MemberName) → is_value n ≡ true → bytes_eq k (member_name n) ≡ false
+
+apart : (l : List ℕ) → AllOf (λ n. bytes_eq l (member_name n) ≡ false) value_names → (k : List ℕ) → k ≡ l → Apart k
+apart l all k e n is =
+    ap (λ (s : List ℕ). bytes_eq s (member_name n)) e ∙ each_of (λ n. bytes_eq l (member_name n) ≡ false) value_names all n (value_in n is)
+
+module _ {L : Type 0} (Says : List Member → L → Type 0) (n : MemberName) (ms : List Member) (k : List ℕ) (j : Json) where
+  lines_kept : (o : Option (List L)) → bytes_eq k (member_name n) ≡ false → MayHaveLines Says n ms o
+      → MayHaveLines Says n (ms ++ (k, j) ∷ []) o
+  lines_kept None e is = kept (member_name n) ms k j e ∙ is
+  lines_kept (Some ls) e is = record { value = is.value; has = kept (member_name n) ms k j e ∙ is.has; list = is.list }
+
+  lines_filled : (o : Option (List L)) (ls : List L) → o ≡ None → bytes_eq k (member_name n) ≡ true → MayHaveLines Says n ms o
+      → IsListOf Says j ls
+      → MayHaveLines Says n (ms ++ (k, j) ∷ []) (Some ls)
+  lines_filled o ls none e is list =
+      let lacks : Lacks n ms = subst (MayHaveLines Says n ms) none is in
+      record { value = j; has = added (member_name n) ms k j e ∙ ap (λ (s : List Json). s ++ j ∷ []) lacks; list = list }
+
+equal_to : (k l : List ℕ) → k ≡ l → bytes_eq k l ≡ true
+equal_to k l e = (bytes_eq-Decides k l).1 e
+
+other_than : (k l m : List ℕ) → k ≡ l → bytes_eq l m ≡ false → bytes_eq k m ≡ false
+other_than k l m e is = ap (λ (s : List ℕ). bytes_eq s m) e ∙ is
+
+not_equal : (k l : List ℕ) → k ≢ l → bytes_eq k l ≡ false
+not_equal k l differ = false_from_ne_true _ (λ e. differ ((bytes_eq-Decides k l).0 e))
+
+none_if : {A : Type 0} (o : Option A) → is_some o ≡ false → o ≡ None
+none_if None e = refl
+none_if (Some a) e = absurd (cc)
+
+-- the list `rows` was read
+pub rows_taken : (k : List ℕ) → k ≡ member_name name.Rows → (old new : Object) (before after : List Token) (lines : List ReadRow)
+    → is_some old.rows ≡ false → option_map (λ v. v.items) new.rows ≡ Some lines → new.values ≡ old.values
+    → new.files ≡ old.files
+    → new.skipped ≡ old.skipped
+    → new.faults ≡ old.faults
+    → BeginsWith (IsListOf IsRowOf) before after lines → TakesMember k old new before after
+rows_taken k e old new before after lines none filled vs same_files same_skipped same_faults next = record {
+  value = next.value;
+  tokens_are = next.tokens_are;
+  adds = λ ms o. record {
+    values = λ n is. ap (λ v. named n (members_of v.items)) vs ∙ o.values n is
+        ∙ sym (kept (member_name n) ms k next.value (apart (member_name name.Rows) (refl, (refl, (refl, (refl, (refl, (refl, tt)))))) k e
+        n is));
+    rows = subst (MayHaveLines IsRowOf name.Rows (ms ++ (k, next.value) ∷ [])) (sym filled)
+        (lines_filled IsRowOf name.Rows ms k next.value (option_map (λ v. v.items) old.rows) lines
+        (ap (λ x. option_map (λ v. v.items) x) (none_if old.rows none)) (equal_to k (member_name name.Rows) e) o.rows next.is);
+    files = subst (λ x. MayHaveLines IsFileOf name.Files (ms ++ (k, next.value) ∷ []) (option_map (λ v. v.items) x)) (sym same_files)
+        (lines_kept IsFileOf name.Files ms k next.value _ (other_than k (member_name name.Rows) (member_name name.Files) e refl) o.files);
+    skipped = subst (λ x. MayHaveLines IsSkippedOf name.Left (ms ++ (k, next.value) ∷ []) (option_map (λ v. v.items) x)) (sym same_skipped)
+        (lines_kept IsSkippedOf name.Left ms k next.value _ (other_than k (member_name name.Rows) (member_name name.Left) e refl)
+        o.skipped);
+    faults = subst (λ x. MayHaveLines IsFaultOf name.Faults (ms ++ (k, next.value) ∷ []) (option_map (λ v. v.items) x)) (sym same_faults)
+        (lines_kept IsFaultOf name.Faults ms k next.value _ (other_than k (member_name name.Rows) (member_name name.Faults) e refl)
+        o.faults);
+  };
+}
+
+-- the list `files` was read
+pub files_taken : (k : List ℕ) → k ≡ member_name name.Files → (old new : Object) (before after : List Token) (lines : List FileLineModel)
+    → is_some old.files ≡ false → option_map (λ v. v.items) new.files ≡ Some lines → new.values ≡ old.values
+    → new.rows ≡ old.rows
+    → new.skipped ≡ old.skipped
+    → new.faults ≡ old.faults
+    → BeginsWith (IsListOf IsFileOf) before after lines → TakesMember k old new before after
+files_taken k e old new before after lines none filled vs same_rows same_skipped same_faults next = record {
+  value = next.value;
+  tokens_are = next.tokens_are;
+  adds = λ ms o. record {
+    values = λ n is. ap (λ v. named n (members_of v.items)) vs ∙ o.values n is
+        ∙ sym (kept (member_name n) ms k next.value (apart (member_name name.Files) (refl, (refl, (refl, (refl, (refl, (refl, tt)))))) k
+        e n is));
+    rows = subst (λ x. MayHaveLines IsRowOf name.Rows (ms ++ (k, next.value) ∷ []) (option_map (λ v. v.items) x)) (sym same_rows)
+        (lines_kept IsRowOf name.Rows ms k next.value _ (other_than k (member_name name.Files) (member_name name.Rows) e refl) o.rows);
+    files = subst (MayHaveLines IsFileOf name.Files (ms ++ (k, next.value) ∷ [])) (sym filled)
+        (lines_filled IsFileOf name.Files ms k next.value (option_map (λ v. v.items) old.files) lines
+        (ap (λ x. option_map (λ v. v.items) x) (none_if old.files none)) (equal_to k (member_name name.Files) e) o.files next.is);
+    skipped = subst (λ x. MayHaveLines IsSkippedOf name.Left (ms ++ (k, next.value) ∷ []) (option_map (λ v. v.items) x)) (sym same_skipped)
+        (lines_kept IsSkippedOf name.Left ms k next.value _ (other_than k (member_name name.Files) (member_name name.Left) e refl)
+        o.skipped);
+    faults = subst (λ x. MayHaveLines IsFaultOf name.Faults (ms ++ (k, next.value) ∷ []) (option_map (λ v. v.items) x)) (sym same_faults)
+        (lines_kept IsFaultOf name.Faults ms k next.value _ (other_than k (member_name name.Files) (member_name name.Faults) e refl)
+        o.faults);
+  };
+}
+
+-- the list `skipped` was read
+pub skipped_taken : (k : List ℕ) → k ≡ member_name name.Left
+    → (old new : Object) (before after : List Token) (lines : List SkippedLineModel)
+    → is_some old.skipped ≡ false → option_map (λ v. v.items) new.skipped ≡ Some lines → new.values ≡ old.values
+    → new.rows ≡ old.rows
+    → new.files ≡ old.files
+    → new.faults ≡ old.faults
+    → BeginsWith (IsListOf IsSkippedOf) before after lines → TakesMember k old new before after
+skipped_taken k e old new before after lines none filled vs same_rows same_files same_faults next = record {
+  value = next.value;
+  tokens_are = next.tokens_are;
+  adds = λ ms o. record {
+    values = λ n is. ap (λ v. named n (members_of v.items)) vs ∙ o.values n is
+        ∙ sym (kept (member_name n) ms k next.value (apart (member_name name.Left) (refl, (refl, (refl, (refl, (refl, (refl, tt)))))) k e
+        n is));
+    rows = subst (λ x. MayHaveLines IsRowOf name.Rows (ms ++ (k, next.value) ∷ []) (option_map (λ v. v.items) x)) (sym same_rows)
+        (lines_kept IsRowOf name.Rows ms k next.value _ (other_than k (member_name name.Left) (member_name name.Rows) e refl) o.rows);
+    files = subst (λ x. MayHaveLines IsFileOf name.Files (ms ++ (k, next.value) ∷ []) (option_map (λ v. v.items) x)) (sym same_files)
+        (lines_kept IsFileOf name.Files ms k next.value _ (other_than k (member_name name.Left) (member_name name.Files) e refl) o.files);
+    skipped = subst (MayHaveLines IsSkippedOf name.Left (ms ++ (k, next.value) ∷ [])) (sym filled)
+        (lines_filled IsSkippedOf name.Left ms k next.value (option_map (λ v. v.items) old.skipped) lines
+        (ap (λ x. option_map (λ v. v.items) x) (none_if old.skipped none)) (equal_to k (member_name name.Left) e) o.skipped next.is);
+    faults = subst (λ x. MayHaveLines IsFaultOf name.Faults (ms ++ (k, next.value) ∷ []) (option_map (λ v. v.items) x)) (sym same_faults)
+        (lines_kept IsFaultOf name.Faults ms k next.value _ (other_than k (member_name name.Left) (member_name name.Faults) e refl)
+        o.faults);
+  };
+}
+
+-- the list `faults` was read
+pub faults_taken : (k : List ℕ) → k ≡ member_name name.Faults → (old new : Object) (before after : List Token) (lines : List FaultLineModel)
+    → is_some old.faults ≡ false → option_map (λ v. v.items) new.faults ≡ Some lines → new.values ≡ old.values
+    → new.rows ≡ old.rows
+    → new.files ≡ old.files
+    → new.skipped ≡ old.skipped
+    → BeginsWith (IsListOf IsFaultOf) before after lines → TakesMember k old new before after
+faults_taken k e old new before after lines none filled vs same_rows same_files same_skipped next = record {
+  value = next.value;
+  tokens_are = next.tokens_are;
+  adds = λ ms o. record {
+    values = λ n is. ap (λ v. named n (members_of v.items)) vs ∙ o.values n is
+        ∙ sym (kept (member_name n) ms k next.value (apart (member_name name.Faults) (refl, (refl, (refl, (refl, (refl, (refl, tt)))))) k
+        e n is));
+    rows = subst (λ x. MayHaveLines IsRowOf name.Rows (ms ++ (k, next.value) ∷ []) (option_map (λ v. v.items) x)) (sym same_rows)
+        (lines_kept IsRowOf name.Rows ms k next.value _ (other_than k (member_name name.Faults) (member_name name.Rows) e refl) o.rows);
+    files = subst (λ x. MayHaveLines IsFileOf name.Files (ms ++ (k, next.value) ∷ []) (option_map (λ v. v.items) x)) (sym same_files)
+        (lines_kept IsFileOf name.Files ms k next.value _ (other_than k (member_name name.Faults) (member_name name.Files) e refl) o.files);
+    skipped = subst (λ x. MayHaveLines IsSkippedOf name.Left (ms ++ (k, next.value) ∷ []) (option_map (λ v. v.items) x)) (sym same_skipped)
+        (lines_kept IsSkippedOf name.Left ms k next.value _ (other_than k (member_name name.Faults) (member_name name.Left) e refl)
+        o.skipped);
+    faults = subst (MayHaveLines IsFaultOf name.Faults (ms ++ (k, next.value) ∷ [])) (sym filled)
+        (lines_filled IsFaultOf name.Faults ms k next.value (option_map (λ v. v.items) old.faults) lines
+        (ap (λ x. option_map (λ v. v.items) x) (none_if old.faults none)) (equal_to k (member_name name.Faults) e) o.faults next.is);
+  };
+}
+
+same_rest : (xs ys : List Json) (b : Bool) (j : Json) → xs ≡ ys → xs ++ cond b (j ∷ []) [] ≡ ys ++ cond b (j ∷ []) []
+same_rest xs ys b j e = ap (λ (s : List Json). s ++ cond b (j ∷ []) []) e
+
+pub lent_more : {A : Type 0} (vs : List (Bor (List ℕ) × Value A)) (v : Bor (List ℕ) × Value A)
+    → members_of (vs ++ v ∷ []) ≡ members_of vs ++ (v.0.now, value_view v.1) ∷ []
+lent_more [] v = refl
+lent_more (w ∷ vs) v = ap (λ (s : List Member). (w.0.now, value_view w.1) ∷ s) (lent_more vs v)
+
+-- a list's name is that of no value
+list_apart : (l : List ℕ) → AllOf (λ n. bytes_eq (member_name n) l ≡ false) value_names → (n : MemberName) → is_value n ≡ true
+    → (k : List ℕ) → k ≡ member_name n → bytes_eq k l ≡ false
+list_apart l all n is k e =
+    ap (λ (s : List ℕ). bytes_eq s l) e ∙ each_of (λ n. bytes_eq (member_name n) l ≡ false) value_names all n (value_in n is)
+
+-- a member that is no list was read
+pub small_taken : (n : MemberName) → is_value n ≡ true → (k : List ℕ) → k ≡ member_name n → (old new : Object) (before after : List Token)
+    → (j : Json) → before ≡ json_tokens j ++ after → members_of new.values.items ≡ members_of old.values.items ++ (k, j) ∷ []
+    → new.rows ≡ old.rows
+    → new.files ≡ old.files
+    → new.skipped ≡ old.skipped
+    → new.faults ≡ old.faults
+    → TakesMember k old new before after
+small_taken n is k e old new before after j tokens pushed same_rows same_files same_skipped same_faults = record {
+  value = j;
+  tokens_are = tokens;
+  adds = λ ms o. record {
+    values = λ m is_m. ap (λ (s : List Member). named m s) pushed ∙ values_more (member_name m) (members_of old.values.items) k j
+        ∙ same_rest _ _ (bytes_eq k (member_name m)) j (o.values m is_m) ∙ sym (values_more (member_name m) ms k j);
+    rows = subst (λ x. MayHaveLines IsRowOf name.Rows (ms ++ (k, j) ∷ []) (option_map (λ v. v.items) x)) (sym same_rows)
+        (lines_kept IsRowOf name.Rows ms k j _ (list_apart (member_name name.Rows) (refl, (refl, (refl, (refl, (refl, (refl, tt)))))) n
+        is k e) o.rows);
+    files = subst (λ x. MayHaveLines IsFileOf name.Files (ms ++ (k, j) ∷ []) (option_map (λ v. v.items) x)) (sym same_files)
+        (lines_kept IsFileOf name.Files ms k j _ (list_apart (member_name name.Files) (refl, (refl, (refl, (refl, (refl, (refl, tt))))))
+        n is k e) o.files);
+    skipped = subst (λ x. MayHaveLines IsSkippedOf name.Left (ms ++ (k, j) ∷ []) (option_map (λ v. v.items) x)) (sym same_skipped)
+        (lines_kept IsSkippedOf name.Left ms k j _ (list_apart (member_name name.Left) (refl, (refl, (refl, (refl, (refl, (refl, tt))))))
+        n is k e) o.skipped);
+    faults = subst (λ x. MayHaveLines IsFaultOf name.Faults (ms ++ (k, j) ∷ []) (option_map (λ v. v.items) x)) (sym same_faults)
+        (lines_kept IsFaultOf name.Faults ms k j _ (list_apart (member_name name.Faults) (
+          refl,
+          (
+            refl,
+            (
+              refl,
+              (
+                refl,
+                (
+                  refl,
+                  (
+                    refl,
+                    tt,
+                  ),
+                ),
+              ),
+            ),
+          ),
+        ) n is k e) o.faults);
+  };
+}
+
+-- a member was passed over
+pub other_taken : (k : List ℕ) → IsTopMember k Other → (old new : Object) → new ≡ old → (before after : List Token)
+    → IsPassed before after → TakesMember k old new before after
+other_taken k other old new same before after passed = subst (λ o. TakesMember k old o before after) (sym same) (record {
+  value = passed.value;
+  tokens_are = passed.tokens_are;
+  adds = λ ms o. record {
+    values = λ n is. o.values n is ∙ sym (kept (member_name n) ms k passed.value (not_equal k (member_name n) (other.4 n is)));
+    rows = lines_kept IsRowOf name.Rows ms k passed.value _ (not_equal k (member_name name.Rows) other.0) o.rows;
+    files = lines_kept IsFileOf name.Files ms k passed.value _ (not_equal k (member_name name.Files) other.1) o.files;
+    skipped = lines_kept IsSkippedOf name.Left ms k passed.value _ (not_equal k (member_name name.Left) other.2) o.skipped;
+    faults = lines_kept IsFaultOf name.Faults ms k passed.value _ (not_equal k (member_name name.Faults) other.3) o.faults;
+  };
+})
+
+-- ---- all members
+
+-- some first members were read
+pub record MembersSoFar (o : Object) (start now : List Token) : Type 0 where
+  pub members : List Member
+  pub tokens_are : start ≡ flat_map (λ (m : Member). key m.0 ∷ json_tokens m.1) members ++ now
+  pub is : IsObjectOf members o
+
+abbrev member_tokens : Member → List Token
+member_tokens m = key m.0 ∷ json_tokens m.1
+
+tokens_of_members : (ms : List Member) → members_tokens (members_with ms) ≡ flat_map member_tokens ms ++ end_object ∷ []
+tokens_of_members [] = refl
+tokens_of_members (m ∷ ms) =
+    ap (λ (ts : List Token). key m.0 ∷ (json_tokens m.1 ++ ts)) (tokens_of_members ms)
+    ∙ sym (append_assoc (member_tokens m) (flat_map member_tokens ms) (end_object ∷ []))
+
+pub no_member_so_far : (o : Object) (start : List Token) → IsObjectOf [] o → MembersSoFar o start start
+no_member_so_far o start is = record { members = []; tokens_are = refl; is = is }
+
+pub one_member_more : (old new : Object) (start now between after : List Token) (k : List ℕ) → MembersSoFar old start now
+    → now ≡ key k ∷ between
+    → TakesMember k old new between after → MembersSoFar new start after
+one_member_more old new start now between after k far named takes = record {
+  members = far.members ++ (k, takes.value) ∷ [];
+  tokens_are = far.tokens_are
+      ∙ ap (λ (ts : List Token). flat_map member_tokens far.members ++ ts) (named ∙ ap (λ (ts : List Token). key k ∷ ts) takes.tokens_are)
+      ∙ sym (append_assoc (flat_map member_tokens far.members) (key k ∷ json_tokens takes.value) after)
+      ∙ ap (λ (ts : List Token). (flat_map member_tokens far.members ++ key k ∷ ts) ++ after) (sym (append-nil (json_tokens takes.value)))
+      ∙ ap (λ (ts : List Token). ts ++ after) (sym (flat_map-append member_tokens far.members ((k, takes.value) ∷ [])));
+  is = takes.adds far.members far.is;
+}
+
+pub all_members_read : (o : Object) (start now after : List Token) → MembersSoFar o start now → now ≡ end_object ∷ after
+    → TakesObject o (begin_object ∷ start) after
+all_members_read o start now after far ended = record {
+  members = far.members;
+  tokens_are = ap (λ (ts : List Token). begin_object ∷ ts) (far.tokens_are
+      ∙ ap (λ (ts : List Token). flat_map member_tokens far.members ++ ts) ended
+      ∙ sym (append_assoc (flat_map member_tokens far.members) (end_object ∷ []) after)
+      ∙ ap (λ (ts : List Token). ts ++ after) (sym (tokens_of_members far.members)));
+  is = far.is;
+}
+
+-- a member takes tokens
+pub fewer : (k : List ℕ) (old new : Object) (now between after : List Token) → now ≡ key k ∷ between
+    → TakesMember k old new between after → length after < length now
+fewer k old new now between after named takes =
+    let a = length-append (json_tokens takes.value) after in let b = ap (λ (ts : List Token). length ts) named in
+    let d = ap (λ (ts : List Token). length ts) takes.tokens_are in omega arith
+
+pub on_ok : {A E : Type 0} {P Q : Type 0} (r : Result A E) → (P → Q) → OnOk r P → OnOk r Q
+on_ok (Ok a) f p = f p
+on_ok (Err e) f p = p

@@ -1,0 +1,198 @@
+-- The report that is made of an object's members.
+use Rattle.std.proofs.Common.{◌≡◌, ◌∙◌, ◌⊎◌, inl, inr, ℕ, Bool, true, false, List, [], ◌∷◌, map, refl, sym, ap, subst, Option, Some, None}
+use Rattle.std.proofs.Common.{option_map, Vec, arith}
+use Rattle.std.specs.Global.{Global}
+use Rattle.std.specs.Prelude.{MatchOption, is_some, unwrap_or}
+use Rattle.std.specs.Bool.{MatchBool}
+use Rattle.std.specs.List.Sorted.{IsPermutation, IsSortedByKey}
+use Rattle.std.proofs.lemmas.Bool.{MatchBool-at_false}
+use Rattle.std.proofs.lemmas.List.Sorted.{length_permutation}
+use Rattle.lc_level.specs.FaultLines.{FaultLineModel}
+use Rattle.lc_level.specs.Level.{FileLineModel, SkippedLineModel}
+use Rattle.lc_tree.specs.ByteOrder.{bytes_cmp}
+use Rattle.lc_walk.specs.ReportTotals.{counted_line}
+use Rattle.lc_rows.specs.Classes.{binary_sums}
+use Rattle.lc_walk.specs.Sums.{plus}
+use Rattle.lc_walk.specs.Tally.{IsTally, sums_of_files}
+use Rattle.lc_walk.specs.TallyRows.{AddsUp, TallyRowModel, sums_of_rows}
+use Rattle.lc_walk.specs.declared.tally.sums.Sums.{Sums}
+use Rattle.lc_reading.specs.Kept.{Agrees, IsFinished, IsKept, IsKeptOf}
+use Rattle.lc_reading.specs.Lines.{IsFaultOf, IsFileOf, IsSkippedOf}
+use Rattle.lc_reading.specs.Members.{Member, HasNumber, Lacks, members_of, named}
+use Rattle.lc_reading.specs.Objects.{HasLines, IsObjectOf, MayHaveLines, is_value}
+use Rattle.lc_reading.specs.Reports.{HasOrdered, HaveColumns, IsNumbersOf, IsReportOf, row_in}
+use Rattle.lc_reading.specs.Rows.{HasSums, IsRowOf}
+use Rattle.lc_reading.specs.declared.kept_files.Kept.{Kept}
+use Rattle.lc_reading.specs.declared.member_name.MemberName.{MemberName}
+use Rattle.lc_reading.specs.declared.member_name.MemberName.TheVariants as name
+use Rattle.lc_reading.specs.declared.numbers_of.Numbers.{Numbers}
+use Rattle.lc_reading.specs.declared.object.Object.{Object}
+use Rattle.lc_reading.specs.declared.read_report.ReadReport.{ReadReport}
+use Rattle.lc_reading.specs.declared.row_columns.RowColumns.{RowColumns}
+use Rattle.lc_reading.specs.declared.rows.ReadRow.{ReadRow}
+
+-- ---- numbers, of members that are among others
+
+sums_among : (n : MemberName) (ms vs : List Member) (s : Sums) → named n vs ≡ named n ms → HasSums n vs s → HasSums n ms s
+sums_among n ms vs s e is = record { members = is.members; has = sym e ∙ is.has; sums = is.sums }
+
+cut_among : (b : Bool) (ms vs : List Member) → b ≡ false → named name.Others vs ≡ named name.Others ms
+    → MatchBool b (Unit {0}) (Lacks name.Others vs)
+    → Lacks name.Others ms
+cut_among b ms vs uncut e is = sym e ∙ MatchBool-at_false _ _ uncut is
+
+entries_among : (o : Option ℕ) (ms vs : List Member) → named name.Entries vs ≡ named name.Entries ms
+    → MatchOption o (Lacks name.Entries vs) (HasNumber name.Entries vs) → (b : Bool) → b ≡ is_some o → (n : ℕ) → n ≡ unwrap_or o 0
+    → MatchBool b (HasNumber name.Entries ms n) (Lacks name.Entries ms × (n ≡ 0))
+entries_among None ms vs e is b is_b n is_n =
+    subst (λ c. MatchBool c (HasNumber name.Entries ms n) (Lacks name.Entries ms × (n ≡ 0))) (sym is_b) (sym e ∙ is, is_n)
+entries_among (Some m) ms vs e is b is_b n is_n =
+    subst (λ c. MatchBool c (HasNumber name.Entries ms n) (Lacks name.Entries ms × (n ≡ 0))) (sym is_b)
+    (subst (HasNumber name.Entries ms) (sym is_n) (sym e ∙ is))
+
+-- ---- lists
+
+none_of : {A : Type 0} (xs : List A) → IsPermutation [] xs → xs ≡ []
+none_of [] p = refl
+none_of (x ∷ xs) p = let same = length_permutation [] (x ∷ xs) p in absurd (omega arith)
+
+ordered_of : {L : Type 0} (Says : List Member → L → Type 0) (path : L → List ℕ) (n : MemberName) (ms : List Member) (found lines : List L)
+    → HasLines Says n ms found → IsPermutation found lines → IsSortedByKey path bytes_cmp lines → HasOrdered Says path n ms lines
+ordered_of Says path n ms found lines has same order = record { listed = found; has = has; same = same; order = order }
+
+skipped_among : (ms : List Member) (o : Option ℕ) (s : Option (Vec SkippedLineModel Global)) (found : Vec SkippedLineModel Global) (lines
+    : List SkippedLineModel)
+    → MatchOption o ((s ≡ None) × (found.items ≡ [])) (λ _. s ≡ Some found)
+    → MayHaveLines IsSkippedOf name.Left ms (option_map (λ v. v.items) s)
+    → IsPermutation found.items lines → IsSortedByKey (λ (l : SkippedLineModel). l.path) bytes_cmp lines → (b : Bool) → b ≡ is_some o
+    → MatchBool b (HasOrdered IsSkippedOf (λ l. l.path) name.Left ms lines) (Lacks name.Left ms × (lines ≡ []))
+skipped_among ms None s found lines is may same order b is_b =
+    subst (λ c. MatchBool c (HasOrdered IsSkippedOf (λ l. l.path) name.Left ms lines) (Lacks name.Left ms × (lines ≡ []))) (sym is_b) (
+      subst (λ (t : Option (Vec SkippedLineModel Global)). MayHaveLines IsSkippedOf name.Left ms (option_map (λ v. v.items) t)) is.0 may,
+      none_of lines (subst (λ (xs : List SkippedLineModel). IsPermutation xs lines) is.1 same),
+    )
+skipped_among ms (Some m) s found lines is may same order b is_b =
+    subst (λ c. MatchBool c (HasOrdered IsSkippedOf (λ l. l.path) name.Left ms lines) (Lacks name.Left ms × (lines ≡ []))) (sym is_b)
+    (ordered_of IsSkippedOf (λ l. l.path) name.Left ms found.items lines
+    (subst (λ (t : Option (Vec SkippedLineModel Global)). MayHaveLines IsSkippedOf name.Left ms (option_map (λ v. v.items) t)) is may)
+    same order)
+
+-- ---- rows and files
+
+-- what a report says of its files
+abbrev FilesOf : List Member → (has_files : Bool) → List FileLineModel → ℕ → Type 0
+FilesOf ms has_files files total =
+    MatchBool has_files
+    (HasOrdered IsFileOf (λ f. f.path) name.Files ms files ⊎ (Lacks name.Files ms × (files ≡ []) × (total ≡ 0)))
+    (Lacks name.Files ms × (files ≡ []))
+
+files_among : (ms : List Member) (files : Option (List FileLineModel)) (columns : RowColumns) (rows : List TallyRowModel) (total : Sums)
+    (k : Kept)
+    → MayHaveLines IsFileOf name.Files ms files → IsKept files columns rows total k → FilesOf ms k.has_files k.files.items total.files
+files_among ms (Some files) columns rows total k may kept =
+    subst (λ b. FilesOf ms b k.files.items total.files) (sym kept.listed)
+    (inl (ordered_of IsFileOf (λ f. f.path) name.Files ms files k.files.items may kept.same kept.order))
+files_among ms None columns rows total k may (inl kept) =
+    subst (λ b. FilesOf ms b k.files.items total.files) (sym kept.0.listed) (inr (may, none_of k.files.items kept.0.same, kept.1))
+files_among ms None columns rows total k may (inr kept) =
+    subst (λ b. FilesOf ms b k.files.items total.files) (sym kept.unlisted) (may, kept.none)
+
+every_column : RowColumns
+every_column = record { ext = true; text = true; eol = true }
+
+abbrev RowsKept : Bool → RowColumns → RowColumns → List TallyRowModel → List TallyRowModel → Type 0
+RowsKept has_files kept columns rows made =
+    MatchBool has_files (kept ≡ record { ext = true; text = true; eol = true }) ((kept ≡ columns) × AddsUp rows made)
+
+rows_kept : (files : Option (List FileLineModel)) (columns : RowColumns) (rows : List TallyRowModel) (total : Sums) (k : Kept)
+    → IsKept files columns rows total k → RowsKept k.has_files k.columns columns rows k.rows.items
+rows_kept (Some files) columns rows total k kept = subst (λ b. RowsKept b k.columns columns rows k.rows.items) (sym kept.listed)
+    kept.columns_are
+rows_kept None columns rows total k (inl kept) = subst (λ b. RowsKept b k.columns columns rows k.rows.items) (sym kept.0.listed)
+    kept.0.columns_are
+rows_kept None columns rows total k (inr kept) =
+    subst (λ b. RowsKept b k.columns columns rows k.rows.items) (sym kept.unlisted) (kept.columns_are, kept.added)
+
+-- the sums over the rows that are kept, and over the files
+pub record SumsKept (total : Sums) (has_files : Bool) (rows : List TallyRowModel) (files : List FileLineModel) : Type 0 where
+  pub rows_are : total ≡ sums_of_rows rows
+  pub files_are : has_files ≡ true → total ≡ sums_of_files (map counted_line files)
+  pub tally : has_files ≡ true → IsTally (map counted_line files) rows
+
+sums_of_kept : (total : Sums) (files : List FileLineModel) (k : Kept) → IsKeptOf total files k
+    → SumsKept total k.has_files k.rows.items k.files.items
+sums_of_kept total files k kept = record { rows_are = kept.rows_are; files_are = λ h. kept.files_are; tally = λ h. kept.tally }
+
+sums_kept : (files : Option (List FileLineModel)) (columns : RowColumns) (rows : List TallyRowModel) (total : Sums) (k : Kept)
+    → IsKept files columns rows total k → SumsKept total k.has_files k.rows.items k.files.items
+sums_kept (Some files) columns rows total k kept = sums_of_kept total files k kept
+sums_kept None columns rows total k (inl kept) = sums_of_kept total [] k kept.0
+sums_kept None columns rows total k (inr kept) = record {
+  rows_are = kept.rows_are;
+  files_are = λ h. let never : false ≡ true = sym kept.unlisted ∙ h in absurd (cc);
+  tally = λ h. let never : false ≡ true = sym kept.unlisted ∙ h in absurd (cc);
+}
+
+-- ---- the whole report
+
+pub report_is : (ms : List Member) (o : Object) (n : Numbers) (rows : Vec ReadRow Global) (columns : RowColumns) (tally : Vec
+    TallyRowModel Global) (k : Kept)
+    (skipped : Vec SkippedLineModel Global) (faults : Vec FaultLineModel Global) (r : ReadReport)
+    → IsObjectOf ms o → IsNumbersOf (members_of o.values.items) n → n.is_cut ≡ false → o.rows ≡ Some rows → o.faults ≡ Some faults
+    → MatchOption n.entries ((o.skipped ≡ None) × (skipped.items ≡ [])) (λ _. o.skipped ≡ Some skipped)
+    → HaveColumns columns rows.items → tally.items ≡ map row_in rows.items
+    → Agrees n columns tally.items (option_map (λ v. v.items) o.files) k → IsFinished n k skipped.items faults.items r → IsReportOf ms r
+report_is ms o n rows columns tally k skipped faults r is numbers uncut rows_there faults_there skipped_are columns_are tally_is agrees
+    made =
+    let among : (m : MemberName) → is_value m ≡ true → named m (members_of o.values.items) ≡ named m ms = is.values in
+    let vs : List Member = members_of o.values.items in
+    let rows_in : HasLines IsRowOf name.Rows ms rows.items =
+    subst (λ (t : Option (Vec ReadRow Global)). MayHaveLines IsRowOf name.Rows ms (option_map (λ v. v.items) t)) rows_there is.rows in
+    let faults_in : HasLines IsFaultOf name.Faults ms faults.items =
+    subst (λ (t : Option (Vec FaultLineModel Global)). MayHaveLines IsFaultOf name.Faults ms (option_map (λ v. v.items) t)) faults_there
+    is.faults in
+    let files : Option (List FileLineModel) = option_map (λ v. v.items) o.files in
+    let sums : SumsKept n.total k.has_files k.rows.items k.files.items = sums_kept files columns tally.items n.total k agrees.kept in
+    record {
+      uncut = cut_among n.is_cut ms vs uncut (among name.Others refl) numbers.uncut;
+      total = subst (HasSums name.Total ms) (sym made.totals_are) (sums_among name.Total ms vs n.total (among name.Total refl)
+          numbers.total);
+      text = subst (HasSums name.Text ms) (sym made.text_is) (sums_among name.Text ms vs n.text (among name.Text refl) numbers.text);
+      binary = subst (HasSums name.Binary ms) (sym made.binary_is) (sums_among name.Binary ms vs n.binary (among name.Binary refl)
+          numbers.binary);
+      directories = subst (HasNumber name.Directories ms) (sym made.directories_are) (sym (among name.Directories refl)
+          ∙ numbers.directories);
+      entries = entries_among n.entries ms vs (among name.Entries refl) numbers.entries r.report.lists.left_out made.left_out
+          r.report.entries made.entries_are;
+      rows = record {
+        columns = columns;
+        rows = rows.items;
+        are = record { has = rows_in; columns_are = columns_are; total_is = made.totals_are ∙ agrees.rows_are ∙ ap sums_of_rows tally_is };
+        kept = subst (λ b. RowsKept b r.columns columns (map row_in rows.items) r.report.rows.items) (sym made.has_files)
+            (subst (λ c. RowsKept k.has_files c columns (map row_in rows.items) r.report.rows.items) (sym made.columns_are)
+            (subst (λ t. RowsKept k.has_files k.columns columns t r.report.rows.items) tally_is
+            (subst (λ (v : Vec TallyRowModel Global). RowsKept k.has_files k.columns columns tally.items v.items) (sym made.rows_are)
+            (rows_kept files columns tally.items n.total k agrees.kept))));
+      };
+      files = subst (λ b. FilesOf ms b r.report.files.items r.report.totals.files) (sym made.has_files)
+          (subst (λ (v : Vec FileLineModel Global). FilesOf ms k.has_files v.items r.report.totals.files) (sym made.files_are)
+          (subst (λ (s : Sums). FilesOf ms k.has_files k.files.items s.files) (sym made.totals_are)
+          (files_among ms files columns tally.items n.total k is.files agrees.kept)));
+      skipped = skipped_among ms n.entries o.skipped skipped r.report.skipped.items skipped_are is.skipped made.skipped_are
+          made.skipped_order
+          r.report.lists.left_out made.left_out;
+      faults = ordered_of IsFaultOf (λ f. f.path) name.Faults ms faults.items r.report.faults.items faults_in made.faults_are
+          made.faults_order;
+      adds_up = record {
+        rows = made.totals_are ∙ sums.rows_are ∙ ap (λ (v : Vec TallyRowModel Global). sums_of_rows v.items) (sym made.rows_are);
+        files = λ h. made.totals_are ∙ sums.files_are (sym made.has_files ∙ h)
+            ∙ ap (λ (v : Vec FileLineModel Global). sums_of_files (map counted_line v.items)) (sym made.files_are);
+        tally = λ h. subst (λ (v : Vec FileLineModel Global). IsTally (map counted_line v.items) r.report.rows.items) (sym made.files_are)
+            (subst (λ (v : Vec TallyRowModel Global). IsTally (map counted_line k.files.items) v.items) (sym made.rows_are) (sums.tally
+            (sym made.has_files ∙ h)));
+      };
+      parts = made.totals_are ∙ agrees.parts ∙ ap (λ (s : Sums). plus s n.binary) (sym made.text_is)
+          ∙ ap (plus r.text) (sym made.binary_is);
+      nul = λ h. made.binary_is ∙ agrees.nul (ap (λ (c : RowColumns). c.eol) (sym made.columns_are) ∙ h)
+          ∙ ap (λ (v : Vec TallyRowModel Global). binary_sums v.items) (sym made.rows_are);
+    }

@@ -1,0 +1,101 @@
+-- Texts that are cut and read one after another.
+use Rattle.std.proofs.Common.{◌≡◌, ◌∙◌, ◌<◌, ℕ, List, [], ◌∷◌, ◌++◌, length, refl, sym, ap, append_assoc, append-nil, Option, Some, None}
+use Rattle.std.proofs.Common.{option_and_then, true, false, arith, Result, Ok, Err}
+use Rattle.std.specs.List.{flat_map, list_all}
+use Rattle.std.specs.Prelude.{IfOk, MatchOption, is_some}
+use Rattle.std.proofs.lemmas.List.Concat.{flat_map-append}
+use Rattle.json.specs.Json.{Json, document, if_last, max_depth, object, skip_value, value}
+use Rattle.json.specs.Lex.{tokens}
+use Rattle.json.specs.Token.{Token}
+use Rattle.json.specs.Tree.{depth, json_tokens}
+use Rattle.json.specs.Word.{is_space}
+use Rattle.json.proofs.Found.{Some_inj, one_reading}
+use Rattle.json.proofs.Grammar.{left_some}
+use Rattle.json.proofs.Printed.Trees.{value-json_tokens}
+use Rattle.lc_reading.specs.Members.{Member, members_with}
+use Rattle.lc_reading.specs.Objects.{IsObjectOf, TakesObject}
+use Rattle.lc_reading.specs.Reports.{IsReportOf}
+use Rattle.lc_reading.specs.Texts.{AreReportTexts, AreReportsOf, IsJson, IsReportText}
+use Rattle.lc_reading.specs.declared.object.Object.{Object}
+use Rattle.lc_reading.specs.declared.read_report.ReadReport.{ReadReport}
+
+pub json_is : (text : List ℕ) (rest : List Token) → skip_value max_depth (tokens text) ≡ Some rest → rest ≡ [] → IsJson text
+json_is text rest e none =
+    let j = left_some (value max_depth (tokens text)) rest e in
+    record { value = j.0; is = ap (option_and_then (λ p. if_last p.0 p.1)) (j.1 ∙ ap (λ (ts : List Token). Some (j.0, ts)) none) }
+
+read_whole : (o : Option (Json × List Token)) (j : Json) → option_and_then (λ p. if_last p.0 p.1) o ≡ Some j → o ≡ Some (j, [])
+read_whole None j e = absurd (cc)
+read_whole (Some (i, [])) j e = let same : i ≡ j = cc in ap (λ (k : Json). Some (k, [])) same
+read_whole (Some (i, t ∷ ts)) j e = absurd (cc)
+
+-- where the tokens of a text are those of a value, it is the value
+same_value : (text : List ℕ) (j k : Json) → document text ≡ Some j → tokens text ≡ json_tokens k ++ [] → j ≡ k
+same_value text j k is tokens_are =
+    let read : value max_depth (tokens text) ≡ Some (j, []) = read_whole (value max_depth (tokens text)) j is in
+    let spelled : value (depth k) (tokens text) ≡ Some (k, []) = ap (value (depth k)) tokens_are
+    ∙ value-json_tokens k (depth k) [] (omega arith) in
+    ap (λ (p : Json × List Token). p.0) (Some_inj (j, []) (k, []) (one_reading max_depth (depth k) (tokens text) (j, []) (k, []) read
+    spelled))
+
+pub report_text : (text : List ℕ) (o : Object) (rest : List Token) (r : ReadReport) → IsJson text → TakesObject o (tokens text) rest
+    → rest ≡ []
+    → ((ms : List Member) → IsObjectOf ms o → IsReportOf ms r) → IsReportText text r
+report_text text o rest r json takes none made = record {
+  members = takes.members;
+  value_is = json.is ∙ ap (λ (j : Json). Some j) (same_value text json.value (object (members_with takes.members)) json.is
+      (takes.tokens_are ∙ ap (λ (ts : List Token). json_tokens (object (members_with takes.members)) ++ ts) none));
+  is = made takes.members takes.is;
+}
+
+-- some first texts were read
+pub record TextsSoFar (text rest : List ℕ) (reports : List ReadReport) : Type 0 where
+  pub texts : List (List ℕ)
+  pub front : text ≡ flat_map (λ t. t) texts ++ rest
+  pub each : AreReportTexts texts reports
+
+texts_pushed : (ts : List (List ℕ)) (rs : List ReadReport) (t : List ℕ) (r : ReadReport) → AreReportTexts ts rs → IsReportText t r
+    → AreReportTexts (ts ++ t ∷ []) (rs ++ r ∷ [])
+texts_pushed [] [] t r are is = (is, tt)
+texts_pushed [] (q ∷ qs) t r are is = absurd are
+texts_pushed (u ∷ us) [] t r are is = absurd are
+texts_pushed (u ∷ us) (q ∷ qs) t r are is = (are.0, texts_pushed us qs t r are.1 is)
+
+pub no_text_so_far : (text : List ℕ) → TextsSoFar text text []
+no_text_so_far text = record { texts = []; front = refl; each = tt }
+
+pub one_text_more : (text rest piece more : List ℕ) (reports : List ReadReport) (r : ReadReport) → TextsSoFar text rest reports
+    → rest ≡ piece ++ more
+    → IsReportText piece r → TextsSoFar text more (reports ++ r ∷ [])
+one_text_more text rest piece more reports r far cut is = record {
+  texts = far.texts ++ piece ∷ [];
+  front = far.front ∙ ap (λ (s : List ℕ). flat_map (λ t. t) far.texts ++ s) cut
+      ∙ sym (append_assoc (flat_map (λ t. t) far.texts) piece more)
+      ∙ ap (λ (s : List ℕ). (flat_map (λ t. t) far.texts ++ s) ++ more) (sym (append-nil piece))
+      ∙ ap (λ (s : List ℕ). s ++ more) (sym (flat_map-append (λ t. t) far.texts (piece ∷ [])));
+  each = texts_pushed far.texts reports piece r far.each is;
+}
+
+pub all_texts_read : (text rest : List ℕ) (reports : List ReadReport) → TextsSoFar text rest reports → list_all is_space rest ≡ true
+    → 0 < length reports
+    → AreReportsOf text reports
+all_texts_read text rest reports far blank some = record {
+  texts = far.texts;
+  blank = rest;
+  whole = far.front;
+  is_blank = blank;
+  each = far.each;
+  some = some;
+}
+
+pub if_ok : {A E : Type 0} (P Q : A → Type 0) (r : Result A E) → ((a : A) → P a → Q a) → IfOk r P → IfOk r Q
+if_ok P Q (Ok a) f p = f a p
+if_ok P Q (Err e) f p = p
+
+pub none_left : {A : Type 0} (P : Type 0) (Q : A → Type 0) (r : Option A) → is_some r ≡ false → MatchOption r P Q → P
+none_left P Q None e is = is
+none_left P Q (Some a) e is = absurd (cc)
+
+pub never_none : {A : Type 0} (xs : List A) (x : A) → xs ++ x ∷ [] ≡ [] → ⊥
+never_none [] x e = absurd (cc)
+never_none (y ∷ ys) x e = absurd (cc)

@@ -1,0 +1,65 @@
+-- The rows and the files that a report keeps of those that were read.
+use Rattle.std.specs.Prelude.{◌≡◌, ◌⊎◌, true, false, List, [], map, Option, Some, None, is_some, unwrap_or}
+use Rattle.std.specs.List.Sorted.{IsPermutation, IsSortedByKey}
+use Rattle.lc_level.specs.FaultLines.{FaultLineModel}
+use Rattle.lc_level.specs.Level.{FileLineModel, SkippedLineModel}
+use Rattle.lc_tree.specs.ByteOrder.{bytes_cmp}
+use Rattle.lc_walk.specs.ReportTotals.{counted_line}
+use Rattle.lc_walk.specs.Sums.{plus}
+use Rattle.lc_walk.specs.Tally.{IsTally, sums_of_files}
+use Rattle.lc_walk.specs.TallyRows.{AddsUp, TallyRowModel, sums_of_rows}
+use Rattle.lc_walk.specs.declared.tally.sums.Sums.{Sums}
+use Rattle.lc_rows.specs.Classes.{binary_sums}
+use Rattle.lc_reading.specs.declared.numbers_of.Numbers.{Numbers}
+use Rattle.lc_reading.specs.declared.kept_files.Kept.{Kept}
+use Rattle.lc_reading.specs.declared.read_report.ReadReport.{ReadReport}
+use Rattle.lc_reading.specs.declared.row_columns.RowColumns.{RowColumns}
+
+-- the files in order of their paths, and the rows that they make
+pub record IsKeptOf (total : Sums) (files : List FileLineModel) (k : Kept) : Type 0 where
+  pub columns_are : k.columns ≡ record { ext = true; text = true; eol = true }
+  pub listed : k.has_files ≡ true
+  pub same : IsPermutation files k.files.items
+  pub order : IsSortedByKey (λ (f : FileLineModel). f.path) bytes_cmp k.files.items
+  pub tally : IsTally (map counted_line k.files.items) k.rows.items
+  pub files_are : total ≡ sums_of_files (map counted_line k.files.items)
+  pub rows_are : total ≡ sums_of_rows k.rows.items
+
+-- no files, and the rows, one for each key
+pub record IsKeptRows (total : Sums) (columns : RowColumns) (rows : List TallyRowModel) (k : Kept) : Type 0 where
+  pub columns_are : k.columns ≡ columns
+  pub unlisted : k.has_files ≡ false
+  pub none : k.files.items ≡ []
+  pub added : AddsUp rows k.rows.items
+  pub rows_are : total ≡ sums_of_rows k.rows.items
+
+-- listed files are kept, and no files where there are none; otherwise the rows
+abbrev pub IsKept : Option (List FileLineModel) → RowColumns → List TallyRowModel → Sums → Kept → Type 0
+IsKept (Some files) columns rows total k = IsKeptOf total files k
+IsKept None columns rows total k = (IsKeptOf total [] k × (total.files ≡ 0)) ⊎ IsKeptRows total columns rows k
+
+-- the rows add up to the total, and what is kept agrees with all sums
+pub record Agrees (n : Numbers) (columns : RowColumns) (rows : List TallyRowModel) (files : Option (List FileLineModel)) (k : Kept) :
+    Type 0 where
+  pub rows_are : n.total ≡ sums_of_rows rows
+  pub kept : IsKept files columns rows n.total k
+  pub parts : n.total ≡ plus n.text n.binary
+  pub nul : k.columns.eol ≡ true → n.binary ≡ binary_sums k.rows.items
+
+-- the report of these numbers, rows, files and lists
+pub record IsFinished (n : Numbers) (k : Kept) (skipped : List SkippedLineModel) (faults : List FaultLineModel) (r : ReadReport) : Type 0
+  where
+    pub totals_are : r.report.totals ≡ n.total
+    pub text_is : r.text ≡ n.text
+    pub binary_is : r.binary ≡ n.binary
+    pub directories_are : r.report.directories ≡ n.directories
+    pub entries_are : r.report.entries ≡ unwrap_or n.entries 0
+    pub left_out : r.report.lists.left_out ≡ is_some n.entries
+    pub has_files : r.report.lists.files ≡ k.has_files
+    pub columns_are : r.columns ≡ k.columns
+    pub rows_are : r.report.rows ≡ k.rows
+    pub files_are : r.report.files ≡ k.files
+    pub skipped_are : IsPermutation skipped r.report.skipped.items
+    pub skipped_order : IsSortedByKey (λ (l : SkippedLineModel). l.path) bytes_cmp r.report.skipped.items
+    pub faults_are : IsPermutation faults r.report.faults.items
+    pub faults_order : IsSortedByKey (λ (f : FaultLineModel). f.path) bytes_cmp r.report.faults.items

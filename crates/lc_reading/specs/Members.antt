@@ -1,0 +1,63 @@
+-- The members of a JSON object by their names, and what they have.
+use Rattle.std.specs.Prelude.{◌≡◌, ◌⊎◌, ℕ, Bool, false, List, [], ◌∷◌, map, cond, decimal, Option, Some, None}
+use Rattle.std.specs.Str.{bytes_eq}
+use Rattle.std.specs.Borrow.{Bor}
+use Rattle.json.specs.Json.{Json, number, string, array, Members, no_members, member}
+use Rattle.json.specs.Value.{items_of, value_view}
+use Rattle.json.specs.declared.value.Value.{Value}
+use Rattle.lc_reading.specs.MemberNames.{member_name}
+use Rattle.lc_reading.specs.declared.member_name.MemberName.{MemberName}
+
+-- a name and its value
+abbrev pub Member : Type 0
+Member = List ℕ × Json
+
+abbrev pub members_with : List Member → Members
+members_with [] = no_members
+members_with (m ∷ ms) = member m.0 m.1 (members_with ms)
+
+-- the members that are lent
+abbrev pub members_of : {A : Type 0} → List (Bor (List ℕ) × Value A) → List Member
+members_of [] = []
+members_of (m ∷ ms) = (m.0.now, value_view m.1) ∷ members_of ms
+
+-- the values that are lent
+abbrev pub values_of : {A : Type 0} → List (Value A) → List Json
+values_of vs = map value_view vs
+
+-- the values of the members of this name, in order
+abbrev pub values_at : List ℕ → List Member → List Json
+values_at name [] = []
+values_at name (m ∷ ms) = cond (bytes_eq m.0 name) (m.1 ∷ values_at name ms) (values_at name ms)
+
+abbrev pub named : MemberName → List Member → List Json
+named name ms = values_at (member_name name) ms
+
+-- there is no member of this name
+abbrev pub Lacks : MemberName → List Member → Type 0
+Lacks name ms = named name ms ≡ []
+
+-- there is one member of this name, and this is its value
+abbrev pub Has : MemberName → List Member → Json → Type 0
+Has name ms j = named name ms ≡ j ∷ []
+
+-- its value is this number, in digits
+abbrev pub HasNumber : MemberName → List Member → ℕ → Type 0
+HasNumber name ms n = Has name ms (number (decimal n))
+
+-- its value is this text
+abbrev pub HasText : MemberName → List Member → List ℕ → Type 0
+HasText name ms s = Has name ms (string s)
+
+-- its value is these bytes, as a list of numbers
+abbrev pub HasList : MemberName → List Member → List ℕ → Type 0
+HasList name ms bytes = Has name ms (array (items_of (map (λ b. number (decimal b)) bytes)))
+
+-- these bytes are a text under the one name, or a list of numbers under the other
+abbrev pub HasBytes : MemberName → MemberName → List Member → List ℕ → Type 0
+HasBytes text list ms bytes = (HasText text ms bytes × Lacks list ms) ⊎ (Lacks text ms × HasList list ms bytes)
+
+-- whether a word is there, and is this one
+abbrev pub is_word : List ℕ → Option (List ℕ) → Bool
+is_word word None = false
+is_word word (Some own) = bytes_eq own word

@@ -1,0 +1,71 @@
+-- The members of a report.
+use Rattle.std.specs.Prelude.{◌≡◌, ◌≢◌, ◌++◌, ℕ, Bool, true, false, List, [], ◌∷◌, MatchOption, Option, option_map}
+use Rattle.json.specs.Json.{Json, object}
+use Rattle.json.specs.Token.{Token}
+use Rattle.json.specs.Tree.{json_tokens}
+use Rattle.lc_reading.specs.Lines.{IsFaultOf, IsFileOf, IsSkippedOf}
+use Rattle.lc_reading.specs.Lists.{IsListOf}
+use Rattle.lc_reading.specs.MemberNames.{member_name}
+use Rattle.lc_reading.specs.Members.{Member, Has, Lacks, members_of, members_with, named}
+use Rattle.lc_reading.specs.Rows.{IsRowOf}
+use Rattle.lc_reading.specs.declared.member_name.MemberName.{MemberName}
+use Rattle.lc_reading.specs.declared.member_name.MemberName.TheVariants as member
+use Rattle.lc_reading.specs.declared.object.Object.{Object}
+use Rattle.lc_reading.specs.declared.top_member.TopMember.{TopMember}
+use Rattle.lc_reading.specs.declared.top_member.TopMember.TheVariants as top
+
+-- the members of a report that are no lists
+abbrev pub is_value : MemberName → Bool
+is_value member.Others = true
+is_value member.Total = true
+is_value member.Text = true
+is_value member.Binary = true
+is_value member.Directories = true
+is_value member.Entries = true
+is_value _ = false
+
+-- which member of a report has a name
+abbrev pub IsTopMember : List ℕ → TopMember → Type 0
+IsTopMember k top.Rows = k ≡ member_name member.Rows
+IsTopMember k top.Files = k ≡ member_name member.Files
+IsTopMember k top.Left = k ≡ member_name member.Left
+IsTopMember k top.Faults = k ≡ member_name member.Faults
+IsTopMember k (top.Value n) = (is_value n ≡ true) × (k ≡ member_name n)
+IsTopMember k top.Other =
+    (k ≢ member_name member.Rows) × (k ≢ member_name member.Files) × (k ≢ member_name member.Left) × (k ≢ member_name member.Faults)
+    × ((n : MemberName) → is_value n ≡ true → k ≢ member_name n)
+
+-- the one member of this name is a list of these lines
+pub record HasLines {L : Type 0} (Says : List Member → L → Type 0) (name : MemberName) (ms : List Member) (lines : List L) : Type 0 where
+  pub value : Json
+  pub has : Has name ms value
+  pub list : IsListOf Says value lines
+
+-- there is such a member, or none
+abbrev pub MayHaveLines : {L : Type 0} → (List Member → L → Type 0) → MemberName → List Member → Option (List L) → Type 0
+MayHaveLines Says name ms lines = MatchOption lines (Lacks name ms) (HasLines Says name ms)
+
+-- members of a report, of which the lists were read line by line
+pub record IsObjectOf (ms : List Member) (o : Object) : Type 0 where
+  pub values : (n : MemberName) → is_value n ≡ true → named n (members_of o.values.items) ≡ named n ms
+  pub rows : MayHaveLines IsRowOf member.Rows ms (option_map (λ v. v.items) o.rows)
+  pub files : MayHaveLines IsFileOf member.Files ms (option_map (λ v. v.items) o.files)
+  pub skipped : MayHaveLines IsSkippedOf member.Left ms (option_map (λ v. v.items) o.skipped)
+  pub faults : MayHaveLines IsFaultOf member.Faults ms (option_map (λ v. v.items) o.faults)
+
+-- a member of this name was read from the tokens, and added
+pub record TakesMember (k : List ℕ) (old new : Object) (before after : List Token) : Type 0 where
+  pub value : Json
+  pub tokens_are : before ≡ json_tokens value ++ after
+  pub adds : (ms : List Member) → IsObjectOf ms old → IsObjectOf (ms ++ (k, value) ∷ []) new
+
+-- a value was passed over
+pub record IsPassed (before after : List Token) : Type 0 where
+  pub value : Json
+  pub tokens_are : before ≡ json_tokens value ++ after
+
+-- an object was read from the tokens
+pub record TakesObject (o : Object) (before after : List Token) : Type 0 where
+  pub members : List Member
+  pub tokens_are : before ≡ json_tokens (object (members_with members)) ++ after
+  pub is : IsObjectOf members o

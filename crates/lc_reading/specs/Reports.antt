@@ -1,0 +1,85 @@
+-- What a JSON object has to have so that it is a report, and which.
+use Rattle.std.specs.Prelude.{◌≡◌, ◌⊎◌, ℕ, true, if◌then◌else◌, List, [], ◌∷◌, map, ⊤, MatchOption}
+use Rattle.std.specs.Bool.{MatchBool}
+use Rattle.std.specs.List.Sorted.{IsPermutation, IsSortedByKey}
+use Rattle.lc_rows.specs.Classes.{binary_sums, is_binary}
+use Rattle.lc_tree.specs.ByteOrder.{bytes_cmp}
+use Rattle.lc_walk.specs.ReportTotals.{TotalsAddUp}
+use Rattle.lc_walk.specs.Sums.{plus, no_files}
+use Rattle.lc_walk.specs.TallyRows.{AddsUp, TallyRowModel, sums_of_rows}
+use Rattle.lc_walk.specs.declared.tally.sums.Sums.{Sums}
+use Rattle.lc_reading.specs.Lines.{IsFaultOf, IsFileOf, IsSkippedOf}
+use Rattle.lc_reading.specs.Members.{Member, HasNumber, Lacks}
+use Rattle.lc_reading.specs.Objects.{HasLines}
+use Rattle.lc_reading.specs.Rows.{HasSums, IsRowOf}
+use Rattle.lc_reading.specs.declared.member_name.MemberName.{MemberName}
+use Rattle.lc_reading.specs.declared.member_name.MemberName.TheVariants as member
+use Rattle.lc_reading.specs.declared.numbers_of.Numbers.{Numbers}
+use Rattle.lc_reading.specs.declared.read_report.ReadReport.{ReadReport}
+use Rattle.lc_reading.specs.declared.row_columns.RowColumns.{RowColumns}
+use Rattle.lc_reading.specs.declared.rows.ReadRow.{ReadRow}
+
+-- the sums of a row of binary files, and those over no files for others
+abbrev pub nul_part : TallyRowModel → Sums
+nul_part r = if is_binary r then r.sums else no_files
+
+-- the members of a report that are no lists
+pub record IsNumbersOf (ms : List Member) (n : Numbers) : Type 0 where
+  pub uncut : MatchBool n.is_cut (Unit {0}) (Lacks member.Others ms)
+  pub total : HasSums member.Total ms n.total
+  pub text : HasSums member.Text ms n.text
+  pub binary : HasSums member.Binary ms n.binary
+  pub directories : HasNumber member.Directories ms n.directories
+  pub entries : MatchOption n.entries (Lacks member.Entries ms) (HasNumber member.Entries ms)
+
+-- these lines are those of the member's list, in order of their paths
+pub record HasOrdered {L : Type 0} (Says : List Member → L → Type 0) (path : L
+    → List ℕ) (name : MemberName) (ms : List Member) (lines : List L) : Type 0 where
+  pub listed : List L
+  pub has : HasLines Says name ms listed
+  pub same : IsPermutation listed lines
+  pub order : IsSortedByKey path bytes_cmp lines
+
+abbrev pub row_in : ReadRow → TallyRowModel
+row_in r = r.row
+
+-- all rows have these columns
+abbrev pub HaveColumns : RowColumns → List ReadRow → Type 0
+HaveColumns columns [] = ⊤
+HaveColumns columns (r ∷ rs) = (r.columns ≡ columns) × HaveColumns columns rs
+
+-- all rows have these columns, and add up to the total
+pub record AreRowsOf (columns : RowColumns) (ms : List Member) (total : Sums) (rows : List ReadRow) : Type 0 where
+  pub has : HasLines IsRowOf member.Rows ms rows
+  pub columns_are : HaveColumns columns rows
+  pub total_is : total ≡ sums_of_rows (map row_in rows)
+
+-- the rows that are listed: where files are listed too, all columns are those of the files
+pub record HasRows (ms : List Member) (r : ReadReport) : Type 0 where
+  pub columns : RowColumns
+  pub rows : List ReadRow
+  pub are : AreRowsOf columns ms r.report.totals rows
+  pub kept : MatchBool r.report.lists.files (r.columns ≡ record { ext = true; text = true; eol = true })
+      ((r.columns ≡ columns) × AddsUp (map row_in rows) r.report.rows.items)
+
+-- an object with these members is a report
+pub record IsReportOf (ms : List Member) (r : ReadReport) : Type 0 where
+  pub uncut : Lacks member.Others ms
+  pub total : HasSums member.Total ms r.report.totals
+  pub text : HasSums member.Text ms r.text
+  pub binary : HasSums member.Binary ms r.binary
+  pub directories : HasNumber member.Directories ms r.report.directories
+  pub entries : MatchBool r.report.lists.left_out (HasNumber member.Entries ms r.report.entries)
+      (Lacks member.Entries ms × (r.report.entries ≡ 0))
+  pub rows : HasRows ms r
+  -- a report of no files has an empty list of them
+  pub files : MatchBool r.report.lists.files
+      (HasOrdered IsFileOf (λ f. f.path) member.Files ms r.report.files.items
+      ⊎ (Lacks member.Files ms × (r.report.files.items ≡ []) × (r.report.totals.files ≡ 0)))
+      (Lacks member.Files ms × (r.report.files.items ≡ []))
+  pub skipped : MatchBool r.report.lists.left_out (HasOrdered IsSkippedOf (λ l. l.path) member.Left ms r.report.skipped.items)
+      (Lacks member.Left ms × (r.report.skipped.items ≡ []))
+  pub faults : HasOrdered IsFaultOf (λ f. f.path) member.Faults ms r.report.faults.items
+  pub adds_up : TotalsAddUp r.report
+  pub parts : r.report.totals ≡ plus r.text r.binary
+  pub nul : r.columns.eol ≡ true → r.binary ≡ binary_sums r.report.rows.items

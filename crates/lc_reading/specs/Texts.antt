@@ -1,0 +1,35 @@
+-- The text of reports.
+use Rattle.std.specs.Prelude.{◌≡◌, ◌<◌, ℕ, true, List, [], ◌∷◌, ◌++◌, length, ⊤, Some}
+use Rattle.std.specs.List.{flat_map, list_all}
+use Rattle.json.specs.Json.{Json, document, object}
+use Rattle.json.specs.Word.{is_space}
+use Rattle.lc_reading.specs.Members.{Member, members_with}
+use Rattle.lc_reading.specs.Reports.{IsReportOf}
+use Rattle.lc_reading.specs.declared.read_report.ReadReport.{ReadReport}
+
+-- a text is one JSON value (RFC 8259), with white space
+pub record IsJson (text : List ℕ) : Type 0 where
+  pub value : Json
+  pub is : document text ≡ Some value
+
+-- a text is one JSON object, which is a report
+pub record IsReportText (text : List ℕ) (r : ReadReport) : Type 0 where
+  pub members : List Member
+  pub value_is : document text ≡ Some (object (members_with members))
+  pub is : IsReportOf members r
+
+-- each text is that of a report, in order
+abbrev pub AreReportTexts : List (List ℕ) → List ReadReport → Type 0
+AreReportTexts [] [] = ⊤
+AreReportTexts [] (r ∷ rs) = ⊥
+AreReportTexts (t ∷ ts) [] = ⊥
+AreReportTexts (t ∷ ts) (r ∷ rs) = IsReportText t r × AreReportTexts ts rs
+
+-- a text is those of these reports, one after another, of which there is one, and white space
+pub record AreReportsOf (text : List ℕ) (reports : List ReadReport) : Type 0 where
+  pub texts : List (List ℕ)
+  pub blank : List ℕ
+  pub whole : text ≡ flat_map (λ t. t) texts ++ blank
+  pub is_blank : list_all is_space blank ≡ true
+  pub each : AreReportTexts texts reports
+  pub some : 0 < length reports

@@ -1,0 +1,111 @@
+//! Sums that are compared with their total.
+
+ghost use Rattle.std.specs.Prelude.{◌≡◌, IfOk, IfSome, IsTrue, map};
+ghost use Rattle.lc_reading.specs.Reports.{nul_part};
+ghost use Rattle.lc_rows.specs.Classes.{binary_sums};
+ghost use Rattle.lc_walk.specs.ReportTotals.{counted_line};
+ghost use Rattle.lc_walk.specs.Sums.{plus};
+ghost use Rattle.lc_walk.specs.Tally.{IsTally, StandsFor, sums_of_files};
+ghost use Rattle.lc_walk.specs.TallyRows.{sums_of_rows};
+
+use crate::read_fault::ReadFault;
+use lc_census::Eol;
+use lc_rows::name_of;
+use lc_walk::{FileLine, Sums, Tally, TallyRow, extension};
+use std::alloc::{AllocError, Global};
+
+/// The sums over all rows, if they fit their types.
+fn sums_over(rows: &[TallyRow]) -> Option<Sums>
+    ensures { IfSome result (λ sums. sums ≡ sums_of_rows rows.now) }
+{
+    let mut sums = Sums::none();
+    let mut rest = rows;
+    'rows: while let Some((row, others)) = rest.split_first() {
+        sums = sums.checked_add(row.sums())?;
+        rest = others;
+    }
+    Some(sums)
+}
+
+/// Returns whether the rows add up to a total.
+pub(crate) fn rows_add_up(rows: &[TallyRow], total: Sums) -> bool
+    ensures { IsTrue result → total ≡ sums_of_rows rows.now }
+{
+    match sums_over(rows) {
+        Some(sums) => total == sums,
+        None => false,
+    }
+}
+
+/// Returns whether both add up to a total.
+pub(crate) fn parts_add_up(text: Sums, binary: Sums, total: Sums) -> bool
+    ensures { IsTrue result → total ≡ plus text binary }
+{
+    match text.checked_add(binary) {
+        Some(sums) => total == sums,
+        None => false,
+    }
+}
+
+/// Counts files.
+fn tally_of(alloc: Global, files: &[FileLine]) -> Result<Tally, AllocError>
+    ensures { IfOk result (λ tally. StandsFor tally (map counted_line files.now)) }
+{
+    let mut tally = Tally::new(alloc);
+    let mut rest = files;
+    'files: while let Some((file, others)) = rest.split_first() {
+        // a text has fewer lines
+        if tally.totals().files >= 1 << 62 {
+            return Err(AllocError);
+        }
+        tally.add(extension(name_of(&file.path)), file.text, file.count)?;
+        rest = others;
+    }
+    Ok(tally)
+}
+
+/// The sums of a row whose files hold a NUL byte, or those over no files.
+fn nul_part(row: &TallyRow) -> Sums
+    ensures { result ≡ nul_part row.now }
+{
+    match row.eol {
+        Eol::Nul => row.sums(),
+        _ => Sums::none(),
+    }
+}
+
+/// The sums over the rows whose files hold a NUL byte, if they fit their types.
+fn nul_sums(rows: &[TallyRow]) -> Option<Sums>
+    ensures { IfSome result (λ sums. sums ≡ binary_sums rows.now) }
+{
+    let mut sums = Sums::none();
+    let mut rest = rows;
+    'rows: while let Some((row, others)) = rest.split_first() {
+        sums = sums.checked_add(nul_part(row))?;
+        rest = others;
+    }
+    Some(sums)
+}
+
+/// Returns whether the rows whose files hold a NUL byte add up to the sums over binary files.
+pub(crate) fn binary_adds_up(rows: &[TallyRow], binary: Sums) -> bool
+    ensures { IsTrue result → binary ≡ binary_sums rows.now }
+{
+    match nul_sums(rows) {
+        Some(sums) => binary == sums,
+        None => false,
+    }
+}
+
+/// Makes the rows of files, and the sums over them.
+pub(crate) fn rows_of_files(
+    alloc: Global,
+    files: &[FileLine],
+) -> Result<(Vec<TallyRow>, Sums), ReadFault>
+    ensures rows { IfOk result (λ made. IsTally (map counted_line files.now) made.0.items) }
+    ensures sums { IfOk result (λ made. made.1 ≡ sums_of_files (map counted_line files.now)) }
+{
+    let tally = tally_of(alloc, files)?;
+    let sums = tally.totals();
+    Ok((tally.into_rows(), sums))
+}

@@ -1,0 +1,132 @@
+//! The report of an object that was read.
+
+ghost use Rattle.std.specs.Prelude.{◌≡◌, [], false, IfOk, List, MatchOption, None, Some, option_map};
+ghost use Rattle.lc_reading.specs.Members.{Member};
+ghost use Rattle.lc_reading.specs.Objects.{IsObjectOf};
+ghost use Rattle.lc_reading.specs.Reports.{IsReportOf};
+ghost use Rattle.lc_reading.specs.Kept.{Agrees, IsFinished};
+
+use crate::adding::{binary_adds_up, parts_add_up, rows_add_up};
+use crate::kept_files::{Kept, columns_of_rows, in_order, kept_of, tally_rows};
+use crate::member_name::MemberName;
+use crate::numbers_of::{Numbers, numbers_of};
+use crate::object::Object;
+use crate::read_fault::{NoReport, Part, ReadFault};
+use crate::read_report::ReadReport;
+use crate::row_columns::RowColumns;
+use lc_walk::{FaultLine, FileLine, Report, ReportLists, SkippedLine, TallyRow};
+use std::alloc::{AllocError, Global};
+
+fn lines_of<T: Drop>(lines: Option<Vec<T>>, name: MemberName) -> Result<Vec<T>, NoReport>
+    ensures { IfOk result (λ found. lines ≡ Some found) }
+{
+    match lines {
+        Some(found) => Ok(found),
+        None => Err(NoReport::Missing(name)),
+    }
+}
+
+/// Returns the skipped entries, which are listed if the entries are counted.
+fn skipped_with(
+    alloc: Global,
+    entries: Option<u64>,
+    skipped: Option<Vec<SkippedLine>>,
+) -> Result<Vec<SkippedLine>, NoReport>
+    ensures { IfOk result (λ found. MatchOption entries ((skipped ≡ None) × (found.items ≡ [])) (λ _. skipped ≡ Some found)) }
+{
+    match (entries, skipped) {
+        (Some(_), Some(found)) => Ok(found),
+        (None, None) => Ok(Vec::new(alloc)),
+        (Some(_), None) => Err(NoReport::Missing(MemberName::Left)),
+        (None, Some(_)) => Err(NoReport::Missing(MemberName::Entries)),
+    }
+}
+
+/// Returns whether rows or files were cut off.
+fn is_cut(numbers: &Numbers, files: &Option<Vec<FileLine>>) -> bool
+    ensures { result ≡ false → numbers.now.is_cut ≡ false }
+{
+    match files {
+        Some(files) => numbers.is_cut || u128::from(numbers.total.files) > files.len() as u128,
+        None => numbers.is_cut,
+    }
+}
+
+/// Keeps the rows and files whose sums agree.
+fn agreeing(
+    alloc: Global,
+    numbers: &Numbers,
+    columns: RowColumns,
+    rows: Vec<TallyRow>,
+    files: Option<Vec<FileLine>>,
+) -> Result<Kept, ReadFault>
+    ensures { IfOk result (Agrees numbers.now columns rows.items (option_map (λ v. v.items) files)) }
+{
+    if !rows_add_up(&rows, numbers.total) {
+        return Err(ReadFault::DoNotAddUp(Part::Rows));
+    }
+    let binary_listed = !columns.eol || binary_adds_up(&rows, numbers.binary);
+    let kept = kept_of(alloc, files, columns, rows, numbers.total)?;
+    if !binary_listed
+        || !parts_add_up(numbers.text, numbers.binary, numbers.total)
+        || (kept.columns.eol && !binary_adds_up(&kept.rows, numbers.binary))
+    {
+        return Err(ReadFault::DoNotAddUp(Part::TextAndBinary));
+    }
+    Ok(kept)
+}
+
+fn finished(
+    numbers: &Numbers,
+    kept: Kept,
+    skipped: Vec<SkippedLine>,
+    faults: Vec<FaultLine>,
+) -> Result<ReadReport, AllocError>
+    ensures { IfOk result (IsFinished numbers.now kept skipped.items faults.items) }
+{
+    let lists = ReportLists {
+        files: kept.has_files,
+        left_out: numbers.entries.is_some(),
+    };
+    let report = Report {
+        rows: kept.rows,
+        totals: numbers.total,
+        directories: numbers.directories,
+        entries: numbers.entries.unwrap_or(0),
+        lists,
+        files: kept.files,
+        faults: in_order(faults)?,
+        skipped: in_order(skipped)?,
+    };
+    Ok(ReadReport {
+        report,
+        columns: kept.columns,
+        text: numbers.text,
+        binary: numbers.binary,
+    })
+}
+
+/// Makes the report of an object.
+pub(crate) fn report_of(alloc: Global, object: Object<'_>) -> Result<ReadReport, ReadFault>
+    ensures { IfOk result (λ report. (ms : List Member) → IsObjectOf ms object.entry → IsReportOf ms report) }
+{
+    let Object {
+        values,
+        rows,
+        files,
+        skipped,
+        faults,
+    } = object;
+    let numbers = numbers_of(&values)?;
+    let rows = lines_of(rows, MemberName::Rows)?;
+    let faults = lines_of(faults, MemberName::Faults)?;
+    let skipped = skipped_with(alloc, numbers.entries, skipped)?;
+    let columns = columns_of_rows(&rows)?;
+    let rows = tally_rows(alloc, rows)?;
+    if is_cut(&numbers, &files) {
+        return Err(ReadFault::CutByTop);
+    }
+    let kept = agreeing(alloc, &numbers, columns, rows, files)?;
+    let report = finished(&numbers, kept, skipped, faults)?;
+    Ok(report)
+}

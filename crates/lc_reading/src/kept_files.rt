@@ -1,0 +1,132 @@
+//! The rows and the files that a report keeps.
+
+ghost use Rattle.std.specs.Prelude.{◌≡◌, IfOk, map, option_map};
+ghost use Rattle.std.specs.List.Sorted.{IsPermutation, IsSortedByKey};
+ghost use Rattle.lc_tree.specs.ByteOrder.{bytes_cmp};
+ghost use Rattle.lc_reading.specs.Kept.{IsKept, IsKeptOf, IsKeptRows};
+ghost use Rattle.lc_reading.specs.Reports.{HaveColumns, row_in};
+
+use crate::adding::{rows_add_up, rows_of_files};
+use crate::member_name::MemberName;
+use crate::read_fault::{NoReport, Part, ReadFault};
+use crate::row_columns::RowColumns;
+use crate::rows::ReadRow;
+use lc_level::Line;
+use lc_walk::{FileLine, Sums, TallyRow, added_up, sort_lines};
+use std::alloc::{AllocError, Global};
+
+/// The rows and the files that a report keeps.
+#[derive(Debug, Drop)]
+pub(crate) struct Kept {
+    pub(crate) columns: RowColumns,
+    pub(crate) rows: Vec<TallyRow>,
+    pub(crate) has_files: bool,
+    pub(crate) files: Vec<FileLine>,
+}
+
+/// Sorts lines by their paths.
+fn ordered<L: Line>(mut lines: Vec<L>) -> Vec<L>
+    ensures same { IsPermutation lines.items result.items }
+    ensures order { IsSortedByKey L.path_of bytes_cmp result.items }
+{
+    sort_lines(&mut lines);
+    lines
+}
+
+/// Sorts lines by their paths; those of one path keep their order.
+pub(crate) fn in_order<L: Line + Drop>(mut lines: Vec<L>) -> Result<Vec<L>, AllocError>
+    ensures same { IfOk result (λ sorted. IsPermutation lines.items sorted.items) }
+    ensures order { IfOk result (λ sorted. IsSortedByKey L.path_of bytes_cmp sorted.items) }
+{
+    lines.sort_by(|a, b| a.path().cmp(b.path()))?;
+    Ok(lines)
+}
+
+/// Finds the columns that all rows have. No rows have every column.
+pub(crate) fn columns_of_rows(rows: &[ReadRow]) -> Result<RowColumns, NoReport>
+    ensures { IfOk result (λ columns. HaveColumns columns rows.now) }
+{
+    let Some((first, others)) = rows.split_first() else {
+        return Ok(RowColumns::all());
+    };
+    let columns = first.columns;
+    let mut rest = others;
+    'rows: while let Some((row, more)) = rest.split_first() {
+        if row.columns != columns {
+            return Err(NoReport::Bad(MemberName::Rows));
+        }
+        rest = more;
+    }
+    Ok(columns)
+}
+
+/// Returns the rows without their columns.
+pub(crate) fn tally_rows(alloc: Global, rows: Vec<ReadRow>) -> Result<Vec<TallyRow>, AllocError>
+    ensures { IfOk result (λ tally. tally.items ≡ map row_in rows.items) }
+{
+    let mut tally = Vec::with_capacity(alloc, rows.len())?;
+    for row in rows {
+        tally.push(row.row)?;
+    }
+    Ok(tally)
+}
+
+/// Keeps files, and makes rows of them.
+fn with_files(alloc: Global, files: Vec<FileLine>, total: Sums) -> Result<Kept, ReadFault>
+    ensures { IfOk result (IsKeptOf total files.items) }
+{
+    let files = ordered(files);
+    let (rows, sums) = rows_of_files(alloc, &files)?;
+    if sums != total || !rows_add_up(&rows, total) {
+        return Err(ReadFault::DoNotAddUp(Part::Files));
+    }
+    Ok(Kept {
+        columns: RowColumns::all(),
+        rows,
+        has_files: true,
+        files,
+    })
+}
+
+/// Keeps rows where no files are listed.
+fn without_files(
+    alloc: Global,
+    columns: RowColumns,
+    rows: Vec<TallyRow>,
+    total: Sums,
+) -> Result<Kept, ReadFault>
+    ensures { IfOk result (IsKeptRows total columns rows.items) }
+{
+    let Some(rows) = added_up(rows) else {
+        return Err(ReadFault::DoNotAddUp(Part::Rows));
+    };
+    if !rows_add_up(&rows, total) {
+        return Err(ReadFault::DoNotAddUp(Part::Rows));
+    }
+    Ok(Kept {
+        columns,
+        rows,
+        has_files: false,
+        files: Vec::new(alloc),
+    })
+}
+
+/// Keeps the files, if they are listed or there are none, and rows otherwise.
+pub(crate) fn kept_of(
+    alloc: Global,
+    files: Option<Vec<FileLine>>,
+    columns: RowColumns,
+    rows: Vec<TallyRow>,
+    total: Sums,
+) -> Result<Kept, ReadFault>
+    ensures { IfOk result (IsKept (option_map (λ v. v.items) files) columns rows.items total) }
+{
+    match files {
+        Some(files) => with_files(alloc, files, total),
+        None => if total.files == 0 {
+            with_files(alloc, Vec::new(alloc), total)
+        } else {
+            without_files(alloc, columns, rows, total)
+        },
+    }
+}

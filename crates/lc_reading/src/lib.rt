@@ -1,0 +1,41 @@
+//! Reading reports: what `lc count --format json` printed is read again.
+//!
+//! - `reading`: the reports of a text, which `cutter` cuts after each JSON object
+//! - `object`, `top_member`: the members of a report; `lists`: its lists, which are read line by line
+//! - `rows`, `file_lines`, `skipped_lines`, `fault_lines`, with `lines`: a line of each list; `rule_places`: the file of a rule
+//! - `sums`, `numbers_of`: the sums and numbers of a report
+//! - `building`: the report of what was read; `kept_files`: its rows and files; `adding`: whether sums agree
+//! - `members`, `member_name`, `values`, `numbers`, `words`: the members of an object, and what they have
+//! - `read_report`, `row_columns`: what is read; `read_fault`: why nothing is
+#![tactic(auto)]
+
+mod adding;
+mod building;
+mod cutter;
+mod fault_lines;
+mod file_lines;
+mod kept_files;
+mod lines;
+mod lists;
+mod member_name;
+mod members;
+mod numbers;
+mod numbers_of;
+mod object;
+mod read_fault;
+mod read_report;
+mod reading;
+mod row_columns;
+mod rows;
+mod rule_places;
+mod skipped_lines;
+mod sums;
+mod top_member;
+mod values;
+mod words;
+
+pub use member_name::MemberName;
+pub use read_fault::{NoReport, Part, ReadFault};
+pub use read_report::ReadReport;
+pub use reading::read_reports;
+pub use row_columns::RowColumns;

@@ -1,0 +1,150 @@
+//! Lists of a report, which are read line by line.
+
+ghost use Rattle.std.specs.Prelude.{◌≡◌, ◌<◌, ◌∷◌, ◌++◌, length, IfOk, OnOk};
+ghost use Rattle.json.specs.Token.{begin_array};
+ghost use Rattle.json.specs.Tree.{json_tokens};
+ghost use Rattle.json.specs.Value.{value_view};
+ghost use Rattle.lc_reading.specs.Lists.{BeginsWith, IsLineOf, IsListOf};
+ghost use Rattle.lc_reading.specs.Members.{members_of};
+
+use crate::fault_lines::fault_line_of;
+use crate::file_lines::file_of;
+use crate::lines::members_in;
+use crate::member_name::MemberName;
+use crate::read_fault::{NoReport, ReadFault};
+use crate::rows::{ReadRow, row_of};
+use crate::skipped_lines::skipped_of;
+use json::{Error, Reader, Token, Value};
+use lc_level::{FaultLine, FileLine, SkippedLine};
+use std::alloc::Global;
+
+/// A line of a list.
+pub(crate) trait ListLine: Sized + Drop {
+    ghost use Rattle.std.specs.Prelude.{List};
+    ghost use Rattle.lc_reading.specs.Members.{Member};
+
+    ghost is_of: { List Member → Self → Type 0 };
+
+    /// Reads the line of an object's members.
+    fn of<'a>(alloc: Global, members: &[(&'a str, Value<'a>)]) -> Result<Self, ReadFault>
+        ensures { IfOk result (λ line. is_of (members_of members.now) line) };
+}
+
+impl ListLine for FileLine {
+    ghost use Rattle.lc_reading.specs.Lines.{IsFileOf};
+
+    ghost is_of = { IsFileOf };
+
+    fn of<'a>(alloc: Global, members: &[(&'a str, Value<'a>)]) -> Result<FileLine, ReadFault> {
+        file_of(alloc, members)
+    }
+}
+
+impl ListLine for FaultLine {
+    ghost use Rattle.lc_reading.specs.Lines.{IsFaultOf};
+
+    ghost is_of = { IsFaultOf };
+
+    fn of<'a>(alloc: Global, members: &[(&'a str, Value<'a>)]) -> Result<FaultLine, ReadFault> {
+        fault_line_of(alloc, members)
+    }
+}
+
+impl ListLine for SkippedLine {
+    ghost use Rattle.lc_reading.specs.Lines.{IsSkippedOf};
+
+    ghost is_of = { IsSkippedOf };
+
+    fn of<'a>(alloc: Global, members: &[(&'a str, Value<'a>)]) -> Result<SkippedLine, ReadFault> {
+        skipped_of(alloc, members)
+    }
+}
+
+impl ListLine for ReadRow {
+    ghost use Rattle.lc_reading.specs.Rows.{IsRowOf};
+
+    ghost is_of = { IsRowOf };
+
+    fn of<'a>(alloc: Global, members: &[(&'a str, Value<'a>)]) -> Result<ReadRow, ReadFault> {
+        row_of(alloc, members)
+    }
+}
+
+/// Returns the fault of a value that is no JSON, or for which there is no memory.
+pub(crate) fn value_fault(error: Error, name: MemberName) -> ReadFault {
+    match error {
+        Error::OutOfMemory => ReadFault::Memory,
+        Error::Invalid | Error::TooLong | Error::DuplicateKey => {
+            ReadFault::NoReport(NoReport::Bad(name))
+        }
+    }
+}
+
+/// Reads a value whole.
+#[tactic(auto, using(crate::proofs::ListsRead::value_taken))]
+pub(crate) fn read_value<'a>(
+    alloc: Global,
+    reader: &mut Reader<'a>,
+    name: MemberName,
+) -> Result<Value<'a>, ReadFault>
+    ensures tokens { IfOk result (λ value. reader.old ≡ json_tokens (value_view value) ++ reader.new) }
+    ensures shorter { OnOk result (length reader.new < length reader.old) }
+{
+    match Value::read(alloc, reader, 126) {
+        Ok(value) => Ok(value),
+        Err(error) => Err(value_fault(error, name)),
+    }
+}
+
+fn line_of<'a, L: ListLine>(
+    alloc: Global,
+    value: &Value<'a>,
+    name: MemberName,
+) -> Result<L, ReadFault>
+    ensures { IfOk result (λ line. IsLineOf L.is_of (value_view value.now) line) }
+{
+    let members = members_in(value, name)?;
+    L::of(alloc, members)
+}
+
+fn read_line<'a, L: ListLine>(
+    alloc: Global,
+    reader: &mut Reader<'a>,
+    name: MemberName,
+) -> Result<L, ReadFault>
+    ensures line { IfOk result (λ line. BeginsWith (IsLineOf L.is_of) reader.old reader.new line) }
+    ensures shorter { OnOk result (length reader.new < length reader.old) }
+{
+    let value = read_value(alloc, reader, name)?;
+    line_of(alloc, &value, name)
+}
+
+/// Reads the lines of a list whose bracket was read.
+fn read_lines<'a, L: ListLine>(
+    alloc: Global,
+    reader: &mut Reader<'a>,
+    name: MemberName,
+) -> Result<Vec<L>, ReadFault>
+    ensures { IfOk result (λ lines. BeginsWith (IsListOf L.is_of) (begin_array ∷ reader.old) reader.new lines.items) }
+{
+    let mut lines = Vec::new(alloc);
+    'lines: while !reader.take_end_array() {
+        let line = read_line(alloc, reader, name)?;
+        lines.push(line)?;
+    }
+    Ok(lines)
+}
+
+/// Reads a list.
+pub(crate) fn read_list<'a, L: ListLine>(
+    alloc: Global,
+    reader: &mut Reader<'a>,
+    name: MemberName,
+) -> Result<Vec<L>, ReadFault>
+    ensures { IfOk result (λ lines. BeginsWith (IsListOf L.is_of) reader.old reader.new lines.items) }
+{
+    match reader.next() {
+        Some(Token::BeginArray) => read_lines(alloc, reader, name),
+        _ => Err(ReadFault::NoReport(NoReport::Bad(name))),
+    }
+}

@@ -1,0 +1,115 @@
+//! Reading the reports of a text.
+
+ghost use Rattle.std.specs.Prelude.{◌≡◌, ◌++◌, ◌<◌, true, length, Err, IfOk, OnOk};
+ghost use Rattle.std.specs.List.{list_all};
+ghost use Rattle.json.specs.Word.{is_space};
+ghost use Rattle.lc_reading.specs.Texts.{AreReportsOf, IsJson, IsReportText};
+ghost use Rattle.lc_reading.specs.declared.read_fault.NoReport.TheVariants as why;
+ghost use Rattle.lc_reading.specs.declared.read_fault.ReadFault.TheVariants as fault;
+
+use crate::building::report_of;
+use crate::cutter::object_length;
+use crate::object::read_object;
+use crate::read_fault::{NoReport, ReadFault};
+use crate::read_report::ReadReport;
+use json::{MAX_DEPTH, Reader, Scratch};
+use std::alloc::Global;
+use std::str::from_utf8;
+
+fn is_space(byte: u8) -> bool
+    ensures { result ≡ is_space byte }
+{
+    byte == b' ' || byte == b'\t' || byte == b'\n' || byte == b'\r'
+}
+
+fn is_blank(text: &[u8]) -> bool
+    ensures { result ≡ list_all is_space text.now }
+{
+    text.iter().all(|byte| is_space(*byte))
+}
+
+/// Returns the fault of a text that has no JSON object at a byte.
+fn no_object(at: usize) -> ReadFault {
+    ReadFault::NoReport(NoReport::NoObject(at))
+}
+
+/// Checks that a text is one JSON value.
+#[tactic(auto, using(crate::proofs::TextsRead::json_is))]
+fn check_json(text: &str, start: usize, scratch: &mut Scratch<Global>) -> Result<(), ReadFault>
+    ensures { OnOk result (IsJson text.now) }
+{
+    let mut reader = Reader::new(text, scratch)?;
+    if reader.skip_value(MAX_DEPTH).is_err() {
+        return Err(no_object(start.saturating_add(reader.offset())));
+    }
+    match reader.next() {
+        None => Ok(()),
+        Some(_) => Err(no_object(start.saturating_add(reader.offset()))),
+    }
+}
+
+/// Reads the report that a JSON text is.
+fn report_in(
+    alloc: Global,
+    text: &str,
+    start: usize,
+    scratch: &mut Scratch<Global>,
+) -> Result<ReadReport, ReadFault>
+    ensures { IfOk result (IsReportText text.now) }
+{
+    check_json(text, start, scratch)?;
+    let mut reader = Reader::new(text, scratch)?;
+    let object = read_object(alloc, &mut reader)?;
+    if reader.next().is_some() {
+        return Err(no_object(start));
+    }
+    report_of(alloc, object)
+}
+
+/// Cuts a text after the object at its front.
+fn cut(text: &[u8], start: usize) -> Result<(&str, &[u8]), ReadFault>
+    ensures parts { IfOk result (λ parts. text.now ≡ parts.0.now ++ parts.1.now) }
+    ensures shorter { IfOk result (λ parts. length parts.1.now < length text.now) }
+{
+    let begin = text.iter().position(|byte| !is_space(*byte)).unwrap_or(0);
+    if text.get(begin) != Some(&b'{') {
+        return Err(no_object(start.saturating_add(begin)));
+    }
+    let Some(length) = object_length(text) else {
+        return Err(no_object(start.saturating_add(text.len())));
+    };
+    let (object, rest) = text.split_at(length);
+    match from_utf8(object) {
+        Ok(object) => Ok((object, rest)),
+        Err(error) => Err(no_object(start.saturating_add(error.valid_up_to()))),
+    }
+}
+
+/// Reads the reports of a text, which are JSON objects with white space between them, or nothing.
+///
+/// Each object is read before the next one, so the fault is that of the first object that is refused. An object that is no report is
+/// refused as such before its rows and files are counted ([`ReadFault::CutByTop`]) and its sums compared.
+///
+/// It takes memory for the reports, for as many bytes as the longest object has, and for one line of a list at a time.
+///
+/// ```
+/// let reports = read_reports(alloc, &text)?;
+/// ```
+pub fn read_reports(alloc: Global, text: &[u8]) -> Result<Vec<ReadReport>, ReadFault>
+    ensures reports { IfOk result (λ reports. AreReportsOf text.now reports.items) }
+    ensures empty { list_all is_space text.now ≡ true → result ≡ Err (fault.NoReport why.Empty) }
+{
+    if is_blank(text) {
+        return Err(ReadFault::NoReport(NoReport::Empty));
+    }
+    let mut scratch = Scratch::new(alloc);
+    let mut reports = Vec::new(alloc);
+    let mut rest = text;
+    'texts: while !is_blank(rest) {
+        let start = text.len().saturating_sub(rest.len());
+        let (object, more) = cut(rest, start)?;
+        reports.push(report_in(alloc, object, start, &mut scratch)?)?;
+        rest = more;
+    }
+    Ok(reports)
+}

@@ -1,0 +1,49 @@
+//! The file that a rule was read from, by its path.
+
+ghost use Rattle.std.specs.Prelude.{◌≡◌, ◌++◌, codes, IfSome, IsTrue};
+ghost use Rattle.lc_text.specs.RulePlaces.{source_directory, source_name};
+
+use lc_rules::RuleSource;
+use lc_text::{source_directory, source_name};
+
+/// Returns whether the file of a source, whose rule decides a path, is shown so.
+fn is_shown(path: &[u8], file: &[u8], source: RuleSource) -> bool
+    ensures { IsTrue result → file.now ≡ source_directory path.now source ++ source_name source }
+{
+    let front = source_directory(path, source);
+    match file.strip_prefix(front) {
+        Some(rest) => rest == source_name(source).as_bytes(),
+        None => false,
+    }
+}
+
+/// Counts the slashes, as many as a path has.
+fn slashes(file: &[u8]) -> u32 {
+    let mut count: u32 = 0;
+    for byte in file {
+        if *byte == b'/' {
+            count = count.saturating_add(1);
+        }
+    }
+    count
+}
+
+/// Finds the source of a rule that decides a path, by the file that is shown for it.
+pub(crate) fn source_of(path: &[u8], file: &[u8]) -> Option<RuleSource>
+    ensures { IfSome result (λ source. file.now ≡ source_directory path.now source ++ source_name source) }
+{
+    let depth = slashes(file);
+    let sources = [
+        RuleSource::CommandLine,
+        RuleSource::ExcludeFrom,
+        RuleSource::Gitignore(depth),
+        // its name has two slashes
+        RuleSource::InfoExclude(depth.saturating_sub(2)),
+    ];
+    for source in &sources {
+        if is_shown(path, file, *source) {
+            return Some(*source);
+        }
+    }
+    None
+}

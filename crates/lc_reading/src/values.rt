@@ -1,0 +1,157 @@
+//! Numbers, texts and bytes that members have.
+
+ghost use Rattle.std.specs.Prelude.{ℕ, List, OnErr, ◌≡◌, ◌<◌, ◌^◌, map, decimal, IfOk, IfSome, MatchOption};
+ghost use Rattle.json.specs.Json.{number as json_number};
+ghost use Rattle.json.specs.Value.{value_view};
+ghost use Rattle.lc_reading.specs.Members.{HasBytes, HasList, HasNumber, HasText, Lacks, members_of, values_of};
+
+use crate::member_name::MemberName;
+use crate::members::{needed, optional};
+use crate::numbers::number;
+use crate::read_fault::{NoReport, ReadFault};
+use json::Value;
+use std::alloc::{AllocError, Global};
+
+/// Reads the number that a member has.
+#[tactic(auto, using(crate::proofs::JsonKinds::number_if))]
+pub(crate) fn sum_in<'a>(
+    members: &[(&'a str, Value<'a>)],
+    name: MemberName,
+) -> Result<u128, NoReport>
+    ensures number { IfOk result (HasNumber name (members_of members.now)) }
+    ensures fits { IfOk result (λ n. n < 2 ^ 128) }
+    ensures refused { OnErr result ((n : ℕ) → n < 2 ^ 128 → HasNumber name (members_of members.now) n → ⊥) }
+{
+    let value = needed(members, name)?;
+    let Some(text) = value.as_number() else {
+        return Err(NoReport::Bad(name));
+    };
+    match number(text) {
+        Some(number) => Ok(number),
+        None => Err(NoReport::Bad(name)),
+    }
+}
+
+/// Reads the number below 2^64 that a member has.
+pub(crate) fn count_in<'a>(
+    members: &[(&'a str, Value<'a>)],
+    name: MemberName,
+) -> Result<u64, NoReport>
+    ensures number { IfOk result (HasNumber name (members_of members.now)) }
+    ensures refused { OnErr result ((n : ℕ) → n < 2 ^ 64 → HasNumber name (members_of members.now) n → ⊥) }
+{
+    let number = sum_in(members, name)?;
+    match u64::try_from(number) {
+        Ok(number) => Ok(number),
+        Err(_) => Err(NoReport::Bad(name)),
+    }
+}
+
+/// Lends the text that a member has.
+#[tactic(auto, using(crate::proofs::JsonKinds::text_if))]
+pub(crate) fn text_in<'a>(
+    members: &[(&'a str, Value<'a>)],
+    name: MemberName,
+) -> Result<&'a str, NoReport>
+    ensures text { IfOk result (λ text. HasText name (members_of members.now) text.now) }
+    ensures refused { OnErr result ((s : List ℕ) → HasText name (members_of members.now) s → ⊥) }
+{
+    let value = needed(members, name)?;
+    match value.as_str() {
+        Some(text) => Ok(text),
+        None => Err(NoReport::Bad(name)),
+    }
+}
+
+#[tactic(auto, using(crate::proofs::JsonKinds::number_if))]
+fn byte_of(value: &Value<'_>) -> Option<u8>
+    ensures { IfSome result (λ byte. value_view value.now ≡ json_number (decimal byte)) }
+{
+    let text = value.as_number()?;
+    let number = number(text)?;
+    u8::try_from(number).ok()
+}
+
+/// Reads bytes that are a list of numbers, if they are.
+fn listed_bytes(alloc: Global, values: &[Value<'_>]) -> Result<Option<Vec<u8>>, AllocError>
+    ensures { IfOk result (λ found. IfSome found (λ bytes. values_of values.now ≡ map (λ b. json_number (decimal b)) bytes.items)) }
+{
+    let mut bytes = Vec::with_capacity(alloc, values.len())?;
+    let mut at = 0;
+    'values: while at < values.len() {
+        let Some(byte) = byte_of(&values[at]) else {
+            return Ok(None);
+        };
+        bytes.push(byte)?;
+        at += 1;
+    }
+    Ok(Some(bytes))
+}
+
+/// Reads the bytes that a member has as a list of numbers, if there is one.
+fn bytes_of_list<'a>(
+    alloc: Global,
+    members: &[(&'a str, Value<'a>)],
+    list: MemberName,
+) -> Result<Option<Vec<u8>>, ReadFault>
+    ensures { IfOk result (λ found. MatchOption found (Lacks list (members_of members.now))
+        (λ bytes. HasList list (members_of members.now) bytes.items)) }
+{
+    let Some(value) = optional(members, list)? else {
+        return Ok(None);
+    };
+    let Value::Array(values) = value else {
+        return Err(ReadFault::NoReport(NoReport::Bad(list)));
+    };
+    match listed_bytes(alloc, values)? {
+        Some(bytes) => Ok(Some(bytes)),
+        None => Err(ReadFault::NoReport(NoReport::Bad(list))),
+    }
+}
+
+/// Reads the bytes that are a text under one name, where no list of numbers is under another.
+fn bytes_of_text<'a>(
+    alloc: Global,
+    members: &[(&'a str, Value<'a>)],
+    text: MemberName,
+    list: MemberName,
+) -> Result<Vec<u8>, ReadFault>
+    ensures { IfOk result (λ bytes. HasText text (members_of members.now) bytes.items × Lacks list (members_of members.now)) }
+{
+    let found = text_in(members, text)?;
+    match optional(members, list)? {
+        None => Ok(found.as_bytes().to_vec(alloc)?),
+        Some(_) => Err(ReadFault::NoReport(NoReport::Twice(text))),
+    }
+}
+
+/// Reads the bytes that are a text under one name, or a list of numbers under another, if there are any.
+pub(crate) fn optional_bytes<'a>(
+    alloc: Global,
+    members: &[(&'a str, Value<'a>)],
+    text: MemberName,
+    list: MemberName,
+) -> Result<Option<Vec<u8>>, ReadFault>
+    ensures { IfOk result (λ found. MatchOption found (Lacks text (members_of members.now) × Lacks list (members_of members.now))
+        (λ bytes. HasBytes text list (members_of members.now) bytes.items)) }
+{
+    match optional(members, text)? {
+        None => bytes_of_list(alloc, members, list),
+        Some(_) => Ok(Some(bytes_of_text(alloc, members, text, list)?)),
+    }
+}
+
+/// Reads the bytes that are a text under one name, or a list of numbers under another.
+pub(crate) fn bytes_in<'a>(
+    alloc: Global,
+    members: &[(&'a str, Value<'a>)],
+    text: MemberName,
+    list: MemberName,
+) -> Result<Vec<u8>, ReadFault>
+    ensures { IfOk result (λ bytes. HasBytes text list (members_of members.now) bytes.items) }
+{
+    match optional_bytes(alloc, members, text, list)? {
+        Some(bytes) => Ok(bytes),
+        None => Err(ReadFault::NoReport(NoReport::Missing(text))),
+    }
+}

@@ -1,0 +1,5 @@
+//! The tests of reading reports.
+#![tactic(auto)]
+
+#[cfg(test)]
+mod reading;

@@ -1,0 +1,201 @@
+//! Reports that are printed as JSON, read, and printed again.
+
+use lc_formats::json_text;
+use lc_reading::{ReadFault, ReadReport, read_reports};
+use lc_rows::Shown;
+use lc_sheet::{Columns, Format, TableOptions};
+use std::alloc::{AllocError, Global};
+use std::process::Abort;
+use std::test::Fail;
+
+const ROWS: TableOptions = TableOptions {
+    format: Format::Json,
+    by: Columns::ALL,
+    sort: None,
+    top: None,
+    files: false,
+    share: false,
+};
+
+pub(super) const BY_EXT: Columns = Columns {
+    dir: None,
+    ext: true,
+    text: false,
+    eol: false,
+};
+
+const BY_EOL: Columns = Columns {
+    dir: None,
+    ext: false,
+    text: false,
+    eol: true,
+};
+
+/// A report as it is printed, by these columns, and whether its files are listed.
+#[derive(Clone, Copy)]
+struct Case {
+    name: &'static str,
+    by: Columns,
+    files: bool,
+    text: &'static str,
+}
+
+const CASES: &[Case] = &[
+    Case {
+        name: "no_files",
+        by: Columns::ALL,
+        files: true,
+        text: "{\"rows\":[],\"total\":{\"files\":0,\"lines\":0,\"blank\":0,\"bytes\":0},\
+               \"text\":{\"files\":0,\"lines\":0,\"blank\":0,\"bytes\":0},\
+               \"binary\":{\"files\":0,\"lines\":0,\"blank\":0,\"bytes\":0},\"directories\":0,\"files\":[],\
+               \"faults\":[{\"word\":\"read\",\"path\":\"\"}]}\n",
+    },
+    Case {
+        name: "rows_by_extension",
+        by: BY_EXT,
+        files: false,
+        text: "{\"rows\":[{\"ext\":null,\"files\":1,\"lines\":1,\"blank\":0,\"bytes\":2},\
+               {\"ext\":\".c\",\"files\":1,\"lines\":3,\"blank\":1,\"bytes\":16}],\
+               \"total\":{\"files\":2,\"lines\":4,\"blank\":1,\"bytes\":18},\
+               \"text\":{\"files\":2,\"lines\":4,\"blank\":1,\"bytes\":18},\
+               \"binary\":{\"files\":0,\"lines\":0,\"blank\":0,\"bytes\":0},\"directories\":1,\"faults\":[]}\n",
+    },
+    Case {
+        name: "rows_by_line_ends",
+        by: BY_EOL,
+        files: false,
+        text: "{\"rows\":[{\"eol\":\"none\",\"files\":1,\"lines\":1,\"blank\":0,\"bytes\":1},\
+               {\"eol\":\"lf\",\"files\":2,\"lines\":1,\"blank\":0,\"bytes\":2},\
+               {\"eol\":\"crlf\",\"files\":1,\"lines\":1,\"blank\":0,\"bytes\":3},\
+               {\"eol\":\"cr\",\"files\":1,\"lines\":1,\"blank\":0,\"bytes\":4},\
+               {\"eol\":\"mixed\",\"files\":1,\"lines\":2,\"blank\":0,\"bytes\":5},\
+               {\"eol\":\"nul\",\"files\":1,\"lines\":0,\"blank\":0,\"bytes\":7}],\
+               \"total\":{\"files\":7,\"lines\":6,\"blank\":0,\"bytes\":22},\
+               \"text\":{\"files\":6,\"lines\":6,\"blank\":0,\"bytes\":15},\
+               \"binary\":{\"files\":1,\"lines\":0,\"blank\":0,\"bytes\":7},\"directories\":3,\"faults\":[]}\n",
+    },
+    Case {
+        name: "sums_over_the_largest_number_of_a_file",
+        by: Columns::ALL,
+        files: false,
+        text: "{\"rows\":[{\"ext\":\".log\",\"text\":\"auto\",\"eol\":\"lf\",\"files\":18446744073709551615,\
+               \"lines\":340282366920938463463374607431768211455,\"blank\":36893488147419103232,\"bytes\":9}],\
+               \"total\":{\"files\":18446744073709551615,\"lines\":340282366920938463463374607431768211455,\
+               \"blank\":36893488147419103232,\"bytes\":9},\
+               \"text\":{\"files\":18446744073709551615,\"lines\":340282366920938463463374607431768211455,\
+               \"blank\":36893488147419103232,\"bytes\":9},\
+               \"binary\":{\"files\":0,\"lines\":0,\"blank\":0,\"bytes\":0},\"directories\":18446744073709551615,\"faults\":[]}\n",
+    },
+    Case {
+        name: "files_of_every_state_with_names_that_are_no_text",
+        by: Columns::ALL,
+        files: true,
+        text: "{\"rows\":[{\"ext\":null,\"text\":null,\"eol\":\"none\",\"files\":1,\"lines\":1,\"blank\":0,\"bytes\":6},\
+               {\"ext\":\".c\",\"text\":\"set\",\"eol\":\"lf\",\"files\":1,\"lines\":3,\"blank\":1,\"bytes\":16},\
+               {\"ext\":\".c\",\"text\":\"unset\",\"eol\":\"cr\",\"files\":1,\"lines\":1,\"blank\":1,\"bytes\":1},\
+               {\"ext\":\".c\",\"text\":\"other\",\"eol\":\"mixed\",\"files\":1,\"lines\":2,\"blank\":0,\
+               \"bytes\":18446744073709551615},\
+               {\"ext_bytes\":[46,255],\"text\":\"auto\",\"eol\":\"nul\",\"files\":1,\"lines\":0,\"blank\":0,\"bytes\":0}],\
+               \"total\":{\"files\":5,\"lines\":7,\"blank\":2,\"bytes\":18446744073709551638},\
+               \"text\":{\"files\":4,\"lines\":7,\"blank\":2,\"bytes\":18446744073709551638},\
+               \"binary\":{\"files\":1,\"lines\":0,\"blank\":0,\"bytes\":0},\"directories\":2,\
+               \"files\":[{\"path\":\"a\\\"\\\\\\n\x7f\\u0001\",\"ext\":null,\"text\":null,\"eol\":\"none\",\
+               \"lines\":1,\"blank\":0,\"bytes\":6},\
+               {\"path_bytes\":[98,46,255],\"ext_bytes\":[46,255],\"text\":\"auto\",\"eol\":\"nul\",\
+               \"lines\":0,\"blank\":0,\"bytes\":0},\
+               {\"path\":\"main.c\",\"ext\":\".c\",\"text\":\"set\",\"eol\":\"lf\",\"lines\":3,\"blank\":1,\"bytes\":16},\
+               {\"path\":\"x/é.c\",\"ext\":\".c\",\"text\":\"unset\",\"eol\":\"cr\",\"lines\":1,\"blank\":1,\"bytes\":1},\
+               {\"path\":\"x/😀.c\",\"ext\":\".c\",\"text\":\"other\",\"eol\":\"mixed\",\"lines\":2,\"blank\":0,\
+               \"bytes\":18446744073709551615}],\"faults\":[]}\n",
+    },
+    Case {
+        name: "skipped_entries_for_every_reason_and_every_fault",
+        by: Columns::ALL,
+        files: false,
+        text: "{\"rows\":[{\"ext\":null,\"text\":null,\"eol\":\"lf\",\"files\":1,\"lines\":1,\"blank\":0,\"bytes\":2}],\
+               \"total\":{\"files\":1,\"lines\":1,\"blank\":0,\"bytes\":2},\
+               \"text\":{\"files\":1,\"lines\":1,\"blank\":0,\"bytes\":2},\
+               \"binary\":{\"files\":0,\"lines\":0,\"blank\":0,\"bytes\":0},\"directories\":4,\"entries\":16,\
+               \"left\":[{\"path\":\".git\",\"kind\":\"dir\",\"reason\":\"git\"},\
+               {\"path\":\"a.log\",\"kind\":\"file\",\"reason\":\"rule\",\"file\":\".gitignore\",\"line\":1},\
+               {\"path\":\"b\",\"kind\":\"other\",\"reason\":\"rule\",\"file\":\".git/info/exclude\",\"line\":4294967295},\
+               {\"path\":\"c\",\"kind\":\"dir\",\"reason\":\"rule\",\"file\":\"--exclude\",\"line\":2},\
+               {\"path\":\"d\",\"kind\":\"file\",\"reason\":\"rule\",\"file\":\"--exclude-from\",\"line\":3},\
+               {\"path\":\"e/f/g.o\",\"kind\":\"file\",\"reason\":\"rule\",\"file\":\"e/f/.gitignore\",\"line\":12},\
+               {\"path\":\"e/f/h.o\",\"kind\":\"file\",\"reason\":\"rule\",\"file\":\"e/.gitignore\",\"line\":1},\
+               {\"path\":\"e/i\",\"kind\":\"file\",\"reason\":\"rule\",\"file\":\"e/.git/info/exclude\",\"line\":1},\
+               {\"path\":\"j\",\"kind\":\"dir\",\"reason\":\"attribute\",\"attribute\":\"export-ignore\"},\
+               {\"path\":\"k\",\"kind\":\"file\",\"reason\":\"attribute\",\"attribute_bytes\":[255,61]},\
+               {\"path\":\"l.h\",\"kind\":\"file\",\"reason\":\"include\"},\
+               {\"path\":\"m\",\"kind\":\"other\",\"reason\":\"other\"},\
+               {\"path\":\"n\",\"kind\":\"dir\",\"reason\":\"filesystem\"},\
+               {\"path_bytes\":[255,47,97],\"kind\":\"file\",\"reason\":\"rule\",\
+               \"file_bytes\":[255,47,46,103,105,116,105,103,110,111,114,101],\"line\":1}],\
+               \"faults\":[{\"word\":\"read\",\"path\":\"o\"},{\"word\":\"name\",\"path\":\"p\"},\
+               {\"word\":\"twice\",\"path\":\"q\"},{\"word\":\"many\",\"path\":\"r\"},{\"word\":\"long\",\"path\":\"s/.gitignore\"},\
+               {\"word\":\"endless\",\"path\":\"t\"},{\"word\":\"absent\",\"path\":\"u\"},{\"word\":\"read\",\"path\":\"u\"},\
+               {\"word\":\"long\",\"path\":\"u\"},{\"word\":\"read\",\"path_bytes\":[254]}]}\n",
+    },
+];
+
+fn text_of(
+    alloc: Global,
+    read: &ReadReport,
+    by: Columns,
+    files: bool,
+) -> Result<Vec<u8>, AllocError> {
+    let options = TableOptions {
+        by: Columns { dir: None, ..by },
+        files,
+        ..ROWS
+    };
+    let shown = Shown::of(alloc, &read.report, &options)?;
+    json_text(alloc, &shown.sheet())
+}
+
+/// Returns the reports of a text, if it is read.
+pub(super) fn reports_of(
+    alloc: Global,
+    text: &[u8],
+) -> Result<Option<Vec<ReadReport>>, AllocError> {
+    match read_reports(alloc, text) {
+        Ok(reports) => Ok(Some(reports)),
+        Err(ReadFault::Memory) => Err(AllocError),
+        Err(_) => Ok(None),
+    }
+}
+
+/// Returns whether a text is read as one report, which is printed as another text.
+pub(super) fn is_printed_as(
+    alloc: Global,
+    text: &str,
+    (by, files): (Columns, bool),
+    printed: &str,
+) -> Result<bool, AllocError> {
+    let Some(reports) = reports_of(alloc, text.as_bytes())? else {
+        return Ok(false);
+    };
+    let [report] = reports.as_slice() else {
+        return Ok(false);
+    };
+    let again = text_of(alloc, report, by, files)?;
+    Ok(again.as_slice() == printed.as_bytes())
+}
+
+#[test]
+fn reports_are_read_as_they_are_printed(rt: HostRuntime) -> Result<(), Fail> {
+    for case in CASES {
+        let Case {
+            name,
+            by,
+            files,
+            text,
+        } = *case;
+        assert!(rt;
+            is_printed_as(rt.alloc(), text, (by, files), text)?,
+            "{}",
+            name
+        );
+    }
+    Ok(())
+}

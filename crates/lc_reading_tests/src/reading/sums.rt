@@ -1,0 +1,141 @@
+//! Reports that were cut, or whose sums do not agree.
+
+use crate::reading::refusals::said_of;
+use std::alloc::{AllocError, Global};
+use std::process::Abort;
+use std::test::Fail;
+
+/// Rows, the numbers of `total`, `text` and `binary`, further members, and what is said.
+type Case = (&'static str, [&'static str; 3], &'static str, &'static str);
+
+const ONE: &str =
+    "{\"ext\":null,\"text\":null,\"eol\":\"lf\",\"files\":1,\"lines\":2,\"blank\":1,\"bytes\":3}";
+
+const NUL: &str = "{\"eol\":\"nul\",\"files\":1,\"lines\":2,\"blank\":1,\"bytes\":3}";
+
+const SUM: &str = "{\"files\":1,\"lines\":2,\"blank\":1,\"bytes\":3}";
+
+const NONE: &str = "{\"files\":0,\"lines\":0,\"blank\":0,\"bytes\":0}";
+
+const FILE: &str =
+    ",\"files\":[{\"path\":\"a\",\"text\":null,\"eol\":\"lf\",\"lines\":2,\"blank\":1,\"bytes\":3}]";
+
+const ROWS: &str = "is no report: its rows do not add up to its total";
+
+const FILES: &str = "is no report: its files do not add up to its total";
+
+const PARTS: &str = "is no report: its text and binary do not add up to its total";
+
+const CUT: &str = "was cut by --top";
+
+const CASES: &[Case] = &[
+    (ONE, [SUM, SUM, NONE], "", ""),
+    (ONE, [SUM, SUM, NONE], FILE, ""),
+    (NUL, [SUM, NONE, SUM], "", ""),
+    ("", [NONE, NONE, NONE], "", ""),
+    (ONE, [SUM, SUM, NONE], ",\"others\":{}", CUT),
+    (ONE, [SUM, SUM, NONE], ",\"files\":[]", CUT),
+    ("", [SUM, SUM, NONE], ",\"files\":[]", CUT),
+    ("", [SUM, SUM, NONE], "", ROWS),
+    (ONE, [NONE, NONE, NONE], "", ROWS),
+    (
+        ONE,
+        [
+            "{\"files\":1,\"lines\":3,\"blank\":1,\"bytes\":3}",
+            SUM,
+            NONE,
+        ],
+        "",
+        ROWS,
+    ),
+    (
+        ONE,
+        [
+            "{\"files\":1,\"lines\":2,\"blank\":0,\"bytes\":3}",
+            SUM,
+            NONE,
+        ],
+        "",
+        ROWS,
+    ),
+    (
+        ONE,
+        [
+            "{\"files\":1,\"lines\":2,\"blank\":1,\"bytes\":4}",
+            SUM,
+            NONE,
+        ],
+        "",
+        ROWS,
+    ),
+    (
+        ONE,
+        [SUM, SUM, NONE],
+        ",\"files\":[{\"path\":\"a\",\"text\":null,\"eol\":\"lf\",\"lines\":2,\"blank\":1,\"bytes\":4}]",
+        FILES,
+    ),
+    ("", [NONE, NONE, NONE], FILE, FILES),
+    (ONE, [SUM, NONE, NONE], "", PARTS),
+    (ONE, [SUM, SUM, SUM], "", PARTS),
+    (ONE, [SUM, NONE, SUM], "", PARTS),
+    (NUL, [SUM, SUM, NONE], "", PARTS),
+    (ONE, [SUM, NONE, SUM], FILE, PARTS),
+    (
+        "{\"files\":1,\"lines\":2,\"blank\":1,\"bytes\":3}",
+        [SUM, NONE, SUM],
+        "",
+        "",
+    ),
+    (
+        "{\"files\":1,\"lines\":2,\"blank\":1,\"bytes\":3}",
+        [SUM, NONE, SUM],
+        FILE,
+        PARTS,
+    ),
+    (
+        ONE,
+        [SUM, SUM, NONE],
+        ",\"entries\":1",
+        "is no report: no member left",
+    ),
+    (
+        ONE,
+        [SUM, SUM, NONE],
+        ",\"left\":[]",
+        "is no report: no member entries",
+    ),
+    (
+        "{\"files\":1,\"lines\":2,\"blank\":1,\"bytes\":3},{\"ext\":null,\"files\":1,\"lines\":2,\"blank\":1,\"bytes\":3}",
+        [SUM, SUM, NONE],
+        "",
+        "is no report: bad rows",
+    ),
+    (
+        "{\"files\":18446744073709551615,\"lines\":2,\"blank\":1,\"bytes\":3},{\"files\":1,\"lines\":2,\"blank\":1,\"bytes\":3}",
+        [SUM, SUM, NONE],
+        "",
+        ROWS,
+    ),
+];
+
+fn text_of(alloc: Global, case: &Case) -> Result<String, AllocError> {
+    let (rows, [total, text, binary], more, _) = *case;
+    format!(in alloc;
+        "{{\"rows\":[{rows}],\"total\":{total},\"text\":{text},\"binary\":{binary},\"directories\":1{more},\"faults\":[]}}"
+    )
+}
+
+#[test]
+fn sums_that_agree_or_do_not(rt: HostRuntime) -> Result<(), Fail> {
+    for case in CASES {
+        let text = text_of(rt.alloc(), case)?;
+        let found = said_of(rt.alloc(), text.as_bytes())?;
+        assert!(rt;
+            found.as_str() == case.3,
+            "{}: {}",
+            text.as_str(),
+            found.as_str()
+        );
+    }
+    Ok(())
+}
