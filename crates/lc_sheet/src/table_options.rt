@@ -74,11 +74,13 @@ pub struct TableOptions {
     pub share: bool,
 }
 
-/// The options of a report: which of its files are shown, and in which table.
+/// The options of a report: what it is of, which of its files are shown, and in which table.
 #[derive(Clone, Copy)]
 pub struct ReportOptions<'c> {
     /// The options of the table.
     pub table: TableOptions,
     /// Only the files that meet all of these are shown and summed.
     pub conditions: &'c [Condition<'c>],
+    /// What was counted, as it was named, which a picture has at its top.
+    pub counted: &'c [u8],
 }

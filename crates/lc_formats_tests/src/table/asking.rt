@@ -133,6 +133,7 @@ pub(super) fn showing_all(table: TableOptions) -> ReportOptions<'static>
     ensures { result.table ≡ table }
 {
     ReportOptions {
+        counted: b".",
         table,
         conditions: &[],
     }
