@@ -42,6 +42,8 @@ where
 
     ghost lies = { λ s directory answer. Unit {0} };
 
+    ghost stands = { λ s directory answer. Unit {0} };
+
     fn tree(
         &self,
         alloc: Global,
@@ -74,5 +76,10 @@ where
 
     fn repository_above(&self, alloc: Global, directory: &str) -> Option<Repository> {
         repository_above(self.rt, alloc, directory)
+    }
+
+    fn canonical(&self, alloc: Global, directory: &str) -> Option<String> {
+        let path = fs::canonicalize(self.rt, directory).ok()?;
+        String::from_str(alloc, path.as_path().as_str()).ok()
     }
 }

@@ -5,7 +5,7 @@ use Rattle.lc_arguments.specs.declared.count.CountRequest.{CountRequest}
 use Rattle.lc_io.specs.declared.printing.PrintFault.{PrintFault}
 use Rattle.lc_io.specs.declared.source.Failed.{Failed}
 use Rattle.lc_program.specs.Causes.{print_cause}
-use Rattle.lc_program.specs.Counts.{MayWalk, Prints, names_of}
+use Rattle.lc_program.specs.Counts.{MayWalk, Prints, counted_in, names_of}
 use Rattle.lc_program.specs.Finds.{Finds, FindsNone}
 use Rattle.lc_arguments.specs.TableWords.{options_in}
 use Rattle.lc_program.specs.Runs.{AnswersTable}
@@ -28,9 +28,10 @@ module _ (may : SystemMay) {O : Type 0} (may_take : O → List ℕ → Result �
 
   -- the table of what was found was not written, or not whole
   pub prints_stopped : (answer : Result Report Cause) (r left : Report) (fault : PrintFault) (out wrote : O)
-      (conditions : List ConditionModel) (options : TableOptions) → IsErrAnd answer (λ cause. cause ≡ print_cause fault)
-      → Finds (MayWalk may may_take other c o) (names_of c) r → conditions ≡ c.conditions.items → options ≡ options_in other c.table
-      → AnswersTable may_take conditions options r left out (Err fault) wrote → Prints may may_take other c o out answer wrote
-  prints_stopped (Ok given) r left fault out wrote conditions options is finds same alike stopped = absurd is
-  prints_stopped (Err cause) r left fault out wrote conditions options is finds same alike stopped =
-      inr (r, left, fault, finds, is, subst₂ (λ cs os. AnswersTable may_take cs os r left out (Err fault) wrote) same alike stopped)
+      (counted : List ℕ) (conditions : List ConditionModel) (options : TableOptions) → IsErrAnd answer (λ cause. cause ≡ print_cause fault)
+      → Finds (MayWalk may may_take other c o) (names_of c) r → counted ≡ counted_in c → conditions ≡ c.conditions.items
+      → options ≡ options_in other c.table → AnswersTable may_take counted conditions options r left out (Err fault) wrote → Prints may may_take other c o out answer wrote
+  prints_stopped (Ok given) r left fault out wrote counted conditions options is finds named same alike stopped = absurd is
+  prints_stopped (Err cause) r left fault out wrote counted conditions options is finds named same alike stopped =
+      inr (r, left, fault, finds, is, subst (λ n. AnswersTable may_take n c.conditions.items (options_in other c.table) r left out
+      (Err fault) wrote) named (subst₂ (λ cs os. AnswersTable may_take counted cs os r left out (Err fault) wrote) same alike stopped))

@@ -1,5 +1,5 @@
 -- How a count is answered, by what was read and written.
-use Rattle.std.specs.Prelude.{◌≡◌, ◌⊎◌, ◌||◌, ℕ, List, map, if◌then◌else◌, Result, Ok, Err, Vec, is_some}
+use Rattle.std.specs.Prelude.{◌≡◌, ◌⊎◌, ◌||◌, ℕ, List, [], ◌∷◌, ◌++◌, flat_map, map, if◌then◌else◌, Result, Ok, Err, Vec, is_some}
 use Rattle.std.specs.Prelude.{Option}
 use Rattle.std.specs.Borrow.{Bor}
 use Rattle.std.specs.Global.{Global}
@@ -39,6 +39,14 @@ entered_by c = if c.one_file_system then One else All
 abbrev pub names_of : CountRequest → List (List ℕ)
 names_of c = map (λ directory. directory.now) c.directories.items
 
+-- names as one text, with a space between two
+abbrev pub one_text : List (List ℕ) → List ℕ
+one_text [] = []
+one_text (name ∷ names) = name ++ flat_map (λ n. 32 ∷ n) names
+
+abbrev pub counted_in : CountRequest → List ℕ
+counted_in c = one_text (names_of c)
+
 -- options that ask for what the words of a count ask, by these filters
 pub record IsAskedBy (c : CountRequest) (f : FiltersModel) (o : Options) : Type 0 where
   pub threads : o.threads ≡ c.threads
@@ -55,7 +63,8 @@ module _ (may : SystemMay) {O : Type 0} (may_take : O → List ℕ → Result �
 
   -- the table of these conditions, with the format if the words name none
   abbrev pub AnswersTableOf : Report → Report → O → Result (Unit {0}) PrintFault → O → Type 0
-  AnswersTableOf r left out answer wrote = AnswersTable may_take c.conditions.items (options_in other c.table) r left out answer wrote
+  AnswersTableOf r left out answer wrote =
+      AnswersTable may_take (counted_in c) c.conditions.items (options_in other c.table) r left out answer wrote
 
   -- the table of what is found in the directories was written whole, and this is left of it; or nothing was found, and nothing was written;
   -- or the table was not written, or not whole

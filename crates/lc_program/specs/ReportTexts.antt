@@ -41,18 +41,18 @@ pub record HasSheet (options : TableOptions) (r : Report) (text : List ℕ) : Ty
   pub is_sheet : IsSheetOf options r sheet
   pub is : IsTextIn options.format sheet text
 
--- a text of a report with these options, in this format
-abbrev pub IsTextBy : Format → TableOptions → Report → List ℕ → Type 0
-IsTextBy Html options r text = IsPageOf (drawn_number options.sort) r text
-IsTextBy Tsv options r text = HasSheet options r text
-IsTextBy Table options r text = HasSheet options r text
-IsTextBy Json options r text = HasSheet options r text
-IsTextBy Csv options r text = HasSheet options r text
-IsTextBy Markdown options r text = HasSheet options r text
+-- a text of a report of what was counted, with these options, in this format
+abbrev pub IsTextBy : Format → List ℕ → TableOptions → Report → List ℕ → Type 0
+IsTextBy Html counted options r text = IsPageOf counted (drawn_number options.sort) r text
+IsTextBy Tsv counted options r text = HasSheet options r text
+IsTextBy Table counted options r text = HasSheet options r text
+IsTextBy Json counted options r text = HasSheet options r text
+IsTextBy Csv counted options r text = HasSheet options r text
+IsTextBy Markdown counted options r text = HasSheet options r text
 
--- a text of a report with these options
-abbrev pub IsTextOf : TableOptions → Report → List ℕ → Type 0
-IsTextOf options r text = IsTextBy options.format options r text
+-- a text of a report of what was counted, with these options
+abbrev pub IsTextOf : List ℕ → TableOptions → Report → List ℕ → Type 0
+IsTextOf counted options r text = IsTextBy options.format counted options r text
 
 -- a report whose files are in another order; all else is the same
 pub record IsReordered (r left : Report) : Type 0 where
@@ -60,8 +60,9 @@ pub record IsReordered (r left : Report) : Type 0 where
   pub rest : left ≡ record r { files = left.files }
 
 -- a text of what meets some conditions of a report, which is what is left of it
-pub record IsPrinted (conditions : List ConditionModel) (options : TableOptions) (r : Report) (text : List ℕ) (left : Report) : Type 0 where
+pub record IsPrinted (counted : List ℕ) (conditions : List ConditionModel) (options : TableOptions) (r : Report) (text : List ℕ) (left : Report)
+    : Type 0 where
   pub part : Report
   pub is_kept : IsKept conditions r part
-  pub is_text : IsTextOf options part text
+  pub is_text : IsTextOf counted options part text
   pub is_left : IsReordered part left

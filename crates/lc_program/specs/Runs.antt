@@ -19,22 +19,22 @@ table_fault print.Memory = Memory
 
 -- what a call answers that writes the table of what meets some conditions of a report, with these options, and leaves this of the report:
 -- it was written whole; a write stopped it; nothing was written
-abbrev pub AnswersTable : {O : Type 0} → (O → List ℕ → Result ℕ Failed → O → Type 0) → List ConditionModel → TableOptions → Report → Report
-    → O → Result (Unit {0}) PrintFault → O → Type 0
-AnswersTable may_take conditions options r left out (Ok _) wrote =
-    (text : List ℕ) × IsPrinted conditions options r text left × Writes may_take out text wrote
-AnswersTable may_take conditions options r left out (Err print.Write) wrote =
-    (text : List ℕ) × IsPrinted conditions options r text left × StopsWriting may_take out text wrote
-AnswersTable may_take conditions options r left out (Err print.Memory) wrote = wrote ≡ out
+abbrev pub AnswersTable : {O : Type 0} → (O → List ℕ → Result ℕ Failed → O → Type 0) → List ℕ → List ConditionModel → TableOptions → Report
+    → Report → O → Result (Unit {0}) PrintFault → O → Type 0
+AnswersTable may_take counted conditions options r left out (Ok _) wrote =
+    (text : List ℕ) × IsPrinted counted conditions options r text left × Writes may_take out text wrote
+AnswersTable may_take counted conditions options r left out (Err print.Write) wrote =
+    (text : List ℕ) × IsPrinted counted conditions options r text left × StopsWriting may_take out text wrote
+AnswersTable may_take counted conditions options r left out (Err print.Memory) wrote = wrote ≡ out
 
 module _ {O : Type 0} (may_take : O → List ℕ → Result ℕ Failed → O → Type 0) (walks : Result Report WalkFault → Type 0)
-    (conditions : List ConditionModel) (options : TableOptions) where
+    (counted : List ℕ) (conditions : List ConditionModel) (options : TableOptions) where
   abbrev pub AnswersRun : O → Result Report RunFault → O → Type 0
   -- the table of the report was written whole, and this is left of it
-  AnswersRun out (Ok left) wrote = (r : Report) × walks (Ok r) × AnswersTable may_take conditions options r left out (Ok tt) wrote
+  AnswersRun out (Ok left) wrote = (r : Report) × walks (Ok r) × AnswersTable may_take counted conditions options r left out (Ok tt) wrote
   -- the walk gave no report, and nothing was written
   AnswersRun out (Err (Walk f)) wrote = walks (Err f) × (wrote ≡ out)
   AnswersRun out (Err Memory) wrote = wrote ≡ out
   -- a prefix of the table was written
   AnswersRun out (Err Write) wrote =
-      (r : Report) × walks (Ok r) × ((left : Report) × AnswersTable may_take conditions options r left out (Err print.Write) wrote)
+      (r : Report) × walks (Ok r) × ((left : Report) × AnswersTable may_take counted conditions options r left out (Err print.Write) wrote)

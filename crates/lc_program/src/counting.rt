@@ -1,10 +1,10 @@
 //! Answering counts.
 
-ghost use Rattle.std.specs.Prelude.{◌≡◌};
+ghost use Rattle.std.specs.Prelude.{◌≡◌, map, IfOk};
 ghost use Rattle.lc_arguments.specs.Combinations.{is_picture};
 ghost use Rattle.lc_arguments.specs.Words.{IsCountWithinLimits};
 ghost use Rattle.lc_arguments.specs.TableWords.{options_in};
-ghost use Rattle.lc_program.specs.Counts.{AnswersApart, AnswersCount, IsAskedBy, Prints};
+ghost use Rattle.lc_program.specs.Counts.{AnswersApart, AnswersCount, IsAskedBy, Prints, one_text};
 ghost use Rattle.lc_program.specs.Systems.{system_may};
 ghost use Rattle.lc_rows.specs.WalkedReports.{ListsFilesFor};
 ghost use Rattle.lc_walk.specs.WalkOptions.{AreWithinLimits};
@@ -26,6 +26,7 @@ use lc_level::{Filters, NamedAttributes};
 use lc_sheet::{Format, ReportOptions, needs_files};
 use lc_text::Sink;
 use lc_walk::{Options, Report, ReportLists};
+use std::alloc::{AllocError, Global};
 use std::sync::Wait;
 use std::thread::Threads;
 
@@ -63,6 +64,21 @@ fn options_of<'o>(
     }
 }
 
+/// Makes one text of names, with a space between two.
+fn one_text(alloc: Global, names: &[&str]) -> Result<Vec<u8>, AllocError>
+    ensures { IfOk result (λ text. text.items ≡ one_text (map (λ name. name.now) names.now)) }
+{
+    let Some((first, others)) = names.split_first() else {
+        return Ok(Vec::new(alloc));
+    };
+    let mut text = first.as_bytes().to_vec(alloc)?;
+    for name in others {
+        text.push(b' ')?;
+        text.extend_from_slice(name.as_bytes())?;
+    }
+    Ok(text)
+}
+
 /// Counts the directories that the command line names, and prints the table of what meets its conditions.
 fn print_found<R: Threads + Wait + Sync + AllocGlobal, Y: System, O: Sink>(
     rt: &R,
@@ -80,9 +96,11 @@ fn print_found<R: Threads + Wait + Sync + AllocGlobal, Y: System, O: Sink>(
         O.may_take format asked.now options.now out.old result out.new }
 {
     let mut report = found(rt, system, asked, options)?;
+    let counted = one_text(rt.alloc(), &asked.directories)?;
     let shown = ReportOptions {
         table: asked.table.options(format),
         conditions: &asked.conditions,
+        counted: &counted,
     };
     table(rt.alloc(), &mut report, shown, out)?;
     Ok(report)

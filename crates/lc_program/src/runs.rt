@@ -57,7 +57,7 @@ impl From<PrintFault> for RunFault {
 /// ```
 /// let tree = SysTree::new(&rt, rt.alloc(), "src", FileSystems::All)?;
 /// let table = TableOptions { format: Format::Tsv, by: Columns::ALL, sort: None, top: None, files: false, share: false };
-/// let shown = ReportOptions { table, conditions: &[] };
+/// let shown = ReportOptions { table, conditions: &[], counted: b"src" };
 /// let report = run(&rt, rt.alloc(), &tree, &options, shown, &mut out)?;
 /// assert!(report.faults.is_empty());
 /// ```
@@ -72,7 +72,7 @@ pub fn run<T: Tree, R: Threads + Wait + Sync, O: Sink>(
     requires limits { AreWithinLimits options.now }
     requires files { ListsFilesFor options.now shown.table }
     ensures { AnswersRun O.may_take (Walks (T.lists tree.now) (T.gives tree.now) options.now)
-        shown.entry.conditions.now shown.entry.table out.old result out.new }
+        shown.entry.counted.now shown.entry.conditions.now shown.entry.table out.old result out.new }
 {
     let mut report = walk(rt, alloc, tree, options)?;
     table(alloc, &mut report, shown, out)?;

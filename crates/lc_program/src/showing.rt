@@ -45,21 +45,22 @@ fn sheet_text(
     Ok(text)
 }
 
-/// Makes the text of a report, or its picture.
+/// Makes the text of a report, or its picture, which has what was counted at its top.
 ///
 /// It sorts the files of the report in place. Rows by directory and a picture are made of these files, so the report must have them. It
 /// stops with an error if there is no memory, and for numbers that no walk has, whose sums or shares overflow.
 pub fn report_text(
     alloc: Global,
+    counted: &[u8],
     report: &mut Report,
     options: TableOptions,
 ) -> Result<Vec<u8>, AllocError>
     requires files { HasFilesFor options report.now.lists }
-    ensures text { IfOk result (λ text. IsTextOf options report.old text.items) }
+    ensures text { IfOk result (λ text. IsTextOf counted.now options report.old text.items) }
     ensures left { IsReordered report.old report.new }
 {
     match options.format {
-        Format::Html => page(alloc, report, options.sort),
+        Format::Html => page(alloc, counted, report, options.sort),
         Format::Tsv | Format::Table | Format::Json | Format::Csv | Format::Markdown => {
             sheet_text(alloc, report, options)
         }
@@ -73,10 +74,10 @@ fn part_text(
     options: ReportOptions<'_>,
 ) -> Result<Vec<u8>, AllocError>
     requires files { HasFilesFor options.table report.now.lists }
-    ensures { IfOk result (λ text. IsPrinted options.entry.conditions.now options.entry.table report.old text.items report.new) }
+    ensures { IfOk result (λ text. IsPrinted options.entry.counted.now options.entry.conditions.now options.entry.table report.old text.items report.new) }
 {
     keep(alloc, options.conditions, report)?;
-    let text = report_text(alloc, report, options.table)?;
+    let text = report_text(alloc, options.counted, report, options.table)?;
     Ok(text)
 }
 
@@ -90,7 +91,8 @@ pub fn table<O: Sink>(
     out: &mut O,
 ) -> Result<(), PrintFault>
     requires files { HasFilesFor options.table report.now.lists }
-    ensures { AnswersTable O.may_take options.entry.conditions.now options.entry.table report.old report.new out.old result out.new }
+    ensures { AnswersTable O.may_take options.entry.counted.now options.entry.conditions.now options.entry.table report.old report.new out.old
+        result out.new }
 {
     let text = part_text(alloc, report, options)?;
     print(out, &text)?;

@@ -10,3 +10,4 @@ mod failures;
 mod hints;
 mod mem_system;
 mod reasons;
+mod several;

@@ -238,7 +238,7 @@ pub(super) fn has_parts(
     if options.by.dir.is_some() && !report.lists.files {
         return Ok(false);
     }
-    let text = report_text(alloc, &mut report, options)?;
+    let text = report_text(alloc, b".", &mut report, options)?;
     Ok(is_made_of(&text, parts))
 }
 
@@ -329,7 +329,7 @@ fn compare_writes<R: AllocGlobal + Abort>(
 #[test]
 fn a_table_stops_at_every_place(rt: HostRuntime) -> Result<(), Fail> {
     let mut report = report_of(rt.alloc(), &TOP_UNREAD)?;
-    let text = report_text(rt.alloc(), &mut report, TSV)?;
+    let text = report_text(rt.alloc(), b".", &mut report, TSV)?;
     for writer in WRITERS {
         compare_writes(&rt, &TOP_UNREAD, &text, *writer)?;
     }

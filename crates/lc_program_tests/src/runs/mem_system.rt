@@ -45,6 +45,8 @@ impl<'a> System for MemSystem<'a> {
 
     ghost lies = { λ s name answer. Unit {0} };
 
+    ghost stands = { λ s name answer. Unit {0} };
+
     /// Takes no memory.
     fn tree(
         &self,
@@ -80,5 +82,16 @@ impl<'a> System for MemSystem<'a> {
         let top = String::from_str(alloc, top).ok()?;
         let path = String::from_str(alloc, path).ok()?;
         Some(Repository { top, path })
+    }
+
+    /// Each name is a path of its own, but for `away`, and `./` before a name.
+    fn canonical(&self, alloc: Global, directory: &str) -> Option<String> {
+        if directory == "away" {
+            return None;
+        }
+        let path = directory.strip_prefix("./").unwrap_or(directory);
+        let mut canonical = String::from_str(alloc, "/").ok()?;
+        canonical.push_str(path).ok()?;
+        Some(canonical)
     }
 }
