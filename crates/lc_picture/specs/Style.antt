@@ -14,6 +14,7 @@ style =
     ++ codes "dl{display:flex;flex-wrap:wrap;gap:.5rem 2.5rem;margin:1rem 0}\n"
     ++ codes "dl div{display:flex;flex-direction:column-reverse}\n"
     ++ codes "dd{margin:0;font-size:2rem;line-height:1.1;font-variant-numeric:tabular-nums}\n"
+    ++ codes "ul{max-height:9em;overflow:auto;overflow-wrap:anywhere}\n"
     ++ codes "table{border-collapse:collapse;font-variant-numeric:tabular-nums}\n"
     ++ codes "th,td{padding:0 .6rem;text-align:right}\n"
     ++ codes "tr>:first-child{text-align:left}\n"
@@ -30,7 +31,8 @@ style =
     ++ codes "summary>*,summary::before{flex:none;box-sizing:border-box;width:100%;padding:0 .3rem}\n"
     ++ codes "details:not([open])>summary>b::before{content:\"+ \"}\n"
     ++ codes "details>div{position:absolute;inset:0 0 0 11em;display:flex;flex-direction:column}\n"
-    ++ codes "details>div>i{order:1;flex:var(--n) 0 0;overflow:hidden;padding-left:.3rem;white-space:nowrap;container-type:size}\n"
+    ++ codes "details>div>i{order:1;flex:var(--n) 0 0;overflow:hidden;min-width:11em;box-sizing:border-box;"
+    ++ codes "padding-left:.3rem;white-space:nowrap;container-type:size}\n"
     ++ codes "details>div>i:only-child>em{display:none}\n"
     ++ codes "@container (height<2.7em){summary>span{display:none}}\n"
     ++ codes "@container (height<1.35em){summary>b,details>div>i>em{display:none}}\n"
@@ -43,6 +45,9 @@ style =
     ++ codes ".e6>summary,.e6 .bar i{background:#b07aa180}\n"
     ++ codes ".e7>summary,.e7 .bar i{background:#9c755f80}\n"
     ++ codes ".e8>summary,.e8 .bar i{background:#bab0ac80}\n"
+    ++ codes "@media (max-width:45rem){tbody{display:grid;grid-template-columns:repeat(5,auto);font-size:.75rem}\n"
+    ++ codes "tr{display:contents}tr>:first-child,tr>:last-child{grid-column:1/-1}th,td{padding:0 .2rem}\n"
+    ++ codes ".bar{width:auto;margin-bottom:.4rem}}\n"
     ++ codes "@media print{.tree{height:24cm;overflow:hidden;break-inside:avoid;font-size:7pt}}\n"
 
 abbrev pub page_begin : List ℕ

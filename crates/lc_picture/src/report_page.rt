@@ -170,9 +170,9 @@ fn page_by(
 /// Makes the page of a report: one file of HTML with no script, no font and no address.
 ///
 /// It has what was counted, which is `counted` as terminals show it, the sums over all files, a bar for each of the first extensions, and a
-/// box for each directory, inside that of the directory that holds it, the largest first. Bars and boxes are drawn by the number `sort`, or
-/// by lines, and the browser divides the space by these numbers. Directories with less than a thousandth of the total have no boxes. A
-/// reader folds a box to give its space to others.
+/// box for each directory, inside that of the directory that holds it, the largest first. If the report has errors, it says how many, and
+/// lists the first hundred. Bars and boxes are drawn by the number `sort`, or by lines, and the browser divides the space by these numbers.
+/// Directories with less than a thousandth of the total have no boxes. A reader folds a box to give its space to others.
 ///
 /// The report must have its files. It stops with an error if there is no memory, and for numbers that no walk has, whose sums overflow.
 pub fn page(

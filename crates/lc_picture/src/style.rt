@@ -26,6 +26,7 @@ pub(crate) fn style() -> &'static [u8]
       dl{display:flex;flex-wrap:wrap;gap:.5rem 2.5rem;margin:1rem 0}\n\
       dl div{display:flex;flex-direction:column-reverse}\n\
       dd{margin:0;font-size:2rem;line-height:1.1;font-variant-numeric:tabular-nums}\n\
+      ul{max-height:9em;overflow:auto;overflow-wrap:anywhere}\n\
       table{border-collapse:collapse;font-variant-numeric:tabular-nums}\n\
       th,td{padding:0 .6rem;text-align:right}\n\
       tr>:first-child{text-align:left}\n\
@@ -42,7 +43,8 @@ pub(crate) fn style() -> &'static [u8]
       summary>*,summary::before{flex:none;box-sizing:border-box;width:100%;padding:0 .3rem}\n\
       details:not([open])>summary>b::before{content:\"+ \"}\n\
       details>div{position:absolute;inset:0 0 0 11em;display:flex;flex-direction:column}\n\
-      details>div>i{order:1;flex:var(--n) 0 0;overflow:hidden;padding-left:.3rem;white-space:nowrap;container-type:size}\n\
+      details>div>i{order:1;flex:var(--n) 0 0;overflow:hidden;min-width:11em;box-sizing:border-box;\
+      padding-left:.3rem;white-space:nowrap;container-type:size}\n\
       details>div>i:only-child>em{display:none}\n\
       @container (height<2.7em){summary>span{display:none}}\n\
       @container (height<1.35em){summary>b,details>div>i>em{display:none}}\n\
@@ -55,6 +57,9 @@ pub(crate) fn style() -> &'static [u8]
       .e6>summary,.e6 .bar i{background:#b07aa180}\n\
       .e7>summary,.e7 .bar i{background:#9c755f80}\n\
       .e8>summary,.e8 .bar i{background:#bab0ac80}\n\
+      @media (max-width:45rem){tbody{display:grid;grid-template-columns:repeat(5,auto);font-size:.75rem}\n\
+      tr{display:contents}tr>:first-child,tr>:last-child{grid-column:1/-1}th,td{padding:0 .2rem}\n\
+      .bar{width:auto;margin-bottom:.4rem}}\n\
       @media print{.tree{height:24cm;overflow:hidden;break-inside:avoid;font-size:7pt}}\n"
 }
 
