@@ -39,10 +39,14 @@ entered_by c = if c.one_file_system then One else All
 abbrev pub names_of : CountRequest → List (List ℕ)
 names_of c = map (λ directory. directory.now) c.directories.items
 
+-- names, each after a space
+abbrev pub after_spaces : List (List ℕ) → List ℕ
+after_spaces names = flat_map (λ name. 32 ∷ name) names
+
 -- names as one text, with a space between two
 abbrev pub one_text : List (List ℕ) → List ℕ
 one_text [] = []
-one_text (name ∷ names) = name ++ flat_map (λ n. 32 ∷ n) names
+one_text (name ∷ names) = name ++ after_spaces names
 
 abbrev pub counted_in : CountRequest → List ℕ
 counted_in c = one_text (names_of c)

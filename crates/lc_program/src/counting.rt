@@ -1,10 +1,10 @@
 //! Answering counts.
 
-ghost use Rattle.std.specs.Prelude.{◌≡◌, map, IfOk};
+ghost use Rattle.std.specs.Prelude.{◌≡◌, ◌++◌, map, IfOk, OnOk};
 ghost use Rattle.lc_arguments.specs.Combinations.{is_picture};
 ghost use Rattle.lc_arguments.specs.Words.{IsCountWithinLimits};
 ghost use Rattle.lc_arguments.specs.TableWords.{options_in};
-ghost use Rattle.lc_program.specs.Counts.{AnswersApart, AnswersCount, IsAskedBy, Prints, one_text};
+ghost use Rattle.lc_program.specs.Counts.{AnswersApart, AnswersCount, IsAskedBy, Prints, after_spaces, one_text};
 ghost use Rattle.lc_program.specs.Systems.{system_may};
 ghost use Rattle.lc_rows.specs.WalkedReports.{ListsFilesFor};
 ghost use Rattle.lc_walk.specs.WalkOptions.{AreWithinLimits};
@@ -64,6 +64,17 @@ fn options_of<'o>(
     }
 }
 
+/// Adds names, each after a space.
+fn push_after_spaces(text: &mut Vec<u8>, names: &[&str]) -> Result<(), AllocError>
+    ensures { OnOk result (text.new.items ≡ text.old.items ++ after_spaces (map (λ name. name.now) names.now)) }
+{
+    for name in names {
+        text.push(b' ')?;
+        text.extend_from_slice(name.as_bytes())?;
+    }
+    Ok(())
+}
+
 /// Makes one text of names, with a space between two.
 fn one_text(alloc: Global, names: &[&str]) -> Result<Vec<u8>, AllocError>
     ensures { IfOk result (λ text. text.items ≡ one_text (map (λ name. name.now) names.now)) }
@@ -72,10 +83,7 @@ fn one_text(alloc: Global, names: &[&str]) -> Result<Vec<u8>, AllocError>
         return Ok(Vec::new(alloc));
     };
     let mut text = first.as_bytes().to_vec(alloc)?;
-    for name in others {
-        text.push(b' ')?;
-        text.extend_from_slice(name.as_bytes())?;
-    }
+    push_after_spaces(&mut text, others)?;
     Ok(text)
 }
 
