@@ -12,7 +12,7 @@ const CASES: &[Case<'static>] = &[
             (b"a.c", Sketch::File(b"int a;\n")),
             (b"shut", Sketch::Closed),
         ]),
-        words: &["count", "--by", "ext", "top//", "other"],
+        words: &["count", "--by", "ext", "top", "other"],
         status: 1,
         out: b"ext\ttext\teol\tfiles\tlines\tblank\tbytes\n\
                .c\t*\t*\t1\t1\t0\t7\n\
