@@ -1,6 +1,8 @@
 -- Places in order of their paths: what one holds comes next after it.
-use Rattle.std.proofs.Common.{◌≡◌, ◌⊎◌, inl, inr, ℕ, ◌+◌, ◌<◌, ◌≤◌, Bool, Result, Ok, Err, IfErr, true, false, List, [], ◌∷◌, ◌++◌, length, take, drop, get_or, refl, sym, ◌∙◌}
-use Rattle.std.proofs.Common.{ap, ap₂, append_assoc, subst, arith, ◌-◌, take_all, IsPermutation, nat_cmp, nat_eq, append-nil, le_antisymm, suc-add, take-append-drop, zero, suc}
+use Rattle.std.proofs.Common.{◌≡◌, ◌⊎◌, inl, inr, ℕ, ◌+◌, ◌<◌, ◌≤◌, Bool, Result, Ok, Err, IfErr, true, false, List, [], ◌∷◌, ◌++◌}
+use Rattle.std.proofs.Common.{length, take, drop, get_or, refl, sym, ◌∙◌}
+use Rattle.std.proofs.Common.{ap, ap₂, append_assoc, subst, arith, ◌-◌, take_all, IsPermutation, nat_cmp, nat_eq, append-nil, le_antisymm}
+use Rattle.std.proofs.Common.{suc-add, take-append-drop, zero, suc}
 use Rattle.std.proofs.Math.Seq.{take-append_seam}
 use Rattle.std.proofs.lemmas.Cmp.{nat_cmp_total, nat_list_cmp_total, tied_itself}
 use Rattle.std.proofs.lemmas.List.Sorted.{IsPermutation-refl, IsPermutation-trans, ranks_by, sorted_far}
@@ -79,7 +81,8 @@ next_at (p ∷ q ∷ ps) apart (suc k) d low =
 
 module _ (ps : List Place) (sorted : IsSortedByKey (λ (p : Place). p.path) bytes_cmp ps) (apart : AreNextApart ps) where
   far : (i j : ℕ) (d : Place) → i ≤ j → j < length ps → is_lt (bytes_cmp (get_or ps j d).path (get_or ps i d).path) ≡ false
-  far i j d low high = sorted_far (λ (a b : Place). is_lt (bytes_cmp a.path b.path)) (ranks_by nat_list_cmp_total (λ (p : Place). p.path)) ps
+  far i j d low high = sorted_far (λ (a b : Place). is_lt (bytes_cmp a.path b.path))
+      (ranks_by nat_list_cmp_total (λ (p : Place). p.path)) ps
       sorted i j d low high
 
   later_apart : (i j : ℕ) (d : Place) → i < j → j < length ps → (b : Bool) → b ≡ holds (get_or ps i d) (get_or ps j d) → b ≡ false

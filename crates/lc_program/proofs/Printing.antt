@@ -30,7 +30,8 @@ module _ (may : SystemMay) {O : Type 0} (may_take : O → List ℕ → Result �
   pub prints_stopped : (answer : Result Report Cause) (r left : Report) (fault : PrintFault) (out wrote : O)
       (counted : List ℕ) (conditions : List ConditionModel) (options : TableOptions) → IsErrAnd answer (λ cause. cause ≡ print_cause fault)
       → Finds (MayWalk may may_take other c o) (names_of c) r → counted ≡ counted_in c → conditions ≡ c.conditions.items
-      → options ≡ options_in other c.table → AnswersTable may_take counted conditions options r left out (Err fault) wrote → Prints may may_take other c o out answer wrote
+      → options ≡ options_in other c.table → AnswersTable may_take counted conditions options r left out (Err fault) wrote
+      → Prints may may_take other c o out answer wrote
   prints_stopped (Ok given) r left fault out wrote counted conditions options is finds named same alike stopped = absurd is
   prints_stopped (Err cause) r left fault out wrote counted conditions options is finds named same alike stopped =
       inr (
@@ -40,7 +41,8 @@ module _ (may : SystemMay) {O : Type 0} (may_take : O → List ℕ → Result �
         finds,
         is,
         subst (λ n. AnswersTable may_take n c.conditions.items (options_in other c.table) r left out
-            (Err fault) wrote) named (subst₂ (λ cs os. AnswersTable may_take counted cs os r left out (Err fault) wrote) same alike stopped),
+            (Err fault) wrote) named
+            (subst₂ (λ cs os. AnswersTable may_take counted cs os r left out (Err fault) wrote) same alike stopped),
       )
 
   -- it was written whole

@@ -20,14 +20,15 @@ pub run_stops : {O : Type 0} (may_take : O → List ℕ → Result ℕ Failed �
     → AnswersTable may_take counted conditions options r left out (Err fault) wrote → IsErrAnd answer (λ e. e ≡ table_fault fault)
     → AnswersRun may_take walks counted conditions options out answer wrote
 run_stops may_take walks counted conditions options r left fault (Ok shown) out wrote walked stopped is = absurd is
-run_stops may_take walks counted conditions options r left print.Write (Err e) out wrote walked stopped is = rw is (r, walked, (left, stopped))
+run_stops may_take walks counted conditions options r left print.Write (Err e) out wrote walked stopped is =
+    rw is (r, walked, (left, stopped))
 run_stops may_take walks counted conditions options r left print.Memory (Err e) out wrote walked stopped is = rw is stopped
 
 -- a table that was written whole
 pub table_is_written : {O : Type 0} (may_take : O → List ℕ → Result ℕ Failed → O → Type 0)
     (counted : List ℕ) (conditions : List ConditionModel) (options : TableOptions) (r left : Report)
-    (text taken : List ℕ) (out wrote : O) → IsPrinted counted conditions options r text left → taken ≡ text → Writes may_take out taken wrote
-    → AnswersTable may_take counted conditions options r left out (Ok tt) wrote
+    (text taken : List ℕ) (out wrote : O) → IsPrinted counted conditions options r text left → taken ≡ text
+    → Writes may_take out taken wrote → AnswersTable may_take counted conditions options r left out (Ok tt) wrote
 table_is_written may_take counted conditions options r left text taken out wrote of same written = (text, of, rw (sym same) written)
 
 -- a table of which a write stopped

@@ -94,7 +94,8 @@ module _ (may : SystemMay) {I O : Type 0} (may_give : I → ℕ → Answer → I
       (text : Option (List ℕ)) × Excludes may.hold c.filters.exclude_from text
       × ((paths : Vec (Bor (List ℕ)) Global) × AnswersPathsOf input (Ok paths) read
       × ((o : Options) × IsAskedBy c (filters_of c.filters text (map (λ path. path.now) paths.items)) o
-      × ((answer : Result Report Cause) × IsRunReply (attributes_of c.filters.without.items) answer reply × Prints may may_take other c o out answer wrote)))
+      × ((answer : Result Report Cause) × IsRunReply (attributes_of c.filters.without.items) answer reply
+      × Prints may may_take other c o out answer wrote)))
 
   -- such a count; or there were no rules or no memory, and nothing was read; or there were no paths; then nothing was written
   abbrev pub AnswersApart : I → O → Reply → I → O → Type 0
@@ -103,9 +104,10 @@ module _ (may : SystemMay) {I O : Type 0} (may_give : I → ℕ → Answer → I
       ⊎ ((cause : Cause) × (reply ≡ Err cause) × (wrote ≡ out)
       × (((LacksRules may.hold c.filters cause ⊎ (cause ≡ Memory)) × (read ≡ input)) ⊎ AnswersPathsOf input (Err cause) read))
 
-  -- no directory is another or lies in another, and they are counted; or one is or does, or there was no memory to see, and nothing was read
-  -- or written
+  -- no directory is another or lies in another, and they are counted; or one is or does, or there was no memory to see, and nothing was
+  -- read or written
   abbrev pub AnswersCount : I → O → Reply → I → O → Type 0
   AnswersCount input out reply read wrote =
       (AreApart may.stand (names_of c) × AnswersApart input out reply read wrote)
-      ⊎ ((cause : Cause) × (AreNested may.stand (names_of c) cause ⊎ (cause ≡ Memory)) × (reply ≡ Err cause) × (read ≡ input) × (wrote ≡ out))
+      ⊎ ((cause : Cause) × (AreNested may.stand (names_of c) cause ⊎ (cause ≡ Memory)) × (reply ≡ Err cause) × (read ≡ input)
+      × (wrote ≡ out))

@@ -1,5 +1,6 @@
 -- The lines that tell what a count could not read.
-use Rattle.std.specs.Prelude.{◌≡◌, ◌⊎◌, ℕ, Bool, true, false, cond, not, List, [], ◌∷◌, ◌++◌, length, flat_map, bytes_eq, codes, decimal, nat_eq}
+use Rattle.std.specs.Prelude.{◌≡◌, ◌⊎◌, ℕ, Bool, true, false, cond, not, List, [], ◌∷◌, ◌++◌, length, flat_map, bytes_eq, codes, decimal}
+use Rattle.std.specs.Prelude.{nat_eq}
 use Rattle.std.specs.Prelude.{Option, Result}
 use Rattle.std.specs.List.{filter, list_any}
 use Rattle.lc_arguments.specs.Directories.{unslashed}

@@ -60,8 +60,8 @@ pub record IsReordered (r left : Report) : Type 0 where
   pub rest : left ≡ record r { files = left.files }
 
 -- a text of what meets some conditions of a report, which is what is left of it
-pub record IsPrinted (counted : List ℕ) (conditions : List ConditionModel) (options : TableOptions) (r : Report) (text : List ℕ) (left : Report)
-    : Type 0 where
+pub record IsPrinted (counted : List ℕ) (conditions : List ConditionModel) (options : TableOptions) (r : Report) (text : List ℕ)
+    (left : Report) : Type 0 where
   pub part : Report
   pub is_kept : IsKept conditions r part
   pub is_text : IsTextOf counted options part text

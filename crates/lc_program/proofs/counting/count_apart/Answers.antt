@@ -101,7 +101,8 @@ returns g c =
               c.in_ok-filters.ensures.2 (ap (map (λ path. path.now)) c.as_slice.ensures.value),
           (
             c.print_found.result,
-            run_counted (attributes_of c.args.asked.now.filters.without.items) c.print_found.result c.in_ok-report.report c.unnamed_lines-unnamed.result
+            run_counted (attributes_of c.args.asked.now.filters.without.items) c.print_found.result c.in_ok-report.report
+                c.unnamed_lines-unnamed.result
                 (subst (λ (l : List (List ℕ)). AreUnnamedLines l (string_bytes c.unnamed_lines-unnamed.result))
                 (c.in_ok-named.ensures ∙ ap attributes_of c.deref.ensures.value)
                 c.unnamed_lines-unnamed.ensures)

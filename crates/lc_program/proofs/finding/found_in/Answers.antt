@@ -18,4 +18,5 @@ returns-then-directories-ne1-clause-none g c =
 pub returns-clause-files : goal.returns-clause-files
 returns-clause-files g c =
     one_listed (λ d. g.Y.Tree.Tree.lists (g.Y.System.tree c.args.system.now d c.args.entered))
-    (λ d. g.Y.Tree.Tree.gives (g.Y.System.tree c.args.system.now d c.args.entered)) c.args.options.now _ c.in_ok-report.report c.in_ok-report.ensures
+    (λ d. g.Y.Tree.Tree.gives (g.Y.System.tree c.args.system.now d c.args.entered)) c.args.options.now _ c.in_ok-report.report
+    c.in_ok-report.ensures
