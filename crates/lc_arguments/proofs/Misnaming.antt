@@ -1,5 +1,6 @@
 -- Words that ask for what there is not: values of options, tables, counts.
-use Rattle.std.proofs.Common.{◌≡◌, ◌∙◌, ◌<◌, ◌&&◌, ℕ, zero, suc, Bool, true, false, not, List, [], ◌∷◌, length, map, refl, ap, inl, inr, sym}
+use Rattle.std.proofs.Common.{◌≡◌, ◌∙◌, ◌<◌, ◌&&◌, ℕ, zero, suc, Bool, true, false, not, List, [], ◌∷◌, length, map}
+use Rattle.std.proofs.Common.{refl, ap, inl, inr, sym}
 use Rattle.std.proofs.Common.{subst, Result, Err, Option, arith}
 use Rattle.std.proofs.Math.Bool.{and-false}
 use Rattle.std.specs.Borrow.{Bor}

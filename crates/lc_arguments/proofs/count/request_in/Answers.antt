@@ -5,7 +5,8 @@ use Rattle.clap.specs.Walk.{rows_of}
 use Rattle.lc_arguments.specs.Words.{IsTableAt}
 use Rattle.lc_arguments.proofs.ColumnNames.{depth_within}
 use Rattle.lc_arguments.proofs.WordFaults.{flag_of, text_of}
-use Rattle.lc_arguments.proofs.Misnaming.{conditions_refused, directories_refused, filters_refused, no_count_in, paths_refused, table_refused}
+use Rattle.lc_arguments.proofs.Misnaming.{conditions_refused, directories_refused, filters_refused, no_count_in, paths_refused}
+use Rattle.lc_arguments.proofs.Misnaming.{table_refused}
 use Rattle.lc_arguments.proofs.count.request_in.Goals as goal
 
 pub returns-in_err-filters : goal.returns-in_err-filters
@@ -23,7 +24,8 @@ returns-in_err-only c =
 pub returns-in_err-directories : goal.returns-in_err-directories
 returns-in_err-directories c =
     let rows = rows_of (found_of c.args.matches.now) in
-    no_count_in rows c.args.numbers c.from_residual-in_err-directories.result c.in_err-directories.field-0.0 c.from_residual-in_err-directories.ensures.1
+    no_count_in rows c.args.numbers c.from_residual-in_err-directories.result c.in_err-directories.field-0.0
+    c.from_residual-in_err-directories.ensures.1
     (directories_refused rows c.args.numbers c.in_err-directories.field-0.0 c.in_err-directories.ensures)
 
 pub returns-in_err-table : goal.returns-in_err-table
@@ -35,7 +37,8 @@ returns-in_err-table c =
 pub returns-in_err-conditions : goal.returns-in_err-conditions
 returns-in_err-conditions c =
     let rows = rows_of (found_of c.args.matches.now) in
-    no_count_in rows c.args.numbers c.from_residual-in_err-conditions.result c.in_err-conditions.field-0.0 c.from_residual-in_err-conditions.ensures.1
+    no_count_in rows c.args.numbers c.from_residual-in_err-conditions.result c.in_err-conditions.field-0.0
+    c.from_residual-in_err-conditions.ensures.1
     (conditions_refused rows c.args.numbers c.in_err-conditions.field-0.0 c.in_err-conditions.ensures)
 
 pub returns : goal.returns
