@@ -29,7 +29,7 @@ pub fn rows_are_the_walk_of_their_tree()
     ensures numbers { NumbersLaw }
 {}
 
-/// The law that rows whose levels are all those of one tree are what the recursive walk of that tree finds.
+/// The law that rows are what the recursive walk of a tree finds, if each row's level is that of the tree.
 pub fn rows_are_the_walk_of_one_tree()
     ensures { OneAnswerLaw }
 {}
