@@ -26,7 +26,7 @@ fn push_if(columns: &mut Vec<Column>, kept: bool, column: Column) -> Result<(), 
     Ok(())
 }
 
-/// Returns the first of the columns that rows are grouped by, which is where sums have their names.
+/// Returns the first of the columns that rows are grouped by. The names of sums are in this column.
 pub(crate) fn first_key(format: Format, by: Columns) -> Column
     ensures { result ≡ first_key (keeps_columns format) by }
 {

@@ -34,7 +34,7 @@ fn summed<'a>(
     }
 }
 
-/// Returns the number of sums that is asked for.
+/// Returns the number `by` of some sums, such as their lines.
 pub fn number_in(by: Number, sums: Sums) -> u128
     ensures { result ≡ number_in by sums }
 {
