@@ -1,6 +1,6 @@
-//! Why a directory was broken off.
+//! Why a worker stopped work on a directory.
 
-/// Why a directory was broken off.
+/// Why a worker stopped work on a directory.
 #[derive(Clone, Copy, Debug, Drop, PartialEq, Eq)]
 pub enum BrokenCause {
     /// An allocation failed.

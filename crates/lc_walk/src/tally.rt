@@ -37,8 +37,8 @@ pub(crate) const MAX_FILES: u64 = 1 << 63;
 /// A tally represents a list of files: `new` the empty list, `add` one more file, and `merge` the files of both. The order of the files
 /// does not matter (`a_tally_has_no_order`). The time of an add grows with the logarithm of the number of keys.
 ///
-/// The order of keys: first no extension, then extensions by their bytes; then the text state in the order set, unset,
-/// auto, other, unspecified; then the class of line ends in the order none, LF, CR LF, CR, mixed, NUL.
+/// The order of keys: first no extension, then extensions by their bytes; then the text state in the order set, unset, auto, other,
+/// unspecified; then the class of line ends in the order none, LF, CR LF, CR, mixed, NUL.
 ///
 /// ```
 /// let mut tally = Tally::new(alloc);
@@ -79,8 +79,8 @@ impl Tally {
         self.totals
     }
 
-    /// Adds a file of an extension, a text state and a census. Only a key that no file had before needs memory, for a row and
-    /// the extension's bytes. If that allocation fails, the tally stays as it was.
+    /// Adds a file with an extension, a text state and a census. Only a key that no earlier file had needs memory, for a row and the
+    /// extension's bytes. If that allocation fails, the tally stays as it was.
     pub fn add(
         &mut self,
         ext: Option<&[u8]>,

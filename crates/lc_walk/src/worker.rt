@@ -65,7 +65,7 @@ pub struct Worker<'w, 'o, B, T, W> {
 }
 
 impl<'w, 'o, B, T, W> Worker<'w, 'o, B, T, W> {
-    /// Makes a worker. `idle` counts it as idle from its start, and has all workers that help one with a large directory.
+    /// Makes a worker. `idle` counts the worker as idle from its start, and knows all workers that help one with a large directory.
     pub fn new(
         rt: &'w W,
         alloc: Global,

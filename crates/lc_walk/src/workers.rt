@@ -27,7 +27,7 @@ pub(crate) struct Gathered<P> {
     pub(crate) tally: Tally,
 }
 
-/// Runs a worker for each pass, in a thread of its own where one can be started, and waits for all.
+/// Runs a worker for each pass, in its own thread if one can be started, and waits for all workers.
 pub(crate) fn run_all<B: Shared<Job, Row>, T: Tree, R: Threads + Wait + Sync>(
     rt: &R,
     alloc: Global,
