@@ -218,7 +218,7 @@ pub(crate) fn condition_of(text: &[u8]) -> Option<Condition<'_>>
     condition_with(column, comparison, without_spaces(values))
 }
 
-/// Returns whether an operator has a byte.
+/// Returns whether some operator has this byte.
 fn is_operator_byte(byte: u8) -> bool {
     matches!(byte, b'!' | b'<' | b'=' | b'>')
 }

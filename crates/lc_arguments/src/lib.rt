@@ -5,7 +5,7 @@
 //! - `count`, `check`, `explain`: the options of each command; `table`: the options of the table; `paths`: the paths of `--only`;
 //!   `directories`: DIR
 //! - `numbers`: the numbers of a count; `combinations`: options that can't be combined
-//! - `filter_request`: which entries counts and explanations skip; `repeated`: options that may be given several times
+//! - `filter_request`: which entries counts and explanations skip; `repeated`: options that may be used several times
 //! - `conditions`: the conditions that shown files meet; `condition_text`: a condition, as it is typed
 //! - `options_table`: the table of options; `option_row`: the rows of the table; `arguments`: clap's arguments, made from the rows
 //! - `refusals`: the text of a refusal, as a terminal shows it; `error_text`: the texts of usage errors

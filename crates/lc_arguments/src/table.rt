@@ -70,7 +70,7 @@ impl TableRequest {
         self.format.unwrap_or(default)
     }
 
-    /// Returns the order in a format.
+    /// Returns the order of rows and files in a format: the named order, or the default order.
     fn order_in(self, format: Format) -> Order
         ensures { result ≡ order_in format self }
     {
