@@ -67,7 +67,7 @@ fn unread_paths_line(why: Option<UnreadReason>) -> &'static str
 }
 
 impl Cause {
-    /// Makes the line, with its line feed. A line with a number takes memory.
+    /// Makes the line, with its line feed. A line with a number allocates memory.
     pub(crate) fn line(&self, alloc: Global) -> Result<CowStr<'_>, AllocError>
         ensures line { IfOk result (λ line. cow_str_bytes line ≡ cause_line self.now) }
         ensures refused { IsErr result → HasNumber self.now }

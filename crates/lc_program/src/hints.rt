@@ -133,7 +133,7 @@ fn repositories_above<Y: System>(
     Ok(repositories)
 }
 
-/// Hints that rules above these directories were not read, if one lies in a repository below its top.
+/// Writes a hint that rules above these directories were not read, if one of them lies in a repository below its top.
 fn hint_about<Y: System, E: Sink>(alloc: Global, system: &Y, directories: &[&str], err: &mut E)
     ensures { HintsAbout E.may_take (Y.lies system.now) (map (λ d. d.now) directories.now) err.old err.new }
 {
@@ -148,7 +148,8 @@ fn hint_about<Y: System, E: Sink>(alloc: Global, system: &Y, directories: &[&str
     }
 }
 
-/// Hints that rules above the counted directories were not read, if one lies in a repository below its top. Only a terminal gets the hint.
+/// Writes a hint that rules above the counted directories were not read, if one of them lies in a repository below its top. Only a terminal
+/// gets the hint.
 pub(crate) fn hint<Y: System, E: Sink>(
     alloc: Global,
     system: &Y,
