@@ -6,10 +6,10 @@ use std::fs;
 use std::path::Path;
 use std::rt::Files;
 
-/// The most `..` by which the top of a repository is named.
+/// The greatest number of `..` in the name of a repository's top.
 const MAX_STEPS: usize = 8;
 
-/// Returns whether a directory has an entry `.git`. It has none if the system can't say.
+/// Returns whether a directory has an entry `.git`. The answer is no if the system can't say.
 fn has_git<R: Files + AllocGlobal>(rt: &R, alloc: Global, directory: Path<'_>) -> bool {
     match directory.join(alloc, ".git") {
         Ok(git) => fs::symlink_metadata(rt, git.as_path()).is_ok(),
@@ -42,7 +42,8 @@ fn leads_to<R: Files + AllocGlobal>(rt: &R, path: &str, top: Path<'_>) -> bool {
     }
 }
 
-/// Names the top from the directory that the program runs in, if that is the top or not far below it.
+/// Names the top by its path from the directory that the program runs in, if it is that directory or at most [`MAX_STEPS`] directories
+/// above it.
 fn name_from_here<R: Files + AllocGlobal>(
     rt: &R,
     alloc: Global,
@@ -57,7 +58,7 @@ fn name_from_here<R: Files + AllocGlobal>(
     Some(steps_up(alloc, steps))
 }
 
-/// Makes the path that leads up by some steps.
+/// Makes the path that leads up by this many steps.
 fn steps_up(alloc: Global, steps: usize) -> Result<String, AllocError> {
     if steps == 0 {
         return String::from_str(alloc, ".");
@@ -69,7 +70,7 @@ fn steps_up(alloc: Global, steps: usize) -> Result<String, AllocError> {
     Ok(path)
 }
 
-/// Returns the front of a directory's path before its path in the repository, if the one ends with the other.
+/// Returns the front of a directory's path, without its path in the repository, if the directory's path ends with the latter.
 fn front_of<'d>(directory: &'d str, inner: &str) -> Option<&'d str> {
     let front = directory.trim_end_matches('/').strip_suffix(inner)?;
     let front = front.strip_suffix('/')?;
@@ -80,8 +81,8 @@ fn front_of<'d>(directory: &'d str, inner: &str) -> Option<&'d str> {
     }
 }
 
-/// Names the top of a repository as a command line may: from the directory that the program runs in, by the front of the directory's
-/// path, or by its whole path.
+/// Names the top of a repository as a command line may: by its path from the directory that the program runs in, by the front of the
+/// directory's path, or by its whole path.
 fn name_of_top<R: Files + AllocGlobal>(
     rt: &R,
     alloc: Global,
@@ -98,7 +99,7 @@ fn name_of_top<R: Files + AllocGlobal>(
     }
 }
 
-/// Returns the repository in which a directory lies, below its top.
+/// Returns the repository in which a directory lies, below the repository's top.
 pub(crate) fn repository_above<R: Files + AllocGlobal>(
     rt: &R,
     alloc: Global,

@@ -13,11 +13,12 @@ use std::io::ErrorKind;
 use std::rt::Files;
 use std::time::Clock;
 
-/// The directories and files of the host. Any answer may come for any name, but a listing is made of names that were read and of looks.
+/// The directories and files of the host. Any answer may come for any name, but a listing is made from names that were read and from
+/// metadata.
 #[derive(Drop)]
 pub(crate) struct HostSystem<'a, R> {
     pub(crate) rt: &'a R,
-    /// Where to count what is opened of a directory, if a terminal shows it.
+    /// The progress that counts what is opened of a directory, if a terminal shows it.
     pub(crate) progress: Option<&'a Progress>,
 }
 

@@ -1,7 +1,8 @@
-//! The program `lc` counts the files and lines of a directory, skips what Git would ignore, and tells which rule decides a path.
+//! The program `lc` counts the files and lines of a directory, skips what Git would ignore, and shows which rule decides a path.
 //!
-//! `lc_program` has all of it but what is here: its arguments, its streams, the directories and files of the host in `host_system`, with
-//! `unread` and `host_repository`, and the line that a long count shows on a terminal: `progress`, `watched_tree` and `watched_sink`.
+//! `lc_program` has most of the program. This crate adds its arguments, its streams, and the directories and files of the host
+//! (`host_system`, with `unread` and `host_repository`). It also adds the line that a long count shows on a terminal (`progress`,
+//! `watched_tree` and `watched_sink`).
 #![tactic(auto)]
 
 mod host_repository;
@@ -24,7 +25,7 @@ use std::io::{ErrorKind, IsTerminal};
 use std::process::ExitCode;
 use watched_sink::WatchedSink;
 
-/// Returns whether the terminal can't rewrite a line, which `TERM` says.
+/// Returns whether `TERM` says that the terminal can't rewrite a line.
 fn is_dumb<R: Env + AllocGlobal>(rt: &R) -> bool {
     match env::var(rt, "TERM") {
         Ok(name) => name.as_str() == "dumb",
@@ -36,7 +37,7 @@ fn main(rt: HostRuntime) -> ExitCode {
     let mut err = StdSink(rt.stderr());
     let words = match env::args(&rt) {
         Ok(words) => words,
-        // An argument that is not text names nothing that the program could be asked for.
+        // The program refuses an argument that is not UTF-8.
         Err(fault) if fault.kind() == ErrorKind::InvalidData => {
             let ending = misuse("lc: an argument is not UTF-8\n", &mut err);
             return ExitCode::from(ending.status());

@@ -6,13 +6,13 @@ use std::io::{Stderr, Write};
 use std::sync::atomic::{AtomicBool, AtomicU64, Ordering};
 use std::time::Clock;
 
-/// How long a count runs before it shows a line, in milliseconds.
+/// The time that a count runs before it shows a line, in milliseconds.
 const DELAY: u64 = 1000;
 
 /// The least time between two lines, in milliseconds.
 const PERIOD: u64 = 250;
 
-/// What a count has opened so far, and when it shows this. Its answer does not depend on it.
+/// What a count has opened so far, and the time to show it next. The count's result does not depend on it.
 #[derive(Drop)]
 pub(crate) struct Progress {
     alloc: Global,
@@ -24,13 +24,13 @@ pub(crate) struct Progress {
     is_shown: AtomicBool,
 }
 
-/// The clock's time in milliseconds, if it can be read.
+/// Returns the clock's time in milliseconds, if it can be read.
 fn milliseconds(clock: &impl Clock) -> Option<u64> {
     let time = clock.monotonic().ok()?;
     u64::try_from(time.as_millis()).ok()
 }
 
-/// Appends a count and what is counted: one of them, or many.
+/// Appends a number and the word for what it counts, in the singular or the plural.
 fn push_count(
     text: &mut String,
     count: &AtomicU64,
@@ -43,7 +43,7 @@ fn push_count(
 }
 
 impl Progress {
-    /// Begins a count that may show lines on a terminal, unless the clock can't be read.
+    /// Makes the progress of a count that may show lines on a terminal, unless the clock can't be read.
     pub(crate) fn new(clock: &impl Clock, alloc: Global, terminal: Stderr) -> Option<Progress> {
         let now = milliseconds(clock)?;
         Some(Progress {
@@ -68,7 +68,7 @@ impl Progress {
         self.show_if_due(clock);
     }
 
-    /// Shows a line if it is due. Of several threads one does.
+    /// Shows a line if it is due. If several threads find it due, one of them shows it.
     fn show_if_due(&self, clock: &impl Clock) {
         let due = self.due.load(Ordering::SeqCst);
         let Some(now) = milliseconds(clock) else {
@@ -80,12 +80,12 @@ impl Progress {
         let next = now.saturating_add(PERIOD);
         let order = Ordering::SeqCst;
         if self.due.compare_exchange(due, next, order, order).is_ok() {
-            // A line that can't be shown changes nothing.
+            // The count does not depend on the line, so a failed write is ignored.
             let _ = self.show();
         }
     }
 
-    /// Writes the line over the one before it, which is no longer.
+    /// Writes the line over the line before it, which is not longer.
     fn show(&self) -> Result<(), AllocError> {
         let mut line = String::from_str(self.alloc, "\rlc: ")?;
         push_count(&mut line, &self.files, " file", " files")?;

@@ -6,7 +6,7 @@ use std::fs;
 use std::io::ErrorKind;
 use std::rt::Files;
 
-/// Returns the reason that an error of the host gives.
+/// Returns the reason for an error of the host.
 fn reason_of(kind: ErrorKind) -> UnreadReason {
     match kind {
         ErrorKind::NotFound => UnreadReason::Missing,
@@ -17,14 +17,14 @@ fn reason_of(kind: ErrorKind) -> UnreadReason {
     }
 }
 
-/// Returns the path of a directory with a slash at its end, by which a link to it is followed, as a count follows it.
+/// Returns the path of a directory with a slash at its end. With the slash the system follows a link to the directory, as a count does.
 fn with_slash(alloc: Global, directory: &str) -> Result<String, AllocError> {
     let mut path = String::from_str(alloc, directory)?;
     path.push('/')?;
     Ok(path)
 }
 
-/// Returns whether a path is that of a file. A link to a file is none, since a count skips links.
+/// Returns whether a path is that of a file. A link to a file is not one, since a count skips links.
 fn is_file(rt: &impl Files, path: &str) -> bool {
     match fs::symlink_metadata(rt, path) {
         Ok(metadata) => metadata.is_file(),
@@ -32,13 +32,13 @@ fn is_file(rt: &impl Files, path: &str) -> bool {
     }
 }
 
-/// Returns why a directory can't be listed, by opening it.
+/// Returns why a directory can't be listed. It opens the directory to find out.
 pub(crate) fn why_unlisted<R: Files>(
     rt: &R,
     alloc: Global,
     directory: &str,
 ) -> Option<UnreadReason> {
-    // With a slash the empty path, which names nothing, would be the root.
+    // With a slash, the empty path would be the root, but it names nothing.
     if directory.is_empty() {
         return Some(UnreadReason::Missing);
     }
@@ -50,7 +50,7 @@ pub(crate) fn why_unlisted<R: Files>(
     }
 }
 
-/// Returns why a file can't be read. A file alone is opened: to open a pipe may wait.
+/// Returns why a file can't be read. It opens nothing but a file, since opening a pipe may wait.
 pub(crate) fn why_unread<R: Files>(rt: &R, name: &str) -> Option<UnreadReason> {
     let metadata = match fs::metadata(rt, name) {
         Ok(metadata) => metadata,

@@ -1,10 +1,10 @@
-//! Outputs before which the line of a long count is erased.
+//! Outputs that erase the line of a long count before they are written to.
 
 use crate::progress::Progress;
 use lc_census::Failed;
 use lc_text::Sink;
 
-/// A sink on which nothing is written beside the line of a count.
+/// A sink that erases the line of a count before each write.
 #[derive(Drop)]
 pub(crate) struct WatchedSink<'a, S> {
     pub(crate) sink: S,

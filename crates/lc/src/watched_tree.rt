@@ -1,4 +1,4 @@
-//! A directory of the host as a tree, whose calls are counted for a terminal.
+//! A directory of the host as a tree that counts its calls for a terminal.
 
 use crate::progress::Progress;
 use lc_census::{Source, StdSource};
@@ -8,12 +8,12 @@ use std::marker::Model;
 use std::rt::Files;
 use std::time::Clock;
 
-/// A directory of the host as a tree. It answers what the tree itself answers.
+/// A directory of the host as a tree. It returns what the tree itself returns.
 #[derive(Drop)]
 pub(crate) struct WatchedTree<'a, R> {
     pub(crate) tree: SysTree<'a, R>,
     pub(crate) clock: &'a R,
-    /// Where to count what is opened, if a terminal shows it.
+    /// The progress that counts what is opened, if a terminal shows it.
     pub(crate) progress: Option<&'a Progress>,
 }
 

@@ -1,4 +1,4 @@
-//! The arguments of a command, made of the table of options, and a command without any.
+//! The arguments of a command, made from the table of options, and a command without arguments.
 
 ghost use Rattle.std.specs.Prelude.{◌≡◌, IfOk, map, option_map, true};
 ghost use Rattle.std.specs.List.{list_all};
@@ -40,7 +40,7 @@ fn with_kind<'a>(alloc: Global, row: &'static OptionRow) -> Arg<'a>
     }
 }
 
-/// Gives an option a short name, such as `-j`, beside its long one.
+/// Adds a short name, such as `-j`, to an option.
 fn with_letter<'a>(arg: Arg<'a>, letter: Option<char>) -> Arg<'a>
     ensures { (rule : Rule) → IsArgOf rule arg.entry → IsArgOf (with_letter letter rule) result }
 {
@@ -50,7 +50,7 @@ fn with_letter<'a>(arg: Arg<'a>, letter: Option<char>) -> Arg<'a>
     }
 }
 
-/// Gives an argument a default.
+/// Adds a default to an argument.
 fn with_default<'a>(arg: Arg<'a>, default: Option<&'static str>) -> Arg<'a>
     ensures { (rule : Rule) → IsArgOf rule arg.entry
         → IsArgOf (with_default (option_map (λ text. text.now) default.entry) rule) result }
@@ -61,7 +61,7 @@ fn with_default<'a>(arg: Arg<'a>, default: Option<&'static str>) -> Arg<'a>
     }
 }
 
-/// Gives an argument its texts in help.
+/// Adds the help texts of a row to an argument.
 fn with_help<'a>(arg: Arg<'a>, row: &'static OptionRow) -> Arg<'a>
     ensures { (rule : Rule) → IsArgOf rule arg.entry → IsArgOf rule result }
 {
@@ -83,7 +83,7 @@ fn arg<'a>(alloc: Global, row: &'static OptionRow) -> Arg<'a>
     with_help(arg, row)
 }
 
-/// Makes the arguments of the rows that a command has.
+/// Makes the arguments of a command's rows.
 fn args_of<'a>(
     alloc: Global,
     command: Subcommand,
@@ -108,7 +108,7 @@ pub(crate) fn args<'a>(alloc: Global, command: Subcommand) -> Result<Vec<Arg<'a>
     args_of(alloc, command, options())
 }
 
-/// Makes a command without arguments. Its own name is not among the words that it reads.
+/// Makes a command without arguments. The arguments that it reads begin after its own name.
 pub(crate) fn bare<'a>(
     alloc: Global,
     name: &'a str,

@@ -17,11 +17,11 @@ use std::convert::AsStr;
 /// The options of `lc check`, as in `lc check --explain .gitignore`.
 #[derive(Drop)]
 pub struct CheckRequest<'w> {
-    /// Name the rule that decides each path.
+    /// Show the rule that decides each path.
     pub explain: bool,
     /// Each path on standard input ends with NUL.
     pub null: bool,
-    /// The path of the ignore file, as it was given.
+    /// The path of the ignore file, as it was typed.
     pub file: &'w str,
 }
 
@@ -34,7 +34,7 @@ pub(crate) fn command<'a>(alloc: Global) -> Result<Command<'a>, AllocError>
     command.args(args)
 }
 
-/// Explains an error of clap, with the check that the arguments may have meant.
+/// Explains an error of clap, and suggests a check that may have been meant.
 fn explained_check(alloc: Global, error: &Error) -> ParseExit
     ensures { Explains error.now result }
 {

@@ -1,4 +1,4 @@
-//! Options of a count that do not go together.
+//! The options of a count that can't be combined.
 
 ghost use Rattle.std.specs.Prelude.{◌≡◌, is_some, not};
 ghost use Rattle.lc_arguments.specs.Combinations.{asks_for_paths, asks_for_rows, fit_together, is_by_name, shows_shares};
@@ -6,21 +6,21 @@ ghost use Rattle.lc_arguments.specs.Combinations.{asks_for_paths, asks_for_rows,
 use crate::count::CountRequest;
 use lc_sheet::{Format, Order};
 
-/// Returns whether rows have shares in the named format, or in the table that shares make where none is named.
+/// Returns whether rows have shares in the named format, or in a table if no format is named.
 fn shows_shares(format: Option<Format>) -> bool
     ensures { result ≡ shows_shares format }
 {
     matches!(format, None | Some(Format::Table | Format::Markdown))
 }
 
-/// Returns whether the order was named that sorts by no number.
+/// Returns whether the named order is the one by name, which sorts by no number.
 fn is_by_name(order: Option<Order>) -> bool
     ensures { result ≡ is_by_name order }
 {
     matches!(order, Some(Order::Name))
 }
 
-/// Returns whether rows are asked for that are not all of a report's, or lists.
+/// Returns whether a count prints lists, or rows other than all of a report's.
 fn asks_for_rows(request: &CountRequest<'_>) -> bool
     ensures { result ≡ asks_for_rows request.now }
 {
@@ -33,14 +33,14 @@ fn asks_for_rows(request: &CountRequest<'_>) -> bool
         || !(by.ext && by.text && by.eol)
 }
 
-/// Returns whether paths are asked for, each relative to one directory.
+/// Returns whether a count is limited to paths, each relative to one directory.
 fn asks_for_paths(request: &CountRequest<'_>) -> bool
     ensures { result ≡ asks_for_paths request.now }
 {
     !request.only.is_empty() || request.only_from.is_some()
 }
 
-/// Finds out why the options of a count do not go together.
+/// Finds out why the options of a count can't be combined.
 pub(crate) fn misfit(request: &CountRequest<'_>) -> Option<&'static str>
     ensures { is_some result ≡ not (fit_together request.now) }
 {

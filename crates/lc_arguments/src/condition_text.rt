@@ -9,7 +9,7 @@ ghost use Rattle.lc_arguments.specs.ConditionWords.{digits_from, is_digit, with_
 use lc_glob::cut_at_first;
 use lc_sheet::{Column, Comparison, Condition, Number, Test};
 
-/// Returns what follows `front`, where a text begins with it.
+/// Returns the text after `front` if it begins with `front`.
 fn after_front<'w>(front: &[u8], text: &'w [u8]) -> Option<&'w [u8]>
     ensures { option_map (λ rest. rest.now) result ≡ after_front front.now text.entry.now }
 {
@@ -27,7 +27,7 @@ fn without_spaces(text: &[u8]) -> &[u8]
     left
 }
 
-/// Returns the columns that a condition may be on.
+/// Returns the columns that conditions may use.
 fn condition_columns() -> &'static [Column]
     ensures { result.now ≡ condition_columns }
 {
@@ -41,7 +41,7 @@ fn condition_columns() -> &'static [Column]
     ]
 }
 
-/// Finds the column with whose name a text begins, and returns what follows the name too.
+/// Finds the column whose name begins a text, and returns it with the text after the name.
 fn column_at(text: &[u8]) -> Option<(Column, &[u8])>
     ensures { option_map (λ found. (found.0, found.1.now)) result ≡ column_among condition_columns text.entry.now }
 {
@@ -55,7 +55,7 @@ fn column_at(text: &[u8]) -> Option<(Column, &[u8])>
     None
 }
 
-/// Returns the operator of a byte that an equals sign follows, or does not.
+/// Returns the operator that a byte begins, with or without an equals sign after it.
 fn comparison_of(byte: u8, equals: bool) -> Option<Comparison>
     ensures { result ≡ comparison_of byte equals }
 {
@@ -76,7 +76,7 @@ fn comparison_of(byte: u8, equals: bool) -> Option<Comparison>
     }
 }
 
-/// Reads the operator with which a text begins, and returns what follows it too.
+/// Reads the operator that begins a text, and returns it with the text after it.
 fn operator_at(text: &[u8]) -> Option<(Comparison, &[u8])>
     ensures { option_map (λ found. (found.0, found.1.now)) result ≡ operator_at text.entry.now }
 {
@@ -87,7 +87,7 @@ fn operator_at(text: &[u8]) -> Option<(Comparison, &[u8])>
     }
 }
 
-/// Returns whether this follows the dot of an extension.
+/// Returns whether these bytes can follow the dot of an extension.
 fn is_after_dot(rest: Option<&[u8]>) -> bool
     ensures { result ≡ is_after_dot (option_map (λ r. r.now) rest.entry) }
 {
@@ -122,7 +122,7 @@ fn can_have(column: Column, text: &[u8]) -> bool
     }
 }
 
-/// Returns whether a column can have each of some values, which have commas between them.
+/// Returns whether a column can have each of some values, which commas separate.
 fn can_have_all(column: Column, texts: &[u8]) -> bool
     ensures { result ≡ can_have_all column texts.now }
 {
@@ -137,7 +137,7 @@ fn can_have_all(column: Column, texts: &[u8]) -> bool
     true
 }
 
-/// Appends a digit to a number, if the byte is one and the number does not become too large.
+/// Appends a digit to a number if the byte is a digit and the number stays small enough.
 fn with_digit(number: u64, byte: u8) -> Option<u64>
     ensures { result ≡ with_digit number byte }
 {
@@ -147,7 +147,7 @@ fn with_digit(number: u64, byte: u8) -> Option<u64>
     number.checked_mul(10)?.checked_add(u64::from(byte - b'0'))
 }
 
-/// Reads a number of digits alone, below 2^64.
+/// Reads a number below 2^64 that consists of digits.
 fn number_in(text: &[u8]) -> Option<u64>
     ensures { result ≡ number_in text.now }
 {
@@ -163,7 +163,7 @@ fn number_in(text: &[u8]) -> Option<u64>
     Some(number)
 }
 
-/// Makes the condition that a value is among some, or is not.
+/// Makes the condition that a value is in a list, or is not in it.
 fn list_condition(column: Column, comparison: Comparison, texts: &[u8]) -> Option<Condition<'_>>
     ensures { result ≡ list_condition column comparison texts.entry.now }
 {
@@ -218,12 +218,12 @@ pub(crate) fn condition_of(text: &[u8]) -> Option<Condition<'_>>
     condition_with(column, comparison, without_spaces(values))
 }
 
-/// Returns whether an operator has a byte.
+/// Returns whether some operator has this byte.
 fn is_operator_byte(byte: u8) -> bool {
     matches!(byte, b'!' | b'<' | b'=' | b'>')
 }
 
-/// Returns what the values of a column may be.
+/// Returns the text about the values that a condition on a column takes.
 fn values_of(column: Column) -> &'static str {
     match column {
         Column::Ext => {
@@ -239,7 +239,7 @@ fn values_of(column: Column) -> &'static str {
     }
 }
 
-/// Returns why a text writes no condition.
+/// Returns why a text is no condition.
 pub(crate) fn why_no_condition(text: &[u8]) -> &'static str {
     if text.starts_with(b"dir") || text.starts_with(b"path") {
         return ": --only and --include choose directories and paths";

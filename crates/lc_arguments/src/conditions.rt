@@ -13,7 +13,7 @@ use clap::ArgMatches;
 use lc_sheet::{Column, Condition, Test};
 use std::alloc::{AllocError, Global};
 
-/// Appends the condition that a text writes, if it writes one.
+/// Appends the condition of a text, if the text is a condition.
 fn push_condition<'w>(conditions: &mut Vec<Condition<'w>>, text: &'w str) -> Result<(), AllocError>
     ensures { OnOk result (conditions.new.items ≡ conditions.old.items ++ conditions_of (text.entry.now ∷ [])) }
 {
@@ -23,7 +23,7 @@ fn push_condition<'w>(conditions: &mut Vec<Condition<'w>>, text: &'w str) -> Res
     Ok(())
 }
 
-/// Makes the condition of files that are not binary.
+/// Makes the condition that a file is not binary.
 fn not_binary<'w>() -> Condition<'w>
     ensures { result ≡ not_binary }
 {
@@ -33,7 +33,7 @@ fn not_binary<'w>() -> Condition<'w>
     }
 }
 
-/// Reads the conditions that texts write, and adds that of `--no-binary` if it is asked for.
+/// Reads the conditions in some texts, and adds the condition of `--no-binary` if that option was used.
 fn all_conditions<'w>(
     alloc: Global,
     texts: &[&'w str],
@@ -51,7 +51,7 @@ fn all_conditions<'w>(
     Ok(conditions)
 }
 
-/// Takes the conditions that clap read.
+/// Reads the conditions from clap's values.
 pub(crate) fn conditions_in<'w>(
     alloc: Global,
     matches: &ArgMatches<'w>,

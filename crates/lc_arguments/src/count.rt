@@ -28,28 +28,29 @@ use std::convert::AsStr;
 pub struct CountRequest<'w> {
     /// The number of threads: 1 to [`MAX_THREADS`](crate::MAX_THREADS), by default 4.
     pub threads: u32,
-    /// The most directories, DIR included: 1 to [`MAX_DIRS`](crate::MAX_DIRS), by default 65,536.
+    /// The greatest number of directories, DIR included: 1 to [`MAX_DIRS`](crate::MAX_DIRS), by default 65,536.
     pub max_dirs: u32,
-    /// List each entry that is skipped, and print the number of entries.
+    /// List each skipped entry, and print the number of entries.
     pub left_out: bool,
-    /// What is skipped beside what the directory's own rules ignore.
+    /// What to skip besides what the directory's own rules ignore.
     pub filters: FilterRequest<'w>,
-    /// The paths to count, relative to DIR, without `./` at the beginning and a slash at the end. `.` is all of DIR, which is also counted
-    /// if there are none here and in `only_from`.
+    /// The paths to count, relative to DIR, without `./` at the beginning and without a slash at the end. `.` is all of DIR. All of DIR is
+    /// also counted if there are no paths here and no `only_from`.
     pub only: Vec<&'w [u8]>,
-    /// The path of a file with further paths to count, as it was given. `-` is standard input.
+    /// The path of a file with further paths to count, as it was typed. `-` is standard input.
     pub only_from: Option<&'w str>,
     /// Each path in the file of `only_from` ends with NUL.
     pub null: bool,
-    /// Directories on another file system than DIR are skipped.
+    /// Skip directories on other file systems than DIR.
     pub one_file_system: bool,
     /// How the table is printed.
     pub table: TableRequest,
-    /// Only files that meet all of these are shown.
+    /// Show only files that meet all of these conditions.
     pub conditions: Vec<Condition<'w>>,
-    /// A file that is counted, and meets the conditions, is a failure.
+    /// End with the status of a failure if a file is counted and meets the conditions.
     pub fail_if_any: bool,
-    /// The path of each DIR, as it was given, in their order, and none twice: `.`, the directory that the program runs in, where none is.
+    /// The path of each DIR, as it was typed, in their order and none twice. If none was typed, it is `.`, the directory that the program
+    /// runs in.
     pub directories: Vec<&'w str>,
 }
 
@@ -62,7 +63,7 @@ pub(crate) fn command<'a>(alloc: Global) -> Result<Command<'a>, AllocError>
     command.args(args)
 }
 
-/// Explains an error of clap, with the count that the arguments may have meant.
+/// Explains an error of clap, and suggests a count that may have been meant.
 fn explained_count<W: AsStr>(alloc: Global, error: &Error, words: &[W]) -> ParseExit
     ensures { Explains error.now result }
 {
@@ -75,7 +76,7 @@ fn explained_count<W: AsStr>(alloc: Global, error: &Error, words: &[W]) -> Parse
     }
 }
 
-/// Takes the options that clap read, which may not go together.
+/// Reads the options from clap's values. It refuses those that can't be combined.
 fn request_in<'w>(
     alloc: Global,
     matches: &ArgMatches<'w>,

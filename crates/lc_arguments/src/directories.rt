@@ -12,7 +12,7 @@ use crate::request::{ParseExit, unfit};
 use clap::ArgMatches;
 use std::alloc::{AllocError, Global};
 
-/// Returns the path of a directory without the slashes at its end. That of `/` is empty.
+/// Returns the path of a directory without the slashes at its end. The path of `/` becomes empty.
 ///
 /// ```
 /// assert!(rt; unslashed("../lib//") == b"../lib");
@@ -28,7 +28,7 @@ pub fn unslashed(directory: &str) -> &[u8]
     left
 }
 
-/// Returns whether a name is that of one of these directories.
+/// Returns whether a name is the name of one of these directories.
 fn is_among(name: &[u8], directories: &[&str]) -> bool
     ensures { result ≡ list_any (bytes_eq name.now) (map (λ d. unslashed d.now) directories.now) }
 {
@@ -40,7 +40,7 @@ fn is_among(name: &[u8], directories: &[&str]) -> bool
     false
 }
 
-/// Finds the first directory that is given again after it.
+/// Finds the first directory that is named again after it.
 fn given_twice<'w>(directories: &[&'w str]) -> Option<&'w str>
     ensures { is_some result ≡ not (are_distinct (map (λ d. unslashed d.now) directories.now)) }
 {
@@ -54,7 +54,7 @@ fn given_twice<'w>(directories: &[&'w str]) -> Option<&'w str>
     None
 }
 
-/// Makes the refusal of a directory that is given twice.
+/// Makes the refusal of a directory that is named twice.
 fn repeated(alloc: Global, directory: &str) -> ParseExit
     ensures { IsRefusal result }
 {
@@ -64,7 +64,7 @@ fn repeated(alloc: Global, directory: &str) -> ParseExit
     }
 }
 
-/// Copies the paths of directories. If none is given, the only one is `.`, the directory that the program runs in.
+/// Copies the paths of directories. If there are none, the only one is `.`, the directory that the program runs in.
 fn or_here<'w>(alloc: Global, words: &[&'w str]) -> Result<Vec<&'w str>, AllocError>
     ensures { IfOk result (λ directories. map (λ d. d.now) directories.items ≡ or_here (map (λ word. word.now) words.now)) }
 {
@@ -74,7 +74,7 @@ fn or_here<'w>(alloc: Global, words: &[&'w str]) -> Result<Vec<&'w str>, AllocEr
     words.to_vec(alloc)
 }
 
-/// Copies the paths of directories, unless one is given twice.
+/// Copies the paths of directories, unless one is named twice.
 fn directories_of<'w>(alloc: Global, words: &[&'w str]) -> Result<Vec<&'w str>, ParseExit>
     ensures { AnswersDirectories (map (λ word. word.now) words.now) result }
 {
@@ -87,7 +87,7 @@ fn directories_of<'w>(alloc: Global, words: &[&'w str]) -> Result<Vec<&'w str>, 
     }
 }
 
-/// Takes the directories that clap read, in their order.
+/// Reads the directories from clap's values, in their order.
 pub(crate) fn directories_in<'w>(
     alloc: Global,
     matches: &ArgMatches<'w>,

@@ -7,7 +7,7 @@ use crate::options_table::options;
 use crate::suggestions::Advice;
 use std::alloc::{AllocError, Global};
 
-/// Returns what is wrong with the arguments: the first paragraph of clap's text.
+/// Returns the first paragraph of clap's text, which says what is wrong with the arguments.
 pub(crate) fn problem_of(text: &str) -> &str
     ensures { IsFirstParagraph text.now result.now }
 {
@@ -17,7 +17,7 @@ pub(crate) fn problem_of(text: &str) -> &str
     }
 }
 
-/// Makes the text of a usage error with advice in place of clap's.
+/// Makes the text of a usage error with our advice instead of clap's.
 pub(crate) fn advised(
     alloc: Global,
     problem: &str,
@@ -36,7 +36,7 @@ pub(crate) fn advised(
     Ok(text)
 }
 
-/// Returns the name in help of the value of an option, and what the value may be.
+/// Returns the name in help of the value of an option, and the completions of the value.
 fn value_named(option: &str) -> (&'static str, Completes) {
     for row in options() {
         if row.name == option {
@@ -46,7 +46,7 @@ fn value_named(option: &str) -> (&'static str, Completes) {
     ("", Completes::Nothing)
 }
 
-/// Appends the words of which a value is one, if these are all that it may be.
+/// Appends the possible values if there are only certain words.
 fn push_possible(text: &mut String, completes: Completes) -> Result<(), AllocError> {
     let Completes::Meanings(words) = completes else {
         return Ok(());
@@ -60,7 +60,7 @@ fn push_possible(text: &mut String, completes: Completes) -> Result<(), AllocErr
     text.push_str("]")
 }
 
-/// Makes the text of the refusal of a value of an option, which is named without its hyphens.
+/// Makes the text of the refusal of a value of an option. `option` is the option's name without its hyphens.
 ///
 /// ```
 /// let text = value_refused(rt.alloc(), "by", "x", ": no column")?;
@@ -81,7 +81,7 @@ pub(crate) fn value_refused(
     Ok(text)
 }
 
-/// Makes the text of the refusal of a number, if clap refuses one of this option. `problem` is what clap says.
+/// Makes the text of the refusal of a number, if clap refuses a number of this option. `problem` is clap's message.
 fn number_refusal(
     alloc: Global,
     problem: &str,
@@ -102,7 +102,7 @@ fn number_refusal(
     Ok(Some(text))
 }
 
-/// Makes the text of the refusal of a number. `text` is that of clap.
+/// Makes the text of the refusal of a number. `text` is clap's text.
 ///
 /// ```
 /// let text = "error: invalid value 'x' for '--threads <N>': invalid digit found in string\n";

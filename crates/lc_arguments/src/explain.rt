@@ -18,13 +18,13 @@ use std::convert::AsStr;
 /// The options of `lc explain`, as in `lc explain . a.log src/m.c`.
 #[derive(Drop)]
 pub struct ExplainRequest<'w> {
-    /// What is skipped beside what the directory's own rules ignore.
+    /// What to skip besides what the directory's own rules ignore.
     pub filters: FilterRequest<'w>,
     /// Each path on standard input ends with NUL.
     pub null: bool,
-    /// The path of DIR, as it was given.
+    /// The path of DIR, as it was typed.
     pub directory: &'w str,
-    /// The paths to explain, relative to DIR. If there are none, they come on standard input.
+    /// The paths to explain, relative to DIR. If there are none, they are read from standard input.
     pub paths: Vec<&'w str>,
 }
 
@@ -37,7 +37,7 @@ pub(crate) fn command<'a>(alloc: Global) -> Result<Command<'a>, AllocError>
     command.args(args)
 }
 
-/// Explains an error of clap, with the explanation that the arguments may have meant.
+/// Explains an error of clap, and suggests an explanation that may have been meant.
 fn explained_explanation<W: AsStr>(alloc: Global, error: &Error, words: &[W]) -> ParseExit
     ensures { Explains error.now result }
 {

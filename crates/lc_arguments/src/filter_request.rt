@@ -1,4 +1,4 @@
-//! The options that skip entries beside a directory's own rules.
+//! The options that skip entries besides those that a directory's own rules ignore.
 
 ghost use Rattle.clap.specs.Matches.{found_of};
 ghost use Rattle.clap.specs.Walk.{rows_of};
@@ -9,25 +9,25 @@ use crate::request::ParseExit;
 use clap::ArgMatches;
 use std::alloc::Global;
 
-/// What is skipped beside what a directory's own rules ignore, as by `--exclude '*.log' --without linguist-vendored`.
+/// What to skip besides what a directory's own rules ignore, as in `--exclude '*.log' --without linguist-vendored`.
 #[derive(Drop)]
 pub struct FilterRequest<'w> {
-    /// The path of an ignore file for the whole tree, as it was given: relative to the directory that the program runs in.
+    /// The path of an ignore file for the whole tree, as it was typed: relative to the directory that the program runs in.
     pub exclude_from: Option<&'w str>,
-    /// Skip what has the attribute `export-ignore`.
+    /// Skip entries that have the attribute `export-ignore`.
     pub archive: bool,
-    /// Skip what has one of these attributes: `ATTR` has it Set, `ATTR=VALUE` with this value.
+    /// Skip entries that have one of these attributes: `ATTR` means that it is Set, and `ATTR=VALUE` that it has this value.
     pub without: Vec<&'w str>,
-    /// The lines of an ignore file that is stronger than all others. None has a line feed.
+    /// The lines of an ignore file that takes precedence over all others. None has a line feed.
     pub exclude: Vec<&'w str>,
-    /// Skip files that none of these patterns match, nor a directory above them. None has a line feed or begins with `!`.
+    /// Skip files unless one of these patterns matches the file or a directory above it. None has a line feed or begins with `!`.
     pub include: Vec<&'w str>,
     /// Read neither a `.gitignore` nor `.git/info/exclude`.
     pub no_ignore: bool,
 }
 
 impl<'w> FilterRequest<'w> {
-    /// Takes the values that clap read.
+    /// Reads the filters from clap's values.
     pub(crate) fn read(
         alloc: Global,
         matches: &ArgMatches<'w>,

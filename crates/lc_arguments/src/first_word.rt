@@ -1,4 +1,4 @@
-//! What the first argument asks for: a count may leave its command out.
+//! The first argument: a count may omit its command.
 
 ghost use Rattle.std.specs.Prelude.{◌≡◌, map, option_map};
 ghost use Rattle.lc_arguments.specs.Words.{begins_count, begins_with_hyphen, count_words, is_own_option, is_plain_path};
@@ -11,7 +11,7 @@ fn begins_with_hyphen(word: &str) -> bool
     matches!(word.as_bytes(), [b'-', ..])
 }
 
-/// Returns whether an argument asks for help or the version of the program.
+/// Returns whether an argument is an option for the program's own help or version.
 fn is_own_option(word: &str) -> bool
     ensures { result ≡ is_own_option word.now }
 {
@@ -25,15 +25,16 @@ fn is_plain_path(word: &str) -> bool
     word == "." || word == ".." || word.as_bytes().contains(&b'/')
 }
 
-/// Returns whether a first argument begins those of a count whose command is left out.
+/// Returns whether a first argument begins the arguments of a count that omits its command.
 fn begins_count(word: &str) -> bool
     ensures { result ≡ begins_count word.now }
 {
     (begins_with_hyphen(word) && !is_own_option(word)) || is_plain_path(word)
 }
 
-/// Returns the arguments of a count, where the arguments of the program ask for one: those after `count`, or all of them where the first
-/// is an option, `.` or `..`, or has a slash. The options `-h`, `--help`, `-V` and `--version` are those of the program.
+/// Returns the arguments of a count if the arguments of the program mean a count. They are the arguments after `count`, or all arguments if
+/// the first is an option, `.` or `..`, or has a slash. The options `-h`, `--help`, `-V` and `--version` belong to the program and begin no
+/// count.
 ///
 /// ```
 /// assert!(rt; count_words(&["count", "src"]) == Some(["src"].as_slice()));

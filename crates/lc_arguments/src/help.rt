@@ -1,6 +1,6 @@
 //! The texts of help and of the version.
 
-// The version, with more after it.
+// The version, followed by more text.
 macro_rules! version {
     ($more:literal) => {
         concat!("0.1.0", $more)

@@ -1,15 +1,16 @@
 //! The command line, which clap reads.
 //!
-//! - `request`: what the program is asked to do, or why it does nothing; arguments without a command
-//! - `first_word`: what the first argument asks for
-//! - `count`, `check`, `explain`: the options of each command; `table`: those of the table; `paths`: those of `--only`; `directories`: DIR
-//! - `numbers`: the numbers of a count; `combinations`: options that do not go together
-//! - `filter_request`: which entries counts and explanations skip; `repeated`: options that may be given several times
-//! - `conditions`: which files are shown; `condition_text`: a condition, as it is typed
-//! - `options_table`: the table of options; `option_row`: what a row of it says; `arguments`: clap's arguments, made of the rows
+//! - `request`: what the program is to do, or why it does nothing; arguments without a command
+//! - `first_word`: the meaning of the first argument
+//! - `count`, `check`, `explain`: the options of each command; `table`: the options of the table; `paths`: the paths of `--only`;
+//!   `directories`: DIR
+//! - `numbers`: the numbers of a count; `combinations`: options that can't be combined
+//! - `filter_request`: which entries counts and explanations skip; `repeated`: options that may be used several times
+//! - `conditions`: the conditions that shown files meet; `condition_text`: a condition, as it is typed
+//! - `options_table`: the table of options; `option_row`: the rows of the table; `arguments`: clap's arguments, made from the rows
 //! - `refusals`: the text of a refusal, as a terminal shows it; `error_text`: the texts of usage errors
-//! - `naming`: which arguments a text names
-//! - `suggestions`: what refused arguments may have meant; `near`: names that are close to a word
+//! - `naming`: the arguments that a text names
+//! - `suggestions`: what refused arguments may have meant; `near`: known names that are close to a word
 //! - `limits`: the largest values of options; `help`, `long_help`: the texts of help and of the version
 #![tactic(auto)]
 

@@ -1,13 +1,13 @@
-//! The limits of the numbers that a count is asked for.
+//! The limits of the numbers of a count.
 
-/// The most rows and files that are asked for.
+/// The greatest number of rows and files that `--top` can limit a table to.
 pub(crate) const MAX_TOP: u32 = u32::MAX;
 
-/// The most segments of a row's directory.
+/// The greatest number of segments of a row's directory.
 pub(crate) const MAX_DEPTH: u32 = 256;
 
-/// The most threads of a count.
+/// The greatest number of threads of a count.
 pub const MAX_THREADS: u32 = 16;
 
-/// The most directories of a count, the counted one included.
+/// The greatest number of directories of a count, DIR included.
 pub const MAX_DIRS: u32 = 1_048_576;

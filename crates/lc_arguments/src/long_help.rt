@@ -1,6 +1,6 @@
-//! What `--help` says of the options, by their names and headings.
+//! The texts of `--help` about the options, by their names and headings.
 //!
-//! These texts are no part of the table of options: what is proved of the table is proved by computing with all of it.
+//! These texts are no part of the table of options, since proofs about the table compute with all of it.
 
 use crate::option_row::OptionRow;
 use crate::options_table::{LIMITS, ON_INPUT, WHAT_IS_PRINTED, WHICH_FILES};
@@ -167,7 +167,7 @@ fn texts() -> &'static [(&'static str, &'static str, &'static str)] {
 }
 
 impl OptionRow {
-    /// Returns what `--help` says of the option, without a full stop at its end. That is what `-h` says if there is no longer text.
+    /// Returns the text of `--help` about the option, without a full stop at its end. If there is no longer text, it is that of `-h`.
     pub fn long_help(&self) -> &'static str {
         for (name, heading, text) in texts() {
             if *name == self.name && *heading == self.heading {

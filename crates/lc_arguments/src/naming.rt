@@ -1,4 +1,4 @@
-//! Which arguments a text names. No clause describes clap's texts, so they are checked before they are written.
+//! The arguments that a text names. No clause describes clap's texts, so they are checked before they are written.
 
 ghost use Rattle.std.specs.Prelude.{◌≡◌, ◌++◌, IfOk, OnOk, codes, map, string_bytes, true};
 ghost use Rattle.std.specs.Str.Iter.{HasSubslice};
@@ -15,7 +15,7 @@ use lc_text::push_visible;
 use std::alloc::{AllocError, Global};
 use std::convert::AsStr;
 
-/// Returns what is before the name of an argument in a text.
+/// Returns the text before the name of an argument in a message.
 fn mark_before(kind: Kind) -> &'static str
     ensures { result.now ≡ mark_before kind }
 {
@@ -26,7 +26,7 @@ fn mark_before(kind: Kind) -> &'static str
     }
 }
 
-/// Returns what is after the name of an argument in a text.
+/// Returns the text after the name of an argument in a message.
 fn mark_after(kind: Kind) -> &'static str
     ensures { result.now ≡ mark_after kind }
 {
@@ -37,14 +37,14 @@ fn mark_after(kind: Kind) -> &'static str
     }
 }
 
-/// Returns whether a usage error with the name of an argument of this kind shows more than its usage does.
+/// Returns whether a usage error that names an argument of this kind shows more than the usage line does.
 fn is_telling(kind: Kind) -> bool
     ensures { result ≡ is_telling kind }
 {
     !matches!(kind, Kind::Words)
 }
 
-/// Returns whether a text has a part.
+/// Returns whether a text contains a part.
 fn has(text: &str, part: &str) -> bool
     ensures { result ≡ true → HasSubslice text.now part.now }
 {
@@ -150,7 +150,7 @@ fn quotes_some<W: AsStr>(alloc: Global, text: &str, words: &[W]) -> Result<bool,
     Ok(false)
 }
 
-/// Returns whether a text names an argument: one that was typed, in quotes, or one of the table.
+/// Returns whether a text names an argument: a typed one in quotes, or one of the table.
 fn names_one<W: AsStr>(alloc: Global, text: &str, words: &[W]) -> Result<bool, AllocError>
     ensures { IfOk result (λ named. named ≡ true → NamesOne (map W.text words.now) text.now) }
 {
@@ -172,7 +172,7 @@ pub(crate) fn is_naming_error<W: AsStr>(
     names_one(alloc, problem_of(text), words)
 }
 
-/// Makes a usage error with all that was typed at the end of its first paragraph.
+/// Adds all arguments, as they were typed, to the first paragraph of a usage error.
 pub(crate) fn with_words<W: AsStr>(
     alloc: Global,
     text: &str,
@@ -202,7 +202,7 @@ fn named_by(word: &str) -> Option<Subcommand>
     None
 }
 
-/// Returns the command that arguments name; None if they ask for the program alone.
+/// Returns the command that arguments name, or `None` if they name none.
 fn named_command<W: AsStr>(words: &[W]) -> Option<Subcommand>
     ensures { result ≡ named_command (map W.text words.now) }
 {
@@ -224,7 +224,8 @@ fn is_text_for(alloc: Global, text: &str, command: Option<Subcommand>) -> Result
     }
 }
 
-/// Returns whether a text is one of those that were asked for: the help of the command names each of its arguments.
+/// Returns whether a text names each argument of the command that the arguments name, as its help does. Without a command, it must name
+/// `lc`.
 pub(crate) fn is_text_of<W: AsStr>(
     alloc: Global,
     text: &str,

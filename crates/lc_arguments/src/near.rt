@@ -3,10 +3,10 @@
 use std::alloc::{AllocError, Global};
 use strsim::osa_distance;
 
-/// The longest word that is compared. No known name is half as long.
+/// The greatest length of a word that is compared. No known name is half as long.
 const MAX_WORD: usize = 32;
 
-/// Returns whether a name is so close to a word that it was probably meant: at most a third of the longer one is edited, and if that takes
+/// Returns whether a name is so close to a word that it was probably meant. At most a third of the longer one is edited. If that takes
 /// several edits, both begin with the same letter. So `sorted` is near `sort`, but `include-from` is not near `exclude-from`.
 fn is_near(word: &str, name: &str, edits: usize) -> bool {
     let longer = word.len().max(name.len());
@@ -14,7 +14,7 @@ fn is_near(word: &str, name: &str, edits: usize) -> bool {
     edits <= longer / 3 && (edits <= 1 || begins_alike)
 }
 
-/// Finds the known name that is nearest to a word, with what belongs to it, if one is near. Hyphens before the word do not count.
+/// Finds the known name that is nearest to a word, with its value, if one is near. Hyphens before the word do not count.
 ///
 /// ```
 /// let known = &[("threads", "lc --threads 8 ."), ("top", "lc --top 10 .")];

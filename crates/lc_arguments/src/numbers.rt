@@ -16,12 +16,12 @@ pub(crate) struct Numbers {
 }
 
 impl Numbers {
-    /// Takes the numbers that clap read.
+    /// Reads the numbers from clap's values.
     pub(crate) fn read(matches: &ArgMatches<'_>) -> Numbers
         ensures { AreReadWithin (found_of matches.now) → AreNumbersIn (rows_of (found_of matches.now)) result }
     {
         Numbers {
-            // Each has a default, so both are there.
+            // Both have a default, so clap has a value for both.
             threads: matches.get_one::<u32>("threads").unwrap_or(4),
             max_dirs: matches.get_one::<u32>("max-dirs").unwrap_or(65_536),
             depth: matches.get_one::<u32>("depth"),

@@ -1,4 +1,4 @@
-//! What a row of the table of options says.
+//! The rows of the table of options.
 
 ghost use Rattle.std.specs.Prelude.{◌≡◌};
 ghost use Rattle.lc_arguments.specs.Options.{is_of};
@@ -90,7 +90,7 @@ pub enum Kind {
     Words,
 }
 
-/// What a shell completes the value of an option with.
+/// What a shell offers to complete the value of an option.
 #[derive(Clone, Copy)]
 pub enum Completes {
     /// Nothing.
@@ -99,7 +99,7 @@ pub enum Completes {
     Files,
     /// One of these words.
     Words(&'static [&'static str]),
-    /// One of these words, which are the only values, each with its meaning.
+    /// One of these words, each with its meaning. No other value is allowed.
     Meanings(&'static [(&'static str, &'static str)]),
     /// Some of these words, separated by commas.
     List(&'static [&'static str]),
@@ -116,7 +116,7 @@ pub struct OptionRow {
     pub value: &'static str,
     /// The kind of the argument and of its value.
     pub kind: Kind,
-    /// The value if none is given.
+    /// The value if none is typed.
     pub default: Option<&'static str>,
     /// The commands that have it.
     pub of: Commands,
@@ -124,15 +124,15 @@ pub struct OptionRow {
     pub heading: &'static str,
     /// The line of `-h`.
     pub help: &'static str,
-    /// What completions show beside the option, if it is not `help`.
+    /// The text that completions show next to the option, if it is not `help`.
     pub brief: &'static str,
-    /// A count with it, which usage errors of `lc count` suggest.
+    /// A count with this option, which usage errors of `lc count` suggest.
     pub example: &'static str,
-    /// What a shell completes the value with.
+    /// What a shell offers to complete the value.
     pub completes: Completes,
 }
 
-/// A flag of `lc count`: what a row has that does not say otherwise.
+/// A flag of `lc count`, from which other rows take the fields that they do not set.
 pub(crate) const FLAG: OptionRow = OptionRow {
     name: "",
     short: None,

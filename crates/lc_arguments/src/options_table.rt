@@ -1,6 +1,6 @@
 //! The table of options: a row for each argument of the commands, in the order of help.
 //!
-//! An argument whose help or kind differs by command has a row for each. What `--help` says of an option is in `long_help`.
+//! An argument whose help or kind differs by command has a row for each. The texts of `--help` are in `long_help`.
 
 ghost use Rattle.std.specs.Prelude.{◌≡◌, map};
 ghost use Rattle.lc_arguments.specs.Options.{option_model, options};
@@ -11,7 +11,7 @@ use crate::option_row::{CHECK, Completes, EXPLAIN, FILTERS, FLAG, INPUT, Kind, O
 /// The heading of the options that choose files.
 pub(crate) const WHICH_FILES: &str = "Which files";
 
-/// The heading of the options that say what standard input has.
+/// The heading of the options about what standard input contains.
 pub(crate) const ON_INPUT: &str = "Input";
 
 /// The heading of the options that choose what is printed.

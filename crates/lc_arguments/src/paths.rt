@@ -11,7 +11,7 @@ use clap::ArgMatches;
 use lc_text::{is_bad_path, is_top, split_slash, undotted};
 use std::alloc::Global;
 
-/// Makes the refusal of a value that is no path below DIR.
+/// Makes the refusal of a value that is not a path below DIR.
 fn misplaced(alloc: Global, word: &str) -> ParseExit
     ensures { IsRefusal result }
 {
@@ -23,7 +23,7 @@ fn misplaced(alloc: Global, word: &str) -> ParseExit
     )
 }
 
-/// Returns the path of a value: without any `./` at its beginning and a slash at its end.
+/// Returns the path of a value, without any `./` at its beginning and without a slash at its end.
 fn part_of(word: &str) -> &[u8]
     ensures { result.now ≡ part_of word.now }
 {
@@ -31,14 +31,14 @@ fn part_of(word: &str) -> &[u8]
     path
 }
 
-/// Returns whether a path is that of no entry and not `.`, which names DIR itself.
+/// Returns whether a path is neither the path of an entry nor `.`, which names DIR itself.
 fn is_bad_part(path: &[u8]) -> bool
     ensures { result ≡ is_bad_part path.now }
 {
     is_bad_path(path) && !is_top(path)
 }
 
-/// Reads paths. A path has no `./` at its beginning and no slash at its end; DIR itself is `.`.
+/// Reads paths. A path that was read has no `./` at its beginning and no slash at its end, and DIR itself is `.`.
 fn paths_of<'w>(alloc: Global, words: &[&'w str]) -> Result<Vec<&'w [u8]>, ParseExit>
     ensures { AnswersPaths (map (λ word. word.now) words.now) result }
 {
@@ -55,7 +55,7 @@ fn paths_of<'w>(alloc: Global, words: &[&'w str]) -> Result<Vec<&'w [u8]>, Parse
     Ok(paths)
 }
 
-/// Takes the paths that clap read, in their order.
+/// Reads the paths from clap's values, in their order.
 pub(crate) fn paths_in<'w>(
     alloc: Global,
     matches: &ArgMatches<'w>,

@@ -1,4 +1,4 @@
-//! The text of refusals: no control character that was typed reaches a terminal.
+//! The text of refusals. No control character that was typed reaches a terminal.
 
 ghost use Rattle.std.specs.Prelude.{◌≡◌, ◌++◌, IfOk, OnOk, chars, flat_map, string_bytes};
 ghost use Rattle.lc_arguments.specs.Refusals.{IsMessage, message_char};
@@ -31,8 +31,8 @@ fn push_message_char(message: &mut String, c: char) -> Result<(), AllocError>
     push_visible(message, c.encode_utf8(&mut buffer).as_bytes())
 }
 
-/// Escapes a message, and puts `error: ` first if the text does not begin so. Each byte of a character that moves a terminal's cursor or
-/// turns the direction of text becomes `\x` and two digits. Backslashes stay as they are.
+/// Escapes a message, and adds `error: ` at its beginning if it is missing there. Each byte of a character that moves a terminal's cursor
+/// or turns the direction of text becomes `\x` and two digits. Backslashes stay as they are.
 ///
 /// ```
 /// assert!(rt; message(rt.alloc(), "error: no \u{1b}[2J\n")?.as_str() == "error: no \\x1b[2J\n");

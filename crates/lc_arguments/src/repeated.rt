@@ -1,4 +1,4 @@
-//! The values of options that may be given several times: attributes of `--without`, patterns of `--exclude` and `--include`, conditions of
+//! The values of options that may be used several times: attributes of `--without`, patterns of `--exclude` and `--include`, conditions of
 //! `--where`.
 
 ghost use Rattle.std.specs.Prelude.{◌≡◌, map, not, is_some, IfOk};
@@ -16,7 +16,7 @@ use lc_glob::cut_at_first;
 use lc_rules::{MAX_RULE_BYTES, is_attribute_name};
 use std::alloc::{AllocError, Global};
 
-/// An option that may be given several times, whose values have a form.
+/// An option that may be used several times, and whose values must have a certain form.
 #[derive(Clone, Copy)]
 pub(crate) enum Repeated {
     /// `--without ATTR[=VALUE]`
@@ -29,7 +29,7 @@ pub(crate) enum Repeated {
     Conditions,
 }
 
-/// Returns whether the name of an attribute comes before the first equals sign, or is the whole word.
+/// Returns whether a word is the name of an attribute, or begins with one that an equals sign follows.
 fn has_attribute_name(word: &str) -> bool
     ensures { result ≡ has_attribute_name word.now }
 {
@@ -104,7 +104,7 @@ pub fn lines_text(alloc: Global, lines: &[&str]) -> Result<Vec<u8>, AllocError>
     Ok(text)
 }
 
-/// Returns whether values of an option can be the lines of one ignore file, if they are patterns.
+/// Returns whether the values of an option fit into one ignore file as its lines, if they are patterns.
 fn are_short(alloc: Global, option: Repeated, values: &[&str]) -> Result<bool, AllocError>
     ensures { IfOk result (λ short. short ≡ are_short option (map (λ value. value.now) values.now)) }
 {
@@ -129,7 +129,7 @@ fn first_refused<'w>(option: Repeated, values: &[&'w str]) -> Option<&'w str>
     None
 }
 
-/// Copies the values of an option, if it can have them.
+/// Copies the values of an option, if it can have all of them.
 fn allowed<'w>(
     alloc: Global,
     option: Repeated,
@@ -152,7 +152,7 @@ fn allowed<'w>(
     }
 }
 
-/// Takes the values that clap read of an option, in their order.
+/// Reads the values of an option from clap's values, in their order.
 pub(crate) fn values_in<'w>(
     alloc: Global,
     matches: &ArgMatches<'w>,

@@ -1,4 +1,4 @@
-//! What the arguments of the program ask for.
+//! The requests that the arguments of the program make.
 
 ghost use Rattle.std.specs.Prelude.{◌≡◌, IfErr, IfOk, map, string_bytes};
 ghost use Rattle.lc_arguments.specs.CommandLine.{bare_lc_app, lc_app, subcommand_apps};
@@ -22,27 +22,27 @@ use clap::{Command, Error};
 use std::alloc::{AllocError, Global};
 use std::convert::AsStr;
 
-/// What the program is asked to do.
+/// What the program is to do.
 #[derive(Drop)]
 pub enum Request<'w> {
-    /// Check paths by rules, both on standard input: no arguments at all.
+    /// Check paths by rules, both from standard input. The program has no arguments then.
     CheckJoined,
-    /// Check the paths on standard input by the rules of a file, as `check .gitignore`.
+    /// Check the paths on standard input by the rules of a file, as in `check .gitignore`.
     Check(CheckRequest<'w>),
-    /// Count a directory, as `count --files src` or `.`.
+    /// Count directories, as in `count --files src` or `.`.
     Count(CountRequest<'w>),
-    /// Explain which rule of a directory decides each path, as `explain . a.log`.
+    /// Explain which rule of a directory decides each path, as in `explain . a.log`.
     Explain(ExplainRequest<'w>),
 }
 
-/// Why the program does none of this.
+/// Why the program carries out no request.
 #[derive(Drop)]
 pub enum ParseExit {
-    /// Help or the version was asked for. The text belongs on standard output.
+    /// Help or the version is to be shown. The text belongs on standard output.
     Shown(String),
-    /// The arguments are refused, as `count --threads 17 .`. The text says why, and belongs on standard error.
+    /// The arguments are refused, as in `count --threads 17 .`. The text says why, and belongs on standard error.
     Refused(String),
-    /// There is no memory to read the arguments.
+    /// There is not enough memory to read the arguments.
     Memory,
 }
 
@@ -75,7 +75,7 @@ fn command<'a>(alloc: Global) -> Result<Command<'a>, AllocError>
     command.subcommands(subcommands)
 }
 
-/// Makes the text of an error of clap. Where an argument is missing or unknown, it has the usage of the command and advice.
+/// Makes the text of an error of clap. If an argument is missing or unknown, the text has the usage of the command and advice.
 fn text_of(
     alloc: Global,
     error: &Error,
@@ -92,7 +92,7 @@ fn text_of(
     }
 }
 
-/// Turns an error of clap into the end of the program.
+/// Turns an error of clap into the reason why the program ends.
 pub(crate) fn explained(alloc: Global, error: &Error, usage: &str, advice: &Advice) -> ParseExit
     ensures { Explains error.now result }
 {
@@ -109,7 +109,7 @@ pub(crate) fn explained(alloc: Global, error: &Error, usage: &str, advice: &Advi
     }
 }
 
-/// Makes the refusal of the value of an option, which is named without its hyphens.
+/// Makes the refusal of the value of an option. `option` is the option's name without its hyphens.
 pub(crate) fn refused(alloc: Global, option: &str, value: &str, why: &str) -> ParseExit
     ensures { IsRefusal result }
 {
@@ -119,7 +119,7 @@ pub(crate) fn refused(alloc: Global, option: &str, value: &str, why: &str) -> Pa
     }
 }
 
-/// Makes the refusal of options that do not go together.
+/// Makes the refusal of options that can't be combined.
 pub(crate) fn unfit(alloc: Global, why: &str) -> ParseExit
     ensures { IsRefusal result }
 {
@@ -129,7 +129,7 @@ pub(crate) fn unfit(alloc: Global, why: &str) -> ParseExit
     }
 }
 
-/// Explains an error of clap where the arguments name no command.
+/// Explains an error of clap for arguments that name no command.
 fn explained_others<W: AsStr>(alloc: Global, error: &Error, words: &[W]) -> ParseExit
     ensures { Explains error.now result }
 {
@@ -148,7 +148,7 @@ fn read_others<'w, W: AsStr>(alloc: Global, words: &'w [W]) -> Result<Request<'w
         return Err(ParseExit::Memory);
     };
     match command.try_get_matches_from(words) {
-        // As `--` alone.
+        // The only argument is `--`.
         Ok(_) => Ok(Request::CheckJoined),
         Err(error) => Err(explained_others(alloc, &error, words)),
     }
@@ -182,12 +182,12 @@ fn read_words<'w, W: AsStr>(alloc: Global, words: &'w [W]) -> Result<Request<'w>
     read_others(alloc, words)
 }
 
-/// Reads refused arguments once more from escaped copies, so that the refusal quotes them as a terminal shows them. `why` quotes them as
-/// they were typed.
+/// Reads refused arguments once more from escaped copies, so that the refusal quotes them as a terminal shows them. `why` quotes the
+/// arguments as they were typed.
 fn refusal<W: AsStr>(alloc: Global, words: &[W], why: &str) -> Result<String, AllocError>
     ensures { IfOk result (λ text. IsMessage (string_bytes text)) }
 {
-    // As a terminal shows them they are refused for the same reason, and quoted so.
+    // The escaped arguments are refused for the same reason, and quoted in their escaped form.
     let visible = visible_words(alloc, words)?;
     match read_words(alloc, &visible) {
         Err(ParseExit::Refused(text)) => message(alloc, &text),
@@ -195,8 +195,8 @@ fn refusal<W: AsStr>(alloc: Global, words: &[W], why: &str) -> Result<String, Al
     }
 }
 
-/// Makes a refusal whose first paragraph names an argument. If clap's text names none, as that of `-xz` names the letter alone, all that was
-/// typed is added.
+/// Makes a refusal whose first paragraph names an argument. If clap's text names none, all arguments are added as they were typed. For
+/// `-xz`, for example, clap names the letter alone.
 fn naming_refusal<W: AsStr>(alloc: Global, words: &[W], why: &str) -> Result<String, AllocError>
     ensures visible { IfOk result (λ text. IsMessage (string_bytes text)) }
     ensures names { IfOk result (λ text. IsNamingError (map W.text words.entry.now) (string_bytes text)) }
@@ -212,7 +212,7 @@ fn naming_refusal<W: AsStr>(alloc: Global, words: &[W], why: &str) -> Result<Str
     if named { Ok(second) } else { Err(AllocError) }
 }
 
-/// Returns the text that was asked for, if it names what it is about. clap's texts do so, though no clause says it.
+/// Returns the help or the version if it names what it is about. clap's texts do so, though no clause says it.
 fn naming_text<W: AsStr>(alloc: Global, words: &[W], text: String) -> Result<String, AllocError>
     ensures { IfOk result (λ text. IsTextOf (named_command (map W.text words.entry.now)) (string_bytes text)) }
 {

@@ -1,4 +1,4 @@
-//! What refused arguments may have meant. Each suggested command works wherever it is typed.
+//! Suggestions of what refused arguments may have meant. Each suggested command works wherever it is typed.
 
 use crate::near::near_name;
 use crate::option_row::{Completes, Subcommand};
@@ -7,16 +7,16 @@ use lc_text::{push_quoted, push_visible};
 use std::alloc::{AllocError, Global};
 use std::convert::AsStr;
 
-/// Counts this directory.
+/// A count of the current directory.
 const COUNT: &str = "lc count .";
 
-/// Explains a path, whether or not it is there.
+/// An explanation of a path, whether or not the path exists.
 const EXPLAIN: &str = "lc explain . README.md";
 
-/// Checks paths by the ignore file that most repositories have.
+/// A check of paths by the ignore file that most repositories have.
 const CHECK: &str = "git ls-files | lc check .gitignore";
 
-/// The commands, each with a use of it.
+/// The commands, each with an example.
 const COMMANDS: &[(&str, &str)] = &[
     ("count", COUNT),
     ("explain", EXPLAIN),
@@ -24,10 +24,10 @@ const COMMANDS: &[(&str, &str)] = &[
     ("help", "lc --help"),
 ];
 
-/// What a usage error says beside what is wrong.
+/// The advice of a usage error, besides what is wrong.
 #[derive(Drop)]
 pub(crate) struct Advice {
-    /// What may have been meant.
+    /// What the user may have meant.
     pub(crate) tip: Option<String>,
     /// A line with a command that works.
     pub(crate) example: String,
@@ -49,7 +49,7 @@ fn with_tip(alloc: Global, tip: String, command: &str) -> Result<Advice, AllocEr
     })
 }
 
-/// Finds the command that an unknown word may have meant: what people try because other tools have it.
+/// Finds the command that an unknown word may have meant: words that other tools use.
 fn word_meant(word: &str) -> Option<&'static str> {
     match word {
         "-v" | "-V" | "--version" | "version" => Some("lc --version"),
@@ -102,7 +102,7 @@ fn is_extension(word: &str) -> bool {
     !word.is_empty() && word.bytes().all(|byte| byte.is_ascii_alphanumeric())
 }
 
-/// Finds the count by an option of other tools and the argument after it, such as `-e py` or `-f json`.
+/// Finds the count that an option of another tool and the argument after it may have meant, such as `-e py` or `-f json`.
 fn pair_meant<W: AsStr>(alloc: Global, words: &[W]) -> Result<Option<String>, AllocError> {
     for pair in words.windows(2) {
         if let [option, value] = pair {
@@ -118,14 +118,14 @@ fn pair_meant<W: AsStr>(alloc: Global, words: &[W]) -> Result<Option<String>, Al
     Ok(None)
 }
 
-/// Returns whether a terminal shows an argument as it is, so that it can be typed again.
+/// Returns whether a terminal shows an argument unchanged, so that it can be typed again.
 fn is_shown_as_typed(alloc: Global, word: &str) -> Result<bool, AllocError> {
     let mut shown = String::new(alloc);
     push_visible(&mut shown, word.as_bytes())?;
     Ok(shown.as_str() == word)
 }
 
-/// Returns what clap quotes of the arguments that it refuses.
+/// Returns the part of the refused arguments that clap quotes.
 fn quoted(problem: &str) -> &str {
     let Some((_, rest)) = problem.split_once('\'') else {
         return "";
@@ -136,7 +136,8 @@ fn quoted(problem: &str) -> &str {
     }
 }
 
-/// Lists the names of a command's options. Each of `lc count` is with a count by it, and others are with the command's example.
+/// Lists the names of a command's options. Each option of `lc count` comes with a count that uses it, and each other one with the command's
+/// example.
 fn known_options(
     alloc: Global,
     command: Subcommand,
@@ -155,7 +156,8 @@ fn known_options(
     Ok(known)
 }
 
-/// Makes the advice for an unknown argument: the option that is close if it is a long option, or else this use of the command.
+/// Makes the advice for an unknown argument: the closest option if it is a long option and one is close, and otherwise this example of the
+/// command.
 fn option_or(
     alloc: Global,
     problem: &str,
@@ -174,7 +176,7 @@ fn option_or(
     with_tip(alloc, tip, meant)
 }
 
-/// Returns what the program does without an unknown option, if that is what the option may have meant.
+/// Returns what the program does anyway, if an unknown option may have meant that.
 fn needless(option: &str) -> Option<&'static str> {
     match option {
         "--hidden" => Some("names that begin with a dot are counted without an option"),
@@ -185,7 +187,7 @@ fn needless(option: &str) -> Option<&'static str> {
     }
 }
 
-/// Finds the count that refused arguments of `lc count` may have meant. `problem` is what clap says is wrong.
+/// Finds the count that refused arguments of `lc count` may have meant. `problem` is clap's message.
 ///
 /// ```
 /// let problem = "error: unexpected argument '--json' found";
@@ -208,7 +210,7 @@ pub(crate) fn count<W: AsStr>(
     option_or(alloc, problem, Subcommand::Count, COUNT)
 }
 
-/// Makes the advice for a first argument that is no command, nor close to one.
+/// Makes the advice for a first argument that is neither a command nor close to one.
 fn count_of(alloc: Global, word: &str) -> Result<Advice, AllocError> {
     if word.is_empty() || !is_shown_as_typed(alloc, word)? {
         return example(alloc, COUNT);
@@ -221,7 +223,7 @@ fn count_of(alloc: Global, word: &str) -> Result<Advice, AllocError> {
     })
 }
 
-/// Finds the command that may have been meant by a first argument that is none.
+/// Finds the command that a first argument that is no command may have meant.
 pub(crate) fn command(alloc: Global, first: &str) -> Result<Advice, AllocError> {
     if first == "help" {
         return example(alloc, "lc help count");
@@ -236,7 +238,7 @@ pub(crate) fn command(alloc: Global, first: &str) -> Result<Advice, AllocError> 
     with_tip(alloc, tip, meant)
 }
 
-/// Returns the name in help of the value of an option of `lc explain` that takes the next argument.
+/// Returns the name of the value in help, for an option of `lc explain` that takes the next argument as its value.
 fn value_name(option: &str) -> Option<&'static str> {
     let name = option.strip_prefix("--").unwrap_or("");
     for row in options() {
@@ -247,7 +249,7 @@ fn value_name(option: &str) -> Option<&'static str> {
     None
 }
 
-/// Says which argument was read as the value of an option, if one was. Of several it names the last.
+/// Returns a text about the last argument that was read as the value of an option, if there is one.
 fn value_taken<W: AsStr>(alloc: Global, words: &[W]) -> Result<Option<String>, AllocError> {
     let mut taken = None;
     for pair in words.windows(2) {
@@ -261,7 +263,7 @@ fn value_taken<W: AsStr>(alloc: Global, words: &[W]) -> Result<Option<String>, A
     Ok(taken)
 }
 
-/// Finds the explanation that refused arguments of `lc explain` may have meant. `problem` is what clap says is wrong.
+/// Finds the explanation that refused arguments of `lc explain` may have meant. `problem` is clap's message.
 pub(crate) fn explain<W: AsStr>(
     alloc: Global,
     words: &[W],
@@ -275,7 +277,7 @@ pub(crate) fn explain<W: AsStr>(
     option_or(alloc, problem, Subcommand::Explain, EXPLAIN)
 }
 
-/// Finds the check that refused arguments of `lc check` may have meant. `problem` is what clap says is wrong.
+/// Finds the check that refused arguments of `lc check` may have meant. `problem` is clap's message.
 pub(crate) fn check(alloc: Global, problem: &str) -> Result<Advice, AllocError> {
     option_or(alloc, problem, Subcommand::Check, CHECK)
 }

@@ -1,4 +1,4 @@
-//! The options of the table.
+//! The options of a count's table.
 
 ghost use Rattle.std.specs.Prelude.{◌≡◌, ◌≢◌, MatchOption, option_map};
 ghost use Rattle.clap.specs.Matches.{found_of};
@@ -16,16 +16,16 @@ use lc_glob::cut_at_first;
 use lc_sheet::{Columns, Format, Number, Order, TableOptions};
 use std::alloc::Global;
 
-/// The table that a count is asked for, as by `--format table --by ext --sort lines`.
+/// The table that a count prints, as in `--format table --by ext --sort lines`.
 #[derive(Clone, Copy)]
 pub struct TableRequest {
-    /// The format, if one is named. Shares are shown in a table if none is.
+    /// The format, if one is named. If none is, shares are shown in a table.
     pub format: Option<Format>,
     /// The columns of `--by`: by default `ext`, `text` and `eol`.
     pub by: Columns,
     /// The order of rows and files, if one is named.
     pub sort: Option<Order>,
-    /// The most rows, and the most files, if a limit is named.
+    /// The greatest number of rows, and of files, if a limit is named.
     pub top: Option<u32>,
     /// List each counted file.
     pub files: bool,
@@ -40,7 +40,7 @@ fn is_for_reading(format: Format) -> bool
     matches!(format, Format::Table | Format::Markdown)
 }
 
-/// Returns the order where none is named: by lines if the table shows only the first rows or is for reading.
+/// Returns the default order: by lines if the table shows only the first rows or is for reading.
 fn default_order(format: Format, top: Option<u32>) -> Order
     ensures { result ≡ default_order format top }
 {
@@ -51,7 +51,7 @@ fn default_order(format: Format, top: Option<u32>) -> Order
     }
 }
 
-/// Returns the number by which an order sorts, if it is not that of names.
+/// Returns the number by which an order sorts, or nothing if it sorts by names.
 fn number_of(order: Order) -> Option<Number>
     ensures { result ≡ number_of order }
 {
@@ -62,7 +62,7 @@ fn number_of(order: Order) -> Option<Number>
 }
 
 impl TableRequest {
-    /// Returns the format: the one that is named, else `Table` where shares are asked for, else `other`.
+    /// Returns the named format. If none is named, it is `Table` for a table with shares, and otherwise `other`.
     fn format_or(self, other: Format) -> Format
         ensures { result ≡ format_in other self }
     {
@@ -70,15 +70,15 @@ impl TableRequest {
         self.format.unwrap_or(default)
     }
 
-    /// Returns the order in a format.
+    /// Returns the order of rows and files in a format: the named order, or the default order.
     fn order_in(self, format: Format) -> Order
         ensures { result ≡ order_in format self }
     {
         self.sort.unwrap_or(default_order(format, self.top))
     }
 
-    /// Returns the options of the table, which has the format `other` if none is named and no shares are asked for. Where no order is
-    /// named, rows and files are sorted by lines with `--top` and in a format for reading, and else by their names.
+    /// Returns the options of the table. If no format is named and no shares are shown, its format is `other`. If no order is named, rows
+    /// and files are sorted by lines with `--top` and in a format for reading, and otherwise by their names.
     pub fn options(self, other: Format) -> TableOptions
         ensures { result ≡ options_in other self }
     {
@@ -108,7 +108,7 @@ fn format_named(name: &str) -> Option<Format>
     }
 }
 
-/// Returns the order of a value of `--sort`.
+/// Returns the order that a value of `--sort` names.
 fn order_named(name: &str) -> Option<Order>
     ensures { MatchOption result ((o : OrderModel) → order_word o ≢ name.entry.now) (λ o. order_word o ≡ name.entry.now) }
 {
@@ -230,7 +230,7 @@ fn table_of(
     })
 }
 
-/// Takes the options that clap read of the format, the columns and the order. All rows are shown, and neither files nor shares.
+/// Reads the format, the columns and the order from clap's values. The options then have all rows, and neither files nor shares.
 pub(crate) fn table_in(
     alloc: Global,
     matches: &ArgMatches<'_>,

@@ -1,9 +1,9 @@
-//! Laws that tie a count, an explanation and a check together, and a report to its texts, in the terms of who calls them.
+//! Laws that relate a count, an explanation and a check to each other, and a report to its texts, in the terms of the callers.
 //!
-//! - `laws`: that a count agrees on each path with an explanation of the tree, and with a check by the top's rules; that a path has one
-//!   explanation, whether or not a slash ends a directory's path; what a count has without the ignore files of a tree, and what it has of
-//!   included files
-//! - `printed_laws`: that the sheet of a report has what the laws of its texts ask for, and that no printed share is over 100.0 per cent
+//! - `laws`: a count agrees on each path with an explanation of the tree, and with a check by the top's rules; a path has one explanation,
+//!   with or without a slash at the end of a directory's path; the report of a count without the ignore files of a tree, and the report of
+//!   a count of included files
+//! - `printed_laws`: the sheet of a report has what the laws of its texts require, and no printed share is over 100.0 per cent
 #![tactic(auto)]
 
 mod laws;

@@ -1,6 +1,6 @@
 //! The program `lc_options` prints the table of options of `lc`: a line for each argument of a command, with tabs between fields.
 //!
-//! `tools/options` makes the parts of the manual page and of the completions that list options from what it prints.
+//! `tools/options` turns the printed table into the parts of the manual page and of the completions that list options.
 #![tactic(auto)]
 
 use lc_arguments::{Commands, Completes, Kind, OptionRow, options};

@@ -1,4 +1,4 @@
-//! The boxes of a tree of directories, each inside that of the directory that holds it.
+//! The boxes of a tree of directories. Each box is inside the box of the directory above it.
 
 ghost use Rattle.std.specs.Prelude.{◌≡◌, ◌+◌, ◌-◌, ◌==◌, if◌then◌else◌, ◌++◌, IfOk, OnOk, min};
 ghost use Rattle.lc_rows.specs.ShownRows.{number_in};
@@ -16,7 +16,7 @@ use lc_sheet::Number;
 use lc_walk::Sums;
 use std::alloc::AllocError;
 
-/// Returns what is left of a number without that of the next box, if this is right in a box of this depth.
+/// Returns a number without the number of the next box, if that box is right in a box of this depth, and otherwise the number itself.
 fn left_after(by: Number, depth: usize, left: u128, next: &DirectoryBox<'_>) -> u128
     ensures { result ≡ (if next.now.depth == depth + 1 then left - number_in by next.now.sums else left) }
 {
@@ -27,7 +27,8 @@ fn left_after(by: Number, depth: usize, left: u128, next: &DirectoryBox<'_>) -> 
     }
 }
 
-/// Returns what a box with these boxes after it has besides those right in it: the files of its directory, and what is not drawn.
+/// Returns what a box has besides the boxes right in it: the files of its directory, and directories that are not drawn. The boxes after it
+/// are `after`.
 fn left_beside<'a>(by: Number, depth: usize, number: u128, after: &[DirectoryBox<'a>]) -> u128
     ensures { result ≡ left_beside by depth number after.now }
 {
@@ -52,7 +53,7 @@ fn push_tag(text: &mut Vec<u8>, by: Number, colour: usize, sums: Sums) -> Result
     Ok(())
 }
 
-/// Appends what the browser shows at the pointer: the path, the sums, and the share of the number that is drawn.
+/// Appends the text that the browser shows at the pointer: the path, the sums, and the share of the drawn number.
 fn push_title(
     text: &mut Vec<u8>,
     scale: Scale,
@@ -68,7 +69,7 @@ fn push_title(
     push_share(text, scale, number_in(scale.by, sums))
 }
 
-/// Appends the number that is drawn, and its share.
+/// Appends the drawn number, and its share.
 fn push_drawn_number(
     text: &mut Vec<u8>,
     scale: Scale,
@@ -134,7 +135,7 @@ fn push_opening(
     Ok(())
 }
 
-/// Closes so many boxes.
+/// Closes this many boxes.
 fn push_closings(text: &mut Vec<u8>, count: usize) -> Result<(), AllocError>
     ensures { OnOk result (text.new.items ≡ text.old.items ++ text_of (closings count)) }
 {
@@ -146,7 +147,7 @@ fn push_closings(text: &mut Vec<u8>, count: usize) -> Result<(), AllocError>
     Ok(())
 }
 
-/// Closes the open boxes that do not hold the next one, and begins that. It returns how many boxes are open then.
+/// Closes the open boxes that do not hold the next one, and begins the next one. It returns how many boxes are open then.
 fn push_box<'a>(
     text: &mut Vec<u8>,
     scale: Scale,
@@ -170,7 +171,7 @@ fn push_box<'a>(
     Ok(next)
 }
 
-/// Appends the boxes of directories that come depth first.
+/// Appends the boxes of directories, which come depth first.
 pub(crate) fn push_boxes<'a>(
     text: &mut Vec<u8>,
     scale: Scale,

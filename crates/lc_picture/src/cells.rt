@@ -15,7 +15,7 @@ use lc_sheet::{Column, Form, Lines, Value};
 use lc_text::Name;
 use std::alloc::AllocError;
 
-/// Appends a text as the head of its line.
+/// Appends a text as the first cell of its line.
 fn push_word_cell(text: &mut Vec<u8>, word: &[u8]) -> Result<(), AllocError>
     ensures { OnOk result (text.new.items ≡ text.old.items ++ text_of (name_cell word.now)) }
 {
@@ -67,7 +67,7 @@ fn push_empty_cell(text: &mut Vec<u8>) -> Result<(), AllocError>
     text.extend_from_slice(b"<td></td>")
 }
 
-/// Appends a bar, and the space beside it. The browser divides the space by the numbers.
+/// Appends a bar, and the space next to it. The browser divides the space by the numbers.
 fn push_bar_cell(text: &mut Vec<u8>, part: u128, whole: u128) -> Result<(), AllocError>
     ensures { OnOk result (text.new.items ≡ text.old.items ++ text_of (bar_cell part whole)) }
 {
@@ -94,7 +94,7 @@ fn push_value(text: &mut Vec<u8>, value: Value<'_>, made: &mut String) -> Result
     }
 }
 
-/// Appends what a line has in a column.
+/// Appends the cell of a line in a column.
 fn push_cell<L: Lines>(
     text: &mut Vec<u8>,
     line: &L::Line,
@@ -124,7 +124,7 @@ fn push_cells_in<L: Lines>(
     Ok(())
 }
 
-/// Appends what a line has in each column, and ends it.
+/// Appends the cell of a line in each column, and ends the line.
 pub(crate) fn push_cells<L: Lines>(
     text: &mut Vec<u8>,
     line: &L::Line,

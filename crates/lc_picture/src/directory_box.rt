@@ -15,15 +15,15 @@ use std::marker::Model;
 /// A directory that is drawn.
 #[derive(Drop)]
 pub(crate) struct DirectoryBox<'a> {
-    /// Its path; empty for the top.
+    /// The path of the directory. The path of the top is empty.
     pub(crate) path: &'a [u8],
-    /// The part of its path from the directory right above it on, which is its last name in most trees; empty for the top.
+    /// The part of the path that follows the parent directory, which is the last name in most trees. The top has an empty one.
     pub(crate) directory: &'a [u8],
-    /// The number of directories above it.
+    /// The number of directories above the directory.
     pub(crate) depth: usize,
-    /// The colour of the extension with the largest number in it.
+    /// The colour of the extension with the largest number in the directory.
     pub(crate) colour: usize,
-    /// The sums over the files in it and below it.
+    /// The sums over the files in the directory and below it.
     pub(crate) sums: Sums,
 }
 
@@ -55,7 +55,7 @@ impl<'a> DirectoryBox<'a> {
     }
 }
 
-/// Returns the least number that is drawn: a thousandth of the total, rounded up, and not nothing.
+/// Returns the least number that is drawn: a thousandth of the total, rounded up, and at least 1.
 pub(crate) fn least_drawn(total: u128) -> u128
     ensures { result ≡ least_drawn total }
 {
@@ -102,9 +102,9 @@ fn push_drawn<'a>(
     Ok(place)
 }
 
-/// Returns the directories that are drawn: those with a number of at least `least`.
+/// Returns the directories that are drawn, which are those with a number of at least `least`.
 ///
-/// The rows of `kinds`, by directory and extension, give their colours, and come in the same order.
+/// Their colours come from the rows of `kinds`, by directory and extension, which are in the same order.
 pub(crate) fn drawn_boxes<'a>(
     alloc: Global,
     by: Number,

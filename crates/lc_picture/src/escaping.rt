@@ -27,7 +27,7 @@ fn push_html_byte(text: &mut Vec<u8>, b: u8) -> Result<(), AllocError>
     }
 }
 
-/// Appends a text, with a character reference for each byte that could be markup.
+/// Appends a text. Each byte that could be markup becomes a character reference.
 pub(crate) fn push_html(text: &mut Vec<u8>, shown: &[u8]) -> Result<(), AllocError>
     ensures { OnOk result (text.new.items ≡ text.old.items ++ html shown.now) }
 {
@@ -44,7 +44,7 @@ fn make_name(made: &mut String, name: Name<'_>) -> Result<(), AllocError>
     push_visible_name(made, name)
 }
 
-/// Appends a name, whose bytes are as a terminal shows them.
+/// Appends a name, with its bytes as a terminal shows them.
 pub(crate) fn push_name(
     text: &mut Vec<u8>,
     name: Name<'_>,
@@ -63,7 +63,7 @@ fn make_path(made: &mut String, path: &[u8]) -> Result<(), AllocError>
     push_visible_path(made, path)
 }
 
-/// Appends a path, or the last name of one; that of the top is empty, and is a dot.
+/// Appends a path, or the last name of a path. The empty path of the top becomes a dot.
 pub(crate) fn push_path(
     text: &mut Vec<u8>,
     path: &[u8],

@@ -1,4 +1,4 @@
-//! What could not be read, at the top of a page.
+//! The errors at the top of a page.
 
 ghost use Rattle.std.specs.Prelude.{◌≡◌, ◌++◌, OnOk, take};
 ghost use Rattle.lc_picture.specs.Faults.{fault_line, fault_lines, faults_begin, faults_end, faults_listed, faults_part};
@@ -10,7 +10,7 @@ use crate::sums::push_count;
 use lc_walk::FaultLine;
 use std::alloc::AllocError;
 
-/// The most errors that a page lists.
+/// The greatest number of errors that a page lists.
 const FAULTS_LISTED: usize = 100;
 
 fn push_fault(text: &mut Vec<u8>, fault: &FaultLine, made: &mut String) -> Result<(), AllocError>
@@ -46,7 +46,7 @@ fn push_more_line(text: &mut Vec<u8>, n: usize, made: &mut String) -> Result<(),
     Ok(())
 }
 
-/// Appends how many errors are not listed, if some are not.
+/// Appends how many errors are not listed, if there are any.
 fn push_more(
     text: &mut Vec<u8>,
     listed: usize,
@@ -85,7 +85,7 @@ fn push_faults_end(text: &mut Vec<u8>, all: usize, made: &mut String) -> Result<
     Ok(())
 }
 
-/// Appends how many errors there are, and the first of them; nothing if there are none.
+/// Appends the number of errors, and the first of them. It appends nothing if there are no errors.
 pub(crate) fn push_faults(
     text: &mut Vec<u8>,
     faults: &[FaultLine],

@@ -1,4 +1,4 @@
-//! The head of a page: what was counted, the number that is drawn, and the numbers of all files.
+//! The head of a page: what was counted, the drawn number, and the numbers of all files.
 
 ghost use Rattle.std.specs.Prelude.{◌≡◌, ◌++◌, OnOk};
 ghost use Rattle.lc_rows.specs.SheetLaws.{first_number, is_number, number_at, number_of, same_number};
@@ -43,7 +43,7 @@ fn number_of(value: Value<'_>) -> u128
     }
 }
 
-/// Returns what a line has in the column of a number.
+/// Returns the number of a line in a column.
 fn number_at<L: Lines>(number: Number, form: Form, columns: &[Column], line: &L::Line) -> u128
     ensures { result ≡ number_at number columns.now (line_of (L.value_in form) columns.now line.now) }
 {
@@ -57,7 +57,7 @@ fn number_at<L: Lines>(number: Number, form: Form, columns: &[Column], line: &L:
     0
 }
 
-/// Returns what the first line of a section has in the column of a number.
+/// Returns the number of the first line of a section in a column.
 fn first_number<L: Lines>(number: Number, section: &Section<'_, L>) -> u128
     ensures { result ≡ first_number number section.now }
 {
@@ -68,7 +68,7 @@ fn first_number<L: Lines>(number: Number, section: &Section<'_, L>) -> u128
     }
 }
 
-/// Appends the begin of a page: the title in a browser's tab, and the style.
+/// Appends the beginning of a page: the title in a browser's tab, and the style.
 fn push_page_top(
     text: &mut Vec<u8>,
     counted: &[u8],
@@ -86,7 +86,7 @@ fn push_page_top(
     Ok(())
 }
 
-/// Appends what was counted, and the number that is drawn.
+/// Appends what was counted, and the drawn number.
 fn push_heading(
     text: &mut Vec<u8>,
     counted: &[u8],

@@ -1,4 +1,4 @@
-//! Boxes in the order of the page: depth first, and of those right in one the largest first.
+//! The boxes in the order of the page: depth first, and those right in the same box from the largest to the smallest.
 
 ghost use Rattle.std.specs.Prelude.{◌≡◌, [], ◌∷◌, ◌++◌, IfOk, OnOk, map};
 ghost use Rattle.std.specs.Cmp.Lexicographic.{slice_cmp};
@@ -11,7 +11,7 @@ use lc_sheet::Number;
 use std::alloc::{AllocError, Global};
 use std::marker::Model;
 
-/// A box, with the places of its directory and of those above it.
+/// A box, with the places of its directory and of the directories above it.
 #[derive(Drop)]
 struct PlacedBox<'a> {
     branch: Vec<Place<'a>>,
@@ -36,7 +36,7 @@ fn copies<'a>(alloc: Global, places: &[Place<'a>]) -> Result<Vec<Place<'a>>, All
     Ok(made)
 }
 
-/// Turns the places of the directory before this one, and of those above that, into those of this one.
+/// Turns the places of the previous directory, and of the directories above it, into the places of this directory and of those above it.
 fn next_branch<'a>(
     branch: &mut Vec<Place<'a>>,
     by: Number,
@@ -101,7 +101,8 @@ fn boxes_of<'a>(
     Ok(boxes)
 }
 
-/// Returns boxes that come depth first in the order of the page: depth first too, but of those right in one the largest first.
+/// Returns boxes in the order of the page: depth first, and those right in the same box from the largest to the smallest. The boxes must
+/// come depth first.
 pub(crate) fn largest_first<'a>(
     alloc: Global,
     by: Number,

@@ -4,43 +4,44 @@ ghost use Rattle.lc_picture.specs.Inside.{InsideLaw};
 ghost use Rattle.lc_picture.specs.Places.{FallingLaw};
 ghost use Rattle.lc_picture.specs.Laws.{ColoursLaw, DrawnLaw, NestingLaw, OutlineLaw, ReportLaw, ShownLaw, TagLaw, UnescapedLaw};
 
-/// A name in the page begins and ends no tag and no attribute, and with its character references read it is the name as terminals show it.
+/// The law that a name in the page begins and ends no tag and no attribute. With its character references decoded, it is the name as
+/// terminals show it.
 pub fn names_are_never_markup()
     ensures no_tags { TagLaw }
     ensures reads_back { UnescapedLaw }
 {}
 
-/// A page shows the numbers of all files, the names and numbers of its sheet's rows and of the sums over the others, and each directory
-/// that is drawn with its sums: once, and no other numbers or names. In a report the rows are its extensions. The directories that are
-/// drawn are those with enough lines, or with enough of the number that is asked for.
+/// The law that a page shows the numbers of all files, the names and numbers of its sheet's rows and of the sums over the others, and each
+/// drawn directory with its sums. It shows each once, and no other numbers or names. In a report the rows are its extensions. The drawn
+/// directories are those with enough lines, or with enough of the number that is requested.
 pub fn a_page_shows_each_directory_once()
     ensures shown { ShownLaw }
     ensures report { ReportLaw }
     ensures drawn { DrawnLaw }
 {}
 
-/// Each row of the chart has the colour of its extension, by which the directories are coloured too.
+/// The law that each row of the chart has the colour of its extension, and that the directories have the colours of the same extensions.
 pub fn rows_have_the_colours_of_their_extensions()
     ensures { ColoursLaw }
 {}
 
-/// Each box that is opened is closed, and no box is closed where none is open.
+/// The law that each open box is closed, and that no box is closed when none is open.
 pub fn boxes_are_nested()
     ensures { NestingLaw }
 {}
 
-/// Boxes of directories that come depth first open inside the boxes of the directories above them: a reader who joins the names of the open
-/// boxes finds the path of each directory.
+/// The law that the boxes of directories, which come depth first, open inside the boxes of the directories above them. A reader who joins
+/// the names of the open boxes finds the path of each directory.
 pub fn a_box_opens_inside_that_of_its_parent()
     ensures { InsideLaw }
 {}
 
-/// Of two boxes whose directories are right in the same one, the first has the larger number, or the same.
+/// The law that the first of two boxes has the larger number, or the same number, if their directories are right in the same directory.
 pub fn larger_boxes_come_first()
     ensures { FallingLaw }
 {}
 
-/// But for the names themselves, the boxes are the same for any names.
+/// The law that the boxes are the same for any names, apart from the names themselves.
 pub fn names_change_no_tag()
     ensures { OutlineLaw }
 {}

@@ -1,14 +1,14 @@
 //! The picture of a tree: a page of HTML with the sums of a report, a bar chart of its extensions, and the boxes of its directories.
 //!
 //! - `escaping`: texts in HTML; `style`: the fixed parts of a page
-//! - `boxes`, `directory_box`: the boxes of the directories, each inside that of the directory that holds it
+//! - `boxes`, `directory_box`: the boxes of the directories, each inside the box of the directory above it
 //! - `largest_first`, `places`: the order of boxes
 //! - `colours`: the colours of extensions and of directories
-//! - `faults`: what could not be read
-//! - `head`: the numbers of all files; `chart`, `cells`: the bar chart, and the cells of its lines, both of a sheet
-//! - `sums`, `percents`: numbers, each with its word, and shares; `scale`: what a picture is drawn by
+//! - `faults`: the errors at the top of a page
+//! - `head`: the numbers of all files; `chart`, `cells`: the bar chart of a sheet, and the cells of its lines
+//! - `sums`, `percents`: numbers, each with its word, and shares; `scale`: the drawn number, and its sum over all files
 //! - `report_page`: the page of a report
-//! - `laws`: what is true of the definitions that the contracts cite
+//! - `laws`: laws of the definitions that the contracts cite
 #![tactic(auto)]
 
 mod boxes;

@@ -8,7 +8,7 @@ use std::alloc::AllocError;
 
 /// Returns how many tenths of a per cent a part is of a whole, rounded half up.
 ///
-/// It stops with an error only if the divisor or the dividend overflows, which takes numbers of 2^111 or more.
+/// It stops with an error only if the divisor or the dividend overflows, which needs numbers of 2^111 or more.
 fn tenths_of(part: u128, whole: u128) -> Result<u128, AllocError>
     ensures { IfOk result (λ tenths. tenths ≡ rounded_parts 1000 part whole) }
 {

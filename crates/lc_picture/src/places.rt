@@ -1,4 +1,4 @@
-//! The places of directories: of those right in one, the largest comes first.
+//! The places of directories. Of the directories right in the same one, the largest comes first.
 
 ghost use Rattle.std.specs.Prelude.{◌≡◌};
 ghost use Rattle.std.specs.Cmp.Lexicographic.{slice_cmp};
@@ -10,7 +10,7 @@ use lc_sheet::Number;
 use std::cmp::Ordering;
 use std::marker::Model;
 
-/// The place of a directory among those right in another.
+/// The place of a directory among the directories right in the same one.
 #[derive(Drop)]
 pub(crate) struct Place<'a> {
     number: u128,
@@ -54,7 +54,7 @@ impl<'a> Place<'a> {
     }
 }
 
-/// Compares the places of two directories and of those above them, from the top down.
+/// Compares the places of two directories and of the directories above them, from the top down.
 pub(crate) fn compare_branches(a: &[Place<'_>], b: &[Place<'_>]) -> Ordering
     ensures { result ≡ slice_cmp place_cmp a.now b.now }
 {

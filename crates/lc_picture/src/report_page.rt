@@ -28,10 +28,10 @@ const CHART_COLUMNS: Columns = Columns {
     eol: false,
 };
 
-/// The most extensions that have a bar.
+/// The greatest number of extensions that have a bar.
 const CHART_ROWS: u32 = 20;
 
-/// The number of names after which the directories of boxes are cut, which is as deep as a walk goes.
+/// The number of names after which the directories of boxes are cut. No walk goes deeper.
 const TREE_DEPTH: u32 = 256;
 
 /// The columns of the boxes.
@@ -95,7 +95,7 @@ fn page_text<R: Lines, T: Lines, F: Lines, S: Lines, E: Lines>(
     Ok(text)
 }
 
-/// Returns what a page is drawn by, of the sums over all files.
+/// Returns the scale of a page for the sums over all files.
 fn scale_of(by: Number, totals: Sums) -> Scale
     ensures { result ≡ scale_of by totals }
 {
@@ -169,12 +169,13 @@ fn page_by(
 
 /// Makes the page of a report: one file of HTML with no script, no font and no address.
 ///
-/// It has what was counted, which is `counted` as terminals show it, the sums over all files, a bar for each of the first extensions, and a
-/// box for each directory, inside that of the directory that holds it, the largest first. If the report has errors, it says how many, and
-/// lists the first hundred. Bars and boxes are drawn by the number `sort`, or by lines, and the browser divides the space by these numbers.
-/// Directories with less than a thousandth of the total have no boxes. A reader folds a box to give its space to others.
+/// It has what was counted (`counted`, as terminals show it), the sums over all files, a bar for each of the first extensions, and a box
+/// for each directory. Each box is inside the box of the directory above it, and the largest come first. If the report has errors, the page
+/// says how many, and lists the first hundred. The number `sort`, or lines without it, determines the bars and the boxes, and the browser
+/// divides the space by these numbers. Directories with less than a thousandth of the total have no boxes. A reader can fold a box to leave
+/// its space to others.
 ///
-/// The report must have its files. It stops with an error if there is no memory, and for numbers that no walk has, whose sums overflow.
+/// The report must have its files. An error means that an allocation failed, or that sums overflow, which those of a walk never do.
 pub fn page(
     alloc: Global,
     counted: &[u8],

@@ -1,8 +1,8 @@
-//! The number that a picture is drawn by, and the whole of it.
+//! The number that a picture draws, and its sum over all files.
 
 use lc_sheet::Number;
 
-/// The number that a picture is drawn by, and its sum over all files.
+/// The number that a picture draws, and its sum over all files.
 #[derive(Clone, Copy)]
 pub(crate) struct Scale {
     pub(crate) by: Number,

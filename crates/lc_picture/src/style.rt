@@ -4,7 +4,7 @@ ghost use Rattle.std.specs.Prelude.{◌≡◌};
 ghost use Rattle.lc_picture.specs.Page.{boxes_begin, chart_begin, tree_begin};
 ghost use Rattle.lc_picture.specs.Style.{body_begin, page_begin, style, style_begin};
 
-/// The begin of a page, up to its title.
+/// Returns the beginning of a page, up to its title.
 pub(crate) fn page_begin() -> &'static [u8]
     ensures { result.now ≡ page_begin }
 {
@@ -12,7 +12,7 @@ pub(crate) fn page_begin() -> &'static [u8]
       <meta name=\"viewport\" content=\"width=device-width\">\n<title>"
 }
 
-/// How the parts of a page look: a box beside its parent, space by shares, and a label whole or not there.
+/// The style of a page's parts: a box is next to its parent, space is divided by shares, and a label that does not fit is hidden.
 #[tactic(auto, unfolding(crate::specs::Style::style))]
 pub(crate) fn style() -> &'static [u8]
     ensures { result.now ≡ style }
@@ -63,21 +63,21 @@ pub(crate) fn style() -> &'static [u8]
       @media print{.tree{height:24cm;overflow:hidden;break-inside:avoid;font-size:7pt}}\n"
 }
 
-/// What is between the title and the style.
+/// Returns the part between the title and the style.
 pub(crate) fn style_begin() -> &'static [u8]
     ensures { result.now ≡ style_begin }
 {
     b" by directory</title>\n<style>\n"
 }
 
-/// What is between the style and the name of what was counted.
+/// Returns the part between the style and the name of what was counted.
 pub(crate) fn body_begin() -> &'static [u8]
     ensures { result.now ≡ body_begin }
 {
     b"</style>\n</head>\n<body>\n<h1>"
 }
 
-/// What is between the figures and the rows of the chart.
+/// Returns the part between the figures and the rows of the chart.
 pub(crate) fn chart_begin() -> &'static [u8]
     ensures { result.now ≡ chart_begin }
 {
@@ -85,14 +85,14 @@ pub(crate) fn chart_begin() -> &'static [u8]
       <th>share</th><td></td></tr>\n"
 }
 
-/// What is between the chart and the name of the number that the boxes are drawn by.
+/// Returns the part between the chart and the name of the number of the boxes.
 pub(crate) fn tree_begin() -> &'static [u8]
     ensures { result.now ≡ tree_begin }
 {
     b"</table>\n<h2>By directory</h2>\n<p>Each box is as tall as its share of the "
 }
 
-/// What is between that name and the boxes.
+/// Returns the part between the name of the boxes' number and the boxes.
 pub(crate) fn boxes_begin() -> &'static [u8]
     ensures { result.now ≡ boxes_begin }
 {

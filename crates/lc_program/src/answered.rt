@@ -6,19 +6,19 @@ ghost use Rattle.lc_program.specs.Replies.{outcome_of};
 use lc_text::Outcome;
 use lc_walk::Report;
 
-/// The answer that was written to a request.
+/// The answer that was written for a request.
 #[derive(Drop)]
 pub(crate) enum Answered {
-    /// A check of paths, which names no fault.
+    /// A check of paths, whose answer has no errors.
     Checked,
     /// An explanation of paths.
     Explained(Outcome),
-    /// A count: the report of what was shown, and lines about attributes that no attribute file names.
+    /// A count: the report that was printed, and lines about attributes that no attribute file names.
     Counted(Report, String),
 }
 
 impl Answered {
-    /// Returns whether the answer names a fault.
+    /// Returns whether the answer has errors.
     pub(crate) fn outcome(&self) -> Outcome
         ensures { result ≡ outcome_of self.now }
     {

@@ -17,7 +17,7 @@ use lc_text::Sink;
 use std::sync::Wait;
 use std::thread::Threads;
 
-/// Answers a request. Which streams are terminals decides how paths are printed, and in which format a table is.
+/// Answers a request. Which streams are terminals decides how paths are printed and which format a table has.
 pub(crate) fn answer<R: Threads + Wait + Sync + AllocGlobal, Y: System, S: Source, O: Sink>(
     rt: &R,
     system: &Y,

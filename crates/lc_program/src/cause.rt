@@ -1,4 +1,4 @@
-//! Why the program gives up, and the line that it then writes to standard error.
+//! Why the program stops with an error, and the line that it then writes to standard error.
 
 ghost use Rattle.std.specs.Prelude.{◌≡◌, IfOk, IsErr};
 ghost use Rattle.std.specs.Cow.{cow_str_bytes};
@@ -14,18 +14,18 @@ use lc_walk::WalkFault;
 use std::alloc::{AllocError, AllocFailed, Global};
 use std::borrow::CowStr;
 
-/// Why the program gives up: one line on standard error, and status 3.
+/// Why the program stops with an error: one line on standard error, and status 3.
 #[derive(Drop)]
 pub enum Cause {
     /// An allocation failed.
     Memory,
     /// There are more directories than the limit.
     TooManyDirs,
-    /// An entry of a counted directory is too deep.
+    /// A counted directory has an entry that is too deep.
     TooDeep,
-    /// The board has no row of this directory. A count never ends so.
+    /// The board has no row of this directory. No count ends with this error.
     Torn(u32),
-    /// The board and this worker differ. A count never ends so.
+    /// The board and this worker differ. No count ends with this error.
     Mismatch(u32),
     /// The rule file that the command line names could not be read.
     UnreadRules,
@@ -35,15 +35,15 @@ pub enum Cause {
     UnreadPaths(Option<UnreadReason>),
     /// The list of paths has too many bytes.
     PathsTooLong,
-    /// The list of paths has none, or one that no entry can have. The line tells which.
+    /// The list of paths is empty, or has one that no entry can have. The line says which.
     BadPaths(String),
     /// Standard input could not be read.
     UnreadInput,
     /// Standard input has too many bytes.
     InputTooLong,
-    /// One directory of a count is another, or lies in it. The line tells which.
+    /// One directory of a count is another one, or lies in it. The line says which.
     Nested(String),
-    /// The walk of one of several directories ended without a report. The line names it.
+    /// The walk of one of several directories ended without a report. The line says which.
     InDirectory(String),
     /// A sum over several reports does not fit its type.
     SumsTooLarge,
@@ -67,7 +67,7 @@ fn unread_paths_line(why: Option<UnreadReason>) -> &'static str
 }
 
 impl Cause {
-    /// Makes the line, with its line feed. A line with a number takes memory.
+    /// Makes the line, with its line feed. A line with a number allocates memory.
     pub(crate) fn line(&self, alloc: Global) -> Result<CowStr<'_>, AllocError>
         ensures line { IfOk result (λ line. cow_str_bytes line ≡ cause_line self.now) }
         ensures refused { IsErr result → HasNumber self.now }

@@ -14,7 +14,7 @@ use lc_paths::{check, check_explained, check_joined};
 use lc_text::{PathEnd, PathFormat, PathStyle, Sink};
 use std::alloc::Global;
 
-/// Returns the byte that ends each path of the input, by `--null`.
+/// Returns the byte that ends each path of the input, as `--null` says.
 pub(crate) fn path_end(null: bool) -> PathEnd
     ensures { result ≡ end_for null }
 {
@@ -25,7 +25,7 @@ pub(crate) fn path_end(null: bool) -> PathEnd
     }
 }
 
-/// Checks the paths of the input by the rules of a file, which is read first.
+/// Checks the paths of the input by the rules of a file. It reads the rules first.
 fn check_plainly<Y: System, S: Source, O: Sink>(
     alloc: Global,
     system: &Y,
@@ -42,7 +42,7 @@ fn check_plainly<Y: System, S: Source, O: Sink>(
     Ok(Answered::Checked)
 }
 
-/// Checks the paths of the input by the rules of a file, which is read first, and names the rule that decides each.
+/// Checks the paths of the input by the rules of a file, and shows the rule that decides each path. It reads the rules first.
 fn check_explaining<Y: System, S: Source, O: Sink>(
     alloc: Global,
     system: &Y,
@@ -82,7 +82,7 @@ pub(crate) fn check_file<Y: System, S: Source, O: Sink>(
     }
 }
 
-/// Checks paths by rules, both from the input.
+/// Checks paths by rules, and reads both from the input.
 pub(crate) fn check_input<S: Source, O: Sink>(
     alloc: Global,
     style: PathStyle,

@@ -1,4 +1,4 @@
-//! The commands that lines on standard error show.
+//! The commands that lines on standard error suggest.
 
 ghost use Rattle.std.specs.Prelude.{◌≡◌, ◌++◌, flat_map, map, string_bytes, IfOk, OnOk};
 ghost use Rattle.lc_program.specs.Commands.{count_of, count_of_file, file_count, is_typed, only_of, or_here};
@@ -7,7 +7,7 @@ use lc_text::{push_quoted, push_visible};
 use std::alloc::{AllocError, Global};
 use std::path::Path;
 
-/// Returns whether a path can be typed as a terminal shows it, and is not read as an option.
+/// Returns whether a path can be typed as a terminal shows it, and is not read as an option then.
 pub(crate) fn is_typed(alloc: Global, path: &str) -> Result<bool, AllocError>
     ensures { IfOk result (λ typed. typed ≡ is_typed path.now) }
 {
@@ -36,7 +36,7 @@ fn push_each_only(text: &mut String, paths: &[&str]) -> Result<(), AllocError>
     Ok(())
 }
 
-/// Appends the count of some paths of a directory, by the rules of all of the directory.
+/// Appends the command that counts some paths of a directory by the rules of the whole directory.
 pub(crate) fn push_count(
     text: &mut String,
     paths: &[&str],
@@ -49,14 +49,14 @@ pub(crate) fn push_count(
     push_quoted(text, directory)
 }
 
-/// Returns a directory, or a dot for the one that the program runs in.
+/// Returns a directory, or a dot for the directory that the program runs in.
 fn or_here(directory: &str) -> &str
     ensures { result.now ≡ or_here directory.now }
 {
     if directory.is_empty() { "." } else { directory }
 }
 
-/// Makes the count of a file with this name in this directory. It is empty where that can't be typed.
+/// Makes the command that counts the file with this name in this directory. It is empty if the command can't be typed as it is shown.
 fn count_of_file(alloc: Global, name: &str, directory: &str) -> Result<String, AllocError>
     ensures { IfOk result (λ text. string_bytes text ≡ count_of_file name.now directory.now) }
 {
@@ -69,7 +69,8 @@ fn count_of_file(alloc: Global, name: &str, directory: &str) -> Result<String, A
     Ok(text)
 }
 
-/// Makes the count of the file at a path, as it follows why the path can't be read as a directory. It is empty where that can't be typed.
+/// Makes the command that counts the file at a path, to follow the reason why the path can't be read as a directory. It is empty if the
+/// command can't be typed as it is shown.
 pub(crate) fn file_count(alloc: Global, path: &str) -> Result<String, AllocError>
     ensures { IfOk result (λ text. string_bytes text ≡ file_count path.now) }
 {

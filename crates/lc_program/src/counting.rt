@@ -30,18 +30,17 @@ use std::alloc::{AllocError, Global};
 use std::sync::Wait;
 use std::thread::Threads;
 
-// A count may be asked for as many threads and directories as a walk can have.
+// The command line allows as many threads and directories as a walk can have.
 const _: () = prove!(MAX_THREADS == MAX_WORKERS && MAX_DIRS == MAX_CAPACITY);
 
-/// Whether a named format is a picture.
+/// Returns whether a named format is a picture.
 fn is_picture(format: Option<Format>) -> bool
     ensures { result ≡ is_picture format }
 {
     matches!(format, Some(Format::Html))
 }
 
-/// Makes the options of a walk that the command line asks for. Rows by directory, pictures and conditions on numbers need the
-/// report's files.
+/// Makes the options of a walk from the command line. Rows by directory, pictures and conditions on numbers need the report's files.
 fn options_of<'o>(
     asked: &'o CountRequest<'_>,
     filters: &'o Filters<'_>,
@@ -75,7 +74,7 @@ fn push_after_spaces(text: &mut Vec<u8>, names: &[&str]) -> Result<(), AllocErro
     Ok(())
 }
 
-/// Makes one text of names, with a space between two.
+/// Makes one text of names, with a space between each two.
 fn one_text(alloc: Global, names: &[&str]) -> Result<Vec<u8>, AllocError>
     ensures { IfOk result (λ text. text.items ≡ one_text (map (λ name. name.now) names.now)) }
 {
@@ -114,7 +113,7 @@ fn print_found<R: Threads + Wait + Sync + AllocGlobal, Y: System, O: Sink>(
     Ok(report)
 }
 
-/// Counts directories of which none lies in another, and prints the table.
+/// Counts directories, none of which lies in another, and prints the table.
 fn count_apart<R: Threads + Wait + Sync + AllocGlobal, Y: System, S: Source, O: Sink>(
     rt: &R,
     system: &Y,
@@ -131,7 +130,7 @@ fn count_apart<R: Threads + Wait + Sync + AllocGlobal, Y: System, S: Source, O: 
 {
     let filters = read_filters(rt.alloc(), system, &asked.filters)?;
     let named = NamedAttributes::new(rt.alloc(), &asked.filters.without)?;
-    // Lent before the list is, so that the options' references end together.
+    // Borrowed before the list is, so that the options' references end together.
     let noted = &named;
     let list = list_of(rt.alloc(), system, asked.only_from, input)?;
     let listed = list.as_slice();
@@ -145,7 +144,7 @@ fn count_apart<R: Threads + Wait + Sync + AllocGlobal, Y: System, S: Source, O: 
     Ok(Answered::Counted(report, unnamed))
 }
 
-/// Counts directories and prints the table, in this format if the command line names none.
+/// Counts directories and prints the table, in this format unless the command line names one.
 pub(crate) fn count<R: Threads + Wait + Sync + AllocGlobal, Y: System, S: Source, O: Sink>(
     rt: &R,
     system: &Y,

@@ -8,15 +8,15 @@ use crate::cause::Cause;
 /// How a run of the program ends.
 #[derive(Drop)]
 pub enum Ending {
-    /// It did what it was asked to do.
+    /// It carried out the request.
     Done,
-    /// It wrote the answer, which names a fault.
+    /// It wrote the answer, which has errors.
     SomeFaults,
-    /// It wrote the answer, which counts a file, and was asked to fail then.
+    /// It wrote the answer, which counts a file, and `--fail-if-any` makes that a failure.
     AnyFile,
     /// It refused the arguments.
     Misused,
-    /// It gave up.
+    /// It stopped with an error.
     GaveUp(Cause),
 }
 

@@ -17,7 +17,7 @@ use lc_text::{PathStyle, Sink};
 use lc_tree::{FileSystems, Tree};
 use std::alloc::Global;
 
-/// Explains the paths of the command line, or those of the input if there are none.
+/// Explains the paths of the command line, or the paths of the input if the command line has none.
 fn explain_paths<T: Tree, S: Source, O: Sink>(
     alloc: Global,
     tree: &T,
@@ -46,7 +46,7 @@ fn options_of<'o>(filters: &'o Filters<'_>, style: PathStyle) -> ExplainOptions<
     ExplainOptions { filters, style }
 }
 
-/// Explains paths of a directory, by its rules and those of the command line.
+/// Explains paths of a directory by its rules and the rules of the command line.
 pub(crate) fn explain_asked<Y: System, S: Source, O: Sink>(
     alloc: Global,
     system: &Y,

@@ -1,4 +1,4 @@
-//! The lines on standard error about what a count could not read.
+//! The lines on standard error about errors of a count.
 
 ghost use Rattle.std.specs.Prelude.{◌≡◌, ◌++◌, map, string_bytes, IfOk, OnOk};
 ghost use Rattle.lc_level.specs.FaultLines.{FaultLineModel};
@@ -42,7 +42,7 @@ fn number_text(alloc: Global, count: usize) -> Result<String, AllocError>
     format!(in alloc; "lc: {count} paths could not be read: see ")
 }
 
-/// Makes the line with the number of paths that could not be read, and with the place that has them.
+/// Makes the line with the number of paths that could not be read, and with the place where the answer lists them.
 fn number_line(alloc: Global, place: &str, count: usize) -> Result<String, AllocError>
     ensures { IfOk result (λ text. string_bytes text ≡ number_line place.now count) }
 {
@@ -52,7 +52,7 @@ fn number_line(alloc: Global, place: &str, count: usize) -> Result<String, Alloc
     Ok(text)
 }
 
-/// Names the lines of a table that have this many paths.
+/// Returns the text that names the lines of a table about this many paths.
 fn fault_rows(count: usize) -> &'static str
     ensures { result.now ≡ fault_rows count }
 {
@@ -75,7 +75,7 @@ fn lines_by(alloc: Global, format: Format, faults: &[&FaultLine]) -> Result<Stri
     }
 }
 
-/// Makes these lines, or none if all paths there were read.
+/// Makes the lines about the paths in the counted directories that could not be read, or none if all were read.
 fn lines_if(alloc: Global, format: Format, faults: &[&FaultLine]) -> Result<String, AllocError>
     ensures { IfOk result (λ text. string_bytes text ≡ lines_if format (map (λ f. f.now) faults.now)) }
 {
@@ -86,7 +86,8 @@ fn lines_if(alloc: Global, format: Format, faults: &[&FaultLine]) -> Result<Stri
     }
 }
 
-/// Returns the path of the fault of a counted directory itself: none if it is the only one, and else its name.
+/// Returns the path at which a report has the error of a counted directory itself: an empty path if it is the only directory, and otherwise
+/// its name.
 fn top_path<'w>(directories: &[&str], directory: &'w str) -> &'w [u8]
     ensures { result.now ≡ top_path (map (λ d. d.now) directories.now) directory.now }
 {
@@ -103,7 +104,7 @@ fn has_path(path: &[u8], faults: &[FaultLine]) -> bool
     faults.iter().any(|fault| fault.path.as_slice() == path)
 }
 
-/// Returns whether a fault is of what is in the directories.
+/// Returns whether an error is about a path in the directories, and not about one of the directories itself.
 fn is_inside(directories: &[&str], fault: &FaultLine) -> bool
     ensures { result ≡ is_inside (map (λ d. d.now) directories.now) fault.now }
 {
@@ -115,7 +116,7 @@ fn is_inside(directories: &[&str], fault: &FaultLine) -> bool
     true
 }
 
-/// Collects the faults of what is in the directories.
+/// Collects the errors about paths in the directories.
 fn inside<'f>(
     alloc: Global,
     directories: &[&str],
@@ -132,7 +133,7 @@ fn inside<'f>(
     Ok(kept)
 }
 
-/// Makes the line about a counted directory, if it could not be listed itself. The system is asked why.
+/// Makes the line about a counted directory, if the directory itself could not be listed. It queries the system for the reason.
 fn top_line<Y: System>(
     alloc: Global,
     system: &Y,
@@ -150,7 +151,7 @@ fn top_line<Y: System>(
     uncounted_line(alloc, directory, why)
 }
 
-/// Makes the lines about the counted directories that could not be listed themselves.
+/// Makes the lines about the counted directories that could not be listed.
 fn top_lines<Y: System>(
     alloc: Global,
     system: &Y,
@@ -186,7 +187,7 @@ fn fault_lines<Y: System>(
     Ok(text)
 }
 
-/// Tells that a part of the counted directories could not be read. Each format but CSV and HTML has all of it.
+/// Writes that a part of the counted directories could not be read. Every format but CSV and HTML already lists the errors.
 pub(crate) fn tell_faults<Y: System, E: Sink>(
     alloc: Global,
     system: &Y,
@@ -200,7 +201,7 @@ pub(crate) fn tell_faults<Y: System, E: Sink>(
     if faults.is_empty() {
         return;
     }
-    // The status says it too, so a line that can't be written changes nothing.
+    // The exit status shows the errors too, so a line that can't be written changes nothing.
     let _ = match fault_lines(alloc, system, directories, format, faults) {
         Ok(text) => print(err, text.as_bytes()),
         Err(AllocError) => print(err, b"lc: some paths could not be read\n"),

@@ -1,4 +1,4 @@
-//! The filters that a command line asks for.
+//! The filters of a command line.
 
 ghost use Rattle.std.specs.Prelude.{◌≡◌, ◌++◌, map, IfOk};
 ghost use Rattle.lc_level.specs.Filters.{narrowed};
@@ -11,7 +11,7 @@ use lc_arguments::{FilterRequest, lines_text};
 use lc_level::{Filters, OnlyPaths, RuleText, RulesFileFault, read_rule_text};
 use std::alloc::{AllocError, Global};
 
-/// Reads the file of `--exclude-from`, if the option is given.
+/// Reads the file of `--exclude-from`, if the option is used.
 fn excluded<Y: System>(
     alloc: Global,
     system: &Y,
@@ -26,7 +26,7 @@ fn excluded<Y: System>(
     Ok(Some(text))
 }
 
-/// Reads patterns as the lines of a rule file, if there are some.
+/// Reads patterns as the lines of a rule file, if there are any.
 fn rules_of_patterns(alloc: Global, patterns: &[&str]) -> Result<Option<RuleText>, RulesFileFault>
     ensures { AnswersPatterns (map (λ pattern. pattern.now) patterns.now) result }
 {
@@ -53,7 +53,8 @@ fn push_words(alloc: Global, words: &mut Vec<Vec<u8>>, without: &[&str]) -> Resu
     Ok(())
 }
 
-/// Makes the words for whose attributes entries are skipped. An archive skips what `git archive` does, and says so first.
+/// Makes the list of attributes for which entries are skipped. `--archive` adds `export-ignore` at its beginning, which `git archive`
+/// skips.
 fn words_of(alloc: Global, archive: bool, without: &[&str]) -> Result<Vec<Vec<u8>>, AllocError>
     ensures { IfOk result (λ words. map (λ word. word.items) words.items ≡ words_of archive (map (λ word. word.now) without.now)) }
 {
@@ -65,7 +66,7 @@ fn words_of(alloc: Global, archive: bool, without: &[&str]) -> Result<Vec<Vec<u8
     Ok(words)
 }
 
-/// Returns the filters with these paths, sorted, in place of their own. If there are none, all of a tree takes part.
+/// Returns the filters with these paths, sorted, instead of their own. Without any paths, the whole tree takes part.
 pub(crate) fn narrowed<'p>(
     alloc: Global,
     filters: Filters<'_>,
@@ -84,7 +85,7 @@ pub(crate) fn narrowed<'p>(
     })
 }
 
-/// Reads the filters that a command line asks for. It names no path yet.
+/// Reads the filters of a command line, as yet without any paths.
 pub(crate) fn read_filters<'p, Y: System>(
     alloc: Global,
     system: &Y,

@@ -1,4 +1,4 @@
-//! What a count finds: the report of its directory, or the sum of the reports of several.
+//! The report of a count: the report of its directory, or the sum of the reports of several.
 
 ghost use Rattle.std.specs.Prelude.{◌≡◌, ◌⊎◌, true, map, string_bytes, IfErr, IfOk};
 ghost use Rattle.std.specs.List.{AllZip};
@@ -38,7 +38,7 @@ fn walk_of<R: Threads + Wait + Sync + AllocGlobal, Y: System>(
     walk(rt, rt.alloc(), &tree, options)
 }
 
-/// Makes the line about what ends the walk of one of several directories, which is named.
+/// Makes the line that says why the walk of one of several directories ended, with its name.
 fn line_in(alloc: Global, directory: &str, why: &str) -> Result<String, AllocError>
     ensures { IfOk result (λ line. string_bytes line ≡ line_in directory.now why.now) }
 {
@@ -59,7 +59,7 @@ fn named_cause(alloc: Global, directory: &str, why: &str) -> Cause
     }
 }
 
-/// Makes the cause for what ends the walk of one of several directories.
+/// Makes the cause that says why the walk of one of several directories ended.
 fn cause_in(alloc: Global, directory: &str, fault: WalkFault) -> Cause
     ensures { IsCauseIn directory.now fault result }
 {
@@ -70,7 +70,7 @@ fn cause_in(alloc: Global, directory: &str, fault: WalkFault) -> Cause
     }
 }
 
-/// Walks one of several directories, and puts its report below its name.
+/// Walks one of several directories, and moves its report below its name.
 fn walk_below<R: Threads + Wait + Sync + AllocGlobal, Y: System>(
     rt: &R,
     system: &Y,
@@ -93,7 +93,7 @@ fn walk_below<R: Threads + Wait + Sync + AllocGlobal, Y: System>(
     }
 }
 
-/// Walks several directories, one after another, and puts each report below its directory's name.
+/// Walks several directories, one after another, and moves each report below its directory's name.
 fn walks_below<R: Threads + Wait + Sync + AllocGlobal, Y: System>(
     rt: &R,
     system: &Y,
@@ -116,7 +116,7 @@ fn walks_below<R: Threads + Wait + Sync + AllocGlobal, Y: System>(
     Ok(reports)
 }
 
-/// The file systems whose directories the command line lets a count enter.
+/// Returns the file systems whose directories the count may enter.
 fn entered_by(asked: &CountRequest<'_>) -> FileSystems
     ensures { result ≡ entered_by asked.now }
 {
@@ -127,7 +127,7 @@ fn entered_by(asked: &CountRequest<'_>) -> FileSystems
     }
 }
 
-/// Counts several directories: their reports are joined, each below its name.
+/// Counts several directories. It moves each report below its directory's name, and joins the reports.
 fn found_in_all<R: Threads + Wait + Sync + AllocGlobal, Y: System>(
     rt: &R,
     system: &Y,
@@ -149,7 +149,7 @@ fn found_in_all<R: Threads + Wait + Sync + AllocGlobal, Y: System>(
     Ok(report)
 }
 
-/// Counts directories: of one, the report is that of its walk.
+/// Counts directories. The report of a single directory is that of its walk.
 fn found_in<R: Threads + Wait + Sync + AllocGlobal, Y: System>(
     rt: &R,
     system: &Y,

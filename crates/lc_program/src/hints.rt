@@ -12,7 +12,7 @@ use lc_arguments::Request;
 use lc_text::{Sink, print, push_visible};
 use std::alloc::{AllocError, Global};
 
-/// Collects the paths of directories in the repository with this top.
+/// Collects the paths of the directories that lie in the repository with this top.
 fn paths_in<'r>(
     alloc: Global,
     top: &str,
@@ -68,7 +68,7 @@ fn hint_alone(alloc: Global, directory: &str) -> Result<String, AllocError>
     Ok(text)
 }
 
-/// Makes the hint about a directory in a repository. It shows a command with all directories that lie in the repository, unless that
+/// Makes the hint about a directory in a repository. It shows a command with all directories that lie in the repository, unless the command
 /// can't be typed as it is shown.
 fn hint_line(
     alloc: Global,
@@ -86,7 +86,7 @@ fn hint_line(
     }
 }
 
-/// Returns the first directory that lies in a repository, and that repository.
+/// Returns the first directory that lies in a repository, with that repository.
 fn first_above<'a>(
     directories: &[&'a str],
     repositories: &'a [Option<Repository>],
@@ -104,21 +104,21 @@ fn first_above<'a>(
     None
 }
 
-/// Tells the hint about the first of these directories that lies in a repository.
+/// Writes the hint about the first of these directories that lies in a repository.
 fn tell_above<E: Sink>(alloc: Global, directories: &[&str], all: &[Option<Repository>], err: &mut E)
     ensures { TellsAbove E.may_take (map (λ d. d.now) directories.now) all.now err.old err.new }
 {
     let Some((directory, above)) = first_above(directories, all) else {
         return;
     };
-    // Nothing rests on the hint, so one that can't be written changes nothing.
+    // Nothing depends on the hint, so a hint that can't be written changes nothing.
     let _ = match hint_line(alloc, directory, above, all) {
         Ok(text) => print(err, text.as_bytes()),
         Err(AllocError) => print(err, b"lc: rules above this directory were not read\n"),
     };
 }
 
-/// Asks in which repository each directory lies.
+/// Queries the system for the repository in which each directory lies.
 fn repositories_above<Y: System>(
     alloc: Global,
     system: &Y,
@@ -133,12 +133,12 @@ fn repositories_above<Y: System>(
     Ok(repositories)
 }
 
-/// Hints that rules above these directories were not read, if one lies in a repository below its top.
+/// Writes a hint that rules above these directories were not read, if one of them lies in a repository below its top.
 fn hint_about<Y: System, E: Sink>(alloc: Global, system: &Y, directories: &[&str], err: &mut E)
     ensures { HintsAbout E.may_take (Y.lies system.now) (map (λ d. d.now) directories.now) err.old err.new }
 {
     if let [directory] = directories {
-        // One needs no list.
+        // A single directory needs no list.
         let above = [system.repository_above(alloc, directory)];
         tell_above(alloc, directories, &above, err);
         return;
@@ -148,7 +148,8 @@ fn hint_about<Y: System, E: Sink>(alloc: Global, system: &Y, directories: &[&str
     }
 }
 
-/// Hints that rules above the counted directories were not read, if one lies in a repository below its top. Only a terminal gets the hint.
+/// Writes a hint that rules above the counted directories were not read, if one of them lies in a repository below its top. Only a terminal
+/// gets the hint.
 pub(crate) fn hint<Y: System, E: Sink>(
     alloc: Global,
     system: &Y,

@@ -1,4 +1,4 @@
-//! The line on standard error that says what is read if standard input is a terminal.
+//! The line on standard error that says what the program reads from a terminal.
 
 ghost use Rattle.std.specs.Prelude.{◌≡◌};
 ghost use Rattle.lc_program.specs.Introductions.{Introduces, reads_paths};
@@ -21,7 +21,7 @@ fn reads_paths(request: &Request<'_>) -> bool
     }
 }
 
-/// Says what a request reads from the input if that is a terminal. Without this line the program would seem to hang.
+/// Says what a request reads from the input if the input is a terminal. Without this line the program would seem to hang.
 pub(crate) fn introduce<E: Sink>(request: &Request<'_>, stdin_is_terminal: bool, err: &mut E)
     ensures { Introduces E.may_take stdin_is_terminal request.now err.old err.new }
 {

@@ -1,14 +1,14 @@
-//! The program `lc` without its host: it does what a command line asks for in a system, and writes to streams.
+//! The program `lc` without its host: it carries out a command line in a system, and writes to streams.
 //!
 //! - `system`: the directories and files that a command line names, with `unread_reason`: why one could not be read, and `repository`: the
-//!   one above a directory; `streams`: the streams, and which of them are terminals
-//! - `running`: the program; `answering`: the answer to each request, by `checking`, `counting` and `explaining`; `answered`: the answers
-//! - `filters`: those that a command line asks for, by `rules_file`: the rules of a file; `path_list`: the paths in a file
-//! - `finding`: the report of the directories that are counted, by `nested`: whether one lies in another
-//! - `runs`: the walk of a tree and its table, by `showing`: the text of a report, made and written
-//! - `ending`: how the program ends; `cause`: why it gives up
-//! - `telling`: help, the version, and the lines on standard error, with `introducing`, `faults`, `unlisted`, `unnamed`, `unmatched`
-//!   and `hints`; `commands`: the commands that lines show
+//!   repository above a directory; `streams`: the streams, and which of them are terminals
+//! - `running`: the program; `answering`: answering each request, with `checking`, `counting` and `explaining`; `answered`: the answers
+//! - `filters`: the filters of a command line, with `rules_file`: the rules of a file; `path_list`: the paths in a file
+//! - `finding`: the report of the counted directories, with `nested`: whether one lies in another
+//! - `runs`: the walk of a tree and its table, with `showing`: making and writing the text of a report
+//! - `ending`: how the program ends; `cause`: why it stops with an error
+//! - `telling`: help, the version, and the lines on standard error, with `introducing`, `faults`, `unlisted`, `unnamed`, `unmatched` and
+//!   `hints`; `commands`: the commands that these lines suggest
 #![tactic(auto)]
 
 mod answered;

@@ -1,4 +1,4 @@
-//! Directories of a count, each of which is to be counted once.
+//! Refusing directories of a count that would be counted twice.
 
 ghost use Rattle.std.specs.Prelude.{◌≡◌, ◌⊎◌, ◌++◌, ℕ, List, Option, map, string_bytes, IfErr, IfOk, IsOk, OnOk};
 ghost use Rattle.std.specs.List.{AllZip};
@@ -14,7 +14,7 @@ use lc_text::push_visible;
 use std::alloc::{AllocError, Global};
 use std::marker::Model;
 
-/// A directory by its name, and by its canonical path with a slash at its end.
+/// A directory with its name, and with its canonical path followed by a slash.
 #[derive(Drop)]
 struct Place<'w> {
     name: &'w str,
@@ -75,7 +75,7 @@ fn places_of<'w, Y: System>(
     Ok(places)
 }
 
-/// Sorts places, so that what lies in a place comes next after it.
+/// Sorts places, so that the places inside another come right after it.
 fn sort(places: &mut Vec<Place<'_>>)
     ensures same { IsPermutation places.old.items places.new.items }
     ensures order { IsSortedByKey (λ (p : PlaceModel). p.path) bytes_cmp places.new.items }
@@ -83,7 +83,7 @@ fn sort(places: &mut Vec<Place<'_>>)
     places.sort_unstable_by(|a, b| a.path.as_slice().cmp(&b.path.as_slice()));
 }
 
-/// Returns whether the one is the other, or the other lies in it.
+/// Returns whether both are the same directory, or `inner` lies in `outer`.
 fn holds(outer: &Place<'_>, inner: &Place<'_>) -> bool
     ensures { result ≡ holds outer.now inner.now }
 {
@@ -125,7 +125,7 @@ fn nested_line(alloc: Global, outer: &Place<'_>, inner: &Place<'_>) -> Result<St
     }
 }
 
-/// Refuses places of which one holds another. They are sorted.
+/// Refuses places if one holds another. The places must be sorted.
 fn refuse_nested(alloc: Global, places: &[Place<'_>]) -> Result<(), Cause>
     requires { IsSortedByKey (λ (p : PlaceModel). p.path) bytes_cmp places.now }
     ensures apart { IsOk result → NoneHolds places.now }
@@ -142,7 +142,7 @@ fn refuse_nested(alloc: Global, places: &[Place<'_>]) -> Result<(), Cause>
     Ok(())
 }
 
-/// Refuses directories of which one is another, or lies in another. One whose canonical path the system does not give lies nowhere.
+/// Refuses directories if one is another, or lies in another. A directory without a canonical path is not compared.
 pub(crate) fn refuse_unless_apart<Y: System>(
     alloc: Global,
     system: &Y,

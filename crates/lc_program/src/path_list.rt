@@ -14,7 +14,7 @@ use lc_text::{PathEnd, is_bad_path, is_top, push_visible, split_path, split_slas
 use lc_tree::ReadFault;
 use std::alloc::{AllocError, Global};
 
-/// The most bytes of a list of paths.
+/// The greatest number of bytes of a list of paths.
 const MAX_LIST: usize = 268_435_456;
 
 /// Reads a list of paths to its end, or up to the first byte past [`MAX_LIST`].
@@ -43,7 +43,7 @@ fn list_in_file<Y: System>(alloc: Global, system: &Y, name: &str) -> Result<Vec<
     read_list(alloc, &mut file)
 }
 
-/// Reads the list of paths that a command line names: that of a file, or `-` for the one of the input.
+/// Reads the list of paths that a command line names: the list in a file, or in the input for `-`.
 fn named_list<Y: System, S: Source>(
     alloc: Global,
     system: &Y,
@@ -59,7 +59,7 @@ fn named_list<Y: System, S: Source>(
     }
 }
 
-/// Returns why there is no list.
+/// Returns why a list could not be read.
 fn list_cause<Y: System>(alloc: Global, system: &Y, file: Option<&str>, fault: WholeFault) -> Cause
     ensures { IsListCause (Y.unreads system.now) file.entry fault result }
 {
@@ -73,7 +73,7 @@ fn list_cause<Y: System>(alloc: Global, system: &Y, file: Option<&str>, fault: W
     }
 }
 
-/// Reads the list of paths that a command line names, or returns why there is none.
+/// Reads the list of paths that a command line names, or returns why it could not be read.
 pub(crate) fn list_of<Y: System, S: Source>(
     alloc: Global,
     system: &Y,
@@ -115,7 +115,7 @@ fn is_bad_listed(path: &[u8]) -> bool
     !is_top(path) && is_bad_path(path)
 }
 
-/// Reads the paths of a list, and drops any `./` at the beginning of each and a slash at its end.
+/// Reads the paths of a list, without any `./` at the beginning and without a slash at the end of each.
 fn paths_of<'l>(
     alloc: Global,
     file: &str,
@@ -141,7 +141,7 @@ fn paths_of<'l>(
     Ok(paths)
 }
 
-/// Joins the paths of the command line with those of the list that it names.
+/// Joins the paths of the command line with the paths of its list.
 fn named_paths<'w: 'l, 'l>(
     alloc: Global,
     only: &[&'w [u8]],
@@ -170,8 +170,8 @@ fn has_top(paths: &[&[u8]]) -> bool
     paths.iter().any(|path| is_top(path))
 }
 
-/// Returns the paths to count, of the command line and of the list that it names. Where one of them is the directory itself, there are
-/// none, since all of it is counted.
+/// Returns the paths to count: the paths of the command line and of its list. If one of them is the directory itself, there are none, since
+/// all of it is counted.
 pub(crate) fn wanted_paths<'w: 'l, 'l>(
     alloc: Global,
     only: &[&'w [u8]],

@@ -1,4 +1,4 @@
-//! The program: it does what its arguments ask for in a system, and writes to its streams.
+//! The program: it carries out its arguments in a system, and writes to its streams.
 
 ghost use Rattle.std.specs.Prelude.{◌≡◌, map};
 ghost use Rattle.lc_program.specs.Program.{Advises, Comments, Ends, TellsUnread, status_of, streams_may};
@@ -28,7 +28,7 @@ use std::convert::AsStr;
 use std::sync::Wait;
 use std::thread::Threads;
 
-/// Tells what a count or an explanation could not read. A count's table has this format if the command line names none.
+/// Writes what a count or an explanation could not read. A count's table has this format unless the command line names one.
 fn tell_unread<Y: System, E: Sink>(
     alloc: Global,
     system: &Y,
@@ -58,7 +58,7 @@ fn tell_unread<Y: System, E: Sink>(
     }
 }
 
-/// Tells what could not be read and which attributes no attribute file names.
+/// Writes what could not be read and which attributes no attribute file names.
 fn comment<Y: System, E: Sink>(
     alloc: Global,
     system: &Y,
@@ -73,7 +73,7 @@ fn comment<Y: System, E: Sink>(
     tell_unnamed(answered, err);
 }
 
-/// Returns whether an answer counts a file, which was to be a failure.
+/// Returns whether an answer counts a file and `--fail-if-any` makes that a failure.
 fn has_failure(request: &Request<'_>, answered: &Answered) -> bool
     ensures { result ≡ has_failure request.now answered.now }
 {
@@ -98,7 +98,7 @@ fn ending_of(request: &Request<'_>, answered: &Answered) -> Ending
     }
 }
 
-/// Tells these lines about patterns, and the hint that a request gets.
+/// Writes these lines about patterns, and the hint of a request.
 fn advise<Y: System, E: Sink>(
     alloc: Global,
     system: &Y,
@@ -109,7 +109,7 @@ fn advise<Y: System, E: Sink>(
 )
     ensures { Advises E.may_take (Y.lies system.now) stderr_is_terminal request.now lines.now err.old err.new }
 {
-    // Nothing rests on these lines, so one that can't be written changes nothing.
+    // Nothing depends on these lines, so a line that can't be written changes nothing.
     let _ = print(err, lines.as_bytes());
     hint(alloc, system, request, stderr_is_terminal, err);
 }
@@ -154,20 +154,22 @@ fn end_of<R: Threads + Wait + Sync + AllocGlobal, Y: System, W: AsStr, S: Source
     ending_of(&request, &answered)
 }
 
-/// Runs the program with these arguments and streams, and returns its exit status: 0 done, 1 the answer names a fault, 2 the arguments are
-/// refused, 3 it gave up, with one line on `err`, 4 a file is counted, and `--fail-if-any` is given.
+/// Runs the program with these arguments and streams, and returns its exit status. The status is 0 for success, 1 for an answer with
+/// errors, 2 for refused arguments, and 3 if the program stopped with an error, with one line on `err`. It is 4 if a file is counted, and
+/// `--fail-if-any` is used.
 ///
 /// - no arguments: the input has the lines of an ignore file, then a line `--`, then paths ([`check_joined`](lc_paths::check_joined));
-/// - `check FILE`: the rules are those of the file of this name, which is read first, and the input has the paths
-///   ([`check`](lc_paths::check); with `--explain` [`check_explained`](lc_paths::check_explained));
-/// - `count DIR`: the table of the directory of this name ([`run`](crate::runs::run)); the file of `--exclude-from` is read before the walk;
-/// - `explain DIR`: which rule of the directory of this name decides each path, of the input or of the arguments
+/// - `check FILE`: checks the paths of the input by the rules of the file with this name, which is read first ([`check`](lc_paths::check);
+///   with `--explain` [`check_explained`](lc_paths::check_explained));
+/// - `count DIR`: prints the table of the directory with this name ([`run`](crate::runs::run)); the file of `--exclude-from` is read before
+///   the walk;
+/// - `explain DIR`: shows which rule of the directory with this name decides each path of the input or of the arguments
 ///   ([`explain`](lc_paths::explain)).
 ///
-/// If standard input is a terminal and is read, a line says so first. If standard output is a terminal, checks and explanations print
-/// paths and patterns so that it shows them safely, and a table for which no format is named is printed in columns. If standard error is a
-/// terminal, a hint may follow the table of a count. What a count could not read is told on `err` too, and why a directory could not be,
-/// and which patterns of the arguments can match nothing.
+/// If standard input is a terminal and is read, a line says so first. If standard output is a terminal, checks and explanations escape
+/// paths and patterns that it would not show safely, and a table without a named format is printed in columns. If standard error is a
+/// terminal, a hint may follow the table of a count. `err` also gets lines about paths that a count could not read, the reason why a
+/// directory could not be read, and the patterns of the arguments that can match nothing.
 pub fn program<
     R: Threads + Wait + Sync + AllocGlobal,
     Y: System,

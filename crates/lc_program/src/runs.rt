@@ -1,4 +1,4 @@
-//! A run: the walk of a tree, and the table of what it found.
+//! A run: the walk of a tree, and the table of its report.
 
 ghost use Rattle.std.specs.Prelude.{◌≡◌};
 ghost use Rattle.lc_walk.specs.WalkOptions.{AreWithinLimits};
@@ -17,16 +17,16 @@ use std::sync::Wait;
 use std::thread::Threads;
 use thiserror::Error;
 
-/// Why a table was not written, or not whole.
+/// Why a table was not written, or not completely.
 #[derive(Debug, Clone, Copy, PartialEq, Eq, Error)]
 pub enum RunFault {
-    /// The walk gave no report. Nothing was written.
+    /// The walk returned no report. Nothing was written.
     #[error("the walk gave no report")]
     Walk(WalkFault),
     /// There is no memory for the text. Nothing was written.
     #[error("out of memory")]
     Memory,
-    /// A write failed, or took nothing. What was written is a prefix of the table.
+    /// A write failed, or accepted nothing. The bytes that were written are a prefix of the table.
     #[error("cannot write")]
     Write,
 }
@@ -50,7 +50,7 @@ impl From<PrintFault> for RunFault {
     }
 }
 
-/// Walks a tree, writes the table of what it found that meets the conditions ([`table`]), and returns the report of that.
+/// Walks a tree, writes the table of the part of its report that meets the conditions ([`table`]), and returns this part.
 ///
 /// Rows by directory and a condition on a number need the list of files.
 ///

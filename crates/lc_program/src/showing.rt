@@ -1,4 +1,4 @@
-//! The text of a report, made and written.
+//! Making and writing the text of a report.
 
 ghost use Rattle.std.specs.Prelude.{◌≡◌, false, IfOk};
 ghost use Rattle.lc_program.specs.ReportTexts.{HasSheet, IsPrinted, IsReordered, IsTextIn, IsTextOf, is_picture};
@@ -45,10 +45,10 @@ fn sheet_text(
     Ok(text)
 }
 
-/// Makes the text of a report, or its picture, which has what was counted at its top.
+/// Makes the text of a report, or its picture, whose heading is what was counted.
 ///
-/// It sorts the files of the report in place. Rows by directory and a picture are made of these files, so the report must have them. It
-/// stops with an error if there is no memory, and for numbers that no walk has, whose sums or shares overflow.
+/// It sorts the files of the report in place. Rows by directory and a picture are made from these files, so the report must have them. An
+/// error means that an allocation failed, or that sums or shares overflow, which those of a walk never do.
 pub fn report_text(
     alloc: Global,
     counted: &[u8],
@@ -67,7 +67,7 @@ pub fn report_text(
     }
 }
 
-/// Makes the text of what meets the conditions of a report ([`report_text`]). It drops from the report what does not.
+/// Makes the text of the part of a report that meets the conditions ([`report_text`]). It drops the rest from the report.
 fn part_text(
     alloc: Global,
     report: &mut Report,
@@ -81,9 +81,9 @@ fn part_text(
     Ok(text)
 }
 
-/// Makes the text of what meets the conditions of a report ([`report_text`]), and writes it.
+/// Makes the text of the part of a report that meets the conditions ([`report_text`]), and writes it.
 ///
-/// What does not meet them is dropped from the report, whose files are then in the order in which a table lists them.
+/// The rest is dropped from the report. The remaining files are then in the order in which a table lists them.
 pub fn table<O: Sink>(
     alloc: Global,
     report: &mut Report,

@@ -9,23 +9,23 @@ use lc_text::PathStyle;
 /// The streams of the program.
 #[derive(Drop)]
 pub struct Streams<I, O, E> {
-    /// What is read.
+    /// The stream that is read.
     pub input: I,
-    /// Where answers are written.
+    /// The stream to which answers are written.
     pub out: O,
-    /// Where hints, refusals, what could not be read, and the reason why the program gave up are written.
+    /// The stream for hints, refusals, paths that could not be read, and the reason why the program stopped with an error.
     pub err: E,
 }
 
 /// Which streams of the program are terminals.
 #[derive(Clone, Copy)]
 pub struct Terminals {
-    /// Standard input is a terminal: a line says that it is read.
+    /// Whether standard input is a terminal: if so, a line says that it is read.
     pub input: bool,
-    /// Standard output is a terminal: checks and explanations print paths so that it shows them safely, and a count prints its table in
-    /// columns if no format is named.
+    /// Whether standard output is a terminal: if so, checks and explanations print paths so that it shows them safely, and a count without
+    /// a named format prints its table in columns.
     pub output: bool,
-    /// Standard error is a terminal: a hint may follow a count.
+    /// Whether standard error is a terminal: if so, a hint may follow a count.
     pub error: bool,
 }
 
@@ -41,7 +41,7 @@ impl Terminals {
         }
     }
 
-    /// Returns the format of a table whose format is not named.
+    /// Returns the format of a table if none is named.
     pub(crate) fn format(self) -> Format
         ensures { result ≡ format_for self.output }
     {

@@ -14,7 +14,7 @@ use std::alloc::{AllocError, Global};
 
 /// The directories and files that a command line names.
 ///
-/// A system defines the tree of each directory's name. Its other members define which answers may come for a name.
+/// A system defines the tree of each directory's name. Its other ghost members define which answers it may give for a name.
 pub trait System {
     /// A directory, as a tree.
     type Tree: Tree + Drop;
@@ -22,25 +22,25 @@ pub trait System {
     /// An opened file.
     type File: Source + Drop;
 
-    // The tree of the directory with this name, which enters these file systems.
+    // The tree of the directory with this name. It enters these file systems.
     ghost tree: { Self → List ℕ → FileSystems → Self.Tree };
 
-    // What the reads of the file with this name may give, each time that it is opened.
+    // What reads of the file with this name may give each time that it is opened.
     ghost holds: { Self → List ℕ → Contents };
 
-    // Why the directory with this name could not be listed, as may be answered.
+    // The answers that may be given to why the directory with this name could not be listed.
     ghost unlists: { Self → List ℕ → Option UnreadReason → Type 0 };
 
-    // Why the file with this name could not be read, as may be answered.
+    // The answers that may be given to why the file with this name could not be read.
     ghost unreads: { Self → List ℕ → Option UnreadReason → Type 0 };
 
-    // In which repository the directory with this name lies, below its top, as may be answered.
+    // The answers that may be given to which repository the directory with this name lies in, below its top.
     ghost lies: { Self → List ℕ → Option Repository → Type 0 };
 
-    // Which canonical path the directory with this name has, as may be answered.
+    // The answers that may be given to which canonical path the directory with this name has.
     ghost stands: { Self → List ℕ → Option (List ℕ) → Type 0 };
 
-    /// Makes the tree of the directory with this name, which enters all file systems or that of its top alone. If there is no such
+    /// Makes the tree of the directory with this name, which enters all file systems or only that of its top. If there is no such
     /// directory, the top of the tree can't be listed.
     fn tree(
         &self,
@@ -50,19 +50,19 @@ pub trait System {
     ) -> Result<Self::Tree, AllocError>
         ensures { IfOk result (λ t. t ≡ tree self.now directory.now entered) };
 
-    /// Opens the file with this name. It is refused by `ReadFault::Failed` or `ReadFault::Memory` alone.
+    /// Opens the file with this name. The only errors are `ReadFault::Failed` and `ReadFault::Memory`.
     fn open_file(&self, alloc: Global, name: &str) -> Result<Self::File, ReadFault>
         ensures { Opens Self.File.may_give (holds self.now name.now) result };
 
-    /// Returns why the directory with this name can't be listed, or nothing if it can be or the system does not say.
+    /// Returns why the directory with this name can't be listed, or nothing if it can be listed or the system gives no reason.
     fn why_unlisted(&self, alloc: Global, directory: &str) -> Option<UnreadReason>
         ensures { unlists self.now directory.now result };
 
-    /// Returns why the file with this name can't be read, or nothing if it can be or the system does not say.
+    /// Returns why the file with this name can't be read, or nothing if it can be read or the system gives no reason.
     fn why_unread(&self, alloc: Global, name: &str) -> Option<UnreadReason>
         ensures { unreads self.now name.now result };
 
-    /// Returns the repository in which the directory with this name lies, below its top.
+    /// Returns the repository in which the directory with this name lies, below its top, or nothing if the system gives none.
     fn repository_above(&self, alloc: Global, directory: &str) -> Option<Repository>
         ensures { lies self.now directory.now result };
 

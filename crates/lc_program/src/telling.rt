@@ -15,12 +15,12 @@ pub fn misuse<E: Sink>(why: &str, err: &mut E) -> Ending
     ensures ending { result ≡ ending.Misused }
     ensures told { Tells E.may_take err.old why.now err.new }
 {
-    // The status says it too, so a text that can't be written changes nothing.
+    // The exit status shows the refusal too, so a text that can't be written changes nothing.
     let _ = print(err, why.as_bytes());
     Ending::Misused
 }
 
-/// Writes the line of a cause.
+/// Writes the line about why the program stops with an error, and returns this ending.
 pub fn give_up<E: Sink>(alloc: Global, cause: Cause, err: &mut E) -> Ending
     ensures ending { result ≡ ending.GaveUp cause }
     ensures told { TellsCause E.may_take err.old cause err.new }

@@ -1,4 +1,4 @@
-//! The lines on standard error about a directory that could not be read, and why.
+//! The lines on standard error about a directory that could not be read, and the reason.
 
 ghost use Rattle.std.specs.Prelude.{◌≡◌, string_bytes, IfOk};
 ghost use Rattle.lc_program.specs.Reasons.{count_instead, reason_given, uncounted_line, unexplained_line};
@@ -19,7 +19,7 @@ fn reason_given(why: Option<UnreadReason>) -> &'static str
     }
 }
 
-/// Makes the count of a file that is given in place of a directory, as it follows the reason. It is empty for any other reason.
+/// Makes the command that counts a file that was named as a directory, to follow the reason. It is empty for any other reason.
 fn count_instead(alloc: Global, path: &str, why: Option<UnreadReason>) -> Result<String, AllocError>
     ensures { IfOk result (λ text. string_bytes text ≡ count_instead path.now why) }
 {
@@ -67,14 +67,14 @@ fn tell_why<E: Sink>(alloc: Global, directory: &str, why: Option<UnreadReason>, 
     let Some(_reason) = why else {
         return;
     };
-    // The answer says it too, so a line that can't be written changes nothing.
+    // The answer shows the error too, so a line that can't be written changes nothing.
     let _ = match unexplained_line(alloc, directory, why) {
         Ok(text) => print(err, text.as_bytes()),
         Err(AllocError) => print(err, b"lc: some paths could not be read\n"),
     };
 }
 
-/// Tells why the directory of an explanation could not be read, if the system says that it could not be.
+/// Writes why the directory of an explanation could not be read, if the system gives a reason.
 pub(crate) fn tell_unlisted<Y: System, E: Sink>(
     alloc: Global,
     system: &Y,

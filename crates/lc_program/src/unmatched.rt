@@ -17,7 +17,7 @@ fn unmatched_line(alloc: Global, pattern: &str) -> Result<String, AllocError>
     Ok(text)
 }
 
-/// Makes the line about a pattern. It is empty if the pattern can match something.
+/// Makes the line about a pattern that can match nothing. It is empty for any other pattern.
 fn unmatched_text(alloc: Global, pattern: &str) -> Result<String, AllocError>
     ensures { IfOk result (λ text. string_bytes text ≡ unmatched_text pattern.now) }
 {
@@ -28,7 +28,7 @@ fn unmatched_text(alloc: Global, pattern: &str) -> Result<String, AllocError>
     }
 }
 
-/// Makes a line for each of some patterns that can match nothing.
+/// Makes a line for each of these patterns that can match nothing.
 fn unmatched_lines(alloc: Global, patterns: &[&str]) -> Result<String, AllocError>
     ensures { IfOk result (λ text. string_bytes text ≡ unmatched_lines patterns.now) }
 {

@@ -37,7 +37,8 @@ fn unnamed_text(alloc: Global, named: &NamedAttributes) -> Result<String, AllocE
     Ok(text)
 }
 
-/// Makes a line for each attribute that no attribute file names; none if there is no memory for them, since nothing rests on these lines.
+/// Makes a line for each attribute that no attribute file names. It makes none if there is no memory for them, since nothing depends on
+/// these lines.
 pub(crate) fn unnamed_lines(alloc: Global, named: &NamedAttributes) -> String
     ensures { AreUnnamedLines (noted named.now) (string_bytes result) }
 {
@@ -47,12 +48,12 @@ pub(crate) fn unnamed_lines(alloc: Global, named: &NamedAttributes) -> String
     }
 }
 
-/// Tells which attributes no attribute file names, if a count was answered.
+/// Writes which attributes no attribute file names, if the answer is a count.
 pub(crate) fn tell_unnamed<E: Sink>(answered: &Answered, err: &mut E)
     ensures { TellsUnnamed E.may_take answered.now err.old err.new }
 {
     if let Answered::Counted(_, unnamed) = answered {
-        // Nothing rests on these lines, so one that can't be written changes nothing.
+        // Nothing depends on these lines, so a line that can't be written changes nothing.
         let _ = print(err, unnamed.as_bytes());
     }
 }

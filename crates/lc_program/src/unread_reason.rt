@@ -10,18 +10,18 @@ pub enum UnreadReason {
     Missing,
     /// The system does not permit it.
     Denied,
-    /// It is a directory, where a file is wanted.
+    /// It is a directory, but a file is expected.
     IsDirectory,
-    /// It is a file, where a directory is wanted.
+    /// It is a file, but a directory is expected.
     IsFile,
-    /// It is neither a directory nor a file, or what its path goes through is no directory.
+    /// It is neither a directory nor a file, or its path leads through something that is not a directory.
     NotDirectory,
-    /// The program has no words for the reason.
+    /// The program has no text for the reason.
     Other,
 }
 
 impl UnreadReason {
-    /// Returns the reason as it follows the name.
+    /// Returns the text of the reason, which follows the name.
     pub(crate) fn text(self) -> &'static str
         ensures { result.now ≡ reason_text self }
     {

@@ -1,4 +1,4 @@
-//! Sums that are compared with their total.
+//! Comparing sums with their total.
 
 ghost use Rattle.std.specs.Prelude.{◌≡◌, IfOk, IfSome, IsTrue, map};
 ghost use Rattle.lc_reading.specs.Reports.{nul_part};
@@ -14,7 +14,7 @@ use lc_rows::name_of;
 use lc_walk::{FileLine, Sums, Tally, TallyRow, extension};
 use std::alloc::{AllocError, Global};
 
-/// The sums over all rows, if they fit their types.
+/// Returns the sums over all rows, if they fit their types.
 fn sums_over(rows: &[TallyRow]) -> Option<Sums>
     ensures { IfSome result (λ sums. sums ≡ sums_of_rows rows.now) }
 {
@@ -27,7 +27,7 @@ fn sums_over(rows: &[TallyRow]) -> Option<Sums>
     Some(sums)
 }
 
-/// Returns whether the rows add up to a total.
+/// Returns whether rows add up to a total.
 pub(crate) fn rows_add_up(rows: &[TallyRow], total: Sums) -> bool
     ensures { IsTrue result → total ≡ sums_of_rows rows.now }
 {
@@ -37,7 +37,7 @@ pub(crate) fn rows_add_up(rows: &[TallyRow], total: Sums) -> bool
     }
 }
 
-/// Returns whether both add up to a total.
+/// Returns whether the sums over text and over binary files add up to a total.
 pub(crate) fn parts_add_up(text: Sums, binary: Sums, total: Sums) -> bool
     ensures { IsTrue result → total ≡ plus text binary }
 {
@@ -47,14 +47,14 @@ pub(crate) fn parts_add_up(text: Sums, binary: Sums, total: Sums) -> bool
     }
 }
 
-/// Counts files.
+/// Counts files by their keys.
 fn tally_of(alloc: Global, files: &[FileLine]) -> Result<Tally, AllocError>
     ensures { IfOk result (λ tally. StandsFor tally (map counted_line files.now)) }
 {
     let mut tally = Tally::new(alloc);
     let mut rest = files;
     'files: while let Some((file, others)) = rest.split_first() {
-        // a text has fewer lines
+        // A text has fewer lines.
         if tally.totals().files >= 1 << 62 {
             return Err(AllocError);
         }
@@ -64,7 +64,7 @@ fn tally_of(alloc: Global, files: &[FileLine]) -> Result<Tally, AllocError>
     Ok(tally)
 }
 
-/// The sums of a row whose files hold a NUL byte, or those over no files.
+/// Returns the sums of a row if its files hold a NUL byte, and otherwise the sums over no files.
 fn nul_part(row: &TallyRow) -> Sums
     ensures { result ≡ nul_part row.now }
 {
@@ -74,7 +74,7 @@ fn nul_part(row: &TallyRow) -> Sums
     }
 }
 
-/// The sums over the rows whose files hold a NUL byte, if they fit their types.
+/// Returns the sums over the rows whose files hold a NUL byte, if they fit their types.
 fn nul_sums(rows: &[TallyRow]) -> Option<Sums>
     ensures { IfSome result (λ sums. sums ≡ binary_sums rows.now) }
 {

@@ -1,4 +1,4 @@
-//! The report of an object that was read.
+//! Making the report of an object that was read.
 
 ghost use Rattle.std.specs.Prelude.{◌≡◌, [], false, IfOk, List, MatchOption, None, Some, option_map};
 ghost use Rattle.lc_reading.specs.Members.{Member};
@@ -26,7 +26,7 @@ fn lines_of<T: Drop>(lines: Option<Vec<T>>, name: MemberName) -> Result<Vec<T>, 
     }
 }
 
-/// Returns the skipped entries, which are listed if the entries are counted.
+/// Returns the skipped entries. An object must have their list exactly if it has the number of entries.
 fn skipped_with(
     alloc: Global,
     entries: Option<u64>,
@@ -42,7 +42,7 @@ fn skipped_with(
     }
 }
 
-/// Returns whether rows or files were cut off.
+/// Returns whether rows or files of a report were cut off.
 fn is_cut(numbers: &Numbers, files: &Option<Vec<FileLine>>) -> bool
     ensures { result ≡ false → numbers.now.is_cut ≡ false }
 {
@@ -52,7 +52,7 @@ fn is_cut(numbers: &Numbers, files: &Option<Vec<FileLine>>) -> bool
     }
 }
 
-/// Keeps the rows and files whose sums agree.
+/// Keeps the rows and the files if their sums agree.
 fn agreeing(
     alloc: Global,
     numbers: &Numbers,

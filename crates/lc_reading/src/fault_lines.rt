@@ -1,4 +1,4 @@
-//! What could not be read.
+//! The errors of a report.
 
 ghost use Rattle.std.specs.Prelude.{IfOk};
 ghost use Rattle.lc_reading.specs.Lines.{IsFaultOf};
@@ -12,7 +12,7 @@ use json::Value;
 use lc_level::FaultLine;
 use std::alloc::Global;
 
-/// Reads what could not be read, and why.
+/// Reads an error: the path that could not be read, and the reason.
 pub(crate) fn fault_line_of<'a>(
     alloc: Global,
     members: &[(&'a str, Value<'a>)],

@@ -33,7 +33,7 @@ fn ordered<L: Line>(mut lines: Vec<L>) -> Vec<L>
     lines
 }
 
-/// Sorts lines by their paths; those of one path keep their order.
+/// Sorts lines by their paths. Lines with the same path keep their order.
 pub(crate) fn in_order<L: Line + Drop>(mut lines: Vec<L>) -> Result<Vec<L>, AllocError>
     ensures same { IfOk result (λ sorted. IsPermutation lines.items sorted.items) }
     ensures order { IfOk result (λ sorted. IsSortedByKey L.path_of bytes_cmp sorted.items) }
@@ -42,7 +42,7 @@ pub(crate) fn in_order<L: Line + Drop>(mut lines: Vec<L>) -> Result<Vec<L>, Allo
     Ok(lines)
 }
 
-/// Finds the columns that all rows have. No rows have every column.
+/// Finds the columns that all rows have. If there are no rows, these are all columns.
 pub(crate) fn columns_of_rows(rows: &[ReadRow]) -> Result<RowColumns, NoReport>
     ensures { IfOk result (λ columns. HaveColumns columns rows.now) }
 {
@@ -71,7 +71,7 @@ pub(crate) fn tally_rows(alloc: Global, rows: Vec<ReadRow>) -> Result<Vec<TallyR
     Ok(tally)
 }
 
-/// Keeps files, and makes rows of them.
+/// Keeps files, and makes the rows of the files.
 fn with_files(alloc: Global, files: Vec<FileLine>, total: Sums) -> Result<Kept, ReadFault>
     ensures { IfOk result (IsKeptOf total files.items) }
 {
@@ -88,7 +88,7 @@ fn with_files(alloc: Global, files: Vec<FileLine>, total: Sums) -> Result<Kept, 
     })
 }
 
-/// Keeps rows where no files are listed.
+/// Keeps the rows of a report that lists no files.
 fn without_files(
     alloc: Global,
     columns: RowColumns,
@@ -111,7 +111,7 @@ fn without_files(
     })
 }
 
-/// Keeps the files, if they are listed or there are none, and rows otherwise.
+/// Keeps the files if they are listed or there are none, and otherwise the rows.
 pub(crate) fn kept_of(
     alloc: Global,
     files: Option<Vec<FileLine>>,

@@ -1,12 +1,12 @@
-//! Reading reports: what `lc count --format json` printed is read again.
+//! Reading the reports that `lc count --format json` printed.
 //!
 //! - `reading`: the reports of a text, which `cutter` cuts after each JSON object
-//! - `object`, `top_member`: the members of a report; `lists`: its lists, which are read line by line
+//! - `object`, `top_member`: the members of a report; `lists`: the lists of a report, which are read line by line
 //! - `rows`, `file_lines`, `skipped_lines`, `fault_lines`, with `lines`: a line of each list; `rule_places`: the file of a rule
-//! - `sums`, `numbers_of`: the sums and numbers of a report
-//! - `building`: the report of what was read; `kept_files`: its rows and files; `adding`: whether sums agree
-//! - `members`, `member_name`, `values`, `numbers`, `words`: the members of an object, and what they have
-//! - `read_report`, `row_columns`: what is read; `read_fault`: why nothing is
+//! - `sums`, `numbers_of`: the sums and the numbers of a report
+//! - `building`: making the report of an object; `kept_files`: its rows and files; `adding`: whether sums agree
+//! - `members`, `member_name`, `values`, `numbers`, `words`: the members of an object, and their values
+//! - `read_report`, `row_columns`: a report that was read; `read_fault`: why no report is read
 #![tactic(auto)]
 
 mod adding;

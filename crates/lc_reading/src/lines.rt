@@ -1,4 +1,4 @@
-//! The lines of a report: what all of them share.
+//! The parts that all lines of a report share.
 
 ghost use Rattle.std.specs.Prelude.{◌≡◌, ◌==◌, ◌-◌, true, length, slice_get, IfOk, OnErr};
 ghost use Rattle.std.specs.List.{list_any};
@@ -21,7 +21,7 @@ use lc_census::Eol;
 use lc_rules::TextState;
 use std::alloc::Global;
 
-/// Lends the members of an object that is a value of this member.
+/// Returns the members of an object that is a value of the member with this name.
 #[tactic(auto, using(crate::proofs::LentObjects::object_of_members))]
 pub(crate) fn members_in<'v, 'a>(
     value: &'v Value<'a>,
@@ -81,7 +81,7 @@ fn has_nul(path: &[u8]) -> bool
     path.iter().any(|byte| *byte == 0)
 }
 
-/// Returns whether an entry of a directory can have the path.
+/// Returns whether a path can be that of an entry of a directory.
 fn is_entry_path(path: &[u8]) -> bool
     ensures { result ≡ is_entry_path path.now }
 {

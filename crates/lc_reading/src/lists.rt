@@ -1,4 +1,4 @@
-//! Lists of a report, which are read line by line.
+//! The lists of a report, which are read line by line.
 
 ghost use Rattle.std.specs.Prelude.{◌≡◌, ◌<◌, ◌∷◌, ◌++◌, length, IfOk, OnOk};
 ghost use Rattle.json.specs.Token.{begin_array};
@@ -25,7 +25,7 @@ pub(crate) trait ListLine: Sized + Drop {
 
     ghost is_of: { List Member → Self → Type 0 };
 
-    /// Reads the line of an object's members.
+    /// Makes the line of an object with these members.
     fn of<'a>(alloc: Global, members: &[(&'a str, Value<'a>)]) -> Result<Self, ReadFault>
         ensures { IfOk result (λ line. is_of (members_of members.now) line) };
 }
@@ -70,7 +70,7 @@ impl ListLine for ReadRow {
     }
 }
 
-/// Returns the fault of a value that is no JSON, or for which there is no memory.
+/// Returns the error for a value that is not JSON, or for which an allocation failed.
 pub(crate) fn value_fault(error: Error, name: MemberName) -> ReadFault {
     match error {
         Error::OutOfMemory => ReadFault::Memory,
@@ -80,7 +80,7 @@ pub(crate) fn value_fault(error: Error, name: MemberName) -> ReadFault {
     }
 }
 
-/// Reads a value whole.
+/// Reads a value completely.
 #[tactic(auto, using(crate::proofs::ListsRead::value_taken))]
 pub(crate) fn read_value<'a>(
     alloc: Global,
@@ -119,7 +119,7 @@ fn read_line<'a, L: ListLine>(
     line_of(alloc, &value, name)
 }
 
-/// Reads the lines of a list whose bracket was read.
+/// Reads the lines of a list after its opening bracket.
 fn read_lines<'a, L: ListLine>(
     alloc: Global,
     reader: &mut Reader<'a>,

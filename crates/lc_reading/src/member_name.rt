@@ -35,7 +35,7 @@ pub enum MemberName {
 }
 
 impl MemberName {
-    /// The name as it is printed, such as `rows`.
+    /// Returns the name as it is printed, such as `rows`.
     pub fn as_str(self) -> &'static str
         ensures { result.now ≡ member_name self }
     {

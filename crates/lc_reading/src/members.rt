@@ -10,7 +10,7 @@ use crate::member_name::MemberName;
 use crate::read_fault::NoReport;
 use json::Value;
 
-/// Finds the first member of a name, and the members after it.
+/// Finds the first member with a name, and the members after it.
 fn first_member<'v, 'a>(
     members: &'v [(&'a str, Value<'a>)],
     name: &str,
@@ -30,7 +30,7 @@ fn first_member<'v, 'a>(
     None
 }
 
-/// Finds the value of the one member of a name, if there is one.
+/// Finds the value of the only member with a name, if there is one.
 pub(crate) fn optional<'v, 'a>(
     members: &'v [(&'a str, Value<'a>)],
     name: MemberName,
@@ -48,7 +48,7 @@ pub(crate) fn optional<'v, 'a>(
     }
 }
 
-/// Finds the value of the one member of a name.
+/// Finds the value of the only member with a name.
 pub(crate) fn needed<'v, 'a>(
     members: &'v [(&'a str, Value<'a>)],
     name: MemberName,

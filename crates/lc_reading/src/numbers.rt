@@ -1,10 +1,10 @@
-//! Numbers, which are digits alone.
+//! Numbers, which consist of digits only.
 
 ghost use Rattle.std.specs.Prelude.{◌≡◌, ◌≢◌, ◌<◌, ◌^◌, ℕ, decimal, MatchOption};
 
 use itoa::Buffer;
 
-/// Reads a number that is written as it is printed: in digits, with no zeros before them.
+/// Reads a number in the form in which it is printed: digits, without zeros at the beginning.
 pub(crate) fn number(text: &str) -> Option<u128>
     ensures { MatchOption result ((n : ℕ) → n < 2 ^ 128 → text.now ≢ decimal n) (λ n. text.now ≡ decimal n) }
 {

@@ -1,4 +1,4 @@
-//! The members of a report that are no lists.
+//! The members of a report that are not lists.
 
 ghost use Rattle.std.specs.Prelude.{◌≡◌, IfOk, MatchOption};
 ghost use Rattle.lc_reading.specs.Members.{HasNumber, Lacks, members_of};

@@ -16,10 +16,10 @@ use json::{Reader, Token, Value};
 use lc_level::{FaultLine, FileLine, SkippedLine};
 use std::alloc::Global;
 
-/// The members of a report, of which the lists are read.
+/// The members of a report, with its lists already read.
 #[derive(Drop)]
 pub(crate) struct Object<'a> {
-    /// The members that are no lists.
+    /// The members that are not lists.
     pub(crate) values: Vec<(&'a str, Value<'a>)>,
     pub(crate) rows: Option<Vec<ReadRow>>,
     pub(crate) files: Option<Vec<FileLine>>,
@@ -103,7 +103,7 @@ fn read_faults<'a>(
     Ok(())
 }
 
-/// Reads a member that is no list.
+/// Reads a member that is not a list.
 fn read_small<'a>(
     object: &mut Object<'a>,
     alloc: Global,
@@ -119,7 +119,7 @@ fn read_small<'a>(
     Ok(())
 }
 
-/// Passes over a value.
+/// Skips a value.
 #[tactic(auto, using(crate::proofs::ObjectsRead::value_skipped))]
 fn skip<'a>(reader: &mut Reader<'a>) -> Result<(), ReadFault>
     ensures { OnOk result (IsPassed reader.old reader.new) }
@@ -148,7 +148,7 @@ fn read_member<'a>(
     }
 }
 
-/// Reads a key, if the object does not end.
+/// Reads a key, unless the object ends.
 #[tactic(auto, using(crate::proofs::ObjectsRead::key_taken))]
 fn next_key<'a>(reader: &mut Reader<'a>) -> Result<Option<&'a str>, ReadFault>
     ensures { IfOk result (λ k. reader.old ≡ key_token (option_map (λ s. s.now) k) ∷ reader.new) }
@@ -159,7 +159,7 @@ fn next_key<'a>(reader: &mut Reader<'a>) -> Result<Option<&'a str>, ReadFault>
     }
 }
 
-/// Reads the members of an object whose brace was read.
+/// Reads the members of an object after its opening brace.
 fn read_members<'a>(alloc: Global, reader: &mut Reader<'a>) -> Result<Object<'a>, ReadFault>
     ensures { IfOk result (λ o. TakesObject o (begin_object ∷ reader.old) reader.new) }
 {

@@ -8,44 +8,44 @@ use std::alloc::{AllocError, AllocFailed};
 use std::fmt;
 use thiserror::Error;
 
-/// Why a text gives no reports. It is printed as what follows the name of the text.
+/// Why no reports are read from a text. It is printed as the text that follows the name of the input.
 #[derive(Clone, Copy, Debug, Drop, PartialEq, Eq, Error)]
 pub enum ReadFault {
     /// An allocation failed.
     #[error("out of memory")]
     Memory,
-    /// The text is no report.
+    /// The text is not a report.
     #[error("is no report: {0}")]
     NoReport(NoReport),
-    /// The report lacks rows or files that were counted.
+    /// The report lacks rows or files that it counts.
     #[error("was cut by --top")]
     CutByTop,
-    /// This part of the report has other sums than its total.
+    /// The sums of this part of the report differ from its total.
     #[error("is no report: its {0} do not add up to its total")]
     DoNotAddUp(Part),
 }
 
-/// Why a text is no report.
+/// Why a text is not a report.
 #[derive(Clone, Copy, Debug, Drop, PartialEq, Eq, Error)]
 pub enum NoReport {
-    /// It has white space alone, or nothing.
+    /// The text is empty, or has only white space.
     #[error("it is empty")]
     Empty,
-    /// No JSON object is at about this byte.
+    /// At about this byte there is no JSON object.
     #[error("no JSON object at byte {0}")]
     NoObject(usize),
-    /// An object lacks the member of this name.
+    /// An object lacks the member with this name.
     #[error("no member {0}")]
     Missing(MemberName),
-    /// An object has two members of this name, or the member has two values.
+    /// An object has two members with this name, or two values for it.
     #[error("{0} twice")]
     Twice(MemberName),
-    /// The value of this member can be in no report.
+    /// No report can have the value of this member.
     #[error("bad {0}")]
     Bad(MemberName),
 }
 
-/// A part of a report whose sums are those of its total.
+/// A part of a report whose sums must be those of its total.
 #[derive(Clone, Copy, Debug, Drop, PartialEq, Eq, Error)]
 pub enum Part {
     /// The rows.

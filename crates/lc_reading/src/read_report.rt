@@ -3,12 +3,12 @@
 use crate::row_columns::RowColumns;
 use lc_walk::{Report, Sums};
 
-/// A report that was read, with what a report of a walk does not say.
+/// A report that was read, with facts that the report of a walk does not have.
 #[derive(Debug, Drop)]
 pub struct ReadReport {
-    /// The report. Where it has no files, a column that its rows lack has no extension, the state `Unspecified`, or no line ends.
+    /// The report. If it has no files, its rows have no extension, the state `Unspecified`, or no line ends in each column that they lack.
     pub report: Report,
-    /// The columns by which its rows are kept apart.
+    /// The columns that the rows are grouped by.
     pub columns: RowColumns,
     /// The sums over files that are not binary.
     pub text: Sums,

@@ -1,4 +1,4 @@
-//! Reading the reports of a text.
+//! Reading the reports in a text.
 
 ghost use Rattle.std.specs.Prelude.{◌≡◌, ◌++◌, ◌<◌, true, length, Err, IfOk, OnOk};
 ghost use Rattle.std.specs.List.{list_all};
@@ -28,7 +28,7 @@ fn is_blank(text: &[u8]) -> bool
     text.iter().all(|byte| is_space(*byte))
 }
 
-/// Returns the fault of a text that has no JSON object at a byte.
+/// Returns the error for a text that has no JSON object at a byte.
 fn no_object(at: usize) -> ReadFault {
     ReadFault::NoReport(NoReport::NoObject(at))
 }
@@ -48,7 +48,7 @@ fn check_json(text: &str, start: usize, scratch: &mut Scratch<Global>) -> Result
     }
 }
 
-/// Reads the report that a JSON text is.
+/// Reads the report in a JSON text.
 fn report_in(
     alloc: Global,
     text: &str,
@@ -66,7 +66,7 @@ fn report_in(
     report_of(alloc, object)
 }
 
-/// Cuts a text after the object at its front.
+/// Cuts a text after the object at its beginning.
 fn cut(text: &[u8], start: usize) -> Result<(&str, &[u8]), ReadFault>
     ensures parts { IfOk result (λ parts. text.now ≡ parts.0.now ++ parts.1.now) }
     ensures shorter { IfOk result (λ parts. length parts.1.now < length text.now) }
@@ -85,12 +85,12 @@ fn cut(text: &[u8], start: usize) -> Result<(&str, &[u8]), ReadFault>
     }
 }
 
-/// Reads the reports of a text, which are JSON objects with white space between them, or nothing.
+/// Reads the reports in a text, which are JSON objects. They may have white space between them, or nothing.
 ///
-/// Each object is read before the next one, so the fault is that of the first object that is refused. An object that is no report is
-/// refused as such before its rows and files are counted ([`ReadFault::CutByTop`]) and its sums compared.
+/// Each object is read before the next one, so the error is about the first object that is refused. An object that is not a report is
+/// refused for that reason, before the check that its rows and files are complete ([`ReadFault::CutByTop`]) and the comparison of its sums.
 ///
-/// It takes memory for the reports, for as many bytes as the longest object has, and for one line of a list at a time.
+/// It allocates memory for the reports, for as many bytes as the longest object has, and for one line of a list at a time.
 ///
 /// ```
 /// let reports = read_reports(alloc, &text)?;

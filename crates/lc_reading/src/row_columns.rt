@@ -1,15 +1,15 @@
-//! The columns by which rows are kept apart.
+//! The columns that rows are grouped by.
 
 ghost use Rattle.std.specs.Prelude.{◌≡◌, true};
 
-/// The columns by which the rows of a report are kept apart; they are summed over the others.
+/// The columns that the rows of a report are grouped by. The rows are summed over the other columns.
 #[derive(Clone, Copy, Debug, Drop, PartialEq, Eq)]
 pub struct RowColumns {
-    /// Whether rows are kept apart by extension.
+    /// Whether rows are grouped by extension.
     pub ext: bool,
-    /// Whether rows are kept apart by the attribute `text`.
+    /// Whether rows are grouped by the attribute `text`.
     pub text: bool,
-    /// Whether rows are kept apart by how lines end.
+    /// Whether rows are grouped by how lines end.
     pub eol: bool,
 }
 

@@ -24,7 +24,7 @@ use lc_rules::TextState;
 use lc_walk::TallyRow;
 use std::alloc::Global;
 
-/// A row, and the columns that it has.
+/// A row, with the columns that it has.
 #[derive(Debug, Drop)]
 pub(crate) struct ReadRow {
     pub(crate) columns: RowColumns,
@@ -39,7 +39,7 @@ fn has_byte_of_no_name(bytes: &[u8]) -> bool
         .any(|byte| *byte == 0 || *byte == b'.' || *byte == b'/')
 }
 
-/// Returns whether a name can have the extension.
+/// Returns whether these bytes can be the extension of a name.
 fn is_extension(bytes: &[u8]) -> bool
     ensures { result ≡ is_extension bytes.now }
 {
@@ -56,7 +56,7 @@ fn has<'a>(members: &[(&'a str, Value<'a>)], name: MemberName) -> Result<bool, N
     Ok(found.is_some())
 }
 
-/// Returns whether there is no extension, by a null.
+/// Returns whether a null says that there is no extension.
 #[tactic(auto, using(crate::proofs::JsonKinds::null_if))]
 fn has_no_extension<'a>(members: &[(&'a str, Value<'a>)]) -> Result<bool, NoReport>
     ensures { IfOk result (λ none. MatchBool none (HasExtension (members_of members.now) None) ⊤) }
@@ -73,7 +73,7 @@ fn has_no_extension<'a>(members: &[(&'a str, Value<'a>)]) -> Result<bool, NoRepo
     }
 }
 
-/// Reads an extension after its dot.
+/// Reads an extension, which follows a dot.
 fn extension_after_dot<'a>(
     alloc: Global,
     members: &[(&'a str, Value<'a>)],
@@ -90,7 +90,7 @@ fn extension_after_dot<'a>(
     Ok(rest.to_vec(alloc)?)
 }
 
-/// Reads the extension of a row, if rows have this column.
+/// Reads the extension of a row, if rows have the column.
 fn extension_in<'a>(
     alloc: Global,
     members: &[(&'a str, Value<'a>)],

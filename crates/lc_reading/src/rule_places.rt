@@ -1,4 +1,4 @@
-//! The file that a rule was read from, by its path.
+//! Finding the file that a rule was read from, by its path.
 
 ghost use Rattle.std.specs.Prelude.{◌≡◌, ◌++◌, codes, IfSome, IsTrue};
 ghost use Rattle.lc_text.specs.RulePlaces.{source_directory, source_name};
@@ -6,7 +6,7 @@ ghost use Rattle.lc_text.specs.RulePlaces.{source_directory, source_name};
 use lc_rules::RuleSource;
 use lc_text::{source_directory, source_name};
 
-/// Returns whether the file of a source, whose rule decides a path, is shown so.
+/// Returns whether this path is the one that is shown for the file of a source, if a rule in it decides `path`.
 fn is_shown(path: &[u8], file: &[u8], source: RuleSource) -> bool
     ensures { IsTrue result → file.now ≡ source_directory path.now source ++ source_name source }
 {
@@ -17,7 +17,7 @@ fn is_shown(path: &[u8], file: &[u8], source: RuleSource) -> bool
     }
 }
 
-/// Counts the slashes, as many as a path has.
+/// Counts the slashes of a path.
 fn slashes(file: &[u8]) -> u32 {
     let mut count: u32 = 0;
     for byte in file {
@@ -28,7 +28,7 @@ fn slashes(file: &[u8]) -> u32 {
     count
 }
 
-/// Finds the source of a rule that decides a path, by the file that is shown for it.
+/// Finds the source of a rule that decides a path, by the file that is shown for the rule.
 pub(crate) fn source_of(path: &[u8], file: &[u8]) -> Option<RuleSource>
     ensures { IfSome result (λ source. file.now ≡ source_directory path.now source ++ source_name source) }
 {
@@ -37,7 +37,7 @@ pub(crate) fn source_of(path: &[u8], file: &[u8]) -> Option<RuleSource>
         RuleSource::CommandLine,
         RuleSource::ExcludeFrom,
         RuleSource::Gitignore(depth),
-        // its name has two slashes
+        // The file's name in the directory has two slashes.
         RuleSource::InfoExclude(depth.saturating_sub(2)),
     ];
     for source in &sources {

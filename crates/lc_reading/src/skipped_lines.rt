@@ -17,7 +17,7 @@ use lc_level::{Reason, SkippedLine};
 use lc_tree::{Kind, OtherKind};
 use std::alloc::Global;
 
-/// Finds the kind of an entry by its word and by the reason for which the entry is skipped.
+/// Finds the kind of an entry by its word and by the reason why the entry is skipped.
 fn kind_of(word: &str, reason: &Reason) -> Option<Kind>
     ensures word { IfSome result (λ kind. word.now ≡ kind_word kind) }
     ensures reason { IfSome result (λ kind. HasReason kind (reason_model reason.now)) }
@@ -54,7 +54,7 @@ fn rule_in<'a>(
     }
 }
 
-/// Reads why an entry is skipped.
+/// Reads the reason why an entry is skipped.
 fn reason_in<'a>(
     alloc: Global,
     members: &[(&'a str, Value<'a>)],

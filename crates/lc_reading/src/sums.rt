@@ -14,7 +14,7 @@ use crate::values::{count_in, sum_in};
 use json::Value;
 use lc_walk::Sums;
 
-/// Reads the sums that an object has.
+/// Reads the sums in an object.
 pub(crate) fn sums_of<'a>(members: &[(&'a str, Value<'a>)]) -> Result<Sums, NoReport>
     ensures sums { IfOk result (IsSumsOf (members_of members.now)) }
     ensures refused { OnErr result ((s : SumsModel) → IsInRange s → IsSumsOf (members_of members.now) s → ⊥) }
@@ -31,7 +31,7 @@ pub(crate) fn sums_of<'a>(members: &[(&'a str, Value<'a>)]) -> Result<Sums, NoRe
     })
 }
 
-/// Reads the sums that are an object of this name.
+/// Reads the sums in the object that is the value of the member with this name.
 pub(crate) fn sums_in<'a>(
     members: &[(&'a str, Value<'a>)],
     name: MemberName,

@@ -14,9 +14,9 @@ pub(crate) enum TopMember {
     Files,
     Left,
     Faults,
-    /// It is no list.
+    /// The member is not a list.
     Value(MemberName),
-    /// It is passed over.
+    /// The member is skipped.
     Other,
 }
 
@@ -41,7 +41,7 @@ fn value_name(key: &str) -> Option<MemberName>
     first_name(&all, key)
 }
 
-/// Finds the member of a report that has a name.
+/// Finds the member of a report with this name.
 pub(crate) fn top_member(key: &str) -> TopMember
     ensures { IsTopMember key.now result }
 {

@@ -1,4 +1,4 @@
-//! Numbers, texts and bytes that members have.
+//! The numbers, texts and bytes in members.
 
 ghost use Rattle.std.specs.Prelude.{ℕ, List, OnErr, ◌≡◌, ◌<◌, ◌^◌, map, decimal, IfOk, IfSome, MatchOption};
 ghost use Rattle.json.specs.Json.{number as json_number};
@@ -12,7 +12,7 @@ use crate::read_fault::{NoReport, ReadFault};
 use json::Value;
 use std::alloc::{AllocError, Global};
 
-/// Reads the number that a member has.
+/// Reads the number in a member.
 #[tactic(auto, using(crate::proofs::JsonKinds::number_if))]
 pub(crate) fn sum_in<'a>(
     members: &[(&'a str, Value<'a>)],
@@ -32,7 +32,7 @@ pub(crate) fn sum_in<'a>(
     }
 }
 
-/// Reads the number below 2^64 that a member has.
+/// Reads the number in a member, which must be below 2^64.
 pub(crate) fn count_in<'a>(
     members: &[(&'a str, Value<'a>)],
     name: MemberName,
@@ -47,7 +47,7 @@ pub(crate) fn count_in<'a>(
     }
 }
 
-/// Lends the text that a member has.
+/// Returns the text in a member.
 #[tactic(auto, using(crate::proofs::JsonKinds::text_if))]
 pub(crate) fn text_in<'a>(
     members: &[(&'a str, Value<'a>)],
@@ -72,7 +72,7 @@ fn byte_of(value: &Value<'_>) -> Option<u8>
     u8::try_from(number).ok()
 }
 
-/// Reads bytes that are a list of numbers, if they are.
+/// Reads bytes from a list of numbers, if each number is a byte.
 fn listed_bytes(alloc: Global, values: &[Value<'_>]) -> Result<Option<Vec<u8>>, AllocError>
     ensures { IfOk result (λ found. IfSome found (λ bytes. values_of values.now ≡ map (λ b. json_number (decimal b)) bytes.items)) }
 {
@@ -88,7 +88,7 @@ fn listed_bytes(alloc: Global, values: &[Value<'_>]) -> Result<Option<Vec<u8>>, 
     Ok(Some(bytes))
 }
 
-/// Reads the bytes that a member has as a list of numbers, if there is one.
+/// Reads the bytes that a member has as a list of numbers, if there is such a member.
 fn bytes_of_list<'a>(
     alloc: Global,
     members: &[(&'a str, Value<'a>)],
@@ -109,7 +109,7 @@ fn bytes_of_list<'a>(
     }
 }
 
-/// Reads the bytes that are a text under one name, where no list of numbers is under another.
+/// Reads the bytes of the text under one name, if there is no list of numbers under the other name.
 fn bytes_of_text<'a>(
     alloc: Global,
     members: &[(&'a str, Value<'a>)],
@@ -125,7 +125,7 @@ fn bytes_of_text<'a>(
     }
 }
 
-/// Reads the bytes that are a text under one name, or a list of numbers under another, if there are any.
+/// Reads the bytes of a text under one name, or of a list of numbers under another, if there are any.
 pub(crate) fn optional_bytes<'a>(
     alloc: Global,
     members: &[(&'a str, Value<'a>)],
@@ -141,7 +141,7 @@ pub(crate) fn optional_bytes<'a>(
     }
 }
 
-/// Reads the bytes that are a text under one name, or a list of numbers under another.
+/// Reads the bytes of a text under one name, or of a list of numbers under another.
 pub(crate) fn bytes_in<'a>(
     alloc: Global,
     members: &[(&'a str, Value<'a>)],

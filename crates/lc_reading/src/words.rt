@@ -1,4 +1,4 @@
-//! Words that are read by the tables that print them.
+//! Reading words by the tables from which they are printed.
 
 ghost use Rattle.std.specs.Prelude.{◌≡◌, ◌≢◌, find, bytes_eq, MatchOption, Some};
 ghost use Rattle.lc_census.specs.EolWords.{eol_word};
@@ -19,7 +19,7 @@ fn first_eol(all: &[Eol], word: &str) -> Option<Eol>
     all.iter().copied().find(|eol| eol.as_str() == word)
 }
 
-/// Finds how lines end by its word.
+/// Finds how lines end by the word for it.
 pub(crate) fn eol_of(word: &str) -> Option<Eol>
     ensures { MatchOption result ((eol : EolModel) → eol_word eol ≢ word.now) (λ eol. eol_word eol ≡ word.now) }
 {
@@ -40,7 +40,7 @@ fn first_fault(all: &[FaultWord], word: &str) -> Option<FaultWord>
     all.iter().copied().find(|fault| fault.as_str() == word)
 }
 
-/// Finds why something was not counted by its word.
+/// Finds why something was not counted by the word for it.
 pub(crate) fn fault_of(word: &str) -> Option<FaultWord>
     ensures { MatchOption result ((fault : FaultWordModel) → fault_word fault ≢ word.now) (λ fault. fault_word fault ≡ word.now) }
 {
@@ -71,7 +71,7 @@ fn first_state(all: &[TextState], word: &str) -> Option<TextState>
     all.iter().copied().find(|state| is_word_of(*state, word))
 }
 
-/// Finds a state that has this word.
+/// Finds a state by its word.
 pub(crate) fn text_state_of(word: &str) -> Option<TextState>
     ensures { MatchOption result ((state : TextStateModel) → text_word state ≢ Some word.now) (λ state. text_word state ≡ Some word.now) }
 {

@@ -1,4 +1,4 @@
-//! What several reports have together: their numbers, and their lines.
+//! The numbers and the lines of several reports together.
 ghost use Rattle.std.specs.Prelude.{◌≡◌, IfOk, MatchOption, OnOk};
 ghost use Rattle.std.specs.List.{list_all};
 ghost use Rattle.lc_reports.specs.Gathered.{Adds, IsGathered, NumbersFit, no_numbers, numbers_of, numbers_with};
@@ -9,7 +9,7 @@ ghost use Rattle.lc_walk.specs.TallyRows.{sums_of_rows};
 use lc_walk::{FaultLine, FileLine, Report, ReportLists, SkippedLine, Sums, TallyRow};
 use std::alloc::{AllocError, Global};
 
-/// These sums and those over some rows, if each fits its type.
+/// Returns these sums with the sums over some rows added, if each fits its type.
 fn with_rows(sums: Sums, rows: &[TallyRow]) -> Option<Sums>
     ensures { MatchOption result (IsInRange (plus sums (sums_of_rows rows.now)) → ⊥) (λ all. all ≡ plus sums (sums_of_rows rows.now)) }
 {
@@ -25,7 +25,7 @@ fn with_rows(sums: Sums, rows: &[TallyRow]) -> Option<Sums>
 /// The sums of the numbers of several reports.
 #[derive(Drop)]
 pub(crate) struct Numbers {
-    // Tested with the other sums, before memory is taken: so a join that lacks memory has no sum that is too large.
+    // Tested with the other sums before anything is allocated, so that a join fails for lack of memory only if no sum is too large.
     rows: Sums,
     pub(crate) totals: Sums,
     pub(crate) directories: u64,
@@ -44,7 +44,7 @@ impl Numbers {
         }
     }
 
-    /// These numbers and those of a report, if each sum fits its type.
+    /// Returns these numbers with those of a report added, if each sum fits its type.
     #[tactic(auto, using(crate::proofs::NumbersInTurn::same_numbers))]
     fn with(self, report: &Report) -> Option<Numbers>
         ensures { MatchOption result (NumbersFit (numbers_with self report.now) → ⊥) (λ n. n ≡ numbers_with self report.now) }
@@ -57,7 +57,7 @@ impl Numbers {
         })
     }
 
-    /// The sums over all of these reports, if each fits its type.
+    /// Returns the sums over all of these reports, if each fits its type.
     pub(crate) fn of(reports: &[Report]) -> Option<Numbers>
         ensures { MatchOption result (NumbersFit (numbers_of reports.now) → ⊥) (λ n. n ≡ numbers_of reports.now) }
     {
@@ -83,7 +83,7 @@ fn have_left_out(reports: &[Report]) -> bool
     reports.iter().all(|report| report.lists.left_out)
 }
 
-/// The lists that each of these reports has.
+/// Returns the lists that each of these reports has.
 pub(crate) fn shared_lists(reports: &[Report]) -> ReportLists
     ensures { result ≡ shared_lists reports.now }
 {
@@ -103,7 +103,7 @@ pub(crate) struct Gathered {
 }
 
 impl Gathered {
-    /// Gathers reports, with these lists of each.
+    /// Gathers the rows of reports, and these lists of each.
     pub(crate) fn of(
         alloc: Global,
         reports: Vec<Report>,
@@ -123,7 +123,7 @@ impl Gathered {
         Ok(gathered)
     }
 
-    /// Adds the rows and lines of a report, with these lists.
+    /// Adds the rows of a report, and these lists.
     fn add(&mut self, report: Report, lists: ReportLists) -> Result<(), AllocError>
         ensures { OnOk result (Adds lists self.old report self.new) }
     {

@@ -1,15 +1,15 @@
-//! Why several reports have no sum.
+//! Why several reports can't be joined.
 
 use std::alloc::AllocError;
 use thiserror::Error;
 
-/// Why several reports have no sum.
+/// Why several reports can't be joined.
 #[derive(Debug, Clone, Copy, PartialEq, Eq, Error)]
 pub enum JoinFault {
-    /// Each sum fits its type, but there is no memory for the lists.
+    /// An allocation for the lists failed. Each sum fits its type.
     #[error("out of memory")]
     Memory,
-    /// A sum does not fit its type: 2^64 files, directories or entries, or 2^128 lines, blank lines or bytes.
+    /// A sum does not fit its type. There are at least 2^64 files, directories or entries, or 2^128 lines, blank lines or bytes.
     #[error("sums too large")]
     TooLarge,
 }

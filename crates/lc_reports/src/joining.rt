@@ -1,4 +1,4 @@
-//! The report of several.
+//! Joining several reports into one.
 ghost use Rattle.lc_reports.specs.Joined.{IsUnited, Joins};
 ghost use Rattle.lc_reports.specs.LineOrder.{fault_cmp, skipped_cmp};
 
@@ -8,7 +8,7 @@ use crate::line_order::{compare_faults, compare_skipped};
 use lc_walk::{FaultLine, Report, SkippedLine, added_up, sort_lines};
 use std::alloc::Global;
 
-/// Sorts faults, and keeps each once.
+/// Sorts errors, and keeps each once.
 fn unite_faults(faults: &mut Vec<FaultLine>)
     ensures { IsUnited fault_cmp faults.old.items faults.new.items }
 {
@@ -24,11 +24,11 @@ fn unite_skipped(skipped: &mut Vec<SkippedLine>)
     skipped.dedup_by(|a, b| compare_skipped(a, b).is_eq());
 }
 
-/// Joins reports: it adds up their rows and their numbers, and has the lists that each of them has. A fault or a skipped entry that several
-/// have, the same in all fields, is in it once.
+/// Joins reports. It adds up their rows and their numbers, and has the lists that each of them has. An error or a skipped entry that
+/// several reports have, the same in all fields, appears once.
 ///
-/// Its time is that of a sort of all lines. It takes memory for the lists, but not for paths. Before that, it finds out whether a sum is
-/// too large.
+/// The time is that of a sort of all lines. It allocates memory for the lists, but not for paths. Before it does, it finds out whether a
+/// sum is too large.
 ///
 /// ```
 /// let both = joined(alloc, reports)?;

@@ -1,9 +1,10 @@
 //! Reports of several trees, or of parts of one: a report below a name, and the sum of reports.
 //!
 //! - `naming`: a report below a name
-//! - `joining`: the report of several, by `gathered`: what they have together, and `line_order`: the order of lines that may have one path
-//! - `join_fault`: why several reports have no sum
-//! - `laws`: what is true of the definitions that the contracts cite
+//! - `joining`: joining several reports, with `gathered`: their numbers and lines together, and `line_order`: the order of lines that may
+//!   have one path
+//! - `join_fault`: why several reports can't be joined
+//! - `laws`: laws of the definitions that the contracts cite
 #![tactic(auto)]
 
 mod gathered;

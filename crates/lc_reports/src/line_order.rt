@@ -11,7 +11,7 @@ use lc_tree::{Kind, OtherKind};
 use lc_walk::{FaultLine, SkippedLine};
 use std::cmp::Ordering;
 
-/// Compares faults by their paths, then by their words.
+/// Compares errors by their paths, then by their words.
 #[tactic(auto, unfolding(crate::specs::LineOrder::fault_cmp))]
 pub(crate) fn compare_faults(a: &FaultLine, b: &FaultLine) -> Ordering
     ensures { result ≡ fault_cmp a.now b.now }
@@ -20,7 +20,7 @@ pub(crate) fn compare_faults(a: &FaultLine, b: &FaultLine) -> Ordering
     by_path.then(a.word.as_str().cmp(b.word.as_str()))
 }
 
-/// The place of the file of a rule among those of one directory.
+/// Returns the place of a rule's file among the rule files of one directory.
 fn source_rank(source: RuleSource) -> u32
     ensures { result ≡ source_place source }
 {
@@ -32,7 +32,7 @@ fn source_rank(source: RuleSource) -> u32
     }
 }
 
-/// How deep the directory is of the file of a rule.
+/// Returns the depth of the directory that has a rule's file.
 fn source_depth(source: RuleSource) -> u32
     ensures { result ≡ depth_at source }
 {
@@ -89,7 +89,7 @@ fn kind_rank(kind: Kind) -> u32
     }
 }
 
-/// Compares reasons by their words, then by the file of the rule, from the top down, and its line, and by the attribute.
+/// Compares reasons by their words, then by the rule's file, from the top down, and the rule's line, and then by the attribute.
 #[tactic(auto, unfolding(crate::specs::LineOrder::reason_cmp))]
 fn compare_reasons(a: &Reason, b: &Reason) -> Ordering
     ensures { result ≡ reason_cmp (reason_model a.now) (reason_model b.now) }
@@ -103,7 +103,7 @@ fn compare_reasons(a: &Reason, b: &Reason) -> Ordering
     by_word.then(by_rule)
 }
 
-/// Compares skipped entries by their paths, then by the reasons, then by the kinds.
+/// Compares skipped entries by their paths, then by their reasons, then by their kinds.
 #[tactic(auto, unfolding(crate::specs::LineOrder::skipped_cmp))]
 pub(crate) fn compare_skipped(a: &SkippedLine, b: &SkippedLine) -> Ordering
     ensures { result ≡ skipped_cmp a.now b.now }

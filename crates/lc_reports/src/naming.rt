@@ -1,4 +1,4 @@
-//! A report below a name.
+//! Moving a report below a name.
 ghost use Rattle.std.specs.Prelude.{◌≡◌, ◌+◌, ℕ, List, IfOk, map};
 ghost use Rattle.lc_level.specs.Reasons.{reason_model};
 ghost use Rattle.lc_reports.specs.Named.{IsNamed, named_depth, named_fault, named_file, named_path, named_reason, named_skipped};
@@ -10,11 +10,11 @@ use lc_rules::RuleSource;
 use lc_walk::{FaultLine, FileLine, Report, SkippedLine};
 use std::alloc::{AllocError, Global};
 
-/// A line of a report, which goes below a name with it.
+/// A line of a report, which can be moved below a name.
 trait PathLine: Sized {
     ghost named_of: { List ℕ → Self → Self };
 
-    /// Makes the line of what stands below the name.
+    /// Makes the line of the same entry below the name.
     fn with_name(self, alloc: Global, name: &[u8]) -> Result<Self, AllocError>
         ensures { IfOk result (λ line. line ≡ named_of name.now self) };
 }
@@ -66,16 +66,16 @@ fn named_path(alloc: Global, name: &[u8], path: &[u8]) -> Result<Vec<u8>, AllocE
     Ok(named)
 }
 
-/// The number of segments that go before a path. A name of 2^32 segments or more has none.
+/// Returns the number of segments that a name adds to a path. It fails for a name of 2^32 segments or more.
 fn named_depth(name: &[u8]) -> Result<u32, AllocError>
     ensures { IfOk result (λ depth. depth ≡ named_depth name.now) }
 {
-    // The empty name has one segment, which is empty.
+    // The empty name has one segment, an empty one.
     let depth = if name.is_empty() { 1 } else { depth_of(name) };
     u32::try_from(depth).map_err(|_| AllocError)
 }
 
-/// Makes the depth of a directory below a name.
+/// Returns the depth of a directory below a name.
 fn deeper(name: &[u8], depth: u32) -> Result<u32, AllocError>
     ensures { IfOk result (λ sum. sum ≡ named_depth name.now + depth) }
 {
@@ -108,7 +108,7 @@ fn named_reason(name: &[u8], reason: Reason) -> Result<Reason, AllocError>
     }
 }
 
-/// Makes the lines of what stands below a name, in the same order.
+/// Makes the lines of the same entries below a name, in the same order.
 fn named_lines<L: PathLine + Drop>(
     alloc: Global,
     name: &[u8],
@@ -123,10 +123,11 @@ fn named_lines<L: PathLine + Drop>(
     Ok(named)
 }
 
-/// Puts a report below a name: each path gets the name and a slash before it, and so does the file of a rule, unless that is
-/// `--exclude` or `--exclude-from`. What is at the empty path gets the name as its path. Numbers stay.
+/// Moves a report below a name. Each path gets the name and a slash at its beginning, and so does the file of a rule, unless the rule comes
+/// from `--exclude` or `--exclude-from`. The empty path becomes the name. Numbers stay.
 ///
-/// The name of `/` is empty, so its paths begin with a slash. A name of 2^32 segments is refused as where there is no memory.
+/// The name of `/` is empty, so its paths begin with a slash, and the empty path becomes `/`. A name of 2^32 segments or more is refused
+/// like a failed allocation.
 ///
 /// ```
 /// let report = named(alloc, b"../lib", report)?; // x.c is ../lib/x.c

@@ -1,4 +1,4 @@
-//! Parts added up to rows, one row for each key.
+//! Adding up parts to rows, one row for each key.
 
 ghost use Rattle.std.specs.Prelude.{◌≡◌, IfOk};
 ghost use Rattle.std.specs.List.Sorted.{IsPermutation, IsSortedByKey};
@@ -17,7 +17,7 @@ fn sort(parts: &mut Vec<Part<'_>>)
     parts.sort_unstable_by(|a, b| a.key.compare(&b.key));
 }
 
-/// Adds a part to the last row if that has the same key. Otherwise it pushes the last row, and returns the row of the part.
+/// Adds a part to the last row if both have the same key. Otherwise it pushes the last row, and returns the row of the part.
 fn add_part<'a>(
     rows: &mut Vec<ShownRow<'a>>,
     last: ShownRow<'a>,

@@ -1,4 +1,4 @@
-//! The sums over binary files, and over others.
+//! The sums over binary files, and over text files.
 
 ghost use Rattle.std.specs.Prelude.{◌≡◌, if◌then◌else◌, IfErr, IfOk};
 ghost use Rattle.std.specs.List.{list_any};
@@ -10,7 +10,7 @@ use lc_census::Eol;
 use lc_walk::{Sums, TallyRow};
 use std::alloc::AllocError;
 
-/// The sums over the files of each class: those with a NUL byte are binary, and the others are text.
+/// The sums over the files of each class. Files with a NUL byte are binary, and the others are text.
 #[derive(Clone, Copy)]
 pub(crate) struct ClassSums {
     /// The sums over the files without a NUL byte.
@@ -50,7 +50,7 @@ impl ClassSums {
         }
     }
 
-    /// Adds up rows by class. It stops with an error only for rows that no walk has, whose sums overflow.
+    /// Adds up rows by class. It stops with an error only if the sums overflow, which those of a walk's rows never do.
     pub(crate) fn of_all(rows: &[TallyRow]) -> Result<ClassSums, AllocError>
         ensures text { IfOk result (λ sums. sums.text ≡ text_sums rows.now) }
         ensures binary { IfOk result (λ sums. sums.binary ≡ binary_sums rows.now) }

@@ -26,7 +26,7 @@ fn push_if(columns: &mut Vec<Column>, kept: bool, column: Column) -> Result<(), 
     Ok(())
 }
 
-/// Returns the first of the columns by which rows are kept apart, where sums have their names.
+/// Returns the first of the columns that rows are grouped by. The names of sums are in this column.
 pub(crate) fn first_key(format: Format, by: Columns) -> Column
     ensures { result ≡ first_key (keeps_columns format) by }
 {
@@ -93,7 +93,7 @@ pub(crate) fn row_columns(alloc: Global, options: &TableOptions) -> Result<Vec<C
     Ok(columns)
 }
 
-/// Returns the columns of sums, where rows have these.
+/// Returns the columns of sums in a table whose rows have these columns.
 pub(crate) fn sums_columns(format: Format, rows: &[Column]) -> &[Column]
     ensures { result.now ≡ sums_columns format rows.entry.now }
 {
@@ -182,7 +182,7 @@ pub(crate) fn skipped_columns(format: Format) -> &'static [Column]
     }
 }
 
-/// Returns the columns of what could not be read.
+/// Returns the columns of errors.
 pub(crate) fn fault_columns() -> &'static [Column]
     ensures { result.now ≡ fault_columns }
 {

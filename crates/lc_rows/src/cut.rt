@@ -1,4 +1,4 @@
-//! Where a table is cut: its first rows or files, and the sums over the other rows.
+//! Cutting a table: its first rows or files, and the sums over the other rows.
 
 ghost use Rattle.std.specs.Prelude.{◌≡◌, IfErr, IfOk};
 ghost use Rattle.lc_walk.specs.Sums.{IsInRange};

@@ -5,7 +5,7 @@ ghost use Rattle.lc_rows.specs.TreeRows.{byte_place, path_cmp};
 
 use std::cmp::Ordering;
 
-/// The place of a byte in the order of bytes in which a slash comes first.
+/// Returns the place of a byte in the order of bytes in which a slash comes first.
 fn byte_place(byte: u8) -> u16
     ensures { result ≡ byte_place byte }
 {

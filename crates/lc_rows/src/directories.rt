@@ -10,7 +10,7 @@ ghost use Rattle.lc_rows.specs.Directories.{own_part, parent_of};
 use lc_glob::cut_at_first;
 use memchr::memrchr;
 
-/// Returns the directory whose path is before a slash: `/` if nothing is before it, and the empty path of the top for `.`.
+/// Returns the directory whose path ends before a slash: `/` if nothing is before the slash, and the empty path of the top for `.`.
 fn directory_before(front: &[u8]) -> &[u8]
     ensures { result.now ≡ directory_before front.now }
 {
@@ -23,7 +23,7 @@ fn directory_before(front: &[u8]) -> &[u8]
     }
 }
 
-/// Splits the path of a file into the directory that holds it and its name. The directory of a file of the top is empty.
+/// Splits the path of a file into its directory and its name. The directory of a file right in the top is empty.
 pub(crate) fn split_path(path: &[u8]) -> (&[u8], &[u8])
     ensures parent { result.0.now ≡ parent_of path.now }
     ensures name { result.1.now ≡ name_of path.now }
@@ -47,14 +47,14 @@ fn is_no_name(segment: &[u8]) -> bool
     matches!(segment, [] | [b'.'] | [b'.', b'.'])
 }
 
-/// Returns 1 for a name, and 0 for the empty segment, `.` and `..`.
+/// Returns 1 for a name, and 0 for the empty segment, `.` and `..`, which are no names.
 fn names_in(segment: &[u8]) -> usize
     ensures { result ≡ names_in segment.now }
 {
     if is_no_name(segment) { 0 } else { 1 }
 }
 
-/// Returns what is after the slash that follows the name of this number, or `None` if there is no such slash.
+/// Returns what follows the slash after the name with this number, or `None` if there is no such slash.
 fn after_name(number: usize, path: &[u8]) -> Option<&[u8]>
     ensures front { MatchOption result (first_names number path.now ≡ path.now)
         (λ rest. first_names number path.now ≡ take (length path.now - length rest.now - 1) path.now) }
@@ -74,7 +74,7 @@ fn after_name(number: usize, path: &[u8]) -> Option<&[u8]>
     Some(rest)
 }
 
-/// Cuts a path after the name of this number.
+/// Cuts a path after the name with this number.
 pub(crate) fn first_names(number: usize, path: &[u8]) -> &[u8]
     ensures { result.now ≡ first_names number path.now }
 {
@@ -84,7 +84,7 @@ pub(crate) fn first_names(number: usize, path: &[u8]) -> &[u8]
     }
 }
 
-/// Returns the directory that holds a file, cut after its name of this number. The directory of a file of the top is empty.
+/// Returns the directory of a file, cut after its name with this number. The directory of a file right in the top is empty.
 ///
 /// The empty segment, `.` and `..` are no names.
 ///
@@ -122,7 +122,7 @@ pub fn level_of(directory: &[u8]) -> usize
     }
 }
 
-/// Returns the path of a directory from the one right above it on: its last name, with the segments before it that are no names.
+/// Returns the part of a directory's path that follows its parent directory: its last name, with the segments before it that are no names.
 ///
 /// ```
 /// assert!(rt; own_part(b"../lib/a") == b"a".as_slice() && own_part(b"../lib") == b"../lib".as_slice());

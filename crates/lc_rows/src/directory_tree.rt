@@ -1,4 +1,4 @@
-//! The rows of a tree of directories: each directory with the files in it and below it.
+//! The rows of a tree of directories: each directory has the files in it and below it.
 
 ghost use Rattle.std.specs.Prelude.{◌≡◌, ◌≤◌, ◌++◌, IfOk, OnOk};
 ghost use Rattle.std.specs.List.Sorted.{IsPermutation, IsSortedByKey};
@@ -13,7 +13,7 @@ use lc_sheet::Columns;
 use lc_walk::FileLine;
 use std::alloc::{AllocError, Global};
 
-/// Returns how many directories are above a file and below the top, where directories are cut after `depth` names.
+/// Returns how many directories are above a file and below the top. Directories are cut after `depth` names.
 fn levels_above(depth: u32, path: &[u8]) -> usize
     ensures levels { result ≡ levels_above depth path.now }
     ensures few { result ≤ depth }
@@ -58,11 +58,12 @@ fn sort(rows: &mut Vec<ShownRow<'_>>)
     rows.sort_unstable_by(|a, b| a.key().compare_depth_first(&b.key()));
 }
 
-/// Returns a row for each directory above some file, with the sums over the files in it and below it, depth first: each directory comes
-/// right before those below it. The first row is the top's. A directory is cut after `depth` names, and all that is below it counts as it.
+/// Returns a row for each directory above some file, with the sums over the files in it and below it. The rows are depth first: each
+/// directory comes right before those below it, and the top comes first. A directory is cut after `depth` names, and the files below the
+/// cut count as files of the cut directory.
 ///
-/// Where columns are kept, a directory has a row for each key of the files in it and below it; `dir` does not matter. It stops with an
-/// error if there is no memory, and if sums overflow. It takes 56 bytes for each file and each directory above it.
+/// If rows are also grouped by other columns, a directory has a row for each key of the files in it and below it. The column `dir` makes no
+/// difference. An error means that an allocation failed or that sums overflow. It takes 56 bytes for each file and each directory above it.
 pub fn tree_rows<'a>(
     alloc: Global,
     files: &'a [FileLine],

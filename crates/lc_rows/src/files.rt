@@ -35,9 +35,9 @@ fn sort(by: Number, files: &mut Vec<FileLine>)
     files.sort_unstable_by(|a, b| compare(by, a, b));
 }
 
-/// Sorts the files of a report in place as a table lists them: the largest number first, and files with equal numbers by their paths.
+/// Sorts the files of a report in place as a table lists them: by the number, largest first, and files with equal numbers by their paths.
 ///
-/// Without a number they stay as they are.
+/// Without a number the files keep their order.
 pub fn sort_files(by: Option<Number>, files: &mut Vec<FileLine>)
     ensures { AreFilesSorted by files.old.items files.new.items }
 {

@@ -1,4 +1,4 @@
-//! The part of a report that meets conditions.
+//! The part of a report that meets some conditions.
 
 ghost use Rattle.std.specs.Prelude.{◌≡◌, ◌∷◌, ◌++◌, [], true, false, List, map, filter, IfErr, IfOk, IsOk, OnOk};
 ghost use Rattle.lc_sheet.specs.Conditions.{meets, needs_files};
@@ -18,7 +18,7 @@ use lc_sheet::{Column, Columns, Condition, Form, Lines, needs_files};
 use lc_walk::{FileLine, Report, Sums, Tally, TallyRow, extension};
 use std::alloc::{AllocError, Global};
 
-/// The form of lines with a value in each of a report's columns.
+/// Returns the form of lines that have a value in each of a report's columns.
 fn whole_form() -> Form
     ensures { result ≡ whole_form }
 {
@@ -29,7 +29,7 @@ fn whole_form() -> Form
     }
 }
 
-/// Returns whether a condition holds of a file.
+/// Returns whether a file meets a condition.
 fn holds_of_file(condition: &Condition<'_>, file: &FileLine) -> bool
     ensures { result ≡ meets condition.now.test (value_of_file file.now condition.now.column) }
 {
@@ -59,7 +59,7 @@ fn shown_row(row: &TallyRow) -> ShownRow<'_>
     }
 }
 
-/// Returns whether a condition holds of the files of a row.
+/// Returns whether the files of a row meet a condition.
 fn holds_of_row(condition: &Condition<'_>, row: &ShownRow<'_>) -> bool
     ensures { result ≡ meets condition.now.test (row_value whole_form row.now condition.now.column) }
 {
@@ -90,7 +90,7 @@ fn keep_rows(conditions: &[Condition<'_>], rows: &mut Vec<TallyRow>)
     rows.retain(|row| row_meets(conditions, row));
 }
 
-/// Adds up rows. It stops with an error only for rows that no walk has, whose sums overflow.
+/// Adds up rows. It stops with an error only if the sums overflow, which those of a walk's rows never do.
 fn sums_of_rows(rows: &[TallyRow]) -> Result<Sums, AllocError>
     ensures sums { IfOk result (λ sums. sums ≡ sums_of_rows rows.now) }
     ensures overflow { IfErr result (λ _. IsInRange (sums_of_rows rows.now) → ⊥) }
@@ -102,7 +102,7 @@ fn sums_of_rows(rows: &[TallyRow]) -> Result<Sums, AllocError>
     Ok(sums)
 }
 
-/// Adds a file to a tally. A tally of as many files as no walk has takes no more.
+/// Adds a file to a tally. It fails if an allocation fails, or if the tally has more files than any walk.
 fn add_file(tally: &mut Tally, file: &FileLine) -> Result<(), AllocError>
     ensures { OnOk result ((fs : List CountedFile) → StandsFor tally.old fs → StandsFor tally.new (fs ++ counted_line file.now ∷ [])) }
 {
@@ -123,7 +123,7 @@ fn tally_of(alloc: Global, files: &[FileLine]) -> Result<Tally, AllocError>
     Ok(tally)
 }
 
-/// Keeps what meets conditions of which one is on what only files have, and counts the files that are kept.
+/// Keeps what meets the conditions if one of them is on a column that only files have, and counts the files that are kept.
 fn keep_by_files(
     alloc: Global,
     conditions: &[Condition<'_>],
@@ -141,14 +141,14 @@ fn keep_by_files(
     Ok(())
 }
 
-/// Sums fit their types. The function does nothing: its contract is what is proved.
+/// The law that sums fit their types. The function does nothing: its contract is what is proved.
 fn are_in_range(sums: Sums)
     ensures { IsInRange sums }
 {
     let _sums = sums;
 }
 
-/// Keeps what meets conditions on what the files of a row have in common.
+/// Keeps the rows that meet the conditions if all of these are on what the files of a row have in common.
 fn keep_by_rows(conditions: &[Condition<'_>], report: &mut Report) -> Result<(), AllocError>
     requires by_rows { needs_files conditions.now ≡ false }
     ensures kept { OnOk result (IsPart conditions.now report.old report.new) }
@@ -163,10 +163,11 @@ fn keep_by_rows(conditions: &[Condition<'_>], report: &mut Report) -> Result<(),
     Ok(())
 }
 
-/// Keeps of a report what meets all conditions: it drops files, and drops rows or counts the files that are left, in place.
+/// Keeps what meets all conditions of a report, in place. It drops the other files, and then drops the other rows or counts the files that
+/// are left.
 ///
-/// Skipped entries, errors and the numbers of directories and entries stay. For a condition on a number the report must have its files,
-/// and it stops with an error if there is no memory. Otherwise it stops with one only for sums that no walk has.
+/// Skipped entries, errors and the numbers of directories and entries stay. For a condition on a number the report must have its files, and
+/// an allocation may fail. Any other error comes only for sums that no walk has.
 pub fn keep(
     alloc: Global,
     conditions: &[Condition<'_>],

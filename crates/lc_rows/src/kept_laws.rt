@@ -4,23 +4,24 @@ ghost use Rattle.lc_rows.specs.KeptLaws.{KeptTotalsLaw, NoConditionLaw, Opposite
 
 use lc_tree::Tree;
 
-/// No condition changes nothing.
+/// The law that a report without conditions is unchanged.
 pub fn no_condition_keeps_all()
     ensures { NoConditionLaw }
 {}
 
-/// The order of conditions is of no account.
+/// The law that the order of conditions makes no difference.
 pub fn conditions_have_no_order()
     ensures { OrderLaw }
 {}
 
-/// Where the totals of a report add up, as those of the report of a walk do, the totals of what meets conditions add up.
+/// The law that totals still add up after conditions are applied, if those of the report do, as in the report of a walk.
 pub fn conditions_keep_totals()
     ensures { KeptTotalsLaw }
 {}
 
-/// The totals with a condition and with its opposite add up to those without, such as those by `=` and `!=`, or by `>` and `<=`. So it is
-/// with the report of a walk, which must list its files for a condition on a number, and with any report whose totals are such sums.
+/// The law that the totals with a condition and the totals with its opposite add up to the totals without it. Opposites are `=` and `!=`,
+/// or `>` and `<=`. It is true of the report of a walk, which must list its files for a condition on a number, and of any report whose
+/// totals are such sums.
 pub fn opposite_conditions_add_up<T: Tree>(tree: &T)
     ensures any { OppositesLaw }
     ensures walked { WalkedOppositesLaw (T.lists tree.now) (T.gives tree.now) }

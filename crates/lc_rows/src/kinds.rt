@@ -1,6 +1,6 @@
-//! The kinds of lines that a report has.
+//! The kinds of lines of a report.
 //!
-//! - `rows`, `totals`, `files`, `skipped`, `faults`: what a line of each kind has in a column
+//! - `rows`, `totals`, `files`, `skipped`, `faults`: the value of a line of each kind in each column
 
 mod faults;
 mod files;

@@ -1,14 +1,14 @@
-//! What a table shows of a report: its rows, summed, sorted, and by class.
+//! The contents of a table: the rows of a report, summed, sorted, and by class.
 //!
-//! - `shown`: the rows that a table shows, summed over the columns that it leaves out, and sorted
-//! - `shown_row`, `row_key`: a row, and its key; `parts`, `adding_up`: what rows add up, and how
+//! - `shown`: the rows of a table, summed over the columns that it lacks, and sorted
+//! - `shown_row`, `row_key`: a row, and its key; `parts`, `adding_up`: the parts of rows, and adding them up
 //! - `directories`: the directories of files; `directory_tree`, `depth_first`: the rows of a tree of directories, and their order
-//! - `files`: the files that it lists, sorted; `cut`: its first rows and files, and the sums over the other rows
-//! - `kept`: the part of a report that meets conditions
-//! - `classes`: the sums over all files, over binary ones and over others
-//! - `kinds`: what a line of a sheet has in a column; `values`, `words`: values that several kinds have, and their words; `columns`: which
-//!   columns a section has; `shown_sheet`: what is shown of a report, and its sheet
-//! - `laws`, `sheet_laws`, `kept_laws`: what is true of the definitions that the contracts cite
+//! - `files`: the listed files, sorted; `cut`: the first rows and files, and the sums over the other rows
+//! - `kept`: the part of a report that meets some conditions
+//! - `classes`: the sums over all files, over binary files and over text files
+//! - `kinds`: the value of a line in a column; `values`, `words`: values that several kinds share, and their words; `columns`: the columns
+//!   of each section; `shown_sheet`: the shown part of a report, and its sheet
+//! - `laws`, `sheet_laws`, `kept_laws`: laws of the definitions that the contracts cite
 #![tactic(auto)]
 
 mod adding_up;

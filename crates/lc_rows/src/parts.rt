@@ -1,4 +1,4 @@
-//! What the rows of a table add up: the rows of a report, or its files.
+//! The parts of a table's rows: the rows of a report, or its files.
 
 ghost use Rattle.std.specs.Prelude.{◌≡◌, map, IfOk};
 ghost use Rattle.lc_rows.specs.Parts.{sums_of_source};
@@ -14,7 +14,7 @@ use lc_walk::{FileLine, KeyRef, Sums, TallyRow, extension};
 use std::alloc::{AllocError, Global};
 use std::marker::Model;
 
-/// Where the sums of a part are.
+/// The place of a part's sums.
 #[derive(Clone, Copy)]
 pub(crate) enum Source<'a> {
     /// In the census of a file.
@@ -23,7 +23,7 @@ pub(crate) enum Source<'a> {
     Row(&'a TallyRow),
 }
 
-/// What a file or a row of the report adds to a row of a table. It lends all its bytes.
+/// A part of a row of a table: a file, or a row of the report. It borrows all its bytes.
 #[derive(Drop)]
 pub(crate) struct Part<'a> {
     pub(crate) key: RowKeyRef<'a>,
@@ -58,7 +58,7 @@ impl Source<'_> {
 }
 
 impl Part<'_> {
-    /// The sums that the part adds.
+    /// Returns the sums that the part adds.
     pub(crate) fn sums(&self) -> Sums
         ensures { result ≡ self.now.sums }
     {
@@ -95,7 +95,7 @@ fn row_part<'a>(by: Columns, row: &'a TallyRow) -> Part<'a>
     }
 }
 
-/// Makes the part of a file in the directory that holds it, cut after this many names.
+/// Makes the part of a file, with its directory cut after this many names.
 pub(crate) fn file_part<'a>(by: Columns, depth: usize, file: &'a FileLine) -> Part<'a>
     ensures { result ≡ part_of_file by depth file.now }
 {
@@ -148,7 +148,7 @@ fn file_parts<'a>(
     Ok(parts)
 }
 
-/// Makes the parts of a table: one for each row of the report, or for each file where rows are by directory.
+/// Makes the parts of a table: one for each file if rows are by directory, and otherwise one for each row of the report.
 ///
 /// A part takes 56 bytes. Each path is cut once.
 pub(crate) fn parts_of<'a>(

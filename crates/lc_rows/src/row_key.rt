@@ -13,7 +13,7 @@ use lc_rules::TextState;
 use std::cmp::Ordering;
 use std::marker::Model;
 
-/// The key of a row, which lends its directory and its extension.
+/// The key of a row, with a borrowed directory and extension.
 #[derive(Drop)]
 pub(crate) struct RowKeyRef<'a> {
     pub(crate) directory: Option<&'a [u8]>,
@@ -35,7 +35,7 @@ impl<'a> Model for RowKeyRef<'a> {
 }
 
 impl RowKeyRef<'_> {
-    /// Compares two keys, in the order of rows.
+    /// Compares two keys in the order of rows.
     #[tactic(auto, unfolding(crate::specs::RowKeys::row_key_cmp))]
     pub(crate) fn compare(&self, other: &RowKeyRef<'_>) -> Ordering
         ensures { result ≡ row_key_cmp self.now other.now }
@@ -43,7 +43,7 @@ impl RowKeyRef<'_> {
         compare_bytes(self.directory, other.directory).then(self.compare_columns(other))
     }
 
-    /// Compares two keys, in the order of the rows of a tree.
+    /// Compares two keys in the order of the rows of a tree.
     #[tactic(auto, unfolding(crate::specs::TreeRows::depth_first_cmp))]
     pub(crate) fn compare_depth_first(&self, other: &RowKeyRef<'_>) -> Ordering
         ensures { result ≡ depth_first_cmp self.now other.now }
@@ -62,7 +62,7 @@ impl RowKeyRef<'_> {
     }
 }
 
-/// Compares optional directories, depth first; none come first.
+/// Compares optional directories, depth first. `None` comes first.
 fn compare_directories(a: Option<&[u8]>, b: Option<&[u8]>) -> Ordering
     ensures { result ≡ option_cmp path_cmp (option_map (λ s. s.now) a.entry) (option_map (λ s. s.now) b.entry) }
 {
@@ -74,7 +74,7 @@ fn compare_directories(a: Option<&[u8]>, b: Option<&[u8]>) -> Ordering
     }
 }
 
-/// Compares optional bytes; none come first.
+/// Compares optional bytes. `None` comes first.
 fn compare_bytes(a: Option<&[u8]>, b: Option<&[u8]>) -> Ordering
     ensures { result ≡ option_cmp bytes_cmp (option_map (λ s. s.now) a.entry) (option_map (λ s. s.now) b.entry) }
 {
@@ -86,7 +86,7 @@ fn compare_bytes(a: Option<&[u8]>, b: Option<&[u8]>) -> Ordering
     }
 }
 
-/// The place of a text state in the order of keys.
+/// Returns the place of a text state in the order of keys.
 fn text_rank(text: TextState) -> u8
     ensures { result ≡ text_place text }
 {
@@ -99,7 +99,7 @@ fn text_rank(text: TextState) -> u8
     }
 }
 
-/// The place of a class of line ends in the order of keys.
+/// Returns the place of a class of line ends in the order of keys.
 fn eol_rank(eol: Eol) -> u8
     ensures { result ≡ eol_place eol }
 {

@@ -1,4 +1,4 @@
-//! The rows that a table shows, summed and sorted.
+//! The rows of a table, summed and sorted.
 
 ghost use Rattle.std.specs.Prelude.{◌≡◌, IfOk};
 ghost use Rattle.std.specs.List.Sorted.{IsPermutation, IsSorted};
@@ -34,7 +34,7 @@ fn summed<'a>(
     }
 }
 
-/// Returns one of the numbers of sums.
+/// Returns the number `by` of some sums, such as their lines.
 pub fn number_in(by: Number, sums: Sums) -> u128
     ensures { result ≡ number_in by sums }
 {
@@ -62,10 +62,10 @@ fn sort(by: Number, rows: &mut Vec<ShownRow<'_>>)
     rows.sort_unstable_by(|a, b| compare(by, a, b));
 }
 
-/// Sums what a report counted over the columns that a table leaves out, and sorts the rows if the table asks for that.
+/// Adds up a report's counts over the columns that a table lacks, and sorts the rows if the table is sorted by a number.
 ///
-/// Rows by directory are summed over `files`, which the report must have, and all others over `rows`. Rows of all columns stay in the
-/// order of the report. It stops with an error if there is no memory, and for rows that no walk has, whose sums overflow.
+/// Rows by directory are sums over `files`, which the report must have, and all other rows are sums over `rows`. Rows with all columns keep
+/// the order of the report. An error means that an allocation failed, or that sums overflow, which those of a walk's rows never do.
 pub fn shown_rows<'a>(
     alloc: Global,
     rows: &'a [TallyRow],

@@ -12,16 +12,16 @@ use lc_walk::Sums;
 use std::alloc::AllocError;
 use std::marker::Model;
 
-/// A row of a table: the sums over the files that have the same values in the columns that the table keeps.
+/// A row of a table: the sums over the files that have the same values in the table's columns.
 #[derive(Drop)]
 pub struct ShownRow<'a> {
-    /// The directory that holds the files, cut after some of its names, where rows are by directory. It is empty for the top.
+    /// The directory of the files, cut after some of its names, if rows are by directory. It is empty for the top.
     pub directory: Option<&'a [u8]>,
-    /// The extension of the files' names, or none. It is none too where the table has no column for it.
+    /// The extension of the files' names, if they have one and the table has a column for it.
     pub extension: Option<&'a [u8]>,
-    /// What the attribute `text` is for the files, or `Unspecified` where the table has no column for it.
+    /// The state of the attribute `text` of the files, or `Unspecified` if the table has no column for it.
     pub text: TextState,
-    /// How the files' lines end, or `NoEnd` where the table has no column for it.
+    /// How the files' lines end, or `NoEnd` if the table has no column for it.
     pub eol: Eol,
     /// The sums over the files.
     pub sums: Sums,
@@ -41,7 +41,7 @@ impl<'a> Model for ShownRow<'a> {
 }
 
 impl<'a> ShownRow<'a> {
-    /// The row of one part.
+    /// Makes the row of one part.
     pub(crate) fn of(part: &Part<'a>) -> ShownRow<'a>
         ensures { result ≡ part.now }
     {
@@ -54,7 +54,7 @@ impl<'a> ShownRow<'a> {
         }
     }
 
-    /// The key of the row.
+    /// Returns the key of the row.
     pub(crate) fn key(&self) -> RowKeyRef<'a>
         ensures { result ≡ row_key self.now }
     {
@@ -65,7 +65,7 @@ impl<'a> ShownRow<'a> {
             eol: self.eol,
         }
     }
-    /// The row with further sums added. It stops with an error only if they overflow.
+    /// Returns the row with further sums added. It stops with an error only if they overflow.
     pub(crate) fn with(self, more: Sums) -> Result<ShownRow<'a>, AllocError>
         ensures row { IfOk result (λ row. row ≡ row_with (row_key self.entry) (plus self.entry.sums more)) }
         ensures overflow { IfErr result (λ _. IsInRange (plus self.entry.sums more) → ⊥) }

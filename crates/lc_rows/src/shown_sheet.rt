@@ -1,4 +1,4 @@
-//! What is shown of a report, and its sheet.
+//! The shown part of a report, and its sheet.
 
 ghost use Rattle.std.specs.Prelude.{◌≡◌, if◌then◌else◌, Option, Some, None, IfOk};
 ghost use Rattle.lc_rows.specs.Sheets.{HasFiles, files_section, form_of, largest, listed_files, others_lines, share_number, shares_of};
@@ -22,7 +22,7 @@ use std::marker::Model;
 /// The sheet of a report.
 pub type ReportSheet<'a> = Sheet<'a, Rows<'a>, Totals, Files, Skipped, Faults>;
 
-/// What is shown of a report: it owns the rows, which lend their names from the report, and lends the sheet.
+/// The shown part of a report. It owns the rows, which borrow their names from the report, and the sheet borrows from it.
 #[derive(Drop)]
 pub struct Shown<'a> {
     format: Format,
@@ -124,7 +124,7 @@ fn totals_lines(alloc: Global, report: &Report) -> Result<Vec<NamedSums>, AllocE
     Ok(lines)
 }
 
-/// Adds up the rows that are cut off, if some are.
+/// Adds up the rows that are cut off, if there are some.
 fn others_sums(top: Option<u32>, rows: &[ShownRow<'_>]) -> Result<Option<Sums>, AllocError>
     ensures { IfOk result (λ others. others ≡ sums_of_some (rest_of top rows.now)) }
 {
@@ -132,7 +132,7 @@ fn others_sums(top: Option<u32>, rows: &[ShownRow<'_>]) -> Result<Option<Sums>, 
     sums_of_some(rest)
 }
 
-/// Cuts off all rows but the first, as many as are asked for.
+/// Cuts off all rows after the first `top`, if there is such a number.
 fn cut(top: Option<u32>, rows: &mut Vec<ShownRow<'_>>)
     ensures { rows.new.items ≡ first_of top rows.old.items }
 {
@@ -148,10 +148,10 @@ fn listed_files(listed: bool, files: &[FileLine]) -> &[FileLine]
 }
 
 impl<'a> Shown<'a> {
-    /// Sums and sorts the rows of a report, cuts them, and adds up what else is shown.
+    /// Sums and sorts the rows of a report, cuts them, and adds up the sums that are also shown.
     ///
-    /// Rows by directory are summed over the files, which the report must have, sorted as the sheet lists them. It stops with an error if
-    /// there is no memory, and for rows that no walk has, whose sums overflow.
+    /// Rows by directory are sums over the files, which the report must have, sorted as the sheet lists them. An error means that an
+    /// allocation failed, or that sums overflow, which those of a walk's rows never do.
     pub fn of(
         alloc: Global,
         report: &'a Report,
@@ -165,7 +165,7 @@ impl<'a> Shown<'a> {
         Ok(shown)
     }
 
-    /// Shows these rows of a report, which were summed and sorted ([`shown_rows`]): cuts them, and adds up what else is shown.
+    /// Shows these rows of a report, which [`shown_rows`] summed and sorted: cuts them, and adds up the sums that are also shown.
     pub fn with_rows(
         alloc: Global,
         report: &'a Report,
@@ -217,7 +217,7 @@ impl<'a> Shown<'a> {
         }
     }
 
-    /// The sheet, which lends everything.
+    /// Returns the sheet, which borrows everything.
     pub fn sheet(&'a self) -> ReportSheet<'a>
         ensures { result ≡ self.entry.now }
     {

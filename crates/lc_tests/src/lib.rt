@@ -1,9 +1,9 @@
-//! What the crates of tests share: readers, writers and trees that do what is known of them, requests and findings as text.
+//! Shared parts of the test crates: readers, writers and trees whose behaviour is known, and requests and findings as text.
 //!
-//! - `readers`, `writers`, `trees`: readers, a writer and trees of which each contract says what they do
-//! - `sketch`: a tree of memory by a sketch; `sketch_table`: the same by a table
-//! - `request`: what is asked, as on a command line
-//! - `lines`: what is found, in the words that `lc count` prints
+//! - `readers`, `writers`, `trees`: readers, a writer and trees whose contracts determine what they do
+//! - `sketch`: an in-memory tree from a sketch; `sketch_table`: an in-memory tree from a table
+//! - `request`: a request, as on a command line
+//! - `lines`: findings, in the words that `lc count` prints
 #![tactic(auto)]
 
 mod lines;

@@ -1,4 +1,4 @@
-//! What is found, in the words that `lc count` prints.
+//! Findings, in the words that `lc count` prints.
 
 use lc_census::Eol;
 use lc_level::Reason;
@@ -15,7 +15,7 @@ const TEXT_STATES: &[TextState] = &[
 
 const LINE_ENDS: &[Eol] = &[Eol::Lf, Eol::CrLf, Eol::Cr, Eol::Mixed, Eol::Nul];
 
-/// The attribute `text` of a word.
+/// Returns the state of the attribute `text` for a word.
 pub fn text_of_word(word: &str) -> TextState {
     let mut states = TEXT_STATES
         .iter()
@@ -23,13 +23,13 @@ pub fn text_of_word(word: &str) -> TextState {
     states.next().copied().unwrap_or(TextState::Unspecified)
 }
 
-/// The line ends of a word.
+/// Returns the line ends for a word.
 pub fn eol_of_word(word: &str) -> Eol {
     let mut ends = LINE_ENDS.iter().filter(|eol| eol_word(**eol) == word);
     ends.next().copied().unwrap_or(Eol::NoEnd)
 }
 
-/// The word of an attribute `text`.
+/// Returns the word for a state of the attribute `text`.
 pub fn text_word(text: TextState) -> &'static str {
     match text {
         TextState::Set => "set",
@@ -40,7 +40,7 @@ pub fn text_word(text: TextState) -> &'static str {
     }
 }
 
-/// The word of line ends.
+/// Returns the word for line ends.
 pub fn eol_word(eol: Eol) -> &'static str {
     match eol {
         Eol::NoEnd => "none",
@@ -52,7 +52,7 @@ pub fn eol_word(eol: Eol) -> &'static str {
     }
 }
 
-/// Adds a name or a path. The empty path is `.`, and bytes that are no text are written as a list of numbers.
+/// Adds a name or a path. The empty path is written as `.`, and bytes that are not UTF-8 as a list of numbers.
 pub fn push_name(text: &mut String, name: &[u8]) -> Result<(), AllocError> {
     if name.is_empty() {
         return text.push_str(".");
@@ -63,7 +63,7 @@ pub fn push_name(text: &mut String, name: &[u8]) -> Result<(), AllocError> {
     }
 }
 
-/// Adds what tells the kind of an entry behind its name.
+/// Adds the mark that shows the kind of an entry after its name.
 pub fn push_kind(text: &mut String, kind: Kind) -> Result<(), AllocError> {
     match kind {
         Kind::Dir => text.push_str("/"),
@@ -91,7 +91,7 @@ fn push_source(text: &mut String, source: RuleSource) -> Result<(), AllocError> 
     }
 }
 
-/// Adds why an entry is skipped.
+/// Adds the reason why an entry is skipped.
 pub fn push_reason(text: &mut String, reason: &Reason) -> Result<(), AllocError> {
     match reason {
         Reason::Git => text.push_str("git"),
@@ -114,7 +114,7 @@ fn without_comma(word: &str) -> &str {
     word.strip_suffix(',').unwrap_or(word)
 }
 
-/// Whether both texts have the same words. They are parted by spaces and line ends, and a comma behind a word is no part of it.
+/// Returns whether both texts have the same words. Spaces and line ends separate words, and a comma after a word is not a part of it.
 pub fn has_words(found: &str, wanted: &str) -> bool {
     let mut words = found.split_ascii_whitespace();
     for wanted in wanted.split_ascii_whitespace() {

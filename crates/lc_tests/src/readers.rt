@@ -1,4 +1,4 @@
-//! Readers of which it is known what they give: each contract says it.
+//! Readers whose contracts determine what they return.
 
 mod bytewise;
 mod counted;

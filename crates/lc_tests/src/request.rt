@@ -1,19 +1,19 @@
-//! What is asked, as on a command line.
+//! A request, as on a command line.
 
 use crate::sketch::content;
 use lc_level::{Filters, OnlyPaths, RuleText, RulesFileFault, read_rule_text};
 use std::alloc::{AllocError, Global};
 
-/// What is asked of a walk or of a directory's work.
+/// A request for a walk, or for the work on one directory.
 #[derive(Drop)]
 pub struct Asked<'a> {
     pub files: bool,
     pub left_out: bool,
     pub max_dirs: u32,
-    /// Each word has a meaning.
+    /// Whether each word has a meaning.
     pub is_known: bool,
     exclude_from: Option<Vec<u8>>,
-    /// The patterns of `--exclude` and of `--include`, each with a line feed behind it.
+    /// The patterns of `--exclude` and of `--include`, each followed by a line feed.
     exclude: Vec<u8>,
     include: Vec<u8>,
     no_ignore: bool,
@@ -22,8 +22,8 @@ pub struct Asked<'a> {
 }
 
 impl<'a> Asked<'a> {
-    /// What these words ask: options of `lc count`, with their values behind `=`, and the paths of `--only`. An exclude file is given by
-    /// its bytes, as in a sketch. Up to 100 directories are taken.
+    /// Reads the request of some words: options of `lc count`, with `=` before their values, and the paths of `--only`. The value of an
+    /// exclude file is its bytes, as in a sketch. The limit is 100 directories.
     pub fn read(alloc: Global, words: &'a str) -> Result<Asked<'a>, AllocError> {
         let mut asked = Asked {
             files: false,
@@ -69,7 +69,7 @@ impl<'a> Asked<'a> {
         Ok(())
     }
 
-    /// The filters that are asked for.
+    /// Returns the filters of the request.
     pub fn filters(&self, alloc: Global) -> Result<Filters<'_>, AllocError> {
         let mut without = Vec::new(alloc);
         for word in &self.without {
@@ -105,7 +105,7 @@ fn rule_text(alloc: Global, rules: &[u8]) -> Result<RuleText, AllocError> {
     }
 }
 
-/// The rules of a text that is not empty.
+/// Returns the rules of a text, or none if the text is empty.
 fn some_rules(alloc: Global, rules: &[u8]) -> Result<Option<RuleText>, AllocError> {
     if rules.is_empty() {
         return Ok(None);

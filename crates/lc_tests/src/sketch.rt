@@ -1,12 +1,12 @@
-//! Trees of memory by a sketch.
+//! In-memory trees from sketches.
 
 use lc_tree::{Node, OtherKind};
 use std::alloc::{AllocError, Global};
 
-/// A directory that is being read: its name, and its entries up to here.
+/// A directory that is being read: its name, and its entries so far.
 type Open = (Vec<u8>, Vec<(Vec<u8>, Node)>);
 
-/// The bytes that stand in a sketch: `;` is a line feed, `^` a carriage return, and `_` a space.
+/// Returns the bytes of a file in a sketch: `;` is a line feed, `^` a carriage return, and `_` a space.
 pub(crate) fn content(alloc: Global, text: &str) -> Result<Vec<u8>, AllocError> {
     let mut bytes = Vec::new(alloc);
     for byte in text.as_bytes() {
@@ -21,7 +21,7 @@ pub(crate) fn content(alloc: Global, text: &str) -> Result<Vec<u8>, AllocError> 
     Ok(bytes)
 }
 
-/// What a word says of an entry: its name, and what stands under it.
+/// Reads the name and the contents of an entry from a word.
 fn entry<'a>(alloc: Global, word: &'a str) -> Result<(&'a str, Node), AllocError> {
     if let Some((name, text)) = word.split_once('=') {
         return Ok((name, Node::File(content(alloc, text)?)));
@@ -44,7 +44,7 @@ fn entry<'a>(alloc: Global, word: &'a str) -> Result<(&'a str, Node), AllocError
     }
 }
 
-/// Puts an entry into the directory that was opened last.
+/// Adds an entry to the directory that was opened last.
 fn put(open: &mut Vec<Open>, name: Vec<u8>, node: Node) -> Result<(), AllocError> {
     if let Some((_, entries)) = open.last_mut() {
         entries.push((name, node))?;
@@ -72,13 +72,13 @@ fn put_word(alloc: Global, open: &mut Vec<Open>, word: &str) -> Result<(), Alloc
     put(open, name.as_bytes().to_vec(alloc)?, node)
 }
 
-/// The tree of a sketch, which has the entries of the top, parted by spaces and line ends:
+/// Makes the tree of a sketch, which consists of the entries of the top. Spaces and line ends separate them:
 ///
 /// | Word | Entry |
 /// |---|---|
 /// | `a` | a file of the line `x` |
 /// | `a=*.c_text;b` | a file of these bytes: `;` is a line feed, `^` a carriage return, and `_` a space |
-/// | `a!` or `a!x;` | a file that gives such bytes and then fails in place of its end |
+/// | `a!` or `a!x;` | a file that has such bytes and then fails instead of ending |
 /// | `a/` | a directory without entries |
 /// | `a/{ b c }` | a directory with these entries |
 /// | `a/!` | a directory that can't be listed |

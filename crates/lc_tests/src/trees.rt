@@ -1,4 +1,4 @@
-//! Trees over other trees: each says by its contract what of the other may differ.
+//! Trees over other trees. Their contracts say how they may differ from the others.
 
 mod bytewise_tree;
 mod failing_call;

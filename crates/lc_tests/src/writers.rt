@@ -1,4 +1,4 @@
-//! A writer of which it is known what it takes: its contract says it.
+//! A writer whose contract determines what it accepts.
 
 ghost use Rattle.std.specs.Prelude.{◌≡◌, [], IfOk};
 ghost use Rattle.lc_tests.specs.TrialWrites.{TakesSome};
@@ -6,16 +6,16 @@ ghost use Rattle.lc_tests.specs.TrialWrites.{TakesSome};
 use lc_io::{Failed, Sink};
 use std::alloc::{AllocError, Global};
 
-/// The answer of a writer that has no more room.
+/// What a writer does once it is full.
 #[derive(Debug, Clone, Copy, PartialEq, Eq)]
 pub enum WhenFull {
-    /// A write takes nothing.
+    /// A write accepts nothing.
     TakesNothing,
     /// A write fails.
     Fails,
 }
 
-/// Writers to stop a text at each place: how much one takes at once, and what it answers once it has no room.
+/// Writers for tests that stop a text at each place: the most bytes that one write accepts, and what the writer does once it is full.
 pub const WRITERS: &[(usize, WhenFull)] = &[
     (1, WhenFull::TakesNothing),
     (1, WhenFull::Fails),
@@ -23,14 +23,14 @@ pub const WRITERS: &[(usize, WhenFull)] = &[
     (7, WhenFull::Fails),
 ];
 
-/// A writer that takes at most so many bytes at once, and only so many in all.
+/// A writer that accepts at most so many bytes in one write, and only so many in all.
 ///
 /// ```
 /// let mut out = Narrow::new(rt.alloc(), 1, 10, WhenFull::Fails)?; // ten writes of a byte, and then failures
 /// ```
 #[derive(Drop)]
 pub struct Narrow {
-    /// The bytes that it took.
+    /// The bytes that it accepted.
     pub taken: Vec<u8>,
     step: usize,
     room: usize,
@@ -38,7 +38,7 @@ pub struct Narrow {
 }
 
 impl Narrow {
-    /// Makes a writer that took nothing so far. It allocates the memory for all that it may take.
+    /// Makes a writer that has accepted nothing so far. It allocates the memory for all bytes that it may accept.
     pub fn new(
         alloc: Global,
         step: usize,

@@ -1,12 +1,12 @@
-//! Why a directory was broken off.
+//! Why a worker stopped work on a directory.
 
-/// Why a directory was broken off.
+/// Why a worker stopped work on a directory.
 #[derive(Clone, Copy, Debug, Drop, PartialEq, Eq)]
 pub enum BrokenCause {
-    /// Memory was refused.
+    /// An allocation failed.
     Memory,
-    /// All numbers of directories are used.
+    /// No number is left for a directory.
     TooManyDirs,
-    /// An entry's path has over 4,096 bytes, or a directory's over 256 segments.
+    /// An entry's path has more than 4,096 bytes, or a directory's path more than 256 segments.
     TooDeep,
 }

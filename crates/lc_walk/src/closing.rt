@@ -1,4 +1,4 @@
-//! The end of a walk over any shared board: the board is closed, and its rows are assembled.
+//! The end of a walk over any shared board: closing the board, and assembling its rows.
 ghost use Rattle.std.specs.Prelude.{◌≡◌, [], map};
 ghost use Rattle.lc_walk.specs.Passes.{HaveWorked, IsClosable, asked};
 ghost use Rattle.lc_level.specs.Filters.{FiltersModel};
@@ -32,7 +32,7 @@ impl From<CloseFault> for WalkFault {
     }
 }
 
-/// Closes the board of workers that have all found it over, and assembles its rows.
+/// Closes the board of workers that have all found it over, and assembles the report of its rows.
 pub fn finish<B: Shared<Job, Row>, T: Tree>(
     alloc: Global,
     board: B,

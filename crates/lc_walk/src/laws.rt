@@ -17,33 +17,33 @@ use lc_level::a_node_is_one_tree;
 use lc_rules::the_last_match_decides;
 use lc_tree::Tree;
 
-/// What a tally stands for has no order, so tallies may be merged in any order.
+/// The law that a tally does not depend on the order of its files, so that tallies may be merged in any order.
 pub fn a_tally_has_no_order()
     ensures { (tally : TallyModel) (files moved : List CountedFile)
         → IsPermutation files moved → StandsFor tally files → StandsFor tally moved }
 {}
 
-/// The rows of a closed walk are what the recursive walk of their tree finds, whatever the turns of the workers were.
+/// The law that the rows of a closed walk are what the recursive walk of their tree finds, under any scheduling of the workers.
 pub fn rows_are_the_walk_of_their_tree()
     ensures found { CoreLaw }
     ensures numbers { NumbersLaw }
 {}
 
-/// Where each row's level is that of one tree, they are what the recursive walk of that tree finds.
+/// The law that rows are what the recursive walk of a tree finds, if each row's level is that of the tree.
 pub fn rows_are_the_walk_of_one_tree()
     ensures { OneAnswerLaw }
 {}
 
-/// The report of a walk is that of the recursive walk of some answers that its tree may give: listings, one for each directory to which
-/// names lead.
+/// The law that the report of a walk is that of the recursive walk over some answers that its tree may give: a listing for each directory
+/// to which names lead.
 pub fn reports_are_by_given_answers<T: Tree>(tree: &T)
     ensures { ByAnswersLaw (T.lists tree.now) (T.gives tree.now) }
 {
     let _tree = tree;
 }
 
-/// The report of a walk of a tree of memory, each of whose files has under 2^47 bytes, is that of the recursive walk of the tree that its
-/// node stands for.
+/// The law that the report of a walk of an in-memory tree, whose files each have less than 2^47 bytes, is that of the recursive walk of the
+/// tree of its node.
 pub fn reports_of_memory_are_those_of_its_node()
     ensures one_answer { NodeOneAnswerLaw }
     ensures report { NodeReportLaw }
@@ -51,64 +51,65 @@ pub fn reports_of_memory_are_those_of_its_node()
     a_node_is_one_tree();
 }
 
-/// A row that is lawful in a worker's part is lawful in the whole history.
+/// The law that a row that is lawful in a worker's part is lawful in the whole history.
 pub fn lawful_in_part_is_lawful()
     ensures { PartLaw }
 {}
 
-/// What the recursive walk of a tree finds is what directories give to which names lead, of which each is listed without a fault and
-/// leaves in the next: the last one itself, its counted files, the faults, and what is left out of it, by the fate of each entry.
+/// The law of what the recursive walk of a tree finds. Names lead to each of its directories: each one above was listed without an error,
+/// and has the next as an entry to descend into. Each directory gives itself, its counted files, its errors and its skipped entries, by the
+/// fate of each entry.
 pub fn all_that_is_found_is_given()
     ensures { FoundLaw }
 {}
 
-/// In the report of a walk that lists the skipped entries, all entries of the listed directories that take part are files, faults other
-/// than `absent`, directories or skipped entries, and the top alone is no entry. Each fault `absent` is of a path that was asked for.
+/// The law that all entries of the listed directories that take part are counted files, errors other than `absent`, directories or skipped
+/// entries, if the report lists the skipped entries. Only the top is no entry. Each error `absent` is about a requested path.
 pub fn entries_are_accounted_for<T: Tree>(tree: &T)
     ensures { EntriesLaw (T.lists tree.now) (T.gives tree.now) }
 {
     let _tree = tree;
 }
 
-/// The totals of the report of a walk are the sums of its rows. Where the report lists its files, the totals are the sums of these, and
-/// each row has the sums of those of its key.
+/// The law that the totals of a walk's report are the sums of its rows. If the report lists its files, the totals are also the sums of the
+/// files, and each row has the sums of the files with its key.
 pub fn totals_of_a_report_add_up<T: Tree>(tree: &T)
     ensures { ReportTotalsLaw (T.lists tree.now) (T.gives tree.now) }
 {
     let _tree = tree;
 }
 
-/// A walk of some paths finds, of what the walk of the whole tree finds, what stands at or below one of them, the directories above, and
-/// the faults on the way; and beside that the paths that are absent. So it is of two walks whose directories answered alike where both
-/// asked.
+/// The law that a walk of some paths finds a part of what the walk of the whole tree finds: what is at or below one of the paths, the
+/// directories above them, and the errors on the way. It also finds the paths that are absent. The same is true of two walks if each
+/// directory that both read answered both of them alike.
 pub fn a_part_is_the_whole_filtered()
     ensures two_walks { TwoWalksLaw }
     ensures one_tree { PartOfWalkLaw }
 {}
 
-/// A walk of included files counts those of all files that are included, and lists the same directories.
+/// The law that a walk of included files counts exactly those files of a whole walk that are included, and lists the same directories.
 pub fn included_files_are_the_whole_filtered()
     ensures { IncludeLaw }
 {}
 
-/// The rule for which a report has an entry as skipped is the last that matches the entry, and ignores it.
+/// The law that the rule of a skipped entry in a report is the last rule that matches the entry, and ignores it.
 pub fn the_rule_of_a_line_ignores_it()
     ensures { RuleLaw }
 {
     the_last_match_decides();
 }
 
-/// No path is twice in what a walk finds.
+/// The law that no path occurs twice in what a walk finds.
 pub fn paths_stand_once()
     ensures { PathsOnceLaw }
 {}
 
-/// A report does not depend on the order in which things were found.
+/// The law that a report does not depend on the order in which things were found.
 pub fn a_report_has_no_order()
     ensures { ReportLaw }
 {}
 
-/// The definitions of a level hold on a small directory.
+/// The law that the definitions of a level give the expected results on a small directory.
 pub fn walk_examples_hold()
     ensures { WalkExamplesHold }
 {}

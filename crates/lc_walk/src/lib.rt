@@ -1,12 +1,12 @@
-//! The walk over a tree: its workers, their rows and tallies, and what it reports.
+//! The walk over a tree: its workers, their rows and tallies, and its report.
 //!
-//! - `row`: what a worker returns for a directory, `served_job` among it; `broken_cause`: why one was broken off
+//! - `row`: the row that a worker returns for a directory, with `served_job`; `broken_cause`: why a worker stopped work on a directory
 //! - `tally`: the sums over the counted files, a row for each key
-//! - `report`: what a walk reports, and how the rows of a closed board make it
-//! - `worker`, with what is below it: one worker; `workers`: all workers at the same time
+//! - `report`: the report of a walk, made from the rows of a closed board
+//! - `worker`, with the modules below it: one worker; `workers`: all workers at the same time
 //! - `closing`: the end of a walk; `walking`: the whole walk; `walk_fault`: why there is no report
 //! - `options`: the options of a walk
-//! - `laws`: what is true of the definitions that the contracts cite
+//! - `laws`: laws of the definitions that the contracts cite
 #![tactic(auto)]
 
 mod broken_cause;

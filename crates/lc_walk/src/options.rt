@@ -3,12 +3,12 @@ ghost use Rattle.lc_walk.specs.WalkOptions.{HasNoLists};
 
 use lc_level::{Filters, NamedAttributes};
 
-/// Which lists a report is to have, besides its rows and its faults.
+/// The lists of a report, besides its rows and its errors.
 #[derive(Clone, Copy, Debug, Drop, PartialEq, Eq)]
 pub struct ReportLists {
     /// Whether to have a line for each counted file.
     pub files: bool,
-    /// Whether to have a line for each skipped entry. What is below one is neither read nor listed.
+    /// Whether to have a line for each skipped entry. Entries below a skipped one are neither read nor listed.
     pub left_out: bool,
 }
 
@@ -22,18 +22,18 @@ pub struct ReportLists {
 pub struct Options<'o> {
     /// The number of threads: 1 to 16.
     pub threads: u32,
-    /// The most directories that are visited, the top included: 1 to 1,048,576.
+    /// The greatest number of directories to visit, the top included: 1 to 1,048,576.
     pub max_dirs: u32,
     /// The lists of the report.
     pub lists: ReportLists,
-    /// Which entries take part, besides what the tree's own rules say.
+    /// Which entries take part, besides those that the tree's own rules skip.
     pub filters: &'o Filters<'o>,
-    /// Where to note which attributes the attribute files of the tree name. It changes no report.
+    /// Where to note which attributes the attribute files of the tree name. Noting them changes no report.
     pub named: Option<&'o NamedAttributes>,
 }
 
 impl<'o> Options<'o> {
-    /// The options of a walk with this many threads and this many directories at most, by these filters and with no lists.
+    /// Returns the options of a walk with this many threads, at most this many directories, these filters and no lists.
     pub fn new(threads: u32, max_dirs: u32, filters: &'o Filters<'o>) -> Options<'o>
         ensures { HasNoLists threads max_dirs filters.entry.now result }
     {

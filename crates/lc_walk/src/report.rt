@@ -1,7 +1,7 @@
 //! The report of a walk.
 //!
-//! - `findings`: what a walk has found besides the sums
-//! - `assembly`, with `row_lines` and `tree_check`: the report that the rows of a closed board make
+//! - `findings`: what a walk found besides the sums
+//! - `assembly`, with `row_lines` and `tree_check`: making the report of the rows of a closed board
 ghost use Rattle.std.specs.Prelude.{map};
 ghost use Rattle.std.specs.List.Sorted.{IsPermutation, IsSortedByKey};
 ghost use Rattle.lc_walk.specs.Report.{IsReport};
@@ -19,10 +19,10 @@ pub use findings::Findings;
 use lc_level::Line;
 pub use lc_level::{FaultLine, FileLine, SkippedLine};
 
-/// What a walk found.
+/// The report of a walk.
 #[derive(Debug, Drop)]
 pub struct Report {
-    /// The sums over the counted files, a row for each key that some file has, in order of the keys.
+    /// The sums over the counted files, in a row for each key of some file, in the order of keys.
     pub rows: Vec<TallyRow>,
     /// The sums over all counted files.
     pub totals: Sums,
@@ -32,17 +32,17 @@ pub struct Report {
     pub entries: u64,
     /// Which lists the report has.
     pub lists: ReportLists,
-    /// The counted files in order of their paths' bytes, where the report has them.
+    /// The counted files in order of their paths' bytes, if the report lists them.
     pub files: Vec<FileLine>,
-    /// The faults in order of their paths' bytes.
+    /// The errors in order of their paths' bytes.
     pub faults: Vec<FaultLine>,
-    /// The skipped entries in order of their paths' bytes, where the report has them.
+    /// The skipped entries in order of their paths' bytes, if the report lists them.
     pub skipped: Vec<SkippedLine>,
 }
 
 impl Report {
-    /// Makes a report: it sorts the rows of the tally by their keys, and each list of the findings by its paths, in place. It takes no
-    /// memory.
+    /// Makes a report. It sorts the rows of the tally by their keys and each list of the findings by its paths, in place, without
+    /// allocating memory.
     ///
     /// ```
     /// let report = Report::new(tally, lists, findings);

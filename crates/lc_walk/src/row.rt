@@ -1,4 +1,4 @@
-//! What a worker returns for a directory.
+//! The row that a worker returns for a directory.
 ghost use Rattle.std.specs.Prelude.{◌≡◌, IfOk, IfErr};
 ghost use Rattle.lc_walk.specs.RowParts.{listed_in};
 
@@ -8,7 +8,7 @@ use lc_level::{FaultLine, FaultSite, FaultWord, FileLine, SkippedLine};
 use std::alloc::Global;
 use std::marker::Model;
 
-/// A child directory that was posted, by its name and its number.
+/// A child directory that was posted: its name and its number.
 #[derive(Drop)]
 pub struct Child {
     pub name: Vec<u8>,
@@ -23,18 +23,18 @@ impl Model for Child {
     ghost view = { λ c. record { name = c.name.items; number = c.number } };
 }
 
-/// What the row of a listed directory has.
+/// The parts of the row of a listed directory.
 #[derive(Drop)]
 pub struct ListedParts {
     /// The directory that was listed.
     pub job: ServedJob,
     /// The number of the directory's entries that take part.
     pub entries: u32,
-    /// The counted files, in the order of their names, where the report is to have them.
+    /// The counted files, in the order of their names, if the report lists them.
     pub files: Vec<FileLine>,
-    /// The paths that are asked for and absent, then the files that were not counted, in the order of their names.
+    /// The requested paths that are absent, then the files that were not counted, in the order of their names.
     pub faults: Vec<FaultLine>,
-    /// The skipped entries, in the order of their names, where the report is to have them.
+    /// The skipped entries, in the order of their names, if the report lists them.
     pub skipped: Vec<SkippedLine>,
     /// The posted child directories, in the order of their names.
     pub children: Vec<Child>,
@@ -55,7 +55,7 @@ impl Model for ListedParts {
     } };
 }
 
-/// What is kept of a listed directory. Most have no file, fault, entry or child to keep, and take no room for them.
+/// The stored parts of a listed directory. Most directories have no file, error, entry or child to store, and take no room for them.
 #[derive(Drop)]
 enum RowParts {
     Bare { job: ServedJob, entries: u32 },
@@ -63,7 +63,7 @@ enum RowParts {
 }
 
 impl RowParts {
-    /// Keeps these parts. Where memory is refused the job comes back.
+    /// Stores these parts. If an allocation fails, the error returns the job.
     fn new(alloc: Global, parts: ListedParts) -> Result<RowParts, ServedJob>
         ensures kept { IfOk result (λ k. listed_in k ≡ parts) }
         ensures job { IfErr result (λ j. j ≡ parts.job) }
@@ -109,7 +109,7 @@ impl Model for ListedRow {
 }
 
 impl ListedRow {
-    /// Makes the row of these parts. Where memory is refused the job comes back.
+    /// Makes the row of these parts. If an allocation fails, the error returns the job.
     pub fn new(alloc: Global, parts: ListedParts) -> Result<ListedRow, ServedJob>
         ensures row { IfOk result (λ r. r ≡ parts) }
         ensures job { IfErr result (λ j. j ≡ parts.job) }
@@ -121,7 +121,7 @@ impl ListedRow {
         }
     }
 
-    /// The directory that was listed.
+    /// Returns the directory that was listed.
     pub fn job(&self) -> &ServedJob
         ensures { result.now ≡ self.now.job }
     {
@@ -131,7 +131,7 @@ impl ListedRow {
         }
     }
 
-    /// The number of the directory's entries that take part.
+    /// Returns the number of the directory's entries that take part.
     pub fn entries(&self) -> u32
         ensures { result ≡ self.now.entries }
     {
@@ -141,7 +141,7 @@ impl ListedRow {
         }
     }
 
-    /// The counted files, in the order of their names, where the report is to have them.
+    /// Returns the counted files, in the order of their names, if the report lists them.
     pub fn files(&self) -> &[FileLine]
         ensures { result.now ≡ self.now.files }
     {
@@ -151,7 +151,7 @@ impl ListedRow {
         }
     }
 
-    /// The paths that are asked for and absent, then the files that were not counted, in the order of their names.
+    /// Returns the requested paths that are absent, then the files that were not counted, in the order of their names.
     pub fn faults(&self) -> &[FaultLine]
         ensures { result.now ≡ self.now.faults }
     {
@@ -161,7 +161,7 @@ impl ListedRow {
         }
     }
 
-    /// The skipped entries, in the order of their names, where the report is to have them.
+    /// Returns the skipped entries, in the order of their names, if the report lists them.
     pub fn skipped(&self) -> &[SkippedLine]
         ensures { result.now ≡ self.now.skipped }
     {
@@ -171,7 +171,7 @@ impl ListedRow {
         }
     }
 
-    /// The posted child directories, in the order of their names.
+    /// Returns the posted child directories, in the order of their names.
     pub fn children(&self) -> &[Child]
         ensures { result.now ≡ self.now.children }
     {
@@ -190,14 +190,14 @@ pub struct FaultedRow {
     pub word: FaultWord,
 }
 
-/// A directory that was broken off.
+/// A directory whose work a worker stopped.
 #[derive(Drop)]
 pub struct BrokenRow {
     pub job: ServedJob,
     pub cause: BrokenCause,
 }
 
-/// What a worker returns for a directory.
+/// The row that a worker returns for a directory.
 #[derive(Drop)]
 pub enum Row {
     Listed(ListedRow),

@@ -1,4 +1,4 @@
-//! A directory that was served.
+//! The job of a directory that was served.
 ghost use Rattle.std.specs.Prelude.{◌≡◌};
 
 use lc_level::Job;
@@ -6,8 +6,8 @@ use std::alloc::Global;
 use std::marker::Model;
 use std::snapshot::Snapshot;
 
-/// A directory that was served. Of its job only the path is kept, so that its chains are dropped where no other job shares them.
-/// Contracts see the job as it was.
+/// The job of a directory that was served. Only its path is kept, so its chains are dropped unless another job shares them. Contracts still
+/// see the whole job.
 ///
 /// ```
 /// let served = ServedJob::of(job); // served.path() is what job.path() was
@@ -30,7 +30,7 @@ impl Model for ServedJob {
 }
 
 impl ServedJob {
-    /// Keeps the path of a job, and drops the rest.
+    /// Stores the path of a job, and drops the rest.
     pub fn of(job: Job) -> ServedJob
         ensures { result ≡ job }
     {
@@ -41,7 +41,7 @@ impl ServedJob {
         }
     }
 
-    /// The path of the directory: at most 4,096 bytes.
+    /// Returns the path of the directory: at most 4,096 bytes.
     pub fn path(&self) -> &[u8]
         ensures { result.now ≡ self.now.path }
     {

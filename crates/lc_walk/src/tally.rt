@@ -2,7 +2,8 @@
 //!
 //! - `extensions`: the extension of a file's name
 //! - `key`, `sums`, `tally_row`: a row for each key, with its sums
-//! - `keyed_rows`: the rows by their keys; `row_hints`: where a key's row stood last; `row_sums`: the sums over rows of several tallies
+//! - `keyed_rows`: the rows by their keys; `row_hints`: the last known place of a key's row; `row_sums`: the sums over rows of several
+//!   tallies
 ghost use Rattle.std.specs.Prelude.{◌≡◌, ◌+◌, ◌<◌, ◌≤◌, ◌^◌, List, [], ◌∷◌, ◌++◌, option_map, IfOk, IsOk, IsTrue, OnOk, OnErr};
 ghost use Rattle.lc_walk.specs.TallyRows.{AddsUp, has_row};
 ghost use Rattle.lc_walk.specs.Sums.{IsModest};
@@ -27,17 +28,17 @@ use std::marker::Model;
 pub use sums::Sums;
 pub use tally_row::TallyRow;
 
-/// The most files of a tally. A walk has fewer than 2^40, so no tally is ever full: workers test for it in place of a sum over all rows.
+/// The greatest number of files of a tally. A walk has fewer than 2^40, so no tally is ever full: workers compare with it instead of adding
+/// up all rows.
 pub(crate) const MAX_FILES: u64 = 1 << 63;
 
 /// The tally of the files counted so far.
 ///
-/// It stands for a list of files: after `new` for the empty one, after `add` for one file more, after `merge` for the
-/// files of both. The order of the files does not matter (`a_tally_has_no_order`). The time of an add grows with the
-/// logarithm of the number of keys.
+/// A tally represents a list of files: `new` the empty list, `add` one more file, and `merge` the files of both. The order of the files
+/// does not matter (`a_tally_has_no_order`). The time of an add grows with the logarithm of the number of keys.
 ///
-/// The order of keys: first no extension, then extensions by their bytes; then the text state in the order set, unset,
-/// auto, other, unspecified; then the class of line ends in the order none, LF, CR LF, CR, mixed, NUL.
+/// The order of keys: first no extension, then extensions by their bytes; then the text state in the order set, unset, auto, other,
+/// unspecified; then the class of line ends in the order none, LF, CR LF, CR, mixed, NUL.
 ///
 /// ```
 /// let mut tally = Tally::new(alloc);
@@ -61,7 +62,7 @@ impl Model for Tally {
 }
 
 impl Tally {
-    /// Makes the tally of no files. It takes no memory; later calls take it from `alloc`.
+    /// Makes the tally of no files. It allocates nothing; later calls allocate from `alloc`.
     pub fn new(alloc: Global) -> Tally
         ensures { StandsFor result [] }
     {
@@ -71,15 +72,15 @@ impl Tally {
         }
     }
 
-    /// The sums over all files.
+    /// Returns the sums over all files.
     pub fn totals(&self) -> Sums
         ensures { result ≡ self.now.totals }
     {
         self.totals
     }
 
-    /// Adds a file of an extension, a text state and a census. Only a key that no file had before needs memory, for a row and
-    /// the extension's bytes. If that allocation fails, the tally stays as it was.
+    /// Adds a file with an extension, a text state and a census. Only a key that no earlier file had needs memory, for a row and the
+    /// extension's bytes. If that allocation fails, the tally stays as it was.
     pub fn add(
         &mut self,
         ext: Option<&[u8]>,
@@ -101,7 +102,7 @@ impl Tally {
         self.grow(&key, Sums::one(count))
     }
 
-    /// The tally of the files of both. Where memory is refused, both are dropped.
+    /// Returns the tally of the files of both. If an allocation fails, both are dropped.
     pub fn merge(self, other: Tally) -> Result<Tally, AllocError>
         requires { self.totals.files + other.totals.files ≤ 2 ^ 63 }
         ensures { IfOk result (λ t. (fs gs : List CountedFile)
@@ -119,7 +120,7 @@ impl Tally {
         })
     }
 
-    /// Copies of the rows in the order of their keys, one for each key.
+    /// Returns copies of the rows in the order of their keys, one for each key.
     pub fn rows(&self) -> Result<Vec<TallyRow>, AllocError>
         ensures added_up { IfOk result (λ v. AddsUp self.now.rows v.items) }
         ensures tally { IfOk result (λ v. (fs : List CountedFile) → StandsFor self.now fs → IsTally fs v.items) }
@@ -128,7 +129,7 @@ impl Tally {
         Ok(rows)
     }
 
-    /// The rows in the order of their keys, one for each key. It sorts them in place and takes no memory.
+    /// Returns the rows in the order of their keys, one for each key. It sorts them in place and allocates nothing.
     pub fn into_rows(self) -> Vec<TallyRow>
         ensures added_up { AddsUp self.rows result.items }
         ensures tally { (fs : List CountedFile) → StandsFor self fs → IsTally fs result.items }
@@ -137,7 +138,7 @@ impl Tally {
         rows.into_sorted()
     }
 
-    /// Adds some files of one key by their sums. It fails, as where memory is refused, for sums that no walk's files have: more than 2^63
+    /// Adds some files of one key by their sums. It fails if an allocation fails, and for sums that no walk's files have: more than 2^63
     /// files in all, or more than 2^64 - 1 lines, blank lines or bytes a file.
     pub fn add_sums(&mut self, key: &KeyRef<'_>, more: Sums) -> Result<(), AllocError>
         ensures grows { OnOk result (Grows self.old self.new key.now more) }

@@ -47,11 +47,11 @@ fn walk_by<B: Shared<Job, Row>, T: Tree, R: Threads + Wait + Sync>(
     finish::<B, T>(alloc, board, passes, options.lists, tally)
 }
 
-/// The bytes that are kept from several workers for one that walks after them: the C library keeps up to 40 MB of stacks of threads that
-/// ended. Given back a block of up to 32 MB, it maps no later one of that size by itself, and a vector that grows is copied.
+/// The bytes that are kept from several workers for a single worker after them. The C library keeps up to 40 MB of stacks of threads that
+/// ended. Once a block of up to 32 MB is freed, the library maps no later block of that size by itself, and copies a vector that grows.
 const RESERVE: usize = 64 << 20;
 
-/// Walks a tree over a board of this type, with all workers that the options name. The reserve is free again after their walk.
+/// Walks a tree over a board of this type, with as many workers as the options say. The reserve is free again after their walk.
 fn walk_by_all<B: Shared<Job, Row>, T: Tree, R: Threads + Wait + Sync>(
     rt: &R,
     alloc: Global,
@@ -70,8 +70,8 @@ fn walk_by_all<B: Shared<Job, Row>, T: Tree, R: Threads + Wait + Sync>(
     answer
 }
 
-/// Walks a tree over a board of this type, with a thread for each worker. Where memory is refused to several, or there is none to keep from
-/// them, one worker walks, since many stacks take what one walk may need.
+/// Walks a tree over a board of this type, with a thread for each worker. If the workers run out of memory, or there is no memory to keep
+/// from them, one worker walks alone, since the stacks of many threads use memory that one walk may need.
 pub fn walk_on<B: Shared<Job, Row>, T: Tree, R: Threads + Wait + Sync>(
     rt: &R,
     alloc: Global,
@@ -91,7 +91,7 @@ pub fn walk_on<B: Shared<Job, Row>, T: Tree, R: Threads + Wait + Sync>(
     walk_by::<B, T, R>(rt, alloc, tree, options, 1)
 }
 
-/// Walks a tree: what it finds is what the recursive walk finds over answers that the tree may give.
+/// Walks a tree. The report is that of the recursive walk over answers that the tree may give.
 ///
 /// ```
 /// let report = walk(&rt, rt.alloc(), &tree, &options)?;

@@ -1,8 +1,8 @@
 //! A worker of a walk.
 //!
-//! - `serving`: what it does with a directory that it has claimed
-//! - `posting`: how it posts the child directories; `adding`: how it adds the counted files to its tally
-//! - `backoff`: how it waits where there is nothing to claim
+//! - `serving`: serving a directory that the worker has claimed
+//! - `posting`: posting the child directories; `adding`: adding the counted files to the worker's tally
+//! - `backoff`: waiting while there is nothing to claim
 ghost use Rattle.std.specs.Prelude.{◌≡◌};
 ghost use Rattle.lc_level.specs.TreeAnswers.{MayAnswer};
 ghost use Rattle.lc_walk.specs.BoardPasses.{IsFree, IsPassOf};
@@ -31,20 +31,20 @@ use std::thread::Threads;
 pub enum StopReason {
     /// It found the board over.
     Over,
-    /// There was no memory to claim with.
+    /// An allocation failed in a claim.
     Memory,
 }
 
-/// What a worker leaves that has stopped.
+/// The result of a worker that has stopped.
 #[derive(Drop)]
 pub struct WorkerResult<P> {
     pub pass: P,
     pub end: StopReason,
-    /// The tally of the files of the directories that it listed. There is none where memory was refused.
+    /// The tally of the files of the directories that the worker listed, or none if an allocation failed.
     pub tally: Option<Tally>,
 }
 
-/// A worker, with what is lent to it for all its directories.
+/// A worker, with all that it borrows for its directories.
 ///
 /// ```
 /// let options = Options::new(1, 65_536, &filters);
@@ -65,7 +65,7 @@ pub struct Worker<'w, 'o, B, T, W> {
 }
 
 impl<'w, 'o, B, T, W> Worker<'w, 'o, B, T, W> {
-    /// Makes a worker. `idle` counts it as idle from its start, and has all workers that help one with a large directory.
+    /// Makes a worker. `idle` counts the worker as idle from its start, and knows all workers that help one with a large directory.
     pub fn new(
         rt: &'w W,
         alloc: Global,
@@ -93,7 +93,7 @@ impl<'w, 'o, B, T, W> Worker<'w, 'o, B, T, W> {
         }
     }
 
-    /// The threads that may help with a large directory.
+    /// Returns the threads that may help with a large directory.
     fn threads(&self) -> SpareThreads<'w, W> {
         SpareThreads {
             rt: self.rt,

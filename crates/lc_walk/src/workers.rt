@@ -27,7 +27,7 @@ pub(crate) struct Gathered<P> {
     pub(crate) tally: Tally,
 }
 
-/// Runs a worker for each pass, in a thread of its own where one can be started, and waits for all.
+/// Runs a worker for each pass, in its own thread if one can be started, and waits for all workers.
 pub(crate) fn run_all<B: Shared<Job, Row>, T: Tree, R: Threads + Wait + Sync>(
     rt: &R,
     alloc: Global,
@@ -51,7 +51,7 @@ pub(crate) fn run_all<B: Shared<Job, Row>, T: Tree, R: Threads + Wait + Sync>(
     thread::map_vec(rt, passes, &run)
 }
 
-/// The tally of the files of both, if memory suffices.
+/// Returns the tally of the files of both, if memory suffices.
 fn merge(first: Tally, second: Tally) -> Option<Tally>
     ensures { IfSome result (λ t. (fs gs : List CountedFile) → StandsFor first fs → StandsFor second gs → StandsFor t (fs ++ gs)) }
 {
@@ -62,7 +62,7 @@ fn merge(first: Tally, second: Tally) -> Option<Tally>
     first.merge(second).ok()
 }
 
-/// Adds the pass and the tally of one worker more.
+/// Adds the pass and the tally of one more worker.
 fn join<P: Drop>(gathered: Gathered<P>, worked: WorkerResult<P>) -> Option<Gathered<P>>
     ensures over { IfSome result (λ r. worked.end ≡ Over) }
     ensures pass { IfSome result (λ r. r.passes.items ≡ gathered.passes.items ++ worked.pass ∷ []) }
@@ -91,7 +91,7 @@ fn join<P: Drop>(gathered: Gathered<P>, worked: WorkerResult<P>) -> Option<Gathe
     }
 }
 
-/// Gathers what all workers leave. There is nothing where memory was refused to one of them, or is refused here.
+/// Gathers the results of all workers. It returns nothing if one of them ran out of memory, or if an allocation fails here.
 pub(crate) fn gather<P: Drop>(alloc: Global, workers: Vec<WorkerResult<P>>) -> Option<Gathered<P>>
     ensures over { IfSome result (λ r. AllOver workers.items) }
     ensures passes { IfSome result (λ r. r.passes.items ≡ map (λ w. w.pass) workers.items) }

@@ -1,4 +1,4 @@
-//! What could not be read.
+//! The errors of a sheet.
 
 ghost use Rattle.std.specs.Prelude.{◌≡◌};
 ghost use Rattle.lc_sheet.specs.Values.{value_model};
@@ -7,7 +7,7 @@ ghost use Rattle.lc_rows.specs.Kinds.{fault_value};
 use lc_sheet::{Column, Form, Lines, Value};
 use lc_walk::FaultLine;
 
-/// The kind of the lines of what could not be read.
+/// The kind of the lines about errors.
 #[derive(Drop)]
 pub struct Faults {}
 

@@ -15,7 +15,7 @@ use lc_walk::SkippedLine;
 #[derive(Drop)]
 pub struct Skipped {}
 
-/// Makes the value of the path of a rule's file, with the number of a line.
+/// Makes the value of the path of a rule's file, with a line number if there is one.
 fn rule_name(path: &[u8], source: RuleSource, line: Option<u32>) -> Value<'_>
     ensures { value_model result ≡ rule_name path.entry.now source line }
 {

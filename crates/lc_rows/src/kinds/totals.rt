@@ -10,7 +10,7 @@ use lc_sheet::{Column, Form, Lines, Value};
 use lc_walk::Sums;
 use std::marker::Model;
 
-/// Sums, and the name under which they are shown.
+/// Sums, with the name under which they are shown.
 #[derive(Drop)]
 pub struct NamedSums {
     /// The name, such as `total`.
@@ -31,7 +31,7 @@ impl Model for NamedSums {
 #[derive(Drop)]
 pub struct Totals {}
 
-/// Makes the value of a name in a column: the name where that is the first column.
+/// Makes the value of a name in a column: the name in the first column, and `Summed` in the others.
 fn named_in<'l>(first: Column, column: Column, name: &'static str) -> Value<'l>
     ensures { value_model result ≡ named_in first column name.now }
 {

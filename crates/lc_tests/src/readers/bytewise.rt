@@ -1,9 +1,9 @@
-//! A reader a byte at a time.
+//! A reader that reads a byte at a time.
 ghost use Rattle.std.specs.Prelude.{min};
 
 use lc_io::{Failed, Source};
 
-/// A reader that asks another one for at most one byte a read.
+/// A reader that reads at most one byte at a time from another reader.
 ///
 /// ```
 /// let mut reader = Bytewise(b"a\r\n".as_slice()); // three reads of a byte, and then the end

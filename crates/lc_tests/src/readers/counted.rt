@@ -4,19 +4,19 @@ ghost use Rattle.lc_tests.specs.TrialReads.{CountsRead};
 
 use lc_io::{Failed, Source};
 
-/// A reader that passes reads on, and counts them.
+/// A reader that passes reads on to another reader, and counts them.
 #[derive(Drop)]
 pub struct Counted<S> {
-    /// The reader itself.
+    /// The other reader.
     pub source: S,
-    /// The reads so far, up to the greatest `u64`.
+    /// The number of reads so far, up to the greatest `u64`.
     pub reads: u64,
     /// The length in bytes of the longest buffer of a read.
     pub longest: usize,
 }
 
 impl<S> Counted<S> {
-    /// Nothing was read so far.
+    /// Makes a reader that has read nothing so far.
     pub fn new(source: S) -> Counted<S>
         ensures source { result.source ≡ source }
         ensures none { (result.reads ≡ 0) × (result.longest ≡ 0) }

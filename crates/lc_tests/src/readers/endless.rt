@@ -4,7 +4,7 @@ ghost use Rattle.lc_io.specs.Reads.{gave};
 
 use lc_io::{Failed, Source};
 
-/// Fills each buffer with the letter `x`, for ever.
+/// A reader that fills each buffer with the letter `x`, for ever.
 #[derive(Drop)]
 pub struct Endless;
 

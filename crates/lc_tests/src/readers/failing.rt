@@ -3,7 +3,7 @@ ghost use Rattle.lc_tests.specs.TrialReads.{GivesThenFails};
 
 use lc_io::{Failed, Source};
 
-/// Gives its bytes from the first on, as many a read as the buffer holds, and fails at each read after the last byte.
+/// A reader that returns its bytes in order, as many at a time as the buffer holds, and fails at each read after the last byte.
 ///
 /// ```
 /// let mut reader = Failing(&bytes[..count]); // fails after so many bytes

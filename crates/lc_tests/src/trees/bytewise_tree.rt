@@ -1,11 +1,11 @@
-//! A tree whose files give a byte a read.
+//! A tree whose files are read a byte at a time.
 ghost use Rattle.lc_tree.specs.Trees.{Opens};
 
 use crate::readers::Bytewise;
 use lc_tree::{Listing, ReadFault, Tree};
 use std::alloc::Global;
 
-/// A tree that passes calls on to another, and gives at most one byte a read of its files.
+/// A tree that passes calls on to another, and reads at most one byte of its files at a time.
 ///
 /// ```
 /// let node = sketch.node(rt.alloc())?;

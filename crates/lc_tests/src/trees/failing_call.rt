@@ -1,10 +1,10 @@
-//! Calls of which one fails.
+//! Calls, one of which fails.
 ghost use Rattle.std.specs.Prelude.{◌≡◌};
 
 use std::marker::Model;
 use std::sync::atomic::{AtomicU64, Ordering};
 
-/// Counts calls over all threads, one of which is to fail. Contracts see its place, and nothing of the count.
+/// Counts calls over all threads, one of which is to fail. Contracts see the number of the failing call, but not the count.
 #[derive(Drop)]
 pub struct FailingCall {
     begun: AtomicU64,
@@ -20,7 +20,7 @@ impl Model for FailingCall {
 }
 
 impl FailingCall {
-    /// The call at this place is to fail. The first is at 0.
+    /// Makes the count of calls in which the call with this number fails. The first call has number 0.
     pub fn new(place: u64) -> FailingCall
         ensures { result ≡ place }
     {
@@ -30,12 +30,12 @@ impl FailingCall {
         }
     }
 
-    /// How many calls were begun so far. No clause can say so of a count that threads share; tests compare it.
+    /// Returns how many calls have begun. No clause describes a count that threads share, so tests compare it.
     pub fn begun(&self) -> u64 {
         self.begun.load(Ordering::SeqCst)
     }
 
-    // Counts a call, and says whether it is to fail.
+    // Counts a call, and returns whether it is to fail.
     pub(super) fn fails(&self) -> bool {
         self.begun.fetch_add(1, Ordering::SeqCst) == self.place
     }

@@ -1,10 +1,10 @@
-//! A file whose reads are among the calls of which one fails.
+//! A file whose reads are among the calls, one of which fails.
 ghost use Rattle.lc_tests.specs.FailingTrees.{MayFail};
 
 use super::failing_call::FailingCall;
 use lc_io::{Failed, Source};
 
-/// A file of another tree, one read of which may fail. After that its reads go on where they were.
+/// A file of another tree, one read of which may fail. Later reads go on at the same place.
 #[derive(Drop)]
 pub struct FailingFile<'a, F> {
     pub(super) file: F,

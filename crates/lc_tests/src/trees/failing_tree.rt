@@ -1,13 +1,13 @@
-//! A tree of which one call fails.
+//! A tree in which one call fails.
 
 use super::failing_call::FailingCall;
 use super::failing_file::FailingFile;
 use lc_tree::{Listing, ReadFault, Tree};
 use std::alloc::Global;
 
-/// A tree that passes calls on to another, and fails one of them: a listing, an opening of a file or a read, all counted together.
+/// A tree that passes calls on to another, and fails one of them. It counts listings, openings of files and reads together.
 ///
-/// A listing and an opening then answer `ReadFault::Failed`.
+/// A listing or an opening that fails returns `ReadFault::Failed`.
 ///
 /// ```
 /// let call = FailingCall::new(2); // the third
@@ -15,9 +15,9 @@ use std::alloc::Global;
 /// ```
 #[derive(Drop)]
 pub struct FailingTree<'a, T> {
-    /// The tree itself.
+    /// The other tree.
     pub tree: &'a T,
-    /// The number of the call that fails.
+    /// The count of calls, with the number of the call that fails.
     pub call: &'a FailingCall,
 }
 

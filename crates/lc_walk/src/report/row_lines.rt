@@ -1,4 +1,4 @@
-//! The lines of a report, made of the rows.
+//! The lines of a report, made from the rows of a board.
 ghost use Rattle.std.specs.Prelude.{◌≡◌, ℕ, ◌+◌, ◌≤◌, ◌<◌, ◌^◌, List, ◌++◌, map, length, IfOk, OnOk};
 ghost use Rattle.lc_walk.specs.Rows.{row_of};
 ghost use Rattle.lc_walk.specs.Assembled.{directories_by_row, entries_by_row, files_by_row, faults_by_row, skipped_by_row};
@@ -10,7 +10,7 @@ use lc_board::Ended;
 use lc_level::Line;
 use std::alloc::{AllocError, Global};
 
-/// The row by which a number ended.
+/// Returns the row with which a number ended.
 pub fn row_of(ended: &Ended<Row>) -> &Row
     ensures { result.now ≡ row_of ended.now }
 {
@@ -20,7 +20,7 @@ pub fn row_of(ended: &Ended<Row>) -> &Row
     }
 }
 
-/// Adds lines whose paths are from a directory, by their paths from the top.
+/// Adds lines with paths relative to a directory, and makes their paths relative to the top.
 fn push_below<L: Line + Drop>(
     alloc: Global,
     directory: &[u8],
@@ -68,7 +68,7 @@ pub fn push_row(alloc: Global, row: &Row, found: &mut Findings) -> Result<(), Al
     Ok(())
 }
 
-/// The lines and the numbers of all rows.
+/// Collects the lines and the numbers of all rows.
 pub fn findings_of(alloc: Global, rows: &[Ended<Row>]) -> Result<Findings, AllocError>
     requires { length rows.now ≤ 2 ^ 32 }
     ensures { IfOk result (AreFindings rows.now) }

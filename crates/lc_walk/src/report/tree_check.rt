@@ -1,4 +1,4 @@
-//! Whether rows make a tree.
+//! Checking that rows make a tree.
 ghost use Rattle.std.specs.Prelude.{◌≡◌, ◌≢◌, ℕ, ◌+◌, ◌<◌, ◌≤◌, ◌^◌, List, true, false, length, slice_get, slice_set, replicate, Some};
 ghost use Rattle.std.specs.Prelude.{IfOk, IfErr, OnOk, OnErr};
 ghost use Rattle.lc_walk.specs.Rows.{row_of, job_of, children_in};
@@ -12,16 +12,16 @@ use lc_board::Ended;
 use lc_level::relative_to;
 use std::alloc::{AllocError, Global};
 
-/// Why rows make no tree, or why that is not known.
+/// Why a check of rows failed: they make no tree, or there was no memory to find out.
 #[derive(Clone, Copy, PartialEq, Eq, Debug, Drop)]
 pub enum TreeFault {
-    /// Memory was refused.
+    /// An allocation failed.
     Memory,
     /// The rows make no tree at this number.
     Torn(u32),
 }
 
-/// The path of a row's directory.
+/// Returns the path of a row's directory.
 pub fn path_of(row: &Row) -> &[u8]
     ensures { result.now ≡ (job_of row.now).path }
 {
@@ -32,7 +32,7 @@ pub fn path_of(row: &Row) -> &[u8]
     }
 }
 
-/// The child directories that a row names.
+/// Returns the child directories that a row names.
 pub fn children_of(row: &Row) -> &[Child]
     ensures { result.now ≡ children_in row.now }
 {
@@ -43,7 +43,7 @@ pub fn children_of(row: &Row) -> &[Child]
     }
 }
 
-/// Whether the path of a child is that of its directory with its name.
+/// Returns whether the path of a child is the path of its directory followed by its name.
 fn is_child_path(directory: &[u8], child: &Child, path: &[u8]) -> bool
     ensures is { result ≡ true → path.now ≡ path_in directory.now child.now.name }
     ensures other { result ≡ false → path.now ≢ path_in directory.now child.now.name }
@@ -75,7 +75,7 @@ fn mark(linked: &mut [bool], at: usize)
     linked[at] = true;
 }
 
-/// The path of the directory of a number.
+/// Returns the path of the directory with a number.
 fn path_at(rows: &[Ended<Row>], at: usize) -> &[u8]
     requires { at < length rows.now }
     ensures { IsPathAt rows.now at result.now }
@@ -155,7 +155,7 @@ fn link_all(alloc: Global, rows: &[Ended<Row>]) -> Result<Vec<bool>, TreeFault>
     Ok(linked)
 }
 
-/// Checks that the rows make a tree; the fault has a number at which they do not.
+/// Checks that the rows make a tree. The error `Torn` has a number at which they do not.
 pub fn check_tree(alloc: Global, rows: &[Ended<Row>]) -> Result<(), TreeFault>
     requires few { length rows.now ≤ 2 ^ 32 }
     ensures placed { IfOk result (λ _. (k : ℕ) → IsPlaced rows.now k) }

@@ -1,4 +1,4 @@
-//! The key of a row of the tally, and what decides the order of keys.
+//! The key of a row of the tally, and the order of keys.
 ghost use Rattle.std.specs.Prelude.{◌≡◌, ◌<◌};
 ghost use Rattle.lc_walk.specs.Key.{text_place, eol_place};
 
@@ -6,12 +6,12 @@ use lc_census::Eol;
 use lc_rules::TextState;
 use std::marker::Model;
 
-/// The key of a row, which lends its extension.
+/// The key of a row, with a borrowed extension.
 #[derive(Drop)]
 pub struct KeyRef<'a> {
     /// The extension of the files' names, or none.
     pub extension: Option<&'a [u8]>,
-    /// What the attribute `text` is for the files.
+    /// The state of the attribute `text` of the files.
     pub text: TextState,
     /// How the files' lines end.
     pub eol: Eol,
@@ -26,7 +26,7 @@ impl<'a> Model for KeyRef<'a> {
     ghost view = { λ a. record { extension = option_map (λ s. s.now) a.extension; text = a.text; eol = a.eol } };
 }
 
-/// The place of a text state in the order of keys.
+/// Returns the place of a text state in the order of keys.
 pub(crate) fn text_rank(text: TextState) -> u8
     ensures value { result ≡ text_place text }
     ensures small { result < 8 }
@@ -40,7 +40,7 @@ pub(crate) fn text_rank(text: TextState) -> u8
     }
 }
 
-/// The place of a class of line ends in the order of keys.
+/// Returns the place of a class of line ends in the order of keys.
 pub(crate) fn eol_rank(eol: Eol) -> u8
     ensures value { result ≡ eol_place eol }
     ensures small { result < 8 }

@@ -14,18 +14,17 @@ use crate::tally::tally_row::TallyRow;
 use std::alloc::{AllocError, Global};
 use std::marker::Model;
 
-// So few rows are not worth a sort.
+// Up to this number of rows, a sort is not worth its cost.
 const FEW: usize = 64;
 
-/// Rows that are found by their keys. A gain costs on average what one row of a sort costs.
+/// Rows that are found by their keys. Adding files costs on average what one row of a sort costs.
 ///
-/// It looks for the key where the key's hint points, and then among the sorted rows in front. If neither has the key, it
-/// pushes a row, so several of the unsorted rows may have one key. Once more than half of the rows are unsorted, it sorts
-/// them all and makes one row of those of each key.
+/// A search tries the key's hint first, and then the sorted rows in front. If neither has the key, a row is pushed, so several of the
+/// unsorted rows may have one key. Once more than half of the rows are unsorted, all are sorted, and the rows of each key become one.
 #[derive(Drop)]
 pub(crate) struct KeyedRows {
     rows: Vec<TallyRow>,
-    // How many rows in front are in order of their keys, each key once.
+    // The number of rows in front that are in the order of their keys, each key once.
     sorted: usize,
     hints: RowHints,
 }
@@ -74,7 +73,7 @@ impl KeyedRows {
         }
     }
 
-    /// Adds the rows of another tally, which keep their extensions' memory.
+    /// Adds the rows of another tally. Their extensions keep their memory.
     pub(crate) fn append(&mut self, other: KeyedRows) -> Result<(), AllocError>
         requires { IsInRange (sums_of_rows (self.old ++ other)) }
         ensures { OnOk result (HasSumsOf (self.old ++ other) self.new) }
@@ -85,7 +84,7 @@ impl KeyedRows {
         Ok(())
     }
 
-    /// The rows in order of their keys, each key once.
+    /// Returns the rows in the order of their keys, each key once.
     pub(crate) fn into_sorted(self) -> Vec<TallyRow>
         requires { IsInRange (sums_of_rows self) }
         ensures { AddsUp self result.items }
@@ -95,7 +94,7 @@ impl KeyedRows {
         rows
     }
 
-    /// Copies of the rows in order of their keys, each key once.
+    /// Returns copies of the rows in the order of their keys, each key once.
     pub(crate) fn to_sorted(&self) -> Result<Vec<TallyRow>, AllocError>
         requires { IsInRange (sums_of_rows self.now) }
         ensures { IfOk result (λ rows. AddsUp self.now rows.items) }
@@ -143,7 +142,7 @@ impl KeyedRows {
         row.absorb(more);
     }
 
-    // Adds some files of a key that has a row. It takes no memory.
+    // Adds some files of a key that has a row. It allocates nothing.
     fn gain_known(&mut self, key: &KeyRef<'_>, more: Sums) -> Result<(), AllocError>
         requires room { IsInRange (plus (sums_of_rows self.old) more) }
         ensures gains { OnOk result (Gains self.old self.new key.now more) }
@@ -192,7 +191,7 @@ fn copies_of(rows: &Vec<TallyRow>) -> Result<Vec<TallyRow>, AllocError>
     Ok(copies)
 }
 
-// Sorts the rows, and makes one row of those of each key.
+// Sorts the rows, and joins the rows of each key into one.
 pub(crate) fn add_up(rows: &mut Vec<TallyRow>)
     requires { IsInRange (sums_of_rows rows.old.items) }
     ensures { AddsUp rows.old.items rows.new.items }

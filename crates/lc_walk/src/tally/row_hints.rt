@@ -1,9 +1,9 @@
-//! Where the rows of some keys stood last. A hint may be stale: it is tried, and never believed.
+//! The last known places of the rows of some keys. A hint may be stale, so it is always checked.
 ghost use Rattle.std.specs.Prelude.{◌<◌};
 
 use crate::tally::key::{KeyRef, eol_rank, text_rank};
 
-/// A row's index for each slot. Keys of one slot share it, and the last index that was noted stays.
+/// An index of a row for each slot. Keys with the same slot share it, and the index noted last is kept.
 #[derive(Drop)]
 pub(crate) struct RowHints {
     rows: [u16; 512],
@@ -27,7 +27,7 @@ impl RowHints {
     }
 }
 
-/// The slot of a key: the upper bits of a product that spreads its parts.
+/// Returns the slot of a key: the upper bits of a product that spreads its parts.
 pub(crate) fn slot_of(key: &KeyRef<'_>) -> usize
     ensures { result < 512 }
 {
@@ -36,7 +36,7 @@ pub(crate) fn slot_of(key: &KeyRef<'_>) -> usize
     (mixed >> 55) as usize
 }
 
-// The length of the extension, and its first and last bytes.
+// Packs the length of the extension, and its first and last bytes.
 fn tag(extension: Option<&[u8]>) -> u64
     ensures { result < 16_777_216 }
 {

@@ -7,7 +7,7 @@ use crate::tally::keyed_rows::add_up;
 use crate::tally::sums::Sums;
 use crate::tally::tally_row::TallyRow;
 
-/// The sums over all rows, if each fits its type.
+/// Returns the sums over all rows, if each fits its type.
 fn sums_of_rows(rows: &[TallyRow]) -> Option<Sums>
     ensures { MatchOption result (IsInRange (sums_of_rows rows.now) → ⊥) (λ sums. sums ≡ sums_of_rows rows.now) }
 {
@@ -20,7 +20,7 @@ fn sums_of_rows(rows: &[TallyRow]) -> Option<Sums>
     Some(sums)
 }
 
-/// Makes one row of those of each key, in order of the keys, if the sums over all rows fit their types. It takes no memory.
+/// Joins the rows of each key into one, in the order of keys, if the sums over all rows fit their types. It allocates nothing.
 ///
 /// ```
 /// let rows = added_up(rows)?;

@@ -4,7 +4,7 @@ ghost use Rattle.lc_walk.specs.Sums.{plus, one_file, no_files, IsInRange, IsMode
 
 use lc_census::Count;
 
-/// The sums over some counted files. Those of fewer than 2^63 files never overflow.
+/// The sums over some counted files. The sums over fewer than 2^63 files never overflow.
 #[derive(Clone, Copy, Debug, Drop, PartialEq, Eq)]
 pub struct Sums {
     /// The number of files.
@@ -18,7 +18,7 @@ pub struct Sums {
 }
 
 impl Sums {
-    /// The sums over no files.
+    /// Returns the sums over no files.
     pub fn none() -> Sums
         ensures { result ≡ no_files }
     {
@@ -30,7 +30,7 @@ impl Sums {
         }
     }
 
-    /// The sums over one file.
+    /// Returns the sums over one file.
     pub(crate) fn one(count: Count) -> Sums
         ensures { result ≡ one_file count }
     {
@@ -42,7 +42,7 @@ impl Sums {
         }
     }
 
-    /// Whether at most 2^63 files can have these sums, if each has fewer than 2^64 bytes.
+    /// Returns whether at most 2^63 files can have these sums, if each has fewer than 2^64 bytes.
     pub(crate) fn is_modest(&self) -> bool
         ensures { result ≡ true → IsModest self.now }
     {
@@ -50,7 +50,7 @@ impl Sums {
         self.files <= 1 << 63 && self.lines <= most && self.blank <= most && self.bytes <= most
     }
 
-    /// The sums over the files of both, where each fits its type.
+    /// Returns the sums over the files of both, if each fits its type.
     ///
     /// ```
     /// let both = one.checked_add(other)?;
@@ -66,7 +66,7 @@ impl Sums {
         })
     }
 
-    /// The sums over the files of both, which fit their types.
+    /// Returns the sums over the files of both, which must fit their types.
     pub(crate) fn add(self, more: Sums) -> Sums
         requires { IsInRange (plus self more) }
         ensures { result ≡ plus self more }

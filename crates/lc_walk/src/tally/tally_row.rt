@@ -18,9 +18,9 @@ use std::marker::Model;
 /// The sums over the files that have one extension, one text state and one class of line ends.
 #[derive(Debug, Drop)]
 pub struct TallyRow {
-    /// The bytes after the last dot of the files' names, which `extension` gives, or none.
+    /// The bytes after the last dot of the files' names, as `extension` returns them, or none.
     pub ext: Option<Vec<u8>>,
-    /// What the attribute `text` is for the files.
+    /// The state of the attribute `text` of the files.
     pub text: TextState,
     /// How the files' lines end.
     pub eol: Eol,
@@ -61,7 +61,7 @@ impl TallyRow {
         })
     }
 
-    /// The sums over the row's files.
+    /// Returns the sums over the row's files.
     pub fn sums(&self) -> Sums
         ensures { result ≡ self.now.sums }
     {
@@ -73,7 +73,7 @@ impl TallyRow {
         }
     }
 
-    /// The key of the row.
+    /// Returns the key of the row.
     pub fn key(&self) -> KeyRef<'_>
         ensures { result ≡ self.now.key }
     {
@@ -101,7 +101,7 @@ impl TallyRow {
             .then(eol_rank(self.eol).cmp(&eol_rank(key.eol)))
     }
 
-    /// Adds to the row's sums. No sums of a tally are too large to be added.
+    /// Adds to the row's sums. The sums of a tally are never too large to be added.
     pub(crate) fn absorb(&mut self, more: Sums)
         ensures key { self.new.key ≡ self.old.key }
         ensures sums { IsInRange (plus self.old.sums more) → self.new.sums ≡ plus self.old.sums more }

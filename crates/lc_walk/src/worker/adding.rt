@@ -17,7 +17,7 @@ fn add_file(tally: &mut Tally, file: &FileLine) -> Result<(), AllocError>
     tally.add(extension(&file.path), file.text, file.count)
 }
 
-/// Adds files to the tally. After a refusal it stands for nothing.
+/// Adds files to the tally. If an allocation fails, the tally represents nothing.
 pub(crate) fn add_files(tally: &mut Tally, files: &[FileLine]) -> Result<(), AllocError>
     ensures { AddsFiles (map tallied files.now) tally.old tally.new result }
 {

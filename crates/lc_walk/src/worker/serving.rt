@@ -1,4 +1,4 @@
-//! What a worker does with a directory that it has claimed.
+//! Serving a directory that a worker has claimed.
 ghost use Rattle.std.specs.Prelude.{◌≡◌, [], if◌then◌else◌};
 ghost use Rattle.lc_board.specs.Pass.{after_give};
 ghost use Rattle.lc_level.specs.Opens.{IsOpened};
@@ -43,7 +43,7 @@ impl<B: Shared<Job, Row>, T: Tree, W: Threads + Wait + Sync> Worker<'_, '_, B, T
         }
     }
 
-    /// The counted files of a directory, where the report is to have them.
+    /// Returns the counted files of a directory if the report lists them, and none otherwise.
     fn if_asked(&self, files: Vec<FileLine>) -> Vec<FileLine>
         ensures { result.items ≡ (if self.now.options.now.lists.files then files.items else []) }
     {
@@ -54,7 +54,7 @@ impl<B: Shared<Job, Row>, T: Tree, W: Threads + Wait + Sync> Worker<'_, '_, B, T
     }
 
     /// Serves the claim of a directory that was opened. It posts the child directories before it counts the files, so that other workers
-    /// need not wait for these.
+    /// need not wait for the count.
     fn serve_opened(
         &self,
         pass: &mut B::Pass,
@@ -111,7 +111,7 @@ impl<B: Shared<Job, Row>, T: Tree, W: Threads + Wait + Sync> Worker<'_, '_, B, T
         }
     }
 
-    /// Serves the claim of a directory, up to its end. It returns `Err` where memory was refused; the row says so too.
+    /// Serves the claim of a directory, up to its end. It returns `Err` if an allocation failed, which the row says too.
     fn serve(
         &self,
         pass: &mut B::Pass,
@@ -144,8 +144,8 @@ impl<B: Shared<Job, Row>, T: Tree, W: Threads + Wait + Sync> Worker<'_, '_, B, T
         }
     }
 
-    /// Serves the claim of a directory. Once memory was refused there is no tally, and every further directory is broken off, as
-    /// there is no report without memory.
+    /// Serves the claim of a directory. Once an allocation has failed there is no tally, and every further directory ends with a Broken
+    /// row, as there is no report without memory.
     pub(crate) fn serve_or_break_off(
         &self,
         pass: &mut B::Pass,
