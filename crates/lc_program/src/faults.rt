@@ -2,7 +2,8 @@
 
 ghost use Rattle.std.specs.Prelude.{◌≡◌, ◌++◌, map, string_bytes, IfOk, OnOk};
 ghost use Rattle.lc_level.specs.FaultLines.{FaultLineModel};
-ghost use Rattle.lc_program.specs.Faults.{AreFaultLines, AreTopLines, IsTopLine, TellsFaults, each_line, fault_rows, has_path, inside, is_inside};
+ghost use Rattle.lc_program.specs.Faults.{AreFaultLines, AreTopLines, IsTopLine, TellsFaults, each_line, fault_rows, has_path};
+ghost use Rattle.lc_program.specs.Faults.{inside, is_inside};
 ghost use Rattle.lc_program.specs.Faults.{lines_by, lines_if, number_line, number_text, top_path, unread_line};
 
 use crate::system::System;

@@ -74,7 +74,8 @@ fn part_text(
     options: ReportOptions<'_>,
 ) -> Result<Vec<u8>, AllocError>
     requires files { HasFilesFor options.table report.now.lists }
-    ensures { IfOk result (λ text. IsPrinted options.entry.counted.now options.entry.conditions.now options.entry.table report.old text.items report.new) }
+    ensures { IfOk result (λ text. IsPrinted options.entry.counted.now options.entry.conditions.now options.entry.table report.old
+        text.items report.new) }
 {
     keep(alloc, options.conditions, report)?;
     let text = report_text(alloc, options.counted, report, options.table)?;
@@ -91,8 +92,8 @@ pub fn table<O: Sink>(
     out: &mut O,
 ) -> Result<(), PrintFault>
     requires files { HasFilesFor options.table report.now.lists }
-    ensures { AnswersTable O.may_take options.entry.counted.now options.entry.conditions.now options.entry.table report.old report.new out.old
-        result out.new }
+    ensures { AnswersTable O.may_take options.entry.counted.now options.entry.conditions.now options.entry.table report.old report.new
+        out.old result out.new }
 {
     let text = part_text(alloc, report, options)?;
     print(out, &text)?;
