@@ -4,7 +4,7 @@
 function __lc_command_is
     set -l words (commandline -opc) (commandline -ct)
     switch "$words[2]"
-        case count explain check help
+        case count sum explain check help
             test (count (commandline -opc)) -gt 1; and contains -- $words[2] $argv
         case '-*' . .. '*/*'
             contains -- count $argv
@@ -23,6 +23,7 @@ end
 
 complete -c lc -f
 complete -c lc -n __fish_use_subcommand -a count -d 'Count files, lines and bytes of a directory'
+complete -c lc -n __fish_use_subcommand -a sum -d 'Add reports'
 complete -c lc -n __fish_use_subcommand -a explain -d 'Show which rule skips or keeps a path'
 complete -c lc -n __fish_use_subcommand -a check -d 'Match paths against the rules of one file'
 complete -c lc -n __fish_use_subcommand -a help -d 'Print help'
@@ -39,17 +40,17 @@ complete -c lc -n '__lc_command_is count' -l only -r -F -d 'Count only what is a
 complete -c lc -n '__lc_command_is count' -l only-from -r -F -d 'Count only the paths that FILE lists'
 complete -c lc -n '__lc_command_is count' -l null -s 0 -d 'Paths that are read end with NUL'
 complete -c lc -n '__lc_command_is count' -l one-file-system -s x -d 'Skip directories on other file systems'
-complete -c lc -n '__lc_command_is count' -l files -d 'Also print a line for each counted file'
-complete -c lc -n '__lc_command_is count' -l left-out -d 'Also print each skipped entry, and why'
-complete -c lc -n '__lc_command_is count' -l where -x -d 'Show only files that meet a condition'
-complete -c lc -n '__lc_command_is count' -l no-binary -d 'Show only files without a NUL byte'
-complete -c lc -n '__lc_command_is count' -l format -x -a "tsv\t'Fields between tabs' table\t'Columns for reading' json\t'One object' csv\t'Records of one kind' markdown\t'Tables for a page' html\t'A picture for a browser'" -d 'How to print'
-complete -c lc -n '__lc_command_is count' -l by -x -a '(__lc_columns dir ext text eol)' -d 'Sum rows by these columns'
-complete -c lc -n '__lc_command_is count' -l depth -x -a '1 2 3' -d 'Cut the directories of --by dir to so many segments'
-complete -c lc -n '__lc_command_is count' -l sort -x -a "name\t'By name' files\t'Most files first' lines\t'Most lines first' blank\t'Most blank lines first' bytes\t'Most bytes first'" -d 'Sort rows and files, largest first, or by name'
-complete -c lc -n '__lc_command_is count' -l top -x -a '10 20 50' -d 'Print only the first rows and files'
-complete -c lc -n '__lc_command_is count' -l share -d 'Also print the share of each row in the total'
-complete -c lc -n '__lc_command_is count' -l fail-if-any -d 'Exit with status 4 if a file is counted'
+complete -c lc -n '__lc_command_is count sum' -l files -d 'Also print a line for each counted file'
+complete -c lc -n '__lc_command_is count sum' -l left-out -d 'Also print each skipped entry, and why'
+complete -c lc -n '__lc_command_is count sum' -l where -x -d 'Show only files that meet a condition'
+complete -c lc -n '__lc_command_is count sum' -l no-binary -d 'Show only files without a NUL byte'
+complete -c lc -n '__lc_command_is count sum' -l format -x -a "tsv\t'Fields between tabs' table\t'Columns for reading' json\t'One object' csv\t'Records of one kind' markdown\t'Tables for a page' html\t'A picture for a browser'" -d 'How to print'
+complete -c lc -n '__lc_command_is count sum' -l by -x -a '(__lc_columns dir ext text eol)' -d 'Sum rows by these columns'
+complete -c lc -n '__lc_command_is count sum' -l depth -x -a '1 2 3' -d 'Cut the directories of --by dir to so many segments'
+complete -c lc -n '__lc_command_is count sum' -l sort -x -a "name\t'By name' files\t'Most files first' lines\t'Most lines first' blank\t'Most blank lines first' bytes\t'Most bytes first'" -d 'Sort rows and files, largest first, or by name'
+complete -c lc -n '__lc_command_is count sum' -l top -x -a '10 20 50' -d 'Print only the first rows and files'
+complete -c lc -n '__lc_command_is count sum' -l share -d 'Also print the share of each row in the total'
+complete -c lc -n '__lc_command_is count sum' -l fail-if-any -d 'Exit with status 4 if a file is counted'
 complete -c lc -n '__lc_command_is count' -l threads -s j -x -a '1 2 4 8 16' -d 'Number of threads, 1 to 16'
 complete -c lc -n '__lc_command_is count' -l max-dirs -x -a '65536 1048576' -d 'Limit of directories, 1 to 1048576'
 complete -c lc -n '__lc_command_is check' -l explain -d 'Also print the rule that decides'
@@ -58,4 +59,5 @@ complete -c lc -n '__lc_command_is explain check' -l null -s 0 -d 'Paths that ar
 complete -c lc -n '__lc_command_is count' -a '(__fish_complete_directories)'
 complete -c lc -n '__lc_command_is explain' -F
 complete -c lc -n '__lc_command_is check' -F
-complete -c lc -n '__lc_command_is help' -a 'count explain check'
+complete -c lc -n '__lc_command_is sum' -F
+complete -c lc -n '__lc_command_is help' -a 'count sum explain check'

@@ -7,6 +7,7 @@ pub mod Explained
 pub mod Options
 pub mod Refusals
 pub mod Repeated
+pub mod Reports
 pub mod TableWords
 pub mod Words
 pub mod Naming

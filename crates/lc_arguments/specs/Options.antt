@@ -5,7 +5,7 @@ use Rattle.lc_arguments.specs.declared.option_row.Kind.{Kind}
 use Rattle.lc_arguments.specs.declared.option_row.Kind.TheVariants.{Flag, Text, Texts, Number, Word, Words}
 use Rattle.lc_arguments.specs.declared.option_row.OptionRow.{OptionRow}
 use Rattle.lc_arguments.specs.declared.option_row.Subcommand.{Subcommand}
-use Rattle.lc_arguments.specs.declared.option_row.Subcommand.TheVariants.{Count, Explain, Check}
+use Rattle.lc_arguments.specs.declared.option_row.Subcommand.TheVariants.{Count, Explain, Check, Sum}
 
 -- an argument: its name, its letter, its kind, its default, and the commands that have it
 pub record OptionModel : Type 0 where
@@ -30,23 +30,31 @@ abbrev pub is_of : Subcommand → Commands → Bool
 is_of Count commands = commands.count
 is_of Explain commands = commands.explain
 is_of Check commands = commands.check
+is_of Sum commands = commands.sum
 
 abbrev pub count : Commands
-count = record { count = true; explain = false; check = false }
+count = record { count = true; explain = false; check = false; sum = false }
 
 abbrev pub explain : Commands
-explain = record { count = false; explain = true; check = false }
+explain = record { count = false; explain = true; check = false; sum = false }
 
 abbrev pub check : Commands
-check = record { count = false; explain = false; check = true }
+check = record { count = false; explain = false; check = true; sum = false }
+
+abbrev pub sum : Commands
+sum = record { count = false; explain = false; check = false; sum = true }
 
 -- the commands that skip entries
 abbrev pub filters : Commands
-filters = record { count = true; explain = true; check = false }
+filters = record { count = true; explain = true; check = false; sum = false }
 
 -- the commands that read paths from standard input
 abbrev pub input : Commands
-input = record { count = false; explain = true; check = true }
+input = record { count = false; explain = true; check = true; sum = false }
+
+-- the commands that print reports
+abbrev pub printed : Commands
+printed = record { count = true; explain = false; check = false; sum = true }
 
 -- the most rows and files that are asked for
 abbrev pub max_top : ℕ
@@ -79,20 +87,21 @@ options =
     ∷ option (codes "only-from") None Text None count
     ∷ option (codes "null") (Some 48) Flag None count
     ∷ option (codes "one-file-system") (Some 120) Flag None count
-    ∷ option (codes "files") None Flag None count
-    ∷ option (codes "left-out") None Flag None count
-    ∷ option (codes "where") None Texts None count
-    ∷ option (codes "no-binary") None Flag None count
-    ∷ option (codes "format") None Text None count
-    ∷ option (codes "by") None Text None count
-    ∷ option (codes "depth") None (Number max_depth) None count
-    ∷ option (codes "sort") None Text None count
-    ∷ option (codes "top") None (Number max_top) None count
-    ∷ option (codes "share") None Flag None count
-    ∷ option (codes "fail-if-any") None Flag None count
+    ∷ option (codes "files") None Flag None printed
+    ∷ option (codes "left-out") None Flag None printed
+    ∷ option (codes "where") None Texts None printed
+    ∷ option (codes "no-binary") None Flag None printed
+    ∷ option (codes "format") None Text None printed
+    ∷ option (codes "by") None Text None printed
+    ∷ option (codes "depth") None (Number max_depth) None printed
+    ∷ option (codes "sort") None Text None printed
+    ∷ option (codes "top") None (Number max_top) None printed
+    ∷ option (codes "share") None Flag None printed
+    ∷ option (codes "fail-if-any") None Flag None printed
     ∷ option (codes "threads") (Some 106) (Number max_threads) (Some (codes "4")) count
     ∷ option (codes "max-dirs") None (Number max_dirs) (Some (codes "65536")) count
     ∷ option (codes "DIR") None Words (Some (codes ".")) count
+    ∷ option (codes "REPORT") None Words (Some (codes "-")) sum
     ∷ option (codes "explain") None Flag None check
     ∷ option (codes "null") (Some 48) Flag None input
     ∷ option (codes "DIR") None Word None explain

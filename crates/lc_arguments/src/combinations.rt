@@ -1,10 +1,11 @@
-//! Options of a count that do not go together.
+//! Options that do not go together.
 
 ghost use Rattle.std.specs.Prelude.{◌≡◌, is_some, not};
-ghost use Rattle.lc_arguments.specs.Combinations.{asks_for_paths, asks_for_rows, fit_together, is_by_name, shows_shares};
+ghost use Rattle.lc_arguments.specs.Combinations.{asks_for_paths, asks_for_rows, fit_together, is_by_name, narrows, shows_shares, table_fits};
 
 use crate::count::CountRequest;
-use lc_sheet::{Format, Order};
+use crate::table::TableRequest;
+use lc_sheet::{Columns, Format, Order};
 
 /// Returns whether rows have shares in the named format, or in the table that shares make where none is named.
 fn shows_shares(format: Option<Format>) -> bool
@@ -20,17 +21,43 @@ fn is_by_name(order: Option<Order>) -> bool
     matches!(order, Some(Order::Name))
 }
 
-/// Returns whether rows are asked for that are not all of a report's, or lists.
-fn asks_for_rows(request: &CountRequest<'_>) -> bool
-    ensures { result ≡ asks_for_rows request.now }
+/// Returns whether columns are named that are not all of a report's.
+fn narrows(by: Option<Columns>) -> bool
+    ensures { result ≡ narrows by }
 {
-    let table = &request.table;
-    let by = table.by;
-    table.files
-        || request.left_out
-        || table.top.is_some()
-        || by.dir.is_some()
-        || !(by.ext && by.text && by.eol)
+    match by {
+        None => false,
+        Some(by) => by.dir.is_some() || !(by.ext && by.text && by.eol),
+    }
+}
+
+/// Returns whether rows are asked for that are not all of a report's, or lists.
+fn asks_for_rows(table: TableRequest, left_out: bool) -> bool
+    ensures { result ≡ asks_for_rows table left_out }
+{
+    table.files || left_out || table.top.is_some() || narrows(table.by)
+}
+
+/// Finds out why the options of a table do not go together. `left_out` is whether skipped entries are listed.
+pub(crate) fn table_misfit(table: TableRequest, left_out: bool) -> Option<&'static str>
+    ensures { is_some result ≡ not (table_fits table left_out) }
+{
+    let format = table.format;
+    if table.share && !shows_shares(format) {
+        return Some("'--share' needs '--format table' or '--format markdown'");
+    }
+    if table.files && left_out && matches!(format, Some(Format::Csv)) {
+        return Some("'--format csv' prints records of one kind: '--files' or '--left-out'");
+    }
+    if matches!(format, Some(Format::Html)) && asks_for_rows(table, left_out) {
+        return Some(
+            "'--format html' draws a tree: no '--files', '--left-out', '--by <COLUMNS>' or '--top <N>'",
+        );
+    }
+    if matches!(format, Some(Format::Html)) && is_by_name(table.sort) {
+        return Some("'--format html' draws the column of '--sort': files, lines, blank or bytes");
+    }
+    None
 }
 
 /// Returns whether paths are asked for, each relative to one directory.
@@ -44,20 +71,8 @@ fn asks_for_paths(request: &CountRequest<'_>) -> bool
 pub(crate) fn misfit(request: &CountRequest<'_>) -> Option<&'static str>
     ensures { is_some result ≡ not (fit_together request.now) }
 {
-    let format = request.table.format;
-    if request.table.share && !shows_shares(format) {
-        return Some("'--share' needs '--format table' or '--format markdown'");
-    }
-    if request.table.files && request.left_out && matches!(format, Some(Format::Csv)) {
-        return Some("'--format csv' prints records of one kind: '--files' or '--left-out'");
-    }
-    if matches!(format, Some(Format::Html)) && asks_for_rows(request) {
-        return Some(
-            "'--format html' draws a tree: no '--files', '--left-out', '--by <COLUMNS>' or '--top <N>'",
-        );
-    }
-    if matches!(format, Some(Format::Html)) && is_by_name(request.table.sort) {
-        return Some("'--format html' draws the column of '--sort': files, lines, blank or bytes");
+    if let Some(why) = table_misfit(request.table, request.left_out) {
+        return Some(why);
     }
     if request.null && request.only_from.is_none() {
         return Some("'--null' needs '--only-from <FILE>'");

@@ -86,7 +86,7 @@ fn request_in<'w>(
     let filters = FilterRequest::read(alloc, matches)?;
     let only = paths_in(alloc, matches)?;
     let directories = directories_in(alloc, matches)?;
-    let table = table_in(alloc, matches, numbers.depth)?;
+    let table = table_in(alloc, matches, numbers.cuts)?;
     let conditions = conditions_in(alloc, matches)?;
     Ok(CountRequest {
         threads: numbers.threads,
@@ -97,12 +97,7 @@ fn request_in<'w>(
         only_from: matches.get_str("only-from"),
         null: matches.get_flag("null"),
         one_file_system: matches.get_flag("one-file-system"),
-        table: TableRequest {
-            top: numbers.top,
-            files: matches.get_flag("files"),
-            share: matches.get_flag("share"),
-            ..table
-        },
+        table,
         conditions,
         fail_if_any: matches.get_flag("fail-if-any"),
         directories,

@@ -2,8 +2,9 @@
 //!
 //! - `request`: what the program is asked to do, or why it does nothing; arguments without a command
 //! - `first_word`: what the first argument asks for
-//! - `count`, `check`, `explain`: the options of each command; `table`: those of the table; `paths`: those of `--only`; `directories`: DIR
-//! - `numbers`: the numbers of a count; `combinations`: options that do not go together
+//! - `count`, `sum`, `check`, `explain`: the options of each command; `table`: those of the table; `paths`: those of `--only`; `directories`: DIR;
+//!   `reports`: REPORT
+//! - `numbers`: the numbers of a count and of a table; `combinations`: options that do not go together
 //! - `filter_request`: which entries counts and explanations skip; `repeated`: options that may be given several times
 //! - `conditions`: which files are shown; `condition_text`: a condition, as it is typed
 //! - `options_table`: the table of options; `option_row`: what a row of it says; `arguments`: clap's arguments, made of the rows
@@ -35,8 +36,10 @@ mod options_table;
 mod paths;
 mod refusals;
 mod repeated;
+mod reports;
 mod request;
 mod suggestions;
+mod sum;
 mod table;
 
 pub use check::CheckRequest;
@@ -49,5 +52,7 @@ pub use limits::{MAX_DIRS, MAX_THREADS};
 pub use option_row::{Commands, Completes, Kind, OptionRow};
 pub use options_table::options;
 pub use repeated::lines_text;
+pub use reports::NamedReport;
 pub use request::{ParseExit, Request};
+pub use sum::SumRequest;
 pub use table::TableRequest;

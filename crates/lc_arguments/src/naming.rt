@@ -199,6 +199,9 @@ fn named_by(word: &str) -> Option<Subcommand>
     if word == "explain" {
         return Some(Subcommand::Explain);
     }
+    if word == "sum" {
+        return Some(Subcommand::Sum);
+    }
     None
 }
 

@@ -12,6 +12,8 @@ pub(crate) enum Subcommand {
     Explain,
     /// `lc check`
     Check,
+    /// `lc sum`
+    Sum,
 }
 
 /// The commands that have an argument.
@@ -23,6 +25,8 @@ pub struct Commands {
     pub explain: bool,
     /// `lc check` has it.
     pub check: bool,
+    /// `lc sum` has it.
+    pub sum: bool,
 }
 
 impl Commands {
@@ -34,6 +38,7 @@ impl Commands {
             Subcommand::Count => self.count,
             Subcommand::Explain => self.explain,
             Subcommand::Check => self.check,
+            Subcommand::Sum => self.sum,
         }
     }
 }
@@ -43,6 +48,7 @@ pub(crate) const COUNT: Commands = Commands {
     count: true,
     explain: false,
     check: false,
+    sum: false,
 };
 
 /// `lc explain` alone.
@@ -50,6 +56,7 @@ pub(crate) const EXPLAIN: Commands = Commands {
     count: false,
     explain: true,
     check: false,
+    sum: false,
 };
 
 /// `lc check` alone.
@@ -57,6 +64,15 @@ pub(crate) const CHECK: Commands = Commands {
     count: false,
     explain: false,
     check: true,
+    sum: false,
+};
+
+/// `lc sum` alone.
+pub(crate) const SUM: Commands = Commands {
+    count: false,
+    explain: false,
+    check: false,
+    sum: true,
 };
 
 /// The commands that skip entries.
@@ -64,6 +80,7 @@ pub(crate) const FILTERS: Commands = Commands {
     count: true,
     explain: true,
     check: false,
+    sum: false,
 };
 
 /// The commands that read paths from standard input.
@@ -71,6 +88,15 @@ pub(crate) const INPUT: Commands = Commands {
     count: false,
     explain: true,
     check: true,
+    sum: false,
+};
+
+/// The commands that print reports.
+pub(crate) const PRINTED: Commands = Commands {
+    count: true,
+    explain: false,
+    check: false,
+    sum: true,
 };
 
 /// The kind of an argument, and of its value.

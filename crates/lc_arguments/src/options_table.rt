@@ -6,7 +6,9 @@ ghost use Rattle.std.specs.Prelude.{◌≡◌, map};
 ghost use Rattle.lc_arguments.specs.Options.{option_model, options};
 
 use crate::limits::{MAX_DEPTH, MAX_DIRS, MAX_THREADS, MAX_TOP};
-use crate::option_row::{CHECK, Completes, EXPLAIN, FILTERS, FLAG, INPUT, Kind, OptionRow};
+use crate::option_row::{
+    CHECK, Completes, EXPLAIN, FILTERS, FLAG, INPUT, Kind, OptionRow, PRINTED, SUM,
+};
 
 /// The heading of the options that choose files.
 pub(crate) const WHICH_FILES: &str = "Which files";
@@ -127,6 +129,7 @@ const OPTIONS: &[OptionRow] = &[
     },
     OptionRow {
         name: "files",
+        of: PRINTED,
         heading: WHAT_IS_PRINTED,
         help: "Also print a line for each counted file",
         example: "lc count --files .",
@@ -134,6 +137,7 @@ const OPTIONS: &[OptionRow] = &[
     },
     OptionRow {
         name: "left-out",
+        of: PRINTED,
         heading: WHAT_IS_PRINTED,
         help: "Also print a line for each skipped entry, and why",
         brief: "Also print each skipped entry, and why",
@@ -144,6 +148,7 @@ const OPTIONS: &[OptionRow] = &[
         name: "where",
         value: "CONDITION",
         kind: Kind::Texts,
+        of: PRINTED,
         heading: WHAT_IS_PRINTED,
         help: "Show only files that meet CONDITION, such as 'lines>1000'",
         brief: "Show only files that meet a condition",
@@ -152,6 +157,7 @@ const OPTIONS: &[OptionRow] = &[
     },
     OptionRow {
         name: "no-binary",
+        of: PRINTED,
         heading: WHAT_IS_PRINTED,
         help: "Show only files without a NUL byte",
         example: "lc count --no-binary .",
@@ -161,6 +167,7 @@ const OPTIONS: &[OptionRow] = &[
         name: "format",
         value: "FORMAT",
         kind: Kind::Text,
+        of: PRINTED,
         heading: WHAT_IS_PRINTED,
         help: "tsv, table, json, csv, markdown or html",
         brief: "How to print",
@@ -179,6 +186,7 @@ const OPTIONS: &[OptionRow] = &[
         name: "by",
         value: "COLUMNS",
         kind: Kind::Text,
+        of: PRINTED,
         heading: WHAT_IS_PRINTED,
         help: "Sum rows by some of dir,ext,text,eol",
         brief: "Sum rows by these columns",
@@ -190,6 +198,7 @@ const OPTIONS: &[OptionRow] = &[
         name: "depth",
         value: "N",
         kind: Kind::Number(MAX_DEPTH),
+        of: PRINTED,
         heading: WHAT_IS_PRINTED,
         help: "Cut directories of --by dir to N segments [default: 1]",
         brief: "Cut the directories of --by dir to so many segments",
@@ -201,6 +210,7 @@ const OPTIONS: &[OptionRow] = &[
         name: "sort",
         value: "COLUMN",
         kind: Kind::Text,
+        of: PRINTED,
         heading: WHAT_IS_PRINTED,
         help: "Sort by files, lines, blank, bytes or name",
         brief: "Sort rows and files, largest first, or by name",
@@ -218,6 +228,7 @@ const OPTIONS: &[OptionRow] = &[
         name: "top",
         value: "N",
         kind: Kind::Number(MAX_TOP),
+        of: PRINTED,
         heading: WHAT_IS_PRINTED,
         help: "Print only the first N rows and files",
         brief: "Print only the first rows and files",
@@ -227,6 +238,7 @@ const OPTIONS: &[OptionRow] = &[
     },
     OptionRow {
         name: "share",
+        of: PRINTED,
         heading: WHAT_IS_PRINTED,
         help: "Show each row's share, in table and markdown",
         brief: "Also print the share of each row in the total",
@@ -235,6 +247,7 @@ const OPTIONS: &[OptionRow] = &[
     },
     OptionRow {
         name: "fail-if-any",
+        of: PRINTED,
         heading: WHAT_IS_PRINTED,
         help: "Exit with status 4 if a file is counted",
         example: "lc count --where 'lines>1000' --fail-if-any .",
@@ -268,6 +281,14 @@ const OPTIONS: &[OptionRow] = &[
         kind: Kind::Words,
         default: Some("."),
         help: "Directories to count; each may be a symbolic link",
+        ..FLAG
+    },
+    OptionRow {
+        name: "REPORT",
+        kind: Kind::Words,
+        default: Some("-"),
+        of: SUM,
+        help: "Output of lc count --format json, or NAME=REPORT",
         ..FLAG
     },
     OptionRow {

@@ -16,7 +16,8 @@ use crate::first_word::count_words;
 use crate::naming::{is_naming_error, is_text_of, with_words};
 use crate::refusals::{message, visible_words};
 use crate::suggestions::Advice;
-use crate::{arguments, check, count, explain, help, suggestions};
+use crate::sum::SumRequest;
+use crate::{arguments, check, count, explain, help, suggestions, sum};
 use clap::error::ErrorKind;
 use clap::{Command, Error};
 use std::alloc::{AllocError, Global};
@@ -33,6 +34,8 @@ pub enum Request<'w> {
     Count(CountRequest<'w>),
     /// Explain which rule of a directory decides each path, as `explain . a.log`.
     Explain(ExplainRequest<'w>),
+    /// Add reports, as `sum a.json b.json`.
+    Sum(SumRequest<'w>),
 }
 
 /// Why the program does none of this.
@@ -63,7 +66,8 @@ fn subcommands<'a>(alloc: Global) -> Result<Vec<Command<'a>>, AllocError>
     let count = count::command(alloc)?;
     let check = check::command(alloc)?;
     let explain = explain::command(alloc)?;
-    Ok(vec![in alloc; count, check, explain]?)
+    let sum = sum::command(alloc)?;
+    Ok(vec![in alloc; count, sum, check, explain]?)
 }
 
 /// Makes the clap command of the program, for help, the version, and arguments without a command.
@@ -176,6 +180,12 @@ fn read_words<'w, W: AsStr>(alloc: Global, words: &'w [W]) -> Result<Request<'w>
     if first.as_str() == "explain" {
         return match ExplainRequest::read(alloc, rest) {
             Ok(asked) => Ok(Request::Explain(asked)),
+            Err(no) => Err(no),
+        };
+    }
+    if first.as_str() == "sum" {
+        return match SumRequest::read(alloc, rest) {
+            Ok(asked) => Ok(Request::Sum(asked)),
             Err(no) => Err(no),
         };
     }

@@ -16,11 +16,15 @@ const EXPLAIN: &str = "lc explain . README.md";
 /// Checks paths by the ignore file that most repositories have.
 const CHECK: &str = "git ls-files | lc check .gitignore";
 
+/// Adds a report.
+const SUM: &str = "lc count --format json . | lc sum";
+
 /// The commands, each with a use of it.
 const COMMANDS: &[(&str, &str)] = &[
     ("count", COUNT),
     ("explain", EXPLAIN),
     ("check", CHECK),
+    ("sum", SUM),
     ("help", "lc --help"),
 ];
 
@@ -147,7 +151,7 @@ fn known_options(
         if row.of.has(command) && !row.heading.is_empty() {
             let meant = match command {
                 Subcommand::Count => row.example,
-                Subcommand::Explain | Subcommand::Check => other,
+                Subcommand::Explain | Subcommand::Check | Subcommand::Sum => other,
             };
             known.push((row.name, meant))?;
         }
@@ -278,4 +282,9 @@ pub(crate) fn explain<W: AsStr>(
 /// Finds the check that refused arguments of `lc check` may have meant. `problem` is what clap says is wrong.
 pub(crate) fn check(alloc: Global, problem: &str) -> Result<Advice, AllocError> {
     option_or(alloc, problem, Subcommand::Check, CHECK)
+}
+
+/// Finds the sum that refused arguments of `lc sum` may have meant. `problem` is what clap says is wrong.
+pub(crate) fn sum(alloc: Global, problem: &str) -> Result<Advice, AllocError> {
+    option_or(alloc, problem, Subcommand::Sum, SUM)
 }

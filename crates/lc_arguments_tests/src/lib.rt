@@ -5,3 +5,7 @@
 mod conditions;
 #[cfg(test)]
 mod requests;
+#[cfg(test)]
+mod sums;
+#[cfg(test)]
+mod texts;

@@ -28,6 +28,7 @@ fn push_commands(line: &mut String, commands: Commands) -> Result<(), AllocError
         (commands.count, "count"),
         (commands.explain, "explain"),
         (commands.check, "check"),
+        (commands.sum, "sum"),
     ] {
         if has {
             write!(line, "{before}{name}")?;

@@ -1,5 +1,5 @@
 use Rattle.std.proofs.Common.{map, rules, sym}
-use Rattle.lc_arguments.proofs.Misnaming.{no_count_of, no_explanation_of}
+use Rattle.lc_arguments.proofs.Misnaming.{no_count_of, no_explanation_of, no_sum_of}
 use Rattle.lc_arguments.proofs.request.read_words.Goals as goal
 
 pub returns-in-Err : goal.returns-in-Err
@@ -12,3 +12,9 @@ returns-in-Err-read-2 g c =
     no_explanation_of (map g.W.AsStr.text c.args.words.now) (map g.W.AsStr.text c.in-Some-split_first.rest.now) c.in-Err-read-2.no
     (search rules)
     c.in-Err-read-2.ensures
+
+pub returns-in-Err-read-3 : goal.returns-in-Err-read-3
+returns-in-Err-read-3 g c =
+    no_sum_of (map g.W.AsStr.text c.args.words.now) (map g.W.AsStr.text c.in-Some-split_first.rest.now) c.in-Err-read-3.no
+    (search rules)
+    c.in-Err-read-3.ensures
