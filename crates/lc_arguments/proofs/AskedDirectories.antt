@@ -1,5 +1,6 @@
 -- The directories that words ask for, and their paths without the slashes at their end.
-use Rattle.std.proofs.Common.{◌≡◌, ◌∙◌, ◌-◌, ◌&&◌, ℕ, Bool, true, false, List, [], ◌∷◌, length, map, take, drop, refl, ap, ap₂, sym, cond, eqb, arith}
+use Rattle.std.proofs.Common.{◌≡◌, ◌∙◌, ◌-◌, ◌&&◌, ℕ, Bool, true, false, List, [], ◌∷◌, length, map, take, drop, refl, ap, ap₂, sym, cond}
+use Rattle.std.proofs.Common.{eqb, arith}
 use Rattle.std.proofs.Math.Bool.{and-false, and-true}
 use Rattle.std.specs.Borrow.{Bor}
 use Rattle.std.specs.Cmp.Lexicographic.{pointwise}

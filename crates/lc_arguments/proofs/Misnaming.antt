@@ -1,5 +1,6 @@
 -- Words that ask for what there is not: values of options, tables, counts.
-use Rattle.std.proofs.Common.{◌≡◌, ◌∙◌, ◌<◌, ◌&&◌, ℕ, zero, suc, Bool, true, false, not, List, [], ◌∷◌, length, map, refl, ap, inl, inr, sym}
+use Rattle.std.proofs.Common.{◌≡◌, ◌∙◌, ◌<◌, ◌&&◌, ℕ, zero, suc, Bool, true, false, not, List, [], ◌∷◌, length, map, refl, ap, inl, inr}
+use Rattle.std.proofs.Common.{sym}
 use Rattle.std.proofs.Common.{subst, Result, Err, Option, arith}
 use Rattle.std.proofs.Math.Bool.{and-false}
 use Rattle.std.specs.Borrow.{Bor}
@@ -10,17 +11,22 @@ use Rattle.clap.specs.Faults.{fault_of}
 use Rattle.clap.specs.Simple.{App, matches_of}
 use Rattle.std.specs.Prelude.{Some, codes, option_map, unwrap_or}
 use Rattle.clap.specs.Walk.{Row}
-use Rattle.lc_arguments.specs.CommandLine.{count_app}
+use Rattle.lc_arguments.specs.CommandLine.{check_app, count_app}
 use Rattle.lc_arguments.specs.Explained.{AnswersCountIn, AnswersCountWords, AnswersExplainWords, AnswersSumIn, AnswersSumWords}
 use Rattle.lc_arguments.specs.Explained.{AnswersBy, AnswersTable, IsRefusal, IsRefusedFor, IsUnread}
 use Rattle.lc_arguments.specs.Repeated.{is_allowed}
-use Rattle.lc_arguments.specs.Words.{AreCutsIn, AreNumbersIn, AskNothing, AsksNoCount, AsksNoSum, IsNoRequestBy, MayRefuse, MayShow}
+use Rattle.lc_arguments.specs.Words.{AskNothing, AsksNoCount, AsksNoSum, IsNoRequestBy, MayRefuse, MayShow}
+use Rattle.lc_arguments.specs.ReadNumbers.{AreCutsIn, AreNumbersIn}
 use Rattle.lc_arguments.specs.Words.{count_words, faults_in, other_faults_in}
 use Rattle.lc_arguments.specs.declared.count.CountRequest.{CountRequest}
 use Rattle.lc_arguments.specs.declared.numbers.Cuts.{Cuts}
 use Rattle.lc_arguments.specs.declared.numbers.Numbers.{Numbers}
 use Rattle.lc_arguments.specs.declared.repeated.Repeated.{Repeated}
+use Rattle.lc_arguments.specs.declared.diff.DiffRequest.{DiffRequest}
 use Rattle.lc_arguments.specs.declared.sum.SumRequest.{SumRequest}
+use Rattle.lc_arguments.specs.declared.walk_request.WalkRequest.{WalkRequest}
+use Rattle.lc_arguments.specs.Explained.{AnswersDiffIn, AnswersDiffWords, AnswersWalkIn}
+use Rattle.lc_arguments.specs.Words.{AsksNoDiff, AsksNoWalk}
 use Rattle.lc_arguments.specs.declared.table.TableRequest.{TableRequest}
 use Rattle.lc_arguments.specs.declared.request.ParseExit.{ParseExit}
 use Rattle.lc_arguments.specs.declared.request.ParseExit.TheVariants.{Shown, Refused, Memory}
@@ -34,6 +40,10 @@ none_wrong false is = cc
 pub one_wrong : (right : Bool) → true ≡ not right → right ≡ false
 one_wrong true is = is
 one_wrong false is = refl
+
+-- what fits but for the rest is wrong as that is
+pub wrong_as : (fits rest wrong : Bool) → fits ≡ true → wrong ≡ not rest → wrong ≡ not (fits && rest)
+wrong_as fits rest wrong fit is = is ∙ sym (ap (λ b. not (b && rest)) fit)
 
 -- one value that an option may not have
 pub one_not_allowed : (option : Repeated) (values : List (Bor (List ℕ))) (k : ℕ) (d : Bor (List ℕ)) → k < length values
@@ -87,6 +97,22 @@ no_count_in rows numbers answer why No follows passed refused =
     subst (AnswersCountIn rows numbers) (sym (error.1 ∙ ap Err error.2))
     (refused_with No (AreNumbersIn rows numbers → AsksNoCount rows) why follows refused)
 
+-- and the difference
+pub no_diff_in : (rows : List Row) (numbers : Numbers) (answer : Result DiffRequest ParseExit) (why : ParseExit) (No : Type 0)
+    → (No → AreNumbersIn rows numbers → AsksNoDiff rows) → IsErrAnd answer (λ e. e ≡ why) → IsRefusedFor No why
+    → AnswersDiffIn rows numbers answer
+no_diff_in rows numbers answer why No follows passed refused =
+    let error = err_from_is_err_and answer passed in
+    subst (AnswersDiffIn rows numbers) (sym (error.1 ∙ ap Err error.2))
+    (refused_with No (AreNumbersIn rows numbers → AsksNoDiff rows) why follows refused)
+
+-- and what is passed on by both
+pub no_walk_in : (rows : List Row) (numbers : Numbers) (answer : Result WalkRequest ParseExit) (why : ParseExit) (No : Type 0)
+    → (No → AsksNoWalk rows) → IsErrAnd answer (λ e. e ≡ why) → IsRefusedFor No why → AnswersWalkIn rows numbers answer
+no_walk_in rows numbers answer why No follows passed refused =
+    let error = err_from_is_err_and answer passed in
+    subst (AnswersWalkIn rows numbers) (sym (error.1 ∙ ap Err error.2)) (refused_with No (AsksNoWalk rows) why follows refused)
+
 -- and the sum
 pub no_sum_in : (rows : List Row) (cuts : Cuts) (answer : Result SumRequest ParseExit) (why : ParseExit) (No : Type 0)
     → (No → AreCutsIn rows cuts → AsksNoSum rows) → IsErrAnd answer (λ e. e ≡ why) → IsRefusedFor No why
@@ -125,6 +151,13 @@ no_count_of words more (Refused text) is refused = elim refused [
 ]
 no_count_of words more Memory is none = tt
 
+-- words that begin with `check` ask for nothing where those after it fail
+pub no_check_of : (words more : List (List ℕ)) (why : ParseExit) → words ≡ codes "check" ∷ more
+    → IsNoRequestBy (fault_of check_app more) why → AskNothing words why
+no_check_of words more (Shown text) is shown = subst (λ (ws : List (List ℕ)). AskNothing ws (Shown text)) (sym is) shown
+no_check_of words more (Refused text) is refused = subst (λ (ws : List (List ℕ)). AskNothing ws (Refused text)) (sym is) (inl refused)
+no_check_of words more Memory is none = tt
+
 -- words that begin with `explain` ask for nothing where those after it do not
 pub no_explanation_of : (words more : List (List ℕ)) (why : ParseExit) → words ≡ codes "explain" ∷ more
     → AnswersExplainWords more (Err why) → AskNothing words why
@@ -140,5 +173,14 @@ pub no_sum_of : (words more : List (List ℕ)) (why : ParseExit) → words ≡ c
 no_sum_of words more (Shown text) is shown = subst (λ (ws : List (List ℕ)). AskNothing ws (Shown text)) (sym is) shown
 no_sum_of words more (Refused text) is refused =
     subst (λ (ws : List (List ℕ)). AskNothing ws (Refused text)) (sym is)
-    (elim refused [ inl fails ↦ inl fails | inr names ↦ inr (inr (inr (more, refl, names))) ])
+    (elim refused [ inl fails ↦ inl fails | inr names ↦ inr (inr (inr (inl (more, refl, names)))) ])
 no_sum_of words more Memory is none = tt
+
+-- nor do those that begin with `diff`
+pub no_diff_of : (words more : List (List ℕ)) (why : ParseExit) → words ≡ codes "diff" ∷ more
+    → AnswersDiffWords more (Err why) → AskNothing words why
+no_diff_of words more (Shown text) is shown = subst (λ (ws : List (List ℕ)). AskNothing ws (Shown text)) (sym is) shown
+no_diff_of words more (Refused text) is refused =
+    subst (λ (ws : List (List ℕ)). AskNothing ws (Refused text)) (sym is)
+    (elim refused [ inl fails ↦ inl fails | inr names ↦ inr (inr (inr (inr (more, refl, names)))) ])
+no_diff_of words more Memory is none = tt

@@ -1,5 +1,6 @@
 -- The name of a report among the bytes of a word.
-use Rattle.std.proofs.Common.{◌≡◌, ◌∙◌, ◌+◌, ◌||◌, ◌&&◌, ℕ, Bool, true, false, not, List, [], ◌∷◌, length, refl, ap, cond, Some, None, arith}
+use Rattle.std.proofs.Common.{◌≡◌, ◌∙◌, ◌+◌, ◌||◌, ◌&&◌, ℕ, Bool, true, false, not, List, [], ◌∷◌, length, refl, ap, cond, Some, None}
+use Rattle.std.proofs.Common.{arith}
 use Rattle.std.specs.List.{after_first, before_first, list_any, position_or_len}
 use Rattle.lc_glob.specs.Bytes.{slash}
 use Rattle.lc_glob.specs.Pieces.{is_byte}

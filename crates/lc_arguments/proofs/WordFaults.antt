@@ -17,9 +17,10 @@ use Rattle.clap.specs.declared.error.kind.ErrorKind.TheVariants as kind
 use Rattle.clap.specs.declared.parser.matches.ArgMatches.{ArgMatches}
 use Rattle.clap.specs.declared.parser.matches.Found.{Found}
 use Rattle.clap.proofs.OnLiterals.{clap_on_literals}
-use Rattle.lc_arguments.specs.CommandLine.{count_app, check_app, explain_app, lc_app, sum_app}
+use Rattle.lc_arguments.specs.CommandLine.{count_app, check_app, diff_app, explain_app, lc_app, sum_app}
 use Rattle.lc_arguments.specs.Explained.{Explains}
-use Rattle.lc_arguments.specs.Words.{IsFlag, IsNumber, IsText, IsNoRequestBy, number_if_given, texts_read}
+use Rattle.lc_arguments.specs.Words.{IsFlag, IsText, IsNoRequestBy, texts_read}
+use Rattle.lc_arguments.specs.ReadNumbers.{IsNumber, number_if_given}
 use Rattle.lc_arguments.specs.declared.request.ParseExit.{ParseExit}
 use Rattle.lc_arguments.specs.declared.request.ParseExit.TheVariants.{Shown, Refused, Memory}
 
@@ -62,6 +63,16 @@ sum_is_simple = refl
 pub sum_is_free : is_simple_and_free sum_app ≡ true
 unfolding clap_on_literals
 sum_is_free = refl
+
+-- so is diff
+pub diff_is_simple : is_simple diff_app ≡ true
+unfolding clap_on_literals
+diff_is_simple = refl
+
+-- and it asks for nothing more
+pub diff_is_free : is_simple_and_free diff_app ≡ true
+unfolding clap_on_literals
+diff_is_free = refl
 
 -- nor does lc
 pub lc_is_free : is_simple_and_free lc_app ≡ true

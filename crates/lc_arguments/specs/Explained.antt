@@ -8,9 +8,10 @@ use Rattle.clap.specs.Values.{kind_of}
 use Rattle.clap.specs.declared.error.Error.{Error}
 use Rattle.clap.specs.declared.error.kind.ErrorKind.TheVariants.{OutOfMemory}
 use Rattle.std.specs.Borrow.{Bor}
-use Rattle.lc_arguments.specs.CommandLine.{count_app, check_app, explain_app, lc_app, sum_app}
+use Rattle.lc_arguments.specs.CommandLine.{count_app, check_app, diff_app, explain_app, lc_app, sum_app}
 use Rattle.lc_arguments.specs.Words.{IsText, IsNoRequestBy, IsCheckOf, IsCountOf, IsExplainOf, IsSumOf, MayRefuse, MayShow}
-use Rattle.lc_arguments.specs.Words.{AsksNoCount, AsksNoSum, AsksNoTable, AreCutsIn, AreFiltersOf, AreNumbersIn, IsFitCountOf, IsFitSumOf}
+use Rattle.lc_arguments.specs.Words.{AsksNoCount, AsksNoSum, AsksNoTable, AreFiltersOf, IsFitCountOf, IsFitSumOf}
+use Rattle.lc_arguments.specs.ReadNumbers.{AreCutsIn, AreNumbersIn}
 use Rattle.lc_sheet.specs.Conditions.{ConditionModel}
 use Rattle.lc_arguments.specs.Words.{AreConditionsOf, IsWholeTableIn, Misvalue, directories_read, is_bad_part, part_of, reports_read}
 use Rattle.lc_arguments.specs.Words.{texts_read, values_read}
@@ -36,6 +37,9 @@ use Rattle.lc_arguments.specs.declared.filter_request.FilterRequest.{FilterReque
 use Rattle.lc_arguments.specs.declared.explain.ExplainRequest.{ExplainRequest}
 use Rattle.lc_arguments.specs.declared.reports.NamedReport.{NamedReport}
 use Rattle.lc_arguments.specs.declared.sum.SumRequest.{SumRequest}
+use Rattle.lc_arguments.specs.declared.diff.DiffRequest.{DiffRequest}
+use Rattle.lc_arguments.specs.declared.walk_request.WalkRequest.{WalkRequest}
+use Rattle.lc_arguments.specs.Words.{AsksNoDiff, AsksNoWalk, IsDiffOf, IsFitDiffOf, IsWalkOf}
 
 -- a text that was asked for is shown; any other is why words are refused
 abbrev pub Explains : Error → ParseExit → Type 0
@@ -70,7 +74,7 @@ abbrev pub AnswersCommand : {A : Type 0} → App → (List Row → A → Type 0)
 AnswersCommand {A} app Is No words (Ok a) = (fault_of app words ≡ []) × Is (matches_of app words) a
 AnswersCommand {A} app Is No words (Err why) = IsUnread app No words why
 
--- the words after `count`, `explain` and `sum`
+-- the words after `count`, `explain`, `sum` and `diff`
 abbrev pub AnswersCountWords : List (List ℕ) → Result CountRequest ParseExit → Type 0
 AnswersCountWords = AnswersCommand count_app IsFitCountOf AsksNoCount
 
@@ -79,6 +83,9 @@ AnswersExplainWords = AnswersCommand explain_app IsExplainOf Misvalue
 
 abbrev pub AnswersSumWords : List (List ℕ) → Result SumRequest ParseExit → Type 0
 AnswersSumWords = AnswersCommand sum_app IsFitSumOf AsksNoSum
+
+abbrev pub AnswersDiffWords : List (List ℕ) → Result DiffRequest ParseExit → Type 0
+AnswersDiffWords = AnswersCommand diff_app IsFitDiffOf AsksNoDiff
 
 -- what leaves entries out by what was read; or an option has values that it may not have
 abbrev pub AnswersFilters : List Row → Result FilterRequest ParseExit → Type 0
@@ -156,10 +163,19 @@ abbrev pub AnswersTableIn : List Row → Cuts → Result TableRequest ParseExit 
 AnswersTableIn rows cuts =
     AnswersOr (λ (table : TableRequest). AreCutsIn rows cuts → IsWholeTableIn rows table) (AreCutsIn rows cuts → AsksNoTable rows)
 
+-- how directories are counted, as it was read with these numbers
+abbrev pub AnswersWalkIn : List Row → Numbers → Result WalkRequest ParseExit → Type 0
+AnswersWalkIn rows numbers = AnswersOr (λ (w : WalkRequest). AreNumbersIn rows numbers → IsWalkOf rows w) (AsksNoWalk rows)
+
 -- the count that was read with these numbers, whose options may not go together
 abbrev pub AnswersCountIn : List Row → Numbers → Result CountRequest ParseExit → Type 0
 AnswersCountIn rows numbers =
     AnswersOr (λ (c : CountRequest). AreNumbersIn rows numbers → IsCountOf rows c) (AreNumbersIn rows numbers → AsksNoCount rows)
+
+-- and the difference
+abbrev pub AnswersDiffIn : List Row → Numbers → Result DiffRequest ParseExit → Type 0
+AnswersDiffIn rows numbers =
+    AnswersOr (λ (d : DiffRequest). AreNumbersIn rows numbers → IsDiffOf rows d) (AreNumbersIn rows numbers → AsksNoDiff rows)
 
 -- and the sum
 abbrev pub AnswersSumIn : List Row → Cuts → Result SumRequest ParseExit → Type 0

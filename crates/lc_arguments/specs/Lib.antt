@@ -5,6 +5,7 @@ pub mod CountArgs
 pub mod Directories
 pub mod Explained
 pub mod Options
+pub mod ReadNumbers
 pub mod Refusals
 pub mod Repeated
 pub mod Reports

@@ -1,10 +1,13 @@
 //! Options that do not go together.
 
 ghost use Rattle.std.specs.Prelude.{◌≡◌, is_some, not};
-ghost use Rattle.lc_arguments.specs.Combinations.{asks_for_paths, asks_for_rows, fit_together, is_by_name, narrows, shows_shares, table_fits};
+ghost use Rattle.lc_arguments.specs.Combinations.{asks_for_paths, asks_for_rows, diff_fits, fit_together, is_by_name, is_dash, is_picture};
+ghost use Rattle.lc_arguments.specs.Combinations.{narrows, paths_fit, reads_input_once, shows_shares, table_fits, takes_input, walk_fits};
 
 use crate::count::CountRequest;
+use crate::diff::DiffRequest;
 use crate::table::TableRequest;
+use crate::walk_request::WalkRequest;
 use lc_sheet::{Columns, Format, Order};
 
 /// Returns whether rows have shares in the named format, or in the table that shares make where none is named.
@@ -60,11 +63,33 @@ pub(crate) fn table_misfit(table: TableRequest, left_out: bool) -> Option<&'stat
     None
 }
 
-/// Returns whether paths are asked for, each relative to one directory.
-fn asks_for_paths(request: &CountRequest<'_>) -> bool
-    ensures { result ≡ asks_for_paths request.now }
+/// Finds out why the options that choose files do not go together.
+fn walk_misfit(walk: &WalkRequest<'_>) -> Option<&'static str>
+    ensures { is_some result ≡ not (walk_fits walk.now) }
 {
-    !request.only.is_empty() || request.only_from.is_some()
+    if walk.null && walk.only_from.is_none() {
+        return Some("'--null' needs '--only-from <FILE>'");
+    }
+    None
+}
+
+/// Returns whether paths are asked for, each relative to one directory.
+fn asks_for_paths(walk: &WalkRequest<'_>) -> bool
+    ensures { result ≡ asks_for_paths walk.now }
+{
+    !walk.only.is_empty() || walk.only_from.is_some()
+}
+
+/// Finds out why paths are not those of one directory.
+fn paths_misfit(request: &CountRequest<'_>) -> Option<&'static str>
+    ensures { is_some result ≡ not (paths_fit request.now) }
+{
+    if request.directories.len() > 1 && asks_for_paths(&request.walk) {
+        return Some(
+            "'--only <PATH>' and '--only-from <FILE>' need one DIR, because a PATH is relative to it",
+        );
+    }
+    None
 }
 
 /// Finds out why the options of a count do not go together.
@@ -74,13 +99,59 @@ pub(crate) fn misfit(request: &CountRequest<'_>) -> Option<&'static str>
     if let Some(why) = table_misfit(request.table, request.left_out) {
         return Some(why);
     }
-    if request.null && request.only_from.is_none() {
-        return Some("'--null' needs '--only-from <FILE>'");
+    if let Some(why) = walk_misfit(&request.walk) {
+        return Some(why);
     }
-    if request.directories.len() > 1 && asks_for_paths(request) {
-        return Some(
-            "'--only <PATH>' and '--only-from <FILE>' need one DIR, because a PATH is relative to it",
-        );
+    paths_misfit(request)
+}
+
+fn is_dash(word: &str) -> bool
+    ensures { result ≡ is_dash word.now }
+{
+    word == "-"
+}
+
+/// Returns whether the paths to count come on standard input.
+fn takes_input(walk: &WalkRequest<'_>) -> bool
+    ensures { result ≡ takes_input walk.now }
+{
+    match walk.only_from {
+        None => false,
+        Some(file) => is_dash(file),
+    }
+}
+
+/// Finds out why standard input would be read twice.
+fn input_misfit(request: &DiffRequest<'_>) -> Option<&'static str>
+    ensures { is_some result ≡ not (reads_input_once request.now) }
+{
+    if is_dash(request.old) && is_dash(request.new) {
+        return Some("'-' is given twice: standard input is read once");
+    }
+    if takes_input(&request.walk) && (is_dash(request.old) || is_dash(request.new)) {
+        return Some("'-' and '--only-from -' are both standard input, which is read once");
     }
     None
+}
+
+fn is_picture(format: Option<Format>) -> bool
+    ensures { result ≡ is_picture format }
+{
+    matches!(format, Some(Format::Html))
+}
+
+/// Finds out why the options of a difference do not go together.
+pub(crate) fn diff_misfit(request: &DiffRequest<'_>) -> Option<&'static str>
+    ensures { is_some result ≡ not (diff_fits request.now) }
+{
+    if is_picture(request.table.format) {
+        return Some("'--format html' shows no differences");
+    }
+    if let Some(why) = table_misfit(request.table, false) {
+        return Some(why);
+    }
+    if let Some(why) = walk_misfit(&request.walk) {
+        return Some(why);
+    }
+    input_misfit(request)
 }

@@ -44,16 +44,17 @@ from standard input, and answers each path as lc check does.
 
 Exit status:
   0  success
-  1  count, sum, explain: the answer was written, but something could not be
-     read
+  1  count, sum, diff, explain: the answer was written, but something could
+     not be read
   2  usage error
   3  stopped with an error; standard error shows it in one line
-  4  count, sum --fail-if-any: a file was counted
+  4  count, sum --fail-if-any: a file was counted; diff --fail-if-any: a row
+     or a file differs
 
 Example: lc .
 
-See also: lc count --help, lc sum --help, lc explain --help, lc check --help,
-man lc",
+See also: lc count --help, lc sum --help, lc diff --help, lc explain --help,
+lc check --help, man lc",
 };
 
 pub(crate) const COUNT: CommandHelp = CommandHelp {
@@ -146,6 +147,34 @@ Examples:
   lc count --format json src | lc sum
   lc sum --by ext --sort lines a.json b.json
   lc sum --by dir v1=v1.json v2=v2.json",
+};
+
+pub(crate) const DIFF: CommandHelp = CommandHelp {
+    full_name: "lc diff",
+    usage: "lc diff [OPTIONS] <OLD> <NEW>",
+    about: "Compare the sums of two directories or reports",
+    after: "Example: lc diff --by dir v1.json .",
+    after_long: "\
+OLD and NEW are each a directory, which is counted as lc count does, or a report
+that lc sum reads; - is a report on standard input. Options that choose files
+hold for directories; --where holds for both sides.
+
+Each row has the old and the new number of files, lines, blank lines and bytes.
+A row in which no number changed is not printed, except with --all. Paths are
+compared as they are. Lines that were added and removed within a file are not
+told apart, as git diff --stat does.
+
+Exit status:
+  0  both sides were read, whether or not they differ
+  1  the table was written, but something could not be read
+  2  usage error
+  3  no table, or a part of it; standard error shows why
+  4  --fail-if-any: the table was written, and a row or a file differs
+
+Examples:
+  lc diff v1 v2
+  lc diff --files v1.json .
+  lc count --format json --files . | lc diff --by dir v1.json -",
 };
 
 pub(crate) const EXPLAINING: CommandHelp = CommandHelp {

@@ -2,12 +2,13 @@
 //!
 //! - `request`: what the program is asked to do, or why it does nothing; arguments without a command
 //! - `first_word`: what the first argument asks for
-//! - `count`, `sum`, `check`, `explain`: the options of each command; `table`: those of the table; `paths`: those of `--only`; `directories`: DIR;
-//!   `reports`: REPORT
-//! - `numbers`: the numbers of a count and of a table; `combinations`: options that do not go together
-//! - `filter_request`: which entries counts and explanations skip; `repeated`: options that may be given several times
+//! - `count`, `sum`, `diff`, `check`, `explain`: the options of each command; `table`: those of the table
+//! - `walk_request`: how directories are counted; `paths`: the paths of `--only`; `directories`: DIR; `reports`: REPORT
+//! - `filter_request`: which entries are skipped; `repeated`: options that may be given several times
 //! - `conditions`: which files are shown; `condition_text`: a condition, as it is typed
-//! - `options_table`: the table of options; `option_row`: what a row of it says; `arguments`: clap's arguments, made of the rows
+//! - `numbers`: the numbers of a count and of a table; `combinations`: options that do not go together
+//! - `options_table`: the table of options; `diff_options`: its rows for `lc diff` alone; `option_row`: what a row says;
+//!   `arguments`: clap's arguments, made of the rows
 //! - `refusals`: the text of a refusal, as a terminal shows it; `error_text`: the texts of usage errors
 //! - `naming`: which arguments a text names
 //! - `suggestions`: what refused arguments may have meant; `near`: names that are close to a word
@@ -20,6 +21,8 @@ mod combinations;
 mod condition_text;
 mod conditions;
 mod count;
+mod diff;
+mod diff_options;
 mod directories;
 mod error_text;
 mod explain;
@@ -41,9 +44,11 @@ mod request;
 mod suggestions;
 mod sum;
 mod table;
+mod walk_request;
 
 pub use check::CheckRequest;
 pub use count::CountRequest;
+pub use diff::DiffRequest;
 pub use directories::unslashed;
 pub use explain::ExplainRequest;
 pub use filter_request::FilterRequest;
@@ -56,3 +61,4 @@ pub use reports::NamedReport;
 pub use request::{ParseExit, Request};
 pub use sum::SumRequest;
 pub use table::TableRequest;
+pub use walk_request::WalkRequest;

@@ -202,6 +202,9 @@ fn named_by(word: &str) -> Option<Subcommand>
     if word == "sum" {
         return Some(Subcommand::Sum);
     }
+    if word == "diff" {
+        return Some(Subcommand::Diff);
+    }
     None
 }
 

@@ -2,7 +2,7 @@
 
 ghost use Rattle.clap.specs.Matches.{found_of};
 ghost use Rattle.clap.specs.Walk.{rows_of};
-ghost use Rattle.lc_arguments.specs.Words.{AreCutsIn, AreCutsReadWithin, AreNumbersIn, AreReadWithin};
+ghost use Rattle.lc_arguments.specs.ReadNumbers.{AreCutsIn, AreCutsReadWithin, AreNumbersIn, AreReadWithin};
 
 use clap::ArgMatches;
 

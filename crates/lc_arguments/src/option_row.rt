@@ -14,6 +14,8 @@ pub(crate) enum Subcommand {
     Check,
     /// `lc sum`
     Sum,
+    /// `lc diff`
+    Diff,
 }
 
 /// The commands that have an argument.
@@ -27,6 +29,8 @@ pub struct Commands {
     pub check: bool,
     /// `lc sum` has it.
     pub sum: bool,
+    /// `lc diff` has it.
+    pub diff: bool,
 }
 
 impl Commands {
@@ -39,64 +43,79 @@ impl Commands {
             Subcommand::Explain => self.explain,
             Subcommand::Check => self.check,
             Subcommand::Sum => self.sum,
+            Subcommand::Diff => self.diff,
         }
     }
 }
 
-/// `lc count` alone.
-pub(crate) const COUNT: Commands = Commands {
-    count: true,
+/// No command.
+const NONE: Commands = Commands {
+    count: false,
     explain: false,
     check: false,
     sum: false,
+    diff: false,
+};
+
+/// `lc count` alone.
+pub(crate) const COUNT: Commands = Commands {
+    count: true,
+    ..NONE
 };
 
 /// `lc explain` alone.
 pub(crate) const EXPLAIN: Commands = Commands {
-    count: false,
     explain: true,
-    check: false,
-    sum: false,
+    ..NONE
 };
 
 /// `lc check` alone.
 pub(crate) const CHECK: Commands = Commands {
-    count: false,
-    explain: false,
     check: true,
-    sum: false,
+    ..NONE
 };
 
 /// `lc sum` alone.
-pub(crate) const SUM: Commands = Commands {
-    count: false,
-    explain: false,
-    check: false,
-    sum: true,
-};
+pub(crate) const SUM: Commands = Commands { sum: true, ..NONE };
+
+/// `lc diff` alone.
+pub(crate) const DIFF: Commands = Commands { diff: true, ..NONE };
 
 /// The commands that skip entries.
 pub(crate) const FILTERS: Commands = Commands {
     count: true,
     explain: true,
-    check: false,
-    sum: false,
+    diff: true,
+    ..NONE
+};
+
+/// The commands that count directories.
+pub(crate) const WALKS: Commands = Commands {
+    count: true,
+    diff: true,
+    ..NONE
 };
 
 /// The commands that read paths from standard input.
 pub(crate) const INPUT: Commands = Commands {
-    count: false,
     explain: true,
     check: true,
-    sum: false,
+    ..NONE
 };
 
 /// The commands that print reports.
 pub(crate) const PRINTED: Commands = Commands {
     count: true,
-    explain: false,
-    check: false,
     sum: true,
+    ..NONE
+};
+
+/// The commands that print tables of files.
+pub(crate) const TABLES: Commands = Commands {
+    count: true,
+    sum: true,
+    diff: true,
+    ..NONE
 };
 
 /// The kind of an argument, and of its value.

@@ -5,9 +5,10 @@
 ghost use Rattle.std.specs.Prelude.{◌≡◌, map};
 ghost use Rattle.lc_arguments.specs.Options.{option_model, options};
 
+use crate::diff_options;
 use crate::limits::{MAX_DEPTH, MAX_DIRS, MAX_THREADS, MAX_TOP};
 use crate::option_row::{
-    CHECK, Completes, EXPLAIN, FILTERS, FLAG, INPUT, Kind, OptionRow, PRINTED, SUM,
+    CHECK, Completes, EXPLAIN, FILTERS, FLAG, INPUT, Kind, OptionRow, PRINTED, SUM, TABLES, WALKS,
 };
 
 /// The heading of the options that choose files.
@@ -92,6 +93,7 @@ const OPTIONS: &[OptionRow] = &[
         name: "only",
         value: "PATH",
         kind: Kind::Texts,
+        of: WALKS,
         heading: WHICH_FILES,
         help: "Count only PATH, under the rules of all of DIR",
         brief: "Count only what is at or under PATH",
@@ -103,6 +105,7 @@ const OPTIONS: &[OptionRow] = &[
         name: "only-from",
         value: "FILE",
         kind: Kind::Text,
+        of: WALKS,
         heading: WHICH_FILES,
         help: "Count only the paths in FILE, one a line",
         brief: "Count only the paths that FILE lists",
@@ -113,6 +116,7 @@ const OPTIONS: &[OptionRow] = &[
     OptionRow {
         name: "null",
         short: Some('0'),
+        of: WALKS,
         heading: WHICH_FILES,
         help: "Paths of --only-from end with NUL",
         brief: "Paths that are read end with NUL",
@@ -122,6 +126,7 @@ const OPTIONS: &[OptionRow] = &[
     OptionRow {
         name: "one-file-system",
         short: Some('x'),
+        of: WALKS,
         heading: WHICH_FILES,
         help: "Skip directories on other file systems",
         example: "lc count --one-file-system .",
@@ -148,7 +153,7 @@ const OPTIONS: &[OptionRow] = &[
         name: "where",
         value: "CONDITION",
         kind: Kind::Texts,
-        of: PRINTED,
+        of: TABLES,
         heading: WHAT_IS_PRINTED,
         help: "Show only files that meet CONDITION, such as 'lines>1000'",
         brief: "Show only files that meet a condition",
@@ -157,7 +162,7 @@ const OPTIONS: &[OptionRow] = &[
     },
     OptionRow {
         name: "no-binary",
-        of: PRINTED,
+        of: TABLES,
         heading: WHAT_IS_PRINTED,
         help: "Show only files without a NUL byte",
         example: "lc count --no-binary .",
@@ -198,7 +203,7 @@ const OPTIONS: &[OptionRow] = &[
         name: "depth",
         value: "N",
         kind: Kind::Number(MAX_DEPTH),
-        of: PRINTED,
+        of: TABLES,
         heading: WHAT_IS_PRINTED,
         help: "Cut directories of --by dir to N segments [default: 1]",
         brief: "Cut the directories of --by dir to so many segments",
@@ -228,7 +233,7 @@ const OPTIONS: &[OptionRow] = &[
         name: "top",
         value: "N",
         kind: Kind::Number(MAX_TOP),
-        of: PRINTED,
+        of: TABLES,
         heading: WHAT_IS_PRINTED,
         help: "Print only the first N rows and files",
         brief: "Print only the first rows and files",
@@ -259,6 +264,7 @@ const OPTIONS: &[OptionRow] = &[
         value: "N",
         kind: Kind::Number(MAX_THREADS),
         default: Some("4"),
+        of: WALKS,
         heading: LIMITS,
         help: "Number of threads, 1 to 16",
         example: "lc count --threads 8 .",
@@ -270,6 +276,7 @@ const OPTIONS: &[OptionRow] = &[
         value: "N",
         kind: Kind::Number(MAX_DIRS),
         default: Some("65536"),
+        of: WALKS,
         heading: LIMITS,
         help: "Limit of directories, 1 to 1048576",
         example: "lc count --max-dirs 1000000 .",
@@ -291,6 +298,14 @@ const OPTIONS: &[OptionRow] = &[
         help: "Output of lc count --format json, or NAME=REPORT",
         ..FLAG
     },
+    diff_options::ALL,
+    diff_options::FILES,
+    diff_options::FORMAT,
+    diff_options::BY,
+    diff_options::SORT,
+    diff_options::FAIL_IF_ANY,
+    diff_options::OLD,
+    diff_options::NEW,
     OptionRow {
         name: "explain",
         of: CHECK,

@@ -10,6 +10,7 @@ ghost use Rattle.lc_arguments.specs.Words.{AnswersWords};
 
 use crate::check::CheckRequest;
 use crate::count::CountRequest;
+use crate::diff::DiffRequest;
 use crate::error_text::{advised, number_refused, problem_of, value_refused};
 use crate::explain::ExplainRequest;
 use crate::first_word::count_words;
@@ -17,7 +18,7 @@ use crate::naming::{is_naming_error, is_text_of, with_words};
 use crate::refusals::{message, visible_words};
 use crate::suggestions::Advice;
 use crate::sum::SumRequest;
-use crate::{arguments, check, count, explain, help, suggestions, sum};
+use crate::{arguments, check, count, diff, explain, help, suggestions, sum};
 use clap::error::ErrorKind;
 use clap::{Command, Error};
 use std::alloc::{AllocError, Global};
@@ -36,6 +37,8 @@ pub enum Request<'w> {
     Explain(ExplainRequest<'w>),
     /// Add reports, as `sum a.json b.json`.
     Sum(SumRequest<'w>),
+    /// Compare two directories or reports, as `diff v1.json src`.
+    Diff(DiffRequest<'w>),
 }
 
 /// Why the program does none of this.
@@ -67,7 +70,8 @@ fn subcommands<'a>(alloc: Global) -> Result<Vec<Command<'a>>, AllocError>
     let check = check::command(alloc)?;
     let explain = explain::command(alloc)?;
     let sum = sum::command(alloc)?;
-    Ok(vec![in alloc; count, sum, check, explain]?)
+    let diff = diff::command(alloc)?;
+    Ok(vec![in alloc; count, sum, diff, check, explain]?)
 }
 
 /// Makes the clap command of the program, for help, the version, and arguments without a command.
@@ -186,6 +190,12 @@ fn read_words<'w, W: AsStr>(alloc: Global, words: &'w [W]) -> Result<Request<'w>
     if first.as_str() == "sum" {
         return match SumRequest::read(alloc, rest) {
             Ok(asked) => Ok(Request::Sum(asked)),
+            Err(no) => Err(no),
+        };
+    }
+    if first.as_str() == "diff" {
+        return match DiffRequest::read(alloc, rest) {
+            Ok(asked) => Ok(Request::Diff(asked)),
             Err(no) => Err(no),
         };
     }

@@ -19,12 +19,16 @@ const CHECK: &str = "git ls-files | lc check .gitignore";
 /// Adds a report.
 const SUM: &str = "lc count --format json . | lc sum";
 
+/// Compares this directory with itself.
+const DIFF: &str = "lc diff . .";
+
 /// The commands, each with a use of it.
 const COMMANDS: &[(&str, &str)] = &[
     ("count", COUNT),
     ("explain", EXPLAIN),
     ("check", CHECK),
     ("sum", SUM),
+    ("diff", DIFF),
     ("help", "lc --help"),
 ];
 
@@ -151,7 +155,8 @@ fn known_options(
         if row.of.has(command) && !row.heading.is_empty() {
             let meant = match command {
                 Subcommand::Count => row.example,
-                Subcommand::Explain | Subcommand::Check | Subcommand::Sum => other,
+                Subcommand::Explain | Subcommand::Check | Subcommand::Sum | Subcommand::Diff =>
+                    other,
             };
             known.push((row.name, meant))?;
         }
@@ -287,4 +292,9 @@ pub(crate) fn check(alloc: Global, problem: &str) -> Result<Advice, AllocError> 
 /// Finds the sum that refused arguments of `lc sum` may have meant. `problem` is what clap says is wrong.
 pub(crate) fn sum(alloc: Global, problem: &str) -> Result<Advice, AllocError> {
     option_or(alloc, problem, Subcommand::Sum, SUM)
+}
+
+/// Finds the difference that refused arguments of `lc diff` may have meant. `problem` is what clap says is wrong.
+pub(crate) fn diff(alloc: Global, problem: &str) -> Result<Advice, AllocError> {
+    option_or(alloc, problem, Subcommand::Diff, DIFF)
 }

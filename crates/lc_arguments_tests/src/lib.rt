@@ -4,6 +4,8 @@
 #[cfg(test)]
 mod conditions;
 #[cfg(test)]
+mod diffs;
+#[cfg(test)]
 mod requests;
 #[cfg(test)]
 mod sums;

@@ -337,6 +337,8 @@ const MEANT: &[Case] = &[
     ("count --json=x .", "lc count --format json ."),
     ("suum a.json", "lc count --format json . | lc sum"),
     ("sum --only a", "lc count --format json . | lc sum"),
+    ("dif a b", "lc diff . ."),
+    ("diff --left-out a b", "lc diff . ."),
     ("json", "lc count --format json ."),
     ("help src", "lc help count"),
     ("a\u{1b}", "lc count ."),

@@ -1,8 +1,8 @@
 //! The text of what words ask for.
 
 use lc_arguments::{
-    CheckRequest, CountRequest, ExplainRequest, FilterRequest, ParseExit, Request, SumRequest,
-    TableRequest,
+    CheckRequest, CountRequest, DiffRequest, ExplainRequest, FilterRequest, ParseExit, Request,
+    SumRequest, TableRequest, WalkRequest,
 };
 use lc_sheet::Columns;
 use std::alloc::{AllocError, Global};
@@ -69,38 +69,62 @@ fn push_table(text: &mut String, table: TableRequest) -> Result<(), AllocError> 
     Ok(())
 }
 
-fn push_paths(text: &mut String, request: &CountRequest) -> Result<(), AllocError> {
-    for path in &request.only {
+fn push_paths(text: &mut String, walk: &WalkRequest) -> Result<(), AllocError> {
+    for path in &walk.only {
         let path = str::from_utf8(path).unwrap_or("?");
         write!(text, ", only {path}")?;
     }
-    if let Some(file) = request.only_from {
+    if let Some(file) = walk.only_from {
         write!(text, ", only from {file}")?;
     }
-    if request.null {
+    if walk.null {
         text.push_str(" ended by NUL")?;
     }
-    if request.one_file_system {
+    if walk.one_file_system {
         text.push_str(", one file system")?;
     }
     Ok(())
 }
 
+fn push_limits(text: &mut String, walk: &WalkRequest) -> Result<(), AllocError> {
+    let (threads, max_dirs) = (walk.threads, walk.max_dirs);
+    write!(text, ": {threads} threads, {max_dirs} directories, ")
+}
+
 fn count_text(alloc: Global, request: &CountRequest) -> Result<String, AllocError> {
-    let (threads, max_dirs) = (request.threads, request.max_dirs);
     let mut text = String::from_str(alloc, "count")?;
     for directory in &request.directories {
         write!(text, " {directory}")?;
     }
-    write!(text, ": {threads} threads, {max_dirs} directories, ")?;
+    push_limits(&mut text, &request.walk)?;
     push_table(&mut text, request.table)?;
     if request.left_out {
         text.push_str(", left out")?;
     }
-    push_filters(&mut text, &request.filters)?;
-    push_paths(&mut text, request)?;
+    push_filters(&mut text, &request.walk.filters)?;
+    push_paths(&mut text, &request.walk)?;
     if request.fail_if_any {
         text.push_str(", any file fails")?;
+    }
+    Ok(text)
+}
+
+fn diff_text(alloc: Global, request: &DiffRequest) -> Result<String, AllocError> {
+    let (old, new) = (request.old, request.new);
+    let mut text = format!(in alloc; "diff {old} {new}")?;
+    push_limits(&mut text, &request.walk)?;
+    push_table(&mut text, request.table)?;
+    push_filters(&mut text, &request.walk.filters)?;
+    push_paths(&mut text, &request.walk)?;
+    let conditions = request.conditions.len();
+    if conditions > 0 {
+        write!(text, ", {conditions} conditions")?;
+    }
+    if request.all {
+        text.push_str(", all rows")?;
+    }
+    if request.fail_if_any {
+        text.push_str(", any difference fails")?;
     }
     Ok(text)
 }
@@ -165,6 +189,7 @@ pub(crate) fn answer_text(
         Ok(Request::Count(request)) => count_text(alloc, &request),
         Ok(Request::Explain(request)) => explain_text(alloc, &request),
         Ok(Request::Sum(request)) => sum_text(alloc, &request),
+        Ok(Request::Diff(request)) => diff_text(alloc, &request),
         Err(ParseExit::Shown(text)) => format!(in alloc; "shown: {text}"),
         Err(ParseExit::Refused(text)) => format!(in alloc; "refused: {text}"),
         Err(ParseExit::Memory) => Err(AllocError),

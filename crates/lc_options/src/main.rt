@@ -26,9 +26,10 @@ fn push_commands(line: &mut String, commands: Commands) -> Result<(), AllocError
     let mut before = "";
     for (has, name) in [
         (commands.count, "count"),
+        (commands.sum, "sum"),
+        (commands.diff, "diff"),
         (commands.explain, "explain"),
         (commands.check, "check"),
-        (commands.sum, "sum"),
     ] {
         if has {
             write!(line, "{before}{name}")?;

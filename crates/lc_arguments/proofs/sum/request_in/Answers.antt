@@ -1,7 +1,8 @@
 use Rattle.std.proofs.Common.{codes, inl, inr, refl}
 use Rattle.clap.specs.Matches.{found_of}
 use Rattle.clap.specs.Walk.{rows_of}
-use Rattle.lc_arguments.specs.Words.{AreCutsIn, AsksNoTable, MisnamesReports, Misvalue}
+use Rattle.lc_arguments.specs.Words.{AsksNoTable, MisnamesReports, Misvalue}
+use Rattle.lc_arguments.specs.ReadNumbers.{AreCutsIn}
 use Rattle.lc_arguments.proofs.WordFaults.{flag_of}
 use Rattle.lc_arguments.proofs.Misnaming.{no_sum_in}
 use Rattle.lc_arguments.proofs.sum.request_in.Goals as goal
@@ -9,7 +10,8 @@ use Rattle.lc_arguments.proofs.sum.request_in.Goals as goal
 pub returns-in_err-table : goal.returns-in_err-table
 returns-in_err-table c =
     let rows = rows_of (found_of c.args.matches.now) in
-    no_sum_in rows c.args.cuts c.from_residual.result c.in_err-table.field-0.0 (AreCutsIn rows c.args.cuts → AsksNoTable rows) (λ bad are. inr (inr (inl (bad are))))
+    no_sum_in rows c.args.cuts c.from_residual.result c.in_err-table.field-0.0
+    (AreCutsIn rows c.args.cuts → AsksNoTable rows) (λ bad are. inr (inr (inl (bad are))))
     c.from_residual.ensures.1 c.in_err-table.ensures
 
 pub returns-in_err-conditions : goal.returns-in_err-conditions
@@ -21,7 +23,8 @@ returns-in_err-conditions c =
 pub returns-in_err-reports : goal.returns-in_err-reports
 returns-in_err-reports c =
     let rows = rows_of (found_of c.args.matches.now) in
-    no_sum_in rows c.args.cuts c.from_residual-in_err-reports.result c.in_err-reports.field-0.0 (MisnamesReports rows) (λ bad are. inr (inl bad))
+    no_sum_in rows c.args.cuts c.from_residual-in_err-reports.result c.in_err-reports.field-0.0
+    (MisnamesReports rows) (λ bad are. inr (inl bad))
     c.from_residual-in_err-reports.ensures.1 c.in_err-reports.ensures
 
 pub returns : goal.returns

@@ -2,7 +2,8 @@ use Rattle.std.proofs.Common.{ℕ, codes, refl, subst}
 use Rattle.std.specs.Prelude.{Option}
 use Rattle.clap.specs.Matches.{found_of}
 use Rattle.clap.specs.Walk.{rows_of}
-use Rattle.lc_arguments.specs.Words.{AreCutsIn, AsksNoTable, IsTableAt}
+use Rattle.lc_arguments.specs.Words.{AsksNoTable, IsTableAt}
+use Rattle.lc_arguments.specs.ReadNumbers.{AreCutsIn}
 use Rattle.lc_arguments.specs.declared.table.TableRequest.{TableRequest}
 use Rattle.lc_arguments.proofs.ColumnNames.{depth_within}
 use Rattle.lc_arguments.proofs.Misnaming.{answers_table_as, refused_with}
@@ -21,10 +22,12 @@ returns-in-Ok c = λ are.
     (text_of rows f (codes "sort") c.get_str-sort.result refl c.get_str-sort.ensures) c.table_of.ensures) in
     let named = subst (λ (depth : Option ℕ). IsTableAt rows depth table) are.depth at in
     record {
-      within = depth_within cuts.depth table.by _ at.by_is are.some_depth are.within_depth;
-      named = record { format_is = named.format_is; by_is = named.by_is; sort_is = named.sort_is };
-      top = are.top;
-      files = flag_of rows f (codes "files") c.get_flag.result refl c.get_flag.ensures.value c.get_flag.ensures.other;
+      plain = record {
+        within = depth_within cuts.depth table.by _ at.by_is are.some_depth are.within_depth;
+        named = record { format_is = named.format_is; by_is = named.by_is; sort_is = named.sort_is };
+        top = are.top;
+        files = flag_of rows f (codes "files") c.get_flag.result refl c.get_flag.ensures.value c.get_flag.ensures.other;
+      };
       share = flag_of rows f (codes "share") c.get_flag-in-Ok.result refl c.get_flag-in-Ok.ensures.value c.get_flag-in-Ok.ensures.other;
     }
 

@@ -4,7 +4,8 @@ use Rattle.clap.specs.Walk.{Row}
 use Rattle.lc_arguments.specs.CommandLine.{count_app}
 use Rattle.lc_arguments.specs.Explained.{AnswersCountIn}
 use Rattle.lc_arguments.specs.Combinations.{fit_together}
-use Rattle.lc_arguments.specs.Words.{AreNumbersIn, AsksNoCount, IsCountOf}
+use Rattle.lc_arguments.specs.Words.{AsksNoCount, IsCountOf}
+use Rattle.lc_arguments.specs.ReadNumbers.{AreNumbersIn}
 use Rattle.lc_arguments.proofs.WordFaults.{count_is_free, count_is_simple, fails_as, matches_as, no_request_of}
 use Rattle.lc_arguments.proofs.Misnaming.{none_wrong, one_wrong, refused_for, refused_with, unread_by, unread_for}
 use Rattle.lc_arguments.proofs.count.CountRequest.read.Goals as goal
@@ -53,8 +54,8 @@ returns g c =
     let found = c.in-Ok-request_in.ensures (c.read.ensures (c.in-Ok.ensures.1 m parse.parsed)) in
     unread_for count_app AsksNoCount words c.unfit.result
     (fails_as c.in-Ok.command count_app words (Ok m) is count_is_free parse.kinds)
-    (refused_for (AsksNoCount (matches_of count_app words)) c.unfit.result c.unfit.ensures (inr (inr (inr (inr (
+    (refused_for (AsksNoCount (matches_of count_app words)) c.unfit.result c.unfit.ensures (inr (inr (inr (
       request,
       subst (λ (rs : List Row). IsCountOf rs request) rows found,
       one_wrong (fit_together request) (rw c.in-Some.is at c.misfit.ensures),
-    ))))))
+    )))))

@@ -4,7 +4,8 @@ use Rattle.clap.specs.Walk.{Row}
 use Rattle.lc_arguments.specs.CommandLine.{sum_app}
 use Rattle.lc_arguments.specs.Explained.{AnswersSumIn}
 use Rattle.lc_arguments.specs.Combinations.{table_fits}
-use Rattle.lc_arguments.specs.Words.{AreCutsIn, AsksNoSum, IsSumOf}
+use Rattle.lc_arguments.specs.Words.{AsksNoSum, IsSumOf}
+use Rattle.lc_arguments.specs.ReadNumbers.{AreCutsIn}
 use Rattle.lc_arguments.proofs.WordFaults.{sum_is_free, sum_is_simple, fails_as, matches_as, no_request_of}
 use Rattle.lc_arguments.proofs.Misnaming.{none_wrong, one_wrong, refused_for, refused_with, unread_by, unread_for}
 use Rattle.lc_arguments.proofs.sum.SumRequest.read.Goals as goal
@@ -39,7 +40,10 @@ returns-in-None g c =
     let rows = matches_as c.in-Ok.command sum_app words m is sum_is_simple parse.matches in
     let found = c.in-Ok-request_in.ensures (c.read.ensures (c.in-Ok.ensures.1 m parse.parsed)) in (
       fails_as c.in-Ok.command sum_app words (Ok m) is sum_is_free parse.kinds,
-      (subst (λ (rs : List Row). IsSumOf rs request) rows found, none_wrong (table_fits request.table request.left_out) (rw c.in-None.is at c.misfit.ensures)),
+      (
+        subst (λ (rs : List Row). IsSumOf rs request) rows found,
+        none_wrong (table_fits request.table request.left_out) (rw c.in-None.is at c.misfit.ensures),
+      ),
     )
 
 pub returns : goal.returns
