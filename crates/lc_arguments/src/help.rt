@@ -132,9 +132,9 @@ NAME= puts the paths of a REPORT below NAME, so that two reports with equal
 paths can be added. It is what is before the first = if no slash is before that:
 ./a=b is a file without a NAME.
 
-Without --by, rows are by those of ext, text and eol that every REPORT has. What
-lists files needs reports that were counted with --files: --files, --by dir,
---format html, and a condition on a number. --left-out needs --left-out.
+Without --by, rows are by those of ext, text and eol that every REPORT has.
+--files, --by dir, --format html and a condition on a number need reports that
+were counted with --files, and --left-out those counted with --left-out.
 
 Exit status:
   0  everything was added, and nothing in a REPORT could not be read

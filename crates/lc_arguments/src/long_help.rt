@@ -52,7 +52,7 @@ repeated",
         WHICH_FILES,
         "Count only what is at or under PATH, under the rules of all of DIR.
 PATH is relative to DIR, such as src/lib; . is all of DIR. May be
-repeated; there is one DIR then",
+repeated. lc count takes only one DIR then",
     ),
     (
         "only-from",
@@ -126,8 +126,8 @@ and with --top, and else name",
         "top",
         WHAT_IS_PRINTED,
         "Print only the first N rows, with a row `others` for the sums of the
-rest, and the first N lines of --files. Without --sort, these have the
-most lines",
+rest, and the first N lines of --files. Without --sort, lc count and lc
+sum print those with the most lines",
     ),
     (
         "share",
