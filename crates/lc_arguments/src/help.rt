@@ -161,8 +161,8 @@ hold for directories; --where holds for both sides.
 
 Each row has the old and the new number of files, lines, blank lines and bytes.
 A row in which no number changed is not printed, except with --all. Paths are
-compared as they are. Lines that were added and removed within a file are not
-told apart, as git diff --stat does.
+compared as they are. Lines that were added and lines that were removed within a
+file are not told apart.
 
 Exit status:
   0  both sides were read, whether or not they differ
