@@ -316,14 +316,15 @@ class Tree:
 
     def __init__(self, tree, without=(), exclude=b"", failing=()):
         self.tree, self.without, self.exclude, self.failing = tree, without, exclude, failing
-        self.info, self.info_macros = [], {}
+        self.info, self.info_macros, self.attribute_files = [], {}, []
 
     def top(self):
         """What holds in the top."""
         info = self.info_of()
         rules = rules_in_file(self.exclude, 0, b"--exclude-from")
         rules += rules_in_file(self.rules_in(info, b".git/info/", b"exclude"), 0, b".git/info/exclude")
-        self.info, self.info_macros = attribute_lines(self.rules_in(info, b".git/info/", b"attributes"), True)
+        self.attribute_files.append(self.rules_in(info, b".git/info/", b"attributes"))
+        self.info, self.info_macros = attribute_lines(self.attribute_files[0], True)
         return self.inside(self.tree, b"", Here(rules, [], BUILT_IN))
 
     def info_of(self):
@@ -351,10 +352,16 @@ class Tree:
         """What holds in a directory that stands in one where `here` holds."""
         self.ask("list", above[:-1] or b".")
         rule_file, attribute_file = (self.rules_in(entries, above, name) for name in (b".gitignore", b".gitattributes"))
+        self.attribute_files.append(attribute_file)
         offset = len(above)
         own, own_macros = attribute_lines(attribute_file, not above)
         return Here(here.rules + rules_in_file(rule_file, offset, escaped(above) + b".gitignore"),
                     here.lines + [(offset, *line) for line in own], {**here.macros, **own_macros})
+
+    def unnamed(self):
+        """The lines of standard error about attributes of `without` that no attribute file has."""
+        missing = [it for it in self.without if not any(it in text for text in self.attribute_files)]
+        return b"".join(b"lc: no attribute file names " + escaped(it) + b"\n" for it in missing)
 
     def states(self, here, path, is_dir):
         return attributes_of(here.lines + [(0, *line) for line in self.info], {**here.macros, **self.info_macros}, path, is_dir)
