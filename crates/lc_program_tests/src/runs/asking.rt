@@ -78,9 +78,6 @@ fn is_refusal(told: &[u8], wanted: &[u8]) -> bool {
         // Lines about patterns may follow it.
         || told.starts_with(b"lc: some paths could not be read\n")
         || told.ends_with(b"lc: rules above this directory were not read\n")
-        // A system without memory may know no canonical path, so directories that are not apart are counted.
-        || (told.starts_with(b"lc: cannot read ")
-            && (wanted.ends_with(b" lies in other\n") || wanted.ends_with(b" are one directory\n")))
         // A system without memory may know of no repository, so the hint is missing.
         || (told.len() < wanted.len() && wanted.starts_with(told))
 }
