@@ -62,7 +62,7 @@ pub fn few_numbers<J, R>()
     ensures ends { FewEnds J R }
 {}
 
-/// The law that the rows in place are the rows of all workers, each once, so that a sum over the rows is the sum of the workers' sums.
+/// The law that the rows of a closed board are those of all workers, each once. So a sum over these rows is the sum of the workers' sums.
 #[tactic(auto, using(crate::proofs::RowsOfWorkers::rows_are_ends, crate::proofs::RowsOfWorkers::sums_of_rows))]
 pub fn rows_are_ends<J, R>()
     ensures rows { RowsAreEnds J R }

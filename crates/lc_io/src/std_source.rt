@@ -14,8 +14,8 @@ pub const MAX_TRIES: u32 = 65_536;
 
 /// A reader of std, such as a file or standard input.
 ///
-/// A `read` that a signal interrupts is tried again, up to `MAX_TRIES` times in all. Every other error of the reader is a failure. If it is
-/// known which bytes the reader has left, such as for a slice, the reads return those.
+/// A `read` that a signal interrupts is tried again, up to `MAX_TRIES` times in all. Every other error of the reader is a failure. If
+/// the remaining bytes of the reader are known, as those of a slice are, the reads return these bytes.
 ///
 /// ```
 /// let mut reader = StdSource(fs::open(rt, "notes.txt")?);

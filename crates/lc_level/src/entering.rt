@@ -133,7 +133,8 @@ impl<T: Tree> LevelReader<'_, T> {
         })
     }
 
-    /// Lists the directory of a job and reads its rule files, up to the first error. The scratch paths are then those of the directory.
+    /// Lists the directory of a job and reads its rule files, up to the first error. On success `scratch` has the path
+    /// of this directory.
     pub fn enter(&self, job: &Job, scratch: &mut Scratch) -> Result<Entered, OpenFault>
         ensures at { IfOk result (λ e. scratch.new.path.directory ≡ e.job.path) }
         ensures enters { EntersLevel (T.lists self.now.tree.now) (T.gives self.now.tree.now) job.now self.now.options.texts result }

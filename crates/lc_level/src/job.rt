@@ -14,8 +14,9 @@ use std::alloc::{AllocError, Global};
 use std::marker::Model;
 use std::sync::Arc;
 
-/// A directory to be visited: its path, and both chains of its parent. All directories under the same rule files share the chains. A
-/// directory with its own rule files is a job too, so both answer the same questions. A job is one word long, so it moves at no cost.
+/// A directory to be visited: its path, and the chains of ignore files and of attribute files above it. Directories under the same rule
+/// files share the chains. Once a directory's own rule files are read, a second `Job` has the chains that include them. A job is one
+/// pointer, so it is moved at no cost.
 ///
 /// ```
 /// let top = Job::top(alloc, &Filters::none(alloc))?; // its path is empty, and its chains have no rule

@@ -26,6 +26,8 @@ fn push_commands(line: &mut String, commands: Commands) -> Result<(), AllocError
     let mut before = "";
     for (has, name) in [
         (commands.count, "count"),
+        (commands.sum, "sum"),
+        (commands.diff, "diff"),
         (commands.explain, "explain"),
         (commands.check, "check"),
     ] {

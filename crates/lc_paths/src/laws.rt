@@ -3,8 +3,8 @@
 ghost use Rattle.lc_paths.specs.Checks.Laws.{WordLaw};
 ghost use Rattle.lc_paths.specs.Explanations.Laws.{EntryLaw, IntoLaw};
 
-/// The law that the rule of a line agrees with its word. Under an ignored directory the rule ignores. Otherwise the word is what the rule
-/// says, or `none` if there is no rule.
+/// The law that the rule that is printed for a path agrees with the word. Under an ignored directory it is a rule that ignores. For any
+/// other path that is not bad, the word is what the rule says, or `none` if there is no rule.
 pub fn the_rule_gives_the_word()
     ensures { WordLaw }
 {}

@@ -33,11 +33,11 @@ fn push_visible_bytes(text: &mut Vec<u8>, bytes: &[u8]) -> Result<(), AllocError
     text.extend_from_slice(shown.as_bytes())
 }
 
-/// Appends bytes in a style.
+/// Appends bytes, escaped as the style requires.
 ///
 /// ```
-/// push_styled(&mut text, PathStyle::Escaped, "a\u{202e}b\n".as_bytes())?; // the bytes of a\u{202e}b, then \x0a
-/// push_styled(&mut text, PathStyle::Visible, "a\u{202e}b\n".as_bytes())?; // a\xe2\x80\xaeb\x0a
+/// push_styled(&mut text, PathStyle::Escaped, "a\u{202e}b\n".as_bytes())?; // only the line feed becomes the four bytes `\x0a`
+/// push_styled(&mut text, PathStyle::Visible, "a\u{202e}b\n".as_bytes())?; // appends the text `a\xe2\x80\xaeb\x0a`
 /// ```
 pub fn push_styled(text: &mut Vec<u8>, style: PathStyle, bytes: &[u8]) -> Result<(), AllocError>
     ensures { OnOk result (text.new.items ≡ text.old.items ++ styled style bytes.now) }

@@ -168,7 +168,7 @@ impl<J: Drop, R: Drop> Recorded<J, R> {
         worker < self.plain.workers() && self.plain.held_by(worker) == Some(number)
     }
 
-    /// Returns the rows, if each number has ended and the history agrees with each pass.
+    /// Closes the board. It returns the row of each number, if each has one and the history has exactly the events of each pass.
     pub fn close(
         self,
         alloc: Global,

@@ -174,7 +174,7 @@ const THREE_ROWS: &[Ended<u32>] = &[
     Ended::Returned(12),
 ];
 
-/// A script on a board of this size, and what closing the board then gives.
+/// The size of a board, calls on it with their expected answers, and the expected result of closing it.
 pub struct Script {
     pub capacity: u32,
     pub workers: u32,
