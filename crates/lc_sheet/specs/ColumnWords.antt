@@ -1,18 +1,35 @@
 -- The words of columns, and their sides.
-use Rattle.std.specs.Prelude.{ℕ, List, [], codes}
+use Rattle.std.specs.Prelude.{ℕ, List, [], ◌++◌, codes}
 use Rattle.lc_sheet.specs.declared.column.Number.{Number as NumberColumn}
 use Rattle.lc_sheet.specs.declared.column.Number.TheVariants.{Files, Lines, Blank, Bytes}
+use Rattle.lc_sheet.specs.declared.column.Compared.{Compared}
+use Rattle.lc_sheet.specs.declared.column.Compared.TheVariants as compared
 use Rattle.lc_sheet.specs.declared.column.Side.{Side}
 use Rattle.lc_sheet.specs.declared.column.Side.TheVariants.{Left, Right, End}
 use Rattle.lc_sheet.specs.declared.column.Column.{Column}
 use Rattle.lc_sheet.specs.declared.column.Column.TheVariants.{Dir, Ext, Text, Eol, Number, Share, Bar, Path, Kind, Reason, Place, Entry}
-use Rattle.lc_sheet.specs.declared.column.Column.TheVariants.{File, Line, Attribute, Fault, Site}
+use Rattle.lc_sheet.specs.declared.column.Column.TheVariants.{File, Line, Attribute, Fault, Site, Change, Old, New, Difference}
 
 abbrev pub number_name : NumberColumn → List ℕ
 number_name Files = codes "files"
 number_name Lines = codes "lines"
 number_name Blank = codes "blank"
 number_name Bytes = codes "bytes"
+
+-- what is compared, and its names in two reports
+abbrev pub compared_name : Compared → List ℕ
+compared_name compared.Text = codes "text"
+compared_name compared.Eol = codes "eol"
+compared_name (compared.Number n) = number_name n
+
+abbrev pub old_name : Compared → List ℕ
+old_name c = codes "old_" ++ compared_name c
+
+abbrev pub new_name : Compared → List ℕ
+new_name c = codes "new_" ++ compared_name c
+
+abbrev pub difference_name : NumberColumn → List ℕ
+difference_name n = number_name n ++ codes "_change"
 
 -- for programs
 abbrev pub column_name : Column → List ℕ
@@ -33,6 +50,10 @@ column_name Line = codes "line"
 column_name Attribute = codes "attribute"
 column_name Fault = codes "word"
 column_name Site = codes "path"
+column_name Change = codes "change"
+column_name (Old c) = old_name c
+column_name (New c) = new_name c
+column_name (Difference n) = difference_name n
 
 -- for people
 abbrev pub heading : Column → List ℕ
@@ -42,12 +63,18 @@ heading Reason = codes "left out"
 heading Place = codes "by"
 heading Entry = codes "path"
 heading Fault = codes "fault"
+heading (Old c) = compared_name c
+heading (New c) = compared_name c
+heading (Difference n) = []
 heading column = column_name column
 
 -- numbers are at the right, and paths end their lines
 abbrev pub side_of : Column → Side
 side_of (Number n) = Right
 side_of Share = Right
+side_of (Old (compared.Number n)) = Right
+side_of (New (compared.Number n)) = Right
+side_of (Difference n) = Right
 side_of Path = End
 side_of Entry = End
 side_of Site = End

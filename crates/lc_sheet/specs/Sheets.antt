@@ -26,3 +26,10 @@ pub record SheetModel : Type 0 where
   pub files : Option SectionModel
   pub skipped : SectionModel
   pub faults : SectionModel
+
+-- a comparison of two reports: the rows, the sums over those that are cut off, where some are, the total, and the files
+pub record ComparisonModel : Type 0 where
+  pub rows : SectionModel
+  pub others : SectionModel
+  pub total : SectionModel
+  pub files : Option SectionModel

@@ -5,7 +5,7 @@ use Rattle.lc_sheet.specs.declared.value.Value.TheVariants as value
 use Rattle.lc_text.specs.Names.{NameModel, name_model}
 
 -- a value of a line in a column: none; summed over the column; a column that does not apply; a word; bytes with what is printed before and
--- after them; a path; a number; a part of a whole, as a share or as a bar
+-- after them; a path; a number; a part of a whole, as a share or as a bar; an old number and a new one, as a change
 pub data ValueModel : Type 0 where
   missing : ValueModel
   summed : ValueModel
@@ -16,6 +16,7 @@ pub data ValueModel : Type 0 where
   number : ℕ → ValueModel
   share : ℕ → ℕ → ValueModel
   bar : ℕ → ℕ → ValueModel
+  difference : ℕ → ℕ → ValueModel
 
 abbrev pub value_model : Value → ValueModel
 value_model value.Missing = missing
@@ -27,3 +28,4 @@ value_model (value.Path p) = path p.now
 value_model (value.Number n) = number n
 value_model (value.Share part whole) = share part whole
 value_model (value.Bar part whole) = bar part whole
+value_model (value.Difference old new) = difference old new

@@ -1,7 +1,8 @@
 //! The columns of a sheet: their names, their headings and their sides.
 
 ghost use Rattle.std.specs.Prelude.{◌≡◌};
-ghost use Rattle.lc_sheet.specs.ColumnWords.{column_name, heading, number_name, side_of};
+ghost use Rattle.lc_sheet.specs.ColumnWords.{column_name, compared_name, difference_name, heading, new_name, number_name, old_name};
+ghost use Rattle.lc_sheet.specs.ColumnWords.{side_of};
 
 /// A number of a row or of a file. Rows and files are sorted by one of these, largest first.
 #[derive(Debug, Clone, Copy, PartialEq, Eq)]
@@ -14,6 +15,17 @@ pub enum Number {
     Blank,
     /// The number of bytes.
     Bytes,
+}
+
+/// What two reports are compared by: a word or a number that a file has, or a row.
+#[derive(Debug, Clone, Copy, PartialEq, Eq)]
+pub enum Compared {
+    /// What the attribute `text` is for the file.
+    Text,
+    /// How the file's lines end.
+    Eol,
+    /// One of the numbers.
+    Number(Number),
 }
 
 /// The side of a column at which a value is aligned.
@@ -64,6 +76,14 @@ pub enum Column {
     Fault,
     /// The path of what could not be read.
     Site,
+    /// What became of a file from the old report to the new one: `added`, `removed` or `changed`.
+    Change,
+    /// What a file or a row has in the old report.
+    Old(Compared),
+    /// What a file or a row has in the new report.
+    New(Compared),
+    /// The change of a number, with its sign. It follows the number, and has no heading.
+    Difference(Number),
 }
 
 impl Number {
@@ -77,6 +97,56 @@ impl Number {
             Number::Blank => "blank",
             Number::Bytes => "bytes",
         }
+    }
+}
+
+impl Compared {
+    /// Returns the name of the compared column, such as `eol` or `lines`.
+    pub fn name(self) -> &'static str
+        ensures { result.now ≡ compared_name self }
+    {
+        match self {
+            Compared::Text => "text",
+            Compared::Eol => "eol",
+            Compared::Number(number) => number.name(),
+        }
+    }
+
+    fn old_name(self) -> &'static str
+        ensures { result.now ≡ old_name self }
+    {
+        match self {
+            Compared::Text => "old_text",
+            Compared::Eol => "old_eol",
+            Compared::Number(Number::Files) => "old_files",
+            Compared::Number(Number::Lines) => "old_lines",
+            Compared::Number(Number::Blank) => "old_blank",
+            Compared::Number(Number::Bytes) => "old_bytes",
+        }
+    }
+
+    fn new_name(self) -> &'static str
+        ensures { result.now ≡ new_name self }
+    {
+        match self {
+            Compared::Text => "new_text",
+            Compared::Eol => "new_eol",
+            Compared::Number(Number::Files) => "new_files",
+            Compared::Number(Number::Lines) => "new_lines",
+            Compared::Number(Number::Blank) => "new_blank",
+            Compared::Number(Number::Bytes) => "new_bytes",
+        }
+    }
+}
+
+fn difference_name(number: Number) -> &'static str
+    ensures { result.now ≡ difference_name number }
+{
+    match number {
+        Number::Files => "files_change",
+        Number::Lines => "lines_change",
+        Number::Blank => "blank_change",
+        Number::Bytes => "bytes_change",
     }
 }
 
@@ -102,6 +172,10 @@ impl Column {
             Column::Line => "line",
             Column::Attribute => "attribute",
             Column::Fault => "word",
+            Column::Change => "change",
+            Column::Old(compared) => compared.old_name(),
+            Column::New(compared) => compared.new_name(),
+            Column::Difference(number) => difference_name(number),
         }
     }
 
@@ -110,7 +184,8 @@ impl Column {
         ensures { result.now ≡ heading self }
     {
         match self {
-            Column::Bar => "",
+            Column::Bar | Column::Difference(_) => "",
+            Column::Old(compared) | Column::New(compared) => compared.name(),
             Column::Path => "file",
             Column::Reason => "left out",
             Column::Place => "by",
@@ -125,7 +200,11 @@ impl Column {
         ensures { result ≡ side_of self }
     {
         match self {
-            Column::Number(_) | Column::Share => Side::Right,
+            Column::Number(_)
+            | Column::Share
+            | Column::Old(Compared::Number(_))
+            | Column::New(Compared::Number(_))
+            | Column::Difference(_) => Side::Right,
             Column::Path | Column::Entry | Column::Site => Side::End,
             _ => Side::Left,
         }

@@ -2,12 +2,13 @@
 //!
 //! - `column`: the columns; `value`: what a line has in a column
 //! - `form`: what every line depends on; `lines`: the kinds of lines; `section`: lines of one kind in columns; `sheet`: the sections of a
-//!   report
+//!   report; `comparison_sheet`: those of two reports that are compared
 //! - `table_options`: the format of a table, its columns, its order, and where it is cut
 //! - `condition`: which files a table shows
 #![tactic(auto)]
 
 mod column;
+mod comparison_sheet;
 mod condition;
 mod form;
 mod lines;
@@ -16,7 +17,8 @@ mod sheet;
 mod table_options;
 mod value;
 
-pub use column::{Column, Number, Side};
+pub use column::{Column, Compared, Number, Side};
+pub use comparison_sheet::ComparisonSheet;
 pub use condition::{Comparison, Condition, Test, needs_files};
 pub use form::{Form, Shares};
 pub use lines::Lines;

@@ -23,4 +23,6 @@ pub enum Value<'a> {
     Share { part: u128, whole: u128 },
     /// A part of a whole, for a bar.
     Bar { part: u128, whole: u128 },
+    /// A number of two reports, for its change from the old one to the new one, such as `+1,310`.
+    Difference { old: u128, new: u128 },
 }

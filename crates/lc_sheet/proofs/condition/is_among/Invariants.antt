@@ -1,5 +1,4 @@
-use Rattle.std.proofs.Common.{◌≡◌, ℕ, suc, length, List, Option, Some, None}
-use Rattle.std.specs.Borrow.{Bor}
+use Rattle.std.proofs.Common.{◌≡◌}
 use Rattle.std.specs.List.{list_any}
 use Rattle.lc_glob.specs.Pieces.{pieces_left, pieces_of}
 use Rattle.lc_sheet.specs.Conditions.{comma, has_text}
