@@ -148,7 +148,7 @@ pub empty_first : (n : ℕ) → first_names n [] ≡ []
 empty_first zero = refl
 empty_first (suc n) = ap (λ l. join_with_byte slash ([] ∷ l)) (first_of_none (suc n - 0))
 
-level_of_first : (path : List ℕ) (n : ℕ) → level_of (first_names n path) ≡ min n (level_of path)
+pub level_of_first : (path : List ℕ) (n : ℕ) → level_of (first_names n path) ≡ min n (level_of path)
 level_of_first [] n = ap level_of (empty_first n) ∙ omega arith
 level_of_first (b ∷ bs) n =
     level_joined (to_name n (segments_of (b ∷ bs))) (whole_first n (segments_of (b ∷ bs)) (whole_segments (b ∷ bs)))
@@ -177,6 +177,18 @@ above_first path j deep =
     (segments_joined (to_name (suc j) ss) (whole_first (suc j) ss (whole_segments path)) (some_first j ss (some_segment path)))
     ∙ ap (λ n. join_with_byte slash (to_name j (to_name n ss))) (sym more)
     ∙ ap (join_with_byte slash) (first_of_more 1 ss j)
+
+-- a path that is cut after some names, and then after as many or fewer, is cut once
+pub first_again : (path : List ℕ) (j n : ℕ) → j ≤ n → first_names j (first_names n path) ≡ first_names j path
+first_again path zero n few = refl
+first_again path (suc j) zero few = absurd (omega arith)
+first_again path (suc j) (suc n) few =
+    let ss : List (List ℕ) = segments_of path in
+    let more : suc j + (n - j) ≡ suc n = omega arith in
+    ap (λ ts. join_with_byte slash (to_name (suc j) ts))
+    (segments_joined (to_name (suc n) ss) (whole_first (suc n) ss (whole_segments path)) (some_first n ss (some_segment path)))
+    ∙ ap (λ k. join_with_byte slash (to_name (suc j) (to_name k ss))) (sym more)
+    ∙ ap (join_with_byte slash) (first_of_more (n - j) ss (suc j))
 
 -- the directory right above one that is above a file
 pub above_at : (path : List ℕ) (j : ℕ) → suc j ≤ level_of (parent_of path) → above (directory_of (suc j) path) ≡ directory_of j path

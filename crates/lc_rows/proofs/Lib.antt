@@ -2,12 +2,13 @@ pub mod PathCuts
 pub mod SameKeys
 pub mod Sorted
 pub mod Folding
-pub mod Above
 pub mod Levels
 pub mod TreePaths
 pub mod RowLaws
 pub mod DirectoryLaws
 pub mod TreeLaw
+pub mod TreeParts
+pub mod Above
 pub mod ChildrenLaw
 pub mod ViewLaws
 pub mod ClassLaw

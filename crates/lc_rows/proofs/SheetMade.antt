@@ -10,16 +10,17 @@ use Rattle.lc_walk.specs.declared.report.Report.{Report}
 use Rattle.lc_rows.specs.Kinds.{NamedSumsModel}
 use Rattle.lc_rows.specs.RowKeys.{ShownRowModel}
 use Rattle.lc_rows.specs.SheetColumns.{row_columns}
-use Rattle.lc_rows.specs.Sheets.{HasFiles, IsSheetOf, form_of, others_lines, sheet_of, sheet_with, totals_lines}
+use Rattle.lc_rows.specs.Sheets.{HasFilesWith, IsSheetWith, form_of, others_lines, sheet_among, sheet_with, totals_lines}
 use Rattle.lc_rows.specs.ShownFiles.{AreFilesSorted}
 use Rattle.lc_rows.specs.Views.{ViewModel}
+use Rattle.lc_rows.specs.declared.classes.ClassSums.{ClassSums}
 use Rattle.lc_level.specs.Level.{FileLineModel}
 
 -- where each part is that of a view, the sheet is that of the view
-pub made : (options : TableOptions) (r : Report) (v : ViewModel) (form : Form) (columns : List Column) (rows : List ShownRowModel)
-    (others totals : List NamedSumsModel) (files : List FileLineModel)
+pub made : (options : TableOptions) (r : Report) (classes : ClassSums) (v : ViewModel) (form : Form) (columns : List Column)
+    (rows : List ShownRowModel) (others totals : List NamedSumsModel) (files : List FileLineModel)
     → form ≡ form_of options r.totals rows → columns ≡ row_columns options → rows ≡ v.rows → others ≡ others_lines v.others
-    → totals ≡ totals_lines r → files ≡ v.files
+    → totals ≡ totals_lines r.totals classes → files ≡ v.files
     → sheet_with (record {
       format = options.format;
       form = form;
@@ -27,18 +28,19 @@ pub made : (options : TableOptions) (r : Report) (v : ViewModel) (form : Form) (
       rows = rows;
       others = others;
       totals = totals;
+      some_binary = classes.some_binary;
       lists_files = options.files;
       files = files;
     }) r
-    ≡ sheet_of options r v
-made options r v form columns rows others totals files is_form are_columns are_rows are_others are_totals are_files =
+    ≡ sheet_among options r classes v
+made options r classes v form columns rows others totals files is_form are_columns are_rows are_others are_totals are_files =
     rw (is_form, are_columns, are_rows, are_others, are_totals, are_files) refl
 
 -- once its files are sorted in place, the sheet of what the report is then is a sheet of the report
-pub is_sheet : (options : TableOptions) (r : Report) (files : Vec FileLineModel Global) (s : SheetModel)
-    → AreFilesSorted options.sort r.files.items files.items → HasFiles options (record r { files = files }) files.items s
-    → IsSheetOf options r s
-is_sheet options r files s are_files has = record {
+pub is_sheet : (options : TableOptions) (r : Report) (classes : ClassSums) (files : Vec FileLineModel Global) (s : SheetModel)
+    → AreFilesSorted options.sort r.files.items files.items → HasFilesWith options (record r { files = files }) classes files.items s
+    → IsSheetWith options r classes s
+is_sheet options r classes files s are_files has = record {
   files = files.items;
   are_files = are_files;
   has = record { rows = has.rows; are_rows = has.are_rows; is = has.is };

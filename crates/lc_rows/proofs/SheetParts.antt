@@ -15,21 +15,19 @@ use Rattle.lc_sheet.specs.declared.form.Shares.{Shares}
 use Rattle.lc_sheet.specs.declared.column.Number.{Number}
 use Rattle.lc_sheet.specs.declared.table_options.TableOptions.{TableOptions}
 use Rattle.lc_walk.specs.Sums.{no_files, plus}
-use Rattle.lc_walk.specs.TallyRows.{sums_of_rows}
 use Rattle.lc_walk.specs.declared.report.Report.{Report}
 use Rattle.lc_walk.specs.declared.tally.sums.Sums.{Sums}
-use Rattle.lc_rows.specs.Classes.{binary_sums, text_sums}
 use Rattle.lc_rows.specs.Kinds.{NamedSumsModel, bar_value, directory_value, extension_value, kept_value, named_in, row_value, share_value}
 use Rattle.lc_rows.specs.Kinds.{sums_value, text_value}
 use Rattle.lc_rows.specs.RowKeys.{ShownRowModel, sums_of_shown}
 use Rattle.lc_rows.specs.SheetColumns.{row_columns, sums_columns}
-use Rattle.lc_rows.specs.SheetLaws.{ClassPartsLaw, IsSectionWithin, IsWithin, SheetPartsLaw}
-use Rattle.lc_rows.specs.Sheets.{form_of, listed_files, others_lines, section_of, share_number, shares_of, sheet_of, totals_lines}
+use Rattle.lc_rows.specs.SheetLaws.{ClassPartsLaw, HasClassTotals, IsSectionWithin, IsWithin, SheetPartsLaw}
+use Rattle.lc_rows.specs.Sheets.{form_of, listed_files, others_lines, section_of, share_number, shares_of, sheet_among, totals_lines}
 use Rattle.lc_rows.specs.ShownRows.{number_in}
 use Rattle.lc_rows.specs.Views.{first_of, view_of}
+use Rattle.lc_rows.specs.declared.classes.ClassSums.{ClassSums}
 use Rattle.lc_rows.proofs.RowLaws.{totals_law}
 use Rattle.lc_rows.proofs.RowParts.{first_are, rows_within_largest, rows_within_sum}
-use Rattle.lc_rows.proofs.ClassLaw.{classes_law}
 use Rattle.lc_rows.proofs.SheetLawProofs.{binary_line, number_plus, sorted_totals, text_line, total_line}
 use Rattle.lc_rows.proofs.ViewLaws.{cut_totals_law}
 
@@ -83,6 +81,10 @@ value_within form r part bar column.Line = tt
 value_within form r part bar column.Attribute = tt
 value_within form r part bar column.Fault = tt
 value_within form r part bar column.Site = tt
+value_within form r part bar column.Change = tt
+value_within form r part bar (column.Old x) = tt
+value_within form r part bar (column.New x) = tt
+value_within form r part bar (column.Difference m) = tt
 
 -- ---- rows
 
@@ -136,18 +138,19 @@ others_under n rest totals (Some s) whole =
     let all = ap (number_in n) whole in
     All-cons (IsUnder n totals) (record { name = codes "others"; sums = s }) [] (omega arith) (All-nil (IsUnder n totals))
 
-classes_under : (n : Number) (r : Report) → r.totals ≡ sums_of_rows r.rows.items → All (IsUnder n r.totals) (totals_lines r)
-classes_under n r totals =
-    let both = number_plus n (text_sums r.rows.items) (binary_sums r.rows.items) in
-    let all = ap (number_in n) (totals ∙ sym (classes_law r.rows.items)) in
-    All-cons (IsUnder n r.totals) (total_line r) (text_line r ∷ binary_line r ∷ []) (omega arith)
-    (All-cons (IsUnder n r.totals) (text_line r) (binary_line r ∷ []) (omega arith)
-    (All-cons (IsUnder n r.totals) (binary_line r) [] (omega arith) (All-nil (IsUnder n r.totals))))
+classes_under : (n : Number) (r : Report) (classes : ClassSums) → HasClassTotals r classes
+    → All (IsUnder n r.totals) (totals_lines r.totals classes)
+classes_under n r classes totals =
+    let both = number_plus n classes.text classes.binary in
+    let all = ap (number_in n) totals in
+    All-cons (IsUnder n r.totals) (total_line r.totals) (text_line classes ∷ binary_line classes ∷ []) (omega arith)
+    (All-cons (IsUnder n r.totals) (text_line classes) (binary_line classes ∷ []) (omega arith)
+    (All-cons (IsUnder n r.totals) (binary_line classes) [] (omega arith) (All-nil (IsUnder n r.totals))))
 
 -- ---- the laws
 
 pub sheet_parts_law : SheetPartsLaw
-sheet_parts_law options r s totals sheet =
+sheet_parts_law options r classes s totals sheet =
     let rows = sheet.has.rows in
     let shown = first_of options.top rows in
     let n = share_number options.sort in
@@ -165,7 +168,7 @@ sheet_parts_law options r s totals sheet =
     λ i d low. line_within form (get_or shown i d) columns (share_within options.share quota (get_or shown i d).sums (parts i d low))
     (bar_within options.share quota (get_or shown i d).sums (bars i d low)) in
     let files = listed_files options.files sheet.files in
-    let others : IsSectionWithin (sheet_of options r (view_of options.top rows files)).others =
+    let others : IsSectionWithin (sheet_among options r classes (view_of options.top rows files)).others =
     sums_section_within options r.totals shown (sums_columns options.format columns) (others_lines (view_of options.top rows files).others)
     (others_under n (sums_of_shown shown) r.totals (view_of options.top rows files).others
     (cut_totals_law options.by options.sort options.top r.rows.items sheet.files rows files sheet.has.are_rows
@@ -174,8 +177,8 @@ sheet_parts_law options r s totals sheet =
     (All-map (λ (line : List ValueModel). All IsWithin line) (line_of (row_value form) columns) shown within, others)
 
 pub class_parts_law : ClassPartsLaw
-class_parts_law options r s totals sheet =
+class_parts_law options r classes s totals sheet =
     let view = view_of options.top sheet.has.rows (listed_files options.files sheet.files) in
     subst (λ (t : SheetModel). IsSectionWithin t.totals) (sym sheet.has.is)
-    (sums_section_within options r.totals view.rows (sums_columns options.format (row_columns options)) (totals_lines r)
-    (classes_under (share_number options.sort) r totals))
+    (sums_section_within options r.totals view.rows (sums_columns options.format (row_columns options)) (totals_lines r.totals classes)
+    (classes_under (share_number options.sort) r classes totals))

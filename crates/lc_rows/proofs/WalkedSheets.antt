@@ -11,14 +11,16 @@ use Rattle.lc_walk.specs.Tally.{CountedFile, sums_of_files}
 use Rattle.lc_walk.specs.declared.options.Options.{Options}
 use Rattle.lc_walk.specs.declared.options.ReportLists.{ReportLists}
 use Rattle.lc_walk.specs.declared.report.Report.{Report}
+use Rattle.lc_rows.proofs.ClassLaw.{classes_law}
 use Rattle.lc_rows.proofs.KeptParts.{opposites_law}
 use Rattle.lc_rows.proofs.KeptTotals.{kept_totals_law}
 use Rattle.lc_rows.proofs.SheetLawProofs.{sheet_classes_law, sheet_totals_law}
 use Rattle.lc_rows.proofs.SheetParts.{class_parts_law, sheet_parts_law}
+use Rattle.lc_rows.specs.Classes.{classes_of}
 use Rattle.lc_rows.specs.Kept.{IsKept}
 use Rattle.lc_rows.specs.KeptLaws.{WalkedOppositesLaw, tested_sums}
 use Rattle.lc_rows.specs.Laws.{sums_of_lines, totals_of}
-use Rattle.lc_rows.specs.SheetLaws.{HasTotals, WalkedSheetLaw}
+use Rattle.lc_rows.specs.SheetLaws.{HasClassTotals, HasTotals, WalkedSheetLaw}
 use Rattle.lc_rows.specs.WalkedReports.{IsOfWalk}
 
 -- files have the sums that a tally counts
@@ -57,9 +59,11 @@ walked_opposites_law lists gives o c r w listed =
 pub walked_sheet_law : (lists : List ℕ → Listings) (gives : List ℕ → Contents) → WalkedSheetLaw lists gives
 walked_sheet_law lists gives o options r s w listed sheet =
     let adds = walked_adds_up lists gives o r w in
+    let classes = classes_of r.rows.items in
+    let both : HasClassTotals r classes = adds.rows ∙ sym (classes_law r.rows.items) in
     let totals : HasTotals options r = totals_at r adds options.by.dir (λ by. lists_files lists gives o r w (listed by)) in
-    let parts = sheet_parts_law options r s totals sheet in record {
-      rows = sheet_totals_law options r s totals sheet;
-      classes = sheet_classes_law options r s adds.rows sheet;
-      shares = record { rows = parts.0; others = parts.1; totals = class_parts_law options r s adds.rows sheet };
+    let parts = sheet_parts_law options r classes s totals sheet in record {
+      rows = sheet_totals_law options r classes s totals sheet;
+      classes = sheet_classes_law options r classes s both sheet;
+      shares = record { rows = parts.0; others = parts.1; totals = class_parts_law options r classes s both sheet };
     }

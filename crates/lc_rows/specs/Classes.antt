@@ -1,9 +1,11 @@
 -- The sums over binary files, and over others.
 use Rattle.std.specs.Prelude.{Bool, true, false, not, List, filter}
+use Rattle.std.specs.List.{list_any}
 use Rattle.lc_census.specs.declared.line_count.Eol.{Eol}
 use Rattle.lc_census.specs.declared.line_count.Eol.TheVariants.{Nul}
 use Rattle.lc_walk.specs.TallyRows.{TallyRowModel, sums_of_rows}
 use Rattle.lc_walk.specs.declared.tally.sums.Sums.{Sums}
+use Rattle.lc_rows.specs.declared.classes.ClassSums.{ClassSums}
 
 abbrev pub is_nul : Eol → Bool
 is_nul Nul = true
@@ -18,3 +20,7 @@ text_sums rs = sums_of_rows (filter (λ r. not (is_binary r)) rs)
 
 abbrev pub binary_sums : List TallyRowModel → Sums
 binary_sums rs = sums_of_rows (filter is_binary rs)
+
+-- both, and whether there is a row of binary files
+abbrev pub classes_of : List TallyRowModel → ClassSums
+classes_of rs = record { text = text_sums rs; binary = binary_sums rs; some_binary = list_any is_binary rs }

@@ -5,6 +5,7 @@ pub mod ShownRows
 pub mod ShownFiles
 pub mod AddingUp
 pub mod TreeRows
+pub mod LevelParts
 pub mod Views
 pub mod Classes
 pub mod Laws

@@ -2,21 +2,22 @@
 use Rattle.std.specs.Prelude.{⊤, ◌≡◌, ◌≤◌, ℕ, ◌+◌, Bool, true, false, if◌then◌else◌, List, [], ◌∷◌, map, Some}
 use Rattle.std.specs.List.{All, sum_by}
 use Rattle.lc_sheet.specs.Sheets.{SectionModel, SheetModel}
-use Rattle.lc_sheet.specs.Values.{ValueModel, missing, summed, blank, word, name, path, number, share, bar}
+use Rattle.lc_sheet.specs.Values.{ValueModel, missing, summed, blank, word, name, path, number, share, bar, difference}
 use Rattle.lc_sheet.specs.declared.column.Column.{Column}
 use Rattle.lc_sheet.specs.declared.column.Column.TheVariants as column
 use Rattle.lc_sheet.specs.declared.column.Number.{Number}
 use Rattle.lc_sheet.specs.declared.column.Number.TheVariants.{Files, Lines, Blank, Bytes}
 use Rattle.lc_sheet.specs.declared.table_options.TableOptions.{TableOptions}
 use Rattle.lc_tree.specs.Trees.{Listings, Contents}
-use Rattle.lc_walk.specs.TallyRows.{sums_of_rows}
+use Rattle.lc_walk.specs.Sums.{plus}
 use Rattle.lc_walk.specs.declared.options.Options.{Options}
 use Rattle.lc_walk.specs.declared.report.Report.{Report}
 use Rattle.lc_rows.specs.Laws.{totals_of}
-use Rattle.lc_rows.specs.Sheets.{IsSheetOf}
+use Rattle.lc_rows.specs.Sheets.{IsSheetOf, IsSheetWith}
 use Rattle.lc_rows.specs.ShownFiles.{AreFilesSorted}
 use Rattle.lc_rows.specs.Views.{first_of}
 use Rattle.lc_rows.specs.WalkedReports.{IsOfWalk, ListsFilesFor}
+use Rattle.lc_rows.specs.declared.classes.ClassSums.{ClassSums}
 use Rattle.lc_level.specs.Level.{FileLineModel}
 
 abbrev pub same_number : Number → Number → Bool
@@ -65,15 +66,22 @@ abbrev pub RowsAddUp : SheetModel → Type 0
 RowsAddUp s = (n : Number) → column_sum n s.rows + column_sum n s.others ≡ first_number n s.totals
 
 abbrev pub SheetTotalsLaw : Type 0
-SheetTotalsLaw = (options : TableOptions) (r : Report) (s : SheetModel) → HasTotals options r → IsSheetOf options r s → RowsAddUp s
+SheetTotalsLaw =
+    (options : TableOptions) (r : Report) (classes : ClassSums) (s : SheetModel) → HasTotals options r → IsSheetWith options r classes s
+    → RowsAddUp s
 
 -- in each column of numbers what is text and what is binary add up to the total
 abbrev pub ClassesAddUp : SheetModel → Type 0
 ClassesAddUp s = (n : Number) → (text : ℕ) × (binary : ℕ) × (numbers_in n s.totals ≡ (text + binary) ∷ text ∷ binary ∷ [])
 
+-- the totals of a report are those of text and binary files
+abbrev pub HasClassTotals : Report → ClassSums → Type 0
+HasClassTotals r classes = r.totals ≡ plus classes.text classes.binary
+
 abbrev pub SheetClassesLaw : Type 0
 SheetClassesLaw =
-    (options : TableOptions) (r : Report) (s : SheetModel) → r.totals ≡ sums_of_rows r.rows.items → IsSheetOf options r s → ClassesAddUp s
+    (options : TableOptions) (r : Report) (classes : ClassSums) (s : SheetModel) → HasClassTotals r classes
+    → IsSheetWith options r classes s → ClassesAddUp s
 
 -- a part is no larger than its whole
 abbrev pub IsWithin : ValueModel → Type 0
@@ -86,6 +94,7 @@ IsWithin (path p) = ⊤
 IsWithin (number n) = ⊤
 IsWithin (share part whole) = part ≤ whole
 IsWithin (bar part whole) = part ≤ whole
+IsWithin (difference old new) = ⊤
 
 abbrev pub IsSectionWithin : SectionModel → Type 0
 IsSectionWithin section = All (λ (line : List ValueModel). All IsWithin line) section.lines
@@ -98,13 +107,13 @@ pub record SharesAreWithin (s : SheetModel) : Type 0 where
 
 abbrev pub SheetPartsLaw : Type 0
 SheetPartsLaw =
-    (options : TableOptions) (r : Report) (s : SheetModel) → HasTotals options r → IsSheetOf options r s
+    (options : TableOptions) (r : Report) (classes : ClassSums) (s : SheetModel) → HasTotals options r → IsSheetWith options r classes s
     → IsSectionWithin s.rows × IsSectionWithin s.others
 
 abbrev pub ClassPartsLaw : Type 0
 ClassPartsLaw =
-    (options : TableOptions) (r : Report) (s : SheetModel) → r.totals ≡ sums_of_rows r.rows.items → IsSheetOf options r s
-    → IsSectionWithin s.totals
+    (options : TableOptions) (r : Report) (classes : ClassSums) (s : SheetModel) → HasClassTotals r classes
+    → IsSheetWith options r classes s → IsSectionWithin s.totals
 
 -- rows and classes add up, and no share is over its whole
 pub record SheetAddsUp (s : SheetModel) : Type 0 where
@@ -132,6 +141,7 @@ path_at (c ∷ cs) (v ∷ vs) = path_at cs vs
 -- the files that a sheet lists are the first of the sorted ones
 abbrev pub SheetFilesLaw : Type 0
 SheetFilesLaw =
-    (options : TableOptions) (r : Report) (s : SheetModel) (section : SectionModel) → IsSheetOf options r s → s.files ≡ Some section
+    (options : TableOptions) (r : Report) (classes : ClassSums) (s : SheetModel) (section : SectionModel) → IsSheetWith options r classes s
+    → s.files ≡ Some section
     → (files : List FileLineModel) × AreFilesSorted options.sort r.files.items files
     × (map (path_at section.columns) section.lines ≡ map (λ (f : FileLineModel). f.path) (first_of options.top files))

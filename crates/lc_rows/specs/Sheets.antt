@@ -1,6 +1,5 @@
 -- The sheet of a report.
 use Rattle.std.specs.Prelude.{◌≡◌, ℕ, max, Bool, if◌then◌else◌, List, [], ◌∷◌, codes, unwrap_or, Option, Some, None}
-use Rattle.std.specs.List.{list_any}
 use Rattle.lc_sheet.specs.Sheets.{SectionModel, SheetModel, lines_of}
 use Rattle.lc_sheet.specs.Values.{ValueModel}
 use Rattle.lc_sheet.specs.declared.column.Column.{Column}
@@ -12,13 +11,14 @@ use Rattle.lc_sheet.specs.declared.table_options.Format.{Format}
 use Rattle.lc_sheet.specs.declared.table_options.TableOptions.{TableOptions}
 use Rattle.lc_walk.specs.declared.report.Report.{Report}
 use Rattle.lc_walk.specs.declared.tally.sums.Sums.{Sums}
-use Rattle.lc_rows.specs.Classes.{binary_sums, is_binary, text_sums}
+use Rattle.lc_rows.specs.Classes.{classes_of}
 use Rattle.lc_rows.specs.Kinds.{NamedSumsModel, fault_value, file_value, row_value, skipped_value, sums_value}
 use Rattle.lc_rows.specs.RowKeys.{ShownRowModel}
 use Rattle.lc_rows.specs.SheetColumns.{fault_columns, file_columns, first_key, keeps_columns, row_columns, skipped_columns, sums_columns}
 use Rattle.lc_rows.specs.ShownFiles.{AreFilesSorted}
 use Rattle.lc_rows.specs.ShownRows.{AreShown, number_in}
 use Rattle.lc_rows.specs.Views.{ViewModel, view_of}
+use Rattle.lc_rows.specs.declared.classes.ClassSums.{ClassSums}
 use Rattle.lc_level.specs.Level.{FileLineModel}
 
 -- ---- the form of lines
@@ -50,14 +50,15 @@ others_lines None = []
 others_lines (Some s) = record { name = codes "others"; sums = s } ∷ []
 
 -- the sums over all files, over those of text, and over binary ones
-abbrev pub totals_lines : Report → List NamedSumsModel
-totals_lines r =
-    record { name = codes "total"; sums = r.totals } ∷ record { name = codes "text"; sums = text_sums r.rows.items }
-    ∷ record { name = codes "binary"; sums = binary_sums r.rows.items } ∷ []
+abbrev pub totals_lines : Sums → ClassSums → List NamedSumsModel
+totals_lines totals classes =
+    record { name = codes "total"; sums = totals } ∷ record { name = codes "text"; sums = classes.text }
+    ∷ record { name = codes "binary"; sums = classes.binary } ∷ []
 
 -- ---- the sheet
 
--- what is shown of a report: in which format and form; the rows with their columns; the sums; the files, where they are listed
+-- what is shown of a report: in which format and form; the rows with their columns; the sums, and whether a file is binary; the files,
+-- where they are listed
 pub record ShownModel : Type 0 where
   pub format : Format
   pub form : Form
@@ -65,6 +66,7 @@ pub record ShownModel : Type 0 where
   pub rows : List ShownRowModel
   pub others : List NamedSumsModel
   pub totals : List NamedSumsModel
+  pub some_binary : Bool
   pub lists_files : Bool
   pub files : List FileLineModel
 
@@ -80,7 +82,7 @@ sheet_with m r = record {
   rows = section_of (row_value m.form) m.columns m.rows;
   others = section_of (sums_value m.form) (sums_columns m.format m.columns) m.others;
   totals = section_of (sums_value m.form) (sums_columns m.format m.columns) m.totals;
-  some_binary = list_any is_binary r.rows.items;
+  some_binary = m.some_binary;
   directories = r.directories;
   entries = if r.lists.left_out then Some r.entries else None;
   files = files_section m;
@@ -88,34 +90,48 @@ sheet_with m r = record {
   faults = section_of (fault_value m.form) fault_columns r.faults.items;
 }
 
-abbrev pub shown_of : TableOptions → Report → ViewModel → ShownModel
-shown_of options r v = record {
+abbrev pub shown_of : TableOptions → Report → ClassSums → ViewModel → ShownModel
+shown_of options r classes v = record {
   format = options.format;
   form = form_of options r.totals v.rows;
   columns = row_columns options;
   rows = v.rows;
   others = others_lines v.others;
-  totals = totals_lines r;
+  totals = totals_lines r.totals classes;
+  some_binary = classes.some_binary;
   lists_files = options.files;
   files = v.files;
 }
 
--- the sheet of a report with these options, with this view of its rows and files
+-- the sheet of a report with these options, with these sums over text and binary files, and with this view of its rows and files
+abbrev pub sheet_among : TableOptions → Report → ClassSums → ViewModel → SheetModel
+sheet_among options r classes v = sheet_with (shown_of options r classes v) r
+
+-- the sheet whose sums over text and binary files are those of the report's rows
 abbrev pub sheet_of : TableOptions → Report → ViewModel → SheetModel
-sheet_of options r v = sheet_with (shown_of options r v) r
+sheet_of options r v = sheet_among options r (classes_of r.rows.items) v
 
 -- the files that a sheet lists: none where it is not to list files
 abbrev pub listed_files : Bool → List FileLineModel → List FileLineModel
 listed_files listed files = if listed then files else []
 
--- a sheet of a report with these options whose files are these: the first of them and of its rows, as they are summed and sorted
-pub record HasFiles (options : TableOptions) (r : Report) (files : List FileLineModel) (s : SheetModel) : Type 0 where
-  pub rows : List ShownRowModel
-  pub are_rows : AreShown options.by options.sort r.rows.items files rows
-  pub is : s ≡ sheet_of options r (view_of options.top rows (listed_files options.files files))
+-- a sheet of a report with these options and sums by class whose files are these: the first of them and of its rows, as they are summed
+-- and sorted
+pub record HasFilesWith (options : TableOptions) (r : Report) (classes : ClassSums) (files : List FileLineModel) (s : SheetModel) : Type 0
+  where
+    pub rows : List ShownRowModel
+    pub are_rows : AreShown options.by options.sort r.rows.items files rows
+    pub is : s ≡ sheet_among options r classes (view_of options.top rows (listed_files options.files files))
 
--- a sheet of a report with these options
-pub record IsSheetOf (options : TableOptions) (r : Report) (s : SheetModel) : Type 0 where
+abbrev pub HasFiles : TableOptions → Report → List FileLineModel → SheetModel → Type 0
+HasFiles options r files s = HasFilesWith options r (classes_of r.rows.items) files s
+
+-- a sheet of a report with these options and sums by class
+pub record IsSheetWith (options : TableOptions) (r : Report) (classes : ClassSums) (s : SheetModel) : Type 0 where
   pub files : List FileLineModel
   pub are_files : AreFilesSorted options.sort r.files.items files
-  pub has : HasFiles options r files s
+  pub has : HasFilesWith options r classes files s
+
+-- a sheet of a report with these options, whose sums by class are those of its rows
+abbrev pub IsSheetOf : TableOptions → Report → SheetModel → Type 0
+IsSheetOf options r s = IsSheetWith options r (classes_of r.rows.items) s

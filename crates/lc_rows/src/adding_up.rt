@@ -10,7 +10,7 @@ use crate::parts::Part;
 use crate::shown_row::ShownRow;
 use std::alloc::{AllocError, Global};
 
-fn sort(parts: &mut Vec<Part<'_>>)
+fn sort(parts: &mut Vec<Part<'_, '_>>)
     ensures same { IsPermutation parts.old.items parts.new.items }
     ensures order { IsSortedByKey row_key row_key_cmp parts.new.items }
 {
@@ -21,7 +21,7 @@ fn sort(parts: &mut Vec<Part<'_>>)
 fn add_part<'a>(
     rows: &mut Vec<ShownRow<'a>>,
     last: ShownRow<'a>,
-    part: &Part<'a>,
+    part: &Part<'a, '_>,
 ) -> Result<ShownRow<'a>, AllocError>
     ensures { IfOk result (IsAdded rows.old.items last.entry part.now rows.new.items) }
 {
@@ -33,7 +33,10 @@ fn add_part<'a>(
 }
 
 /// Adds up parts that are in the order of their keys.
-fn added_in_order<'a>(alloc: Global, parts: &[Part<'a>]) -> Result<Vec<ShownRow<'a>>, AllocError>
+fn added_in_order<'a>(
+    alloc: Global,
+    parts: &[Part<'a, '_>],
+) -> Result<Vec<ShownRow<'a>>, AllocError>
     requires { IsSortedByKey row_key row_key_cmp parts.now }
     ensures { IfOk result (λ rows. AreAddedUp parts.now rows.items) }
 {
@@ -54,7 +57,7 @@ fn added_in_order<'a>(alloc: Global, parts: &[Part<'a>]) -> Result<Vec<ShownRow<
 /// Makes a row of each part.
 pub(crate) fn rows_of<'a>(
     alloc: Global,
-    parts: &[Part<'a>],
+    parts: &[Part<'a, '_>],
 ) -> Result<Vec<ShownRow<'a>>, AllocError>
     ensures { IfOk result (λ rows. rows.items ≡ parts.now) }
 {
@@ -68,7 +71,7 @@ pub(crate) fn rows_of<'a>(
 /// Adds up the parts of each key, in the order of keys. It stops with an error if the sums overflow.
 pub(crate) fn added_up<'a>(
     alloc: Global,
-    mut parts: Vec<Part<'a>>,
+    mut parts: Vec<Part<'a, '_>>,
 ) -> Result<Vec<ShownRow<'a>>, AllocError>
     ensures { IfOk result (λ rows. AreAddedUp parts.entry.items rows.items) }
 {

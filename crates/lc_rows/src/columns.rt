@@ -8,7 +8,8 @@ ghost use Rattle.lc_rows.specs.SheetColumns.{share_columns, skipped_columns, sum
 use lc_sheet::{Column, Columns, Format, Number, TableOptions};
 use std::alloc::{AllocError, Global};
 
-fn keeps_columns(format: Format) -> bool
+/// Returns whether rows have all columns of keys in a format, even those that they are summed over.
+pub fn keeps_columns(format: Format) -> bool
     ensures { result ≡ keeps_columns format }
 {
     match format {
@@ -27,7 +28,7 @@ fn push_if(columns: &mut Vec<Column>, kept: bool, column: Column) -> Result<(), 
 }
 
 /// Returns the first of the columns that rows are grouped by. The names of sums are in this column.
-pub(crate) fn first_key(format: Format, by: Columns) -> Column
+pub fn first_key(format: Format, by: Columns) -> Column
     ensures { result ≡ first_key (keeps_columns format) by }
 {
     if by.dir.is_some() {
@@ -62,7 +63,8 @@ fn share_columns(format: Format) -> &'static [Column]
     }
 }
 
-fn push_keys(columns: &mut Vec<Column>, all: bool, by: Columns) -> Result<(), AllocError>
+/// Adds the columns of the keys of rows: all of them, or those that rows are grouped by. The directory is always one of the latter.
+pub fn push_keys(columns: &mut Vec<Column>, all: bool, by: Columns) -> Result<(), AllocError>
     ensures { OnOk result (columns.new.items ≡ columns.old.items ++ key_columns all by) }
 {
     push_if(columns, by.dir.is_some(), Column::Dir)?;

@@ -8,7 +8,8 @@ use lc_sheet::Number;
 use lc_walk::FileLine;
 use std::cmp::Ordering;
 
-pub(crate) fn number_of(by: Number, file: &FileLine) -> u64
+/// Returns the number `by` of a file, such as its lines. Each is one file.
+pub fn number_of(by: Number, file: &FileLine) -> u64
     ensures { result ≡ file_number by file.now }
 {
     match by {

@@ -20,8 +20,8 @@ pub fn conditions_keep_totals()
 {}
 
 /// The law that the totals with a condition and the totals with its opposite add up to the totals without it. Opposites are `=` and `!=`,
-/// or `>` and `<=`. It is true of the report of a walk, which must list its files for a condition on a number, and of any report whose
-/// totals are such sums.
+/// or `>` and `<=`. It holds for the report of a walk. It also holds for any report whose totals are the sums over its rows or, if the
+/// condition is on a number, over its files. For a condition on a number the walk must list its files.
 pub fn opposite_conditions_add_up<T: Tree>(tree: &T)
     ensures any { OppositesLaw }
     ensures walked { WalkedOppositesLaw (T.lists tree.now) (T.gives tree.now) }

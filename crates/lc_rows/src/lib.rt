@@ -32,9 +32,12 @@ mod shown_sheet;
 mod values;
 mod words;
 
+pub use classes::ClassSums;
+pub use columns::{first_key, keeps_columns, push_keys};
+pub use cut::split_at_top;
 pub use directories::{directory_at, level_of, name_of, own_part};
 pub use directory_tree::tree_rows;
-pub use files::sort_files;
+pub use files::{number_of, sort_files};
 pub use kept::keep;
 pub use kept_laws::{
     conditions_have_no_order, conditions_keep_totals, no_condition_keeps_all,
@@ -48,10 +51,11 @@ pub use laws::{
     shown_rows_are_the_summed_ones, shown_rows_keep_the_totals, sorted_files_are_the_files,
     the_first_files_are_the_largest, what_is_cut_off_adds_up, whole_keys_add_up_to_themselves,
 };
+pub use row_key::RowKeyRef;
 pub use sheet_laws::{
     classes_of_a_sheet_add_up, files_of_a_sheet_are_the_first,
     no_line_of_a_sheet_is_over_its_whole, rows_of_a_sheet_add_up, sheets_of_walks_add_up,
 };
-pub use shown::{number_in, shown_rows};
+pub use shown::{added_rows, number_in, shown_rows};
 pub use shown_row::ShownRow;
 pub use shown_sheet::{ReportSheet, Shown};

@@ -2,11 +2,12 @@
 
 ghost use Rattle.std.specs.Prelude.{◌≡◌, map, IfOk};
 ghost use Rattle.lc_rows.specs.Parts.{sums_of_source};
-ghost use Rattle.lc_rows.specs.RowKeys.{row_key};
+ghost use Rattle.lc_rows.specs.RowKeys.{row_key, row_with};
 ghost use Rattle.lc_rows.specs.ShownRows.{file_key, key_in, part_of_file, part_of_row, parts_of};
 
 use crate::directories::{first_names, split_path};
 use crate::row_key::RowKeyRef;
+use crate::shown_row::ShownRow;
 use lc_census::Eol;
 use lc_rules::TextState;
 use lc_sheet::Columns;
@@ -16,21 +17,23 @@ use std::marker::Model;
 
 /// The place of a part's sums.
 #[derive(Clone, Copy)]
-pub(crate) enum Source<'a> {
+pub(crate) enum Source<'s> {
     /// In the census of a file.
-    File(&'a FileLine),
+    File(&'s FileLine),
     /// In a row of the report.
-    Row(&'a TallyRow),
+    Row(&'s TallyRow),
+    /// In a row of a table.
+    Shown(&'s Sums),
 }
 
-/// A part of a row of a table: a file, or a row of the report. It borrows all its bytes.
+/// A part of a row of a table: a file, a row of the report, or another row of a table. It borrows all its bytes.
 #[derive(Drop)]
-pub(crate) struct Part<'a> {
+pub(crate) struct Part<'a, 's> {
     pub(crate) key: RowKeyRef<'a>,
-    source: Source<'a>,
+    source: Source<'s>,
 }
 
-impl<'a> Model for Part<'a> {
+impl<'a, 's> Model for Part<'a, 's> {
     ghost use Rattle.lc_rows.specs.RowKeys.{ShownRowModel};
 
     ghost Value = { ShownRowModel };
@@ -53,11 +56,22 @@ impl Source<'_> {
                 bytes: u128::from(file.count.bytes),
             },
             Source::Row(row) => row.sums(),
+            Source::Shown(sums) => *sums,
         }
     }
 }
 
-impl Part<'_> {
+impl<'a, 's> Part<'a, 's> {
+    /// Makes a part with the sums of a row of a table.
+    pub(crate) fn shown(key: RowKeyRef<'a>, sums: &'s Sums) -> Part<'a, 's>
+        ensures { result ≡ row_with key.entry sums.now }
+    {
+        Part {
+            key,
+            source: Source::Shown(sums),
+        }
+    }
+
     /// Returns the sums that the part adds.
     pub(crate) fn sums(&self) -> Sums
         ensures { result ≡ self.now.sums }
@@ -80,7 +94,7 @@ fn key_in<'a>(by: Columns, key: KeyRef<'a>) -> KeyRef<'a>
     }
 }
 
-fn row_part<'a>(by: Columns, row: &'a TallyRow) -> Part<'a>
+fn row_part<'a>(by: Columns, row: &'a TallyRow) -> Part<'a, 'a>
     ensures { result ≡ part_of_row by row.now }
 {
     let key = key_in(by, row.key());
@@ -96,7 +110,7 @@ fn row_part<'a>(by: Columns, row: &'a TallyRow) -> Part<'a>
 }
 
 /// Makes the part of a file, with its directory cut after this many names.
-pub(crate) fn file_part<'a>(by: Columns, depth: usize, file: &'a FileLine) -> Part<'a>
+fn file_part<'a>(by: Columns, depth: usize, file: &'a FileLine) -> Part<'a, 'a>
     ensures { result ≡ part_of_file by depth file.now }
 {
     let (parent, name) = split_path(&file.path);
@@ -123,7 +137,7 @@ fn row_parts<'a>(
     alloc: Global,
     rows: &'a [TallyRow],
     by: Columns,
-) -> Result<Vec<Part<'a>>, AllocError>
+) -> Result<Vec<Part<'a, 'a>>, AllocError>
     ensures { IfOk result (λ parts. parts.items ≡ map (part_of_row by) rows.entry.now) }
 {
     let mut parts = Vec::with_capacity(alloc, rows.len())?;
@@ -133,17 +147,32 @@ fn row_parts<'a>(
     Ok(parts)
 }
 
-fn file_parts<'a>(
+/// Makes a part of each file, with its directory cut after `depth` names.
+pub(crate) fn file_parts<'a>(
     alloc: Global,
     files: &'a [FileLine],
     by: Columns,
     depth: u32,
-) -> Result<Vec<Part<'a>>, AllocError>
+) -> Result<Vec<Part<'a, 'a>>, AllocError>
     ensures { IfOk result (λ parts. parts.items ≡ map (part_of_file by depth) files.entry.now) }
 {
     let mut parts = Vec::with_capacity(alloc, files.len())?;
     for file in files {
         parts.push(file_part(by, depth as usize, file))?;
+    }
+    Ok(parts)
+}
+
+/// Makes a part of each row of a table.
+pub(crate) fn shown_parts<'a, 's>(
+    alloc: Global,
+    rows: &'s [ShownRow<'a>],
+) -> Result<Vec<Part<'a, 's>>, AllocError>
+    ensures { IfOk result (λ parts. parts.items ≡ rows.now) }
+{
+    let mut parts = Vec::with_capacity(alloc, rows.len())?;
+    for row in rows {
+        parts.push(Part::shown(row.key(), &row.sums))?;
     }
     Ok(parts)
 }
@@ -156,7 +185,7 @@ pub(crate) fn parts_of<'a>(
     rows: &'a [TallyRow],
     files: &'a [FileLine],
     by: Columns,
-) -> Result<Vec<Part<'a>>, AllocError>
+) -> Result<Vec<Part<'a, 'a>>, AllocError>
     ensures { IfOk result (λ parts. parts.items ≡ parts_of by rows.entry.now files.entry.now) }
 {
     match by.dir {

@@ -15,11 +15,15 @@ use std::marker::Model;
 
 /// The key of a row, with a borrowed directory and extension.
 #[derive(Drop)]
-pub(crate) struct RowKeyRef<'a> {
-    pub(crate) directory: Option<&'a [u8]>,
-    pub(crate) extension: Option<&'a [u8]>,
-    pub(crate) text: TextState,
-    pub(crate) eol: Eol,
+pub struct RowKeyRef<'a> {
+    /// The directory of the files, cut after some of its names, if rows are by directory. It is empty for the top.
+    pub directory: Option<&'a [u8]>,
+    /// The extension of the files' names, if they have one and rows are by extension.
+    pub extension: Option<&'a [u8]>,
+    /// The state of the attribute `text` of the files, or `Unspecified` if rows are not by it.
+    pub text: TextState,
+    /// How the files' lines end, or `NoEnd` if rows are not by it.
+    pub eol: Eol,
 }
 
 impl<'a> Model for RowKeyRef<'a> {
@@ -37,7 +41,7 @@ impl<'a> Model for RowKeyRef<'a> {
 impl RowKeyRef<'_> {
     /// Compares two keys in the order of rows.
     #[tactic(auto, unfolding(crate::specs::RowKeys::row_key_cmp))]
-    pub(crate) fn compare(&self, other: &RowKeyRef<'_>) -> Ordering
+    pub fn compare(&self, other: &RowKeyRef<'_>) -> Ordering
         ensures { result ≡ row_key_cmp self.now other.now }
     {
         compare_bytes(self.directory, other.directory).then(self.compare_columns(other))

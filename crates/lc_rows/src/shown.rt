@@ -2,7 +2,7 @@
 
 ghost use Rattle.std.specs.Prelude.{◌≡◌, IfOk};
 ghost use Rattle.std.specs.List.Sorted.{IsPermutation, IsSorted};
-ghost use Rattle.lc_rows.specs.ShownRows.{AreShown, AreSorted, AreSummed, keeps_all, number_in, row_cmp};
+ghost use Rattle.lc_rows.specs.ShownRows.{AreAddedUp, AreShown, AreSorted, AreSummed, keeps_all, number_in, parts_of, row_cmp};
 
 use crate::adding_up::{added_up, rows_of};
 use crate::parts::parts_of;
@@ -32,6 +32,23 @@ fn summed<'a>(
     } else {
         added_up(alloc, parts)
     }
+}
+
+/// Adds up a report's counts by these columns, in the order of keys, each key once. Rows of all columns are added up too.
+///
+/// Rows by directory are sums over `files`, which the report must have, and all other rows are sums over `rows`. An error means that an
+/// allocation failed, or that sums overflow, which those of a walk's rows never do.
+pub fn added_rows<'a>(
+    alloc: Global,
+    rows: &'a [TallyRow],
+    files: &'a [FileLine],
+    by: Columns,
+) -> Result<Vec<ShownRow<'a>>, AllocError>
+    ensures { IfOk result (λ added. AreAddedUp (parts_of by rows.entry.now files.entry.now) added.items) }
+{
+    let parts = parts_of(alloc, rows, files, by)?;
+    let added = added_up(alloc, parts)?;
+    Ok(added)
 }
 
 /// Returns the number `by` of some sums, such as their lines.

@@ -42,7 +42,7 @@ impl<'a> Model for ShownRow<'a> {
 
 impl<'a> ShownRow<'a> {
     /// Makes the row of one part.
-    pub(crate) fn of(part: &Part<'a>) -> ShownRow<'a>
+    pub(crate) fn of(part: &Part<'a, '_>) -> ShownRow<'a>
         ensures { result ≡ part.now }
     {
         ShownRow {
@@ -55,7 +55,7 @@ impl<'a> ShownRow<'a> {
     }
 
     /// Returns the key of the row.
-    pub(crate) fn key(&self) -> RowKeyRef<'a>
+    pub fn key(&self) -> RowKeyRef<'a>
         ensures { result ≡ row_key self.now }
     {
         RowKeyRef {

@@ -1,12 +1,12 @@
 //! The shown part of a report, and its sheet.
 
 ghost use Rattle.std.specs.Prelude.{◌≡◌, if◌then◌else◌, Option, Some, None, IfOk};
-ghost use Rattle.lc_rows.specs.Sheets.{HasFiles, files_section, form_of, largest, listed_files, others_lines, share_number, shares_of};
-ghost use Rattle.lc_rows.specs.Sheets.{sheet_of, totals_lines};
+ghost use Rattle.lc_rows.specs.Sheets.{HasFiles, HasFilesWith, files_section, form_of, largest, listed_files, others_lines};
+ghost use Rattle.lc_rows.specs.Sheets.{share_number, shares_of, sheet_among, sheet_of, totals_lines};
 ghost use Rattle.lc_rows.specs.Views.{first_of, rest_of, sums_of_some, view_of};
 ghost use Rattle.lc_rows.specs.WalkedReports.{HasFilesFor};
 
-use crate::classes::{ClassSums, some_binary};
+use crate::classes::ClassSums;
 use crate::columns::{
     fault_columns, file_columns, first_key, row_columns, skipped_columns, sums_columns,
 };
@@ -31,6 +31,7 @@ pub struct Shown<'a> {
     rows: Vec<ShownRow<'a>>,
     others: Vec<NamedSums>,
     totals: Vec<NamedSums>,
+    some_binary: bool,
     lists_files: bool,
     files: &'a [FileLine],
     report: &'a Report,
@@ -51,6 +52,7 @@ impl<'a> Model for Shown<'a> {
       rows = s.rows.items;
       others = s.others.items;
       totals = s.totals.items;
+      some_binary = s.some_binary;
       lists_files = s.lists_files;
       files = s.files.now;
     }) s.report.now };
@@ -104,14 +106,17 @@ fn others_lines(alloc: Global, others: Option<Sums>) -> Result<Vec<NamedSums>, A
     Ok(lines)
 }
 
-fn totals_lines(alloc: Global, report: &Report) -> Result<Vec<NamedSums>, AllocError>
-    ensures { IfOk result (λ lines. lines.items ≡ totals_lines report.now) }
+fn totals_lines(
+    alloc: Global,
+    totals: Sums,
+    classes: ClassSums,
+) -> Result<Vec<NamedSums>, AllocError>
+    ensures { IfOk result (λ lines. lines.items ≡ totals_lines totals classes) }
 {
-    let classes = ClassSums::of_all(&report.rows)?;
     let mut lines = Vec::new(alloc);
     lines.push(NamedSums {
         name: "total",
-        sums: report.totals,
+        sums: totals,
     })?;
     lines.push(NamedSums {
         name: "text",
@@ -160,8 +165,23 @@ impl<'a> Shown<'a> {
         requires files { HasFilesFor options.now report.now.lists }
         ensures { IfOk result (λ shown. HasFiles options.now report.entry.now report.entry.now.files.items shown) }
     {
+        let classes = ClassSums::of_all(&report.rows)?;
+        let shown = Shown::with_classes(alloc, report, classes, options)?;
+        Ok(shown)
+    }
+
+    /// Like [`of`](Shown::of), but shows these sums over text and binary files, for a report whose rows do not keep them apart.
+    pub fn with_classes(
+        alloc: Global,
+        report: &'a Report,
+        classes: ClassSums,
+        options: &TableOptions,
+    ) -> Result<Shown<'a>, AllocError>
+        requires files { HasFilesFor options.now report.now.lists }
+        ensures { IfOk result (λ shown. HasFilesWith options.now report.entry.now classes report.entry.now.files.items shown) }
+    {
         let rows = shown_rows(alloc, &report.rows, &report.files, options.by, options.sort)?;
-        let shown = Shown::with_rows(alloc, report, options, rows)?;
+        let shown = Shown::with_all(alloc, report, classes, options, rows)?;
         Ok(shown)
     }
 
@@ -175,6 +195,21 @@ impl<'a> Shown<'a> {
         ensures { IfOk result (λ shown. shown ≡ sheet_of options.now report.entry.now
             (view_of options.now.top rows.entry.items (listed_files options.now.files report.entry.now.files.items))) }
     {
+        let classes = ClassSums::of_all(&report.rows)?;
+        let shown = Shown::with_all(alloc, report, classes, options, rows)?;
+        Ok(shown)
+    }
+
+    fn with_all(
+        alloc: Global,
+        report: &'a Report,
+        classes: ClassSums,
+        options: &TableOptions,
+        rows: Vec<ShownRow<'a>>,
+    ) -> Result<Shown<'a>, AllocError>
+        ensures { IfOk result (λ shown. shown ≡ sheet_among options.now report.entry.now classes
+            (view_of options.now.top rows.entry.items (listed_files options.now.files report.entry.now.files.items))) }
+    {
         let mut rows = rows;
         let (files, _) = split_at_top(options.top, listed_files(options.files, &report.files));
         let others = others_sums(options.top, &rows)?;
@@ -185,7 +220,8 @@ impl<'a> Shown<'a> {
             columns: row_columns(alloc, options)?,
             rows,
             others: others_lines(alloc, others)?,
-            totals: totals_lines(alloc, report)?,
+            totals: totals_lines(alloc, report.totals, classes)?,
+            some_binary: classes.some_binary,
             lists_files: options.files,
             files,
             report,
@@ -226,7 +262,7 @@ impl<'a> Shown<'a> {
             rows: Section::new(self.form, &self.columns, &self.rows),
             others: Section::new(self.form, sums_columns, &self.others),
             totals: Section::new(self.form, sums_columns, &self.totals),
-            some_binary: some_binary(&self.report.rows),
+            some_binary: self.some_binary,
             directories: self.report.directories,
             entries: self.entries(),
             files: self.files_section(),

@@ -2,7 +2,7 @@
 
 use crate::rows::files::{BY_DIRECTORY, File, NONE, Row, are_rows, file_lines};
 use lc_census::Eol;
-use lc_rows::shown_rows;
+use lc_rows::{added_rows, shown_rows};
 use lc_rules::TextState;
 use lc_sheet::{Columns, Number};
 use lc_walk::TallyRow;
@@ -132,12 +132,12 @@ fn rows_of_named_directories(rt: HostRuntime) -> Result<(), Fail> {
     Ok(())
 }
 
-fn large_row(eol: Eol) -> TallyRow {
+fn row_of_files(eol: Eol, files: u64) -> TallyRow {
     TallyRow {
         ext: None,
         text: NONE,
         eol,
-        files: u64::MAX,
+        files,
         lines: 0,
         blank: 0,
         bytes: 0,
@@ -146,7 +146,10 @@ fn large_row(eol: Eol) -> TallyRow {
 
 #[test]
 fn sums_that_overflow_are_an_error(rt: HostRuntime) -> Result<(), Fail> {
-    let rows = [large_row(Eol::Lf), large_row(Eol::CrLf)];
+    let rows = [
+        row_of_files(Eol::Lf, u64::MAX),
+        row_of_files(Eol::CrLf, u64::MAX),
+    ];
     let all = shown_rows(rt.alloc(), &rows, &[], Columns::ALL, None)?;
     assert!(rt; all.len() == 2);
     let by = Columns {
@@ -154,5 +157,21 @@ fn sums_that_overflow_are_an_error(rt: HostRuntime) -> Result<(), Fail> {
         ..Columns::ALL
     };
     assert!(rt; shown_rows(rt.alloc(), &rows, &[], by, None).is_err());
+    Ok(())
+}
+
+#[test]
+fn rows_of_all_columns_are_added_up_by_key(rt: HostRuntime) -> Result<(), Fail> {
+    let rows = [
+        row_of_files(Eol::CrLf, 2),
+        row_of_files(Eol::Lf, 1),
+        row_of_files(Eol::CrLf, 3),
+    ];
+    let added = added_rows(rt.alloc(), &rows, &[], Columns::ALL)?;
+    let found = match added.as_slice() {
+        [lf, crlf] => lf.eol == Eol::Lf && lf.sums.files == 1 && crlf.sums.files == 5,
+        _ => false,
+    };
+    assert!(rt; found);
     Ok(())
 }

@@ -5,7 +5,7 @@ ghost use Rattle.std.specs.Prelude.{◌≡◌, true, IfOk};
 use crate::rows::files::{BY_DIRECTORY, File, NONE, file_lines, sums};
 use lc_census::Eol;
 use lc_level::{FaultWord, Reason};
-use lc_rows::{ReportSheet, Shown};
+use lc_rows::{ClassSums, ReportSheet, Shown};
 use lc_rules::{RuleSource, TextState};
 use lc_sheet::{Format, Lines, Number, Section, TableOptions, Value};
 use lc_text::push_name;
@@ -64,6 +64,21 @@ read src/locked
 
 ";
 
+const CLASSED: &str = ". * * * 1 4 1 9 
+src * * * 1 7 0 50 
+
+others * * * 1 3 1 15 
+
+total * * * 3 14 2 74 
+text * * * 2 11 1 59 
+binary * * * 1 3 1 15 
+
+rule src/.gitignore:3 src/gen/ 
+
+read src/locked 
+
+";
+
 fn report(alloc: Global) -> Result<Report, AllocError>
     ensures { IfOk result (λ report. report.lists.files ≡ true) }
 {
@@ -108,6 +123,7 @@ fn push_value(text: &mut Vec<u8>, value: Value<'_>) -> Result<(), AllocError> {
         Value::Share { part, whole } | Value::Bar { part, whole } => {
             write!(text, "{part}/{whole}").map_err(|_| AllocError)
         }
+        Value::Difference { old, new } => write!(text, "{old}>{new}").map_err(|_| AllocError),
     }
 }
 
@@ -160,5 +176,26 @@ fn shares_and_bars(rt: HostRuntime) -> Result<(), Fail> {
     };
     let text = text_of(rt.alloc(), &options)?;
     assert!(rt; text.as_slice() == SHARED.as_bytes());
+    Ok(())
+}
+
+#[test]
+fn sums_over_text_and_binary_files_may_be_given(rt: HostRuntime) -> Result<(), Fail> {
+    let classes = ClassSums {
+        text: sums([2, 11, 1, 59]),
+        binary: sums([1, 3, 1, 15]),
+        some_binary: true,
+    };
+    let options = TableOptions {
+        files: false,
+        ..TSV
+    };
+    let report = report(rt.alloc())?;
+    let shown = Shown::with_classes(rt.alloc(), &report, classes, &options)?;
+    let sheet = shown.sheet();
+    assert!(rt; sheet.some_binary);
+    let mut text = Vec::new(rt.alloc());
+    push_sheet(&mut text, &sheet)?;
+    assert!(rt; text.as_slice() == CLASSED.as_bytes());
     Ok(())
 }

@@ -63,6 +63,20 @@ const EXTENSIONS: &[Row] = &[
     (b"src-old", Some(b"c"), Eol::NoEnd, [1, 3, 1, 15]),
 ];
 
+/// Files of which two are in one directory, and one is in a directory above it.
+const DEEP: &[File] = &[
+    (b"a/b/c/m.rs", NONE, Eol::Lf, [4, 1, 9]),
+    (b"a/b/c/n.rs", NONE, Eol::Lf, [3, 1, 15]),
+    (b"a/b/x.rs", NONE, Eol::Lf, [7, 0, 50]),
+];
+
+const DEEP_DIRECTORIES: &[Row] = &[
+    (b"", None, Eol::NoEnd, [3, 14, 2, 74]),
+    (b"a", None, Eol::NoEnd, [3, 14, 2, 74]),
+    (b"a/b", None, Eol::NoEnd, [3, 14, 2, 74]),
+    (b"a/b/c", None, Eol::NoEnd, [2, 7, 2, 24]),
+];
+
 #[test]
 fn directories_and_what_is_below_them(rt: HostRuntime) -> Result<(), Fail> {
     let files = file_lines(rt.alloc(), FILES)?;
@@ -96,5 +110,13 @@ fn directories_that_were_named(rt: HostRuntime) -> Result<(), Fail> {
     let files = file_lines(rt.alloc(), NAMED)?;
     let rows = tree_rows(rt.alloc(), &files, BY_DIRECTORY, 256)?;
     assert!(rt; are_rows(&rows, NAMED_DIRECTORIES));
+    Ok(())
+}
+
+#[test]
+fn files_of_one_directory(rt: HostRuntime) -> Result<(), Fail> {
+    let files = file_lines(rt.alloc(), DEEP)?;
+    let rows = tree_rows(rt.alloc(), &files, BY_DIRECTORY, 256)?;
+    assert!(rt; are_rows(&rows, DEEP_DIRECTORIES));
     Ok(())
 }

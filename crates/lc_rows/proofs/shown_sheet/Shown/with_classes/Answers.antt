@@ -1,7 +1,7 @@
 use Rattle.std.proofs.Common.{List, subst}
 use Rattle.lc_walk.specs.TallyRows.{TallyRowModel}
 use Rattle.lc_rows.specs.ShownRows.{AreShown}
-use Rattle.lc_rows.proofs.shown_sheet.Shown.of.Goals as goal
+use Rattle.lc_rows.proofs.shown_sheet.Shown.with_classes.Goals as goal
 use Rattle.lc_level.specs.Level.{FileLineModel}
 
 pub returns : goal.returns

@@ -1,0 +1,15 @@
+use Rattle.std.proofs.Common.{List, subst}
+use Rattle.lc_rows.specs.RowKeys.{ShownRowModel}
+use Rattle.lc_rows.specs.ShownRows.{AreAddedUp}
+use Rattle.lc_rows.proofs.TreeParts.{added_tree}
+use Rattle.lc_rows.proofs.directory_tree.tree_rows.Goals as goal
+
+pub returns : goal.returns
+returns c = (
+  c.in_ok-rows.rows.items,
+  added_tree c.args.depth c.args.by c.args.files.now c.in_ok-with_files.with_files.items c.in_ok-all.all.items c.in_ok-rows.rows.items
+      c.in_ok-with_files.ensures c.in_ok-all.ensures
+      (subst (λ (rs : List ShownRowModel). AreAddedUp rs c.in_ok-rows.rows.items) c.deref.ensures.value c.in_ok-rows.ensures),
+  c.sort.ensures.same,
+  c.sort.ensures.order,
+)

@@ -1,0 +1,43 @@
+-- What the row of a directory adds to the directories above it.
+use Rattle.std.specs.Prelude.{◌≡◌, ℕ, ◌+◌, min, suc, zero, Bool, List, [], ◌∷◌, map, Option, Some, None, option_map}
+use Rattle.std.specs.List.{range_with_len}
+use Rattle.lc_rows.specs.Directories.{first_names, level_of}
+use Rattle.lc_rows.specs.RowKeys.{RowKey, ShownRowModel, has_within, row_key, row_with, rows_within, sums_of_shown}
+
+-- the key of a row in the directory above its own that has so many names
+abbrev pub key_at : ℕ → RowKey → RowKey
+key_at level k = record { directory = option_map (first_names level) k.directory; key = k.key }
+
+-- how many directories are above a row's own directory; a row without a directory has none
+abbrev pub level_in : Option (List ℕ) → ℕ
+level_in None = 0
+level_in (Some directory) = level_of directory
+
+-- the level of a key's directory in a tree whose directories are cut after n names
+abbrev pub level_to : ℕ → RowKey → ℕ
+level_to n k = min n (level_in k.directory)
+
+-- what a row adds to the directory above it that has so many names
+abbrev pub row_at : ℕ → ShownRowModel → ShownRowModel
+row_at level r = row_with (key_at level (row_key r)) r.sums
+
+-- what a row adds to each directory above it, from the top down to its own
+abbrev pub level_parts : ℕ → ShownRowModel → List ShownRowModel
+level_parts n r = map (λ level. row_at level r) (range_with_len 0 (level_to n (row_key r) + 1))
+
+-- what a row adds to its own directory
+abbrev pub own_row : ℕ → ShownRowModel → ShownRowModel
+own_row n r = row_at (level_to n (row_key r)) r
+
+-- what a row with so many directories above its own adds to the one right above; the top has none
+abbrev pub next_at : ℕ → ShownRowModel → List ShownRowModel
+next_at zero r = []
+next_at (suc level) r = row_at level r ∷ []
+
+abbrev pub next_above : ℕ → ShownRowModel → List ShownRowModel
+next_above n r = next_at (level_to n (row_key r)) r
+
+-- for each set of keys, rows and parts have the same sums, and some row is in the set where some part is
+pub record HaveSumsOf (parts rows : List ShownRowModel) : Type 0 where
+  pub sums : (keys : RowKey → Bool) → sums_of_shown (rows_within keys rows) ≡ sums_of_shown (rows_within keys parts)
+  pub present : (keys : RowKey → Bool) → has_within keys rows ≡ has_within keys parts
