@@ -1,0 +1,105 @@
+-- Sums of reports have no order.
+use Rattle.std.proofs.Common.{◌≡◌, ℕ, Bool, true, false, cond, List, [], ◌∷◌, Some, None, map, refl, sym, ◌∙◌, ap, arith, IsPermutation}
+use Rattle.std.specs.Cmp.{both_ways}
+use Rattle.std.specs.List.{find, list_all, list_any, sum_by}
+use Rattle.std.proofs.lemmas.List.Sorted.{All-permutation, IsPermutation-map, IsPermutation-sym}
+use Rattle.std.proofs.lemmas.List.Sorted.{list_any-IsPermutation, sum_by-IsPermutation}
+use Rattle.std.proofs.lemmas.List.Sums.{AllPass-from_list_all, list_all-from_AllPass}
+use Rattle.lc_level.specs.Level.{FileLineModel}
+use Rattle.lc_reports.proofs.Orders.{join_order}
+use Rattle.lc_walk.proofs.MovedLists.{lists_moved}
+use Rattle.lc_walk.proofs.RowSums.{same_sums}
+use Rattle.lc_sums.proofs.ClassesInTurn.{same_totals}
+use Rattle.lc_sums.proofs.RepeatedPaths.{times_moved}
+use Rattle.lc_sums.specs.Laws.{SumOrderLaw}
+use Rattle.lc_sums.specs.Needs.{columns_of, has_some, lacks_column, lacks_files, lacks_skipped, shared_columns}
+use Rattle.lc_sums.specs.Paths.{AreApart, paths_of}
+use Rattle.lc_sums.specs.Sums.{CanBeSummed, IsSumOf, NoneLacks, class_totals, needed_report, needed_reports}
+use Rattle.lc_sums.specs.declared.class_totals.ClassTotals.{ClassTotals}
+use Rattle.lc_sums.specs.declared.needs.Needs.{Needs}
+use Rattle.lc_sums.specs.declared.part.Part.{Part}
+use Rattle.lc_sums.specs.declared.sum.Sum.{Sum}
+
+-- ---- what none lacks
+
+none_found : (p : Part → Bool) (ps : List Part) → find p ps ≡ None → list_any p ps ≡ false
+none_found p [] none = refl
+none_found p (q ∷ ps) none = at (λ rest. none_found p ps rest) (p q) refl none
+  where
+    at : (find p ps ≡ None → list_any p ps ≡ false) → (b : Bool) → p q ≡ b → cond b (Some q) (find p ps) ≡ None
+        → list_any p (q ∷ ps) ≡ false
+    at rest true e is = absurd (cc is)
+    at rest false e is = rw e (rest is)
+
+found_none : (p : Part → Bool) (ps : List Part) → list_any p ps ≡ false → find p ps ≡ None
+found_none p [] none = refl
+found_none p (q ∷ ps) none = at (λ rest. found_none p ps rest) (p q) refl none
+  where
+    at : (list_any p ps ≡ false → find p ps ≡ None) → (b : Bool) → p q ≡ b → list_any p (q ∷ ps) ≡ false
+        → find p (q ∷ ps) ≡ None
+    at rest true e is = absurd (cc (sym is, e))
+    at rest false e is = rw e (rest (rw e at is))
+
+module _ (ps moved : List Part) (m : IsPermutation ps moved) where
+  none_moved : (lacks : Part → Bool) → NoneLacks lacks ps → NoneLacks lacks moved
+  none_moved lacks none =
+      found_none lacks moved (sym (list_any-IsPermutation lacks ps moved m) ∙ none_found lacks ps none)
+
+  all_moved : (p : Part → Bool) → list_all p ps ≡ list_all p moved
+  all_moved p = both_ways (list_all p ps) (list_all p moved)
+      (λ e. list_all-from_AllPass p moved (All-permutation (λ q. p q ≡ true) ps moved m (AllPass-from_list_all p ps e)))
+      (λ e. list_all-from_AllPass p ps (All-permutation (λ q. p q ≡ true) moved ps (IsPermutation-sym ps moved m)
+      (AllPass-from_list_all p moved e)))
+
+  shared_moved : shared_columns ps ≡ shared_columns moved
+  shared_moved = λ i. record {
+    ext = all_moved (λ p. (columns_of p.report).ext) i;
+    text = all_moved (λ p. (columns_of p.report).text) i;
+    eol = all_moved (λ p. (columns_of p.report).eol) i;
+  }
+
+  sum_moved : (f : Part → ℕ) → sum_by f ps ≡ sum_by f moved
+  sum_moved f = sym (sum_by-IsPermutation f ps moved m)
+
+  totals_moved : class_totals ps ≡ class_totals moved
+  totals_moved =
+      same_totals _ _
+      (same_sums _ _ (sum_moved (λ p. p.report.text.files)) (sum_moved (λ p. p.report.text.lines))
+      (sum_moved (λ p. p.report.text.blank)) (sum_moved (λ p. p.report.text.bytes)))
+      (same_sums _ _ (sum_moved (λ p. p.report.binary.files)) (sum_moved (λ p. p.report.binary.lines))
+      (sum_moved (λ p. p.report.binary.blank)) (sum_moved (λ p. p.report.binary.bytes)))
+
+  paths_moved : IsPermutation (paths_of ps) (paths_of moved)
+  paths_moved = lists_moved (λ (p : Part). map (λ (f : FileLineModel). f.path) p.report.report.files.items) ps moved m
+
+  apart_moved : AreApart (paths_of ps) → AreApart (paths_of moved)
+  apart_moved apart q twice = let same = times_moved q (paths_of ps) (paths_of moved) paths_moved in apart q (omega (arith, twice))
+
+  can_be_moved : (needs : Needs) → CanBeSummed needs ps → CanBeSummed needs moved
+  can_be_moved needs can = record {
+    columns = record {
+      each = none_moved (lacks_column needs.columns) can.columns.each;
+      shared = λ needed. ap has_some (sym shared_moved) ∙ can.columns.shared needed;
+    };
+    lists = record {
+      files = λ needed. none_moved lacks_files (can.lists.files needed);
+      left_out = λ needed. none_moved lacks_skipped (can.lists.left_out needed);
+    };
+    apart = apart_moved can.apart;
+  }
+
+  sum_is_moved : (needs : Needs) (s : Sum) → IsSumOf needs ps s → IsSumOf needs moved s
+  sum_is_moved needs s is = record {
+    joined = join_order (needed_reports needs ps) (needed_reports needs moved) s.report
+        (IsPermutation-map (needed_report needs) ps moved m) is.joined;
+    files = is.files;
+    columns = is.columns ∙ shared_moved;
+    text = is.text ∙ ap (λ (t : ClassTotals). t.text) totals_moved;
+    binary = is.binary ∙ ap (λ (t : ClassTotals). t.binary) totals_moved;
+  }
+
+pub sum_order : SumOrderLaw
+sum_order = record {
+  can_be = λ needs ps moved m can. can_be_moved ps moved m needs can;
+  sum = λ needs ps moved s m is. sum_is_moved ps moved m needs s is;
+}

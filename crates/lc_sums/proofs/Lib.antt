@@ -1,0 +1,5 @@
+pub mod ClassesInTurn
+pub mod RepeatedPaths
+pub mod PathsGathered
+pub mod ReportsNeeded
+pub mod AnyOrder

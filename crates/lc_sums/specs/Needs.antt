@@ -1,0 +1,101 @@
+-- What a sum needs of each report, and what reports have.
+use Rattle.std.specs.Prelude.{Bool, true, false, not, ◌&&◌, ◌||◌, if◌then◌else◌, List, Option, Some, None, is_some}
+use Rattle.std.specs.List.{list_all, list_any}
+use Rattle.lc_reading.specs.declared.read_report.ReadReport.{ReadReport}
+use Rattle.lc_reading.specs.declared.row_columns.RowColumns.{RowColumns}
+use Rattle.lc_sheet.specs.Conditions.{ConditionModel, needs_files}
+use Rattle.lc_sheet.specs.declared.column.Column.{Column}
+use Rattle.lc_sheet.specs.declared.column.Column.TheVariants as column
+use Rattle.lc_sheet.specs.declared.table_options.Columns.{Columns}
+use Rattle.lc_sums.specs.declared.needs.Needs.{Needs}
+use Rattle.lc_sums.specs.declared.part.Part.{Part}
+
+-- ---- what is needed
+
+abbrev pub is_ext : Column → Bool
+is_ext column.Ext = true
+is_ext other = false
+
+abbrev pub is_text : Column → Bool
+is_text column.Text = true
+is_text other = false
+
+abbrev pub is_eol : Column → Bool
+is_eol column.Eol = true
+is_eol other = false
+
+abbrev pub is_on_ext : ConditionModel → Bool
+is_on_ext c = is_ext c.column
+
+abbrev pub is_on_text : ConditionModel → Bool
+is_on_text c = is_text c.column
+
+abbrev pub is_on_eol : ConditionModel → Bool
+is_on_eol c = is_eol c.column
+
+abbrev pub is_on_key : ConditionModel → Bool
+is_on_key c = is_on_ext c || is_on_text c || is_on_eol c
+
+-- the columns of conditions; with any of them the rows that are met must tell what is binary
+abbrev pub tested_columns : List ConditionModel → RowColumns
+tested_columns cs = record { ext = list_any is_on_ext cs; text = list_any is_on_text cs; eol = list_any is_on_key cs }
+
+-- the columns by which rows are to be kept apart, where they are named
+abbrev pub named_columns : Option Columns → RowColumns
+named_columns None = record { ext = false; text = false; eol = false }
+named_columns (Some by) = record { ext = by.ext; text = by.text; eol = by.eol }
+
+abbrev pub by_directory : Option Columns → Bool
+by_directory None = false
+by_directory (Some by) = is_some by.dir
+
+-- what is needed for rows by these columns, or by those that are shared; for these conditions; and for these lists
+abbrev pub needs_of : Option Columns → List ConditionModel → Bool → Bool → Needs
+needs_of by cs files left_out = record {
+  columns = record {
+    ext = (named_columns by).ext || (tested_columns cs).ext;
+    text = (named_columns by).text || (tested_columns cs).text;
+    eol = (named_columns by).eol || (tested_columns cs).eol;
+  };
+  some_column = not (is_some by);
+  files = files || by_directory by || needs_files cs;
+  left_out = left_out;
+}
+
+-- ---- what reports have
+
+-- the columns of a report: where it lists its files these show all
+abbrev pub columns_of : ReadReport → RowColumns
+columns_of r = if r.report.lists.files then record { ext = true; text = true; eol = true } else r.columns
+
+-- a needed column is not there
+abbrev pub is_lacking : RowColumns → RowColumns → Bool
+is_lacking needed there = needed.ext && not there.ext || needed.text && not there.text || needed.eol && not there.eol
+
+abbrev pub lacks_column : RowColumns → Part → Bool
+lacks_column needed p = is_lacking needed (columns_of p.report)
+
+-- the first of them, where one is not there
+abbrev pub first_of_lacking : RowColumns → RowColumns → Column
+first_of_lacking needed there =
+    if needed.ext && not there.ext then column.Ext else (if needed.text && not there.text then column.Text else column.Eol)
+
+abbrev pub lacking : RowColumns → Part → Column
+lacking needed p = first_of_lacking needed (columns_of p.report)
+
+abbrev pub lacks_files : Part → Bool
+lacks_files p = not p.report.report.lists.files
+
+abbrev pub lacks_skipped : Part → Bool
+lacks_skipped p = not p.report.report.lists.left_out
+
+-- the columns that each of them has
+abbrev pub shared_columns : List Part → RowColumns
+shared_columns ps = record {
+  ext = list_all (λ (p : Part). (columns_of p.report).ext) ps;
+  text = list_all (λ (p : Part). (columns_of p.report).text) ps;
+  eol = list_all (λ (p : Part). (columns_of p.report).eol) ps;
+}
+
+abbrev pub has_some : RowColumns → Bool
+has_some columns = columns.ext || columns.text || columns.eol

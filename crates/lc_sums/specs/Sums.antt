@@ -1,0 +1,140 @@
+-- The sum of several reports, or why they are not summed.
+use Rattle.std.specs.Prelude.{◌≡◌, ℕ, Bool, true, false, List, ⊤, map, sum_by, Some, None, Result, MatchResult}
+use Rattle.std.specs.List.{find}
+use Rattle.lc_reports.specs.Joined.{Fits, IsJoined}
+use Rattle.lc_reports.specs.declared.join_fault.JoinFault.{JoinFault}
+use Rattle.lc_reports.specs.declared.join_fault.JoinFault.TheVariants as join
+use Rattle.lc_sheet.specs.declared.column.Column.{Column}
+use Rattle.lc_walk.specs.Sums.{IsInRange}
+use Rattle.lc_walk.specs.declared.report.Report.{Report}
+use Rattle.lc_sums.specs.Needs.{has_some, lacking, lacks_column, lacks_files, lacks_skipped, shared_columns}
+use Rattle.lc_sums.specs.Paths.{AreApart, IsFirstTwice, paths_of}
+use Rattle.lc_sums.specs.declared.class_totals.ClassTotals.{ClassTotals}
+use Rattle.lc_sums.specs.declared.needs.Needs.{Needs}
+use Rattle.lc_sums.specs.declared.part.Part.{Part}
+use Rattle.lc_sums.specs.declared.sum.Sum.{Sum}
+use Rattle.lc_sums.specs.declared.sum_fault.SumFault.{SumFault}
+use Rattle.lc_sums.specs.declared.sum_fault.SumFault.TheVariants.{Memory, NoColumn, NoSharedColumn, NoFiles, NoSkipped, SamePath, TooLarge}
+
+-- ---- what each report must have
+
+abbrev pub NoneLacks : (Part → Bool) → List Part → Type 0
+NoneLacks lacks ps = find lacks ps ≡ None
+
+-- the first that lacks it has this name
+pub record FirstLacks (lacks : Part → Bool) (ps : List Part) (origin : List ℕ) : Type 0 where
+  pub part : Part
+  pub first : find lacks ps ≡ Some part
+  pub named : origin ≡ part.origin.now
+
+-- and of the needed columns it lacks this one first
+pub record FirstLacksColumn (needs : Needs) (ps : List Part) (origin : List ℕ) (column : Column) : Type 0 where
+  pub part : Part
+  pub first : find (lacks_column needs.columns) ps ≡ Some part
+  pub named : origin ≡ part.origin.now
+  pub lacks : column ≡ lacking needs.columns part
+
+pub record HaveColumns (needs : Needs) (ps : List Part) : Type 0 where
+  pub each : NoneLacks (lacks_column needs.columns) ps
+  pub shared : needs.some_column ≡ true → has_some (shared_columns ps) ≡ true
+
+abbrev pub HaveFiles : Needs → List Part → Type 0
+HaveFiles needs ps = needs.files ≡ true → NoneLacks lacks_files ps
+
+pub record HaveLists (needs : Needs) (ps : List Part) : Type 0 where
+  pub files : HaveFiles needs ps
+  pub left_out : needs.left_out ≡ true → NoneLacks lacks_skipped ps
+
+-- each has what is needed, and no file is in two
+pub record CanBeSummed (needs : Needs) (ps : List Part) : Type 0 where
+  pub columns : HaveColumns needs ps
+  pub lists : HaveLists needs ps
+  pub apart : AreApart (paths_of ps)
+
+-- ---- their sum
+
+-- a report, with the needed lists alone
+abbrev pub needed_report : Needs → Part → Report
+needed_report needs p = record p.report.report { lists = record { files = needs.files; left_out = needs.left_out } }
+
+abbrev pub needed_reports : Needs → List Part → List Report
+needed_reports needs ps = map (needed_report needs) ps
+
+-- the sums over text and over binary files of all
+abbrev pub class_totals : List Part → ClassTotals
+class_totals ps = record {
+  text = record {
+    files = sum_by (λ (p : Part). p.report.text.files) ps;
+    lines = sum_by (λ (p : Part). p.report.text.lines) ps;
+    blank = sum_by (λ (p : Part). p.report.text.blank) ps;
+    bytes = sum_by (λ (p : Part). p.report.text.bytes) ps;
+  };
+  binary = record {
+    files = sum_by (λ (p : Part). p.report.binary.files) ps;
+    lines = sum_by (λ (p : Part). p.report.binary.lines) ps;
+    blank = sum_by (λ (p : Part). p.report.binary.blank) ps;
+    bytes = sum_by (λ (p : Part). p.report.binary.bytes) ps;
+  };
+}
+
+pub record ClassesFit (t : ClassTotals) : Type 0 where
+  pub text : IsInRange t.text
+  pub binary : IsInRange t.binary
+
+-- whether each sum fits its type
+pub record SumsFit (needs : Needs) (ps : List Part) : Type 0 where
+  pub classes : ClassesFit (class_totals ps)
+  pub report : Fits (needed_reports needs ps)
+
+-- their joined report, with the columns that each of them has
+pub record IsSumOf (needs : Needs) (ps : List Part) (s : Sum) : Type 0 where
+  pub joined : IsJoined (needed_reports needs ps) s.report
+  pub files : needs.files ≡ true → s.report.lists.files ≡ true
+  pub columns : s.columns ≡ shared_columns ps
+  pub text : s.text ≡ (class_totals ps).text
+  pub binary : s.binary ≡ (class_totals ps).binary
+
+-- ---- why there is none
+
+-- a column is lacking
+abbrev pub LacksColumns : Needs → List Part → SumFault → Type 0
+LacksColumns needs ps (NoColumn origin column) = FirstLacksColumn needs ps origin.now column
+LacksColumns needs ps NoSharedColumn =
+    NoneLacks (lacks_column needs.columns) ps × (needs.some_column ≡ true) × (has_some (shared_columns ps) ≡ false)
+LacksColumns needs ps other = ⊥
+
+-- a list is lacking: that of files, or else that of skipped entries
+abbrev pub LacksLists : Needs → List Part → SumFault → Type 0
+LacksLists needs ps (NoFiles origin) = (needs.files ≡ true) × FirstLacks lacks_files ps origin.now
+LacksLists needs ps (NoSkipped origin) = HaveFiles needs ps × (needs.left_out ≡ true) × FirstLacks lacks_skipped ps origin.now
+LacksLists needs ps other = ⊥
+
+-- two files have the same path, or memory is refused
+abbrev pub HasSamePath : List Part → SumFault → Type 0
+HasSamePath ps (SamePath path) = IsFirstTwice path.items (paths_of ps)
+HasSamePath ps Memory = ⊤
+HasSamePath ps other = ⊥
+
+-- what is said where reports are not joined
+abbrev pub fault_of_join : JoinFault → SumFault
+fault_of_join join.Memory = Memory
+fault_of_join join.TooLarge = TooLarge
+
+-- a sum does not fit, or memory is refused
+abbrev pub IsUnjoined : Needs → List Part → SumFault → Type 0
+IsUnjoined needs ps TooLarge = SumsFit needs ps → ⊥
+IsUnjoined needs ps Memory = ⊤
+IsUnjoined needs ps other = ⊥
+
+-- the first of these that is so: memory is refused only where all that is needed is there
+abbrev pub IsRefused : Needs → List Part → SumFault → Type 0
+IsRefused needs ps Memory = HaveColumns needs ps × HaveLists needs ps
+IsRefused needs ps (NoColumn origin column) = LacksColumns needs ps (NoColumn origin column)
+IsRefused needs ps NoSharedColumn = LacksColumns needs ps NoSharedColumn
+IsRefused needs ps (NoFiles origin) = HaveColumns needs ps × LacksLists needs ps (NoFiles origin)
+IsRefused needs ps (NoSkipped origin) = HaveColumns needs ps × LacksLists needs ps (NoSkipped origin)
+IsRefused needs ps (SamePath path) = HaveColumns needs ps × HaveLists needs ps × HasSamePath ps (SamePath path)
+IsRefused needs ps TooLarge = CanBeSummed needs ps × IsUnjoined needs ps TooLarge
+
+abbrev pub IsSummed : Needs → List Part → Result Sum SumFault → Type 0
+IsSummed needs ps result = MatchResult result (λ s. CanBeSummed needs ps × IsSumOf needs ps s) (IsRefused needs ps)

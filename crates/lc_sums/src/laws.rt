@@ -1,0 +1,8 @@
+//! Laws of the definitions that the contracts cite. The functions do nothing: their contracts are what is proved.
+
+ghost use Rattle.lc_sums.specs.Laws.{SumOrderLaw};
+
+/// The law that the sum of reports does not depend on their order, nor does whether they can be summed.
+pub fn a_sum_has_no_order()
+    ensures { SumOrderLaw }
+{}

@@ -1,0 +1,26 @@
+//! The sum of several reports that were read.
+//!
+//! - `summing`: summing reports, or refusing them; `sum`: what is summed; `sum_fault`: why reports are refused
+//! - `part`: a report with its name; `needs`: what is needed of each report
+//! - `columns`: the columns of reports; `lists`: their lists; `paths`: files with the same path; `class_totals`: the sums over text and
+//!   over binary files
+//! - `laws`: a law of the definitions that the contracts cite
+#![tactic(auto)]
+
+mod class_totals;
+mod columns;
+mod laws;
+mod lists;
+mod needs;
+mod part;
+mod paths;
+mod sum;
+mod sum_fault;
+mod summing;
+
+pub use laws::a_sum_has_no_order;
+pub use needs::Needs;
+pub use part::Part;
+pub use sum::Sum;
+pub use sum_fault::SumFault;
+pub use summing::summed;

@@ -1,0 +1,131 @@
+//! What is needed of each report.
+
+ghost use Rattle.std.specs.Prelude.{◌≡◌};
+ghost use Rattle.std.specs.List.{list_any};
+ghost use Rattle.lc_sums.specs.Needs.{by_directory, is_on_eol, is_on_ext, is_on_key, is_on_text, named_columns, needs_of, tested_columns};
+
+use lc_reading::RowColumns;
+use lc_sheet::{Column, Columns, Condition, needs_files};
+
+/// What is needed of each report that is summed.
+#[derive(Clone, Copy, Debug, Drop, PartialEq, Eq)]
+pub struct Needs {
+    /// The columns that each report must have.
+    pub columns: RowColumns,
+    /// Whether the reports must have some column in common.
+    pub some_column: bool,
+    /// Whether each report must list its files.
+    pub files: bool,
+    /// Whether each report must list its skipped entries.
+    pub left_out: bool,
+}
+
+fn is_on_ext(condition: &Condition<'_>) -> bool
+    ensures { result ≡ is_on_ext condition.now }
+{
+    matches!(condition.column, Column::Ext)
+}
+
+fn is_on_text(condition: &Condition<'_>) -> bool
+    ensures { result ≡ is_on_text condition.now }
+{
+    matches!(condition.column, Column::Text)
+}
+
+fn is_on_eol(condition: &Condition<'_>) -> bool
+    ensures { result ≡ is_on_eol condition.now }
+{
+    matches!(condition.column, Column::Eol)
+}
+
+/// Returns whether a condition is on a column of rows.
+fn is_on_key(condition: &Condition<'_>) -> bool
+    ensures { result ≡ is_on_key condition.now }
+{
+    is_on_ext(condition) || is_on_text(condition) || is_on_eol(condition)
+}
+
+fn test_ext(conditions: &[Condition<'_>]) -> bool
+    ensures { result ≡ list_any is_on_ext conditions.now }
+{
+    conditions.iter().any(|condition| is_on_ext(condition))
+}
+
+fn test_text(conditions: &[Condition<'_>]) -> bool
+    ensures { result ≡ list_any is_on_text conditions.now }
+{
+    conditions.iter().any(|condition| is_on_text(condition))
+}
+
+fn test_keys(conditions: &[Condition<'_>]) -> bool
+    ensures { result ≡ list_any is_on_key conditions.now }
+{
+    conditions.iter().any(|condition| is_on_key(condition))
+}
+
+/// Returns the columns that the conditions need.
+///
+/// A condition on a column of rows also needs the column `Eol`, because text and binary files that meet it are summed anew.
+fn tested_columns(conditions: &[Condition<'_>]) -> RowColumns
+    ensures { result ≡ tested_columns conditions.now }
+{
+    RowColumns {
+        ext: test_ext(conditions),
+        text: test_text(conditions),
+        eol: test_keys(conditions),
+    }
+}
+
+/// Returns the columns of rows among those that were requested.
+fn named_columns(by: Option<Columns>) -> RowColumns
+    ensures { result ≡ named_columns by }
+{
+    match by {
+        Some(by) => RowColumns {
+            ext: by.ext,
+            text: by.text,
+            eol: by.eol,
+        },
+        None => RowColumns {
+            ext: false,
+            text: false,
+            eol: false,
+        },
+    }
+}
+
+fn by_directory(by: Option<Columns>) -> bool
+    ensures { result ≡ by_directory by }
+{
+    match by {
+        Some(by) => by.dir.is_some(),
+        None => false,
+    }
+}
+
+impl Needs {
+    /// Returns what is needed to sum reports by these columns, to test these conditions, and to show these lists.
+    ///
+    /// Rows by directory and conditions on a number also need files. If `by` is `None`, any shared columns will do.
+    pub fn of(
+        by: Option<Columns>,
+        conditions: &[Condition<'_>],
+        files: bool,
+        left_out: bool,
+    ) -> Needs
+        ensures { result ≡ needs_of by conditions.now files left_out }
+    {
+        let named = named_columns(by);
+        let tested = tested_columns(conditions);
+        Needs {
+            columns: RowColumns {
+                ext: named.ext || tested.ext,
+                text: named.text || tested.text,
+                eol: named.eol || tested.eol,
+            },
+            some_column: by.is_none(),
+            files: files || by_directory(by) || needs_files(conditions),
+            left_out,
+        }
+    }
+}

@@ -1,0 +1,103 @@
+//! Summing reports, or refusing them.
+
+ghost use Rattle.std.specs.Prelude.{◌≡◌, IfOk, MatchResult};
+ghost use Rattle.lc_sums.specs.Sums.{CanBeSummed, IsRefused, IsSumOf, IsSummed, IsUnjoined, needed_report, needed_reports};
+ghost use Rattle.lc_reports.specs.Joined.{IsJoined};
+
+use crate::class_totals::ClassTotals;
+use crate::columns::{refuse_columns, shared_columns};
+use crate::lists::refuse_lists;
+use crate::needs::Needs;
+use crate::part::Part;
+use crate::paths::refuse_same_path;
+use crate::sum::Sum;
+use crate::sum_fault::{SumFault, fault_of_join};
+use lc_reports::joined;
+use lc_walk::{Report, ReportLists};
+use std::alloc::{AllocError, Global};
+
+/// Returns a report with the needed lists alone.
+fn needed_report(needs: Needs, part: Part<'_>) -> Report
+    ensures { result ≡ needed_report needs part.entry }
+{
+    let mut report = part.report.report;
+    // The report need not drop the other lists: they are not joined.
+    report.lists = ReportLists {
+        files: needs.files,
+        left_out: needs.left_out,
+    };
+    report
+}
+
+fn needed_reports(
+    alloc: Global,
+    needs: Needs,
+    parts: Vec<Part<'_>>,
+) -> Result<Vec<Report>, AllocError>
+    ensures { IfOk result (λ reports. reports.items ≡ needed_reports needs parts.entry.items) }
+{
+    let mut reports = Vec::with_capacity(alloc, parts.len())?;
+    for part in parts {
+        reports.push(needed_report(needs, part))?;
+    }
+    Ok(reports)
+}
+
+/// Refuses reports if one lacks what is needed, or if two files have the same path.
+fn refuse<'n>(alloc: Global, needs: Needs, parts: &[Part<'n>]) -> Result<(), SumFault<'n>>
+    ensures { MatchResult result (λ done. CanBeSummed needs parts.now) (IsRefused needs parts.now) }
+{
+    refuse_columns(needs, parts)?;
+    refuse_lists(needs, parts)?;
+    refuse_same_path(alloc, parts)?;
+    Ok(())
+}
+
+/// Joins the reports, with the needed lists alone.
+fn join<'n>(alloc: Global, needs: Needs, parts: Vec<Part<'n>>) -> Result<Report, SumFault<'n>>
+    ensures { MatchResult result (IsJoined (needed_reports needs parts.entry.items)) (IsUnjoined needs parts.entry.items) }
+{
+    let reports = needed_reports(alloc, needs, parts)?;
+    match joined(alloc, reports) {
+        Ok(report) => Ok(report),
+        Err(fault) => Err(fault_of_join(fault)),
+    }
+}
+
+/// Adds up reports that may be summed.
+fn sum_of<'n>(alloc: Global, needs: Needs, parts: Vec<Part<'n>>) -> Result<Sum, SumFault<'n>>
+    ensures { MatchResult result (IsSumOf needs parts.entry.items) (IsUnjoined needs parts.entry.items) }
+{
+    let columns = shared_columns(&parts);
+    let Some(classes) = ClassTotals::of(&parts) else {
+        return Err(SumFault::TooLarge);
+    };
+    let report = join(alloc, needs, parts)?;
+    Ok(Sum {
+        report,
+        columns,
+        text: classes.text,
+        binary: classes.binary,
+    })
+}
+
+/// Sums reports, or finds out why they can't be summed.
+///
+/// The sum is the joined report ([`joined`]) with the needed lists alone. It has the columns that each report has, and its `text` and
+/// `binary` are the sums of those of the reports.
+///
+/// Errors but `Memory` are tested in the order of the variants of [`SumFault`], each over all reports. So a report without a needed
+/// column is refused before another without files. Two listed files with the same path are refused whether or not files are needed: they may be one file,
+/// which would be counted twice.
+///
+/// It allocates memory for references to the paths and for the lists of the sum, but not for paths.
+///
+/// ```
+/// let sum = summed(alloc, parts, Needs::of(None, &[], false, false))?;
+/// ```
+pub fn summed<'n>(alloc: Global, parts: Vec<Part<'n>>, needs: Needs) -> Result<Sum, SumFault<'n>>
+    ensures { IsSummed needs parts.entry.items result }
+{
+    refuse(alloc, needs, &parts)?;
+    sum_of(alloc, needs, parts)
+}

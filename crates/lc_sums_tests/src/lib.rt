@@ -1,0 +1,5 @@
+//! The tests of sums of reports.
+#![tactic(auto)]
+
+#[cfg(test)]
+mod sums;

@@ -1,0 +1,115 @@
+//! Reports that are summed.
+
+use crate::sums::reading::{Text, parts_of};
+use crate::sums::texts::{BY_EOL, BY_EXT, FILES, SKIPPED};
+use lc_reading::RowColumns;
+use lc_sheet::Columns;
+use lc_sums::{Needs, Sum, SumFault, summed};
+use lc_walk::Sums;
+use std::alloc::{AllocError, Global};
+use std::process::Abort;
+use std::test::Fail;
+
+fn sums([files, lines, blank, bytes]: [u64; 4]) -> Sums {
+    Sums {
+        files,
+        lines: u128::from(lines),
+        blank: u128::from(blank),
+        bytes: u128::from(bytes),
+    }
+}
+
+/// Sums reports, if they can be summed.
+fn sum_of(alloc: Global, needs: Needs, texts: &[Text]) -> Result<Option<Sum>, AllocError> {
+    let parts = parts_of(alloc, texts)?;
+    match summed(alloc, parts, needs) {
+        Ok(sum) => Ok(Some(sum)),
+        Err(SumFault::Memory) => Err(AllocError),
+        Err(_) => Ok(None),
+    }
+}
+
+#[test]
+fn reports_of_files_are_joined(rt: HostRuntime) -> Result<(), Fail> {
+    let needs = Needs::of(Some(Columns::ALL), &[], true, false);
+    let sum = sum_of(rt.alloc(), needs, &[("a", SKIPPED), ("b", FILES)])?;
+    let Some(sum) = sum else {
+        assert!(rt; false, "not summed");
+        return Ok(());
+    };
+    assert!(rt; sum.columns == RowColumns::all());
+    assert!(rt; sum.report.totals == sums([3, 6, 2, 34]));
+    assert!(rt; sum.text == sums([3, 6, 2, 34]) && sum.binary == sums([0, 0, 0, 0]));
+    assert!(rt; sum.report.rows.len() == 1 && sum.report.directories == 2);
+    assert!(rt; sum.report.lists.files && !sum.report.lists.left_out);
+    let [a, b, c] = sum.report.files.as_slice() else {
+        assert!(rt; false, "three files");
+        return Ok(());
+    };
+    assert!(rt; a.path.as_slice() == b"a.c".as_slice());
+    assert!(rt; b.path.as_slice() == b"b.c".as_slice());
+    assert!(rt; c.path.as_slice() == b"src/b.c".as_slice());
+    assert!(rt; sum.report.skipped.is_empty());
+    Ok(())
+}
+
+#[test]
+fn lists_that_are_not_needed_are_dropped(rt: HostRuntime) -> Result<(), Fail> {
+    let needs = Needs::of(None, &[], false, true);
+    let sum = sum_of(rt.alloc(), needs, &[("a", SKIPPED)])?;
+    let Some(sum) = sum else {
+        assert!(rt; false, "not summed");
+        return Ok(());
+    };
+    assert!(rt; sum.report.files.is_empty() && !sum.report.lists.files);
+    assert!(rt; sum.report.skipped.len() == 1 && sum.report.lists.left_out);
+    assert!(rt; sum.report.entries == 3);
+    Ok(())
+}
+
+#[test]
+fn columns_of_some_reports_are_not_shared(rt: HostRuntime) -> Result<(), Fail> {
+    let needs = Needs::of(None, &[], false, false);
+    let sum = sum_of(rt.alloc(), needs, &[("a", BY_EXT), ("b", FILES)])?;
+    let Some(sum) = sum else {
+        assert!(rt; false, "not summed");
+        return Ok(());
+    };
+    let ext = RowColumns {
+        ext: true,
+        text: false,
+        eol: false,
+    };
+    assert!(rt; sum.columns == ext);
+    assert!(rt; sum.report.totals == sums([4, 14, 3, 90]));
+    assert!(rt; sum.text == sums([3, 12, 3, 80]) && sum.binary == sums([1, 2, 0, 10]));
+    // One report has no line ends, so its row is another one.
+    assert!(rt; sum.report.rows.len() == 2 && sum.report.faults.len() == 1);
+    Ok(())
+}
+
+#[test]
+fn binary_files_are_summed_without_rows(rt: HostRuntime) -> Result<(), Fail> {
+    let by_nothing = Columns {
+        dir: None,
+        ext: false,
+        text: false,
+        eol: false,
+    };
+    let needs = Needs::of(Some(by_nothing), &[], false, false);
+    let sum = sum_of(rt.alloc(), needs, &[("a", BY_EXT), ("b", BY_EOL)])?;
+    let Some(sum) = sum else {
+        assert!(rt; false, "not summed");
+        return Ok(());
+    };
+    assert!(rt;
+        sum.columns
+            == RowColumns {
+                ext: false,
+                text: false,
+                eol: false
+            }
+    );
+    assert!(rt; sum.text == sums([4, 11, 1, 70]) && sum.binary == sums([2, 3, 0, 18]));
+    Ok(())
+}
