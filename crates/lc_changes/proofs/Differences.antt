@@ -1,0 +1,23 @@
+-- Changes are from the old number to the new one.
+use Rattle.std.proofs.Common.{◌≡◌, Option, Some, None, refl}
+use Rattle.lc_changes.specs.FileChanges.{side_number}
+use Rattle.lc_changes.specs.ChangeValues.{side_value}
+use Rattle.lc_changes.specs.Laws.{DifferencesLaw}
+use Rattle.lc_level.specs.Level.{FileLineModel}
+use Rattle.lc_sheet.specs.Conditions.{number_of}
+use Rattle.lc_sheet.specs.Values.{difference}
+use Rattle.lc_sheet.specs.declared.column.Compared.TheVariants as compared
+use Rattle.lc_sheet.specs.declared.column.Number.{Number}
+use Rattle.lc_sheet.specs.declared.form.Form.{Form}
+
+number_of_side : (form : Form) (file : Option FileLineModel) (n : Number)
+    → side_number n file ≡ number_of (side_value form file (compared.Number n))
+number_of_side form None n = refl
+number_of_side form (Some f) n = refl
+
+pub differences_law : DifferencesLaw
+differences_law = record {
+  rows = λ form r n. refl;
+  sums = λ form s n. refl;
+  files = λ form c n i. difference (number_of_side form c.old_file n i) (number_of_side form c.new_file n i);
+}

@@ -1,0 +1,106 @@
+-- What a comparison of two reports shows.
+use Rattle.std.specs.Prelude.{◌≡◌, ℕ, true, Bool, ◌||◌, if◌then◌else◌, is_some, List, [], ◌∷◌, codes, Option, Some, None}
+use Rattle.std.specs.List.{list_any}
+use Rattle.lc_changes.specs.ChangeColumns.{changed_columns, changed_sums_columns, file_change_columns}
+use Rattle.lc_changes.specs.ChangeValues.{ChangedSumsModel, changed_sums_value, changed_value, file_change_value}
+use Rattle.lc_changes.specs.Changes.{ChangedRowModel, AreChangesSorted, AreCompared, differs, kept_rows, new_sums_of, old_sums_of}
+use Rattle.lc_changes.specs.FileChanges.{FileChangeModel, AreFileChangesSorted, AreFilesChanged, is_changed}
+use Rattle.lc_changes.specs.declared.options.ChangeOptions.{ChangeOptions}
+use Rattle.lc_rows.specs.SheetColumns.{first_key, keeps_columns}
+use Rattle.lc_rows.specs.Sheets.{section_of}
+use Rattle.lc_rows.specs.ShownRows.{parts_of}
+use Rattle.lc_rows.specs.Views.{first_of, rest_of}
+use Rattle.lc_sheet.specs.Sheets.{ComparisonModel, SectionModel}
+use Rattle.lc_sheet.specs.declared.column.Column.{Column}
+use Rattle.lc_sheet.specs.declared.form.Form.{Form}
+use Rattle.lc_sheet.specs.declared.table_options.Columns.{Columns}
+use Rattle.lc_sheet.specs.declared.table_options.Format.{Format}
+use Rattle.lc_walk.specs.declared.options.ReportLists.{ReportLists}
+use Rattle.lc_walk.specs.declared.report.Report.{Report}
+use Rattle.lc_walk.specs.declared.tally.sums.Sums.{Sums}
+
+-- the columns by which rows are kept apart, and the column of names
+abbrev pub form_by : Format → Columns → Form
+form_by format by = record { by = by; first = first_key (keeps_columns format) by; shares = None }
+
+-- ---- sums
+
+abbrev pub sums_line : List ℕ → Sums → Sums → ChangedSumsModel
+sums_line name old new = record { new_sums = record { name = name; sums = new }; old_sums = old }
+
+-- the sums over the rows that are cut off, where some are
+abbrev pub other_sums : List ChangedRowModel → List ChangedSumsModel
+other_sums [] = []
+other_sums (r ∷ rows) = sums_line (codes "others") (old_sums_of (r ∷ rows)) (new_sums_of (r ∷ rows)) ∷ []
+
+abbrev pub total_sums : Sums → Sums → List ChangedSumsModel
+total_sums old new = sums_line (codes "total") old new ∷ []
+
+-- ---- the comparison
+
+-- what is shown of a comparison: in which format and form; the rows with their columns; the sums; the files, where they are listed
+pub record ShownChangesModel : Type 0 where
+  pub format : Format
+  pub form : Form
+  pub columns : List Column
+  pub rows : List ChangedRowModel
+  pub others : List ChangedSumsModel
+  pub total : List ChangedSumsModel
+  pub lists_files : Bool
+  pub files : List FileChangeModel
+
+abbrev pub files_section : ShownChangesModel → Option SectionModel
+files_section m =
+    if m.lists_files then Some (section_of (file_change_value m.form) (file_change_columns m.format m.form.by) m.files) else None
+
+abbrev pub comparison_with : ShownChangesModel → ComparisonModel
+comparison_with m = record {
+  rows = section_of (changed_value m.form) m.columns m.rows;
+  others = section_of (changed_sums_value m.form) (changed_sums_columns m.format m.columns) m.others;
+  total = section_of (changed_sums_value m.form) (changed_sums_columns m.format m.columns) m.total;
+  files = files_section m;
+}
+
+-- of these rows and files, as they are sorted, the first ones, and the sums over the other rows; and this total
+abbrev pub comparison_of : ChangeOptions → List ChangedSumsModel → List ChangedRowModel → List FileChangeModel → ComparisonModel
+comparison_of options total rows files = comparison_with (record {
+  format = options.format;
+  form = form_by options.format options.by;
+  columns = changed_columns options.format options.by;
+  rows = first_of options.top rows;
+  others = other_sums (rest_of options.top rows);
+  total = total;
+  lists_files = options.files;
+  files = first_of options.top files;
+})
+
+-- a comparison, and whether the reports differ in a row or in a listed file, shown or not
+pub record ChangesModel : Type 0 where
+  pub sheet : ComparisonModel
+  pub some_differ : Bool
+
+abbrev pub shown_with : ChangeOptions → List ChangedSumsModel → List ChangedRowModel → List FileChangeModel → Bool → ChangesModel
+shown_with options total rows files differ = record { sheet = comparison_of options total rows files; some_differ = differ }
+
+abbrev pub some_differ : List ChangedRowModel → List FileChangeModel → Bool
+some_differ rows files = list_any differs rows || list_any is_changed files
+
+-- the comparison of two reports with these options
+pub record AreChangesOf (options : ChangeOptions) (old new : Report) (c : ChangesModel) : Type 0 where
+  pub rows : List ChangedRowModel
+  pub are_rows : AreCompared (parts_of options.by old.rows.items old.files.items) (parts_of options.by new.rows.items new.files.items) rows
+  pub shown : List ChangedRowModel
+  pub are_shown : AreChangesSorted options.sort (kept_rows options.all rows) shown
+  pub files : List FileChangeModel
+  pub are_files : AreFilesChanged options.files old.files.items new.files.items files
+  pub listed : List FileChangeModel
+  pub are_listed : AreFileChangesSorted options.sort files listed
+  pub is_sheet : c.sheet ≡ comparison_of options (total_sums old.totals new.totals) shown listed
+  pub is_differ : c.some_differ ≡ some_differ rows files
+
+-- rows by directory are made of the files, and so is the list of files; both reports must have them
+abbrev pub needs_files : ChangeOptions → Bool
+needs_files options = if options.files then true else is_some options.by.dir
+
+abbrev pub HasFilesFor : ChangeOptions → ReportLists → Type 0
+HasFilesFor options lists = needs_files options ≡ true → lists.files ≡ true

@@ -1,0 +1,65 @@
+-- The lines of a comparison: what rows, sums and files have in each column.
+use Rattle.std.specs.Prelude.{ℕ, List, codes, Option, Some, None}
+use Rattle.lc_changes.specs.Changes.{ChangedRowModel}
+use Rattle.lc_changes.specs.FileChanges.{FileChangeModel, either_file, side_number}
+use Rattle.lc_level.specs.Level.{FileLineModel}
+use Rattle.lc_rows.specs.Kinds.{NamedSumsModel, file_value, row_value, sums_value}
+use Rattle.lc_rows.specs.ShownRows.{number_in}
+use Rattle.lc_sheet.specs.Values.{ValueModel, missing, blank, word, number, difference}
+use Rattle.lc_sheet.specs.declared.column.Column.{Column}
+use Rattle.lc_sheet.specs.declared.column.Column.TheVariants as column
+use Rattle.lc_sheet.specs.declared.column.Compared.{Compared}
+use Rattle.lc_sheet.specs.declared.column.Compared.TheVariants as compared
+use Rattle.lc_sheet.specs.declared.form.Form.{Form}
+use Rattle.lc_walk.specs.declared.tally.sums.Sums.{Sums}
+
+-- ---- rows
+
+abbrev pub changed_value : Form → ChangedRowModel → Column → ValueModel
+changed_value form r (column.Old (compared.Number n)) = number (number_in n r.old_sums)
+changed_value form r (column.New (compared.Number n)) = number (number_in n r.new_row.sums)
+changed_value form r (column.Difference n) = difference (number_in n r.old_sums) (number_in n r.new_row.sums)
+changed_value form r other = row_value form r.new_row other
+
+-- ---- sums
+
+-- sums over files of the new report, with their name, and over those of the old one
+pub record ChangedSumsModel : Type 0 where
+  pub new_sums : NamedSumsModel
+  pub old_sums : Sums
+
+abbrev pub changed_sums_value : Form → ChangedSumsModel → Column → ValueModel
+changed_sums_value form s (column.Old (compared.Number n)) = number (number_in n s.old_sums)
+changed_sums_value form s (column.New (compared.Number n)) = number (number_in n s.new_sums.sums)
+changed_sums_value form s (column.Difference n) = difference (number_in n s.old_sums) (number_in n s.new_sums.sums)
+changed_sums_value form s other = sums_value form s.new_sums other
+
+-- ---- files
+
+-- the column in which a report has what is compared
+abbrev pub column_of : Compared → Column
+column_of compared.Text = column.Text
+column_of compared.Eol = column.Eol
+column_of (compared.Number n) = column.Number n
+
+-- what a report has of a file; nothing, where it does not have the file
+abbrev pub side_value : Form → Option FileLineModel → Compared → ValueModel
+side_value form None compared = missing
+side_value form (Some f) compared = file_value form f (column_of compared)
+
+-- what both reports have of it
+abbrev pub shared_value : Form → Option FileLineModel → Column → ValueModel
+shared_value form None column = blank
+shared_value form (Some f) column = file_value form f column
+
+abbrev pub change_word : Option FileLineModel → Option FileLineModel → List ℕ
+change_word None new = codes "added"
+change_word (Some f) None = codes "removed"
+change_word (Some f) (Some g) = codes "changed"
+
+abbrev pub file_change_value : Form → FileChangeModel → Column → ValueModel
+file_change_value form c column.Change = word (change_word c.old_file c.new_file)
+file_change_value form c (column.Old compared) = side_value form c.old_file compared
+file_change_value form c (column.New compared) = side_value form c.new_file compared
+file_change_value form c (column.Difference n) = difference (side_number n c.old_file) (side_number n c.new_file)
+file_change_value form c other = shared_value form (either_file c) other

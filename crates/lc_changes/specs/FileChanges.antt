@@ -1,0 +1,108 @@
+-- The files of a comparison: those of one report alone, and those that differ.
+use Rattle.std.specs.Prelude.{◌≡◌, ℕ, ◌==◌, Bool, true, false, ◌&&◌, ◌||◌, not, List, [], map, filter, Option, Some, None}
+use Rattle.std.specs.Bool.{MatchBool}
+use Rattle.std.specs.List.{All, Contains, list_any}
+use Rattle.std.specs.List.Sorted.{IsPermutation, IsSorted, IsStrictlySortedBy}
+use Rattle.std.specs.Option.{MatchOption, option_or, option_map_or}
+use Rattle.std.specs.Ordering.{eq_by_cmp, nat_cmp, on, then_cmp}
+use Rattle.std.specs.declared.cmp.Ordering.{Ordering}
+use Rattle.lc_changes.specs.Changes.{distance}
+use Rattle.lc_changes.specs.Pairs.{PairModel, removed, added, both}
+use Rattle.lc_level.specs.Level.{FileLineModel}
+use Rattle.lc_rows.specs.ShownFiles.{file_number}
+use Rattle.lc_sheet.specs.declared.column.Number.{Number}
+use Rattle.lc_tree.specs.ByteOrder.{bytes_cmp}
+use Rattle.lc_walk.specs.Key.{eol_place, text_place}
+
+-- a file in the old report and in the new one, if they have it
+pub record FileChangeModel : Type 0 where
+  pub old_file : Option FileLineModel
+  pub new_file : Option FileLineModel
+
+abbrev pub file_pair : Option FileLineModel → Option FileLineModel → FileChangeModel
+file_pair old new = record { old_file = old; new_file = new }
+
+abbrev pub file_of_pair : PairModel FileLineModel → FileChangeModel
+file_of_pair (removed o) = file_pair (Some o) None
+file_of_pair (added n) = file_pair None (Some n)
+file_of_pair (both o n) = file_pair (Some o) (Some n)
+
+-- the file in the new report, or else in the old one, and its path
+abbrev pub either_file : FileChangeModel → Option FileLineModel
+either_file c = option_or c.new_file c.old_file
+
+abbrev pub file_path : FileLineModel → List ℕ
+file_path f = f.path
+
+abbrev pub changed_path : FileChangeModel → List ℕ
+changed_path c = option_map_or file_path (either_file c) []
+
+abbrev pub same_path : List ℕ → List ℕ → Bool
+same_path = eq_by_cmp bytes_cmp
+
+-- a file of a report at a path, or none if the report has none there
+abbrev pub IsFileAt : List FileLineModel → List ℕ → Option FileLineModel → Type 0
+IsFileAt files path file =
+    MatchOption file (list_any (λ (f : FileLineModel). same_path path f.path) files ≡ false) (λ f. Contains files f × (f.path ≡ path))
+
+-- the files of both reports side by side, for each path of some file, in the order of paths
+pub record AreFilesCompared (olds news : List FileLineModel) (changes : List FileChangeModel) : Type 0 where
+  pub old : All (λ (c : FileChangeModel). IsFileAt olds (changed_path c) c.old_file) changes
+  pub new : All (λ (c : FileChangeModel). IsFileAt news (changed_path c) c.new_file) changes
+  pub present : (paths : List ℕ → Bool) → list_any (λ c. paths (changed_path c)) changes
+      ≡ (list_any (λ (f : FileLineModel). paths f.path) olds || list_any (λ (f : FileLineModel). paths f.path) news)
+  pub order : IsStrictlySortedBy bytes_cmp (map changed_path changes)
+
+-- ---- what changed
+
+-- whether two files are alike in all but their paths
+abbrev pub are_same_counts : FileLineModel → FileLineModel → Bool
+are_same_counts a b = text_place a.text == text_place b.text && eol_place a.count.eol == eol_place b.count.eol
+    && a.count.lines == b.count.lines && a.count.blank == b.count.blank && a.count.bytes == b.count.bytes
+
+abbrev pub sides_differ : Option FileLineModel → Option FileLineModel → Bool
+sides_differ (Some a) (Some b) = not (are_same_counts a b)
+sides_differ (Some a) None = true
+sides_differ None (Some b) = true
+sides_differ None None = false
+
+-- whether a file was added, removed or changed
+abbrev pub is_changed : FileChangeModel → Bool
+is_changed c = sides_differ c.old_file c.new_file
+
+-- the files that a comparison lists: those that were added, removed or changed, or none at all
+abbrev pub AreFilesChanged : Bool → List FileLineModel → List FileLineModel → List FileChangeModel → Type 0
+AreFilesChanged listed olds news changes = MatchBool listed
+    ((compared : List FileChangeModel) × AreFilesCompared olds news compared × (changes ≡ filter is_changed compared))
+    (changes ≡ [])
+
+-- ---- their order
+
+-- a number of a file; a report without it has none
+abbrev pub side_number : Number → Option FileLineModel → ℕ
+side_number n file = option_map_or (file_number n) file 0
+
+abbrev pub file_change : Number → FileChangeModel → ℕ
+file_change n c = distance (side_number n c.old_file) (side_number n c.new_file)
+
+-- the largest change first
+abbrev pub by_file_change : Number → FileChangeModel → FileChangeModel → Ordering
+by_file_change n a b = nat_cmp (file_change n b) (file_change n a)
+
+-- the largest change first, and files of equal changes by their paths
+abbrev pub file_change_cmp : Number → FileChangeModel → FileChangeModel → Ordering
+file_change_cmp n = then_cmp (by_file_change n) (on changed_path bytes_cmp)
+
+-- the files in the order of paths, or sorted
+abbrev pub AreFileChangesSorted : Option Number → List FileChangeModel → List FileChangeModel → Type 0
+AreFileChangesSorted None changes sorted = sorted ≡ changes
+AreFileChangesSorted (Some n) changes sorted = IsPermutation changes sorted × IsSorted (file_change_cmp n) sorted
+
+-- ---- the files of one report
+
+-- a file of each path that some file has, in the order of paths
+pub record AreByPath (files sorted : List FileLineModel) : Type 0 where
+  pub given : (f : FileLineModel) → Contains sorted f → Contains files f
+  pub present : (paths : List ℕ → Bool) → list_any (λ (f : FileLineModel). paths f.path) sorted
+      ≡ list_any (λ (f : FileLineModel). paths f.path) files
+  pub order : IsStrictlySortedBy bytes_cmp (map file_path sorted)

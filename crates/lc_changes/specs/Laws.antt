@@ -1,0 +1,92 @@
+-- What is true of comparisons.
+use Rattle.std.specs.Prelude.{◌≡◌, Bool, false, ◌||◌, List, [], map, Option}
+use Rattle.std.specs.List.{All, list_any}
+use Rattle.std.specs.Option.{MatchOption}
+use Rattle.lc_changes.specs.ChangeSheets.{AreChangesOf, ChangesModel}
+use Rattle.lc_changes.specs.ChangeValues.{ChangedSumsModel, changed_sums_value, changed_value, file_change_value}
+use Rattle.lc_changes.specs.Changes.{ChangedRowModel, AreCompared, changed_key, new_sums_of, old_sums_of, sums_at}
+use Rattle.lc_changes.specs.FileChanges.{FileChangeModel, AreFilesCompared, file_path}
+use Rattle.lc_changes.specs.declared.options.ChangeOptions.{ChangeOptions}
+use Rattle.lc_level.specs.Level.{FileLineModel}
+use Rattle.lc_rows.specs.RowKeys.{RowKey, ShownRowModel, has_within, sums_of_shown}
+use Rattle.lc_rows.specs.ShownRows.{AreShown, parts_of}
+use Rattle.lc_sheet.specs.Conditions.{number_of}
+use Rattle.lc_sheet.specs.Sheets.{SectionModel}
+use Rattle.lc_sheet.specs.Values.{ValueModel, difference}
+use Rattle.lc_sheet.specs.declared.column.Column.{Column}
+use Rattle.lc_sheet.specs.declared.column.Column.TheVariants as column
+use Rattle.lc_sheet.specs.declared.column.Compared.TheVariants as compared
+use Rattle.lc_sheet.specs.declared.column.Number.{Number}
+use Rattle.lc_sheet.specs.declared.form.Form.{Form}
+use Rattle.lc_sheet.specs.declared.table_options.Columns.{Columns}
+use Rattle.lc_tree.specs.ByteOrder.{AreApart}
+use Rattle.lc_walk.specs.declared.report.Report.{Report}
+
+-- ---- a report and itself
+
+abbrev pub has_no_line : Option SectionModel → Type 0
+has_no_line section = MatchOption section (Unit {0}) (λ s. s.lines ≡ [])
+
+-- no row and no file differs: without `--all` there is no row, and no file in any case
+pub record HasNoChange (options : ChangeOptions) (c : ChangesModel) : Type 0 where
+  pub differ : c.some_differ ≡ false
+  pub rows : options.all ≡ false → c.sheet.rows.lines ≡ []
+  pub others : options.all ≡ false → c.sheet.others.lines ≡ []
+  pub files : has_no_line c.sheet.files
+
+-- a report in which no path stands twice does not differ from itself
+abbrev pub SelfLaw : Type 0
+SelfLaw =
+    (options : ChangeOptions) (r : Report) (c : ChangesModel) → AreApart (map file_path r.files.items) → AreChangesOf options r r c
+    → HasNoChange options c
+
+-- ---- rows, and those of tables
+
+-- a row has the sums that the tables of both reports show for its key, there is a row for each key that one of them shows, and the rows
+-- add up to the same as both tables
+pub record HasRowsOf (olds news : List ShownRowModel) (rows : List ChangedRowModel) : Type 0 where
+  pub old : All (λ (r : ChangedRowModel). r.old_sums ≡ sums_at (changed_key r) olds) rows
+  pub new : All (λ (r : ChangedRowModel). r.new_row.sums ≡ sums_at (changed_key r) news) rows
+  pub present : (keys : RowKey → Bool) → list_any (λ r. keys (changed_key r)) rows ≡ (has_within keys olds || has_within keys news)
+  pub old_total : old_sums_of rows ≡ sums_of_shown olds
+  pub new_total : new_sums_of rows ≡ sums_of_shown news
+
+abbrev pub TablesLaw : Type 0
+TablesLaw =
+    (by : Columns) (sort : Option Number) (old new : Report) (olds news : List ShownRowModel) (rows : List ChangedRowModel)
+    → AreShown by sort old.rows.items old.files.items olds → AreShown by sort new.rows.items new.files.items news
+    → AreCompared (parts_of by old.rows.items old.files.items) (parts_of by new.rows.items new.files.items) rows
+    → HasRowsOf olds news rows
+
+-- ---- one comparison
+
+-- the rows of a comparison are determined by the parts of the rows of both reports
+abbrev pub RowsOnceLaw : Type 0
+RowsOnceLaw =
+    (olds news : List ShownRowModel) (rows others : List ChangedRowModel) → AreCompared olds news rows → AreCompared olds news others
+    → rows ≡ others
+
+-- and its files by the files of both, if no path stands twice in one of them
+abbrev pub FilesOnceLaw : Type 0
+FilesOnceLaw =
+    (olds news : List FileLineModel) (files others : List FileChangeModel) → AreApart (map file_path olds) → AreApart (map file_path news)
+    → AreFilesCompared olds news files → AreFilesCompared olds news others → files ≡ others
+
+pub record OneComparisonLaw : Type 0 where
+  pub rows : RowsOnceLaw
+  pub files : FilesOnceLaw
+
+-- ---- changes
+
+-- the change of a number is from what is in the column of the old report to what is in that of the new one, and from 0 or to 0 where
+-- nothing is there
+abbrev pub IsFromOldToNew : (Column → ValueModel) → Type 0
+IsFromOldToNew value = (n : Number)
+    → value (column.Difference n)
+    ≡ difference (number_of (value (column.Old (compared.Number n)))) (number_of (value (column.New (compared.Number n))))
+
+-- so it is in each line of rows, of sums and of files
+pub record DifferencesLaw : Type 0 where
+  pub rows : (form : Form) (r : ChangedRowModel) → IsFromOldToNew (changed_value form r)
+  pub sums : (form : Form) (s : ChangedSumsModel) → IsFromOldToNew (changed_sums_value form s)
+  pub files : (form : Form) (c : FileChangeModel) → IsFromOldToNew (file_change_value form c)

@@ -1,0 +1,7 @@
+pub mod Pairs
+pub mod Changes
+pub mod FileChanges
+pub mod ChangeColumns
+pub mod ChangeValues
+pub mod ChangeSheets
+pub mod Laws

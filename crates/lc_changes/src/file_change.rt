@@ -1,0 +1,104 @@
+//! A file of a comparison.
+
+ghost use Rattle.std.specs.Prelude.{◌≡◌, option_map};
+ghost use Rattle.lc_changes.specs.FileChanges.{are_same_counts, changed_path, either_file, file_change, is_changed, side_number};
+ghost use Rattle.lc_changes.specs.ChangeValues.{change_word};
+
+use crate::changed_row::distance;
+use lc_rows::number_of;
+use lc_sheet::Number;
+use lc_walk::FileLine;
+use std::marker::Model;
+
+/// A file of a comparison: a path, and what each report has there.
+#[derive(Drop)]
+pub struct FileChange<'a> {
+    /// The file of the old report, if it has one at the path.
+    pub old_file: Option<&'a FileLine>,
+    /// The file of the new report, if it has one at the path.
+    pub new_file: Option<&'a FileLine>,
+}
+
+impl<'a> Model for FileChange<'a> {
+    ghost use Rattle.std.specs.Prelude.{option_map};
+    ghost use Rattle.lc_changes.specs.FileChanges.{FileChangeModel};
+
+    ghost Value = { FileChangeModel };
+
+    ghost view = { λ c. record { old_file = option_map (λ f. f.now) c.old_file; new_file = option_map (λ f. f.now) c.new_file } };
+}
+
+/// Returns whether two files are alike in all but their paths.
+fn are_same_counts(a: &FileLine, b: &FileLine) -> bool
+    ensures { result ≡ are_same_counts a.now b.now }
+{
+    a.text == b.text
+        && a.count.eol == b.count.eol
+        && a.count.lines == b.count.lines
+        && a.count.blank == b.count.blank
+        && a.count.bytes == b.count.bytes
+}
+
+/// Returns a number of a file, or 0 if there is no file.
+pub(crate) fn side_number(number: Number, file: Option<&FileLine>) -> u128
+    ensures { result ≡ side_number number (option_map (λ f. f.now) file.entry) }
+{
+    match file {
+        None => 0,
+        Some(file) => u128::from(number_of(number, file)),
+    }
+}
+
+impl<'a> FileChange<'a> {
+    /// Returns the file in the new report, or else in the old one.
+    pub(crate) fn either(&self) -> Option<&'a FileLine>
+        ensures { option_map (λ f. f.now) result ≡ either_file self.now }
+    {
+        match self.new_file {
+            None => self.old_file,
+            Some(file) => Some(file),
+        }
+    }
+
+    /// Returns the path of the file.
+    pub(crate) fn path(&self) -> &'a [u8]
+        ensures { result.now ≡ changed_path self.now }
+    {
+        match self.either() {
+            None => &[],
+            Some(file) => &file.path,
+        }
+    }
+
+    /// Returns whether the file is in one report alone, or differs between the reports.
+    pub(crate) fn is_changed(&self) -> bool
+        ensures { result ≡ is_changed self.now }
+    {
+        match (self.old_file, self.new_file) {
+            (Some(old), Some(new)) => !are_same_counts(old, new),
+            (None, None) => false,
+            _ => true,
+        }
+    }
+
+    /// Returns the word for what became of the file.
+    pub(crate) fn word(&self) -> &'static str
+        ensures { result.now ≡ change_word self.now.old_file self.now.new_file }
+    {
+        match (self.old_file, self.new_file) {
+            (None, _) => "added",
+            (Some(_), None) => "removed",
+            (Some(_), Some(_)) => "changed",
+        }
+    }
+
+    /// Returns how far a number of the file is from what it was. A report without the file counts 0.
+    pub(crate) fn change(&self, number: Number) -> u128
+        ensures { result ≡ file_change number self.now }
+    {
+        distance(
+            side_number(number, self.old_file),
+            side_number(number, self.new_file),
+        )
+    }
+}

@@ -1,0 +1,67 @@
+//! The files of a comparison.
+
+ghost use Rattle.std.specs.Prelude.{◌≡◌, option_map};
+ghost use Rattle.lc_changes.specs.ChangeValues.{column_of, file_change_value, shared_value, side_value};
+ghost use Rattle.lc_sheet.specs.Values.{value_model};
+
+use crate::file_change::{FileChange, side_number};
+use lc_rows::Files;
+use lc_sheet::{Column, Compared, Form, Lines, Value};
+use lc_walk::FileLine;
+use std::marker::PhantomData;
+
+/// The kind of the files of a comparison.
+#[derive(Drop)]
+pub struct FileChanges<'a> {
+    files: PhantomData<&'a ()>,
+}
+
+/// Returns the column in which a report has what is compared.
+fn column_of(compared: Compared) -> Column
+    ensures { result ≡ column_of compared }
+{
+    match compared {
+        Compared::Text => Column::Text,
+        Compared::Eol => Column::Eol,
+        Compared::Number(number) => Column::Number(number),
+    }
+}
+
+/// Returns what a report has of a file. If the report lacks the file, nothing is there.
+fn side_value(form: Form, file: Option<&FileLine>, compared: Compared) -> Value<'_>
+    ensures { value_model result ≡ side_value form (option_map (λ f. f.now) file.entry) compared }
+{
+    match file {
+        None => Value::Missing,
+        Some(file) => Files::value(file, form, column_of(compared)),
+    }
+}
+
+/// Returns what both reports have of a file, such as its extension.
+fn shared_value(form: Form, file: Option<&FileLine>, column: Column) -> Value<'_>
+    ensures { value_model result ≡ shared_value form (option_map (λ f. f.now) file.entry) column }
+{
+    match file {
+        None => Value::Blank,
+        Some(file) => Files::value(file, form, column),
+    }
+}
+
+impl<'a> Lines for FileChanges<'a> {
+    type Line = FileChange<'a>;
+
+    ghost value_in = { file_change_value };
+
+    fn value<'l>(line: &'l FileChange<'a>, form: Form, column: Column) -> Value<'l> {
+        match column {
+            Column::Change => Value::Word(line.word()),
+            Column::Old(compared) => side_value(form, line.old_file, compared),
+            Column::New(compared) => side_value(form, line.new_file, compared),
+            Column::Difference(number) => Value::Difference {
+                old: side_number(number, line.old_file),
+                new: side_number(number, line.new_file),
+            },
+            _ => shared_value(form, line.either(), column),
+        }
+    }
+}

@@ -1,0 +1,37 @@
+//! The rows of a comparison.
+
+ghost use Rattle.std.specs.Prelude.{◌≡◌};
+ghost use Rattle.lc_changes.specs.ChangeValues.{changed_value};
+
+use crate::changed_row::ChangedRow;
+use lc_rows::{Rows, number_in};
+use lc_sheet::{Column, Compared, Form, Lines, Value};
+use std::marker::PhantomData;
+
+/// The kind of the rows of a comparison.
+#[derive(Drop)]
+pub struct Changes<'a> {
+    rows: PhantomData<&'a ()>,
+}
+
+impl<'a> Lines for Changes<'a> {
+    type Line = ChangedRow<'a>;
+
+    ghost value_in = { changed_value };
+
+    fn value<'l>(line: &'l ChangedRow<'a>, form: Form, column: Column) -> Value<'l> {
+        match column {
+            Column::Old(Compared::Number(number)) => {
+                Value::Number(number_in(number, line.old_sums))
+            }
+            Column::New(Compared::Number(number)) => {
+                Value::Number(number_in(number, line.new_row.sums))
+            }
+            Column::Difference(number) => Value::Difference {
+                old: number_in(number, line.old_sums),
+                new: number_in(number, line.new_row.sums),
+            },
+            _ => Rows::value(&line.new_row, form, column),
+        }
+    }
+}

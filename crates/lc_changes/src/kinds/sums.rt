@@ -1,0 +1,52 @@
+//! The sums of a comparison.
+
+ghost use Rattle.std.specs.Prelude.{◌≡◌};
+ghost use Rattle.lc_changes.specs.ChangeValues.{changed_sums_value};
+
+use lc_rows::{NamedSums, Totals, number_in};
+use lc_sheet::{Column, Compared, Form, Lines, Value};
+use lc_walk::Sums;
+use std::marker::Model;
+
+/// Sums of both reports, with the name under which they are shown.
+#[derive(Drop)]
+pub struct ChangedSums {
+    /// The name, and the sums of the new report.
+    pub new_sums: NamedSums,
+    /// The sums of the old report.
+    pub old_sums: Sums,
+}
+
+impl Model for ChangedSums {
+    ghost use Rattle.lc_changes.specs.ChangeValues.{ChangedSumsModel};
+
+    ghost Value = { ChangedSumsModel };
+
+    ghost view = { λ s. record { new_sums = s.new_sums; old_sums = s.old_sums } };
+}
+
+/// The kind of the sums of a comparison.
+#[derive(Drop)]
+pub struct ChangedTotals {}
+
+impl Lines for ChangedTotals {
+    type Line = ChangedSums;
+
+    ghost value_in = { changed_sums_value };
+
+    fn value<'l>(line: &'l ChangedSums, form: Form, column: Column) -> Value<'l> {
+        match column {
+            Column::Old(Compared::Number(number)) => {
+                Value::Number(number_in(number, line.old_sums))
+            }
+            Column::New(Compared::Number(number)) => {
+                Value::Number(number_in(number, line.new_sums.sums))
+            }
+            Column::Difference(number) => Value::Difference {
+                old: number_in(number, line.old_sums),
+                new: number_in(number, line.new_sums.sums),
+            },
+            _ => Totals::value(&line.new_sums, form, column),
+        }
+    }
+}

@@ -1,0 +1,25 @@
+//! Laws of the definitions that the contracts cite. The functions do nothing: their contracts are what is proved.
+
+ghost use Rattle.lc_changes.specs.Laws.{DifferencesLaw, OneComparisonLaw, SelfLaw, TablesLaw};
+
+/// The law that a report differs from itself in no row and in no file, if no path is in it twice.
+pub fn a_report_does_not_differ_from_itself()
+    ensures { SelfLaw }
+{}
+
+/// The law that a row has the sums that tables of both reports show for its key, and that each row of these tables has a row. So all rows
+/// add up to the same as both tables.
+pub fn rows_of_a_comparison_are_those_of_tables()
+    ensures { TablesLaw }
+{}
+
+/// The law that a change is from the number of the old report to that of the new one, in each line of rows, of sums and of files. A report
+/// that lacks a file has 0 for it.
+pub fn old_numbers_and_changes_add_up_to_new_ones()
+    ensures { DifferencesLaw }
+{}
+
+/// The law that the rows and the files of a comparison are determined by both reports, if no path is twice in one of them.
+pub fn reports_are_compared_in_one_way()
+    ensures { OneComparisonLaw }
+{}

@@ -1,0 +1,17 @@
+//! Two lists side by side.
+
+ghost use Rattle.std.specs.Prelude.{◌≡◌};
+ghost use Rattle.lc_changes.specs.Pairs.{left_of};
+
+/// Returns what is left of a list after its first element, if that is passed.
+pub(crate) fn left_of<T>(passed: bool, items: &[T]) -> &[T]
+    ensures { result.now ≡ left_of passed items.now }
+{
+    if !passed {
+        return items;
+    }
+    match items.split_first() {
+        None => items,
+        Some((_, left)) => left,
+    }
+}

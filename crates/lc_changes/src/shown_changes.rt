@@ -1,0 +1,214 @@
+//! What a comparison of two reports shows, and its sheet.
+
+ghost use Rattle.std.specs.Prelude.{◌≡◌, IfOk};
+ghost use Rattle.std.specs.List.{list_any};
+ghost use Rattle.lc_changes.specs.ChangeSheets.{AreChangesOf, HasFilesFor, form_by, other_sums, shown_with, some_differ};
+ghost use Rattle.lc_changes.specs.Changes.{differs};
+ghost use Rattle.lc_changes.specs.FileChanges.{is_changed};
+ghost use Rattle.lc_rows.specs.Views.{first_of, rest_of};
+
+use crate::changed_row::ChangedRow;
+use crate::columns::{changed_columns, changed_sums_columns, file_change_columns};
+use crate::file_change::FileChange;
+use crate::files::changed_files;
+use crate::kinds::{ChangedSums, ChangedTotals, Changes, FileChanges};
+use crate::options::ChangeOptions;
+use crate::rows::compared_rows;
+use crate::sorting::{keep_rows, sort_files, sort_rows};
+use crate::sums::{other_sums, total_sums};
+use lc_rows::{first_key, keeps_columns, split_at_top};
+use lc_sheet::{Column, Columns, ComparisonSheet, Form, Format, Section};
+use lc_walk::Report;
+use std::alloc::{AllocError, Global};
+use std::marker::Model;
+
+/// The sheet of a comparison of two reports.
+pub type ChangeSheet<'a> = ComparisonSheet<'a, Changes<'a>, ChangedTotals, FileChanges<'a>>;
+
+/// The changes from one report to another. It owns the rows and the files, which borrow from both reports, and the sheet borrows from it.
+#[derive(Drop)]
+pub struct ShownChanges<'a> {
+    format: Format,
+    form: Form,
+    columns: Vec<Column>,
+    rows: Vec<ChangedRow<'a>>,
+    others: Vec<ChangedSums>,
+    total: Vec<ChangedSums>,
+    lists_files: bool,
+    files: Vec<FileChange<'a>>,
+    some_differ: bool,
+}
+
+impl<'a> Model for ShownChanges<'a> {
+    ghost use Rattle.lc_changes.specs.ChangeSheets.{ChangesModel, comparison_with};
+
+    ghost Value = { ChangesModel };
+
+    ghost view = { λ s. record {
+      sheet = comparison_with (record {
+        format = s.format;
+        form = s.form;
+        columns = s.columns.items;
+        rows = s.rows.items;
+        others = s.others.items;
+        total = s.total.items;
+        lists_files = s.lists_files;
+        files = s.files.items;
+      });
+      some_differ = s.some_differ;
+    } };
+}
+
+fn form_by(format: Format, by: Columns) -> Form
+    ensures { result ≡ form_by format by }
+{
+    Form {
+        by,
+        first: first_key(format, by),
+        shares: None,
+    }
+}
+
+fn some_rows_differ(rows: &[ChangedRow<'_>]) -> bool
+    ensures { result ≡ list_any differs rows.now }
+{
+    rows.iter().any(|row| row.differs())
+}
+
+fn some_files_differ(files: &[FileChange<'_>]) -> bool
+    ensures { result ≡ list_any is_changed files.now }
+{
+    files.iter().any(|file| file.is_changed())
+}
+
+fn some_differ(rows: &[ChangedRow<'_>], files: &[FileChange<'_>]) -> bool
+    ensures { result ≡ some_differ rows.now files.now }
+{
+    some_rows_differ(rows) || some_files_differ(files)
+}
+
+/// Adds up the rows that are cut off, if there are some.
+fn cut_sums(
+    alloc: Global,
+    top: Option<u32>,
+    rows: &[ChangedRow<'_>],
+) -> Result<Vec<ChangedSums>, AllocError>
+    ensures { IfOk result (λ lines. lines.items ≡ other_sums (rest_of top rows.now)) }
+{
+    let (_, rest) = split_at_top(top, rows);
+    other_sums(alloc, rest)
+}
+
+/// Cuts off all rows after the first `top`, if there is such a number.
+fn cut_rows(top: Option<u32>, rows: &mut Vec<ChangedRow<'_>>)
+    ensures { rows.new.items ≡ first_of top rows.old.items }
+{
+    if let Some(most) = top {
+        rows.truncate(most as usize);
+    }
+}
+
+fn cut_files(top: Option<u32>, files: &mut Vec<FileChange<'_>>)
+    ensures { files.new.items ≡ first_of top files.old.items }
+{
+    if let Some(most) = top {
+        files.truncate(most as usize);
+    }
+}
+
+impl<'a> ShownChanges<'a> {
+    /// Compares two reports: sums the rows of both, drops those in which no number changed, sorts and cuts them, and lists the files that
+    /// differ.
+    ///
+    /// Rows by directory, and the list of files, are made of the files, which both reports must have. An error means that an allocation
+    /// failed, or that sums overflow, which those of a walk's rows never do. The time is that of sorting rows and files. Each row of both
+    /// reports takes memory while they are compared.
+    ///
+    /// ```
+    /// let changes = ShownChanges::of(alloc, &old, &new, &options)?;
+    /// ```
+    pub fn of(
+        alloc: Global,
+        old: &'a Report,
+        new: &'a Report,
+        options: &ChangeOptions,
+    ) -> Result<ShownChanges<'a>, AllocError>
+        requires old_files { HasFilesFor options.now old.now.lists }
+        requires new_files { HasFilesFor options.now new.now.lists }
+        ensures { IfOk result (AreChangesOf options.now old.entry.now new.entry.now) }
+    {
+        let mut rows = compared_rows(alloc, old, new, options.by)?;
+        let mut files = changed_files(alloc, old, new, options.files)?;
+        let some_differ = some_differ(&rows, &files);
+        keep_rows(options.all, &mut rows);
+        sort_rows(options.sort, &mut rows);
+        sort_files(options.sort, &mut files);
+        let total = total_sums(alloc, old, new)?;
+        let shown = ShownChanges::with_lines(alloc, options, total, rows, files, some_differ)?;
+        Ok(shown)
+    }
+
+    /// Shows the first of these rows and files, and adds up the other rows.
+    fn with_lines(
+        alloc: Global,
+        options: &ChangeOptions,
+        total: Vec<ChangedSums>,
+        rows: Vec<ChangedRow<'a>>,
+        files: Vec<FileChange<'a>>,
+        some_differ: bool,
+    ) -> Result<ShownChanges<'a>, AllocError>
+        ensures { IfOk result (λ shown. shown ≡ shown_with options.now total.items rows.entry.items files.entry.items some_differ) }
+    {
+        let mut rows = rows;
+        let mut files = files;
+        let others = cut_sums(alloc, options.top, &rows)?;
+        cut_rows(options.top, &mut rows);
+        cut_files(options.top, &mut files);
+        let shown = ShownChanges {
+            format: options.format,
+            form: form_by(options.format, options.by),
+            columns: changed_columns(alloc, options.format, options.by)?,
+            rows,
+            others,
+            total,
+            lists_files: options.files,
+            files,
+            some_differ,
+        };
+        Ok(shown)
+    }
+
+    fn files_section(&'a self) -> Option<Section<'a, FileChanges<'a>>>
+        ensures { result ≡ self.entry.now.sheet.files }
+    {
+        if self.lists_files {
+            Some(Section::new(
+                self.form,
+                file_change_columns(self.format, self.form.by),
+                &self.files,
+            ))
+        } else {
+            None
+        }
+    }
+
+    /// Returns the sheet, which borrows everything.
+    pub fn comparison(&'a self) -> ChangeSheet<'a>
+        ensures { result ≡ self.entry.now.sheet }
+    {
+        let sums_columns = changed_sums_columns(self.format, &self.columns);
+        ComparisonSheet {
+            rows: Section::new(self.form, &self.columns, &self.rows),
+            others: Section::new(self.form, sums_columns, &self.others),
+            total: Section::new(self.form, sums_columns, &self.total),
+            files: self.files_section(),
+        }
+    }
+
+    /// Returns whether the reports differ in a row, or in a file if files are listed. It does not matter whether the row or file is shown.
+    pub fn some_differ(&self) -> bool
+        ensures { result ≡ self.now.some_differ }
+    {
+        self.some_differ
+    }
+}

@@ -1,0 +1,76 @@
+//! The order of the rows and of the files of a comparison.
+
+ghost use Rattle.std.specs.Prelude.{◌≡◌, filter};
+ghost use Rattle.std.specs.List.Sorted.{IsPermutation, IsSorted};
+ghost use Rattle.lc_changes.specs.Changes.{AreChangesSorted, change_cmp, differs, kept_rows};
+ghost use Rattle.lc_changes.specs.FileChanges.{AreFileChangesSorted, file_change_cmp};
+
+use crate::changed_row::ChangedRow;
+use crate::file_change::FileChange;
+use lc_sheet::Number;
+use std::cmp::Ordering;
+
+fn compare_rows(by: Number, a: &ChangedRow<'_>, b: &ChangedRow<'_>) -> Ordering
+    ensures { result ≡ change_cmp by a.now b.now }
+{
+    match b.change(by).cmp(&a.change(by)) {
+        Ordering::Equal => a.new_row.key().compare(&b.new_row.key()),
+        unequal => unequal,
+    }
+}
+
+fn sort_rows_by(by: Number, rows: &mut Vec<ChangedRow<'_>>)
+    ensures same { IsPermutation rows.old.items rows.new.items }
+    ensures order { IsSorted (change_cmp by) rows.new.items }
+{
+    rows.sort_unstable_by(|a, b| compare_rows(by, a, b));
+}
+
+/// Sorts rows that are in the order of their keys: the largest change of a number first, if there is one.
+pub(crate) fn sort_rows(by: Option<Number>, rows: &mut Vec<ChangedRow<'_>>)
+    ensures { AreChangesSorted by rows.old.items rows.new.items }
+{
+    if let Some(number) = by {
+        sort_rows_by(number, rows);
+    }
+}
+
+fn keep_changed(rows: &mut Vec<ChangedRow<'_>>)
+    ensures { rows.new.items ≡ filter differs rows.old.items }
+{
+    rows.retain(|row| row.differs());
+}
+
+/// Removes the rows in which no number changed, unless all are kept.
+pub(crate) fn keep_rows(all: bool, rows: &mut Vec<ChangedRow<'_>>)
+    ensures { rows.new.items ≡ kept_rows all rows.old.items }
+{
+    if !all {
+        keep_changed(rows);
+    }
+}
+
+fn compare_files(by: Number, a: &FileChange<'_>, b: &FileChange<'_>) -> Ordering
+    ensures { result ≡ file_change_cmp by a.now b.now }
+{
+    match b.change(by).cmp(&a.change(by)) {
+        Ordering::Equal => a.path().cmp(&b.path()),
+        unequal => unequal,
+    }
+}
+
+fn sort_files_by(by: Number, files: &mut Vec<FileChange<'_>>)
+    ensures same { IsPermutation files.old.items files.new.items }
+    ensures order { IsSorted (file_change_cmp by) files.new.items }
+{
+    files.sort_unstable_by(|a, b| compare_files(by, a, b));
+}
+
+/// Sorts files that are in the order of their paths: the largest change of a number first, if there is one.
+pub(crate) fn sort_files(by: Option<Number>, files: &mut Vec<FileChange<'_>>)
+    ensures { AreFileChangesSorted by files.old.items files.new.items }
+{
+    if let Some(number) = by {
+        sort_files_by(number, files);
+    }
+}

@@ -1,0 +1,73 @@
+//! The sums over the rows of a comparison.
+
+ghost use Rattle.std.specs.Prelude.{◌≡◌, IfOk};
+ghost use Rattle.lc_changes.specs.ChangeSheets.{other_sums, total_sums};
+ghost use Rattle.lc_changes.specs.Changes.{new_sums_of, old_sums_of};
+
+use crate::changed_row::ChangedRow;
+use crate::kinds::ChangedSums;
+use lc_rows::NamedSums;
+use lc_walk::{Report, Sums};
+use std::alloc::{AllocError, Global};
+
+fn old_sums_of(rows: &[ChangedRow<'_>]) -> Result<Sums, AllocError>
+    ensures { IfOk result (λ sums. sums ≡ old_sums_of rows.now) }
+{
+    let mut sums = Sums::none();
+    for row in rows {
+        sums = sums.checked_add(row.old_sums).ok_or(AllocError)?;
+    }
+    Ok(sums)
+}
+
+fn new_sums_of(rows: &[ChangedRow<'_>]) -> Result<Sums, AllocError>
+    ensures { IfOk result (λ sums. sums ≡ new_sums_of rows.now) }
+{
+    let mut sums = Sums::none();
+    for row in rows {
+        sums = sums.checked_add(row.new_row.sums).ok_or(AllocError)?;
+    }
+    Ok(sums)
+}
+
+/// Adds up these rows in a line, if there are some. It stops with an error if an allocation fails or the sums overflow.
+pub(crate) fn other_sums(
+    alloc: Global,
+    rows: &[ChangedRow<'_>],
+) -> Result<Vec<ChangedSums>, AllocError>
+    ensures { IfOk result (λ lines. lines.items ≡ other_sums rows.now) }
+{
+    let mut lines = Vec::new(alloc);
+    if rows.is_empty() {
+        return Ok(lines);
+    }
+    let new = new_sums_of(rows)?;
+    let old = old_sums_of(rows)?;
+    lines.push(ChangedSums {
+        new_sums: NamedSums {
+            name: "others",
+            sums: new,
+        },
+        old_sums: old,
+    })?;
+    Ok(lines)
+}
+
+/// Makes the line of the totals of two reports.
+pub(crate) fn total_sums(
+    alloc: Global,
+    old: &Report,
+    new: &Report,
+) -> Result<Vec<ChangedSums>, AllocError>
+    ensures { IfOk result (λ lines. lines.items ≡ total_sums old.now.totals new.now.totals) }
+{
+    let mut lines = Vec::new(alloc);
+    lines.push(ChangedSums {
+        new_sums: NamedSums {
+            name: "total",
+            sums: new.totals,
+        },
+        old_sums: old.totals,
+    })?;
+    Ok(lines)
+}
