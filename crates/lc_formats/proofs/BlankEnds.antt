@@ -2,12 +2,13 @@
 use Rattle.std.proofs.Common.{◌≡◌, ℕ, zero, suc, ◌/◌, ◌%◌, Bool, true, false, not, ◌==◌, ◌&&◌, if◌then◌else◌}
 use Rattle.std.proofs.Common.{List, [], ◌∷◌, ◌++◌, codes, decimal, refl, ap, ap₂, ◌∙◌, arith}
 use Rattle.std.specs.Fmt.{digit_glyph, digits, digits_onto}
+use Rattle.std.specs.Int.{abs_diff}
 use Rattle.std.specs.List.{list_all}
 use Rattle.std.proofs.lemmas.Bool.{and_parts, and_from, not-true}
 use Rattle.std.proofs.lemmas.Bool.Decides.{nat_tests}
 use Rattle.std.proofs.lemmas.List.Folds.{list_all-append}
 use Rattle.lc_formats.specs.Blanks.{char_before, ends_in_blank, without_blanks}
-use Rattle.lc_formats.specs.CellWords.{with_commas}
+use Rattle.lc_formats.specs.CellWords.{change_word, sign, with_commas}
 use Rattle.lc_formats.specs.Columns.{has_text, spaces}
 use Rattle.lc_formats.specs.Shares.{bar, share_word}
 use Rattle.lc_formats.proofs.Bars.{of_bar}
@@ -123,6 +124,16 @@ text_commas (d ∷ ds) e = refl
 -- a number has a text
 pub shown_number : (n : ℕ) → has_text (with_commas (decimal n)) ≡ true
 shown_number n = text_commas (decimal n) (text_decimal n)
+
+some_text : (t : List ℕ) → has_text t ≡ true → t ≡ [] → ⊥
+some_text [] is none = absurd (cc)
+some_text (c ∷ cs) is none = absurd (cc)
+
+-- a change ends with its number
+pub ends_change : (old new : ℕ) → ends_in_blank (change_word old new) ≡ false
+ends_change old new =
+    let by = abs_diff old new in
+    ends-append (sign old new) (with_commas (decimal by)) (some_text (with_commas (decimal by)) (shown_number by)) ∙ ends_number by
 
 -- a share ends with its sign
 pub ends_share : (tenths : ℕ) → ends_in_blank (share_word tenths) ≡ false

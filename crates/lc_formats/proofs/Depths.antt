@@ -5,7 +5,7 @@ use Rattle.std.proofs.Common.{Result, Ok, Err, IfOk}
 use Rattle.std.specs.Prelude.{Vec}
 use Rattle.std.specs.Global.{Global}
 use Rattle.std.specs.Str.{is_utf8}
-use Rattle.json.specs.Json.{Json, string, document, if_last, max_depth, value}
+use Rattle.json.specs.Json.{Json, string, if_last, max_depth, value}
 use Rattle.json.specs.Lex.{tokens}
 use Rattle.json.specs.Print.{print}
 use Rattle.json.specs.Token.{Token}
@@ -13,7 +13,7 @@ use Rattle.json.specs.Tree.{json_tokens, depth, items_depth, members_depth}
 use Rattle.json.proofs.Printed.Trees.{value-json_tokens}
 use Rattle.lc_sheet.specs.ColumnWords.{column_name}
 use Rattle.lc_sheet.specs.Sheets.{SectionModel, SheetModel}
-use Rattle.lc_sheet.specs.Values.{ValueModel, missing, summed, blank, word, name, path, number, share, bar}
+use Rattle.lc_sheet.specs.Values.{ValueModel, missing, summed, blank, word, name, path, number, share, bar, difference}
 use Rattle.lc_sheet.specs.declared.column.Column.{Column}
 use Rattle.lc_text.specs.Names.{named}
 use Rattle.lc_formats.specs.JsonSheets.{entries_members, files_members, json_of, line_at, line_members, line_object, list_member}
@@ -21,13 +21,13 @@ use Rattle.lc_formats.specs.JsonSheets.{list_members, number_members, object_mem
 use Rattle.lc_formats.specs.JsonText.{Member, items_with, members_with, array_with, integer, bytes_member, bytes_name, IsDocument}
 
 -- an array is as deep as its values
-items_within : {X : Type 0} (v : X → Json) (n : ℕ) → ((x : X) → depth (v x) ≤ n) → (xs : List X)
+pub items_within : {X : Type 0} (v : X → Json) (n : ℕ) → ((x : X) → depth (v x) ≤ n) → (xs : List X)
     → items_depth (items_with (map v xs)) ≤ n
 items_within v n each [] = omega arith
 items_within v n each (x ∷ xs) = let first = each x in let rest = items_within v n each xs in omega arith
 
 -- members of both lists
-both_within : (n : ℕ) (ms ns : List Member) → members_depth (members_with ms) ≤ n → members_depth (members_with ns) ≤ n
+pub both_within : (n : ℕ) (ms ns : List Member) → members_depth (members_with ms) ≤ n → members_depth (members_with ns) ≤ n
     → members_depth (members_with (ms ++ ns)) ≤ n
 both_within n [] ns a b = b
 both_within n (m ∷ ms) ns a b = let rest = both_within n ms ns (omega arith) b in omega arith
@@ -41,7 +41,7 @@ bytes_within n bytes =
     let inner = items_within integer 0 (λ k. omega arith) bytes in
     chosen_within (is_utf8 bytes) (n, string bytes) (bytes_name n, array_with (map integer bytes)) (omega arith) (omega arith)
 
-value_within : (c : Column) (v : ValueModel) → members_depth (members_with (value_members c v)) ≤ 1
+pub value_within : (c : Column) (v : ValueModel) → members_depth (members_with (value_members c v)) ≤ 1
 value_within c missing = omega arith
 value_within c summed = omega arith
 value_within c blank = omega arith
@@ -51,6 +51,7 @@ value_within c (path p) = let bytes = bytes_within (column_name c) p in omega ar
 value_within c (number n) = omega arith
 value_within c (share part whole) = omega arith
 value_within c (bar part whole) = omega arith
+value_within c (difference old new) = omega arith
 
 line_within : (columns : List Column) (values : List ValueModel) → members_depth (members_with (line_members columns values)) ≤ 1
 line_within [] vs = omega arith
@@ -120,14 +121,17 @@ read_back j shallow ts same =
     ap (λ o. option_and_then (λ (p : Json × List Token). if_last p.0 p.1) o)
     (ap (value max_depth) (same ∙ sym (append-nil (json_tokens j))) ∙ value-json_tokens j max_depth [] shallow)
 
-sheet_document : (s : SheetModel) → tokens (print (json_tokens (json_of s))) ≡ json_tokens (json_of s)
-    → document (print (json_tokens (json_of s))) ≡ Some (json_of s)
-sheet_document s back = let shallow = sheet_within s in read_back (json_of s) (omega arith) _ back
+-- a line that reads back as the tokens of a value is a document of it
+pub document_of : {E : Type 0} (j : Json) (answer : Result (Vec ℕ Global) E) → depth j ≤ max_depth
+    → IfOk answer (λ line. line.items ≡ print (json_tokens j) ++ codes "\n")
+    → IfOk answer (λ _. tokens (print (json_tokens j)) ≡ json_tokens j)
+    → IfOk answer (λ line. IsDocument j line.items)
+document_of j (Ok line) shallow text back = (print (json_tokens j), text, read_back j shallow _ back)
+document_of j (Err e) shallow text back = text
 
--- a line that reads back as the tokens of a sheet's value is a document of it
+-- and so is one of a sheet
 pub is_document : {E : Type 0} (s : SheetModel) (answer : Result (Vec ℕ Global) E)
     → IfOk answer (λ line. line.items ≡ print (json_tokens (json_of s)) ++ codes "\n")
     → IfOk answer (λ _. tokens (print (json_tokens (json_of s))) ≡ json_tokens (json_of s))
     → IfOk answer (λ line. IsDocument (json_of s) line.items)
-is_document s (Ok line) text back = (print (json_tokens (json_of s)), text, sheet_document s back)
-is_document s (Err e) text back = text
+is_document s answer text back = let shallow = sheet_within s in document_of (json_of s) answer (omega arith) text back

@@ -7,6 +7,8 @@ pub mod Listed
 pub mod MarkdownLawProofs
 pub mod Sections
 pub mod Tokens
+pub mod ChangeDepths
+pub mod ChangeTokens
 pub mod Widened
 pub mod Commas
 pub mod LastCells
@@ -24,3 +26,4 @@ pub mod ListingWidths
 pub mod LineEndProofs
 pub mod ShareLawProofs
 pub mod CommaLawProofs
+pub mod ChangeLawProofs

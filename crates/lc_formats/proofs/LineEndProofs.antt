@@ -16,11 +16,11 @@ use Rattle.lc_formats.proofs.ListingWidths.{section_clean}
 use Rattle.lc_formats.proofs.RowWidths.{count_sides, count_widths, even_counts, even_summary, shown_counts, summary_lines, summary_span}
 
 -- the lines of a text that is clean
-clean_lines : (text : List ℕ) → IsClean text → All (λ line. ends_in_blank line ≡ false) (input_lines_of text)
+pub clean_lines : (text : List ℕ) → IsClean text → All (λ line. ends_in_blank line ≡ false) (input_lines_of text)
 clean_lines text is =
     All-same (λ line. ends_in_blank line ≡ false) (input_lines_of text) is.lines (input_lines_of-lined is.lines text is.lined) is.ends
 
-files_clean : (files : Option SectionModel) → IfSome files HasEnds → IsClean (files_listing files)
+pub files_clean : (files : Option SectionModel) → IfSome files HasEnds → IsClean (files_listing files)
 files_clean None has = clean_nothing
 files_clean (Some s) has = section_clean s has
 

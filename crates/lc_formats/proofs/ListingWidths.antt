@@ -7,6 +7,7 @@ use Rattle.lc_sheet.specs.Sheets.{SectionModel}
 use Rattle.lc_sheet.specs.Values.{ValueModel}
 use Rattle.lc_sheet.specs.declared.column.Column.{Column}
 use Rattle.lc_sheet.specs.declared.column.Column.TheVariants as column
+use Rattle.lc_sheet.specs.declared.column.Compared.TheVariants as compared
 use Rattle.lc_sheet.specs.declared.column.Side.{Side}
 use Rattle.lc_sheet.specs.declared.column.Side.TheVariants.{Left, Right, End}
 use Rattle.lc_formats.specs.Cells.{heading_cells, line_cells, section_cells, shown_text}
@@ -78,6 +79,12 @@ heading_end : (c : Column) → is_open (side_of c ∷ []) ≡ true → HasEnd (h
 heading_end column.Path e = ((λ e. absurd (cc)), refl)
 heading_end column.Entry e = ((λ e. absurd (cc)), refl)
 heading_end column.Site e = ((λ e. absurd (cc)), refl)
+heading_end (column.Old compared.Text) e = absurd (cc)
+heading_end (column.Old compared.Eol) e = absurd (cc)
+heading_end (column.Old (compared.Number n)) e = absurd (cc)
+heading_end (column.New compared.Text) e = absurd (cc)
+heading_end (column.New compared.Eol) e = absurd (cc)
+heading_end (column.New (compared.Number n)) e = absurd (cc)
 heading_end other e = absurd (cc)
 
 last_heading_end : (columns : List Column) → is_open (map side_of columns) ≡ true → HasEnd (last_heading columns)

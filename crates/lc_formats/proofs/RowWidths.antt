@@ -5,7 +5,7 @@ use Rattle.std.specs.List.{All}
 use Rattle.std.proofs.lemmas.List.Elements.{All-append, All-cons, All-head, All-nil, All-tail, All-take}
 use Rattle.lc_sheet.specs.ColumnWords.{heading, side_of}
 use Rattle.lc_sheet.specs.Sheets.{SectionModel, SheetModel}
-use Rattle.lc_sheet.specs.Values.{ValueModel, missing, summed, blank, word, name, path, number, share, bar}
+use Rattle.lc_sheet.specs.Values.{ValueModel, missing, summed, blank, word, name, path, number, share, bar, difference}
 use Rattle.lc_sheet.specs.declared.column.Column.{Column}
 use Rattle.lc_sheet.specs.declared.column.Side.{Side}
 use Rattle.lc_sheet.specs.declared.column.Side.TheVariants.{Left, Right, End}
@@ -19,7 +19,7 @@ use Rattle.lc_formats.specs.Shares.{rounded_parts}
 use Rattle.lc_formats.specs.TableText.{count_cells, count_lines, counts, entries_line, row_lines, rows_in_columns, shown_lines}
 use Rattle.lc_formats.specs.TableText.{shown_totals, summary, summary_widths}
 use Rattle.lc_formats.specs.WidthLaws.{CountsWidthLaw, SummaryWidthLaw}
-use Rattle.lc_formats.proofs.BlankEnds.{ends_bar, ends_number, ends_share, shown_number}
+use Rattle.lc_formats.proofs.BlankEnds.{ends_bar, ends_change, ends_number, ends_share, shown_number}
 use Rattle.lc_formats.proofs.EvenLines.{Fit, IsSound, span}
 use Rattle.lc_formats.proofs.EvenParts.{IsEven, IsRow, are_even, even-append, even_line, even_lines, even_rule, rows_fit, shown}
 use Rattle.lc_formats.proofs.PrintedLines.{EndsBare}
@@ -65,6 +65,7 @@ bare_numeral (path p) is = absurd is
 bare_numeral (number n) is = ends_number n
 bare_numeral (share part whole) is = ends_share (rounded_parts 1000 part whole)
 bare_numeral (bar part whole) is = ends_bar (rounded_parts 160 part whole)
+bare_numeral (difference old new) is = ends_change old new
 
 bare_numerals : (columns : List Column) (values : List ValueModel) → All IsNumeral values → AreBare (line_cells columns values)
 bare_numerals [] values are = tt

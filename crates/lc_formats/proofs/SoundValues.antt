@@ -1,6 +1,7 @@
 -- The texts of values are in one line, and UTF-8.
-use Rattle.std.proofs.Common.{◌≡◌, ℕ, ◌/◌, ◌%◌, nat_lt, true, List, [], ◌∷◌, ◌++◌, map, codes, decimal, encode_utf8, Option}
-use Rattle.std.proofs.Common.{Some, None, refl, ap, arith}
+use Rattle.std.proofs.Common.{◌≡◌, ℕ, ◌/◌, ◌%◌, nat_lt, Bool, true, false, if◌then◌else◌, List, [], ◌∷◌, ◌++◌, map, codes}
+use Rattle.std.proofs.Common.{decimal, encode_utf8, Option, Some, None, refl, ap, arith}
+use Rattle.std.specs.Int.{abs_diff}
 use Rattle.std.specs.Str.{IsUtf8}
 use Rattle.std.proofs.lemmas.Bool.Decides.{nat_tests}
 use Rattle.std.proofs.lemmas.Str.{IsUtf8-append, IsUtf8-encode}
@@ -9,11 +10,11 @@ use Rattle.json.proofs.Printed.Utf8.{are_ascii, IsUtf8-are_ascii}
 use Rattle.lc_text.specs.Names.{NameModel, line_end}
 use Rattle.lc_text.specs.Visible.{visible_bytes, visible_path}
 use Rattle.lc_sheet.specs.ColumnWords.{heading, side_of}
-use Rattle.lc_sheet.specs.Values.{ValueModel, missing, summed, blank, word, name, path, number, share, bar}
+use Rattle.lc_sheet.specs.Values.{ValueModel, missing, summed, blank, word, name, path, number, share, bar, difference}
 use Rattle.lc_sheet.specs.declared.column.Column.{Column}
 use Rattle.lc_sheet.specs.declared.column.Side.{Side}
 use Rattle.lc_sheet.specs.declared.column.Side.TheVariants.{Left, Right, End}
-use Rattle.lc_formats.specs.CellWords.{with_commas}
+use Rattle.lc_formats.specs.CellWords.{change_word, sign, with_commas}
 use Rattle.lc_formats.specs.Cells.{heading_cells, line_cells, shown_text}
 use Rattle.lc_formats.specs.Readable.{AreReadable, HasBytes, IsPlain, IsReadable, is_printable}
 use Rattle.lc_formats.specs.Shares.{bar as bar_text, rounded_parts, share_word}
@@ -87,6 +88,16 @@ sound_bar side eighths =
     (λ c low high. sound_text side (encode_utf8 c) (one_line-encode c (λ e. omega (arith, e, low)))
     (IsUtf8-encode c (low_scalar c (omega (arith, high))))) eighths
 
+sound_sign : (side : Side) (more less : Bool) → IsSound side (if more then codes "+" else if less then codes "-" else [])
+sound_sign side true less = sound_ascii side (codes "+") refl refl
+sound_sign side false true = sound_ascii side (codes "-") refl refl
+sound_sign side false false = sound_ascii side [] refl refl
+
+sound_change : (side : Side) (old new : ℕ) → IsSound side (change_word old new)
+sound_change side old new =
+    sound_join side (sign old new) (with_commas (decimal (abs_diff old new))) (sound_sign side (nat_lt old new) (nat_lt new old))
+    (sound_number side (abs_diff old new))
+
 -- the text of a value
 pub sound_value : (side : Side) (v : ValueModel) → IsReadable side v → IsSound side (shown_text v)
 sound_value side missing own = sound_ascii side (codes "-") refl refl
@@ -98,6 +109,7 @@ sound_value side (path p) own = sound_path side p own
 sound_value side (number n) own = sound_number side n
 sound_value side (share part whole) own = sound_share side (rounded_parts 1000 part whole)
 sound_value side (bar part whole) own = sound_bar side (rounded_parts 160 part whole)
+sound_value side (difference old new) own = sound_change side old new
 
 -- ---- lines
 

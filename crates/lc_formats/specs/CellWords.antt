@@ -1,5 +1,6 @@
 -- Numbers in cells.
-use Rattle.std.specs.Prelude.{ℕ, ◌%◌, ◌==◌, ◌&&◌, nat_lt, if◌then◌else◌, List, [], ◌∷◌, ◌++◌, length, codes}
+use Rattle.std.specs.Prelude.{ℕ, ◌%◌, ◌==◌, ◌&&◌, nat_lt, if◌then◌else◌, List, [], ◌∷◌, ◌++◌, length, codes, decimal}
+use Rattle.std.specs.Int.{abs_diff}
 
 -- a comma where a multiple of three digits follow
 abbrev pub comma : List ℕ → List ℕ
@@ -8,3 +9,11 @@ comma digits = if nat_lt 0 (length digits) && (length digits % 3 == 0) then code
 abbrev pub with_commas : List ℕ → List ℕ
 with_commas [] = []
 with_commas (d ∷ ds) = d ∷ (comma ds ++ with_commas ds)
+
+-- whether a number grew or shrank; nothing where it stayed
+abbrev pub sign : ℕ → ℕ → List ℕ
+sign old new = if nat_lt old new then codes "+" else if nat_lt new old then codes "-" else []
+
+-- the change from one number to another: by how much, after its sign
+abbrev pub change_word : ℕ → ℕ → List ℕ
+change_word old new = sign old new ++ with_commas (decimal (abs_diff old new))

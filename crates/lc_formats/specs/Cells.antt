@@ -4,10 +4,10 @@ use Rattle.lc_text.specs.Names.{named}
 use Rattle.lc_text.specs.Visible.{visible_bytes, visible_path}
 use Rattle.lc_sheet.specs.ColumnWords.{heading, side_of}
 use Rattle.lc_sheet.specs.Sheets.{SectionModel}
-use Rattle.lc_sheet.specs.Values.{ValueModel, missing, summed, blank, word, name, path, number, share, bar, value_model}
+use Rattle.lc_sheet.specs.Values.{ValueModel, missing, summed, blank, word, name, path, number, share, bar, difference, value_model}
 use Rattle.lc_sheet.specs.declared.column.Column.{Column}
 use Rattle.lc_sheet.specs.declared.column.Side.{Side}
-use Rattle.lc_formats.specs.CellWords.{with_commas}
+use Rattle.lc_formats.specs.CellWords.{change_word, with_commas}
 use Rattle.lc_formats.specs.Columns.{CellModel}
 use Rattle.lc_formats.specs.Shares.{bar as bar_text, rounded_parts, share_word}
 use Rattle.lc_formats.specs.declared.cells.Cell.{Cell}
@@ -23,6 +23,7 @@ shown_text (path p) = visible_path p
 shown_text (number n) = with_commas (decimal n)
 shown_text (share part whole) = share_word (rounded_parts 1000 part whole)
 shown_text (bar part whole) = bar_text (rounded_parts 160 part whole)
+shown_text (difference old new) = change_word old new
 
 abbrev pub cell_at : Side → ValueModel → CellModel
 cell_at side value = record { side = side; text = shown_text value }

@@ -3,7 +3,7 @@ use Rattle.std.specs.Prelude.{ℕ, List, [], ◌∷◌, map, decimal, Option, So
 use Rattle.std.specs.List.{flat_map}
 use Rattle.lc_sheet.specs.ColumnWords.{column_name}
 use Rattle.lc_sheet.specs.Sheets.{SectionModel, SheetModel}
-use Rattle.lc_sheet.specs.Values.{ValueModel, missing, summed, blank, word, name, path, number, share, bar}
+use Rattle.lc_sheet.specs.Values.{ValueModel, missing, summed, blank, word, name, path, number, share, bar, difference}
 use Rattle.lc_text.specs.Names.{named}
 use Rattle.lc_formats.specs.CsvText.{record_text}
 
@@ -18,6 +18,7 @@ field_of (path p) = p
 field_of (number n) = decimal n
 field_of (share part whole) = []
 field_of (bar part whole) = []
+field_of (difference old new) = []
 
 -- the names of the columns, and a record for each line
 abbrev pub records_of : SectionModel → List (List (List ℕ))

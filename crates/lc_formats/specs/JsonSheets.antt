@@ -5,7 +5,7 @@ use Rattle.json.specs.Print.{print}
 use Rattle.json.specs.Tree.{json_tokens}
 use Rattle.lc_sheet.specs.ColumnWords.{column_name}
 use Rattle.lc_sheet.specs.Sheets.{SectionModel, SheetModel}
-use Rattle.lc_sheet.specs.Values.{ValueModel, missing, summed, blank, word, name, path, number, share, bar}
+use Rattle.lc_sheet.specs.Values.{ValueModel, missing, summed, blank, word, name, path, number, share, bar, difference}
 use Rattle.lc_sheet.specs.declared.column.Column.{Column}
 use Rattle.lc_text.specs.Names.{named}
 use Rattle.lc_formats.specs.JsonText.{Member, array_with, bytes_member, integer, object_with}
@@ -23,6 +23,7 @@ value_members c (path p) = bytes_member (column_name c) p ∷ []
 value_members c (number n) = (column_name c, integer n) ∷ []
 value_members c (share part whole) = []
 value_members c (bar part whole) = []
+value_members c (difference old new) = []
 
 -- the members of the values of a line, one in each column
 abbrev pub line_members : List Column → List ValueModel → List Member

@@ -6,6 +6,7 @@ pub mod CsvLaws
 pub mod JsonText
 pub mod JsonTokens
 pub mod JsonSheets
+pub mod JsonChanges
 pub mod Columns
 pub mod Layouts
 pub mod Blanks
@@ -18,7 +19,9 @@ pub mod Widening
 pub mod MarkdownCells
 pub mod MarkdownText
 pub mod MarkdownLaws
+pub mod Changes
 pub mod Readable
 pub mod CommaLaws
 pub mod ShareLaws
 pub mod WidthLaws
+pub mod ChangeLaws

@@ -3,7 +3,7 @@ use Rattle.std.specs.Prelude.{◌≡◌, ◌<◌, ℕ, ◌&&◌, nat_lt, Bool, t
 use Rattle.std.specs.List.{All, AllZip, list_all}
 use Rattle.lc_sheet.specs.ColumnWords.{side_of}
 use Rattle.lc_sheet.specs.Sheets.{SectionModel, SheetModel}
-use Rattle.lc_sheet.specs.Values.{ValueModel, missing, summed, blank, word, name, path, number, share, bar}
+use Rattle.lc_sheet.specs.Values.{ValueModel, missing, summed, blank, word, name, path, number, share, bar, difference}
 use Rattle.lc_sheet.specs.declared.column.Column.{Column}
 use Rattle.lc_sheet.specs.declared.column.Side.{Side}
 use Rattle.lc_sheet.specs.declared.column.Side.TheVariants.{Left, Right, End}
@@ -37,6 +37,7 @@ IsReadable side (path p) = HasBytes side p
 IsReadable side (number n) = ⊤
 IsReadable side (share part whole) = ⊤
 IsReadable side (bar part whole) = ⊤
+IsReadable side (difference old new) = ⊤
 
 -- the values of a line: one in each column
 abbrev pub AreReadable : List Column → List ValueModel → Type 0
@@ -55,6 +56,7 @@ IsNumeral (path p) = ⊥
 IsNumeral (number n) = ⊤
 IsNumeral (share part whole) = ⊤
 IsNumeral (bar part whole) = ⊤
+IsNumeral (difference old new) = ⊤
 
 -- from some number on a line has these alone
 abbrev pub EndsInNumbers : List ValueModel → Type 0

@@ -4,7 +4,7 @@ use Rattle.std.specs.Prelude.{ℕ, List, [], ◌∷◌, ◌++◌, map, take, cod
 use Rattle.std.specs.List.{flat_map}
 use Rattle.lc_sheet.specs.ColumnWords.{column_name}
 use Rattle.lc_sheet.specs.Sheets.{SectionModel, SheetModel}
-use Rattle.lc_sheet.specs.Values.{ValueModel, missing, summed, blank, word, name, path, number, share, bar}
+use Rattle.lc_sheet.specs.Values.{ValueModel, missing, summed, blank, word, name, path, number, share, bar, difference}
 use Rattle.lc_sheet.specs.declared.column.Column.{Column}
 use Rattle.lc_text.specs.Escape.{escape_bytes, escape_path}
 use Rattle.lc_text.specs.Names.{named}
@@ -20,6 +20,7 @@ field_of (path p) = escape_path p
 field_of (number n) = decimal n
 field_of (share part whole) = []
 field_of (bar part whole) = []
+field_of (difference old new) = []
 
 -- fields with a tab between, and a line feed
 abbrev pub line_with : List (List ℕ) → List ℕ

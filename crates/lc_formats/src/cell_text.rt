@@ -5,7 +5,7 @@ ghost use Rattle.lc_formats.specs.Cells.{shown_text};
 ghost use Rattle.lc_formats.specs.Columns.{width_of};
 ghost use Rattle.lc_sheet.specs.Values.{value_model};
 
-use crate::numbers::push_number;
+use crate::numbers::{push_change, push_number};
 use crate::shares::{push_bar, push_share};
 use lc_sheet::Value;
 use lc_text::{push_visible_name, push_visible_path};
@@ -25,6 +25,7 @@ pub(crate) fn push_value(text: &mut String, value: &Value<'_>) -> Result<(), All
         Value::Number(n) => push_number(text, n),
         Value::Share { part, whole } => push_share(text, part, whole),
         Value::Bar { part, whole } => push_bar(text, part, whole),
+        Value::Difference { old, new } => push_change(text, old, new),
     }
 }
 

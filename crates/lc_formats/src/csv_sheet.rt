@@ -2,6 +2,7 @@
 
 ghost use Rattle.std.specs.Prelude.{◌≡◌, [], ◌∷◌, ◌++◌, map, IfOk, OnOk};
 ghost use Rattle.std.specs.List.{flat_map};
+ghost use Rattle.lc_formats.specs.Changes.{csv_of_changes, files_or_rows};
 ghost use Rattle.lc_formats.specs.Csv.{csv_of, csv_section, field_of, records_of};
 ghost use Rattle.lc_formats.specs.CsvText.{record_text};
 ghost use Rattle.lc_sheet.specs.ColumnWords.{column_name};
@@ -9,7 +10,7 @@ ghost use Rattle.lc_sheet.specs.Sheets.{line_of, lines_of};
 ghost use Rattle.lc_sheet.specs.Values.{value_model};
 
 use crate::csv_records::{CsvText, Fields};
-use lc_sheet::{Column, Form, Lines, Section, Sheet, Value};
+use lc_sheet::{Column, ComparisonSheet, Form, Lines, Section, Sheet, Value};
 use std::alloc::{AllocError, Global};
 
 /// Appends a value as a field.
@@ -23,8 +24,12 @@ fn push_value(fields: &mut Fields, value: Value<'_>) -> Result<(), AllocError>
         Value::Name(name) => fields.push_name(name),
         Value::Path(path) => fields.push(path),
         Value::Number(number) => fields.push_number(number),
-        Value::Missing | Value::Summed | Value::Blank | Value::Share { .. } | Value::Bar { .. } =>
-            fields.push(b""),
+        Value::Missing
+        | Value::Summed
+        | Value::Blank
+        | Value::Share { .. }
+        | Value::Bar { .. }
+        | Value::Difference { .. } => fields.push(b""),
     }
 }
 
@@ -151,5 +156,35 @@ pub fn csv_text<R: Lines, T: Lines, F: Lines, S: Lines, E: Lines>(
     let mut text = CsvText::new(alloc);
     let mut fields = Fields::new(alloc);
     push_records(&mut text, &mut fields, sheet)?;
+    text.into_text()
+}
+
+/// Appends the records of the files, else of the rows.
+fn push_changes<R: Lines, T: Lines, F: Lines>(
+    text: &mut CsvText,
+    fields: &mut Fields,
+    sheet: &ComparisonSheet<'_, R, T, F>,
+) -> Result<(), AllocError>
+    ensures { OnOk result (text.new
+        ≡ text.old ++ flat_map record_text (records_of (files_or_rows sheet.now.files sheet.now.rows))) }
+{
+    if let Some(files) = &sheet.files {
+        return push_section(text, fields, files);
+    }
+    push_section(text, fields, &sheet.rows)
+}
+
+/// Makes the text of a comparison as CSV (RFC 4180): records of one kind below their headings.
+///
+/// A record is for a file if the comparison lists files, otherwise for a row. Bytes stay as they are. A field that needs quotes has them.
+pub fn csv_changes<R: Lines, T: Lines, F: Lines>(
+    alloc: Global,
+    sheet: &ComparisonSheet<'_, R, T, F>,
+) -> Result<Vec<u8>, AllocError>
+    ensures { IfOk result (λ text. text.items ≡ csv_of_changes sheet.now) }
+{
+    let mut text = CsvText::new(alloc);
+    let mut fields = Fields::new(alloc);
+    push_changes(&mut text, &mut fields, sheet)?;
     text.into_text()
 }

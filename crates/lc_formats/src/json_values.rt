@@ -34,7 +34,7 @@ fn write_name(
 
 /// Writes the member of a value in a column, if it has one.
 #[inline(always)]
-fn write_value(
+pub(crate) fn write_value(
     text: &mut JsonText,
     joined: &mut Vec<u8>,
     column: Column,
@@ -48,7 +48,11 @@ fn write_value(
         Value::Name(name) => write_name(text, joined, column, name)?,
         Value::Path(path) => text.bytes_member(column.name(), path)?,
         Value::Number(number) => text.integer_member(column.name(), number)?,
-        Value::Summed | Value::Blank | Value::Share { .. } | Value::Bar { .. } => {}
+        Value::Summed
+        | Value::Blank
+        | Value::Share { .. }
+        | Value::Bar { .. }
+        | Value::Difference { .. } => {}
     }
     Ok(())
 }

@@ -84,7 +84,7 @@ impl JsonText {
         self.writer.key(name)
     }
 
-    fn null(&mut self) -> Result<(), AllocError>
+    pub(crate) fn null(&mut self) -> Result<(), AllocError>
         ensures { OnOk result (self.new ≡ self.old ++ null ∷ []) }
     {
         self.writer.null()

@@ -1,8 +1,9 @@
-//! The formats in which a sheet is printed. A format knows values, columns and sections, and not where they come from.
+//! The formats in which a sheet is printed, of one report or of two that are compared. A format knows values, columns and sections, and
+//! not where they come from.
 //!
 //! - `tsv`: fields with tabs between them
 //! - `csv_sheet`: CSV, which `csv_records` writes record by record
-//! - `json_sheet`: JSON, with `json_values` and `json_writer`
+//! - `json_sheet` and `json_comparison`: JSON, with `json_values` and `json_writer`
 //! - `markdown`: Markdown, with `markdown_line` and `markdown_escape`
 //! - `table`: columns for reading, with `section_lines` and `widths`
 //! - `joined`: names as bytes, with what is before and after them, for CSV and JSON
@@ -16,6 +17,7 @@ mod csv_laws;
 mod csv_records;
 mod csv_sheet;
 mod joined;
+mod json_comparison;
 mod json_sheet;
 mod json_values;
 mod json_writer;
@@ -31,15 +33,17 @@ mod table_laws;
 mod tsv;
 mod widths;
 
-pub use csv_laws::csv_reads_back;
-pub use csv_sheet::csv_text;
+pub use csv_laws::{csv_of_comparisons_reads_back, csv_reads_back};
+pub use csv_sheet::{csv_changes, csv_text};
+pub use json_comparison::json_changes;
 pub use json_sheet::json_text;
-pub use markdown::markdown_text;
+pub use markdown::{markdown_changes, markdown_text};
 pub use markdown_laws::markdown_has_no_markup_of_names;
 pub use numbers::push_number;
-pub use table::table_text;
+pub use table::{table_changes, table_text};
 pub use table_laws::{
-    bars_are_as_long_as_their_cells, lines_end_without_blanks, lines_of_a_part_are_as_wide,
-    numbers_with_commas_read_back, shares_are_of_the_whole,
+    bars_are_as_long_as_their_cells, changes_add_up_to_new_numbers, lines_end_without_blanks,
+    lines_of_a_part_are_as_wide, lines_of_comparisons_are_as_wide, numbers_with_commas_read_back,
+    shares_are_of_the_whole,
 };
-pub use tsv::tsv_text;
+pub use tsv::{tsv_changes, tsv_text};

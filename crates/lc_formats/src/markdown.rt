@@ -1,12 +1,13 @@
 //! The text of a sheet as Markdown, with tables of GitHub Flavored Markdown.
 
 ghost use Rattle.std.specs.Prelude.{◌≡◌, ◌++◌, IfOk, OnOk, option_map};
+ghost use Rattle.lc_formats.specs.Changes.{markdown_of_changes};
 ghost use Rattle.lc_formats.specs.MarkdownText.{counts_with, files_above, lines_with, list_above, list_below, markdown_of};
 ghost use Rattle.lc_formats.specs.MarkdownText.{section_table, summary_with};
 
 use crate::markdown_line::{Weight, push_headings, push_line, push_values};
 use crate::section_lines::{is_empty, shown_lines};
-use lc_sheet::{Lines, Section, Sheet, Value};
+use lc_sheet::{ComparisonSheet, Lines, Section, Sheet, Value};
 use std::alloc::{AllocError, Global};
 
 fn push_lines<L: Lines>(
@@ -159,5 +160,27 @@ pub fn markdown_text<R: Lines, T: Lines, F: Lines, S: Lines, E: Lines>(
     text.extend_from_slice(b"\n")?;
     push_counts(&mut text, sheet.directories, sheet.entries, &mut made)?;
     push_list_below(&mut text, &sheet.faults, &mut made)?;
+    Ok(text)
+}
+
+/// Makes the text of a comparison as Markdown.
+///
+/// A list of files comes first, then the rows with their sums in bold. Names are escaped like [`push_visible`](lc_text::push_visible) does.
+pub fn markdown_changes<R: Lines, T: Lines, F: Lines>(
+    alloc: Global,
+    sheet: &ComparisonSheet<'_, R, T, F>,
+) -> Result<Vec<u8>, AllocError>
+    ensures { IfOk result (λ text. text.items ≡ markdown_of_changes sheet.now) }
+{
+    let mut text = Vec::new(alloc);
+    let mut made = String::new(alloc);
+    push_files(&mut text, sheet.files.as_ref(), &mut made)?;
+    push_summary(
+        &mut text,
+        &sheet.rows,
+        &sheet.others,
+        &sheet.total,
+        &mut made,
+    )?;
     Ok(text)
 }

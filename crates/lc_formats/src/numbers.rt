@@ -1,7 +1,7 @@
 //! Numbers in digits, for programs and for reading.
 
 ghost use Rattle.std.specs.Prelude.{◌≡◌, ◌++◌, IsAscii, OnOk, decimal, string_bytes};
-ghost use Rattle.lc_formats.specs.CellWords.{comma, with_commas};
+ghost use Rattle.lc_formats.specs.CellWords.{change_word, comma, sign, with_commas};
 
 use std::alloc::AllocError;
 
@@ -46,4 +46,25 @@ pub fn push_number(text: &mut String, n: u128) -> Result<(), AllocError>
 {
     let mut buffer = itoa::Buffer::new();
     push_with_commas(text, buffer.format(n).as_bytes())
+}
+
+/// Returns the sign of a change from one number to another: none if they are equal.
+fn sign(old: u128, new: u128) -> &'static str
+    ensures { result.now ≡ sign old new }
+{
+    if old < new {
+        "+"
+    } else if new < old {
+        "-"
+    } else {
+        ""
+    }
+}
+
+/// Appends the change from one number to another, with its sign and with commas.
+pub(crate) fn push_change(text: &mut String, old: u128, new: u128) -> Result<(), AllocError>
+    ensures { OnOk result (string_bytes text.new ≡ string_bytes text.old ++ change_word old new) }
+{
+    text.push_str(sign(old, new))?;
+    push_number(text, old.abs_diff(new))
 }

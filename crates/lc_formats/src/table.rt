@@ -2,13 +2,14 @@
 
 ghost use Rattle.std.specs.Prelude.{◌≡◌, ◌++◌, [], ◌∷◌, IfOk, OnOk, string_bytes};
 ghost use Rattle.lc_formats.specs.Cells.{cells_of};
+ghost use Rattle.lc_formats.specs.Changes.{table_of_changes};
 ghost use Rattle.lc_formats.specs.Columns.{lines_in, widened, widths_of};
 ghost use Rattle.lc_formats.specs.TableText.{count_cells, counts_of, files_listing, row_lines, summary_of, table_of};
 
 use crate::cells::{Cell, set_headings};
 use crate::section_lines::{fit_lines, push_lines, push_listing, shown_lines};
 use crate::widths::Widths;
-use lc_sheet::{Lines, Section, Sheet, Side, Value};
+use lc_sheet::{ComparisonSheet, Lines, Section, Sheet, Side, Value};
 use std::alloc::{AllocError, Global};
 
 fn fit_rows<'a, R: Lines, T: Lines>(
@@ -170,6 +171,30 @@ pub fn table_text<R: Lines, T: Lines, F: Lines, S: Lines, E: Lines>(
         alloc,
         sheet.directories,
         sheet.entries,
+        &mut text,
+        &mut made,
+    )?;
+    Ok(text.into_bytes())
+}
+
+/// Makes the text of a comparison in columns, for reading.
+///
+/// The files come first, and the rows with their sums last, so that a terminal shows them. Paths are escaped like
+/// [`push_visible`](lc_text::push_visible) does.
+pub fn table_changes<R: Lines, T: Lines, F: Lines>(
+    alloc: Global,
+    sheet: &ComparisonSheet<'_, R, T, F>,
+) -> Result<Vec<u8>, AllocError>
+    ensures { IfOk result (λ text. text.items ≡ table_of_changes sheet.now) }
+{
+    let mut text = String::new(alloc);
+    let mut made = String::new(alloc);
+    push_files(alloc, &sheet.files, &mut text, &mut made)?;
+    push_summary(
+        alloc,
+        &sheet.rows,
+        &sheet.others,
+        &sheet.total,
         &mut text,
         &mut made,
     )?;

@@ -1,5 +1,6 @@
 //! Laws of the definitions that the contracts of a text in columns cite. The functions do nothing: their contracts are what is proved.
 
+ghost use Rattle.lc_formats.specs.ChangeLaws.{ChangeLaw, ComparisonEndsLaw, ComparisonWidthLaw, NoChangeLaw};
 ghost use Rattle.lc_formats.specs.CommaLaws.{CommasLaw};
 ghost use Rattle.lc_formats.specs.ShareLaws.{BarLengthLaw, NearestLaw, PartsLaw, WholeLaw};
 ghost use Rattle.lc_formats.specs.WidthLaws.{CountsWidthLaw, LineEndsLaw, ListingWidthLaw, SummaryWidthLaw};
@@ -32,4 +33,17 @@ pub fn shares_are_of_the_whole()
 /// The law that a bar has a character for each cell that it fills or begins.
 pub fn bars_are_as_long_as_their_cells()
     ensures { BarLengthLaw }
+{}
+
+/// The law that in a text for reading, an old number and its change add up to the new number, and that a number that stayed has a zero.
+pub fn changes_add_up_to_new_numbers()
+    ensures change { ChangeLaw }
+    ensures none { NoChangeLaw }
+{}
+
+/// The law that in a comparison for reading, rows and sums are padded to one width, and that no line ends with a blank, unless the path of
+/// a file does.
+pub fn lines_of_comparisons_are_as_wide()
+    ensures summary { ComparisonWidthLaw }
+    ensures ends { ComparisonEndsLaw }
 {}

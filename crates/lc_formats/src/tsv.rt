@@ -5,12 +5,13 @@ ghost use Rattle.std.specs.List.{flat_map};
 ghost use Rattle.lc_sheet.specs.ColumnWords.{column_name};
 ghost use Rattle.lc_sheet.specs.Sheets.{line_of, lines_of};
 ghost use Rattle.lc_sheet.specs.Values.{value_model};
+ghost use Rattle.lc_formats.specs.Changes.{listed_lines, tsv_of_changes};
 ghost use Rattle.lc_formats.specs.Tsv.{entries_line, field_of, file_lines, header_line, number_line, tagged_line, tagged_lines, tsv_of};
 ghost use Rattle.lc_formats.specs.Tsv.{values_line};
 ghost use Rattle.lc_formats.specs.TsvParts.{after_tab};
 
 use crate::numbers::push_digits;
-use lc_sheet::{Column, Form, Lines, Section, Sheet, Value};
+use lc_sheet::{Column, ComparisonSheet, Form, Lines, Section, Sheet, Value};
 use lc_text::{push_name, push_path};
 use std::alloc::{AllocError, Global};
 
@@ -30,7 +31,7 @@ fn push_value(text: &mut Vec<u8>, value: Value<'_>) -> Result<(), AllocError>
         Value::Name(name) => push_name(text, name),
         Value::Path(path) => push_path(text, path),
         Value::Number(number) => push_digits(text, number),
-        Value::Blank | Value::Share { .. } | Value::Bar { .. } => Ok(()),
+        Value::Blank | Value::Share { .. } | Value::Bar { .. } | Value::Difference { .. } => Ok(()),
     }
 }
 
@@ -242,5 +243,37 @@ pub fn tsv_text<R: Lines, T: Lines, F: Lines, S: Lines, E: Lines>(
     push_files(&mut text, &sheet.files)?;
     push_tagged_section(&mut text, "left", &sheet.skipped)?;
     push_tagged_section(&mut text, "fault", &sheet.faults)?;
+    Ok(text)
+}
+
+/// Appends a line for each file, if files are requested. It has the values of the file alone.
+fn push_listed<L: Lines>(
+    text: &mut Vec<u8>,
+    files: &Option<Section<'_, L>>,
+) -> Result<(), AllocError>
+    ensures { OnOk result (text.new.items ≡ text.old.items ++ flat_map values_line (listed_lines files.now)) }
+{
+    match files {
+        None => Ok(()),
+        Some(section) => push_section(text, section),
+    }
+}
+
+/// Makes the text of a comparison with a tab between fields.
+///
+/// It has a header, then a line for each row, for the rows that are cut off and for the totals. Then comes a line for each file, if the
+/// comparison lists files. Paths are escaped like [`escape`](lc_text::escape) does.
+pub fn tsv_changes<R: Lines, T: Lines, F: Lines>(
+    alloc: Global,
+    sheet: &ComparisonSheet<'_, R, T, F>,
+) -> Result<Vec<u8>, AllocError>
+    ensures { IfOk result (λ text. text.items ≡ tsv_of_changes sheet.now) }
+{
+    let mut text = Vec::new(alloc);
+    push_header(&mut text, sheet.rows.columns())?;
+    push_section(&mut text, &sheet.rows)?;
+    push_section(&mut text, &sheet.others)?;
+    push_section(&mut text, &sheet.total)?;
+    push_listed(&mut text, &sheet.files)?;
     Ok(text)
 }

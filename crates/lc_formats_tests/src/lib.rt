@@ -1,5 +1,10 @@
-//! The tests of the table of a run.
+//! The tests of the table of a run, and of the texts of comparisons.
 #![tactic(auto)]
 
 #[cfg(test)]
+mod changes;
+mod samples;
+#[cfg(test)]
 mod table;
+
+pub use samples::{Sample, Samples, Version};

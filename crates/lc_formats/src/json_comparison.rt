@@ -1,0 +1,273 @@
+//! The text of a comparison as JSON.
+
+ghost use Rattle.std.specs.Prelude.{◌≡◌, ◌++◌, IfOk, OnOk};
+ghost use Rattle.std.specs.List.{flat_map};
+ghost use Rattle.json.specs.Tree.{json_tokens};
+ghost use Rattle.lc_sheet.specs.Sheets.{line_of, lines_of};
+ghost use Rattle.lc_sheet.specs.Values.{value_model};
+ghost use Rattle.lc_formats.specs.JsonChanges.{change_object, changed_files, changes_member, column_in, compared_column, first_change};
+ghost use Rattle.lc_formats.specs.JsonChanges.{is_missing, json_of_changes, json_text_of_changes, lacks, lacks_in, members_in};
+ghost use Rattle.lc_formats.specs.JsonChanges.{part_members, side_value, sums_members};
+ghost use Rattle.lc_formats.specs.JsonText.{IsDocument};
+ghost use Rattle.lc_formats.specs.JsonTokens.{member_tokens, members_tokens_of};
+
+use crate::json_values::write_value;
+use crate::json_writer::JsonText;
+use lc_sheet::{Column, Compared, ComparisonSheet, Form, Lines, Section, Value};
+use std::alloc::{AllocError, Global};
+
+/// A part of a line's object.
+#[derive(Clone, Copy)]
+enum Part {
+    /// What belongs to neither report.
+    Own,
+    /// What the old report has.
+    Old,
+    /// What the new report has.
+    New,
+}
+
+/// Returns the column that has the name of what is compared.
+fn compared_column(compared: Compared) -> Column
+    ensures { result ≡ compared_column compared }
+{
+    match compared {
+        Compared::Text => Column::Text,
+        Compared::Eol => Column::Eol,
+        Compared::Number(number) => Column::Number(number),
+    }
+}
+
+impl Part {
+    /// Returns the column under whose name the part has what is in a column, if this belongs to the part.
+    fn column(self, column: Column) -> Option<Column>
+        ensures { result ≡ column_in self column }
+    {
+        match (self, column) {
+            (Part::Own, Column::Old(_) | Column::New(_)) => None,
+            (Part::Own, other) => Some(other),
+            (Part::Old, Column::Old(compared)) => Some(compared_column(compared)),
+            (Part::New, Column::New(compared)) => Some(compared_column(compared)),
+            (Part::Old | Part::New, _) => None,
+        }
+    }
+}
+
+fn is_missing(value: Value<'_>) -> bool
+    ensures { result ≡ is_missing (value_model value.entry) }
+{
+    matches!(value, Value::Missing | Value::Blank)
+}
+
+/// Returns whether a line has no value in a column, or one that belongs to another part.
+fn lacks_in<L: Lines>(part: Part, form: Form, column: Column, line: &L::Line) -> bool
+    ensures { result ≡ lacks_in (column_in part column) (L.value_in form line.now column) }
+{
+    match part.column(column) {
+        None => true,
+        Some(_) => is_missing(L::value(line, form, column)),
+    }
+}
+
+/// Returns whether a line has no value in a part.
+fn lacks<L: Lines>(part: Part, form: Form, columns: &[Column], line: &L::Line) -> bool
+    ensures { result ≡ lacks part columns.now (line_of (L.value_in form) columns.now line.now) }
+{
+    let mut rest = columns;
+    'columns: while let Some((column, others)) = rest.split_first() {
+        if !lacks_in::<L>(part, form, *column, line) {
+            return false;
+        }
+        rest = others;
+    }
+    true
+}
+
+/// Writes the member of a value, if it belongs to the part.
+fn write_member<L: Lines>(
+    text: &mut JsonText,
+    joined: &mut Vec<u8>,
+    part: Part,
+    form: Form,
+    column: Column,
+    line: &L::Line,
+) -> Result<(), AllocError>
+    ensures { OnOk result (text.new
+        ≡ text.old ++ members_tokens_of (members_in (column_in part column) (L.value_in form line.now column))) }
+{
+    match part.column(column) {
+        None => Ok(()),
+        Some(named) => write_value(text, joined, named, &L::value(line, form, column)),
+    }
+}
+
+/// Writes the members of a part.
+fn write_part<L: Lines>(
+    text: &mut JsonText,
+    joined: &mut Vec<u8>,
+    part: Part,
+    form: Form,
+    columns: &[Column],
+    line: &L::Line,
+) -> Result<(), AllocError>
+    ensures { OnOk result (text.new
+        ≡ text.old ++ members_tokens_of (part_members part columns.now (line_of (L.value_in form) columns.now line.now))) }
+{
+    let mut rest = columns;
+    'columns: while let Some((column, others)) = rest.split_first() {
+        write_member::<L>(text, joined, part, form, *column, line)?;
+        rest = others;
+    }
+    Ok(())
+}
+
+/// Writes what a line has of one report as an object, or null if that report lacks it.
+fn write_side<L: Lines>(
+    text: &mut JsonText,
+    joined: &mut Vec<u8>,
+    part: Part,
+    form: Form,
+    columns: &[Column],
+    line: &L::Line,
+) -> Result<(), AllocError>
+    ensures { OnOk result (text.new
+        ≡ text.old ++ json_tokens (side_value part columns.now (line_of (L.value_in form) columns.now line.now))) }
+{
+    if lacks::<L>(part, form, columns, line) {
+        return text.null();
+    }
+    text.begin_object()?;
+    write_part::<L>(text, joined, part, form, columns, line)?;
+    text.end_object()?;
+    Ok(())
+}
+
+/// Writes a line as an object.
+fn write_change<L: Lines>(
+    text: &mut JsonText,
+    joined: &mut Vec<u8>,
+    form: Form,
+    columns: &[Column],
+    line: &L::Line,
+) -> Result<(), AllocError>
+    ensures { OnOk result (text.new
+        ≡ text.old ++ json_tokens (change_object columns.now (line_of (L.value_in form) columns.now line.now))) }
+{
+    text.begin_object()?;
+    write_part::<L>(text, joined, Part::Own, form, columns, line)?;
+    text.key("old")?;
+    write_side::<L>(text, joined, Part::Old, form, columns, line)?;
+    text.key("new")?;
+    write_side::<L>(text, joined, Part::New, form, columns, line)?;
+    text.end_object()?;
+    Ok(())
+}
+
+fn write_lines<L: Lines>(
+    text: &mut JsonText,
+    joined: &mut Vec<u8>,
+    form: Form,
+    columns: &[Column],
+    lines: &[L::Line],
+) -> Result<(), AllocError>
+    ensures { OnOk result (text.new ≡ text.old
+        ++ flat_map (λ values. json_tokens (change_object columns.now values)) (lines_of (L.value_in form) columns.now lines.now)) }
+{
+    let mut rest = lines;
+    'lines: while let Some((line, others)) = rest.split_first() {
+        write_change::<L>(text, joined, form, columns, line)?;
+        rest = others;
+    }
+    Ok(())
+}
+
+/// Writes a section as an array of its lines.
+fn write_list<L: Lines>(
+    text: &mut JsonText,
+    joined: &mut Vec<u8>,
+    name: &str,
+    section: &Section<'_, L>,
+) -> Result<(), AllocError>
+    ensures { OnOk result (text.new ≡ text.old ++ member_tokens (changes_member name.now section.now)) }
+{
+    let (form, columns, lines) = section.parts();
+    text.begin_list(name)?;
+    write_lines::<L>(text, joined, form, columns, lines)?;
+    text.end_array()?;
+    Ok(())
+}
+
+/// Writes the first line of a section as an object, if the section has one.
+fn write_first<L: Lines>(
+    text: &mut JsonText,
+    joined: &mut Vec<u8>,
+    name: &str,
+    section: &Section<'_, L>,
+) -> Result<(), AllocError>
+    ensures { OnOk result (text.new ≡ text.old ++ members_tokens_of (first_change name.now section.now)) }
+{
+    let (form, columns, lines) = section.parts();
+    let Some((line, _)) = lines.split_first() else {
+        return Ok(());
+    };
+    text.key(name)?;
+    write_change::<L>(text, joined, form, columns, line)?;
+    Ok(())
+}
+
+fn write_sums<R: Lines, T: Lines, F: Lines>(
+    text: &mut JsonText,
+    joined: &mut Vec<u8>,
+    sheet: &ComparisonSheet<'_, R, T, F>,
+) -> Result<(), AllocError>
+    ensures { OnOk result (text.new ≡ text.old ++ members_tokens_of (sums_members sheet.now)) }
+{
+    write_first(text, joined, "others", &sheet.others)?;
+    write_first(text, joined, "total", &sheet.total)?;
+    Ok(())
+}
+
+fn write_files<F: Lines>(
+    text: &mut JsonText,
+    joined: &mut Vec<u8>,
+    files: &Option<Section<'_, F>>,
+) -> Result<(), AllocError>
+    ensures { OnOk result (text.new ≡ text.old ++ members_tokens_of (changed_files files.now)) }
+{
+    match files {
+        None => Ok(()),
+        Some(files) => write_list(text, joined, "files", files),
+    }
+}
+
+fn write_comparison<R: Lines, T: Lines, F: Lines>(
+    text: &mut JsonText,
+    joined: &mut Vec<u8>,
+    sheet: &ComparisonSheet<'_, R, T, F>,
+) -> Result<(), AllocError>
+    ensures { OnOk result (text.new ≡ text.old ++ json_tokens (json_of_changes sheet.now)) }
+{
+    text.begin_object()?;
+    write_list(text, joined, "rows", &sheet.rows)?;
+    write_sums(text, joined, sheet)?;
+    write_files(text, joined, &sheet.files)?;
+    text.end_object()?;
+    Ok(())
+}
+
+/// Makes the text of a comparison as one JSON object on one line.
+///
+/// A section is an array of objects, and a line of sums is an object. What is compared is in two objects of a line, `old` and `new`. One of
+/// them is null if its report lacks the line. Bytes that are not UTF-8 are a list of numbers, under a name that ends with `_bytes`.
+pub fn json_changes<R: Lines, T: Lines, F: Lines>(
+    alloc: Global,
+    sheet: &ComparisonSheet<'_, R, T, F>,
+) -> Result<Vec<u8>, AllocError>
+    ensures text { IfOk result (λ text. text.items ≡ json_text_of_changes sheet.now) }
+    ensures document { IfOk result (λ text. IsDocument (json_of_changes sheet.now) text.items) }
+{
+    let mut text = JsonText::new(alloc);
+    let mut joined = Vec::new(alloc);
+    write_comparison(&mut text, &mut joined, sheet)?;
+    text.into_line()
+}

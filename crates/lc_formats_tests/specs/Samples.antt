@@ -1,0 +1,44 @@
+-- What a line of the tests has in each column.
+use Rattle.std.specs.Prelude.{ℕ, Option, Some, None}
+use Rattle.lc_sheet.specs.Values.{ValueModel, missing, summed, blank, word, path, number, difference}
+use Rattle.lc_sheet.specs.declared.column.Column.{Column}
+use Rattle.lc_sheet.specs.declared.column.Column.TheVariants as column
+use Rattle.lc_sheet.specs.declared.column.Compared.{Compared}
+use Rattle.lc_sheet.specs.declared.column.Compared.TheVariants as compared
+use Rattle.lc_sheet.specs.declared.column.Number.{Number}
+use Rattle.lc_sheet.specs.declared.column.Number.TheVariants.{Files, Lines, Blank, Bytes}
+use Rattle.lc_sheet.specs.declared.form.Form.{Form}
+use Rattle.lc_formats_tests.specs.declared.samples.Sample.{Sample}
+use Rattle.lc_formats_tests.specs.declared.samples.Version.{Version}
+
+abbrev pub number_in : Number → Version → ℕ
+number_in Files v = v.files
+number_in Lines v = v.lines
+number_in Blank v = v.blank
+number_in Bytes v = v.bytes
+
+-- a side without the line has zeros
+abbrev pub number_of : Number → Option Version → ℕ
+number_of n None = 0
+number_of n (Some v) = number_in n v
+
+abbrev pub compared_in : Compared → Version → ValueModel
+compared_in compared.Text v = word v.text.now
+compared_in compared.Eol v = word v.eol.now
+compared_in (compared.Number n) v = number (number_in n v)
+
+abbrev pub compared_of : Compared → Option Version → ValueModel
+compared_of c None = missing
+compared_of c (Some v) = compared_in c v
+
+abbrev pub sample_value : Form → Sample → Column → ValueModel
+sample_value form s column.Ext = word s.key.now
+sample_value form s column.Text = summed
+sample_value form s column.Eol = summed
+sample_value form s column.Change = word s.change.now
+sample_value form s column.Path = path s.path.now
+sample_value form s (column.Old c) = compared_of c s.old
+sample_value form s (column.New c) = compared_of c s.new
+sample_value form s (column.Number n) = number (number_of n s.new)
+sample_value form s (column.Difference n) = difference (number_of n s.old) (number_of n s.new)
+sample_value form s other = blank

@@ -1,0 +1,105 @@
+//! A kind of lines for tests: what two reports have of a file or of a row.
+
+ghost use Rattle.std.specs.Prelude.{◌≡◌};
+ghost use Rattle.lc_sheet.specs.Values.{value_model};
+ghost use Rattle.lc_formats_tests.specs.Samples.{compared_in, compared_of, number_in, number_of, sample_value};
+
+use lc_sheet::{Column, Compared, Form, Lines, Number, Value};
+
+/// What one report has.
+#[derive(Clone, Copy)]
+pub struct Version {
+    /// The state of the attribute `text`.
+    pub text: &'static str,
+    /// The class of line ends.
+    pub eol: &'static str,
+    /// The number of files.
+    pub files: u128,
+    /// The number of lines.
+    pub lines: u128,
+    /// The number of blank lines.
+    pub blank: u128,
+    /// The number of bytes.
+    pub bytes: u128,
+}
+
+/// A line, with what each of two reports has.
+#[derive(Clone, Copy)]
+pub struct Sample {
+    /// The extension, or the name of a line of sums.
+    pub key: &'static str,
+    /// What became of the file.
+    pub change: &'static str,
+    /// The path of the file.
+    pub path: &'static [u8],
+    /// What the old report has.
+    pub old: Option<Version>,
+    /// What the new report has.
+    pub new: Option<Version>,
+}
+
+/// The kind of such lines.
+#[derive(Drop)]
+pub struct Samples {}
+
+fn number_in(number: Number, version: Version) -> u128
+    ensures { result ≡ number_in number version }
+{
+    match number {
+        Number::Files => version.files,
+        Number::Lines => version.lines,
+        Number::Blank => version.blank,
+        Number::Bytes => version.bytes,
+    }
+}
+
+fn number_of(number: Number, version: Option<Version>) -> u128
+    ensures { result ≡ number_of number version }
+{
+    match version {
+        None => 0,
+        Some(version) => number_in(number, version),
+    }
+}
+
+fn compared_in<'l>(compared: Compared, version: Version) -> Value<'l>
+    ensures { value_model result ≡ compared_in compared version }
+{
+    match compared {
+        Compared::Text => Value::Word(version.text),
+        Compared::Eol => Value::Word(version.eol),
+        Compared::Number(number) => Value::Number(number_in(number, version)),
+    }
+}
+
+fn compared_of<'l>(compared: Compared, version: Option<Version>) -> Value<'l>
+    ensures { value_model result ≡ compared_of compared version }
+{
+    match version {
+        None => Value::Missing,
+        Some(version) => compared_in(compared, version),
+    }
+}
+
+impl Lines for Samples {
+    type Line = Sample;
+
+    ghost value_in = { sample_value };
+
+    fn value<'l>(line: &'l Sample, form: Form, column: Column) -> Value<'l> {
+        match column {
+            Column::Ext => Value::Word(line.key),
+            Column::Text | Column::Eol => Value::Summed,
+            Column::Change => Value::Word(line.change),
+            Column::Path => Value::Path(line.path),
+            Column::Old(compared) => compared_of(compared, line.old),
+            Column::New(compared) => compared_of(compared, line.new),
+            Column::Number(number) => Value::Number(number_of(number, line.new)),
+            Column::Difference(number) => Value::Difference {
+                old: number_of(number, line.old),
+                new: number_of(number, line.new),
+            },
+            _ => Value::Blank,
+        }
+    }
+}
