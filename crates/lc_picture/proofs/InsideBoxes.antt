@@ -1,9 +1,9 @@
 -- Boxes inside the boxes of the directories that hold them.
-use Rattle.std.proofs.Common.{◌≡◌, ℕ, ◌+◌, ◌-◌, List, [], ◌∷◌, ◌++◌, drop, length, min, suc, zero}
+use Rattle.std.proofs.Common.{◌≡◌, ℕ, ◌+◌, ◌-◌, Bool, true, false, List, [], ◌∷◌, ◌++◌, drop, length, min, suc, zero}
 use Rattle.std.proofs.Common.{refl, ap, ap₂, ◌∙◌, append_assoc, arith, length-append}
 use Rattle.lc_rows.specs.ShownRows.{number_in}
 use Rattle.lc_picture.specs.declared.scale.Scale.{Scale}
-use Rattle.lc_picture.specs.Boxes.{BoxModel, boxes_in, closings, left_beside, opening}
+use Rattle.lc_picture.specs.Boxes.{BoxModel, boxes_in, closings, is_open, left_beside, opening, tag_end}
 use Rattle.lc_picture.specs.Inside.{AreBoxesAt, ComeDepthFirst, InsideLaw, boxes_read}
 use Rattle.lc_picture.specs.Pieces.{Piece}
 use Rattle.lc_text.specs.Visible.{visible_path}
@@ -18,10 +18,15 @@ read_to_end : (around : List (List ℕ)) (n : ℕ) → boxes_read around (closin
 read_to_end around zero = refl
 read_to_end around (suc n) = read_to_end (drop 1 around) n
 
+-- a box may be open or folded at first
+read_tag_end : (around : List (List ℕ)) (is : Bool) (ps : List Piece) → boxes_read around (tag_end is ∷ ps) ≡ boxes_read around ps
+read_tag_end around true ps = refl
+read_tag_end around false ps = refl
+
 read_opened : (around : List (List ℕ)) (scale : Scale) (b : BoxModel) (left : ℕ) (ps : List Piece)
     → boxes_read around (opening scale b left ++ ps)
     ≡ (visible_path b.directory ∷ around) ∷ boxes_read (visible_path b.directory ∷ around) ps
-read_opened around scale b left ps = refl
+read_opened around scale b left ps = read_tag_end around (is_open b.depth) _
 
 all_inside : (scale : Scale) (before : List (List ℕ)) (bs : List BoxModel) (ds : List (List (List ℕ))) → ComeDepthFirst before ds
     → AreBoxesAt bs ds → boxes_read before (boxes_in scale (length before) bs) ≡ ds

@@ -1,11 +1,11 @@
 -- Boxes that are opened and closed.
-use Rattle.std.proofs.Common.{◌≡◌, ℕ, ◌+◌, ◌-◌, ◌≤◌, ◌==◌, false, List, [], ◌∷◌, ◌++◌, min, suc, zero, Some, None, if◌then◌else◌}
+use Rattle.std.proofs.Common.{◌≡◌, ℕ, ◌+◌, ◌-◌, ◌≤◌, ◌==◌, Bool, true, false, List, [], ◌∷◌, ◌++◌, min, suc, zero, Some, None, if◌then◌else◌}
 use Rattle.std.proofs.Common.{refl, sym, ap, ◌∙◌, append_assoc, arith}
 use Rattle.std.proofs.lemmas.Bool.{ne_eqb}
 use Rattle.std.proofs.lemmas.List.{append-nil}
 use Rattle.lc_rows.specs.ShownRows.{number_in}
 use Rattle.lc_picture.specs.declared.scale.Scale.{Scale}
-use Rattle.lc_picture.specs.Boxes.{BoxModel, boxes_in, closings, left_beside, opening}
+use Rattle.lc_picture.specs.Boxes.{BoxModel, boxes_in, closings, is_open, left_beside, opening, tag_end}
 use Rattle.lc_picture.specs.Laws.{NestingLaw, open_after}
 use Rattle.lc_picture.specs.Pieces.{Piece}
 
@@ -18,9 +18,14 @@ closed_after n (suc k) ps le =
     let next : n - 1 - k ≡ n - suc k = omega arith in
     one_closed n (closings k ++ ps) (omega arith) ∙ closed_after (n - 1) k ps (omega arith) ∙ ap (λ (m : ℕ). open_after m ps) next
 
+-- a box may be open or folded at first
+tag_ended_after : (n : ℕ) (is : Bool) (ps : List Piece) → open_after n (tag_end is ∷ ps) ≡ open_after n ps
+tag_ended_after n true ps = refl
+tag_ended_after n false ps = refl
+
 opened_after : (n : ℕ) (scale : Scale) (b : BoxModel) (left : ℕ) (ps : List Piece)
     → open_after n (opening scale b left ++ ps) ≡ open_after (n + 1) ps
-opened_after n scale b left ps = refl
+opened_after n scale b left ps = tag_ended_after (n + 1) (is_open b.depth) ps
 
 all_closed : (scale : Scale) (within : ℕ) (bs : List BoxModel) → open_after within (boxes_in scale within bs) ≡ Some 0
 all_closed scale within [] =

@@ -11,7 +11,8 @@ use Rattle.lc_sheet.specs.Values as value
 use Rattle.lc_sheet.specs.Values.{ValueModel}
 use Rattle.lc_sheet.specs.declared.column.Number.{Number}
 use Rattle.lc_picture.specs.declared.scale.Scale.{Scale}
-use Rattle.lc_picture.specs.Boxes.{BoxModel, box_of, boxes_in, closing, closings, drawn_boxes, left_beside, next_box, opening}
+use Rattle.lc_picture.specs.Boxes.{BoxModel, box_of, boxes_in, closing, closings, drawn_boxes, is_open, label}
+use Rattle.lc_picture.specs.Boxes.{left_beside, next_box, opening, space, tag_end, title_of}
 use Rattle.lc_picture.specs.Chart.{cell, cells, cells_in, coloured_line, coloured_lines, plain_line, plain_lines}
 use Rattle.lc_picture.specs.Colours.{main_colour, path_of, rows_from, shared_colour}
 use Rattle.lc_level.specs.FaultLines.{FaultLineModel}
@@ -29,13 +30,24 @@ closings_show : (n : ℕ) → filter is_shown (closings n) ≡ []
 closings_show zero = refl
 closings_show (suc n) = closings_show n
 
+-- a box may be open or folded at first
+tag_end_shows : (is : Bool) (ps : List Piece) → filter is_shown (tag_end is ∷ ps) ≡ filter is_shown ps
+tag_end_shows true ps = refl
+tag_end_shows false ps = refl
+
+opening_shows : (scale : Scale) (b : BoxModel) (left : ℕ) → filter is_shown (opening scale b left) ≡ shown_of_box scale b left
+opening_shows scale b left =
+    tag_end_shows (is_open b.depth)
+    (title_of scale b.path b.sums ++ (label scale b.directory (number_in scale.by b.sums) ++ space left))
+
 box_shows : (scale : Scale) (within : ℕ) (b : BoxModel) (bs : List BoxModel)
     → filter is_shown (next_box scale within b bs)
     ≡ shown_of_box scale b (left_beside scale.by b.depth (number_in scale.by b.sums) bs)
 box_shows scale within b bs =
     let left : ℕ = left_beside scale.by b.depth (number_in scale.by b.sums) bs in
     filter-append is_shown (closings (within - b.depth)) (opening scale b left)
-    ∙ ap (λ (ps : List Piece). ps ++ shown_of_box scale b left) (closings_show (within - b.depth))
+    ∙ ap (λ (ps : List Piece). ps ++ filter is_shown (opening scale b left)) (closings_show (within - b.depth))
+    ∙ opening_shows scale b left
 
 boxes_show : (scale : Scale) (within : ℕ) (bs : List BoxModel) → filter is_shown (boxes_in scale within bs) ≡ shown_of_boxes scale bs
 boxes_show scale within [] = closings_show within
@@ -57,6 +69,7 @@ value_shows (value.path p) = refl
 value_shows (value.number n) = refl
 value_shows (value.share part whole) = refl
 value_shows (value.bar part whole) = refl
+value_shows (value.difference old new) = refl
 
 values_show : (vs : List ValueModel) → filter is_shown (cells_in vs) ≡ shown_of_line vs
 values_show [] = refl

@@ -1,5 +1,5 @@
 -- The boxes of a tree of directories. Each has a box inside for each directory right in it, and its share of the space is its number.
-use Rattle.std.specs.Prelude.{ℕ, ◌+◌, ◌-◌, ◌/◌, ◌%◌, ◌==◌, nat_le, if◌then◌else◌, List, [], ◌∷◌, ◌++◌}
+use Rattle.std.specs.Prelude.{ℕ, ◌+◌, ◌-◌, ◌/◌, ◌%◌, ◌==◌, Bool, true, false, nat_le, nat_lt, if◌then◌else◌, List, [], ◌∷◌, ◌++◌}
 use Rattle.std.specs.Prelude.{max, min, replicate, codes}
 use Rattle.lc_rows.specs.Directories.{level_of, own_part}
 use Rattle.lc_rows.specs.RowKeys.{ShownRowModel}
@@ -44,11 +44,20 @@ left_beside by depth n (b ∷ bs) =
     if nat_le b.depth depth then n
     else left_beside by depth (if b.depth == depth + 1 then n - number_in by b.sums else n) bs
 
--- the tag of a box, with its colour and its number
-abbrev pub tag : Number → ℕ → Sums → List Piece
-tag by colour s =
-    markup (codes "<details open class=\"e") ∷ share colour ∷ markup (codes "\" style=\"--n:") ∷ share (number_in by s)
-    ∷ markup (codes "\"><summary title=\"") ∷ []
+-- the boxes of the first eight levels are seen at first: a box that is as deep as the last of these, or deeper, is folded
+abbrev pub is_open : ℕ → Bool
+is_open depth = nat_lt depth 7
+
+-- the end of the tag of a box that is open or folded at first, and the begin of its title
+abbrev pub tag_end : Bool → Piece
+tag_end true = markup (codes "\" open><summary title=\"")
+tag_end false = markup (codes "\"><summary title=\"")
+
+-- the tag of a box of this depth, with its colour and its number
+abbrev pub tag : Number → ℕ → ℕ → Sums → List Piece
+tag by depth colour s =
+    markup (codes "<details class=\"e") ∷ share colour ∷ markup (codes "\" style=\"--n:") ∷ share (number_in by s)
+    ∷ tag_end (is_open depth) ∷ []
 
 -- what a box is, which the browser shows at the pointer: the path, the sums, and the share of the number that is drawn
 abbrev pub title_of : Scale → List ℕ → Sums → List Piece
@@ -74,7 +83,7 @@ space left =
 -- the begin of a box
 abbrev pub opening : Scale → BoxModel → ℕ → List Piece
 opening scale b left =
-    tag scale.by b.colour b.sums ++ (title_of scale b.path b.sums ++ (label scale b.directory (number_in scale.by b.sums) ++ space left))
+    tag scale.by b.depth b.colour b.sums ++ (title_of scale b.path b.sums ++ (label scale b.directory (number_in scale.by b.sums) ++ space left))
 
 abbrev pub closing : Piece
 closing = markup (codes "</div></details>\n")

@@ -94,6 +94,7 @@ shown_of_value (value.path p) = name (visible_path p) ∷ []
 shown_of_value (value.number n) = count n ∷ []
 shown_of_value (value.share part whole) = percent part whole ∷ []
 shown_of_value (value.bar part whole) = []
+shown_of_value (value.difference old new) = []
 
 abbrev pub shown_of_line : List ValueModel → List Piece
 shown_of_line values = flat_map shown_of_value values
@@ -195,7 +196,7 @@ OutlineLaw =
 
 -- whether a piece begins a box, and whether it ends one
 abbrev pub begins_box : Piece → Bool
-begins_box (markup t) = bytes_eq t (codes "<details open class=\"e")
+begins_box (markup t) = bytes_eq t (codes "<details class=\"e")
 begins_box (share n) = false
 begins_box (word n) = false
 begins_box (count n) = false

@@ -1,6 +1,5 @@
 -- The page of a report: a head with the numbers of all files, a bar chart of its extensions, and the boxes of its directories.
 use Rattle.std.specs.Prelude.{◌≡◌, ℕ, true, false, List, [], ◌∷◌, ◌++◌, codes, unwrap_or, Option, Some, None}
-use Rattle.lc_glob.specs.Path.{max_depth}
 use Rattle.lc_rows.specs.RowKeys.{ShownRowModel}
 use Rattle.lc_rows.specs.Sheets.{sheet_of}
 use Rattle.lc_rows.specs.ShownRows.{AreShown, number_in}
@@ -92,14 +91,17 @@ drawn_number sort = unwrap_or sort Lines
 abbrev pub chart_view : List ShownRowModel → ViewModel
 chart_view extensions = view_of (Some chart_rows) extensions []
 
--- the boxes of the directories that are drawn, with their colours, the largest first. Directories are cut after as many names as a walk
--- goes deep
+-- the number of names after which directories are cut, so that a browser, which nests at most 512 elements, nests all boxes
+abbrev pub tree_depth : ℕ
+tree_depth = 250
+
+-- the boxes of the directories that are drawn, with their colours, the largest first
 pub record AreBoxesOf (by : Number) (totals : Sums) (files : List FileLineModel) (chart : List ShownRowModel) (boxes : List BoxModel)
     : Type 0 where
   pub tree : List ShownRowModel
-  pub are_tree : AreTreeRows max_depth tree_columns files tree
+  pub are_tree : AreTreeRows tree_depth tree_columns files tree
   pub kinds : List ShownRowModel
-  pub are_kinds : AreTreeRows max_depth kind_columns files kinds
+  pub are_kinds : AreTreeRows tree_depth kind_columns files kinds
   pub are : AreLargestFirst by (drawn_boxes by (least_drawn (number_in by totals)) chart kinds tree) boxes
 
 -- a text is the page of a report of what was counted, drawn by a number: of the sheet of its extensions, sorted, and of the directories

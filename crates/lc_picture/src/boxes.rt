@@ -3,8 +3,8 @@
 ghost use Rattle.std.specs.Prelude.{◌≡◌, ◌+◌, ◌-◌, ◌==◌, if◌then◌else◌, ◌++◌, IfOk, OnOk, min};
 ghost use Rattle.lc_rows.specs.ShownRows.{number_in};
 ghost use Rattle.lc_picture.specs.Boxes.{boxes_in, closings, label, left_beside, next_box, number_drawn, opening, space, tag};
-ghost use Rattle.lc_picture.specs.Boxes.{title_of};
-ghost use Rattle.lc_picture.specs.Pieces.{text_of};
+ghost use Rattle.lc_picture.specs.Boxes.{tag_end, title_of};
+ghost use Rattle.lc_picture.specs.Pieces.{piece_text, text_of};
 
 use crate::directory_box::DirectoryBox;
 use crate::escaping::push_path;
@@ -15,6 +15,9 @@ use lc_rows::number_in;
 use lc_sheet::Number;
 use lc_walk::Sums;
 use std::alloc::AllocError;
+
+/// The number of levels whose boxes are open at first, so that one level more is seen.
+const OPEN_LEVELS: usize = 7;
 
 /// Returns a number without the number of the next box, if that box is right in a box of this depth, and otherwise the number itself.
 fn left_after(by: Number, depth: usize, left: u128, next: &DirectoryBox<'_>) -> u128
@@ -42,14 +45,31 @@ fn left_beside<'a>(by: Number, depth: usize, number: u128, after: &[DirectoryBox
     left
 }
 
-fn push_tag(text: &mut Vec<u8>, by: Number, colour: usize, sums: Sums) -> Result<(), AllocError>
-    ensures { OnOk result (text.new.items ≡ text.old.items ++ text_of (tag by colour sums)) }
+/// Returns the end of the tag of a box, and the beginning of its title.
+fn tag_end(is_open: bool) -> &'static [u8]
+    ensures { result.now ≡ piece_text (tag_end is_open) }
 {
-    text.extend_from_slice(b"<details open class=\"e")?;
+    if is_open {
+        b"\" open><summary title=\""
+    } else {
+        b"\"><summary title=\""
+    }
+}
+
+fn push_tag(
+    text: &mut Vec<u8>,
+    by: Number,
+    depth: usize,
+    colour: usize,
+    sums: Sums,
+) -> Result<(), AllocError>
+    ensures { OnOk result (text.new.items ≡ text.old.items ++ text_of (tag by depth colour sums)) }
+{
+    text.extend_from_slice(b"<details class=\"e")?;
     push_number(text, colour as u128)?;
     text.extend_from_slice(b"\" style=\"--n:")?;
     push_number(text, number_in(by, sums))?;
-    text.extend_from_slice(b"\"><summary title=\"")?;
+    text.extend_from_slice(tag_end(depth < OPEN_LEVELS))?;
     Ok(())
 }
 
@@ -122,7 +142,7 @@ fn push_opening(
 ) -> Result<(), AllocError>
     ensures { OnOk result (text.new.items ≡ text.old.items ++ text_of (opening scale drawn.now left)) }
 {
-    push_tag(text, scale.by, drawn.colour, drawn.sums)?;
+    push_tag(text, scale.by, drawn.depth, drawn.colour, drawn.sums)?;
     push_title(text, scale, drawn.path, drawn.sums, made)?;
     push_label(
         text,

@@ -20,7 +20,7 @@ pub fn a_page_shows_each_directory_once()
     ensures drawn { DrawnLaw }
 {}
 
-/// The law that each row of the chart has the colour of its extension, and that the directories have the colours of the same extensions.
+/// The law that each row of the chart has the colour in which boxes show its extension.
 pub fn rows_have_the_colours_of_their_extensions()
     ensures { ColoursLaw }
 {}

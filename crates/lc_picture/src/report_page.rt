@@ -31,8 +31,8 @@ const CHART_COLUMNS: Columns = Columns {
 /// The greatest number of extensions that have a bar.
 const CHART_ROWS: u32 = 20;
 
-/// The number of names after which the directories of boxes are cut. No walk goes deeper.
-const TREE_DEPTH: u32 = 256;
+/// The number of names after which the directories of boxes are cut. A browser nests at most 512 elements, and a box in a box takes two.
+const TREE_DEPTH: u32 = 250;
 
 /// The columns of the boxes.
 const TREE_COLUMNS: Columns = Columns {

@@ -19,44 +19,40 @@ pub(crate) fn style() -> &'static [u8]
 {
     b":root{color-scheme:light dark}\n\
       body{margin:1rem;font:.875rem/1.35 system-ui,sans-serif}\n\
-      h1{margin:0;font-size:1.6rem;overflow-wrap:anywhere}\n\
-      h2{font-size:1.1rem}\n\
-      .by{margin:0}\n\
+      h1{margin:0;font-size:1.6rem;overflow-wrap:anywhere}\nh2{font-size:1.1rem}\n.by{margin:0}\n\
       .by::first-letter{text-transform:uppercase}\n\
       dl{display:flex;flex-wrap:wrap;gap:.5rem 2.5rem;margin:1rem 0}\n\
       dl div{display:flex;flex-direction:column-reverse}\n\
       dd{margin:0;font-size:2rem;line-height:1.1;font-variant-numeric:tabular-nums}\n\
       ul{max-height:9em;overflow:auto;overflow-wrap:anywhere}\n\
       table{border-collapse:collapse;font-variant-numeric:tabular-nums}\n\
-      th,td{padding:0 .6rem;text-align:right}\n\
-      tr>:first-child{text-align:left}\n\
+      th,td{padding:0 .6rem;text-align:right}\ntr>:first-child{text-align:left}\n\
       .bar{display:flex;width:18rem;height:.8em}\n\
       .bar i,.bar u{flex-grow:var(--n)}\n.bar i{outline:1px solid #888}\n\
-      .tree{display:flex;flex-direction:column;height:92vh;min-height:42rem;overflow:auto}\n\
-      details{position:relative;flex:var(--n) 0 0;min-width:11em}\n\
+      .tree{--w:max(11em,12.5cqw);container-type:inline-size;\
+      display:flex;flex-direction:column;height:92vh;min-height:42rem;overflow:auto}\n\
+      details{position:relative;flex:var(--n) 0 0;min-width:var(--w)}\n\
       details:hover,details:focus-within{min-height:2.8em}\n\
       details:not([open]){flex-grow:0;min-height:1.5em}\n\
-      summary{position:absolute;inset:0 auto 0 0;box-sizing:border-box;width:11em;overflow:hidden;\
+      details details details details details details details details:not([open]){flex-grow:var(--n);min-height:0}\n\
+      details:not([open])>summary,details:not(:has(details))>summary{right:0;width:auto}\
+      details:not(:has(details))>div{display:none}\n\
+      summary{position:absolute;inset:0 auto 0 0;box-sizing:border-box;width:var(--w);overflow:hidden;\
       overflow-wrap:anywhere;border:1px solid #888;border-width:1px 0 0 1px;cursor:pointer;\
       display:flex;flex-flow:column wrap;align-content:flex-start;container-type:size}\n\
       summary::before{content:\"\"}\n\
       summary>*,summary::before{flex:none;box-sizing:border-box;width:100%;padding:0 .3rem}\n\
       details:not([open])>summary>b::before{content:\"+ \"}\n\
-      details>div{position:absolute;inset:0 0 0 11em;display:flex;flex-direction:column}\n\
-      details>div>i{order:1;flex:var(--n) 0 0;overflow:hidden;min-width:11em;box-sizing:border-box;\
-      padding-left:.3rem;white-space:nowrap;container-type:size}\n\
-      details>div>i:only-child>em{display:none}\n\
+      details>div{position:absolute;inset:0 0 0 var(--w);display:flex;flex-direction:column}\n\
+      details>div>i{order:1;flex:var(--n) 0 0;overflow:hidden;min-width:var(--w);box-sizing:border-box;\
+      padding-left:.3rem;white-space:nowrap;container-type:size}\ndetails>div>i:only-child>em{display:none}\n\
       @container (height<2.7em){summary>span{display:none}}\n\
       @container (height<1.35em){summary>b,details>div>i>em{display:none}}\n\
-      .e0>summary,.e0 .bar i{background:#4e79a780}\n\
-      .e1>summary,.e1 .bar i{background:#f28e2b80}\n\
-      .e2>summary,.e2 .bar i{background:#59a14f80}\n\
-      .e3>summary,.e3 .bar i{background:#e1575980}\n\
-      .e4>summary,.e4 .bar i{background:#76b7b280}\n\
-      .e5>summary,.e5 .bar i{background:#edc94880}\n\
-      .e6>summary,.e6 .bar i{background:#b07aa180}\n\
-      .e7>summary,.e7 .bar i{background:#9c755f80}\n\
-      .e8>summary,.e8 .bar i{background:#bab0ac80}\n\
+      summary,.bar i{background:var(--c)}\n\
+      .e0{--c:#7b9cff}.e1{--c:#ee9d38}.e2{--c:#85ca87}.e3{--c:#ce7283}.e4{--c:#3baeaf}\
+      .e5{--c:#ffe46e}.e6{--c:#d8b4e5}.e7{--c:#b38552}.e8{--c:#d0d0d0}\n\
+      @media (prefers-color-scheme:dark){.e0{--c:#0761a7}.e1{--c:#713f00}.e2{--c:#3e6b44}.e3{--c:#64081a}.e4{--c:#0414b8}\
+      .e5{--c:#7d6e0a}.e6{--c:#623f6a}.e7{--c:#362f38}.e8{--c:#555555}}\n\
       @media (max-width:45rem){tbody{display:grid;grid-template-columns:repeat(5,auto);font-size:.75rem}\n\
       tr{display:contents}tr>:first-child,tr>:last-child{grid-column:1/-1}th,td{padding:0 .2rem}\n\
       .bar{width:auto;margin-bottom:.4rem}}\n\

@@ -64,21 +64,21 @@ const CASES: &[Case] = &[
                 <td>15</td><td>5.6%</td><td><div class=\"bar\"><i style=\"--n:1\">\
                 </i><u style=\"--n:12\"></u></div></td></tr>\n",
             b"lines",
-            b"<details open class=\"e0\" style=\"--n:18\"><summary title=\".: lines 18, files 5, blank 5, bytes 109, 100.0% \
+            b"<details class=\"e0\" style=\"--n:18\" open><summary title=\".: lines 18, files 5, blank 5, bytes 109, 100.0% \
                 of all lines\"><b>.</b> <span>lines 18 (100.0%)</span></summary>\
-                <div><i style=\"--n:4\"><em>others 4</em></i><details open class=\"e0\" style=\"--n:11\">\
+                <div><i style=\"--n:4\"><em>others 4</em></i><details class=\"e0\" style=\"--n:11\" open>\
                 <summary title=\"src: lines 11, files 3, blank 3, bytes 85, 61.1% of all lines\">\
                 <b>src</b> <span>lines 11 (61.1%)</span></summary><div><i style=\"--n:7\">\
-                <em>others 7</em></i><details open class=\"e0\" style=\"--n:4\">\
+                <em>others 7</em></i><details class=\"e0\" style=\"--n:4\" open>\
                 <summary title=\"src/view: lines 4, files 2, blank 3, bytes 35, 22.2% of all lines\">\
                 <b>view</b> <span>lines 4 (22.2%)</span></summary><div><i style=\"--n:3\">\
-                <em>others 3</em></i><details open class=\"e2\" style=\"--n:1\">\
+                <em>others 3</em></i><details class=\"e2\" style=\"--n:1\" open>\
                 <summary title=\"src/view/old: lines 1, files 1, blank 0, bytes 15, 5.6% of all lines\">\
                 <b>old</b> <span>lines 1 (5.6%)</span></summary><div><i style=\"--n:1\">\
                 <em>others 1</em></i></div></details>\n\
                 </div></details>\n\
                 </div></details>\n\
-                <details open class=\"e0\" style=\"--n:3\"><summary title=\"src-old: lines 3, files 1, blank 1, bytes 15, \
+                <details class=\"e0\" style=\"--n:3\" open><summary title=\"src-old: lines 3, files 1, blank 1, bytes 15, \
                 16.7% of all lines\"><b>src-old</b> <span>lines 3 (16.7%)\
                 </span></summary><div><i style=\"--n:3\"><em>others 3</em>\
                 </i></div></details>\n\
@@ -117,22 +117,22 @@ const CASES: &[Case] = &[
                 <td>5</td><td>0.2%</td><td><div class=\"bar\"><i style=\"--n:5\">\
                 </i><u style=\"--n:1990\"></u></div></td></tr>\n",
             b"bytes",
-            b"<details open class=\"e0\" style=\"--n:3000\"><summary title=\".: lines 8, files 4, blank 0, bytes 3,000, \
+            b"<details class=\"e0\" style=\"--n:3000\" open><summary title=\".: lines 8, files 4, blank 0, bytes 3,000, \
                 100.0% of all bytes\"><b>.</b> <span>bytes 3,000 (100.0%)\
                 </span></summary><div><i style=\"--n:2\"><em>others 2</em>\
-                </i><details open class=\"e0\" style=\"--n:1995\"><summary title=\"\\xff: lines 2, files 1, blank 0, bytes \
+                </i><details class=\"e0\" style=\"--n:1995\" open><summary title=\"\\xff: lines 2, files 1, blank 0, bytes \
                 1,995, 66.5% of all bytes\"><b>\\xff</b> <span>bytes 1,995 (66.5%)\
                 </span></summary><div><i style=\"--n:0\"><em>others 0</em>\
-                </i><details open class=\"e0\" style=\"--n:1995\"><summary title=\"\\xff/\\xe2\\x80\\xae: lines 2, files \
+                </i><details class=\"e0\" style=\"--n:1995\" open><summary title=\"\\xff/\\xe2\\x80\\xae: lines 2, files \
                 1, blank 0, bytes 1,995, 66.5% of all bytes\"><b>\\xe2\\x80\\xae\
                 </b> <span>bytes 1,995 (66.5%)</span></summary><div><i style=\"--n:1995\">\
                 <em>others 1,995</em></i></div></details>\n\
                 </div></details>\n\
-                <details open class=\"e1\" style=\"--n:1000\"><summary title=\"&#60;b&#62;&#38;amp;&#34;&#39;: lines 1, \
+                <details class=\"e1\" style=\"--n:1000\" open><summary title=\"&#60;b&#62;&#38;amp;&#34;&#39;: lines 1, \
                 files 1, blank 0, bytes 1,000, 33.3% of all bytes\"><b>&#60;b&#62;&#38;amp;&#34;&#39;\
                 </b> <span>bytes 1,000 (33.3%)</span></summary><div><i style=\"--n:1000\">\
                 <em>others 1,000</em></i></div></details>\n\
-                <details open class=\"e2\" style=\"--n:3\"><summary title=\"deep: lines 0, files 1, blank 0, bytes 3, 0.1% \
+                <details class=\"e2\" style=\"--n:3\" open><summary title=\"deep: lines 0, files 1, blank 0, bytes 3, 0.1% \
                 of all bytes\"><b>deep</b> <span>bytes 3 (0.1%)</span></summary>\
                 <div><i style=\"--n:3\"><em>others 3</em></i></div></details>\n\
                 </div></details>\n",
@@ -162,24 +162,24 @@ const CASES: &[Case] = &[
                 <td>9</td><td>40.0%</td><td><div class=\"bar\"><i style=\"--n:6\">\
                 </i><u style=\"--n:3\"></u></div></td></tr>\n",
             b"lines",
-            b"<details open class=\"e0\" style=\"--n:15\"><summary title=\".: lines 15, files 5, blank 0, bytes 20, 100.0% \
+            b"<details class=\"e0\" style=\"--n:15\" open><summary title=\".: lines 15, files 5, blank 0, bytes 20, 100.0% \
                 of all lines\"><b>.</b> <span>lines 15 (100.0%)</span></summary>\
-                <div><i style=\"--n:3\"><em>others 3</em></i><details open class=\"e0\" style=\"--n:5\">\
+                <div><i style=\"--n:3\"><em>others 3</em></i><details class=\"e0\" style=\"--n:5\" open>\
                 <summary title=\"/: lines 5, files 1, blank 0, bytes 6, 33.3% of all lines\">\
                 <b>/</b> <span>lines 5 (33.3%)</span></summary><div><i style=\"--n:5\">\
                 <em>others 5</em></i></div></details>\n\
-                <details open class=\"e0\" style=\"--n:4\"><summary title=\"/usr: lines 4, files 1, blank 0, bytes 5, 26.7% \
+                <details class=\"e0\" style=\"--n:4\" open><summary title=\"/usr: lines 4, files 1, blank 0, bytes 5, 26.7% \
                 of all lines\"><b>/usr</b> <span>lines 4 (26.7%)</span></summary>\
-                <div><i style=\"--n:0\"><em>others 0</em></i><details open class=\"e0\" style=\"--n:4\">\
+                <div><i style=\"--n:0\"><em>others 0</em></i><details class=\"e0\" style=\"--n:4\" open>\
                 <summary title=\"/usr/include: lines 4, files 1, blank 0, bytes 5, 26.7% of all lines\">\
                 <b>include</b> <span>lines 4 (26.7%)</span></summary><div>\
                 <i style=\"--n:4\"><em>others 4</em></i></div></details>\n\
                 </div></details>\n\
-                <details open class=\"e1\" style=\"--n:2\"><summary title=\"./src: lines 2, files 1, blank 0, bytes 3, 13.3% \
+                <details class=\"e1\" style=\"--n:2\" open><summary title=\"./src: lines 2, files 1, blank 0, bytes 3, 13.3% \
                 of all lines\"><b>./src</b> <span>lines 2 (13.3%)</span>\
                 </summary><div><i style=\"--n:2\"><em>others 2</em></i></div>\
                 </details>\n\
-                <details open class=\"e1\" style=\"--n:1\"><summary title=\"../lib: lines 1, files 1, blank 0, bytes 2, \
+                <details class=\"e1\" style=\"--n:1\" open><summary title=\"../lib: lines 1, files 1, blank 0, bytes 2, \
                 6.7% of all lines\"><b>../lib</b> <span>lines 1 (6.7%)</span>\
                 </summary><div><i style=\"--n:1\"><em>others 1</em></i></div>\
                 </details>\n\

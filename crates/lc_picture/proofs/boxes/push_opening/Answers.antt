@@ -15,7 +15,7 @@ returns c =
     let scale = c.args.scale in
     let d = c.drawn.inside in
     let n = number_in scale.by d.sums in
-    two_texts t0 t1 t4 (tag scale.by d.colour d.sums)
+    two_texts t0 t1 t4 (tag scale.by d.depth d.colour d.sums)
     (title_of scale d.path.now d.sums ++ (label scale d.directory.now n ++ space c.args.left)) c.in_ok-push_tag.ensures
     (two_texts t1 t2 t4 (title_of scale d.path.now d.sums) (label scale d.directory.now n ++ space c.args.left)
     c.in_ok-push_title.ensures
