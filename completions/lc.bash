@@ -14,6 +14,10 @@ _lc_options() {
     count) echo --exclude --exclude-from --include --no-ignore --archive --without --only --only-from --null -0 \
       --one-file-system -x --files --left-out --where --no-binary --format --by --depth --sort --top --share \
       --fail-if-any --threads -j --max-dirs ;;
+    sum) echo --files --left-out --where --no-binary --format --by --depth --sort --top --share --fail-if-any ;;
+    diff) echo --exclude --exclude-from --include --no-ignore --archive --without --only --only-from --null -0 \
+      --one-file-system -x --where --no-binary --depth --top --threads -j --max-dirs --all --files --format --by --sort \
+      --fail-if-any ;;
     explain) echo --exclude --exclude-from --include --no-ignore --archive --without --null -0 ;;
     check) echo --explain --null -0 ;;
   esac
@@ -54,7 +58,7 @@ _lc() {
     command=count
     [ "$COMP_CWORD" -gt 1 ] || options+=' --version -V'
   elif [ "$COMP_CWORD" -eq 1 ]; then
-    mapfile -t COMPREPLY < <(compgen -W 'count explain check help' -- "$current")
+    mapfile -t COMPREPLY < <(compgen -W 'count sum diff explain check help' -- "$current")
     return
   fi
   # bash takes the = of --threads=8 as a word
@@ -64,17 +68,17 @@ _lc() {
     option=${COMP_WORDS[COMP_CWORD - 2]}
   fi
   case $command in
-    count | explain | check)
+    count | sum | diff | explain | check)
       if [ "$command" != check ] && _lc_value "$option" "$current"; then
         return
       fi
       case $command$current in
-        count-* | explain-* | check-*) mapfile -t COMPREPLY < <(compgen -W "$(_lc_options "$command") $options" -- "$current") ;;
+        count-* | sum-* | diff-* | explain-* | check-*) mapfile -t COMPREPLY < <(compgen -W "$(_lc_options "$command") $options" -- "$current") ;;
         count*) mapfile -t COMPREPLY < <(compgen -d -- "$current") ;;
         *) mapfile -t COMPREPLY < <(compgen -f -- "$current") ;;
       esac
       ;;
-    help) mapfile -t COMPREPLY < <(compgen -W 'count explain check' -- "$current") ;;
+    help) mapfile -t COMPREPLY < <(compgen -W 'count sum diff explain check' -- "$current") ;;
   esac
 }
 

@@ -1,6 +1,6 @@
 -- The directories that words ask for, and their paths without the slashes at their end.
 use Rattle.std.proofs.Common.{◌≡◌, ◌∙◌, ◌-◌, ◌&&◌, ℕ, Bool, true, false, List, [], ◌∷◌, length, map, take, drop, refl, ap, ap₂, sym, cond}
-use Rattle.std.proofs.Common.{eqb, Err, arith}
+use Rattle.std.proofs.Common.{eqb, arith}
 use Rattle.std.proofs.Math.Bool.{and-false, and-true}
 use Rattle.std.specs.Borrow.{Bor}
 use Rattle.std.specs.Cmp.Lexicographic.{pointwise}
@@ -8,10 +8,7 @@ use Rattle.std.specs.List.{list_all}
 use Rattle.std.proofs.lemmas.Simd.{map-map}
 use Rattle.lc_glob.specs.Bytes.{slash}
 use Rattle.lc_glob.specs.Pieces.{is_byte}
-use Rattle.lc_arguments.specs.Directories.{are_distinct, or_here, unslashed}
-use Rattle.lc_arguments.specs.Explained.{AnswersDirectories, IsRefusal}
-use Rattle.lc_arguments.specs.declared.request.ParseExit.{ParseExit}
-use Rattle.lc_arguments.specs.declared.request.ParseExit.TheVariants.{Shown, Refused, Memory}
+use Rattle.lc_arguments.specs.Directories.{are_distinct, unslashed}
 
 -- a byte that is a slash comes last
 abbrev pub ends_so : List ℕ → Bool
@@ -64,10 +61,3 @@ pub names_lent : (words : List (List ℕ)) (directories : List (Bor (List ℕ)))
     → are_distinct (map (λ directory. unslashed directory.now) directories) ≡ are_distinct (map unslashed words)
 names_lent words directories are =
     ap are_distinct (sym (map-map unslashed (λ (directory : Bor (List ℕ)). directory.now) directories) ∙ ap (map unslashed) are)
-
--- directories of which one is named twice are refused
-pub refused_twice : (words : List (List ℕ)) (why : ParseExit) → IsRefusal why → are_distinct (map unslashed (or_here words)) ≡ false
-    → AnswersDirectories words (Err why)
-refused_twice words (Shown text) refusal twice = refusal
-refused_twice words (Refused text) refusal twice = twice
-refused_twice words Memory refusal twice = tt

@@ -1,14 +1,11 @@
 -- The paths that words ask for.
-use Rattle.std.proofs.Common.{◌≡◌, ◌∙◌, ◌<◌, ℕ, true, List, length, map, ap, sym, Err}
+use Rattle.std.proofs.Common.{◌≡◌, ◌∙◌, ◌<◌, ℕ, true, List, length, map, ap, sym}
 use Rattle.std.specs.Borrow.{Bor}
 use Rattle.std.specs.List.{list_any, slice_index_or}
 use Rattle.std.proofs.lemmas.List.Folds.{list_any_at}
 use Rattle.std.proofs.lemmas.Simd.{map-map}
 use Rattle.clap.proofs.WalkLemmas.{list_any-map}
-use Rattle.lc_arguments.specs.Explained.{AnswersPaths, IsRefusal}
 use Rattle.lc_arguments.specs.Words.{is_bad_part, part_of}
-use Rattle.lc_arguments.specs.declared.request.ParseExit.{ParseExit}
-use Rattle.lc_arguments.specs.declared.request.ParseExit.TheVariants.{Shown, Refused, Memory}
 
 -- the paths of lent words are those of the words
 pub paths_lent : (words : List (Bor (List ℕ)))
@@ -28,10 +25,3 @@ pub one_misplaced : (words : List (Bor (List ℕ))) (k : ℕ) (d : Bor (List ℕ
     → list_any is_bad_part (map part_of (map (λ (word : Bor (List ℕ)). word.now) words)) ≡ true
 one_misplaced words k d low bad = sym (some_bad words)
     ∙ list_any_at (λ (word : Bor (List ℕ)). is_bad_part (part_of word.now)) words k d low bad
-
--- they are refused for that
-pub misplaced_for : (words : List (List ℕ)) (why : ParseExit) → IsRefusal why → list_any is_bad_part (map part_of words) ≡ true
-    → AnswersPaths words (Err why)
-misplaced_for words (Shown text) refusal bad = refusal
-misplaced_for words (Refused text) refusal bad = bad
-misplaced_for words Memory refusal bad = tt

@@ -177,9 +177,12 @@ same_dir names depth c d of_c of_d has = go (is_some d.dir) refl
         absurd (omega (arith, one, none, of_c.dir, of_d.dir))
 
 -- directories are cut to a number of segments that is within the limit of what was given, or one
-pub depth_within : (depth : Option ℕ) (c : Columns) (by : Option (List ℕ)) → AreColumnsBy by depth c → 1 ≤ unwrap_or depth 1
-    → unwrap_or depth 1 ≤ max_depth → IfSome c.dir (λ segments. (1 ≤ segments) × (segments ≤ max_depth))
-depth_within depth c by are some within = go c.dir are.named.cut
+pub depth_within : (depth : Option ℕ) (columns : Option Columns) (by : Option (List ℕ)) → AreColumnsBy by depth columns
+    → 1 ≤ unwrap_or depth 1 → unwrap_or depth 1 ≤ max_depth
+    → IfSome columns (λ c. IfSome c.dir (λ segments. (1 ≤ segments) × (segments ≤ max_depth)))
+depth_within depth None by are some within = tt
+depth_within depth (Some c) None are some within = absurd are
+depth_within depth (Some c) (Some text) are some within = go c.dir are.named.cut
   where
     go : (dir : Option ℕ) → IfSome dir (λ segments. segments ≡ unwrap_or depth 1)
         → IfSome dir (λ segments. (1 ≤ segments) × (segments ≤ max_depth))

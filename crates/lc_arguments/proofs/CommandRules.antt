@@ -24,7 +24,7 @@ use Rattle.lc_arguments.specs.CommandLine.{app_with, bare_app, option_rule, rule
 use Rattle.lc_arguments.specs.CountArgs.{AreArgsOf, AreCommandsOf, IsArgOf, IsBare, IsCommandOf}
 use Rattle.lc_arguments.specs.Directories.{are_distinct}
 use Rattle.lc_arguments.specs.Options.{OptionModel, is_of, option_model}
-use Rattle.lc_arguments.specs.Words.{ReadsWithin}
+use Rattle.lc_arguments.specs.ReadNumbers.{ReadsWithin}
 use Rattle.lc_arguments.specs.declared.option_row.OptionRow.{OptionRow}
 use Rattle.lc_arguments.specs.declared.option_row.Subcommand.{Subcommand}
 use Rattle.lc_arguments.proofs.ReadValues.{read_in_chain}

@@ -2,6 +2,7 @@ mod AskedDirectories
 mod AskedPaths
 mod ConditionsRead
 mod Misnaming
+mod NamedReports
 mod CommandRules
 mod ReadValues
 mod WordFaults

@@ -8,21 +8,25 @@ use Rattle.std.specs.List.{list_all, slice_index_or}
 use Rattle.std.specs.Result.{IsErrAnd}
 use Rattle.std.proofs.lemmas.Result.{err_from_is_err_and}
 use Rattle.clap.specs.Faults.{fault_of}
-use Rattle.clap.specs.Simple.{matches_of}
+use Rattle.clap.specs.Simple.{App, matches_of}
 use Rattle.std.specs.Prelude.{Some, codes, option_map, unwrap_or}
 use Rattle.clap.specs.Walk.{Row}
-use Rattle.lc_arguments.specs.Combinations.{fit_together}
-use Rattle.lc_arguments.specs.CommandLine.{count_app, explain_app}
-use Rattle.lc_arguments.specs.Explained.{AnswersBy, AnswersConditions, AnswersCountIn}
-use Rattle.lc_arguments.specs.Explained.{AnswersCountWords, AnswersFilters, AnswersExplainWords}
-use Rattle.lc_arguments.specs.Explained.{AnswersRepeated, AnswersRepeatedIn, AnswersTable, AnswersTableIn}
-use Rattle.lc_arguments.specs.Explained.{AnswersDirectoriesIn, AnswersPathsIn, IsRefusal}
-use Rattle.lc_arguments.specs.Repeated.{are_allowed, is_allowed}
-use Rattle.lc_arguments.specs.Words.{AreNumbersIn, AskNothing, IsCountOf, IsTableAt, MayRefuse, MayShow, count_words, faults_in}
-use Rattle.lc_arguments.specs.Words.{other_faults_in}
+use Rattle.lc_arguments.specs.CommandLine.{check_app, count_app}
+use Rattle.lc_arguments.specs.Explained.{AnswersCountIn, AnswersCountWords, AnswersExplainWords, AnswersSumIn, AnswersSumWords}
+use Rattle.lc_arguments.specs.Explained.{AnswersBy, AnswersTable, IsRefusal, IsRefusedFor, IsUnread}
+use Rattle.lc_arguments.specs.Repeated.{is_allowed}
+use Rattle.lc_arguments.specs.Words.{AskNothing, AsksNoCount, AsksNoSum, IsNoRequestBy, MayRefuse, MayShow}
+use Rattle.lc_arguments.specs.ReadNumbers.{AreCutsIn, AreNumbersIn}
+use Rattle.lc_arguments.specs.Words.{count_words, faults_in, other_faults_in}
 use Rattle.lc_arguments.specs.declared.count.CountRequest.{CountRequest}
+use Rattle.lc_arguments.specs.declared.numbers.Cuts.{Cuts}
 use Rattle.lc_arguments.specs.declared.numbers.Numbers.{Numbers}
 use Rattle.lc_arguments.specs.declared.repeated.Repeated.{Repeated}
+use Rattle.lc_arguments.specs.declared.diff.DiffRequest.{DiffRequest}
+use Rattle.lc_arguments.specs.declared.sum.SumRequest.{SumRequest}
+use Rattle.lc_arguments.specs.declared.walk_request.WalkRequest.{WalkRequest}
+use Rattle.lc_arguments.specs.Explained.{AnswersDiffIn, AnswersDiffWords, AnswersWalkIn}
+use Rattle.lc_arguments.specs.Words.{AsksNoDiff, AsksNoWalk}
 use Rattle.lc_arguments.specs.declared.table.TableRequest.{TableRequest}
 use Rattle.lc_arguments.specs.declared.request.ParseExit.{ParseExit}
 use Rattle.lc_arguments.specs.declared.request.ParseExit.TheVariants.{Shown, Refused, Memory}
@@ -36,6 +40,10 @@ none_wrong false is = cc
 pub one_wrong : (right : Bool) → true ≡ not right → right ≡ false
 one_wrong true is = is
 one_wrong false is = refl
+
+-- what fits but for the rest is wrong as that is
+pub wrong_as : (fits rest wrong : Bool) → fits ≡ true → wrong ≡ not rest → wrong ≡ not (fits && rest)
+wrong_as fits rest wrong fit is = is ∙ sym (ap (λ b. not (b && rest)) fit)
 
 -- one value that an option may not have
 pub one_not_allowed : (option : Repeated) (values : List (Bor (List ℕ))) (k : ℕ) (d : Bor (List ℕ)) → k < length values
@@ -55,19 +63,17 @@ answers_table_as format by sort format' by' sort' depth answer f b o is =
     (subst (λ (t : Option (List ℕ)). AnswersTable format' t depth sort answer) b
     (subst (λ (t : Option (List ℕ)). AnswersTable format' by' depth t answer) o is))
 
--- values that an option may not have are refused
-pub refused_for : (option : Repeated) (values : List (List ℕ)) (why : ParseExit) → IsRefusal why → are_allowed option values ≡ false
-    → AnswersRepeated option values (Err why)
-refused_for option values (Shown text) refusal bad = refusal
-refused_for option values (Refused text) refusal bad = bad
-refused_for option values Memory refusal bad = tt
+-- what is refused is so for a reason that there is
+pub refused_for : (No : Type 0) (why : ParseExit) → IsRefusal why → No → IsRefusedFor No why
+refused_for No (Shown text) refusal bad = refusal
+refused_for No (Refused text) refusal bad = bad
+refused_for No Memory refusal bad = tt
 
--- and so are the filters by them
-pub misnamed_by : (option : Repeated) (rows : List Row) (why : ParseExit) → AnswersRepeatedIn rows option (Err why)
-    → AnswersFilters rows (Err why)
-misnamed_by option rows (Shown text) bad = absurd bad
-misnamed_by option rows (Refused text) bad = (option, bad)
-misnamed_by option rows Memory bad = tt
+-- and for one that follows from it
+pub refused_with : (No More : Type 0) (why : ParseExit) → (No → More) → IsRefusedFor No why → IsRefusedFor More why
+refused_with No More (Shown text) follows bad = bad
+refused_with No More (Refused text) follows bad = follows bad
+refused_with No More Memory follows bad = tt
 
 -- what asks for nothing of the one kind asks for nothing of the other, which has such a part
 pub refused_part : {A B : Type 0} (Is : A → Type 0) (Has : B → Type 0) (why : ParseExit) → ((b : B) → Has b → (a : A) × Is a)
@@ -82,77 +88,53 @@ nothing_for Is (Shown text) refusal none = refusal
 nothing_for Is (Refused text) refusal none = none
 nothing_for Is Memory refusal none = tt
 
--- the words after `explain` that have such values
-pub explain_refused_for : (words : List (List ℕ)) (why : ParseExit) → fault_of explain_app words ≡ []
-    → AnswersFilters (matches_of explain_app words) (Err why) → AnswersExplainWords words (Err why)
-explain_refused_for words (Shown text) fine bad = absurd bad
-explain_refused_for words (Refused text) fine bad = inr (fine, bad)
-explain_refused_for words Memory fine bad = tt
+-- what is passed on refuses the count
+pub no_count_in : (rows : List Row) (numbers : Numbers) (answer : Result CountRequest ParseExit) (why : ParseExit) (No : Type 0)
+    → (No → AreNumbersIn rows numbers → AsksNoCount rows) → IsErrAnd answer (λ e. e ≡ why) → IsRefusedFor No why
+    → AnswersCountIn rows numbers answer
+no_count_in rows numbers answer why No follows passed refused =
+    let error = err_from_is_err_and answer passed in
+    subst (AnswersCountIn rows numbers) (sym (error.1 ∙ ap Err error.2))
+    (refused_with No (AreNumbersIn rows numbers → AsksNoCount rows) why follows refused)
 
--- what was read with such values asks for no count
-pub filters_refused : (rows : List Row) (numbers : Numbers) (why : ParseExit) → AnswersFilters rows (Err why)
-    → AnswersCountIn rows numbers (Err why)
-filters_refused rows numbers (Shown text) bad = bad
-filters_refused rows numbers (Refused text) bad = λ _. inl bad
-filters_refused rows numbers Memory bad = tt
+-- and the difference
+pub no_diff_in : (rows : List Row) (numbers : Numbers) (answer : Result DiffRequest ParseExit) (why : ParseExit) (No : Type 0)
+    → (No → AreNumbersIn rows numbers → AsksNoDiff rows) → IsErrAnd answer (λ e. e ≡ why) → IsRefusedFor No why
+    → AnswersDiffIn rows numbers answer
+no_diff_in rows numbers answer why No follows passed refused =
+    let error = err_from_is_err_and answer passed in
+    subst (AnswersDiffIn rows numbers) (sym (error.1 ∙ ap Err error.2))
+    (refused_with No (AreNumbersIn rows numbers → AsksNoDiff rows) why follows refused)
 
--- nor does what was read with what is no condition
-pub conditions_refused : (rows : List Row) (numbers : Numbers) (why : ParseExit) → AnswersConditions rows (Err why)
-    → AnswersCountIn rows numbers (Err why)
-conditions_refused rows numbers (Shown text) bad = bad
-conditions_refused rows numbers (Refused text) bad = λ _. inl bad
-conditions_refused rows numbers Memory bad = tt
+-- and what is passed on by both
+pub no_walk_in : (rows : List Row) (numbers : Numbers) (answer : Result WalkRequest ParseExit) (why : ParseExit) (No : Type 0)
+    → (No → AsksNoWalk rows) → IsErrAnd answer (λ e. e ≡ why) → IsRefusedFor No why → AnswersWalkIn rows numbers answer
+no_walk_in rows numbers answer why No follows passed refused =
+    let error = err_from_is_err_and answer passed in
+    subst (AnswersWalkIn rows numbers) (sym (error.1 ∙ ap Err error.2)) (refused_with No (AsksNoWalk rows) why follows refused)
 
--- what no conditions are made of makes none
-pub no_conditions : (option : Repeated) (rows : List Row) (why : ParseExit) → AnswersRepeatedIn rows option (Err why)
-    → AnswersConditions rows (Err why)
-no_conditions option rows (Shown text) bad = absurd bad
-no_conditions option rows (Refused text) bad = (option, bad)
-no_conditions option rows Memory bad = tt
+-- and the sum
+pub no_sum_in : (rows : List Row) (cuts : Cuts) (answer : Result SumRequest ParseExit) (why : ParseExit) (No : Type 0)
+    → (No → AreCutsIn rows cuts → AsksNoSum rows) → IsErrAnd answer (λ e. e ≡ why) → IsRefusedFor No why
+    → AnswersSumIn rows cuts answer
+no_sum_in rows cuts answer why No follows passed refused =
+    let error = err_from_is_err_and answer passed in
+    subst (AnswersSumIn rows cuts) (sym (error.1 ∙ ap Err error.2))
+    (refused_with No (AreCutsIn rows cuts → AsksNoSum rows) why follows refused)
 
--- nor does what was read with what can be no path
-pub paths_refused : (rows : List Row) (numbers : Numbers) (why : ParseExit) → AnswersPathsIn rows (Err why)
-    → AnswersCountIn rows numbers (Err why)
-paths_refused rows numbers (Shown text) bad = bad
-paths_refused rows numbers (Refused text) bad = λ _. inr (inl bad)
-paths_refused rows numbers Memory bad = tt
+-- words of a command that clap answers
+pub unread_by : (app : App) (No : List Row → Type 0) (words : List (List ℕ)) (why : ParseExit)
+    → IsNoRequestBy (fault_of app words) why → IsUnread app No words why
+unread_by app No words (Shown text) by = by
+unread_by app No words (Refused text) by = inl by
+unread_by app No words Memory by = tt
 
--- nor what was read with a directory twice
-pub directories_refused : (rows : List Row) (numbers : Numbers) (why : ParseExit) → AnswersDirectoriesIn rows (Err why)
-    → AnswersCountIn rows numbers (Err why)
-directories_refused rows numbers (Shown text) bad = bad
-directories_refused rows numbers (Refused text) bad = λ _. inr (inr (inl bad))
-directories_refused rows numbers Memory bad = tt
-
--- nor what was read with no table
-pub table_refused : (rows : List Row) (numbers : Numbers) (why : ParseExit) → AnswersTableIn rows numbers.depth (Err why)
-    → AnswersCountIn rows numbers (Err why)
-table_refused rows numbers (Shown text) bad = bad
-table_refused rows numbers (Refused text) bad =
-    λ are. inr (inr (inr (inl (subst (λ (depth : Option ℕ). (s : TableRequest) → ¬ IsTableAt rows depth s) are.depth bad))))
-table_refused rows numbers Memory bad = tt
-
--- what is passed on refuses the count as it is
-pub no_count_in : (rows : List Row) (numbers : Numbers) (answer : Result CountRequest ParseExit) (why : ParseExit)
-    → IsErrAnd answer (λ e. e ≡ why) → AnswersCountIn rows numbers (Err why) → AnswersCountIn rows numbers answer
-no_count_in rows numbers answer why passed refused =
-    let no = err_from_is_err_and answer passed in
-    subst (AnswersCountIn rows numbers) (sym (no.1 ∙ ap Err no.2)) refused
-
--- the words after `count` of which this was read ask for no count
-pub count_refused : (words : List (List ℕ)) (numbers : Numbers) (why : ParseExit) → fault_of count_app words ≡ []
-    → AreNumbersIn (matches_of count_app words) numbers → AnswersCountIn (matches_of count_app words) numbers (Err why)
-    → AnswersCountWords words (Err why)
-count_refused words numbers (Shown text) fine are bad = absurd bad
-count_refused words numbers (Refused text) fine are bad = inr (fine, bad are)
-count_refused words numbers Memory fine are bad = tt
-
--- nor do those of a count whose options do not go together
-pub misfit_refused : (words : List (List ℕ)) (c : CountRequest) (why : ParseExit) → fault_of count_app words ≡ [] → IsRefusal why
-    → IsCountOf (matches_of count_app words) c → fit_together c ≡ false → AnswersCountWords words (Err why)
-misfit_refused words c (Shown text) fine refusal is misfit = absurd refusal
-misfit_refused words c (Refused text) fine refusal is misfit = inr (fine, inr (inr (inr (inr (c, is, misfit)))))
-misfit_refused words c Memory fine refusal is misfit = tt
+-- and those that clap reads
+pub unread_for : (app : App) (No : List Row → Type 0) (words : List (List ℕ)) (why : ParseExit) → fault_of app words ≡ []
+    → IsRefusedFor (No (matches_of app words)) why → IsUnread app No words why
+unread_for app No words (Shown text) fine bad = absurd bad
+unread_for app No words (Refused text) fine bad = inr (fine, bad)
+unread_for app No words Memory fine bad = tt
 
 -- words of a count fail as its words do
 pub faults_of_count : (words more : List (List ℕ)) → count_words words ≡ Some more → faults_in words ≡ fault_of count_app more
@@ -169,11 +151,36 @@ no_count_of words more (Refused text) is refused = elim refused [
 ]
 no_count_of words more Memory is none = tt
 
+-- words that begin with `check` ask for nothing where those after it fail
+pub no_check_of : (words more : List (List ℕ)) (why : ParseExit) → words ≡ codes "check" ∷ more
+    → IsNoRequestBy (fault_of check_app more) why → AskNothing words why
+no_check_of words more (Shown text) is shown = subst (λ (ws : List (List ℕ)). AskNothing ws (Shown text)) (sym is) shown
+no_check_of words more (Refused text) is refused = subst (λ (ws : List (List ℕ)). AskNothing ws (Refused text)) (sym is) (inl refused)
+no_check_of words more Memory is none = tt
+
 -- words that begin with `explain` ask for nothing where those after it do not
 pub no_explanation_of : (words more : List (List ℕ)) (why : ParseExit) → words ≡ codes "explain" ∷ more
     → AnswersExplainWords more (Err why) → AskNothing words why
 no_explanation_of words more (Shown text) is shown = subst (λ (ws : List (List ℕ)). AskNothing ws (Shown text)) (sym is) shown
 no_explanation_of words more (Refused text) is refused =
     subst (λ (ws : List (List ℕ)). AskNothing ws (Refused text)) (sym is)
-    (elim refused [ inl fails ↦ inl fails | inr names ↦ inr (inr (more, refl, names)) ])
+    (elim refused [ inl fails ↦ inl fails | inr names ↦ inr (inr (inl (more, refl, names))) ])
 no_explanation_of words more Memory is none = tt
+
+-- nor do those that begin with `sum`
+pub no_sum_of : (words more : List (List ℕ)) (why : ParseExit) → words ≡ codes "sum" ∷ more
+    → AnswersSumWords more (Err why) → AskNothing words why
+no_sum_of words more (Shown text) is shown = subst (λ (ws : List (List ℕ)). AskNothing ws (Shown text)) (sym is) shown
+no_sum_of words more (Refused text) is refused =
+    subst (λ (ws : List (List ℕ)). AskNothing ws (Refused text)) (sym is)
+    (elim refused [ inl fails ↦ inl fails | inr names ↦ inr (inr (inr (inl (more, refl, names)))) ])
+no_sum_of words more Memory is none = tt
+
+-- nor do those that begin with `diff`
+pub no_diff_of : (words more : List (List ℕ)) (why : ParseExit) → words ≡ codes "diff" ∷ more
+    → AnswersDiffWords more (Err why) → AskNothing words why
+no_diff_of words more (Shown text) is shown = subst (λ (ws : List (List ℕ)). AskNothing ws (Shown text)) (sym is) shown
+no_diff_of words more (Refused text) is refused =
+    subst (λ (ws : List (List ℕ)). AskNothing ws (Refused text)) (sym is)
+    (elim refused [ inl fails ↦ inl fails | inr names ↦ inr (inr (inr (inr (more, refl, names)))) ])
+no_diff_of words more Memory is none = tt

@@ -17,9 +17,10 @@ use Rattle.clap.specs.declared.error.kind.ErrorKind.TheVariants as kind
 use Rattle.clap.specs.declared.parser.matches.ArgMatches.{ArgMatches}
 use Rattle.clap.specs.declared.parser.matches.Found.{Found}
 use Rattle.clap.proofs.OnLiterals.{clap_on_literals}
-use Rattle.lc_arguments.specs.CommandLine.{count_app, check_app, explain_app, lc_app}
-use Rattle.lc_arguments.specs.Explained.{AnswersCountWords, AnswersExplainWords, Explains}
-use Rattle.lc_arguments.specs.Words.{IsFlag, IsNumber, IsText, IsNoRequestBy, number_if_given, texts_read}
+use Rattle.lc_arguments.specs.CommandLine.{count_app, check_app, diff_app, explain_app, lc_app, sum_app}
+use Rattle.lc_arguments.specs.Explained.{Explains}
+use Rattle.lc_arguments.specs.Words.{IsFlag, IsText, IsNoRequestBy, texts_read}
+use Rattle.lc_arguments.specs.ReadNumbers.{IsNumber, number_if_given}
 use Rattle.lc_arguments.specs.declared.request.ParseExit.{ParseExit}
 use Rattle.lc_arguments.specs.declared.request.ParseExit.TheVariants.{Shown, Refused, Memory}
 
@@ -52,6 +53,26 @@ explain_is_simple = refl
 pub explain_is_free : is_simple_and_free explain_app ≡ true
 unfolding clap_on_literals
 explain_is_free = refl
+
+-- so is sum
+pub sum_is_simple : is_simple sum_app ≡ true
+unfolding clap_on_literals
+sum_is_simple = refl
+
+-- and it asks for nothing more
+pub sum_is_free : is_simple_and_free sum_app ≡ true
+unfolding clap_on_literals
+sum_is_free = refl
+
+-- so is diff
+pub diff_is_simple : is_simple diff_app ≡ true
+unfolding clap_on_literals
+diff_is_simple = refl
+
+-- and it asks for nothing more
+pub diff_is_free : is_simple_and_free diff_app ≡ true
+unfolding clap_on_literals
+diff_is_free = refl
 
 -- nor does lc
 pub lc_is_free : is_simple_and_free lc_app ≡ true
@@ -134,20 +155,6 @@ pub number_if_of : (rows : List Row) (f : Found) (id : Text) (n : Option ℕ) �
     → n ≡ option_map (λ (t : Text). digits_value 10 (without_leading_plus t)) (one_text f id) → n ≡ number_if_given id rows
 number_if_of rows f id n are is =
     is ∙ ap (option_map (λ (t : Text). digits_value 10 (without_leading_plus t))) (one_text-rows f id ∙ ap (one_of id) are)
-
--- words that fail as those of a count
-pub no_count_by : (words : List Text) (why : ParseExit) → IsNoRequestBy (fault_of count_app words) why
-    → AnswersCountWords words (Err why)
-no_count_by words (Shown text) by = by
-no_count_by words (Refused text) by = inl by
-no_count_by words Memory by = tt
-
--- and as those of an explanation
-pub no_explanation_by : (words : List Text) (why : ParseExit) → IsNoRequestBy (fault_of explain_app words) why
-    → AnswersExplainWords words (Err why)
-no_explanation_by words (Shown text) by = by
-no_explanation_by words (Refused text) by = inl by
-no_explanation_by words Memory by = tt
 
 -- texts that were read are those of the words, or none
 pub texts_of : (rows : List Row) (f : Found) (id : Text) (o : Option (Bor (List (Bor Text)))) (none result : Bor (List (Bor Text)))

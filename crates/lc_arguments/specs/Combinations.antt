@@ -1,11 +1,17 @@
 -- Options of a count that go together.
-use Rattle.std.specs.Prelude.{◌&&◌, ◌||◌, Bool, true, false, not, is_some, length, nat_lt, Option, Some, None}
+use Rattle.std.specs.Prelude.{◌&&◌, ◌||◌, ℕ, Bool, true, false, not, is_some, length, nat_lt, List, Option, Some, None, codes}
+use Rattle.std.specs.Option.{option_map_or}
+use Rattle.std.specs.Str.{bytes_eq}
 use Rattle.clap.specs.Walk.{is_empty}
+use Rattle.lc_sheet.specs.declared.table_options.Columns.{Columns}
 use Rattle.lc_sheet.specs.declared.table_options.Format.{Format}
 use Rattle.lc_sheet.specs.declared.table_options.Format.TheVariants.{Table, Csv, Markdown, Html}
 use Rattle.lc_sheet.specs.declared.table_options.Order.{Order}
 use Rattle.lc_sheet.specs.declared.table_options.Order.TheVariants.{Name}
 use Rattle.lc_arguments.specs.declared.count.CountRequest.{CountRequest}
+use Rattle.lc_arguments.specs.declared.diff.DiffRequest.{DiffRequest}
+use Rattle.lc_arguments.specs.declared.walk_request.WalkRequest.{WalkRequest}
+use Rattle.lc_arguments.specs.declared.table.TableRequest.{TableRequest}
 
 -- rows have shares in the format that was named; where none is, shares make it a table
 abbrev pub shows_shares : Option Format → Bool
@@ -29,23 +35,52 @@ abbrev pub is_by_name : Option Order → Bool
 is_by_name (Some Name) = true
 is_by_name _ = false
 
+-- columns were named that are not all of a report's
+abbrev pub narrows : Option Columns → Bool
+narrows None = false
+narrows (Some by) = is_some by.dir || not (by.ext && by.text && by.eol)
+
 -- rows were asked for that are not all of a report's, or lists
-abbrev pub asks_for_rows : CountRequest → Bool
-asks_for_rows c =
-    c.table.files || c.left_out || is_some c.table.top || is_some c.table.by.dir
-    || not (c.table.by.ext && c.table.by.text && c.table.by.eol)
+abbrev pub asks_for_rows : TableRequest → Bool → Bool
+asks_for_rows table left_out = table.files || left_out || is_some table.top || narrows table.by
+
+-- shares are shown in a format that has them; not both files and what is left out are listed in one that has records of one kind; and a
+-- picture has no rows and no lists, and draws a number
+abbrev pub table_fits : TableRequest → Bool → Bool
+table_fits table left_out =
+    (not table.share || shows_shares table.format)
+    && (not (table.files && left_out && has_one_kind table.format)
+    && (not (is_picture table.format && asks_for_rows table left_out) && not (is_picture table.format && is_by_name table.sort)))
 
 -- paths were asked for, each relative to one directory
-abbrev pub asks_for_paths : CountRequest → Bool
-asks_for_paths c = not (is_empty c.only.items) || is_some c.only_from
+abbrev pub asks_for_paths : WalkRequest → Bool
+asks_for_paths w = not (is_empty w.only.items) || is_some w.only_from
 
--- shares are shown in a format that has them; not both files and what is left out are listed in one that has records of one kind; a
--- picture has no rows and no lists, and draws a number; paths end with NUL where they come from a file; and paths are of one directory
+-- paths end with NUL where they come from a file
+abbrev pub walk_fits : WalkRequest → Bool
+walk_fits w = not w.null || is_some w.only_from
+
+-- paths are of one directory
+abbrev pub paths_fit : CountRequest → Bool
+paths_fit c = not (nat_lt 1 (length c.directories.items) && asks_for_paths c.walk)
+
+-- the options of the table go together, and those that choose files; and paths are of one directory
 abbrev pub fit_together : CountRequest → Bool
-fit_together c =
-    (not c.table.share || shows_shares c.table.format)
-    && (not (c.table.files && c.left_out && has_one_kind c.table.format)
-    && (not (is_picture c.table.format && asks_for_rows c)
-    && (not (is_picture c.table.format && is_by_name c.table.sort)
-    && ((not c.null || is_some c.only_from)
-    && not (nat_lt 1 (length c.directories.items) && asks_for_paths c)))))
+fit_together c = table_fits c.table c.left_out && (walk_fits c.walk && paths_fit c)
+
+-- standard input has this name
+abbrev pub is_dash : List ℕ → Bool
+is_dash word = bytes_eq word (codes "-")
+
+-- the paths to count come on standard input
+abbrev pub takes_input : WalkRequest → Bool
+takes_input w = option_map_or (λ file. is_dash file.now) w.only_from false
+
+-- not both sides are standard input, and none is if paths come on it
+abbrev pub reads_input_once : DiffRequest → Bool
+reads_input_once d =
+    not (is_dash d.old.now && is_dash d.new.now) && not (takes_input d.walk && (is_dash d.old.now || is_dash d.new.now))
+
+-- the options of the table go together, which is no picture, and those that choose files; and standard input is read once
+abbrev pub diff_fits : DiffRequest → Bool
+diff_fits d = not (is_picture d.table.format) && (table_fits d.table false && (walk_fits d.walk && reads_input_once d))

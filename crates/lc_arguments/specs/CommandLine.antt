@@ -8,7 +8,7 @@ use Rattle.lc_arguments.specs.Options.{OptionModel, is_of, options}
 use Rattle.lc_arguments.specs.declared.option_row.Kind.{Kind}
 use Rattle.lc_arguments.specs.declared.option_row.Kind.TheVariants.{Flag, Text, Texts, Number, Word, Words}
 use Rattle.lc_arguments.specs.declared.option_row.Subcommand.{Subcommand}
-use Rattle.lc_arguments.specs.declared.option_row.Subcommand.TheVariants.{Count, Explain, Check}
+use Rattle.lc_arguments.specs.declared.option_row.Subcommand.TheVariants.{Count, Explain, Check, Sum, Diff}
 
 -- an argument of this kind with this name: an option without a value, with a text, with a text that may be repeated, or with a number from
 -- 1 on; or without a hyphen, one that is required, or any number of them
@@ -56,6 +56,12 @@ check_rules = rules_in Check options
 abbrev pub explain_rules : List Rule
 explain_rules = rules_in Explain options
 
+abbrev pub sum_rules : List Rule
+sum_rules = rules_in Sum options
+
+abbrev pub diff_rules : List Rule
+diff_rules = rules_in Diff options
+
 -- each in turn
 abbrev pub with_rules : App → List Rule → App
 with_rules a [] = a
@@ -74,12 +80,18 @@ check_app = app_with (codes "check") check_rules
 abbrev pub explain_app : App
 explain_app = app_with (codes "explain") explain_rules
 
+abbrev pub sum_app : App
+sum_app = app_with (codes "sum") sum_rules
+
+abbrev pub diff_app : App
+diff_app = app_with (codes "diff") diff_rules
+
 -- for what belongs to no command
 abbrev pub bare_lc_app : App
 bare_lc_app = on_top (λ (s : Shape). record s { no_binary_name = true; has_version = true; has_long_version = true }) (new_app (codes "lc"))
 
 abbrev pub subcommand_apps : List App
-subcommand_apps = count_app ∷ check_app ∷ explain_app ∷ []
+subcommand_apps = count_app ∷ sum_app ∷ diff_app ∷ check_app ∷ explain_app ∷ []
 
 -- each in turn
 abbrev pub with_subcommands : App → List App → App

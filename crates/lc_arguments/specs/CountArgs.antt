@@ -8,8 +8,8 @@ use Rattle.clap.specs.Walk.{Rule, rule_of}
 use Rattle.clap.specs.declared.builder.arg.Arg.{Arg}
 use Rattle.clap.specs.declared.builder.command.Command.{Command}
 use Rattle.clap.specs.declared.builder.command.Command.TheViews.{out-Command}
-use Rattle.lc_arguments.specs.CommandLine.{bare_app, count_app}
-use Rattle.lc_arguments.specs.Words.{ReadsCountWithinLimits}
+use Rattle.lc_arguments.specs.CommandLine.{bare_app, count_app, diff_app, sum_app}
+use Rattle.lc_arguments.specs.ReadNumbers.{ReadsCountWithinLimits, ReadsCutsWithinLimits}
 
 -- a name that is not empty, nor that of an argument which each command has
 abbrev pub is_own_name : List ℕ → Bool
@@ -43,3 +43,9 @@ IsBare name c = IsCommandOf (bare_app name) c × (args_of c ≡ []) × (groups_o
 
 abbrev pub IsCountCommand : Command → Type 0
 IsCountCommand c = IsCommandOf count_app c × ReadsCountWithinLimits c
+
+abbrev pub IsSumCommand : Command → Type 0
+IsSumCommand c = IsCommandOf sum_app c × ReadsCutsWithinLimits c
+
+abbrev pub IsDiffCommand : Command → Type 0
+IsDiffCommand c = IsCommandOf diff_app c × ReadsCountWithinLimits c

@@ -1,5 +1,5 @@
 -- The directories of a count.
-use Rattle.std.specs.Prelude.{◌&&◌, ℕ, Bool, true, not, cond, List, [], ◌∷◌, codes}
+use Rattle.std.specs.Prelude.{◌&&◌, ℕ, Bool, true, not, cond, List, [], ◌∷◌}
 use Rattle.std.specs.List.{list_all, list_any}
 use Rattle.std.specs.Str.{bytes_eq}
 use Rattle.lc_glob.specs.Bytes.{slash}
@@ -15,7 +15,7 @@ abbrev pub are_distinct : List (List ℕ) → Bool
 are_distinct [] = true
 are_distinct (name ∷ names) = not (list_any (bytes_eq name) names) && are_distinct names
 
--- directories that were named; or, where none was, the one that the program runs in
-abbrev pub or_here : List (List ℕ) → List (List ℕ)
-or_here [] = codes "." ∷ []
-or_here (directory ∷ directories) = directory ∷ directories
+-- the words that were typed; or, where there was none, this one
+abbrev pub or_default : List ℕ → List (List ℕ) → List (List ℕ)
+or_default default [] = default ∷ []
+or_default default (word ∷ words) = word ∷ words

@@ -3,23 +3,27 @@ use Rattle.std.specs.Prelude.{◌≡◌, ◌≢◌, ◌⊎◌, ℕ, true, false,
 use Rattle.std.specs.Global.{Vec}
 use Rattle.std.specs.List.{list_any}
 use Rattle.clap.specs.Faults.{fault_of}
-use Rattle.clap.specs.Simple.{matches_of}
+use Rattle.clap.specs.Simple.{App, matches_of}
 use Rattle.clap.specs.Values.{kind_of}
 use Rattle.clap.specs.declared.error.Error.{Error}
 use Rattle.clap.specs.declared.error.kind.ErrorKind.TheVariants.{OutOfMemory}
 use Rattle.std.specs.Borrow.{Bor}
-use Rattle.lc_arguments.specs.CommandLine.{count_app, check_app, explain_app, lc_app}
-use Rattle.lc_arguments.specs.Words.{IsText, IsNoRequestBy, IsCheckOf, IsCountOf, IsExplainOf, MayRefuse, MayShow}
-use Rattle.lc_arguments.specs.Words.{AskForNoCount, AskForNoExplanation, AsksNoCount, AreFiltersOf, AreNumbersIn, IsFitCountOf}
+use Rattle.lc_arguments.specs.CommandLine.{count_app, check_app, diff_app, explain_app, lc_app, sum_app}
+use Rattle.lc_arguments.specs.Words.{IsText, IsNoRequestBy, IsCheckOf, IsCountOf, IsExplainOf, IsSumOf, MayRefuse, MayShow}
+use Rattle.lc_arguments.specs.Words.{AsksNoCount, AsksNoSum, AsksNoTable, AreFiltersOf, IsFitCountOf, IsFitSumOf}
+use Rattle.lc_arguments.specs.ReadNumbers.{AreCutsIn, AreNumbersIn}
 use Rattle.lc_sheet.specs.Conditions.{ConditionModel}
-use Rattle.lc_arguments.specs.Words.{AreConditionsOf, IsTableAt, Misvalue, is_bad_part, part_of, texts_read, values_read}
-use Rattle.lc_arguments.specs.Directories.{are_distinct, or_here, unslashed}
+use Rattle.lc_arguments.specs.Words.{AreConditionsOf, IsWholeTableIn, Misvalue, directories_read, is_bad_part, part_of, reports_read}
+use Rattle.lc_arguments.specs.Words.{texts_read, values_read}
+use Rattle.lc_arguments.specs.Directories.{are_distinct, unslashed}
 use Rattle.lc_arguments.specs.Repeated.{are_allowed}
+use Rattle.lc_arguments.specs.Reports.{name_reports, named_of, report_model}
 use Rattle.clap.specs.Walk.{Row}
 use Rattle.lc_sheet.specs.declared.table_options.Columns.{Columns}
 use Rattle.lc_sheet.specs.declared.table_options.Format.{Format}
 use Rattle.lc_sheet.specs.declared.table_options.Order.{Order}
 use Rattle.lc_arguments.specs.TableWords.{AreColumnsBy, IsTableBy, format_word, order_word}
+use Rattle.lc_arguments.specs.declared.numbers.Cuts.{Cuts}
 use Rattle.lc_arguments.specs.declared.numbers.Numbers.{Numbers}
 use Rattle.lc_arguments.specs.declared.repeated.Repeated.{Repeated}
 use Rattle.lc_arguments.specs.declared.table.TableRequest.{TableRequest}
@@ -31,6 +35,11 @@ use Rattle.lc_arguments.specs.declared.check.CheckRequest.{CheckRequest}
 use Rattle.lc_arguments.specs.declared.count.CountRequest.{CountRequest}
 use Rattle.lc_arguments.specs.declared.filter_request.FilterRequest.{FilterRequest}
 use Rattle.lc_arguments.specs.declared.explain.ExplainRequest.{ExplainRequest}
+use Rattle.lc_arguments.specs.declared.reports.NamedReport.{NamedReport}
+use Rattle.lc_arguments.specs.declared.sum.SumRequest.{SumRequest}
+use Rattle.lc_arguments.specs.declared.diff.DiffRequest.{DiffRequest}
+use Rattle.lc_arguments.specs.declared.walk_request.WalkRequest.{WalkRequest}
+use Rattle.lc_arguments.specs.Words.{AsksNoDiff, AsksNoWalk, IsDiffOf, IsFitDiffOf, IsWalkOf}
 
 -- a text that was asked for is shown; any other is why words are refused
 abbrev pub Explains : Error → ParseExit → Type 0
@@ -38,47 +47,59 @@ Explains e (Shown _) = IsText (kind_of e)
 Explains e (Refused _) = (kind_of e ≢ OutOfMemory) × (IsText (kind_of e) → ⊥)
 Explains e Memory = Unit {0}
 
+-- words are refused for this reason, or there was no memory to say so
+abbrev pub IsRefusedFor : Type 0 → ParseExit → Type 0
+IsRefusedFor No (Shown _) = ⊥
+IsRefusedFor No (Refused _) = No
+IsRefusedFor No Memory = Unit {0}
+
 -- words are refused, or there was no memory to say why
 abbrev pub IsRefusal : ParseExit → Type 0
-IsRefusal (Shown _) = ⊥
-IsRefusal (Refused _) = Unit {0}
-IsRefusal Memory = Unit {0}
+IsRefusal = IsRefusedFor (Unit {0})
 
--- the words after `count`
+-- what holds of an answer, or why there is none
+abbrev pub AnswersOr : {A : Type 0} → (A → Type 0) → Type 0 → Result A ParseExit → Type 0
+AnswersOr {A} Is No (Ok a) = Is a
+AnswersOr {A} Is No (Err why) = IsRefusedFor No why
+
+-- the words of a command are shown a text or refused by clap, or refused by what was read of them
+abbrev pub IsUnread : App → (List Row → Type 0) → List (List ℕ) → ParseExit → Type 0
+IsUnread app No words (Shown _) = MayShow (fault_of app words)
+IsUnread app No words (Refused _) = MayRefuse (fault_of app words) ⊎ ((fault_of app words ≡ []) × No (matches_of app words))
+IsUnread app No words Memory = Unit {0}
+
+-- what holds of what was read of the words of a command, or why they were not read
+abbrev pub AnswersCommand : {A : Type 0} → App → (List Row → A → Type 0) → (List Row → Type 0) → List (List ℕ)
+    → Result A ParseExit → Type 0
+AnswersCommand {A} app Is No words (Ok a) = (fault_of app words ≡ []) × Is (matches_of app words) a
+AnswersCommand {A} app Is No words (Err why) = IsUnread app No words why
+
+-- the words after `count`, `explain`, `sum` and `diff`
 abbrev pub AnswersCountWords : List (List ℕ) → Result CountRequest ParseExit → Type 0
-AnswersCountWords words (Ok c) = (fault_of count_app words ≡ []) × IsFitCountOf (matches_of count_app words) c
-AnswersCountWords words (Err (Shown _)) = MayShow (fault_of count_app words)
-AnswersCountWords words (Err (Refused _)) = MayRefuse (fault_of count_app words) ⊎ AskForNoCount words
-AnswersCountWords words (Err Memory) = Unit {0}
+AnswersCountWords = AnswersCommand count_app IsFitCountOf AsksNoCount
 
--- the words after `explain`
 abbrev pub AnswersExplainWords : List (List ℕ) → Result ExplainRequest ParseExit → Type 0
-AnswersExplainWords words (Ok c) = (fault_of explain_app words ≡ []) × IsExplainOf (matches_of explain_app words) c
-AnswersExplainWords words (Err (Shown _)) = MayShow (fault_of explain_app words)
-AnswersExplainWords words (Err (Refused _)) = MayRefuse (fault_of explain_app words) ⊎ AskForNoExplanation words
-AnswersExplainWords words (Err Memory) = Unit {0}
+AnswersExplainWords = AnswersCommand explain_app IsExplainOf Misvalue
+
+abbrev pub AnswersSumWords : List (List ℕ) → Result SumRequest ParseExit → Type 0
+AnswersSumWords = AnswersCommand sum_app IsFitSumOf AsksNoSum
+
+abbrev pub AnswersDiffWords : List (List ℕ) → Result DiffRequest ParseExit → Type 0
+AnswersDiffWords = AnswersCommand diff_app IsFitDiffOf AsksNoDiff
 
 -- what leaves entries out by what was read; or an option has values that it may not have
 abbrev pub AnswersFilters : List Row → Result FilterRequest ParseExit → Type 0
-AnswersFilters rows (Ok e) = AreFiltersOf rows e
-AnswersFilters rows (Err (Shown _)) = ⊥
-AnswersFilters rows (Err (Refused _)) = Misvalue rows
-AnswersFilters rows (Err Memory) = Unit {0}
+AnswersFilters rows = AnswersOr (AreFiltersOf rows) (Misvalue rows)
 
 -- the conditions that were read; or an option has values that it may not have
 abbrev pub AnswersConditions : List Row → Result (Vec ConditionModel) ParseExit → Type 0
-AnswersConditions rows (Ok conditions) = AreConditionsOf rows conditions.items
-AnswersConditions rows (Err (Shown _)) = ⊥
-AnswersConditions rows (Err (Refused _)) = Misvalue rows
-AnswersConditions rows (Err Memory) = Unit {0}
+AnswersConditions rows = AnswersOr (λ (conditions : Vec ConditionModel). AreConditionsOf rows conditions.items) (Misvalue rows)
 
 -- the values of an option, in their order, which it may have
 abbrev pub AnswersRepeated : Repeated → List (List ℕ) → Result (Vec (Bor (List ℕ))) ParseExit → Type 0
-AnswersRepeated option texts (Ok values) =
-    (map (λ value. value.now) values.items ≡ texts) × (are_allowed option texts ≡ true)
-AnswersRepeated option texts (Err (Shown _)) = ⊥
-AnswersRepeated option texts (Err (Refused _)) = are_allowed option texts ≡ false
-AnswersRepeated option texts (Err Memory) = Unit {0}
+AnswersRepeated option texts =
+    AnswersOr (λ (values : Vec (Bor (List ℕ))). (map (λ value. value.now) values.items ≡ texts) × (are_allowed option texts ≡ true))
+    (are_allowed option texts ≡ false)
 
 -- those that were read
 abbrev pub AnswersRepeatedIn : List Row → Repeated → Result (Vec (Bor (List ℕ))) ParseExit → Type 0
@@ -86,34 +107,40 @@ AnswersRepeatedIn rows option result = AnswersRepeated option (values_read rows 
 
 -- the paths of these words, in their order; or one is neither that of an entry nor the directory
 abbrev pub AnswersPaths : List (List ℕ) → Result (Vec (Bor (List ℕ))) ParseExit → Type 0
-AnswersPaths words (Ok paths) =
-    (map (λ path. path.now) paths.items ≡ map part_of words) × (list_any is_bad_part (map part_of words) ≡ false)
-AnswersPaths words (Err (Shown _)) = ⊥
-AnswersPaths words (Err (Refused _)) = list_any is_bad_part (map part_of words) ≡ true
-AnswersPaths words (Err Memory) = Unit {0}
+AnswersPaths words =
+    AnswersOr (λ (paths : Vec (Bor (List ℕ))).
+    (map (λ path. path.now) paths.items ≡ map part_of words) × (list_any is_bad_part (map part_of words) ≡ false))
+    (list_any is_bad_part (map part_of words) ≡ true)
 
 -- those that were read
 abbrev pub AnswersPathsIn : List Row → Result (Vec (Bor (List ℕ))) ParseExit → Type 0
 AnswersPathsIn rows result = AnswersPaths (texts_read (codes "only") rows) result
 
--- the directories of these words, in their order, or this one; or one is named twice
+-- the directories of these words, in their order; or one is named twice
 abbrev pub AnswersDirectories : List (List ℕ) → Result (Vec (Bor (List ℕ))) ParseExit → Type 0
-AnswersDirectories words (Ok directories) =
-    (map (λ directory. directory.now) directories.items ≡ or_here words) × (are_distinct (map unslashed (or_here words)) ≡ true)
-AnswersDirectories words (Err (Shown _)) = ⊥
-AnswersDirectories words (Err (Refused _)) = are_distinct (map unslashed (or_here words)) ≡ false
-AnswersDirectories words (Err Memory) = Unit {0}
+AnswersDirectories words =
+    AnswersOr (λ (directories : Vec (Bor (List ℕ))).
+    (map (λ directory. directory.now) directories.items ≡ words) × (are_distinct (map unslashed words) ≡ true))
+    (are_distinct (map unslashed words) ≡ false)
 
 -- those that were read
 abbrev pub AnswersDirectoriesIn : List Row → Result (Vec (Bor (List ℕ))) ParseExit → Type 0
-AnswersDirectoriesIn rows result = AnswersDirectories (texts_read (codes "DIR") rows) result
+AnswersDirectoriesIn rows result = AnswersDirectories (directories_read rows) result
+
+-- the reports of these words, in their order; or one names none, or two name standard input
+abbrev pub AnswersReports : List (List ℕ) → Result (Vec NamedReport) ParseExit → Type 0
+AnswersReports words =
+    AnswersOr (λ (reports : Vec NamedReport).
+    (map report_model reports.items ≡ map named_of words) × (name_reports words ≡ true))
+    (name_reports words ≡ false)
+
+-- those that were read
+abbrev pub AnswersReportsIn : List Row → Result (Vec NamedReport) ParseExit → Type 0
+AnswersReportsIn rows result = AnswersReports (reports_read rows) result
 
 -- what is asked for; or nothing is, or there was no memory to say so
 abbrev pub AnswersBy : {A : Type 0} → (A → Type 0) → Result A ParseExit → Type 0
-AnswersBy {A} Is (Ok a) = Is a
-AnswersBy {A} Is (Err (Shown _)) = ⊥
-AnswersBy {A} Is (Err (Refused _)) = (a : A) → ¬ Is a
-AnswersBy {A} Is (Err Memory) = Unit {0}
+AnswersBy {A} Is = AnswersOr Is ((a : A) → ¬ Is a)
 
 -- the format of this name, if one is given
 abbrev pub AnswersFormat : Option (List ℕ) → Result (Option Format) ParseExit → Type 0
@@ -124,23 +151,36 @@ abbrev pub AnswersSort : Option (List ℕ) → Result (Option Order) ParseExit �
 AnswersSort name = AnswersBy (λ (sort : Option Order). option_map order_word sort ≡ name)
 
 -- the columns of these names
-abbrev pub AnswersColumns : Option (List ℕ) → Option ℕ → Result Columns ParseExit → Type 0
-AnswersColumns by depth = AnswersBy (AreColumnsBy by depth)
+abbrev pub AnswersColumns : Option (List ℕ) → Option ℕ → Result (Option Columns) ParseExit → Type 0
+AnswersColumns by depth = AnswersBy (λ (columns : Option Columns). AreColumnsBy by depth columns)
 
 -- the table of these texts
 abbrev pub AnswersTable : Option (List ℕ) → Option (List ℕ) → Option ℕ → Option (List ℕ) → Result TableRequest ParseExit → Type 0
 AnswersTable format by depth sort = AnswersBy (IsTableBy format by depth sort)
 
--- the table that was read
-abbrev pub AnswersTableIn : List Row → Option ℕ → Result TableRequest ParseExit → Type 0
-AnswersTableIn rows depth = AnswersBy (IsTableAt rows depth)
+-- the table that was read with these numbers, or none was asked for
+abbrev pub AnswersTableIn : List Row → Cuts → Result TableRequest ParseExit → Type 0
+AnswersTableIn rows cuts =
+    AnswersOr (λ (table : TableRequest). AreCutsIn rows cuts → IsWholeTableIn rows table) (AreCutsIn rows cuts → AsksNoTable rows)
+
+-- how directories are counted, as it was read with these numbers
+abbrev pub AnswersWalkIn : List Row → Numbers → Result WalkRequest ParseExit → Type 0
+AnswersWalkIn rows numbers = AnswersOr (λ (w : WalkRequest). AreNumbersIn rows numbers → IsWalkOf rows w) (AsksNoWalk rows)
 
 -- the count that was read with these numbers, whose options may not go together
 abbrev pub AnswersCountIn : List Row → Numbers → Result CountRequest ParseExit → Type 0
-AnswersCountIn rows numbers (Ok c) = AreNumbersIn rows numbers → IsCountOf rows c
-AnswersCountIn rows numbers (Err (Shown _)) = ⊥
-AnswersCountIn rows numbers (Err (Refused _)) = AreNumbersIn rows numbers → AsksNoCount rows
-AnswersCountIn rows numbers (Err Memory) = Unit {0}
+AnswersCountIn rows numbers =
+    AnswersOr (λ (c : CountRequest). AreNumbersIn rows numbers → IsCountOf rows c) (AreNumbersIn rows numbers → AsksNoCount rows)
+
+-- and the difference
+abbrev pub AnswersDiffIn : List Row → Numbers → Result DiffRequest ParseExit → Type 0
+AnswersDiffIn rows numbers =
+    AnswersOr (λ (d : DiffRequest). AreNumbersIn rows numbers → IsDiffOf rows d) (AreNumbersIn rows numbers → AsksNoDiff rows)
+
+-- and the sum
+abbrev pub AnswersSumIn : List Row → Cuts → Result SumRequest ParseExit → Type 0
+AnswersSumIn rows cuts =
+    AnswersOr (λ (s : SumRequest). AreCutsIn rows cuts → IsSumOf rows s) (AreCutsIn rows cuts → AsksNoSum rows)
 
 -- the words after `check`
 abbrev pub AnswersCheckWords : List (List ℕ) → Result CheckRequest ParseExit → Type 0

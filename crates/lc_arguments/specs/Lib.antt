@@ -5,8 +5,10 @@ pub mod CountArgs
 pub mod Directories
 pub mod Explained
 pub mod Options
+pub mod ReadNumbers
 pub mod Refusals
 pub mod Repeated
+pub mod Reports
 pub mod TableWords
 pub mod Words
 pub mod Naming

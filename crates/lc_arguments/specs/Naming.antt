@@ -8,7 +8,7 @@ use Rattle.lc_arguments.specs.Words.{count_words}
 use Rattle.lc_arguments.specs.declared.option_row.Kind.{Kind}
 use Rattle.lc_arguments.specs.declared.option_row.Kind.TheVariants.{Flag, Text, Texts, Number, Word, Words}
 use Rattle.lc_arguments.specs.declared.option_row.Subcommand.{Subcommand}
-use Rattle.lc_arguments.specs.declared.option_row.Subcommand.TheVariants.{Count, Explain, Check}
+use Rattle.lc_arguments.specs.declared.option_row.Subcommand.TheVariants.{Count, Explain, Check, Diff, Sum}
 use Rattle.lc_arguments.specs.declared.request.ParseExit.{ParseExit}
 use Rattle.lc_arguments.specs.declared.request.ParseExit.TheVariants.{Shown, Refused, Memory}
 
@@ -43,7 +43,10 @@ NamesAll command (o ∷ os) text = (is_of command o.of ≡ true → Names text o
 
 -- the command that words name
 abbrev pub named_by : List ℕ → Option Subcommand
-named_by word = cond (bytes_eq word (codes "check")) (Some Check) (cond (bytes_eq word (codes "explain")) (Some Explain) None)
+named_by word =
+    cond (bytes_eq word (codes "check")) (Some Check)
+    (cond (bytes_eq word (codes "explain")) (Some Explain) (cond (bytes_eq word (codes "sum")) (Some Sum)
+    (cond (bytes_eq word (codes "diff")) (Some Diff) None)))
 
 abbrev pub named_command : List (List ℕ) → Option Subcommand
 named_command [] = None

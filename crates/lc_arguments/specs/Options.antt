@@ -5,7 +5,7 @@ use Rattle.lc_arguments.specs.declared.option_row.Kind.{Kind}
 use Rattle.lc_arguments.specs.declared.option_row.Kind.TheVariants.{Flag, Text, Texts, Number, Word, Words}
 use Rattle.lc_arguments.specs.declared.option_row.OptionRow.{OptionRow}
 use Rattle.lc_arguments.specs.declared.option_row.Subcommand.{Subcommand}
-use Rattle.lc_arguments.specs.declared.option_row.Subcommand.TheVariants.{Count, Explain, Check}
+use Rattle.lc_arguments.specs.declared.option_row.Subcommand.TheVariants.{Count, Explain, Check, Diff, Sum}
 
 -- an argument: its name, its letter, its kind, its default, and the commands that have it
 pub record OptionModel : Type 0 where
@@ -30,23 +30,47 @@ abbrev pub is_of : Subcommand → Commands → Bool
 is_of Count commands = commands.count
 is_of Explain commands = commands.explain
 is_of Check commands = commands.check
+is_of Sum commands = commands.sum
+is_of Diff commands = commands.diff
+
+-- no command
+abbrev pub none : Commands
+none = record { count = false; explain = false; check = false; sum = false; diff = false }
 
 abbrev pub count : Commands
-count = record { count = true; explain = false; check = false }
+count = record none { count = true }
 
 abbrev pub explain : Commands
-explain = record { count = false; explain = true; check = false }
+explain = record none { explain = true }
 
 abbrev pub check : Commands
-check = record { count = false; explain = false; check = true }
+check = record none { check = true }
+
+abbrev pub sum : Commands
+sum = record none { sum = true }
+
+abbrev pub diff : Commands
+diff = record none { diff = true }
 
 -- the commands that skip entries
 abbrev pub filters : Commands
-filters = record { count = true; explain = true; check = false }
+filters = record none { count = true; explain = true; diff = true }
+
+-- the commands that count directories
+abbrev pub walks : Commands
+walks = record none { count = true; diff = true }
 
 -- the commands that read paths from standard input
 abbrev pub input : Commands
-input = record { count = false; explain = true; check = true }
+input = record none { explain = true; check = true }
+
+-- the commands that print reports
+abbrev pub printed : Commands
+printed = record none { count = true; sum = true }
+
+-- the commands that print tables of files
+abbrev pub tables : Commands
+tables = record none { count = true; sum = true; diff = true }
 
 -- the most rows and files that are asked for
 abbrev pub max_top : ℕ
@@ -75,24 +99,33 @@ options =
     ∷ option (codes "no-ignore") None Flag None filters
     ∷ option (codes "archive") None Flag None filters
     ∷ option (codes "without") None Texts None filters
-    ∷ option (codes "only") None Texts None count
-    ∷ option (codes "only-from") None Text None count
-    ∷ option (codes "null") (Some 48) Flag None count
-    ∷ option (codes "one-file-system") (Some 120) Flag None count
-    ∷ option (codes "files") None Flag None count
-    ∷ option (codes "left-out") None Flag None count
-    ∷ option (codes "where") None Texts None count
-    ∷ option (codes "no-binary") None Flag None count
-    ∷ option (codes "format") None Text None count
-    ∷ option (codes "by") None Text None count
-    ∷ option (codes "depth") None (Number max_depth) None count
-    ∷ option (codes "sort") None Text None count
-    ∷ option (codes "top") None (Number max_top) None count
-    ∷ option (codes "share") None Flag None count
-    ∷ option (codes "fail-if-any") None Flag None count
-    ∷ option (codes "threads") (Some 106) (Number max_threads) (Some (codes "4")) count
-    ∷ option (codes "max-dirs") None (Number max_dirs) (Some (codes "65536")) count
+    ∷ option (codes "only") None Texts None walks
+    ∷ option (codes "only-from") None Text None walks
+    ∷ option (codes "null") (Some 48) Flag None walks
+    ∷ option (codes "one-file-system") (Some 120) Flag None walks
+    ∷ option (codes "files") None Flag None printed
+    ∷ option (codes "left-out") None Flag None printed
+    ∷ option (codes "where") None Texts None tables
+    ∷ option (codes "no-binary") None Flag None tables
+    ∷ option (codes "format") None Text None printed
+    ∷ option (codes "by") None Text None printed
+    ∷ option (codes "depth") None (Number max_depth) None tables
+    ∷ option (codes "sort") None Text None printed
+    ∷ option (codes "top") None (Number max_top) None tables
+    ∷ option (codes "share") None Flag None printed
+    ∷ option (codes "fail-if-any") None Flag None printed
+    ∷ option (codes "threads") (Some 106) (Number max_threads) (Some (codes "4")) walks
+    ∷ option (codes "max-dirs") None (Number max_dirs) (Some (codes "65536")) walks
     ∷ option (codes "DIR") None Words (Some (codes ".")) count
+    ∷ option (codes "REPORT") None Words (Some (codes "-")) sum
+    ∷ option (codes "all") None Flag None diff
+    ∷ option (codes "files") None Flag None diff
+    ∷ option (codes "format") None Text None diff
+    ∷ option (codes "by") None Text None diff
+    ∷ option (codes "sort") None Text None diff
+    ∷ option (codes "fail-if-any") None Flag None diff
+    ∷ option (codes "OLD") None Word None diff
+    ∷ option (codes "NEW") None Word None diff
     ∷ option (codes "explain") None Flag None check
     ∷ option (codes "null") (Some 48) Flag None input
     ∷ option (codes "DIR") None Word None explain

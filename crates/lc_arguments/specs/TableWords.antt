@@ -59,10 +59,17 @@ pub record AreNamesOf (names : List (List ℕ)) (depth : ℕ) (c : Columns) : Ty
 abbrev pub IsColumnsText : List ℕ → ℕ → Columns → Type 0
 IsColumnsText text depth c = AreNamesOf (pieces_of comma text) depth c
 
--- the columns that two options ask for, as far as they are given; a depth is given only where directories are asked for
-pub record AreColumnsBy (by : Option (List ℕ)) (depth : Option ℕ) (c : Columns) : Type 0 where
-  pub named : IsColumnsText (unwrap_or by (codes "ext,text,eol")) (unwrap_or depth 1) c
+-- the columns of this text; a depth is given only where directories are among them
+pub record AreColumnsNamed (text : List ℕ) (depth : Option ℕ) (c : Columns) : Type 0 where
+  pub named : IsColumnsText text (unwrap_or depth 1) c
   pub cuts : IfSome depth (λ _. is_some c.dir ≡ true)
+
+-- the columns that two options ask for, if they are named
+abbrev pub AreColumnsBy : Option (List ℕ) → Option ℕ → Option Columns → Type 0
+AreColumnsBy None depth None = depth ≡ None
+AreColumnsBy (Some text) depth (Some c) = AreColumnsNamed text depth c
+AreColumnsBy None depth (Some c) = ⊥
+AreColumnsBy (Some text) depth None = ⊥
 
 -- the table that the texts of three options and a number ask for, as far as they are given
 pub record IsTableBy (format by : Option (List ℕ)) (depth : Option ℕ) (sort : Option (List ℕ)) (s : TableRequest) : Type 0 where
@@ -93,11 +100,11 @@ number_of (Largest number) = Some number
 abbrev pub order_in : Format → TableRequest → Order
 order_in format s = unwrap_or s.sort (default_order format s.top)
 
--- the options of a table, which has this format if nothing asks for another
-abbrev pub options_in : Format → TableRequest → TableOptions
-options_in other s = record {
+-- the options of a table, which has this format if nothing asks for another, and these columns if none are named
+abbrev pub options_in : Format → Columns → TableRequest → TableOptions
+options_in other columns s = record {
   format = format_in other s;
-  by = s.by;
+  by = unwrap_or s.by columns;
   sort = number_of (order_in (format_in other s) s);
   top = s.top;
   files = s.files;

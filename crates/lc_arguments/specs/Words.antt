@@ -1,39 +1,35 @@
 -- What the words of a command line ask for.
-use Rattle.std.specs.Prelude.{◌≡◌, ◌≢◌, ◌⊎◌, ◌≤◌, ◌==◌, ◌&&◌, ◌||◌, not, ℕ, Bool, true, false, cond, List, [], ◌∷◌, pos, Some, None, Option}
+use Rattle.std.specs.Prelude.{◌≡◌, ◌≢◌, ◌⊎◌, ◌≤◌, ◌==◌, ◌&&◌, ◌||◌, not, ℕ, Bool, true, false, cond, List, [], ◌∷◌, Some, None, Option}
 use Rattle.std.specs.Prelude.{Result, Ok, Err, unwrap_or, option_map, map, codes, IfSome}
 use Rattle.std.specs.Borrow.{Bor}
 use Rattle.std.specs.List.{list_any}
 use Rattle.std.specs.Str.{bytes_eq}
-use Rattle.std.specs.Str.Parse.{digits_value, without_leading_plus}
-use Rattle.clap.specs.Built.{IsParsedFrom}
 use Rattle.clap.specs.Faults.{fault_of}
 use Rattle.clap.specs.Kinds.{IsAmong, Kinds}
-use Rattle.clap.specs.Lexer.{without_minus}
-use Rattle.clap.specs.Matches.{found_of}
-use Rattle.clap.specs.Matches as matches
 use Rattle.clap.specs.Simple.{matches_of}
-use Rattle.clap.specs.Values.{IsSignedIn}
 use Rattle.clap.specs.Walk.{Row, all_of, first_of, one_of}
-use Rattle.clap.specs.declared.builder.command.Command.{Command}
 use Rattle.clap.specs.declared.error.kind.ErrorKind.{ErrorKind}
 use Rattle.clap.specs.declared.error.kind.ErrorKind.TheVariants.{DisplayHelp, DisplayVersion}
-use Rattle.clap.specs.declared.parser.matches.ArgMatches.{ArgMatches}
-use Rattle.clap.specs.declared.parser.matches.Found.{Found}
 use Rattle.lc_glob.specs.Bytes.{hyphen, slash}
 use Rattle.lc_glob.specs.Pieces.{is_byte}
-use Rattle.lc_arguments.specs.CommandLine.{count_app, check_app, explain_app, lc_app}
-use Rattle.lc_arguments.specs.Options.{max_depth, max_dirs, max_threads, max_top}
-use Rattle.lc_arguments.specs.Combinations.{fit_together}
+use Rattle.lc_arguments.specs.CommandLine.{count_app, check_app, diff_app, explain_app, lc_app, sum_app}
+use Rattle.lc_arguments.specs.Options.{max_depth, max_dirs, max_threads}
+use Rattle.lc_arguments.specs.Combinations.{diff_fits, fit_together, table_fits}
 use Rattle.lc_arguments.specs.ConditionWords.{all_conditions}
-use Rattle.lc_arguments.specs.Directories.{are_distinct, or_here, unslashed}
+use Rattle.lc_arguments.specs.Directories.{are_distinct, or_default, unslashed}
 use Rattle.lc_arguments.specs.Repeated.{are_allowed, id_of}
 use Rattle.lc_arguments.specs.declared.repeated.Repeated.{Repeated}
 use Rattle.lc_arguments.specs.declared.repeated.Repeated.TheVariants.{Attributes, Excluded, Included, Conditions}
-use Rattle.lc_arguments.specs.declared.numbers.Numbers.{Numbers}
+use Rattle.lc_arguments.specs.Reports.{name_reports, named_of, report_model}
+use Rattle.lc_arguments.specs.declared.reports.NamedReport.{NamedReport}
+use Rattle.lc_arguments.specs.declared.diff.DiffRequest.{DiffRequest}
+use Rattle.lc_arguments.specs.declared.sum.SumRequest.{SumRequest}
+use Rattle.lc_arguments.specs.declared.walk_request.WalkRequest.{WalkRequest}
+use Rattle.lc_arguments.specs.ReadNumbers.{IsNumber, number_if_given}
 use Rattle.lc_arguments.specs.declared.request.ParseExit.{ParseExit}
 use Rattle.lc_arguments.specs.declared.request.ParseExit.TheVariants.{Shown, Refused, Memory}
 use Rattle.lc_arguments.specs.declared.request.Request.{Request}
-use Rattle.lc_arguments.specs.declared.request.Request.TheVariants.{CheckJoined, Check, Count, Explain}
+use Rattle.lc_arguments.specs.declared.request.Request.TheVariants.{CheckJoined, Check, Count, Diff, Explain, Sum}
 use Rattle.lc_sheet.specs.Conditions.{ConditionModel}
 use Rattle.lc_text.specs.PathLines.{is_bad_path, is_top, path_of, undotted}
 use Rattle.lc_arguments.specs.declared.table.TableRequest.{TableRequest}
@@ -43,66 +39,39 @@ use Rattle.lc_arguments.specs.declared.count.CountRequest.{CountRequest}
 use Rattle.lc_arguments.specs.declared.filter_request.FilterRequest.{FilterRequest}
 use Rattle.lc_arguments.specs.declared.explain.ExplainRequest.{ExplainRequest}
 
--- what was read of this argument is a number from the one to the other
-abbrev pub IsReadWithin : Found → List ℕ → ℕ → ℕ → Type 0
-IsReadWithin found id low high =
-    (text : List ℕ) → matches.one_text found id ≡ Some text
-    → (digits : List ℕ) × (text ≡ without_minus digits) × IsSignedIn (pos low) (pos high) digits
+-- a table with directories of some segments in its rows, not over the limit
+abbrev pub IsTableWithinLimits : TableRequest → Type 0
+IsTableWithinLimits t = IfSome t.by (λ by. IfSome by.dir (λ segments. (1 ≤ segments) × (segments ≤ max_depth)))
 
--- what a parse by this command reads of this argument is such a number
-abbrev pub ReadsWithin : Command → List ℕ → ℕ → ℕ → Type 0
-ReadsWithin command id low high = (m : ArgMatches) → IsParsedFrom command m → IsReadWithin (found_of m) id low high
+-- directories are counted by some threads, and some of them, not over the limits
+pub record IsWalkWithinLimits (w : WalkRequest) : Type 0 where
+  pub some_threads : 1 ≤ w.threads
+  pub threads : w.threads ≤ max_threads
+  pub some_dirs : 1 ≤ w.max_dirs
+  pub max_dirs : w.max_dirs ≤ max_dirs
 
--- what was read of the numbers of a count is within their limits
-pub record AreReadWithin (found : Found) : Type 0 where
-  pub threads : IsReadWithin found (codes "threads") 1 max_threads
-  pub max_dirs : IsReadWithin found (codes "max-dirs") 1 max_dirs
-  pub depth : IsReadWithin found (codes "depth") 1 max_depth
-  pub top : IsReadWithin found (codes "top") 1 max_top
-
--- what a parse by the command of a count reads of its numbers
-abbrev pub ReadsCountWithinLimits : Command → Type 0
-ReadsCountWithinLimits command = (m : ArgMatches) → IsParsedFrom command m → AreReadWithin (found_of m)
-
--- a count by some threads, of some directories, with directories of some segments in its rows, none over its limit
+-- a count within all limits
 pub record IsCountWithinLimits (c : CountRequest) : Type 0 where
-  pub some_threads : 1 ≤ c.threads
-  pub threads : c.threads ≤ max_threads
-  pub some_dirs : 1 ≤ c.max_dirs
-  pub max_dirs : c.max_dirs ≤ max_dirs
-  pub depth : IfSome c.table.by.dir (λ segments. (1 ≤ segments) × (segments ≤ max_depth))
+  pub walk : IsWalkWithinLimits c.walk
+  pub table : IsTableWithinLimits c.table
+
+-- and a difference
+pub record IsDiffWithinLimits (d : DiffRequest) : Type 0 where
+  pub walk : IsWalkWithinLimits d.walk
+  pub table : IsTableWithinLimits d.table
 
 abbrev pub IsWithinLimits : Request → Type 0
 IsWithinLimits CheckJoined = Unit {0}
 IsWithinLimits (Check _) = Unit {0}
 IsWithinLimits (Count c) = IsCountWithinLimits c
 IsWithinLimits (Explain _) = Unit {0}
+IsWithinLimits (Sum s) = IsTableWithinLimits s.table
+IsWithinLimits (Diff d) = IsDiffWithinLimits d
 
 -- a flag, as it was read
 abbrev pub IsFlag : List ℕ → List Row → Bool → Type 0
 IsFlag id rows set =
     (one_of id rows ≡ Some (codes "true") → set ≡ true) × (one_of id rows ≡ Some (codes "false") → set ≡ false)
-
--- the number that was read in digits, or that of the default where nothing was read
-abbrev pub IsNumber : List ℕ → List ℕ → List Row → ℕ → Type 0
-IsNumber id default rows n = n ≡ digits_value 10 (without_leading_plus (unwrap_or (one_of id rows) default))
-
--- the number that was read in digits, where one was
-abbrev pub number_if_given : List ℕ → List Row → Option ℕ
-number_if_given id rows = option_map (λ text. digits_value 10 (without_leading_plus text)) (one_of id rows)
-
--- the numbers of a count, as they were read, within their limits
-pub record AreNumbersIn (rows : List Row) (n : Numbers) : Type 0 where
-  pub some_threads : 1 ≤ n.threads
-  pub within_threads : n.threads ≤ max_threads
-  pub threads : IsNumber (codes "threads") (codes "4") rows n.threads
-  pub some_dirs : 1 ≤ n.max_dirs
-  pub within_dirs : n.max_dirs ≤ max_dirs
-  pub max_dirs : IsNumber (codes "max-dirs") (codes "65536") rows n.max_dirs
-  pub some_depth : 1 ≤ unwrap_or n.depth 1
-  pub within_depth : unwrap_or n.depth 1 ≤ max_depth
-  pub depth : n.depth ≡ number_if_given (codes "depth") rows
-  pub top : n.top ≡ number_if_given (codes "top") rows
 
 -- all texts that were read of an argument, in their order
 abbrev pub texts_read : List ℕ → List Row → List (List ℕ)
@@ -143,7 +112,7 @@ ArePathsOf rows paths = (map (λ path. path.now) paths ≡ paths_read rows) × (
 
 -- the directories that were asked for; this one where none was
 abbrev pub directories_read : List Row → List (List ℕ)
-directories_read rows = or_here (texts_read (codes "DIR") rows)
+directories_read rows = or_default (codes ".") (texts_read (codes "DIR") rows)
 
 -- one of them was asked for twice, apart from slashes at its end
 abbrev pub NamesOneTwice : List Row → Type 0
@@ -171,30 +140,51 @@ pub record AreConditionsOf (rows : List Row) (cs : List ConditionModel) : Type 0
   pub flag : IsFlag (codes "no-binary") rows no_binary
   pub are : cs ≡ all_conditions (values_read rows Conditions) no_binary
 
--- the table that was asked for, with directories of this depth in its rows
+-- the format, the columns and the order that were asked for, with directories of this depth in the rows
 abbrev pub IsTableAt : List Row → Option ℕ → TableRequest → Type 0
 IsTableAt rows depth s =
     IsTableBy (first_of (codes "format") rows) (first_of (codes "by") rows) depth (first_of (codes "sort") rows) s
 
--- the table that was asked for
+-- these, with the depth that was asked for
 abbrev pub IsTableIn : List Row → TableRequest → Type 0
 IsTableIn rows s = IsTableAt rows (number_if_given (codes "depth") rows) s
 
+-- the table that was asked for, but for shares
+pub record IsPlainTableIn (rows : List Row) (s : TableRequest) : Type 0 where
+  pub within : IsTableWithinLimits s
+  pub named : IsTableIn rows s
+  pub top : s.top ≡ number_if_given (codes "top") rows
+  pub files : IsFlag (codes "files") rows s.files
+
+-- the table that was asked for
+pub record IsWholeTableIn (rows : List Row) (s : TableRequest) : Type 0 where
+  pub plain : IsPlainTableIn rows s
+  pub share : IsFlag (codes "share") rows s.share
+
+-- no table was asked for
+abbrev pub AsksNoTable : List Row → Type 0
+AsksNoTable rows = (s : TableRequest) → ¬ IsTableIn rows s
+
+-- how directories are counted, as it was asked for
+pub record IsWalkOf (rows : List Row) (w : WalkRequest) : Type 0 where
+  pub within : IsWalkWithinLimits w
+  pub threads : IsNumber (codes "threads") (codes "4") rows w.threads
+  pub max_dirs : IsNumber (codes "max-dirs") (codes "65536") rows w.max_dirs
+  pub filters : AreFiltersOf rows w.filters
+  pub only : ArePathsOf rows w.only.items
+  pub only_from : option_map (λ s. s.now) w.only_from ≡ first_of (codes "only-from") rows
+  pub null : IsFlag (codes "null") rows w.null
+  pub one_file_system : IsFlag (codes "one-file-system") rows w.one_file_system
+
+-- it was asked for by what is no value of an option, or no path of an entry
+abbrev pub AsksNoWalk : List Row → Type 0
+AsksNoWalk rows = Misvalue rows ⊎ Misplace rows
+
 -- the count that was asked for, by what was read of each argument
 pub record IsCountOf (rows : List Row) (c : CountRequest) : Type 0 where
-  pub within : IsCountWithinLimits c
-  pub threads : IsNumber (codes "threads") (codes "4") rows c.threads
-  pub max_dirs : IsNumber (codes "max-dirs") (codes "65536") rows c.max_dirs
-  pub files : IsFlag (codes "files") rows c.table.files
+  pub walk : IsWalkOf rows c.walk
   pub left_out : IsFlag (codes "left-out") rows c.left_out
-  pub filters : AreFiltersOf rows c.filters
-  pub only : ArePathsOf rows c.only.items
-  pub only_from : option_map (λ s. s.now) c.only_from ≡ first_of (codes "only-from") rows
-  pub null : IsFlag (codes "null") rows c.null
-  pub one_file_system : IsFlag (codes "one-file-system") rows c.one_file_system
-  pub table : IsTableIn rows c.table
-  pub top : c.table.top ≡ number_if_given (codes "top") rows
-  pub share : IsFlag (codes "share") rows c.table.share
+  pub table : IsWholeTableIn rows c.table
   pub conditions : AreConditionsOf rows c.conditions.items
   pub fail_if_any : IsFlag (codes "fail-if-any") rows c.fail_if_any
   pub directories : AreDirectoriesOf rows c.directories.items
@@ -210,8 +200,62 @@ Misfit rows = (c : CountRequest) × IsCountOf rows c × (fit_together c ≡ fals
 -- no count was asked for: by what is no value of an option, no path of an entry, a directory that was named twice or no table, or by
 -- options that do not go together
 abbrev pub AsksNoCount : List Row → Type 0
-AsksNoCount rows =
-    Misvalue rows ⊎ (Misplace rows ⊎ (NamesOneTwice rows ⊎ (((s : TableRequest) → ¬ IsTableIn rows s) ⊎ Misfit rows)))
+AsksNoCount rows = AsksNoWalk rows ⊎ (NamesOneTwice rows ⊎ (AsksNoTable rows ⊎ Misfit rows))
+
+-- the words of reports that were read; standard input where there was none
+abbrev pub reports_read : List Row → List (List ℕ)
+reports_read rows = or_default (codes "-") (texts_read (codes "REPORT") rows)
+
+-- a word names no report, or standard input was named twice
+abbrev pub MisnamesReports : List Row → Type 0
+MisnamesReports rows = name_reports (reports_read rows) ≡ false
+
+-- the reports that were asked for, in their order
+abbrev pub AreReportsOf : List Row → List NamedReport → Type 0
+AreReportsOf rows reports = (map report_model reports ≡ map named_of (reports_read rows)) × (name_reports (reports_read rows) ≡ true)
+
+-- the sum that was asked for
+pub record IsSumOf (rows : List Row) (s : SumRequest) : Type 0 where
+  pub left_out : IsFlag (codes "left-out") rows s.left_out
+  pub table : IsWholeTableIn rows s.table
+  pub conditions : AreConditionsOf rows s.conditions.items
+  pub fail_if_any : IsFlag (codes "fail-if-any") rows s.fail_if_any
+  pub reports : AreReportsOf rows s.reports.items
+
+-- the sum that was asked for, whose options go together
+abbrev pub IsFitSumOf : List Row → SumRequest → Type 0
+IsFitSumOf rows s = IsSumOf rows s × (table_fits s.table s.left_out ≡ true)
+
+-- a sum was asked for whose options do not go together
+abbrev pub MisfitSum : List Row → Type 0
+MisfitSum rows = (s : SumRequest) × IsSumOf rows s × (table_fits s.table s.left_out ≡ false)
+
+-- no sum was asked for: by what is no condition, no report or no table, or by options that do not go together
+abbrev pub AsksNoSum : List Row → Type 0
+AsksNoSum rows = Misvalue rows ⊎ (MisnamesReports rows ⊎ (AsksNoTable rows ⊎ MisfitSum rows))
+
+-- the difference that was asked for
+pub record IsDiffOf (rows : List Row) (d : DiffRequest) : Type 0 where
+  pub walk : IsWalkOf rows d.walk
+  pub table : IsPlainTableIn rows d.table
+  pub no_share : d.table.share ≡ false
+  pub conditions : AreConditionsOf rows d.conditions.items
+  pub fail_if_any : IsFlag (codes "fail-if-any") rows d.fail_if_any
+  pub all : IsFlag (codes "all") rows d.all
+  pub old : d.old.now ≡ unwrap_or (first_of (codes "OLD") rows) []
+  pub new : d.new.now ≡ unwrap_or (first_of (codes "NEW") rows) []
+
+-- the difference that was asked for, whose options go together
+abbrev pub IsFitDiffOf : List Row → DiffRequest → Type 0
+IsFitDiffOf rows d = IsDiffOf rows d × (diff_fits d ≡ true)
+
+-- a difference was asked for whose options do not go together
+abbrev pub MisfitDiff : List Row → Type 0
+MisfitDiff rows = (d : DiffRequest) × IsDiffOf rows d × (diff_fits d ≡ false)
+
+-- no difference was asked for: by what is no value of an option, no path of an entry or no table, or by options that do not go together
+abbrev pub AsksNoDiff : List Row → Type 0
+AsksNoDiff rows = AsksNoWalk rows ⊎ (AsksNoTable rows ⊎ MisfitDiff rows)
 
 -- the check that was asked for
 pub record IsCheckOf (rows : List Row) (c : CheckRequest) : Type 0 where
@@ -272,7 +316,9 @@ other_faults_in [] = []
 other_faults_in (word ∷ words) =
     cond (bytes_eq word (codes "check")) (fault_of check_app words)
     (cond (bytes_eq word (codes "explain")) (fault_of explain_app words)
-    (fault_of lc_app (word ∷ words)))
+    (cond (bytes_eq word (codes "sum")) (fault_of sum_app words)
+    (cond (bytes_eq word (codes "diff")) (fault_of diff_app words)
+    (fault_of lc_app (word ∷ words)))))
 
 -- the ways in which words fail
 abbrev pub faults_in : List (List ℕ) → Kinds
@@ -281,7 +327,8 @@ faults_in words = unwrap_or (option_map (fault_of count_app) (count_words words)
 -- the words ask for no count, and begin with no other command
 abbrev pub NameNoCommand : List (List ℕ) → Type 0
 NameNoCommand words = (count_words words ≡ None) × ((more : List (List ℕ)) →
-    (words ≢ codes "check" ∷ more) × (words ≢ codes "explain" ∷ more))
+    (words ≢ codes "check" ∷ more) × (words ≢ codes "explain" ∷ more) × (words ≢ codes "sum" ∷ more)
+    × (words ≢ codes "diff" ∷ more))
 
 -- what words ask for that fail in no way
 abbrev pub Asks : List (List ℕ) → Request → Type 0
@@ -289,6 +336,8 @@ Asks words CheckJoined = NameNoCommand words
 Asks words (Check c) = (more : List (List ℕ)) × (words ≡ codes "check" ∷ more) × IsCheckOf (matches_of check_app more) c
 Asks words (Count c) = (more : List (List ℕ)) × (count_words words ≡ Some more) × IsFitCountOf (matches_of count_app more) c
 Asks words (Explain c) = (more : List (List ℕ)) × (words ≡ codes "explain" ∷ more) × IsExplainOf (matches_of explain_app more) c
+Asks words (Sum s) = (more : List (List ℕ)) × (words ≡ codes "sum" ∷ more) × IsFitSumOf (matches_of sum_app more) s
+Asks words (Diff d) = (more : List (List ℕ)) × (words ≡ codes "diff" ∷ more) × IsFitDiffOf (matches_of diff_app more) d
 
 -- the words of a count fail in no way, but ask for no count
 abbrev pub AskForNoCount : List (List ℕ) → Type 0
@@ -298,12 +347,22 @@ AskForNoCount words = (fault_of count_app words ≡ []) × AsksNoCount (matches_
 abbrev pub AskForNoExplanation : List (List ℕ) → Type 0
 AskForNoExplanation words = (fault_of explain_app words ≡ []) × Misvalue (matches_of explain_app words)
 
+-- and those after `sum`, but they ask for no sum
+abbrev pub AskForNoSum : List (List ℕ) → Type 0
+AskForNoSum words = (fault_of sum_app words ≡ []) × AsksNoSum (matches_of sum_app words)
+
+-- and those after `diff`, but they ask for no difference
+abbrev pub AskForNoDiff : List (List ℕ) → Type 0
+AskForNoDiff words = (fault_of diff_app words ≡ []) × AsksNoDiff (matches_of diff_app words)
+
 -- words are refused
 abbrev pub AreRefused : List (List ℕ) → Type 0
 AreRefused words =
     MayRefuse (faults_in words)
     ⊎ (((more : List (List ℕ)) × (count_words words ≡ Some more) × AskForNoCount more)
-    ⊎ ((more : List (List ℕ)) × (words ≡ codes "explain" ∷ more) × AskForNoExplanation more))
+    ⊎ (((more : List (List ℕ)) × (words ≡ codes "explain" ∷ more) × AskForNoExplanation more)
+    ⊎ (((more : List (List ℕ)) × (words ≡ codes "sum" ∷ more) × AskForNoSum more)
+    ⊎ ((more : List (List ℕ)) × (words ≡ codes "diff" ∷ more) × AskForNoDiff more))))
 
 -- why words ask for nothing; there may be no memory for any words
 abbrev pub AskNothing : List (List ℕ) → ParseExit → Type 0

@@ -1,10 +1,14 @@
-//! The options of a count that can't be combined.
+//! Options that can't be combined.
 
 ghost use Rattle.std.specs.Prelude.{◌≡◌, is_some, not};
-ghost use Rattle.lc_arguments.specs.Combinations.{asks_for_paths, asks_for_rows, fit_together, is_by_name, shows_shares};
+ghost use Rattle.lc_arguments.specs.Combinations.{asks_for_paths, asks_for_rows, diff_fits, fit_together, is_by_name, is_dash, is_picture};
+ghost use Rattle.lc_arguments.specs.Combinations.{narrows, paths_fit, reads_input_once, shows_shares, table_fits, takes_input, walk_fits};
 
 use crate::count::CountRequest;
-use lc_sheet::{Format, Order};
+use crate::diff::DiffRequest;
+use crate::table::TableRequest;
+use crate::walk_request::WalkRequest;
+use lc_sheet::{Columns, Format, Order};
 
 /// Returns whether rows have shares in the named format, or in a table if no format is named.
 fn shows_shares(format: Option<Format>) -> bool
@@ -20,52 +24,134 @@ fn is_by_name(order: Option<Order>) -> bool
     matches!(order, Some(Order::Name))
 }
 
-/// Returns whether a count prints lists, or rows other than all of a report's.
-fn asks_for_rows(request: &CountRequest<'_>) -> bool
-    ensures { result ≡ asks_for_rows request.now }
+/// Returns whether columns are named that are not all of a report's.
+fn narrows(by: Option<Columns>) -> bool
+    ensures { result ≡ narrows by }
 {
-    let table = &request.table;
-    let by = table.by;
-    table.files
-        || request.left_out
-        || table.top.is_some()
-        || by.dir.is_some()
-        || !(by.ext && by.text && by.eol)
+    match by {
+        None => false,
+        Some(by) => by.dir.is_some() || !(by.ext && by.text && by.eol),
+    }
 }
 
-/// Returns whether a count is limited to paths, each relative to one directory.
-fn asks_for_paths(request: &CountRequest<'_>) -> bool
-    ensures { result ≡ asks_for_paths request.now }
+/// Returns whether a table has lists, or rows other than all of a report's.
+fn asks_for_rows(table: TableRequest, left_out: bool) -> bool
+    ensures { result ≡ asks_for_rows table left_out }
 {
-    !request.only.is_empty() || request.only_from.is_some()
+    table.files || left_out || table.top.is_some() || narrows(table.by)
+}
+
+/// Finds out why the options of a table can't be combined. `left_out` is whether skipped entries are listed.
+pub(crate) fn table_misfit(table: TableRequest, left_out: bool) -> Option<&'static str>
+    ensures { is_some result ≡ not (table_fits table left_out) }
+{
+    let format = table.format;
+    if table.share && !shows_shares(format) {
+        return Some("'--share' needs '--format table' or '--format markdown'");
+    }
+    if table.files && left_out && matches!(format, Some(Format::Csv)) {
+        return Some("'--format csv' prints records of one kind: '--files' or '--left-out'");
+    }
+    if matches!(format, Some(Format::Html)) && asks_for_rows(table, left_out) {
+        return Some(
+            "'--format html' draws a tree: no '--files', '--left-out', '--by <COLUMNS>' or '--top <N>'",
+        );
+    }
+    if matches!(format, Some(Format::Html)) && is_by_name(table.sort) {
+        return Some("'--format html' draws the column of '--sort': files, lines, blank or bytes");
+    }
+    None
+}
+
+/// Finds out why the options that choose files do not go together.
+fn walk_misfit(walk: &WalkRequest<'_>) -> Option<&'static str>
+    ensures { is_some result ≡ not (walk_fits walk.now) }
+{
+    if walk.null && walk.only_from.is_none() {
+        return Some("'--null' needs '--only-from <FILE>'");
+    }
+    None
+}
+
+/// Returns whether paths are asked for, each relative to one directory.
+fn asks_for_paths(walk: &WalkRequest<'_>) -> bool
+    ensures { result ≡ asks_for_paths walk.now }
+{
+    !walk.only.is_empty() || walk.only_from.is_some()
+}
+
+/// Finds out why paths are not those of one directory.
+fn paths_misfit(request: &CountRequest<'_>) -> Option<&'static str>
+    ensures { is_some result ≡ not (paths_fit request.now) }
+{
+    if request.directories.len() > 1 && asks_for_paths(&request.walk) {
+        return Some(
+            "'--only <PATH>' and '--only-from <FILE>' need one DIR, because a PATH is relative to it",
+        );
+    }
+    None
 }
 
 /// Finds out why the options of a count can't be combined.
 pub(crate) fn misfit(request: &CountRequest<'_>) -> Option<&'static str>
     ensures { is_some result ≡ not (fit_together request.now) }
 {
-    let format = request.table.format;
-    if request.table.share && !shows_shares(format) {
-        return Some("'--share' needs '--format table' or '--format markdown'");
+    if let Some(why) = table_misfit(request.table, request.left_out) {
+        return Some(why);
     }
-    if request.table.files && request.left_out && matches!(format, Some(Format::Csv)) {
-        return Some("'--format csv' prints records of one kind: '--files' or '--left-out'");
+    if let Some(why) = walk_misfit(&request.walk) {
+        return Some(why);
     }
-    if matches!(format, Some(Format::Html)) && asks_for_rows(request) {
-        return Some(
-            "'--format html' draws a tree: no '--files', '--left-out', '--by <COLUMNS>' or '--top <N>'",
-        );
+    paths_misfit(request)
+}
+
+fn is_dash(word: &str) -> bool
+    ensures { result ≡ is_dash word.now }
+{
+    word == "-"
+}
+
+/// Returns whether the paths to count come on standard input.
+fn takes_input(walk: &WalkRequest<'_>) -> bool
+    ensures { result ≡ takes_input walk.now }
+{
+    match walk.only_from {
+        None => false,
+        Some(file) => is_dash(file),
     }
-    if matches!(format, Some(Format::Html)) && is_by_name(request.table.sort) {
-        return Some("'--format html' draws the column of '--sort': files, lines, blank or bytes");
+}
+
+/// Finds out why standard input would be read twice.
+fn input_misfit(request: &DiffRequest<'_>) -> Option<&'static str>
+    ensures { is_some result ≡ not (reads_input_once request.now) }
+{
+    if is_dash(request.old) && is_dash(request.new) {
+        return Some("'-' is given twice: standard input is read once");
     }
-    if request.null && request.only_from.is_none() {
-        return Some("'--null' needs '--only-from <FILE>'");
-    }
-    if request.directories.len() > 1 && asks_for_paths(request) {
-        return Some(
-            "'--only <PATH>' and '--only-from <FILE>' need one DIR, because a PATH is relative to it",
-        );
+    if takes_input(&request.walk) && (is_dash(request.old) || is_dash(request.new)) {
+        return Some("'-' and '--only-from -' are both standard input, which is read once");
     }
     None
+}
+
+fn is_picture(format: Option<Format>) -> bool
+    ensures { result ≡ is_picture format }
+{
+    matches!(format, Some(Format::Html))
+}
+
+/// Finds out why the options of a difference do not go together.
+pub(crate) fn diff_misfit(request: &DiffRequest<'_>) -> Option<&'static str>
+    ensures { is_some result ≡ not (diff_fits request.now) }
+{
+    if is_picture(request.table.format) {
+        return Some("'--format html' shows no differences");
+    }
+    if let Some(why) = table_misfit(request.table, false) {
+        return Some(why);
+    }
+    if let Some(why) = walk_misfit(&request.walk) {
+        return Some(why);
+    }
+    input_misfit(request)
 }

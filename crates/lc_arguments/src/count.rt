@@ -11,12 +11,11 @@ use crate::combinations::misfit;
 use crate::conditions::conditions_in;
 use crate::directories::directories_in;
 use crate::error_text::problem_of;
-use crate::filter_request::FilterRequest;
 use crate::numbers::Numbers;
 use crate::option_row::Subcommand;
-use crate::paths::paths_in;
 use crate::request::{ParseExit, explained, unfit};
 use crate::table::{TableRequest, table_in};
+use crate::walk_request::WalkRequest;
 use crate::{help, suggestions};
 use clap::{ArgMatches, Command, Error};
 use lc_sheet::Condition;
@@ -26,23 +25,10 @@ use std::convert::AsStr;
 /// The options of `lc count`, as in `lc count --threads 8 --exclude-from rules src`.
 #[derive(Drop)]
 pub struct CountRequest<'w> {
-    /// The number of threads: 1 to [`MAX_THREADS`](crate::MAX_THREADS), by default 4.
-    pub threads: u32,
-    /// The greatest number of directories, DIR included: 1 to [`MAX_DIRS`](crate::MAX_DIRS), by default 65,536.
-    pub max_dirs: u32,
+    /// How to count the directories.
+    pub walk: WalkRequest<'w>,
     /// List each skipped entry, and print the number of entries.
     pub left_out: bool,
-    /// What to skip besides what the directory's own rules ignore.
-    pub filters: FilterRequest<'w>,
-    /// The paths to count, relative to DIR, without `./` at the beginning and without a slash at the end. `.` is all of DIR. All of DIR is
-    /// also counted if there are no paths here and no `only_from`.
-    pub only: Vec<&'w [u8]>,
-    /// The path of a file with further paths to count, as it was typed. `-` is standard input.
-    pub only_from: Option<&'w str>,
-    /// Each path in the file of `only_from` ends with NUL.
-    pub null: bool,
-    /// Skip directories on other file systems than DIR.
-    pub one_file_system: bool,
     /// How the table is printed.
     pub table: TableRequest,
     /// Show only files that meet all of these conditions.
@@ -84,26 +70,14 @@ fn request_in<'w>(
 ) -> Result<CountRequest<'w>, ParseExit>
     ensures { AnswersCountIn (rows_of (found_of matches.now)) numbers result }
 {
-    let filters = FilterRequest::read(alloc, matches)?;
-    let only = paths_in(alloc, matches)?;
+    let walk = WalkRequest::read(alloc, matches, numbers)?;
     let directories = directories_in(alloc, matches)?;
-    let table = table_in(alloc, matches, numbers.depth)?;
+    let table = table_in(alloc, matches, numbers.cuts)?;
     let conditions = conditions_in(alloc, matches)?;
     Ok(CountRequest {
-        threads: numbers.threads,
-        max_dirs: numbers.max_dirs,
+        walk,
         left_out: matches.get_flag("left-out"),
-        filters,
-        only,
-        only_from: matches.get_str("only-from"),
-        null: matches.get_flag("null"),
-        one_file_system: matches.get_flag("one-file-system"),
-        table: TableRequest {
-            top: numbers.top,
-            files: matches.get_flag("files"),
-            share: matches.get_flag("share"),
-            ..table
-        },
+        table,
         conditions,
         fail_if_any: matches.get_flag("fail-if-any"),
         directories,

@@ -5,7 +5,7 @@ ghost use Rattle.std.specs.List.{list_any};
 ghost use Rattle.std.specs.Str.{bytes_eq};
 ghost use Rattle.clap.specs.Matches.{found_of};
 ghost use Rattle.clap.specs.Walk.{rows_of};
-ghost use Rattle.lc_arguments.specs.Directories.{are_distinct, or_here, unslashed};
+ghost use Rattle.lc_arguments.specs.Directories.{are_distinct, or_default, unslashed};
 ghost use Rattle.lc_arguments.specs.Explained.{AnswersDirectories, AnswersDirectoriesIn, IsRefusal};
 
 use crate::request::{ParseExit, unfit};
@@ -64,30 +64,31 @@ fn repeated(alloc: Global, directory: &str) -> ParseExit
     }
 }
 
-/// Copies the paths of directories. If there are none, the only one is `.`, the directory that the program runs in.
-fn or_here<'w>(alloc: Global, words: &[&'w str]) -> Result<Vec<&'w str>, AllocError>
-    ensures { IfOk result (λ directories. map (λ d. d.now) directories.items ≡ or_here (map (λ word. word.now) words.now)) }
+/// Copies words. If there are none, the only one is `default`.
+pub(crate) fn or_default<'w>(
+    alloc: Global,
+    words: &[&'w str],
+    default: &'w str,
+) -> Result<Vec<&'w str>, AllocError>
+    ensures { IfOk result (λ all. map (λ word. word.now) all.items ≡ or_default default.entry.now (map (λ word. word.now) words.now)) }
 {
     if words.is_empty() {
-        return Ok(vec![in alloc; "."]?);
+        return Ok(vec![in alloc; default]?);
     }
     words.to_vec(alloc)
 }
 
-/// Copies the paths of directories, unless one is named twice.
-fn directories_of<'w>(alloc: Global, words: &[&'w str]) -> Result<Vec<&'w str>, ParseExit>
-    ensures { AnswersDirectories (map (λ word. word.now) words.now) result }
+/// Returns directories, unless one is named twice.
+fn distinct<'w>(alloc: Global, directories: Vec<&'w str>) -> Result<Vec<&'w str>, ParseExit>
+    ensures { AnswersDirectories (map (λ directory. directory.now) directories.entry.items) result }
 {
-    let Ok(directories) = or_here(alloc, words) else {
-        return Err(ParseExit::Memory);
-    };
     match given_twice(&directories) {
         None => Ok(directories),
         Some(directory) => Err(repeated(alloc, directory)),
     }
 }
 
-/// Reads the directories from clap's values, in their order.
+/// Reads the directories from clap's values, in their order. If there are none, the only one is `.`, the current directory.
 pub(crate) fn directories_in<'w>(
     alloc: Global,
     matches: &ArgMatches<'w>,
@@ -95,5 +96,8 @@ pub(crate) fn directories_in<'w>(
     ensures { AnswersDirectoriesIn (rows_of (found_of matches.now)) result }
 {
     let words = matches.get_strs("DIR").unwrap_or(&[]);
-    directories_of(alloc, words)
+    match or_default(alloc, words, ".") {
+        Ok(directories) => distinct(alloc, directories),
+        Err(AllocError) => Err(ParseExit::Memory),
+    }
 }

@@ -44,14 +44,17 @@ from standard input, and answers each path as lc check does.
 
 Exit status:
   0  success
-  1  count, explain: the answer was written, but something could not be read
+  1  count, sum, diff, explain: the answer was written, but something could
+     not be read
   2  usage error
   3  stopped with an error; standard error shows it in one line
-  4  count --fail-if-any: a file was counted
+  4  count, sum --fail-if-any: a file was counted; diff --fail-if-any: a row
+     or a file differs
 
 Example: lc .
 
-See also: lc count --help, lc explain --help, lc check --help, man lc",
+See also: lc count --help, lc sum --help, lc diff --help, lc explain --help,
+lc check --help, man lc",
 };
 
 pub(crate) const COUNT: CommandHelp = CommandHelp {
@@ -113,6 +116,65 @@ Examples:
   git ls-files -z | lc count --no-ignore --only-from - -0 .
   lc count --archive --exclude-from rules .
   lc count --without linguist-vendored --without linguist-generated .",
+};
+
+pub(crate) const SUM: CommandHelp = CommandHelp {
+    full_name: "lc sum",
+    usage: "lc sum [OPTIONS] [[NAME=]REPORT]...",
+    about: "Add reports that lc count or lc sum printed as JSON",
+    after: "Example: lc sum --by dir v1=v1.json v2=v2.json",
+    after_long: "\
+A REPORT is a file with the output of lc count --format json or of lc sum
+--format json, once or several times; - is standard input. Its numbers are added
+to those of the others, as if one count had read all files.
+
+NAME= puts the paths of a REPORT below NAME, so that two reports with equal
+paths can be added. It is what is before the first = if no slash is before that:
+./a=b is a file without a NAME.
+
+Without --by, rows are by those of ext, text and eol that every REPORT has.
+--files, --by dir, --format html and a condition on a number need reports that
+were counted with --files, and --left-out those counted with --left-out.
+
+Exit status:
+  0  everything was added, and nothing in a REPORT could not be read
+  1  the table was written, and lists what a REPORT could not read
+  2  usage error
+  3  no table, or a part of it; standard error shows why
+  4  --fail-if-any: the table was written, and it has a file
+
+Examples:
+  lc count --format json src | lc sum
+  lc sum --by ext --sort lines a.json b.json
+  lc sum --by dir v1=v1.json v2=v2.json",
+};
+
+pub(crate) const DIFF: CommandHelp = CommandHelp {
+    full_name: "lc diff",
+    usage: "lc diff [OPTIONS] <OLD> <NEW>",
+    about: "Compare the sums of two directories or reports",
+    after: "Example: lc diff --by dir v1.json .",
+    after_long: "\
+OLD and NEW are each a directory, which is counted as lc count does, or a report
+that lc sum reads; - is a report on standard input. Options that choose files
+hold for directories; --where holds for both sides.
+
+Each row has the old and the new number of files, lines, blank lines and bytes.
+A row in which no number changed is not printed, except with --all. Paths are
+compared as they are. Lines that were added and lines that were removed within a
+file are not told apart.
+
+Exit status:
+  0  both sides were read, whether or not they differ
+  1  the table was written, but something could not be read
+  2  usage error
+  3  no table, or a part of it; standard error shows why
+  4  --fail-if-any: the table was written, and a row or a file differs
+
+Examples:
+  lc diff v1 v2
+  lc diff --files v1.json .
+  lc count --format json --files . | lc diff --by dir v1.json -",
 };
 
 pub(crate) const EXPLAINING: CommandHelp = CommandHelp {

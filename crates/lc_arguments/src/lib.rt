@@ -2,12 +2,13 @@
 //!
 //! - `request`: what the program is to do, or why it does nothing; arguments without a command
 //! - `first_word`: the meaning of the first argument
-//! - `count`, `check`, `explain`: the options of each command; `table`: the options of the table; `paths`: the paths of `--only`;
-//!   `directories`: DIR
-//! - `numbers`: the numbers of a count; `combinations`: options that can't be combined
+//! - `count`, `sum`, `diff`, `check`, `explain`: the options of each command; `table`: the options of the table
+//! - `walk_request`: how to count directories; `paths`: the paths of `--only`; `directories`: DIR; `reports`: REPORT
+//! - `numbers`: the numbers of a count and of a table; `combinations`: options that can't be combined
 //! - `filter_request`: which entries counts and explanations skip; `repeated`: options that may be used several times
 //! - `conditions`: the conditions that shown files meet; `condition_text`: a condition, as it is typed
-//! - `options_table`: the table of options; `option_row`: the rows of the table; `arguments`: clap's arguments, made from the rows
+//! - `options_table`: the table of options, with `diff_options`: its rows for `lc diff` alone; `option_row`: the rows of the table;
+//!   `arguments`: clap's arguments, made from the rows
 //! - `refusals`: the text of a refusal, as a terminal shows it; `error_text`: the texts of usage errors
 //! - `naming`: the arguments that a text names
 //! - `suggestions`: what refused arguments may have meant; `near`: known names that are close to a word
@@ -20,6 +21,8 @@ mod combinations;
 mod condition_text;
 mod conditions;
 mod count;
+mod diff;
+mod diff_options;
 mod directories;
 mod error_text;
 mod explain;
@@ -36,12 +39,16 @@ mod options_table;
 mod paths;
 mod refusals;
 mod repeated;
+mod reports;
 mod request;
 mod suggestions;
+mod sum;
 mod table;
+mod walk_request;
 
 pub use check::CheckRequest;
 pub use count::CountRequest;
+pub use diff::DiffRequest;
 pub use directories::unslashed;
 pub use explain::ExplainRequest;
 pub use filter_request::FilterRequest;
@@ -50,5 +57,8 @@ pub use limits::{MAX_DIRS, MAX_THREADS};
 pub use option_row::{Commands, Completes, Kind, OptionRow};
 pub use options_table::options;
 pub use repeated::lines_text;
+pub use reports::NamedReport;
 pub use request::{ParseExit, Request};
+pub use sum::SumRequest;
 pub use table::TableRequest;
+pub use walk_request::WalkRequest;

@@ -2,7 +2,7 @@
 //!
 //! These texts are no part of the table of options, since proofs about the table compute with all of it.
 
-use crate::option_row::OptionRow;
+use crate::option_row::{Commands, OptionRow};
 use crate::options_table::{LIMITS, ON_INPUT, WHAT_IS_PRINTED, WHICH_FILES};
 
 const LONG_HELP: &[(&str, &str, &str)] = &[
@@ -52,7 +52,7 @@ repeated",
         WHICH_FILES,
         "Count only what is at or under PATH, under the rules of all of DIR.
 PATH is relative to DIR, such as src/lib; . is all of DIR. May be
-repeated; there is one DIR then",
+repeated. lc count takes only one DIR then",
     ),
     (
         "only-from",
@@ -126,8 +126,8 @@ and with --top, and else name",
         "top",
         WHAT_IS_PRINTED,
         "Print only the first N rows, with a row `others` for the sums of the
-rest, and the first N lines of --files. Without --sort, these have the
-most lines",
+rest, and the first N lines of --files. Without --sort, lc count and
+lc sum print those with the most lines",
     ),
     (
         "share",
@@ -162,14 +162,63 @@ them, so that a path may contain a line feed",
     ),
 ];
 
-fn texts() -> &'static [(&'static str, &'static str, &'static str)] {
-    LONG_HELP
+/// The texts of options that are only those of `lc diff`.
+const OF_DIFFERENCES: &[(&str, &str, &str)] = &[
+    (
+        "all",
+        WHAT_IS_PRINTED,
+        "Also print rows in which nothing changed",
+    ),
+    (
+        "files",
+        WHAT_IS_PRINTED,
+        "Also print a line for each file that was added, removed or changed.
+A file that moved is removed and added. A file with the same numbers
+as before is not seen to change",
+    ),
+    (
+        "format",
+        WHAT_IS_PRINTED,
+        "How to print: table aligns columns for reading and is the default on
+a terminal; tsv separates fields by tabs and is the default
+elsewhere; json is for programs; csv has one kind of record and no
+totals, for databases and spreadsheets; markdown is for a page on
+GitHub",
+    ),
+    (
+        "by",
+        WHAT_IS_PRINTED,
+        "Sum rows by some of dir, ext, text and eol, separated by commas. The
+default is ext",
+    ),
+    (
+        "sort",
+        WHAT_IS_PRINTED,
+        "Sort rows and files: by files, lines, blank or bytes, with the
+largest change first, whether up or down, or by name. The default is
+lines in table and markdown, and else name",
+    ),
+    (
+        "fail-if-any",
+        WHAT_IS_PRINTED,
+        "Exit with status 4 if a row or a file differs, as a check in CI does.
+Paths that could not be read do not change this status",
+    ),
+];
+
+fn texts(of: Commands) -> &'static [(&'static str, &'static str, &'static str)] {
+    if of.diff && !of.count {
+        OF_DIFFERENCES
+    } else {
+        LONG_HELP
+    }
 }
 
 impl OptionRow {
-    /// Returns the text of `--help` about the option, without a full stop at its end. If there is no longer text, it is that of `-h`.
+    /// Returns the text of `--help` about the option, without a full stop at its end. An option that has none gets the
+    /// text of `-h`.
     pub fn long_help(&self) -> &'static str {
-        for (name, heading, text) in texts() {
+        for (name, heading, text) in texts(self.of) {
             if *name == self.name && *heading == self.heading {
                 return text;
             }

@@ -199,6 +199,12 @@ fn named_by(word: &str) -> Option<Subcommand>
     if word == "explain" {
         return Some(Subcommand::Explain);
     }
+    if word == "sum" {
+        return Some(Subcommand::Sum);
+    }
+    if word == "diff" {
+        return Some(Subcommand::Diff);
+    }
     None
 }
 

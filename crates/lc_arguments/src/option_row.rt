@@ -12,6 +12,10 @@ pub(crate) enum Subcommand {
     Explain,
     /// `lc check`
     Check,
+    /// `lc sum`
+    Sum,
+    /// `lc diff`
+    Diff,
 }
 
 /// The commands that have an argument.
@@ -23,6 +27,10 @@ pub struct Commands {
     pub explain: bool,
     /// `lc check` has it.
     pub check: bool,
+    /// `lc sum` has it.
+    pub sum: bool,
+    /// `lc diff` has it.
+    pub diff: bool,
 }
 
 impl Commands {
@@ -34,43 +42,80 @@ impl Commands {
             Subcommand::Count => self.count,
             Subcommand::Explain => self.explain,
             Subcommand::Check => self.check,
+            Subcommand::Sum => self.sum,
+            Subcommand::Diff => self.diff,
         }
     }
 }
 
+/// No command.
+const NONE: Commands = Commands {
+    count: false,
+    explain: false,
+    check: false,
+    sum: false,
+    diff: false,
+};
+
 /// `lc count` alone.
 pub(crate) const COUNT: Commands = Commands {
     count: true,
-    explain: false,
-    check: false,
+    ..NONE
 };
 
 /// `lc explain` alone.
 pub(crate) const EXPLAIN: Commands = Commands {
-    count: false,
     explain: true,
-    check: false,
+    ..NONE
 };
 
 /// `lc check` alone.
 pub(crate) const CHECK: Commands = Commands {
-    count: false,
-    explain: false,
     check: true,
+    ..NONE
 };
+
+/// `lc sum` alone.
+pub(crate) const SUM: Commands = Commands { sum: true, ..NONE };
+
+/// `lc diff` alone.
+pub(crate) const DIFF: Commands = Commands { diff: true, ..NONE };
 
 /// The commands that skip entries.
 pub(crate) const FILTERS: Commands = Commands {
     count: true,
     explain: true,
-    check: false,
+    diff: true,
+    ..NONE
+};
+
+/// The commands that count directories.
+pub(crate) const WALKS: Commands = Commands {
+    count: true,
+    diff: true,
+    ..NONE
 };
 
 /// The commands that read paths from standard input.
 pub(crate) const INPUT: Commands = Commands {
-    count: false,
     explain: true,
     check: true,
+    ..NONE
+};
+
+/// The commands that print reports.
+pub(crate) const PRINTED: Commands = Commands {
+    count: true,
+    sum: true,
+    ..NONE
+};
+
+/// The commands that print tables of files.
+pub(crate) const TABLES: Commands = Commands {
+    count: true,
+    sum: true,
+    diff: true,
+    ..NONE
 };
 
 /// The kind of an argument, and of its value.

@@ -5,8 +5,11 @@
 ghost use Rattle.std.specs.Prelude.{◌≡◌, map};
 ghost use Rattle.lc_arguments.specs.Options.{option_model, options};
 
+use crate::diff_options;
 use crate::limits::{MAX_DEPTH, MAX_DIRS, MAX_THREADS, MAX_TOP};
-use crate::option_row::{CHECK, Completes, EXPLAIN, FILTERS, FLAG, INPUT, Kind, OptionRow};
+use crate::option_row::{
+    CHECK, Completes, EXPLAIN, FILTERS, FLAG, INPUT, Kind, OptionRow, PRINTED, SUM, TABLES, WALKS,
+};
 
 /// The heading of the options that choose files.
 pub(crate) const WHICH_FILES: &str = "Which files";
@@ -90,6 +93,7 @@ const OPTIONS: &[OptionRow] = &[
         name: "only",
         value: "PATH",
         kind: Kind::Texts,
+        of: WALKS,
         heading: WHICH_FILES,
         help: "Count only PATH, under the rules of all of DIR",
         brief: "Count only what is at or under PATH",
@@ -101,6 +105,7 @@ const OPTIONS: &[OptionRow] = &[
         name: "only-from",
         value: "FILE",
         kind: Kind::Text,
+        of: WALKS,
         heading: WHICH_FILES,
         help: "Count only the paths in FILE, one a line",
         brief: "Count only the paths that FILE lists",
@@ -111,6 +116,7 @@ const OPTIONS: &[OptionRow] = &[
     OptionRow {
         name: "null",
         short: Some('0'),
+        of: WALKS,
         heading: WHICH_FILES,
         help: "Paths of --only-from end with NUL",
         brief: "Paths that are read end with NUL",
@@ -120,6 +126,7 @@ const OPTIONS: &[OptionRow] = &[
     OptionRow {
         name: "one-file-system",
         short: Some('x'),
+        of: WALKS,
         heading: WHICH_FILES,
         help: "Skip directories on other file systems",
         example: "lc count --one-file-system .",
@@ -127,6 +134,7 @@ const OPTIONS: &[OptionRow] = &[
     },
     OptionRow {
         name: "files",
+        of: PRINTED,
         heading: WHAT_IS_PRINTED,
         help: "Also print a line for each counted file",
         example: "lc count --files .",
@@ -134,6 +142,7 @@ const OPTIONS: &[OptionRow] = &[
     },
     OptionRow {
         name: "left-out",
+        of: PRINTED,
         heading: WHAT_IS_PRINTED,
         help: "Also print a line for each skipped entry, and why",
         brief: "Also print each skipped entry, and why",
@@ -144,6 +153,7 @@ const OPTIONS: &[OptionRow] = &[
         name: "where",
         value: "CONDITION",
         kind: Kind::Texts,
+        of: TABLES,
         heading: WHAT_IS_PRINTED,
         help: "Show only files that meet CONDITION, such as 'lines>1000'",
         brief: "Show only files that meet a condition",
@@ -152,6 +162,7 @@ const OPTIONS: &[OptionRow] = &[
     },
     OptionRow {
         name: "no-binary",
+        of: TABLES,
         heading: WHAT_IS_PRINTED,
         help: "Show only files without a NUL byte",
         example: "lc count --no-binary .",
@@ -161,6 +172,7 @@ const OPTIONS: &[OptionRow] = &[
         name: "format",
         value: "FORMAT",
         kind: Kind::Text,
+        of: PRINTED,
         heading: WHAT_IS_PRINTED,
         help: "tsv, table, json, csv, markdown or html",
         brief: "How to print",
@@ -179,6 +191,7 @@ const OPTIONS: &[OptionRow] = &[
         name: "by",
         value: "COLUMNS",
         kind: Kind::Text,
+        of: PRINTED,
         heading: WHAT_IS_PRINTED,
         help: "Sum rows by some of dir,ext,text,eol",
         brief: "Sum rows by these columns",
@@ -190,6 +203,7 @@ const OPTIONS: &[OptionRow] = &[
         name: "depth",
         value: "N",
         kind: Kind::Number(MAX_DEPTH),
+        of: TABLES,
         heading: WHAT_IS_PRINTED,
         help: "Cut directories of --by dir to N segments [default: 1]",
         brief: "Cut the directories of --by dir to so many segments",
@@ -201,6 +215,7 @@ const OPTIONS: &[OptionRow] = &[
         name: "sort",
         value: "COLUMN",
         kind: Kind::Text,
+        of: PRINTED,
         heading: WHAT_IS_PRINTED,
         help: "Sort by files, lines, blank, bytes or name",
         brief: "Sort rows and files, largest first, or by name",
@@ -218,6 +233,7 @@ const OPTIONS: &[OptionRow] = &[
         name: "top",
         value: "N",
         kind: Kind::Number(MAX_TOP),
+        of: TABLES,
         heading: WHAT_IS_PRINTED,
         help: "Print only the first N rows and files",
         brief: "Print only the first rows and files",
@@ -227,6 +243,7 @@ const OPTIONS: &[OptionRow] = &[
     },
     OptionRow {
         name: "share",
+        of: PRINTED,
         heading: WHAT_IS_PRINTED,
         help: "Show each row's share, in table and markdown",
         brief: "Also print the share of each row in the total",
@@ -235,6 +252,7 @@ const OPTIONS: &[OptionRow] = &[
     },
     OptionRow {
         name: "fail-if-any",
+        of: PRINTED,
         heading: WHAT_IS_PRINTED,
         help: "Exit with status 4 if a file is counted",
         example: "lc count --where 'lines>1000' --fail-if-any .",
@@ -246,6 +264,7 @@ const OPTIONS: &[OptionRow] = &[
         value: "N",
         kind: Kind::Number(MAX_THREADS),
         default: Some("4"),
+        of: WALKS,
         heading: LIMITS,
         help: "Number of threads, 1 to 16",
         example: "lc count --threads 8 .",
@@ -257,6 +276,7 @@ const OPTIONS: &[OptionRow] = &[
         value: "N",
         kind: Kind::Number(MAX_DIRS),
         default: Some("65536"),
+        of: WALKS,
         heading: LIMITS,
         help: "Limit of directories, 1 to 1048576",
         example: "lc count --max-dirs 1000000 .",
@@ -270,6 +290,22 @@ const OPTIONS: &[OptionRow] = &[
         help: "Directories to count; each may be a symbolic link",
         ..FLAG
     },
+    OptionRow {
+        name: "REPORT",
+        kind: Kind::Words,
+        default: Some("-"),
+        of: SUM,
+        help: "Output of lc count --format json, or NAME=REPORT",
+        ..FLAG
+    },
+    diff_options::ALL,
+    diff_options::FILES,
+    diff_options::FORMAT,
+    diff_options::BY,
+    diff_options::SORT,
+    diff_options::FAIL_IF_ANY,
+    diff_options::OLD,
+    diff_options::NEW,
     OptionRow {
         name: "explain",
         of: CHECK,
@@ -310,7 +346,7 @@ const OPTIONS: &[OptionRow] = &[
     },
 ];
 
-/// Returns the arguments of all commands.
+/// Returns the table of options: a row for each option or argument that a command accepts.
 pub fn options() -> &'static [OptionRow]
     ensures { map option_model result.now ≡ options }
 {

@@ -10,13 +10,15 @@ ghost use Rattle.lc_arguments.specs.Words.{AnswersWords};
 
 use crate::check::CheckRequest;
 use crate::count::CountRequest;
+use crate::diff::DiffRequest;
 use crate::error_text::{advised, number_refused, problem_of, value_refused};
 use crate::explain::ExplainRequest;
 use crate::first_word::count_words;
 use crate::naming::{is_naming_error, is_text_of, with_words};
 use crate::refusals::{message, visible_words};
 use crate::suggestions::Advice;
-use crate::{arguments, check, count, explain, help, suggestions};
+use crate::sum::SumRequest;
+use crate::{arguments, check, count, diff, explain, help, suggestions, sum};
 use clap::error::ErrorKind;
 use clap::{Command, Error};
 use std::alloc::{AllocError, Global};
@@ -33,6 +35,10 @@ pub enum Request<'w> {
     Count(CountRequest<'w>),
     /// Explain which rule of a directory decides each path, as in `explain . a.log`.
     Explain(ExplainRequest<'w>),
+    /// Add reports, as `sum a.json b.json`.
+    Sum(SumRequest<'w>),
+    /// Compare two directories or reports, as `diff v1.json src`.
+    Diff(DiffRequest<'w>),
 }
 
 /// Why the program carries out no request.
@@ -63,7 +69,9 @@ fn subcommands<'a>(alloc: Global) -> Result<Vec<Command<'a>>, AllocError>
     let count = count::command(alloc)?;
     let check = check::command(alloc)?;
     let explain = explain::command(alloc)?;
-    Ok(vec![in alloc; count, check, explain]?)
+    let sum = sum::command(alloc)?;
+    let diff = diff::command(alloc)?;
+    Ok(vec![in alloc; count, sum, diff, check, explain]?)
 }
 
 /// Makes the clap command of the program, for help, the version, and arguments without a command.
@@ -176,6 +184,18 @@ fn read_words<'w, W: AsStr>(alloc: Global, words: &'w [W]) -> Result<Request<'w>
     if first.as_str() == "explain" {
         return match ExplainRequest::read(alloc, rest) {
             Ok(asked) => Ok(Request::Explain(asked)),
+            Err(no) => Err(no),
+        };
+    }
+    if first.as_str() == "sum" {
+        return match SumRequest::read(alloc, rest) {
+            Ok(asked) => Ok(Request::Sum(asked)),
+            Err(no) => Err(no),
+        };
+    }
+    if first.as_str() == "diff" {
+        return match DiffRequest::read(alloc, rest) {
+            Ok(asked) => Ok(Request::Diff(asked)),
             Err(no) => Err(no),
         };
     }

@@ -16,11 +16,19 @@ const EXPLAIN: &str = "lc explain . README.md";
 /// A check of paths by the ignore file that most repositories have.
 const CHECK: &str = "git ls-files | lc check .gitignore";
 
+/// A sum of one report.
+const SUM: &str = "lc count --format json . | lc sum";
+
+/// A comparison of the current directory with itself.
+const DIFF: &str = "lc diff . .";
+
 /// The commands, each with an example.
 const COMMANDS: &[(&str, &str)] = &[
     ("count", COUNT),
     ("explain", EXPLAIN),
     ("check", CHECK),
+    ("sum", SUM),
+    ("diff", DIFF),
     ("help", "lc --help"),
 ];
 
@@ -148,7 +156,8 @@ fn known_options(
         if row.of.has(command) && !row.heading.is_empty() {
             let meant = match command {
                 Subcommand::Count => row.example,
-                Subcommand::Explain | Subcommand::Check => other,
+                Subcommand::Explain | Subcommand::Check | Subcommand::Sum | Subcommand::Diff =>
+                    other,
             };
             known.push((row.name, meant))?;
         }
@@ -280,4 +289,14 @@ pub(crate) fn explain<W: AsStr>(
 /// Finds the check that refused arguments of `lc check` may have meant. `problem` is clap's message.
 pub(crate) fn check(alloc: Global, problem: &str) -> Result<Advice, AllocError> {
     option_or(alloc, problem, Subcommand::Check, CHECK)
+}
+
+/// Finds the sum that refused arguments of `lc sum` may have meant. `problem` is what clap says is wrong.
+pub(crate) fn sum(alloc: Global, problem: &str) -> Result<Advice, AllocError> {
+    option_or(alloc, problem, Subcommand::Sum, SUM)
+}
+
+/// Finds the difference that refused arguments of `lc diff` may have meant. `problem` is what clap says is wrong.
+pub(crate) fn diff(alloc: Global, problem: &str) -> Result<Advice, AllocError> {
+    option_or(alloc, problem, Subcommand::Diff, DIFF)
 }

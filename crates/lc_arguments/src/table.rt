@@ -6,23 +6,24 @@ ghost use Rattle.clap.specs.Walk.{rows_of};
 ghost use Rattle.lc_sheet.specs.declared.table_options.Columns.{Columns as ColumnsModel};
 ghost use Rattle.lc_sheet.specs.declared.table_options.Format.{Format as FormatModel};
 ghost use Rattle.lc_sheet.specs.declared.table_options.Order.{Order as OrderModel};
-ghost use Rattle.lc_arguments.specs.Explained.{AnswersColumns, AnswersFormat, AnswersSort, AnswersTable, AnswersTableIn};
+ghost use Rattle.lc_arguments.specs.Explained.{AnswersColumns, AnswersFormat, AnswersSort, AnswersTable, AnswersTableIn, IsRefusal};
 ghost use Rattle.lc_arguments.specs.TableWords.{IsColumnsText, default_order, format_in, format_word, is_for_reading, number_of};
 ghost use Rattle.lc_arguments.specs.TableWords.{options_in, order_in, order_word};
 
+use crate::numbers::Cuts;
 use crate::request::{ParseExit, refused, unfit};
 use clap::ArgMatches;
 use lc_glob::cut_at_first;
 use lc_sheet::{Columns, Format, Number, Order, TableOptions};
 use std::alloc::Global;
 
-/// The table that a count prints, as in `--format table --by ext --sort lines`.
+/// The table that a command prints, as in `--format table --by ext --sort lines`.
 #[derive(Clone, Copy)]
 pub struct TableRequest {
     /// The format, if one is named. If none is, shares are shown in a table.
     pub format: Option<Format>,
-    /// The columns of `--by`: by default `ext`, `text` and `eol`.
-    pub by: Columns,
+    /// The columns of `--by`, if they are named.
+    pub by: Option<Columns>,
     /// The order of rows and files, if one is named.
     pub sort: Option<Order>,
     /// The greatest number of rows, and of files, if a limit is named.
@@ -77,15 +78,16 @@ impl TableRequest {
         self.sort.unwrap_or(default_order(format, self.top))
     }
 
-    /// Returns the options of the table. If no format is named and no shares are shown, its format is `other`. If no order is named, rows
-    /// and files are sorted by lines with `--top` and in a format for reading, and otherwise by their names.
-    pub fn options(self, other: Format) -> TableOptions
-        ensures { result ≡ options_in other self }
+    /// Returns the options of the table. If no format is named and no shares are shown, its format is `other`. If no columns are named, it
+    /// has `columns`. If no order is named, rows and files are sorted by lines with `--top` and in a format for reading, and otherwise by
+    /// their names.
+    pub fn options(self, other: Format, columns: Columns) -> TableOptions
+        ensures { result ≡ options_in other columns self }
     {
         let format = self.format_or(other);
         TableOptions {
             format,
-            by: self.by,
+            by: self.by.unwrap_or(columns),
             sort: number_of(self.order_in(format)),
             top: self.top,
             files: self.files,
@@ -165,11 +167,27 @@ fn format_of(alloc: Global, name: Option<&str>) -> Result<Option<Format>, ParseE
     }
 }
 
+/// Makes the refusal of a depth without directories.
+fn undirected(alloc: Global) -> ParseExit
+    ensures { IsRefusal result }
+{
+    unfit(alloc, "'--depth <N>' needs '--by dir'")
+}
+
 /// Reads the values of `--by` and `--depth`.
-fn columns_of(alloc: Global, names: Option<&str>, depth: Option<u32>) -> Result<Columns, ParseExit>
+fn columns_of(
+    alloc: Global,
+    names: Option<&str>,
+    depth: Option<u32>,
+) -> Result<Option<Columns>, ParseExit>
     ensures { AnswersColumns (option_map (λ s. s.now) names.entry) depth result }
 {
-    let names = names.unwrap_or("ext,text,eol");
+    let Some(names) = names else {
+        return match depth {
+            None => Ok(None),
+            Some(_) => Err(undirected(alloc)),
+        };
+    };
     let Some(columns) = columns_named(names, depth.unwrap_or(1)) else {
         return Err(refused(
             alloc,
@@ -179,9 +197,9 @@ fn columns_of(alloc: Global, names: Option<&str>, depth: Option<u32>) -> Result<
         ));
     };
     if depth.is_some() && columns.dir.is_none() {
-        return Err(unfit(alloc, "'--depth <N>' needs '--by dir'"));
+        return Err(undirected(alloc));
     }
-    Ok(columns)
+    Ok(Some(columns))
 }
 
 /// Reads the value of `--sort`.
@@ -230,16 +248,24 @@ fn table_of(
     })
 }
 
-/// Reads the format, the columns and the order from clap's values. The options then have all rows, and neither files nor shares.
+/// Reads the options of the table from clap's values.
 pub(crate) fn table_in(
     alloc: Global,
     matches: &ArgMatches<'_>,
-    depth: Option<u32>,
+    cuts: Cuts,
 ) -> Result<TableRequest, ParseExit>
-    ensures { AnswersTableIn (rows_of (found_of matches.now)) depth result }
+    ensures { AnswersTableIn (rows_of (found_of matches.now)) cuts result }
 {
     let format = matches.get_str("format");
     let by = matches.get_str("by");
     let sort = matches.get_str("sort");
-    table_of(alloc, format, by, depth, sort)
+    match table_of(alloc, format, by, cuts.depth, sort) {
+        Ok(table) => Ok(TableRequest {
+            top: cuts.top,
+            files: matches.get_flag("files"),
+            share: matches.get_flag("share"),
+            ..table
+        }),
+        Err(no) => Err(no),
+    }
 }

@@ -123,6 +123,8 @@ fn answer_text(
         Ok(Request::Check(_request)) => Ok(String::new(alloc)),
         Ok(Request::Count(request)) => conditions_text(alloc, &request),
         Ok(Request::Explain(_request)) => Ok(String::new(alloc)),
+        Ok(Request::Sum(_request)) => Ok(String::new(alloc)),
+        Ok(Request::Diff(_request)) => Ok(String::new(alloc)),
         Err(ParseExit::Shown(text)) => format!(in alloc; "{text}"),
         Err(ParseExit::Refused(text)) => format!(in alloc; "{text}"),
         Err(ParseExit::Memory) => Err(AllocError),

@@ -4,4 +4,10 @@
 #[cfg(test)]
 mod conditions;
 #[cfg(test)]
+mod diffs;
+#[cfg(test)]
 mod requests;
+#[cfg(test)]
+mod sums;
+#[cfg(test)]
+mod texts;

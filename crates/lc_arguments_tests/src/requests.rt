@@ -1,29 +1,24 @@
 //! The words of a command line, and what they ask for.
 
-use lc_arguments::{
-    CheckRequest, CountRequest, ExplainRequest, FilterRequest, ParseExit, Request, TableRequest,
-    count_words, unslashed,
-};
+use crate::texts::{Case, answer_text, check_all, text_of, words_of};
+use lc_arguments::{ParseExit, Request, count_words, unslashed};
 use lc_sheet::{Columns, Format, Number};
 use std::alloc::{AllocError, Global};
 use std::process::Abort;
 use std::test::Fail;
 
-/// Words, which are parted by spaces, and what they ask for, or the beginning of what is said of them.
-type Case = (&'static str, &'static str);
-
 const COUNTS: &[Case] = &[
     (
         "count .",
-        "count .: 4 threads, 65536 directories, no format by ext text eol",
+        "count .: 4 threads, 65536 directories, no format by no columns",
     ),
     (
         "count --threads 16 --max-dirs=1 src",
-        "count src: 16 threads, 1 directories, no format by ext text eol",
+        "count src: 16 threads, 1 directories, no format by no columns",
     ),
     (
         "count . --files --left-out --archive",
-        "count .: 4 threads, 65536 directories, no format by ext text eol, files, left out, archive",
+        "count .: 4 threads, 65536 directories, no format by no columns, files, left out, archive",
     ),
     (
         "count --format table --by eol,ext --sort bytes .",
@@ -31,23 +26,23 @@ const COUNTS: &[Case] = &[
     ),
     (
         "count --files --sort lines --top 10 .",
-        "count .: 4 threads, 65536 directories, no format by ext text eol sorted by Largest(Lines), first 10, files",
+        "count .: 4 threads, 65536 directories, no format by no columns sorted by Largest(Lines), first 10, files",
     ),
     (
         "count --exclude-from rules --without a --without=b=1 --only src/ --only c .",
-        "count .: 4 threads, 65536 directories, no format by ext text eol, excludes rules, without a, without b=1, only src, only c",
+        "count .: 4 threads, 65536 directories, no format by no columns, excludes rules, without a, without b=1, only src, only c",
     ),
     (
         "count -j 8 --exclude a --exclude=!b --include *.c --no-ignore .",
-        "count .: 8 threads, 65536 directories, no format by ext text eol, excluding a, excluding !b, including *.c, no ignore files",
+        "count .: 8 threads, 65536 directories, no format by no columns, excluding a, excluding !b, including *.c, no ignore files",
     ),
     (
         "count -x .",
-        "count .: 4 threads, 65536 directories, no format by ext text eol, one file system",
+        "count .: 4 threads, 65536 directories, no format by no columns, one file system",
     ),
     (
         "count --only-from - -0 .",
-        "count .: 4 threads, 65536 directories, no format by ext text eol, only from - ended by NUL",
+        "count .: 4 threads, 65536 directories, no format by no columns, only from - ended by NUL",
     ),
     (
         "count --by ext,dir --format markdown --share .",
@@ -55,19 +50,23 @@ const COUNTS: &[Case] = &[
     ),
     (
         "count --format html --sort bytes .",
-        "count .: 4 threads, 65536 directories, Html by ext text eol sorted by Largest(Bytes)",
+        "count .: 4 threads, 65536 directories, Html by no columns sorted by Largest(Bytes)",
     ),
     (
         "count --depth 256 --by dir --format csv .",
         "count .: 4 threads, 65536 directories, Csv by dir to 256",
     ),
     (
+        "count --by text,eol,ext .",
+        "count .: 4 threads, 65536 directories, no format by ext text eol",
+    ),
+    (
         "count --sort name .",
-        "count .: 4 threads, 65536 directories, no format by ext text eol sorted by Name",
+        "count .: 4 threads, 65536 directories, no format by no columns sorted by Name",
     ),
     (
         "count --share .",
-        "count .: 4 threads, 65536 directories, no format by ext text eol, shares",
+        "count .: 4 threads, 65536 directories, no format by no columns, shares",
     ),
     (
         "count a --by ext b/ a/b ./a",
@@ -75,7 +74,7 @@ const COUNTS: &[Case] = &[
     ),
     (
         "count --only ./src/ --only .//a --only . --only ./ .",
-        "count .: 4 threads, 65536 directories, no format by ext text eol, only src, only a, only ., only .",
+        "count .: 4 threads, 65536 directories, no format by no columns, only src, only a, only ., only .",
     ),
 ];
 
@@ -83,19 +82,19 @@ const COUNTS: &[Case] = &[
 const SHORT_COUNTS: &[Case] = &[
     (
         "count",
-        "count .: 4 threads, 65536 directories, no format by ext text eol",
+        "count .: 4 threads, 65536 directories, no format by no columns",
     ),
     (
         ".",
-        "count .: 4 threads, 65536 directories, no format by ext text eol",
+        "count .: 4 threads, 65536 directories, no format by no columns",
     ),
     (
         "..",
-        "count ..: 4 threads, 65536 directories, no format by ext text eol",
+        "count ..: 4 threads, 65536 directories, no format by no columns",
     ),
     (
         "./src",
-        "count ./src: 4 threads, 65536 directories, no format by ext text eol",
+        "count ./src: 4 threads, 65536 directories, no format by no columns",
     ),
     (
         "--by ext /usr/include",
@@ -107,19 +106,19 @@ const SHORT_COUNTS: &[Case] = &[
     ),
     (
         "-x",
-        "count .: 4 threads, 65536 directories, no format by ext text eol, one file system",
+        "count .: 4 threads, 65536 directories, no format by no columns, one file system",
     ),
     (
         "--fail-if-any src",
-        "count src: 4 threads, 65536 directories, no format by ext text eol, any file fails",
+        "count src: 4 threads, 65536 directories, no format by no columns, any file fails",
     ),
     (
         "-- src",
-        "count src: 4 threads, 65536 directories, no format by ext text eol",
+        "count src: 4 threads, 65536 directories, no format by no columns",
     ),
     (
         "./b/ ../a",
-        "count ./b/ ../a: 4 threads, 65536 directories, no format by ext text eol",
+        "count ./b/ ../a: 4 threads, 65536 directories, no format by no columns",
     ),
 ];
 
@@ -336,6 +335,10 @@ const MEANT: &[Case] = &[
     ("-v", "lc --version"),
     ("count --version", "lc --version"),
     ("count --json=x .", "lc count --format json ."),
+    ("suum a.json", "lc count --format json . | lc sum"),
+    ("sum --only a", "lc count --format json . | lc sum"),
+    ("dif a b", "lc diff . ."),
+    ("diff --left-out a b", "lc diff . ."),
     ("json", "lc count --format json ."),
     ("help src", "lc help count"),
     ("a\u{1b}", "lc count ."),
@@ -349,172 +352,6 @@ const DIRECTORIES: &[Case] = &[
     ("contrib", "lc count contrib"),
     ("it's", "lc count 'it'\\''s'"),
 ];
-
-fn push_filters(text: &mut String, filters: &FilterRequest) -> Result<(), AllocError> {
-    if filters.archive {
-        text.push_str(", archive")?;
-    }
-    if let Some(file) = filters.exclude_from {
-        write!(text, ", excludes {file}")?;
-    }
-    for name in &filters.without {
-        write!(text, ", without {name}")?;
-    }
-    for pattern in &filters.exclude {
-        write!(text, ", excluding {pattern}")?;
-    }
-    for pattern in &filters.include {
-        write!(text, ", including {pattern}")?;
-    }
-    if filters.no_ignore {
-        text.push_str(", no ignore files")?;
-    }
-    Ok(())
-}
-
-fn push_columns(text: &mut String, by: Columns) -> Result<(), AllocError> {
-    if let Some(depth) = by.dir {
-        write!(text, " dir to {depth}")?;
-    }
-    for (kept, name) in [(by.ext, " ext"), (by.text, " text"), (by.eol, " eol")] {
-        if kept {
-            text.push_str(name)?;
-        }
-    }
-    Ok(())
-}
-
-fn push_table(text: &mut String, table: TableRequest) -> Result<(), AllocError> {
-    match table.format {
-        Some(format) => write!(text, "{format:?} by")?,
-        None => text.push_str("no format by")?,
-    }
-    push_columns(text, table.by)?;
-    if let Some(sort) = table.sort {
-        write!(text, " sorted by {sort:?}")?;
-    }
-    if let Some(top) = table.top {
-        write!(text, ", first {top}")?;
-    }
-    if table.share {
-        text.push_str(", shares")?;
-    }
-    if table.files {
-        text.push_str(", files")?;
-    }
-    Ok(())
-}
-
-fn push_paths(text: &mut String, request: &CountRequest) -> Result<(), AllocError> {
-    for path in &request.only {
-        let path = str::from_utf8(path).unwrap_or("?");
-        write!(text, ", only {path}")?;
-    }
-    if let Some(file) = request.only_from {
-        write!(text, ", only from {file}")?;
-    }
-    if request.null {
-        text.push_str(" ended by NUL")?;
-    }
-    if request.one_file_system {
-        text.push_str(", one file system")?;
-    }
-    Ok(())
-}
-
-fn count_text(alloc: Global, request: &CountRequest) -> Result<String, AllocError> {
-    let (threads, max_dirs) = (request.threads, request.max_dirs);
-    let mut text = String::from_str(alloc, "count")?;
-    for directory in &request.directories {
-        write!(text, " {directory}")?;
-    }
-    write!(text, ": {threads} threads, {max_dirs} directories, ")?;
-    push_table(&mut text, request.table)?;
-    if request.left_out {
-        text.push_str(", left out")?;
-    }
-    push_filters(&mut text, &request.filters)?;
-    push_paths(&mut text, request)?;
-    if request.fail_if_any {
-        text.push_str(", any file fails")?;
-    }
-    Ok(text)
-}
-
-fn check_text(alloc: Global, request: &CheckRequest) -> Result<String, AllocError> {
-    let file = request.file;
-    let mut text = format!(in alloc; "check {file}")?;
-    if request.explain {
-        text.push_str(", explained")?;
-    }
-    if request.null {
-        text.push_str(", ended by NUL")?;
-    }
-    Ok(text)
-}
-
-fn explain_text(alloc: Global, request: &ExplainRequest) -> Result<String, AllocError> {
-    let directory = request.directory;
-    let mut text = format!(in alloc; "explain {directory}")?;
-    push_filters(&mut text, &request.filters)?;
-    if request.null {
-        text.push_str(", ended by NUL")?;
-    }
-    for path in &request.paths {
-        write!(text, ", {path}")?;
-    }
-    Ok(text)
-}
-
-/// What is asked for, or what is said of the words.
-fn answer_text(
-    alloc: Global,
-    answer: Result<Request<'_>, ParseExit>,
-) -> Result<String, AllocError> {
-    match answer {
-        Ok(Request::CheckJoined) => format!(in alloc; "check joined"),
-        Ok(Request::Check(request)) => check_text(alloc, &request),
-        Ok(Request::Count(request)) => count_text(alloc, &request),
-        Ok(Request::Explain(request)) => explain_text(alloc, &request),
-        Err(ParseExit::Shown(text)) => format!(in alloc; "shown: {text}"),
-        Err(ParseExit::Refused(text)) => format!(in alloc; "refused: {text}"),
-        Err(ParseExit::Memory) => Err(AllocError),
-    }
-}
-
-/// Returns words that are parted by spaces.
-fn words_of(alloc: Global, line: &str) -> Result<Vec<&str>, AllocError> {
-    let mut words = Vec::new(alloc);
-    for word in line.split_ascii_whitespace() {
-        words.push(word)?;
-    }
-    Ok(words)
-}
-
-/// Reads words that are parted by spaces, and returns what they ask for, or what is said of them.
-fn text_of(alloc: Global, line: &str) -> Result<String, AllocError> {
-    let words = words_of(alloc, line)?;
-    answer_text(alloc, Request::read(alloc, words.as_slice()))
-}
-
-fn check(rt: &impl Abort, alloc: Global, (line, wanted): &Case) -> Result<(), AllocError> {
-    let found = text_of(alloc, line)?;
-    let is_exit = wanted.starts_with("shown: ") || wanted.starts_with("refused: ");
-    let holds = if is_exit {
-        found.starts_with(wanted)
-    } else {
-        found.as_str() == *wanted
-    };
-    assert!(rt; holds, "{line}: {found}");
-    Ok(())
-}
-
-fn check_all(rt: &impl Abort, alloc: Global, cases: &[Case]) -> Result<(), AllocError> {
-    for case in cases {
-        check(rt, alloc, case)?;
-    }
-    Ok(())
-}
 
 /// Returns whether the program refuses the words of a command. A shell drops the quotes around them.
 fn is_refused(alloc: Global, command: &str) -> Result<bool, AllocError> {
@@ -569,7 +406,7 @@ fn refused_words_and_commands_that_work(rt: HostRuntime) -> Result<(), Fail> {
 fn sorted_by(alloc: Global, line: &str, format: Format) -> Result<Option<Number>, AllocError> {
     let words = words_of(alloc, line)?;
     match Request::read(alloc, words.as_slice()) {
-        Ok(Request::Count(request)) => Ok(request.table.options(format).sort),
+        Ok(Request::Count(request)) => Ok(request.table.options(format, Columns::ALL).sort),
         Err(ParseExit::Memory) => Err(AllocError),
         _ => Ok(None),
     }

@@ -2,12 +2,12 @@ use Rattle.std.proofs.Common.{codes, refl}
 use Rattle.clap.specs.Matches.{found_of}
 use Rattle.clap.specs.Walk.{rows_of}
 use Rattle.lc_arguments.specs.declared.repeated.Repeated.TheVariants.{Conditions}
-use Rattle.lc_arguments.proofs.Misnaming.{no_conditions}
+use Rattle.lc_arguments.proofs.Misnaming.{refused_with}
 use Rattle.lc_arguments.proofs.WordFaults.{flag_of}
 use Rattle.lc_arguments.proofs.conditions.conditions_in.Goals as goal
 
 pub returns-in-Err : goal.returns-in-Err
-returns-in-Err c = no_conditions Conditions (rows_of (found_of c.args.matches.now)) c.in-Err.no c.in-Err.ensures
+returns-in-Err c = refused_with _ _ c.in-Err.no (λ bad. (Conditions, bad)) c.in-Err.ensures
 
 pub returns-in-Ok-all_conditions : goal.returns-in-Ok-all_conditions
 returns-in-Ok-all_conditions c =

@@ -18,8 +18,10 @@ returns c =
       λ m parsed. record {
         threads = reads_number (codes "count") count_rules command has refl (codes "threads") max_threads refl m parsed;
         max_dirs = reads_number (codes "count") count_rules command has refl (codes "max-dirs") max_dirs refl m parsed;
-        depth = reads_number (codes "count") count_rules command has refl (codes "depth") max_depth refl m parsed;
-        top = reads_number (codes "count") count_rules command has refl (codes "top") max_top refl m parsed;
+        cuts = record {
+          depth = reads_number (codes "count") count_rules command has refl (codes "depth") max_depth refl m parsed;
+          top = reads_number (codes "count") count_rules command has refl (codes "top") max_top refl m parsed;
+        };
       },
     ))
     c.args-3.ensures

@@ -1,74 +1,48 @@
-use Rattle.std.proofs.Common.{ℕ, codes, refl, subst}
-use Rattle.std.specs.Prelude.{Option}
+use Rattle.std.proofs.Common.{codes, inl, inr, refl}
 use Rattle.clap.specs.Matches.{found_of}
 use Rattle.clap.specs.Walk.{rows_of}
-use Rattle.lc_arguments.specs.Words.{IsTableAt}
-use Rattle.lc_arguments.proofs.ColumnNames.{depth_within}
-use Rattle.lc_arguments.proofs.WordFaults.{flag_of, text_of}
-use Rattle.lc_arguments.proofs.Misnaming.{conditions_refused, directories_refused, filters_refused, no_count_in, paths_refused}
-use Rattle.lc_arguments.proofs.Misnaming.{table_refused}
+use Rattle.lc_arguments.specs.ReadNumbers.{AreCutsIn}
+use Rattle.lc_arguments.specs.Words.{AsksNoTable, AsksNoWalk, Misvalue, NamesOneTwice}
+use Rattle.lc_arguments.proofs.WordFaults.{flag_of}
+use Rattle.lc_arguments.proofs.Misnaming.{no_count_in}
 use Rattle.lc_arguments.proofs.count.request_in.Goals as goal
 
-pub returns-in_err-filters : goal.returns-in_err-filters
-returns-in_err-filters c =
+pub returns-in_err-walk : goal.returns-in_err-walk
+returns-in_err-walk c =
     let rows = rows_of (found_of c.args.matches.now) in
-    no_count_in rows c.args.numbers c.from_residual.result c.in_err-filters.field-0.0 c.from_residual.ensures.1
-    (filters_refused rows c.args.numbers c.in_err-filters.field-0.0 c.in_err-filters.ensures)
-
-pub returns-in_err-only : goal.returns-in_err-only
-returns-in_err-only c =
-    let rows = rows_of (found_of c.args.matches.now) in
-    no_count_in rows c.args.numbers c.from_residual-in_err-only.result c.in_err-only.field-0.0 c.from_residual-in_err-only.ensures.1
-    (paths_refused rows c.args.numbers c.in_err-only.field-0.0 c.in_err-only.ensures)
+    no_count_in rows c.args.numbers c.from_residual.result c.in_err-walk.field-0.0 (AsksNoWalk rows) (λ bad are. inl bad)
+    c.from_residual.ensures.1 c.in_err-walk.ensures
 
 pub returns-in_err-directories : goal.returns-in_err-directories
 returns-in_err-directories c =
     let rows = rows_of (found_of c.args.matches.now) in
     no_count_in rows c.args.numbers c.from_residual-in_err-directories.result c.in_err-directories.field-0.0
-    c.from_residual-in_err-directories.ensures.1
-    (directories_refused rows c.args.numbers c.in_err-directories.field-0.0 c.in_err-directories.ensures)
+    (NamesOneTwice rows) (λ bad are. inr (inl bad))
+    c.from_residual-in_err-directories.ensures.1 c.in_err-directories.ensures
 
 pub returns-in_err-table : goal.returns-in_err-table
 returns-in_err-table c =
     let rows = rows_of (found_of c.args.matches.now) in
-    no_count_in rows c.args.numbers c.from_residual-in_err-table.result c.in_err-table.field-0.0 c.from_residual-in_err-table.ensures.1
-    (table_refused rows c.args.numbers c.in_err-table.field-0.0 c.in_err-table.ensures)
+    no_count_in rows c.args.numbers c.from_residual-in_err-table.result c.in_err-table.field-0.0
+    (AreCutsIn rows c.args.numbers.cuts → AsksNoTable rows) (λ bad are. inr (inr (inl (bad are.cuts))))
+    c.from_residual-in_err-table.ensures.1 c.in_err-table.ensures
 
 pub returns-in_err-conditions : goal.returns-in_err-conditions
 returns-in_err-conditions c =
     let rows = rows_of (found_of c.args.matches.now) in
     no_count_in rows c.args.numbers c.from_residual-in_err-conditions.result c.in_err-conditions.field-0.0
-    c.from_residual-in_err-conditions.ensures.1
-    (conditions_refused rows c.args.numbers c.in_err-conditions.field-0.0 c.in_err-conditions.ensures)
+    (Misvalue rows) (λ bad are. inl (inl bad))
+    c.from_residual-in_err-conditions.ensures.1 c.in_err-conditions.ensures
 
 pub returns : goal.returns
 returns c = λ are.
     let f = found_of c.args.matches.now in
     let rows = rows_of f in
-    let at = c.in_ok-table.ensures in
-    let table = subst (λ (depth : Option ℕ). IsTableAt rows depth c.in_ok-table.table) are.depth at in
     record {
-      within = record {
-        some_threads = are.some_threads;
-        threads = are.within_threads;
-        some_dirs = are.some_dirs;
-        max_dirs = are.within_dirs;
-        depth = depth_within c.args.numbers.depth c.in_ok-table.table.by _ at.by_is are.some_depth are.within_depth;
-      };
-      threads = are.threads;
-      max_dirs = are.max_dirs;
-      files = flag_of rows f (codes "files") c.get_flag-4.result refl c.get_flag-4.ensures.value c.get_flag-4.ensures.other;
+      walk = c.in_ok-walk.ensures are;
       left_out = flag_of rows f (codes "left-out") c.get_flag.result refl c.get_flag.ensures.value c.get_flag.ensures.other;
-      filters = c.in_ok-filters.ensures;
-      only = c.in_ok-only.ensures;
-      only_from = text_of rows f (codes "only-from") c.get_str.result refl c.get_str.ensures;
-      null = flag_of rows f (codes "null") c.get_flag-2.result refl c.get_flag-2.ensures.value c.get_flag-2.ensures.other;
-      one_file_system = flag_of rows f (codes "one-file-system") c.get_flag-3.result refl c.get_flag-3.ensures.value
-          c.get_flag-3.ensures.other;
-      table = record { format_is = table.format_is; by_is = table.by_is; sort_is = table.sort_is };
-      top = are.top;
-      share = flag_of rows f (codes "share") c.get_flag-5.result refl c.get_flag-5.ensures.value c.get_flag-5.ensures.other;
+      table = c.in_ok-table.ensures are.cuts;
       conditions = c.in_ok-conditions.ensures;
-      fail_if_any = flag_of rows f (codes "fail-if-any") c.get_flag-6.result refl c.get_flag-6.ensures.value c.get_flag-6.ensures.other;
+      fail_if_any = flag_of rows f (codes "fail-if-any") c.get_flag-2.result refl c.get_flag-2.ensures.value c.get_flag-2.ensures.other;
       directories = c.in_ok-directories.ensures;
     }

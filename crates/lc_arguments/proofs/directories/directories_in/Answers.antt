@@ -1,13 +1,15 @@
-use Rattle.std.proofs.Common.{List, ℕ, codes, refl, subst}
+use Rattle.std.proofs.Common.{◌∙◌, List, ℕ, ap, codes, refl, subst}
 use Rattle.clap.specs.Matches.{found_of}
 use Rattle.clap.specs.Walk.{rows_of}
+use Rattle.lc_arguments.specs.Directories.{or_default}
 use Rattle.lc_arguments.specs.Explained.{AnswersDirectories}
 use Rattle.lc_arguments.proofs.WordFaults.{texts_of}
 use Rattle.lc_arguments.proofs.directories.directories_in.Goals as goal
 
-pub returns : goal.returns
-returns c =
+pub returns-in-Ok : goal.returns-in-Ok
+returns-in-Ok c =
     let f = found_of c.args.matches.now in
     let words = texts_of (rows_of f) f (codes "DIR") c.get_strs.result _ c.unwrap_or-words.result refl c.get_strs.ensures refl
     c.unwrap_or-words.ensures in
-    subst (λ (texts : List (List ℕ)). AnswersDirectories texts c.directories_of.result) words c.directories_of.ensures
+    subst (λ (texts : List (List ℕ)). AnswersDirectories texts c.distinct.result)
+    (c.in-Ok.ensures ∙ ap (or_default (codes ".")) words) c.distinct.ensures

@@ -1,12 +1,13 @@
 use Rattle.std.proofs.Common.{◌∙◌, ap, map, sym, take_all, ℕ, List, Bor}
 use Rattle.std.specs.List.{list_any}
 use Rattle.lc_arguments.specs.Words.{is_bad_part, part_of}
-use Rattle.lc_arguments.proofs.AskedPaths.{misplaced_for, one_misplaced, paths_lent, some_bad}
+use Rattle.lc_arguments.proofs.AskedPaths.{one_misplaced, paths_lent, some_bad}
+use Rattle.lc_arguments.proofs.Misnaming.{refused_for}
 use Rattle.lc_arguments.proofs.paths.paths_of.Goals as goal
 
 pub returns-then-is_bad_part : goal.returns-then-is_bad_part
 returns-then-is_bad_part c =
-    misplaced_for (map (λ word. word.now) c.args.words.now) c.misplaced.result c.misplaced.ensures
+    refused_for _ c.misplaced.result c.misplaced.ensures
     (one_misplaced c.args.words.now c.loop-word.word-index _ c.loop-word-test.true
     (ap is_bad_part (sym c.part_of-path.ensures) ∙ sym c.if-is_bad_part.ensures))
 

@@ -1,16 +1,18 @@
-use Rattle.std.proofs.Common.{map, subst, List, Err, Ok}
+use Rattle.std.proofs.Common.{inr, map, subst, List, Err, Ok}
+use Rattle.clap.specs.Simple.{matches_of}
 use Rattle.clap.specs.Walk.{Row}
 use Rattle.lc_arguments.specs.CommandLine.{count_app}
 use Rattle.lc_arguments.specs.Explained.{AnswersCountIn}
 use Rattle.lc_arguments.specs.Combinations.{fit_together}
-use Rattle.lc_arguments.specs.Words.{AreNumbersIn, IsCountOf}
-use Rattle.lc_arguments.proofs.WordFaults.{count_is_free, count_is_simple, fails_as, matches_as, no_count_by, no_request_of}
-use Rattle.lc_arguments.proofs.Misnaming.{count_refused, misfit_refused, none_wrong, one_wrong}
+use Rattle.lc_arguments.specs.Words.{AsksNoCount, IsCountOf}
+use Rattle.lc_arguments.specs.ReadNumbers.{AreNumbersIn}
+use Rattle.lc_arguments.proofs.WordFaults.{count_is_free, count_is_simple, fails_as, matches_as, no_request_of}
+use Rattle.lc_arguments.proofs.Misnaming.{none_wrong, one_wrong, refused_for, refused_with, unread_by, unread_for}
 use Rattle.lc_arguments.proofs.count.CountRequest.read.Goals as goal
 
 pub returns-in-Err : goal.returns-in-Err
 returns-in-Err g c =
-    no_count_by (map g.W.AsStr.text c.args.words.now) c.explained_count.result
+    unread_by count_app AsksNoCount (map g.W.AsStr.text c.args.words.now) c.explained_count.result
     (no_request_of c.in-Ok.command count_app (map g.W.AsStr.text c.args.words.now) c.in-Err.error c.explained_count.result
     c.in-Ok.ensures.0.0 count_is_free c.in-Err.ensures.kinds c.explained_count.ensures)
 
@@ -24,8 +26,9 @@ returns-in-Err-request_in g c =
     let numbers = c.read.result in
     let are = subst (λ (rs : List Row). AreNumbersIn rs numbers) rows (c.read.ensures (c.in-Ok.ensures.1 m parse.parsed)) in
     let why = c.in-Err-request_in.no in
-    count_refused words numbers why (fails_as c.in-Ok.command count_app words (Ok m) is count_is_free parse.kinds) are
-    (subst (λ (rs : List Row). AnswersCountIn rs numbers (Err why)) rows c.in-Err-request_in.ensures)
+    unread_for count_app AsksNoCount words why (fails_as c.in-Ok.command count_app words (Ok m) is count_is_free parse.kinds)
+    (refused_with _ (AsksNoCount (matches_of count_app words)) why (λ asks. asks are)
+    (subst (λ (rs : List Row). AnswersCountIn rs numbers (Err why)) rows c.in-Err-request_in.ensures))
 
 pub returns-in-None : goal.returns-in-None
 returns-in-None g c =
@@ -49,6 +52,10 @@ returns g c =
     let request = c.in-Ok-request_in.request in
     let rows = matches_as c.in-Ok.command count_app words m is count_is_simple parse.matches in
     let found = c.in-Ok-request_in.ensures (c.read.ensures (c.in-Ok.ensures.1 m parse.parsed)) in
-    misfit_refused words request c.unfit.result (fails_as c.in-Ok.command count_app words (Ok m) is count_is_free parse.kinds)
-    c.unfit.ensures (subst (λ (rs : List Row). IsCountOf rs request) rows found)
-    (one_wrong (fit_together request) (rw c.in-Some.is at c.misfit.ensures))
+    unread_for count_app AsksNoCount words c.unfit.result
+    (fails_as c.in-Ok.command count_app words (Ok m) is count_is_free parse.kinds)
+    (refused_for (AsksNoCount (matches_of count_app words)) c.unfit.result c.unfit.ensures (inr (inr (inr (
+      request,
+      subst (λ (rs : List Row). IsCountOf rs request) rows found,
+      one_wrong (fit_together request) (rw c.in-Some.is at c.misfit.ensures),
+    )))))

@@ -5,15 +5,15 @@ use Rattle.clap.specs.Simple.{matches_of}
 use Rattle.clap.specs.Walk.{Row}
 use Rattle.lc_arguments.specs.CommandLine.{explain_app}
 use Rattle.lc_arguments.specs.Explained.{AnswersFilters}
-use Rattle.lc_arguments.specs.Words.{AreFiltersOf}
-use Rattle.lc_arguments.proofs.WordFaults.{explain_is_free, explain_is_simple, fails_as, flag_of, matches_as, no_explanation_by}
+use Rattle.lc_arguments.specs.Words.{AreFiltersOf, Misvalue}
+use Rattle.lc_arguments.proofs.WordFaults.{explain_is_free, explain_is_simple, fails_as, flag_of, matches_as}
 use Rattle.lc_arguments.proofs.WordFaults.{no_request_of, text_or, texts_of}
-use Rattle.lc_arguments.proofs.Misnaming.{explain_refused_for}
+use Rattle.lc_arguments.proofs.Misnaming.{unread_by, unread_for}
 use Rattle.lc_arguments.proofs.explain.ExplainRequest.read.Goals as goal
 
 pub returns-in-Err : goal.returns-in-Err
 returns-in-Err g c =
-    no_explanation_by (map g.W.AsStr.text c.args.words.now) c.explained_explanation.result
+    unread_by explain_app Misvalue (map g.W.AsStr.text c.args.words.now) c.explained_explanation.result
     (no_request_of c.in-Ok.command explain_app (map g.W.AsStr.text c.args.words.now) c.in-Err.error c.explained_explanation.result
     c.in-Ok.ensures.0 explain_is_free c.in-Err.ensures.kinds c.explained_explanation.ensures)
 
@@ -25,7 +25,7 @@ returns-in-Err-read g c =
     let parse = c.in-Ok-try_get_matches_from.ensures in
     let are = matches_as c.in-Ok.command explain_app words m is explain_is_simple parse.matches in
     let why = c.in-Err-read.no in
-    explain_refused_for words why (fails_as c.in-Ok.command explain_app words (Ok m) is explain_is_free parse.kinds)
+    unread_for explain_app Misvalue words why (fails_as c.in-Ok.command explain_app words (Ok m) is explain_is_free parse.kinds)
     (subst (λ (rows : List Row). AnswersFilters rows (Err why)) are c.in-Err-read.ensures)
 
 pub returns : goal.returns

@@ -2,20 +2,18 @@ use Rattle.std.proofs.Common.{codes, refl}
 use Rattle.clap.specs.Matches.{found_of}
 use Rattle.clap.specs.Walk.{rows_of}
 use Rattle.lc_arguments.specs.declared.repeated.Repeated.TheVariants.{Attributes, Excluded, Included}
-use Rattle.lc_arguments.proofs.Misnaming.{misnamed_by}
+use Rattle.lc_arguments.proofs.Misnaming.{refused_with}
 use Rattle.lc_arguments.proofs.WordFaults.{flag_of, text_of}
 use Rattle.lc_arguments.proofs.filter_request.FilterRequest.read.Goals as goal
 
 pub returns-in-Err : goal.returns-in-Err
-returns-in-Err c = misnamed_by Attributes (rows_of (found_of c.args.matches.now)) c.in-Err.no c.in-Err.ensures
+returns-in-Err c = refused_with _ _ c.in-Err.no (λ bad. (Attributes, bad)) c.in-Err.ensures
 
 pub returns-in-Err-values_in : goal.returns-in-Err-values_in
-returns-in-Err-values_in c =
-    misnamed_by Excluded (rows_of (found_of c.args.matches.now)) c.in-Err-values_in.no c.in-Err-values_in.ensures
+returns-in-Err-values_in c = refused_with _ _ c.in-Err-values_in.no (λ bad. (Excluded, bad)) c.in-Err-values_in.ensures
 
 pub returns-in-Err-values_in-2 : goal.returns-in-Err-values_in-2
-returns-in-Err-values_in-2 c =
-    misnamed_by Included (rows_of (found_of c.args.matches.now)) c.in-Err-values_in-2.no c.in-Err-values_in-2.ensures
+returns-in-Err-values_in-2 c = refused_with _ _ c.in-Err-values_in-2.no (λ bad. (Included, bad)) c.in-Err-values_in-2.ensures
 
 pub returns : goal.returns
 returns c =

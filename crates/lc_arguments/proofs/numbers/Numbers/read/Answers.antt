@@ -2,8 +2,8 @@ use Rattle.std.proofs.Common.{arith, codes, refl}
 use Rattle.std.specs.Str.Parse.{ParsesUnsigned, ExplainsUnsignedError, HasUnsignedDigitsIfOk}
 use Rattle.clap.specs.Matches.{found_of, one_text}
 use Rattle.clap.specs.Walk.{rows_of}
-use Rattle.lc_arguments.proofs.ReadValues.{number_if_given, number_read}
-use Rattle.lc_arguments.proofs.WordFaults.{number_if_of, number_of}
+use Rattle.lc_arguments.proofs.ReadValues.{number_read}
+use Rattle.lc_arguments.proofs.WordFaults.{number_of}
 use Rattle.lc_arguments.proofs.numbers.Numbers.read.Goals as goal
 
 pub returns : goal.returns
@@ -19,16 +19,6 @@ returns c = λ within.
     (one_text f (codes "max-dirs")) c.get_one-2.result c.unwrap_or-2.result c.get_one-2.ensures.none
     c.get_one-2.ensures.value
     (λ u x h. h.0) (omega arith) within.max_dirs (omega arith) (omega arith) refl c.unwrap_or-2.ensures in
-    let depth = number_read _ (λ bs r. ParsesUnsigned 32 10 bs r × ExplainsUnsignedError 10 bs r × HasUnsignedDigitsIfOk bs r) 1
-    256 1 (codes "1")
-    (one_text f (codes "depth")) c.get_one-3.result _ c.get_one-3.ensures.none c.get_one-3.ensures.value
-    (λ u x h. h.0) (omega arith) within.depth (omega arith) (omega arith) refl refl in
-    let depth_given = number_if_given _ (λ bs r. ParsesUnsigned 32 10 bs r × ExplainsUnsignedError 10 bs r × HasUnsignedDigitsIfOk bs r) 1
-    256 (one_text f (codes "depth")) c.get_one-3.result c.get_one-3.ensures.none c.get_one-3.ensures.value
-    (λ u x h. h.0) (omega arith) within.depth in
-    let top = number_if_given _ (λ bs r. ParsesUnsigned 32 10 bs r × ExplainsUnsignedError 10 bs r × HasUnsignedDigitsIfOk bs r) 1
-    4294967295 (one_text f (codes "top")) c.get_one-4.result c.get_one-4.ensures.none c.get_one-4.ensures.value
-    (λ u x h. h.0) (omega arith) within.top in
     record {
       some_threads = threads.0;
       within_threads = threads.1;
@@ -36,8 +26,5 @@ returns c = λ within.
       some_dirs = max_dirs.0;
       within_dirs = max_dirs.1;
       max_dirs = number_of rows f (codes "max-dirs") (codes "65536") c.unwrap_or-2.result refl max_dirs.2;
-      some_depth = depth.0;
-      within_depth = depth.1;
-      depth = number_if_of rows f (codes "depth") c.get_one-3.result refl depth_given;
-      top = number_if_of rows f (codes "top") c.get_one-4.result refl top;
+      cuts = c.read.ensures within.cuts;
     }

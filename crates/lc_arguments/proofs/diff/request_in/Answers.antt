@@ -1,0 +1,49 @@
+use Rattle.std.proofs.Common.{codes, inl, inr, refl}
+use Rattle.clap.specs.Matches.{found_of}
+use Rattle.clap.specs.Walk.{rows_of}
+use Rattle.lc_arguments.specs.ReadNumbers.{AreCutsIn}
+use Rattle.lc_arguments.specs.Words.{AsksNoTable, AsksNoWalk, Misvalue}
+use Rattle.lc_arguments.proofs.WordFaults.{flag_of, text_or}
+use Rattle.lc_arguments.proofs.Misnaming.{no_diff_in}
+use Rattle.lc_arguments.proofs.diff.request_in.Goals as goal
+
+pub returns-in_err-walk : goal.returns-in_err-walk
+returns-in_err-walk c =
+    let rows = rows_of (found_of c.args.matches.now) in
+    no_diff_in rows c.args.numbers c.from_residual.result c.in_err-walk.field-0.0 (AsksNoWalk rows) (λ bad are. inl bad)
+    c.from_residual.ensures.1 c.in_err-walk.ensures
+
+pub returns-in_err-table : goal.returns-in_err-table
+returns-in_err-table c =
+    let rows = rows_of (found_of c.args.matches.now) in
+    no_diff_in rows c.args.numbers c.from_residual-in_err-table.result c.in_err-table.field-0.0
+    (AreCutsIn rows c.args.numbers.cuts → AsksNoTable rows) (λ bad are. inr (inl (bad are.cuts)))
+    c.from_residual-in_err-table.ensures.1 c.in_err-table.ensures
+
+pub returns-in_err-conditions : goal.returns-in_err-conditions
+returns-in_err-conditions c =
+    let rows = rows_of (found_of c.args.matches.now) in
+    no_diff_in rows c.args.numbers c.from_residual-in_err-conditions.result c.in_err-conditions.field-0.0
+    (Misvalue rows) (λ bad are. inl (inl bad))
+    c.from_residual-in_err-conditions.ensures.1 c.in_err-conditions.ensures
+
+pub returns : goal.returns
+returns c = λ are.
+    let f = found_of c.args.matches.now in
+    let rows = rows_of f in
+    let table = (c.in_ok-table.ensures are.cuts).plain in
+    record {
+      walk = c.in_ok-walk.ensures are;
+      table = record {
+        within = table.within;
+        named = record { format_is = table.named.format_is; by_is = table.named.by_is; sort_is = table.named.sort_is };
+        top = table.top;
+        files = table.files;
+      };
+      no_share = refl;
+      conditions = c.in_ok-conditions.ensures;
+      fail_if_any = flag_of rows f (codes "fail-if-any") c.get_flag.result refl c.get_flag.ensures.value c.get_flag.ensures.other;
+      all = flag_of rows f (codes "all") c.get_flag-2.result refl c.get_flag-2.ensures.value c.get_flag-2.ensures.other;
+      old = text_or rows f (codes "OLD") c.get_str.result _ c.unwrap_or.result refl c.get_str.ensures refl c.unwrap_or.ensures;
+      new = text_or rows f (codes "NEW") c.get_str-2.result _ c.unwrap_or-2.result refl c.get_str-2.ensures refl c.unwrap_or-2.ensures;
+    }

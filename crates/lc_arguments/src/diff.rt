@@ -1,0 +1,114 @@
+//! The command line of `lc diff`.
+
+ghost use Rattle.std.specs.Prelude.{map, IfOk};
+ghost use Rattle.clap.specs.Matches.{found_of};
+ghost use Rattle.clap.specs.Walk.{rows_of};
+ghost use Rattle.lc_arguments.specs.CountArgs.{IsDiffCommand};
+ghost use Rattle.lc_arguments.specs.Explained.{AnswersDiffIn, AnswersDiffWords, Explains};
+
+use crate::arguments::{args, bare};
+use crate::combinations::diff_misfit;
+use crate::conditions::conditions_in;
+use crate::error_text::problem_of;
+use crate::numbers::Numbers;
+use crate::option_row::Subcommand;
+use crate::request::{ParseExit, explained, unfit};
+use crate::table::{TableRequest, table_in};
+use crate::walk_request::WalkRequest;
+use crate::{help, suggestions};
+use clap::{ArgMatches, Command, Error};
+use lc_sheet::Condition;
+use std::alloc::{AllocError, Global};
+use std::convert::AsStr;
+
+/// The options of `lc diff`, as in `lc diff --files v1.json src`.
+#[derive(Drop)]
+pub struct DiffRequest<'w> {
+    /// How the sides that are directories are counted.
+    pub walk: WalkRequest<'w>,
+    /// How the table is printed, without shares and in another format than `Html`.
+    pub table: TableRequest,
+    /// Only files that meet all of these are compared.
+    pub conditions: Vec<Condition<'w>>,
+    /// A row or a file that differs is a failure.
+    pub fail_if_any: bool,
+    /// Print the rows in which nothing changed, too.
+    pub all: bool,
+    /// The path of the old directory or report, as it was given. `-` is standard input.
+    pub old: &'w str,
+    /// The path of the new directory or report, as it was given. `-` is standard input.
+    pub new: &'w str,
+}
+
+/// Makes the clap command of `lc diff`.
+pub(crate) fn command<'a>(alloc: Global) -> Result<Command<'a>, AllocError>
+    ensures { IfOk result IsDiffCommand }
+{
+    let args = args(alloc, Subcommand::Diff)?;
+    let command = bare(alloc, "diff", help::DIFF)?;
+    command.args(args)
+}
+
+/// Explains an error of clap, with the difference that the arguments may have meant.
+fn explained_diff(alloc: Global, error: &Error) -> ParseExit
+    ensures { Explains error.now result }
+{
+    let Ok(why) = format!(in alloc; "{error}") else {
+        return ParseExit::Memory;
+    };
+    match suggestions::diff(alloc, problem_of(&why)) {
+        Ok(advice) => explained(alloc, error, help::DIFF.usage, &advice),
+        Err(AllocError) => ParseExit::Memory,
+    }
+}
+
+/// Takes the options that clap read, which may not go together.
+fn request_in<'w>(
+    alloc: Global,
+    matches: &ArgMatches<'w>,
+    numbers: Numbers,
+) -> Result<DiffRequest<'w>, ParseExit>
+    ensures { AnswersDiffIn (rows_of (found_of matches.now)) numbers result }
+{
+    let walk = WalkRequest::read(alloc, matches, numbers)?;
+    let table = table_in(alloc, matches, numbers.cuts)?;
+    let conditions = conditions_in(alloc, matches)?;
+    Ok(DiffRequest {
+        walk,
+        table: TableRequest {
+            share: false,
+            ..table
+        },
+        conditions,
+        fail_if_any: matches.get_flag("fail-if-any"),
+        all: matches.get_flag("all"),
+        old: matches.get_str("OLD").unwrap_or(""),
+        new: matches.get_str("NEW").unwrap_or(""),
+    })
+}
+
+impl<'w> DiffRequest<'w> {
+    /// Reads the arguments after `diff`.
+    pub(crate) fn read<W: AsStr>(
+        alloc: Global,
+        words: &'w [W],
+    ) -> Result<DiffRequest<'w>, ParseExit>
+        ensures { AnswersDiffWords (map W.text words.entry.now) result }
+    {
+        let Ok(command) = command(alloc) else {
+            return Err(ParseExit::Memory);
+        };
+        let matches = match command.try_get_matches_from(words) {
+            Ok(matches) => matches,
+            Err(error) => return Err(explained_diff(alloc, &error)),
+        };
+        let request = match request_in(alloc, &matches, Numbers::read(&matches)) {
+            Ok(request) => request,
+            Err(no) => return Err(no),
+        };
+        match diff_misfit(&request) {
+            None => Ok(request),
+            Some(why) => Err(unfit(alloc, why)),
+        }
+    }
+}

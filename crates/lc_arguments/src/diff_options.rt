@@ -1,0 +1,100 @@
+//! The options of `lc diff` that no other command has, or that say something else there.
+
+use crate::option_row::{Completes, DIFF, FLAG, Kind, OptionRow};
+use crate::options_table::WHAT_IS_PRINTED;
+
+/// Rows in which nothing changed.
+pub(crate) const ALL: OptionRow = OptionRow {
+    name: "all",
+    of: DIFF,
+    heading: WHAT_IS_PRINTED,
+    help: "Also print rows in which nothing changed",
+    ..FLAG
+};
+
+/// The list of files.
+pub(crate) const FILES: OptionRow = OptionRow {
+    name: "files",
+    of: DIFF,
+    heading: WHAT_IS_PRINTED,
+    help: "Also print a line for each file that differs",
+    ..FLAG
+};
+
+/// The format, which is no picture.
+pub(crate) const FORMAT: OptionRow = OptionRow {
+    name: "format",
+    value: "FORMAT",
+    kind: Kind::Text,
+    of: DIFF,
+    heading: WHAT_IS_PRINTED,
+    help: "tsv, table, json, csv or markdown",
+    brief: "How to print",
+    completes: Completes::Meanings(&[
+        ("tsv", "Fields between tabs"),
+        ("table", "Columns for reading"),
+        ("json", "One object"),
+        ("csv", "Records of one kind"),
+        ("markdown", "Tables for a page"),
+    ]),
+    ..FLAG
+};
+
+/// The columns of the rows.
+pub(crate) const BY: OptionRow = OptionRow {
+    name: "by",
+    value: "COLUMNS",
+    kind: Kind::Text,
+    of: DIFF,
+    heading: WHAT_IS_PRINTED,
+    help: "Sum rows by some of dir,ext,text,eol [default: ext]",
+    brief: "Sum rows by these columns",
+    completes: Completes::List(&["dir", "ext", "text", "eol"]),
+    ..FLAG
+};
+
+/// The order of rows and files.
+pub(crate) const SORT: OptionRow = OptionRow {
+    name: "sort",
+    value: "COLUMN",
+    kind: Kind::Text,
+    of: DIFF,
+    heading: WHAT_IS_PRINTED,
+    help: "Sort by the change of a column, or by name",
+    brief: "Sort rows and files, largest change first, or by name",
+    completes: Completes::Meanings(&[
+        ("name", "By name"),
+        ("files", "Largest change of files first"),
+        ("lines", "Largest change of lines first"),
+        ("blank", "Largest change of blank lines first"),
+        ("bytes", "Largest change of bytes first"),
+    ]),
+    ..FLAG
+};
+
+/// A difference is a failure.
+pub(crate) const FAIL_IF_ANY: OptionRow = OptionRow {
+    name: "fail-if-any",
+    of: DIFF,
+    heading: WHAT_IS_PRINTED,
+    help: "Exit with status 4 if a row or a file differs",
+    ..FLAG
+};
+
+/// The old side.
+pub(crate) const OLD: OptionRow = OptionRow {
+    name: "OLD",
+    kind: Kind::Word,
+    of: DIFF,
+    help: "Directory or report to compare with; - is standard input",
+    ..FLAG
+};
+
+/// The new side.
+pub(crate) const NEW: OptionRow = OptionRow {
+    name: "NEW",
+    kind: Kind::Word,
+    of: DIFF,
+    help: "Directory or report to compare; - is standard input",
+    ..FLAG
+};

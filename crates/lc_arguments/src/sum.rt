@@ -1,0 +1,110 @@
+//! The command line of `lc sum`.
+
+ghost use Rattle.std.specs.Prelude.{◌≡◌, is_some, map, not, IfOk};
+ghost use Rattle.clap.specs.Matches.{found_of};
+ghost use Rattle.clap.specs.Walk.{rows_of};
+ghost use Rattle.lc_arguments.specs.Combinations.{table_fits};
+ghost use Rattle.lc_arguments.specs.CountArgs.{IsSumCommand};
+ghost use Rattle.lc_arguments.specs.Explained.{AnswersSumIn, AnswersSumWords, Explains};
+
+use crate::arguments::{args, bare};
+use crate::combinations::table_misfit;
+use crate::conditions::conditions_in;
+use crate::error_text::problem_of;
+use crate::numbers::Cuts;
+use crate::option_row::Subcommand;
+use crate::reports::{NamedReport, reports_in};
+use crate::request::{ParseExit, explained, unfit};
+use crate::table::{TableRequest, table_in};
+use crate::{help, suggestions};
+use clap::{ArgMatches, Command, Error};
+use lc_sheet::Condition;
+use std::alloc::{AllocError, Global};
+use std::convert::AsStr;
+
+/// The options of `lc sum`, as in `lc sum --by dir v1=v1.json v2=v2.json`.
+#[derive(Drop)]
+pub struct SumRequest<'w> {
+    /// List each entry that is skipped, and print the number of entries.
+    pub left_out: bool,
+    /// How the table is printed.
+    pub table: TableRequest,
+    /// Only files that meet all of these are shown.
+    pub conditions: Vec<Condition<'w>>,
+    /// A file that meets the conditions is a failure.
+    pub fail_if_any: bool,
+    /// The reports in their order: standard input alone if none is named. At most one is standard input.
+    pub reports: Vec<NamedReport<'w>>,
+}
+
+/// Makes the clap command of `lc sum`.
+pub(crate) fn command<'a>(alloc: Global) -> Result<Command<'a>, AllocError>
+    ensures { IfOk result IsSumCommand }
+{
+    let args = args(alloc, Subcommand::Sum)?;
+    let command = bare(alloc, "sum", help::SUM)?;
+    command.args(args)
+}
+
+/// Explains an error of clap, with the sum that the arguments may have meant.
+fn explained_sum(alloc: Global, error: &Error) -> ParseExit
+    ensures { Explains error.now result }
+{
+    let Ok(why) = format!(in alloc; "{error}") else {
+        return ParseExit::Memory;
+    };
+    match suggestions::sum(alloc, problem_of(&why)) {
+        Ok(advice) => explained(alloc, error, help::SUM.usage, &advice),
+        Err(AllocError) => ParseExit::Memory,
+    }
+}
+
+/// Reads the options from clap's values. Some of them may not be combined with others.
+fn request_in<'w>(
+    alloc: Global,
+    matches: &ArgMatches<'w>,
+    cuts: Cuts,
+) -> Result<SumRequest<'w>, ParseExit>
+    ensures { AnswersSumIn (rows_of (found_of matches.now)) cuts result }
+{
+    let table = table_in(alloc, matches, cuts)?;
+    let conditions = conditions_in(alloc, matches)?;
+    let reports = reports_in(alloc, matches)?;
+    Ok(SumRequest {
+        left_out: matches.get_flag("left-out"),
+        table,
+        conditions,
+        fail_if_any: matches.get_flag("fail-if-any"),
+        reports,
+    })
+}
+
+/// Finds out why the options of a sum can't be combined.
+fn misfit(request: &SumRequest<'_>) -> Option<&'static str>
+    ensures { is_some result ≡ not (table_fits request.now.table request.now.left_out) }
+{
+    table_misfit(request.table, request.left_out)
+}
+
+impl<'w> SumRequest<'w> {
+    /// Reads the arguments after `sum`.
+    pub(crate) fn read<W: AsStr>(alloc: Global, words: &'w [W]) -> Result<SumRequest<'w>, ParseExit>
+        ensures { AnswersSumWords (map W.text words.entry.now) result }
+    {
+        let Ok(command) = command(alloc) else {
+            return Err(ParseExit::Memory);
+        };
+        let matches = match command.try_get_matches_from(words) {
+            Ok(matches) => matches,
+            Err(error) => return Err(explained_sum(alloc, &error)),
+        };
+        let request = match request_in(alloc, &matches, Cuts::read(&matches)) {
+            Ok(request) => request,
+            Err(no) => return Err(no),
+        };
+        match misfit(&request) {
+            None => Ok(request),
+            Some(why) => Err(unfit(alloc, why)),
+        }
+    }
+}

@@ -1,0 +1,231 @@
+//! The text of what words ask for.
+
+use lc_arguments::{
+    CheckRequest, CountRequest, DiffRequest, ExplainRequest, FilterRequest, ParseExit, Request,
+    SumRequest, TableRequest, WalkRequest,
+};
+use lc_sheet::Columns;
+use std::alloc::{AllocError, Global};
+use std::process::Abort;
+
+/// Words, which are parted by spaces, and what they ask for, or the beginning of what is said of them.
+pub(crate) type Case = (&'static str, &'static str);
+
+fn push_filters(text: &mut String, filters: &FilterRequest) -> Result<(), AllocError> {
+    if filters.archive {
+        text.push_str(", archive")?;
+    }
+    if let Some(file) = filters.exclude_from {
+        write!(text, ", excludes {file}")?;
+    }
+    for name in &filters.without {
+        write!(text, ", without {name}")?;
+    }
+    for pattern in &filters.exclude {
+        write!(text, ", excluding {pattern}")?;
+    }
+    for pattern in &filters.include {
+        write!(text, ", including {pattern}")?;
+    }
+    if filters.no_ignore {
+        text.push_str(", no ignore files")?;
+    }
+    Ok(())
+}
+
+fn push_columns(text: &mut String, by: Option<Columns>) -> Result<(), AllocError> {
+    let Some(by) = by else {
+        return text.push_str(" no columns");
+    };
+    if let Some(depth) = by.dir {
+        write!(text, " dir to {depth}")?;
+    }
+    for (kept, name) in [(by.ext, " ext"), (by.text, " text"), (by.eol, " eol")] {
+        if kept {
+            text.push_str(name)?;
+        }
+    }
+    Ok(())
+}
+
+fn push_table(text: &mut String, table: TableRequest) -> Result<(), AllocError> {
+    match table.format {
+        Some(format) => write!(text, "{format:?} by")?,
+        None => text.push_str("no format by")?,
+    }
+    push_columns(text, table.by)?;
+    if let Some(sort) = table.sort {
+        write!(text, " sorted by {sort:?}")?;
+    }
+    if let Some(top) = table.top {
+        write!(text, ", first {top}")?;
+    }
+    if table.share {
+        text.push_str(", shares")?;
+    }
+    if table.files {
+        text.push_str(", files")?;
+    }
+    Ok(())
+}
+
+fn push_paths(text: &mut String, walk: &WalkRequest) -> Result<(), AllocError> {
+    for path in &walk.only {
+        let path = str::from_utf8(path).unwrap_or("?");
+        write!(text, ", only {path}")?;
+    }
+    if let Some(file) = walk.only_from {
+        write!(text, ", only from {file}")?;
+    }
+    if walk.null {
+        text.push_str(" ended by NUL")?;
+    }
+    if walk.one_file_system {
+        text.push_str(", one file system")?;
+    }
+    Ok(())
+}
+
+fn push_limits(text: &mut String, walk: &WalkRequest) -> Result<(), AllocError> {
+    let (threads, max_dirs) = (walk.threads, walk.max_dirs);
+    write!(text, ": {threads} threads, {max_dirs} directories, ")
+}
+
+fn count_text(alloc: Global, request: &CountRequest) -> Result<String, AllocError> {
+    let mut text = String::from_str(alloc, "count")?;
+    for directory in &request.directories {
+        write!(text, " {directory}")?;
+    }
+    push_limits(&mut text, &request.walk)?;
+    push_table(&mut text, request.table)?;
+    if request.left_out {
+        text.push_str(", left out")?;
+    }
+    push_filters(&mut text, &request.walk.filters)?;
+    push_paths(&mut text, &request.walk)?;
+    if request.fail_if_any {
+        text.push_str(", any file fails")?;
+    }
+    Ok(text)
+}
+
+fn diff_text(alloc: Global, request: &DiffRequest) -> Result<String, AllocError> {
+    let (old, new) = (request.old, request.new);
+    let mut text = format!(in alloc; "diff {old} {new}")?;
+    push_limits(&mut text, &request.walk)?;
+    push_table(&mut text, request.table)?;
+    push_filters(&mut text, &request.walk.filters)?;
+    push_paths(&mut text, &request.walk)?;
+    let conditions = request.conditions.len();
+    if conditions > 0 {
+        write!(text, ", {conditions} conditions")?;
+    }
+    if request.all {
+        text.push_str(", all rows")?;
+    }
+    if request.fail_if_any {
+        text.push_str(", any difference fails")?;
+    }
+    Ok(text)
+}
+
+fn check_text(alloc: Global, request: &CheckRequest) -> Result<String, AllocError> {
+    let file = request.file;
+    let mut text = format!(in alloc; "check {file}")?;
+    if request.explain {
+        text.push_str(", explained")?;
+    }
+    if request.null {
+        text.push_str(", ended by NUL")?;
+    }
+    Ok(text)
+}
+
+fn explain_text(alloc: Global, request: &ExplainRequest) -> Result<String, AllocError> {
+    let directory = request.directory;
+    let mut text = format!(in alloc; "explain {directory}")?;
+    push_filters(&mut text, &request.filters)?;
+    if request.null {
+        text.push_str(", ended by NUL")?;
+    }
+    for path in &request.paths {
+        write!(text, ", {path}")?;
+    }
+    Ok(text)
+}
+
+fn sum_text(alloc: Global, request: &SumRequest) -> Result<String, AllocError> {
+    let mut text = String::from_str(alloc, "sum")?;
+    for report in &request.reports {
+        let path = report.report;
+        match report.name {
+            None => write!(text, " {path}")?,
+            Some(name) => write!(text, " {path} as {name}")?,
+        }
+    }
+    text.push_str(": ")?;
+    push_table(&mut text, request.table)?;
+    if request.left_out {
+        text.push_str(", left out")?;
+    }
+    let conditions = request.conditions.len();
+    if conditions > 0 {
+        write!(text, ", {conditions} conditions")?;
+    }
+    if request.fail_if_any {
+        text.push_str(", any file fails")?;
+    }
+    Ok(text)
+}
+
+/// What is asked for, or what is said of the words.
+pub(crate) fn answer_text(
+    alloc: Global,
+    answer: Result<Request<'_>, ParseExit>,
+) -> Result<String, AllocError> {
+    match answer {
+        Ok(Request::CheckJoined) => format!(in alloc; "check joined"),
+        Ok(Request::Check(request)) => check_text(alloc, &request),
+        Ok(Request::Count(request)) => count_text(alloc, &request),
+        Ok(Request::Explain(request)) => explain_text(alloc, &request),
+        Ok(Request::Sum(request)) => sum_text(alloc, &request),
+        Ok(Request::Diff(request)) => diff_text(alloc, &request),
+        Err(ParseExit::Shown(text)) => format!(in alloc; "shown: {text}"),
+        Err(ParseExit::Refused(text)) => format!(in alloc; "refused: {text}"),
+        Err(ParseExit::Memory) => Err(AllocError),
+    }
+}
+
+/// Returns words that are parted by spaces.
+pub(crate) fn words_of(alloc: Global, line: &str) -> Result<Vec<&str>, AllocError> {
+    let mut words = Vec::new(alloc);
+    for word in line.split_ascii_whitespace() {
+        words.push(word)?;
+    }
+    Ok(words)
+}
+
+/// Reads words that are parted by spaces, and returns what they ask for, or what is said of them.
+pub(crate) fn text_of(alloc: Global, line: &str) -> Result<String, AllocError> {
+    let words = words_of(alloc, line)?;
+    answer_text(alloc, Request::read(alloc, words.as_slice()))
+}
+
+fn check(rt: &impl Abort, alloc: Global, (line, wanted): &Case) -> Result<(), AllocError> {
+    let found = text_of(alloc, line)?;
+    let is_exit = wanted.starts_with("shown: ") || wanted.starts_with("refused: ");
+    let holds = if is_exit {
+        found.starts_with(wanted)
+    } else {
+        found.as_str() == *wanted
+    };
+    assert!(rt; holds, "{line}: {found}");
+    Ok(())
+}
+
+pub(crate) fn check_all(rt: &impl Abort, alloc: Global, cases: &[Case]) -> Result<(), AllocError> {
+    for case in cases {
+        check(rt, alloc, case)?;
+    }
+    Ok(())
+}
