@@ -79,8 +79,11 @@ where
         repository_above(self.rt, alloc, directory)
     }
 
-    fn canonical(&self, alloc: Global, directory: &str) -> Option<String> {
-        let path = fs::canonicalize(self.rt, directory).ok()?;
-        String::from_str(alloc, path.as_path().as_str()).ok()
+    fn canonical(&self, alloc: Global, directory: &str) -> Result<Option<String>, AllocError> {
+        match fs::canonicalize(self.rt, directory) {
+            Ok(path) => Ok(Some(String::from_str(alloc, path.as_path().as_str())?)),
+            Err(error) if error.kind() == ErrorKind::OutOfMemory => Err(AllocError),
+            Err(_) => Ok(None),
+        }
     }
 }

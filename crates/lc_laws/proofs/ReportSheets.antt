@@ -36,10 +36,11 @@ use Rattle.lc_walk.specs.declared.report.Report.{Report}
 use Rattle.lc_walk.specs.declared.tally.sums.Sums.{Sums}
 use Rattle.lc_rows.specs.Kinds.{NamedSumsModel, directory_value, extension_value, fault_value, file_value, kept_value, named_in, place_value}
 use Rattle.lc_rows.specs.Kinds.{row_value, share_value, bar_value, skipped_value, sums_value, text_value}
-use Rattle.lc_rows.specs.Classes.{binary_sums, text_sums}
+use Rattle.lc_rows.specs.Classes.{classes_of}
 use Rattle.lc_rows.specs.RowKeys.{ShownRowModel}
 use Rattle.lc_rows.specs.SheetColumns.{column_if, fault_columns, key_columns, listed_columns, listed_skipped, number_columns}
 use Rattle.lc_rows.specs.Sheets.{form_of, others_lines, section_of, sheet_of, totals_lines}
+use Rattle.lc_rows.specs.declared.classes.ClassSums.{ClassSums}
 use Rattle.lc_rows.specs.Views.{ViewModel}
 use Rattle.lc_census.specs.EolWords.{eol_word}
 use Rattle.lc_level.specs.ReasonWords.{reason_word}
@@ -273,11 +274,11 @@ others_plain : (others : Option Sums) → All IsNamed (others_lines others)
 others_plain None = All-nil IsNamed
 others_plain (Some s) = All-cons IsNamed _ [] refl (All-nil IsNamed)
 
-totals_plain : (r : Report) → All IsNamed (totals_lines r)
-totals_plain r =
-    let total : NamedSumsModel = record { name = codes "total"; sums = r.totals } in
-    let text : NamedSumsModel = record { name = codes "text"; sums = text_sums r.rows.items } in
-    let binary : NamedSumsModel = record { name = codes "binary"; sums = binary_sums r.rows.items } in
+totals_plain : (totals : Sums) (classes : ClassSums) → All IsNamed (totals_lines totals classes)
+totals_plain totals classes =
+    let total : NamedSumsModel = record { name = codes "total"; sums = totals } in
+    let text : NamedSumsModel = record { name = codes "text"; sums = classes.text } in
+    let binary : NamedSumsModel = record { name = codes "binary"; sums = classes.binary } in
     All-cons IsNamed total (text ∷ binary ∷ []) refl
     (All-cons IsNamed text (binary ∷ []) refl (All-cons IsNamed binary [] refl (All-nil IsNamed)))
 
@@ -317,12 +318,13 @@ faults_listed form fs = record {
 in_table : (options : TableOptions) (r : Report) (v : ViewModel) → All HasByteNames v.rows → All HasSkippedBytes r.skipped.items
     → IsReadableSheet (sheet_of (record options { format = Table }) r v)
 in_table options r v small skipped =
-    let form = form_of (record options { format = Table }) r.totals v.rows in record {
+    let form = form_of (record options { format = Table }) r.totals v.rows in
+    let classes = classes_of r.rows.items in record {
       tabular = record {
         closed = closed_columns options;
         rows = row_section options form v.rows small;
         others = sums_section options form (others_lines v.others) (others_plain v.others);
-        totals = sums_section options form (totals_lines r) (totals_plain r);
+        totals = sums_section options form (totals_lines r.totals classes) (totals_plain r.totals classes);
       };
       files_listed = files_listed options.files form v.files;
       skipped_listed = skipped_listed form r.skipped.items skipped;

@@ -6,7 +6,7 @@ use Rattle.lc_formats.specs.Shares.{share_word}
 use Rattle.lc_rows.specs.Sheets.{IsSheetOf}
 use Rattle.lc_rows.specs.WalkedReports.{IsOfWalk, ListsFilesFor}
 use Rattle.lc_sheet.specs.Sheets.{SectionModel, SheetModel}
-use Rattle.lc_sheet.specs.Values.{ValueModel, missing, summed, blank, word, name, path, number, share, bar}
+use Rattle.lc_sheet.specs.Values.{ValueModel, missing, summed, blank, word, name, path, number, share, bar, difference}
 use Rattle.lc_sheet.specs.declared.table_options.TableOptions.{TableOptions}
 use Rattle.lc_tree.specs.Trees.{Listings, Contents}
 use Rattle.lc_walk.specs.declared.options.Options.{Options}
@@ -23,6 +23,7 @@ IsPrintedWithin (path p) = ⊤
 IsPrintedWithin (number n) = ⊤
 IsPrintedWithin (share part whole) = (tenths : ℕ) × (tenths ≤ 1000) × (shown_text (share part whole) ≡ share_word tenths)
 IsPrintedWithin (bar part whole) = ⊤
+IsPrintedWithin (difference old new) = ⊤
 
 abbrev pub AreSharesWithin : SectionModel → Type 0
 AreSharesWithin section = All (λ (line : List ValueModel). All IsPrintedWithin line) section.lines

@@ -5,7 +5,7 @@ ghost use Rattle.lc_laws.specs.SheetReadable.{ReadableSheetLaw, SheetRecordsLaw}
 
 use lc_tree::Tree;
 
-/// The law that the sheet of a report has what the laws of a text in columns require, if its names are bytes.
+/// The law that the sheet of a report satisfies what the laws about `table` texts require, if each name in it consists of bytes.
 pub fn sheets_of_reports_are_readable()
     ensures { ReadableSheetLaw }
 {}

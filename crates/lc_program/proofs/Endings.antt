@@ -1,10 +1,12 @@
--- How the program ends once a request is answered.
-use Rattle.std.proofs.Common.{Bool, true, false, List, ℕ, inl}
+-- How the program ends once a request is answered, or a text is shown.
+use Rattle.std.proofs.Common.{Bool, true, false, List, ℕ, inl, inr}
 use Rattle.lc_text.specs.declared.outcome.Outcome.{Outcome}
 use Rattle.lc_text.specs.declared.outcome.Outcome.TheVariants.{Clean, SomeFaults}
-use Rattle.lc_program.specs.Program.{Ends, EndsAnswered, StreamsMay}
+use Rattle.lc_program.specs.Program.{Ends, EndsAnswered, Shows, StreamsMay}
 use Rattle.lc_program.specs.Replies.{ending_by}
 use Rattle.lc_program.specs.Systems.{SystemMay}
+use Rattle.lc_program.specs.declared.ending.Ending.{Ending}
+use Rattle.lc_program.specs.declared.ending.Ending.TheVariants as end
 use Rattle.lc_program.specs.declared.streams.Streams.{Streams}
 use Rattle.lc_program.specs.declared.streams.Terminals.{Terminals}
 
@@ -16,3 +18,12 @@ module _ {I O E : Type 0} (system : SystemMay) (may : StreamsMay I O E) (words :
   ends_answered before after true outcome ends = ends
   ends_answered before after false Clean ends = inl ends
   ends_answered before after false SomeFaults ends = ends
+
+  -- and so may a text that the words ask for
+  pub ends_shown : (before after : Streams I O E) (ending : Ending) → Shows system may words terminals before ending after
+      → Ends system may words terminals before ending after
+  ends_shown before after end.Done shows = inr shows
+  ends_shown before after end.SomeFaults (may_show, same, (text, ends)) = absurd ends
+  ends_shown before after end.AnyFile (may_show, same, (text, ends)) = absurd ends
+  ends_shown before after end.Misused (may_show, same, (text, ends)) = absurd ends
+  ends_shown before after (end.GaveUp cause) shows = inr (inl shows)

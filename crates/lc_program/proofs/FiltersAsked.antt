@@ -1,11 +1,12 @@
 -- Options by the filters and the paths that words ask for.
 use Rattle.std.proofs.Common.{◌≡◌, ℕ, List, [], Option, Some, None, Err, refl, subst}
 use Rattle.std.specs.Borrow.{Bor}
-use Rattle.lc_arguments.specs.declared.count.CountRequest.{CountRequest}
+use Rattle.lc_arguments.specs.declared.walk_request.WalkRequest.{WalkRequest}
 use Rattle.lc_level.specs.Filters.{FiltersModel, narrowed}
 use Rattle.lc_text.specs.declared.lines.PathEnd.{PathEnd}
 use Rattle.lc_walk.specs.declared.options.Options.{Options}
-use Rattle.lc_program.specs.Counts.{IsAskedBy}
+use Rattle.lc_walk.specs.declared.options.ReportLists.{ReportLists}
+use Rattle.lc_program.specs.WalkRequests.{IsAskedBy}
 use Rattle.lc_program.specs.Filters.{filters_of}
 use Rattle.lc_program.specs.PathLists.{AnswersWanted}
 use Rattle.lc_program.specs.declared.cause.Cause.TheVariants.{Memory}
@@ -16,10 +17,11 @@ pub memory_wanted : (only : List (List ℕ)) (name : Option (Bor (List ℕ))) (e
 memory_wanted only None end list = refl
 memory_wanted only (Some name) end list = tt
 
--- options by filters to which these paths were added
-pub asked_by_all : (c : CountRequest) (text : Option (List ℕ)) (f g : FiltersModel) (only paths : List (List ℕ)) (o : Options)
-    → IsAskedBy c g o → g ≡ narrowed f only → f ≡ filters_of c.filters text [] → only ≡ paths
-    → IsAskedBy c (filters_of c.filters text paths) o
-asked_by_all c text f g only paths o asked narrow are is =
-    subst (λ ps. IsAskedBy c (filters_of c.filters text ps) o) is
-    (subst (λ h. IsAskedBy c (narrowed h only) o) are (subst (λ h. IsAskedBy c h o) narrow asked))
+-- options by filters to which these paths were added, with these lists
+pub asked_by_all : (w : WalkRequest) (given wanted : ReportLists) (text : Option (List ℕ)) (f g : FiltersModel) (only paths : List (List ℕ))
+    (o : Options) → given ≡ wanted → IsAskedBy w given g o → g ≡ narrowed f only → f ≡ filters_of w.filters text [] → only ≡ paths
+    → IsAskedBy w wanted (filters_of w.filters text paths) o
+asked_by_all w given wanted text f g only paths o same asked narrow are is =
+    subst (λ ps. IsAskedBy w wanted (filters_of w.filters text ps) o) is
+    (subst (λ h. IsAskedBy w wanted (narrowed h only) o) are (subst (λ h. IsAskedBy w wanted h o) narrow
+    (subst (λ l. IsAskedBy w l g o) same asked)))

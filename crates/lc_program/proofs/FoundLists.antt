@@ -1,5 +1,5 @@
 -- What is found has the files that the options ask for.
-use Rattle.std.proofs.Common.{◌≡◌, ℕ, Bool, true, false, ◌&&◌, List, [], ◌∷◌, Ok, refl, sym, ◌∙◌, ap}
+use Rattle.std.proofs.Common.{◌≡◌, ℕ, Bool, true, false, ◌&&◌, List, [], ◌∷◌, Ok, refl, ◌∙◌, ap}
 use Rattle.std.specs.List.{AllZip, list_all}
 use Rattle.lc_program.specs.Finds.{IsWalkedBelow}
 use Rattle.lc_reports.specs.Joined.{IsJoined}

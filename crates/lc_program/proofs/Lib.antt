@@ -1,3 +1,4 @@
+mod Appending
 mod CountsShown
 mod Endings
 mod FiltersAsked
@@ -10,7 +11,14 @@ mod PathsListed
 mod PathsWanted
 mod Printing
 mod Reordered
+mod ReportsRead
 mod RulesLoaded
 mod SlicesRead
+mod TextsLoaded
+mod SumsPrinted
 mod Told
 mod Stopping
+mod ChangesPrinted
+mod ChangesReplied
+mod ComparedNeeds
+mod SidesGiven

@@ -7,6 +7,7 @@ use Rattle.lc_text.specs.declared.check_fault.CheckFault.{CheckFault}
 use Rattle.lc_walk.specs.declared.report.Report.{Report}
 use Rattle.lc_program.specs.Causes.{check_cause}
 use Rattle.lc_program.specs.Replies.{IsRunReply, Reply, checked}
+use Rattle.lc_program.specs.Sums.{sum_reply}
 use Rattle.lc_program.specs.Unnamed.{AreUnnamedLines}
 use Rattle.lc_program.specs.declared.answered.Answered.TheVariants.{Counted}
 use Rattle.lc_program.specs.declared.cause.Cause.{Cause}
@@ -23,6 +24,12 @@ pub run_replied : (attributes : List (List ℕ)) (reply : Reply) (answer : Resul
 run_replied attributes (Ok answered) answer cause is was = absurd is
 run_replied attributes (Err given) answer cause is was =
     subst (λ (a : Result Report Cause). IsRunReply attributes a (Err given)) (sym was) (ap Err is)
+
+-- and that of a sum
+pub sum_replied : (reply : Reply) (answer : Result Report Cause) (cause : Cause) → IsErrAnd reply (λ given. given ≡ cause)
+    → answer ≡ Err cause → reply ≡ sum_reply answer
+sum_replied (Ok answered) answer cause is was = absurd is
+sum_replied (Err given) answer cause is was = ap Err is ∙ sym (ap sum_reply was)
 
 -- a count that was done is replied with the report of what was shown and lines about some attributes
 pub run_counted : (attributes : List (List ℕ)) (answer : Result Report Cause) (left : Report) (unnamed : String Global)

@@ -1,5 +1,5 @@
 -- Names that were gone through one after another.
-use Rattle.std.proofs.Common.{◌≡◌, ℕ, ◌+◌, ◌<◌, List, [], ◌∷◌, ◌++◌, length, map, take, drop, get_or, Option, Some, None, refl, sym, ◌∙◌}
+use Rattle.std.proofs.Common.{◌≡◌, ℕ, ◌+◌, ◌<◌, List, [], ◌∷◌, ◌++◌, length, map, take, drop, get_or, Option, None, refl, sym, ◌∙◌}
 use Rattle.std.proofs.Common.{ap, subst}
 use Rattle.std.proofs.Common.{append-nil, append_assoc}
 use Rattle.std.proofs.lemmas.List.{drop_more, map-append, nil_from_length, take_more}
@@ -21,7 +21,7 @@ pub one_more : (ds : List (Bor (List ℕ))) (i : ℕ) (d : Bor (List ℕ)) → i
 one_more ds i d low = ap names (take_more ds i d low) ∙ map-append (λ (b : Bor (List ℕ)). b.now) (take i ds) (get_or ds i d ∷ [])
 
 -- what holds place by place, and of one more of each
-zip_more : {A B : Type 0} (R : A → B → Type 0) (xs : List A) (ys : List B) (x : A) (y : B) → AllZip R xs ys → R x y
+pub zip_more : {A B : Type 0} (R : A → B → Type 0) (xs : List A) (ys : List B) (x : A) (y : B) → AllZip R xs ys → R x y
     → AllZip R (xs ++ x ∷ []) (ys ++ y ∷ [])
 zip_more R [] [] x y all has = (has, tt)
 zip_more R [] (b ∷ ys) x y all has = absurd all

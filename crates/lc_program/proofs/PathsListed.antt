@@ -1,38 +1,12 @@
 -- The paths of a list, one after another.
-use Rattle.std.proofs.Common.{◌≡◌, ◌≤◌, ◌+◌, ◌∙◌, ◌++◌, ℕ, false, List, [], ◌∷◌, length, map, None, Result, Ok, Err, ap, sym, subst}
-use Rattle.std.proofs.Common.{◌||◌, Bool, ap₂, append_assoc}
+use Rattle.std.proofs.Common.{◌≡◌, ◌∙◌, ◌++◌, ◌||◌, ℕ, Bool, false, List, [], ◌∷◌, map, ap, ap₂, append_assoc, sym}
 use Rattle.std.proofs.lemmas.Bool.{or_parts}
 use Rattle.std.proofs.lemmas.List.{map-append}
-use Rattle.std.specs.Prelude.{Vec}
-use Rattle.std.specs.Global.{Global}
 use Rattle.std.specs.Borrow.{Bor}
 use Rattle.std.specs.List.{list_any}
-use Rattle.lc_io.specs.Reads.{Answer, at_end, at_failure, at_neither}
-use Rattle.lc_io.specs.declared.whole.WholeFault.{WholeFault}
-use Rattle.lc_io.specs.declared.whole.WholeFault.TheVariants.{Read, TooLong, Memory}
 use Rattle.lc_text.specs.Lines.{input_paths_of}
 use Rattle.lc_text.specs.declared.lines.PathEnd.{PathEnd}
-use Rattle.lc_tree.specs.Trees.{Contents, GivesOnly}
-use Rattle.lc_program.specs.PathLists.{LoadsList, ReadsList, is_bad_listed, listed_path, max_list}
-
--- what reading an opened list answered is what loading it answers
-module _ {F : Type 0} (may_give : F → ℕ → Answer → F → Type 0) (gives : Contents) (file read : F)
-    (only : GivesOnly may_give gives file) where
-  pub loads_list : (answer : Result (Vec ℕ Global) WholeFault) → ReadsList may_give file answer read → LoadsList gives answer
-  loads_list (Ok bytes) reads = (reads.1.pieces, only None reads.1.pieces at_end read reads.1.reads, reads.1.joined, reads.0)
-  loads_list (Err Read) reads =
-      let given = reads.1.1 in (
-        given.pieces,
-        only None given.pieces at_failure read given.reads,
-        subst (λ (bytes : List ℕ). length bytes ≤ max_list) (sym given.joined) reads.1.0,
-      )
-  loads_list (Err TooLong) reads =
-      let given = reads.1.1 in (
-        given.pieces,
-        only None given.pieces at_neither read given.reads,
-        subst (λ (bytes : List ℕ). length bytes ≡ max_list + 1) (sym given.joined) reads.1.0,
-      )
-  loads_list (Err Memory) reads = tt
+use Rattle.lc_program.specs.PathLists.{is_bad_listed, listed_path}
 
 -- the paths up to what is left of a list, all of which an entry can have
 pub record IsListedTo (end : PathEnd) (list rest : List ℕ) (paths : List (Bor (List ℕ))) : Type 0 where

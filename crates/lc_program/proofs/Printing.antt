@@ -10,6 +10,7 @@ use Rattle.lc_program.specs.Finds.{Finds, FindsNone}
 use Rattle.lc_arguments.specs.TableWords.{options_in}
 use Rattle.lc_program.specs.Runs.{AnswersTable}
 use Rattle.lc_program.specs.Systems.{SystemMay}
+use Rattle.lc_rows.specs.Laws.{all_columns}
 use Rattle.lc_sheet.specs.Conditions.{ConditionModel}
 use Rattle.lc_sheet.specs.declared.table_options.TableOptions.{TableOptions}
 use Rattle.lc_program.specs.declared.cause.Cause.{Cause}
@@ -30,7 +31,7 @@ module _ (may : SystemMay) {O : Type 0} (may_take : O → List ℕ → Result �
   pub prints_stopped : (answer : Result Report Cause) (r left : Report) (fault : PrintFault) (out wrote : O)
       (counted : List ℕ) (conditions : List ConditionModel) (options : TableOptions) → IsErrAnd answer (λ cause. cause ≡ print_cause fault)
       → Finds (MayWalk may may_take other c o) (names_of c) r → counted ≡ counted_in c → conditions ≡ c.conditions.items
-      → options ≡ options_in other c.table → AnswersTable may_take counted conditions options r left out (Err fault) wrote
+      → options ≡ options_in other all_columns c.table → AnswersTable may_take counted conditions options r left out (Err fault) wrote
       → Prints may may_take other c o out answer wrote
   prints_stopped (Ok given) r left fault out wrote counted conditions options is finds named same alike stopped = absurd is
   prints_stopped (Err cause) r left fault out wrote counted conditions options is finds named same alike stopped =
@@ -40,7 +41,7 @@ module _ (may : SystemMay) {O : Type 0} (may_take : O → List ℕ → Result �
         fault,
         finds,
         is,
-        subst (λ n. AnswersTable may_take n c.conditions.items (options_in other c.table) r left out
+        subst (λ n. AnswersTable may_take n c.conditions.items (options_in other all_columns c.table) r left out
             (Err fault) wrote) named
             (subst₂ (λ cs os. AnswersTable may_take counted cs os r left out (Err fault) wrote) same alike stopped),
       )
@@ -48,11 +49,11 @@ module _ (may : SystemMay) {O : Type 0} (may_take : O → List ℕ → Result �
   -- it was written whole
   pub prints_whole : (r left : Report) (out wrote : O) (counted : List ℕ) (conditions : List ConditionModel) (options : TableOptions)
       → Finds (MayWalk may may_take other c o) (names_of c) r → counted ≡ counted_in c → conditions ≡ c.conditions.items
-      → options ≡ options_in other c.table → AnswersTable may_take counted conditions options r left out (Ok tt) wrote
+      → options ≡ options_in other all_columns c.table → AnswersTable may_take counted conditions options r left out (Ok tt) wrote
       → Prints may may_take other c o out (Ok left) wrote
   prints_whole r left out wrote counted conditions options finds named same alike written = (
     r,
     finds,
-    subst (λ n. AnswersTable may_take n c.conditions.items (options_in other c.table) r left out (Ok tt) wrote) named
+    subst (λ n. AnswersTable may_take n c.conditions.items (options_in other all_columns c.table) r left out (Ok tt) wrote) named
         (subst₂ (λ cs os. AnswersTable may_take counted cs os r left out (Ok tt) wrote) same alike written),
   )

@@ -9,8 +9,7 @@ use Rattle.lc_io.specs.declared.source.Failed.{Failed}
 use Rattle.lc_walk.specs.declared.report.Report.{Report}
 use Rattle.lc_walk.specs.declared.walk_fault.WalkFault.{WalkFault}
 use Rattle.lc_io.specs.Writes.{AnswersPrint, Writes}
-use Rattle.lc_program.specs.ReportTexts.{IsPrinted}
-use Rattle.lc_program.specs.Runs.{AnswersRun, AnswersTable, table_fault}
+use Rattle.lc_program.specs.Runs.{AnswersRun, AnswersTable, AnswersText, table_fault}
 use Rattle.lc_program.specs.declared.runs.RunFault.{RunFault}
 
 -- a table that was not written whole
@@ -24,21 +23,15 @@ run_stops may_take walks counted conditions options r left print.Write (Err e) o
     rw is (r, walked, (left, stopped))
 run_stops may_take walks counted conditions options r left print.Memory (Err e) out wrote walked stopped is = rw is stopped
 
--- a table that was written whole
-pub table_is_written : {O : Type 0} (may_take : O → List ℕ → Result ℕ Failed → O → Type 0)
-    (counted : List ℕ) (conditions : List ConditionModel) (options : TableOptions) (r left : Report)
-    (text taken : List ℕ) (out wrote : O) → IsPrinted counted conditions options r text left → taken ≡ text
-    → Writes may_take out taken wrote → AnswersTable may_take counted conditions options r left out (Ok tt) wrote
-table_is_written may_take counted conditions options r left text taken out wrote of same written = (text, of, rw (sym same) written)
+-- a text that was written whole
+pub text_is_written : {O : Type 0} (may_take : O → List ℕ → Result ℕ Failed → O → Type 0) (Is : List ℕ → Type 0) (text taken : List ℕ)
+    (out wrote : O) → Is text → taken ≡ text → Writes may_take out taken wrote → AnswersText may_take Is out (Ok tt) wrote
+text_is_written may_take Is text taken out wrote of same written = (text, of, rw (sym same) written)
 
--- a table of which a write stopped
-pub table_stops : {O : Type 0} (may_take : O → List ℕ → Result ℕ Failed → O → Type 0)
-    (counted : List ℕ) (conditions : List ConditionModel) (options : TableOptions) (r left : Report)
-    (text taken : List ℕ) (fault : PrintFault) (answer : Result (Unit {0}) PrintFault) (out wrote : O)
-    → IsPrinted counted conditions options r text left → taken ≡ text → AnswersPrint may_take out taken (Err fault) wrote
-    → IsErrAnd answer (λ e. e ≡ fault)
-    → AnswersTable may_take counted conditions options r left out answer wrote
-table_stops may_take counted conditions options r left text taken fault (Ok done) out wrote of same stopped is = absurd is
-table_stops may_take counted conditions options r left text taken print.Write (Err e) out wrote of same stopped is =
-    rw is (text, of, rw (sym same) stopped)
-table_stops may_take counted conditions options r left text taken print.Memory (Err e) out wrote of same stopped is = rw is stopped
+-- a text of which a write stopped
+pub text_stops : {O : Type 0} (may_take : O → List ℕ → Result ℕ Failed → O → Type 0) (Is : List ℕ → Type 0) (text taken : List ℕ)
+    (fault : PrintFault) (answer : Result (Unit {0}) PrintFault) (out wrote : O) → Is text → taken ≡ text
+    → AnswersPrint may_take out taken (Err fault) wrote → IsErrAnd answer (λ e. e ≡ fault) → AnswersText may_take Is out answer wrote
+text_stops may_take Is text taken fault (Ok done) out wrote of same stopped is = absurd is
+text_stops may_take Is text taken print.Write (Err e) out wrote of same stopped is = rw is (text, of, rw (sym same) stopped)
+text_stops may_take Is text taken print.Memory (Err e) out wrote of same stopped is = rw is stopped

@@ -1,5 +1,6 @@
 -- What was told on standard error.
-use Rattle.std.proofs.Common.{◌≡◌, ◌≢◌, ◌==◌, ◌∙◌, ℕ, false, List, [], ◌∷◌, length, Option, Result, Ok, Err, inl, inr, refl, subst}
+use Rattle.std.specs.Bool.{MatchBool}
+use Rattle.std.proofs.Common.{◌≡◌, ◌≢◌, ◌==◌, ◌∙◌, ℕ, Bool, true, false, List, [], ◌∷◌, length, Option, Result, Ok, Err, inl, inr, refl, subst}
 use Rattle.lc_io.specs.declared.source.Failed.{Failed}
 use Rattle.lc_level.specs.FaultLines.{FaultLineModel}
 use Rattle.lc_io.specs.Writes.{AnswersPrint}
@@ -31,3 +32,8 @@ module _ {E : Type 0} (may_take : E → List ℕ → Result ℕ Failed → E →
       → TellsFaults may_take may_unlist directories format faults err told
   faults_told may_unlist directories format [] text err told some are tells = absurd (cc)
   faults_told may_unlist directories format (f ∷ fs) text err told some are tells = inl (text, are, tells)
+
+-- what is told where a test fails
+pub told_unless : (b : Bool) (Then Else : Type 0) → b ≡ false → Else → MatchBool b Then Else
+told_unless true Then Else fails other = absurd (cc)
+told_unless false Then Else fails other = other

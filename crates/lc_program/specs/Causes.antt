@@ -13,7 +13,7 @@ use Rattle.lc_program.specs.Reasons.{reason_given}
 use Rattle.lc_program.specs.declared.cause.Cause.{Cause}
 use Rattle.lc_program.specs.declared.cause.Cause.TheVariants.{Memory, TooManyDirs, TooDeep, Torn, Mismatch, UnreadRules, RulesTooLong}
 use Rattle.lc_program.specs.declared.cause.Cause.TheVariants.{UnreadPaths, PathsTooLong, BadPaths, UnreadInput, InputTooLong, Unwritten}
-use Rattle.lc_program.specs.declared.cause.Cause.TheVariants.{InDirectory, Nested, SumsTooLarge}
+use Rattle.lc_program.specs.declared.cause.Cause.TheVariants.{InDirectory, InReport, Nested, NoSharedColumn, SumsTooLarge}
 use Rattle.lc_reports.specs.declared.join_fault.JoinFault.{JoinFault}
 use Rattle.lc_reports.specs.declared.join_fault.JoinFault.TheVariants as join
 use Rattle.lc_program.specs.declared.unread_reason.UnreadReason.{UnreadReason}
@@ -35,6 +35,8 @@ cause_line PathsTooLong = codes "lc: paths too long\n"
 cause_line (BadPaths line) = string_bytes line
 cause_line (Nested line) = string_bytes line
 cause_line (InDirectory line) = string_bytes line
+cause_line (InReport line) = string_bytes line
+cause_line NoSharedColumn = codes "lc: no column is in every report: count with --files\n"
 cause_line SumsTooLarge = codes "lc: sums too large\n"
 cause_line UnreadInput = codes "lc: cannot read input\n"
 cause_line InputTooLong = codes "lc: input too long\n"

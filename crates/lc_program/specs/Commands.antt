@@ -1,5 +1,5 @@
 -- The commands that lines on standard error show, which can be typed as they are shown.
-use Rattle.std.specs.Prelude.{◌&&◌, ℕ, Bool, not, cond, nat_eq, List, [], ◌∷◌, ◌++◌, Option, Some, None, bytes_eq, codes, flat_map}
+use Rattle.std.specs.Prelude.{◌&&◌, ℕ, Bool, not, cond, nat_eq, List, [], ◌∷◌, ◌++◌, Option, Some, bytes_eq, codes, flat_map}
 use Rattle.std.specs.List.{starts_with}
 use Rattle.std.specs.Path.{path_file_name, path_parent}
 use Rattle.lc_glob.specs.Lists.{is_empty}

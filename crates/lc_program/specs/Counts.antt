@@ -1,6 +1,6 @@
 -- How a count is answered, by what was read and written.
-use Rattle.std.specs.Prelude.{◌≡◌, ◌⊎◌, ◌||◌, ℕ, List, [], ◌∷◌, ◌++◌, flat_map, map, if◌then◌else◌, Result, Ok, Err, Vec, is_some}
-use Rattle.std.specs.Prelude.{Option}
+use Rattle.std.specs.Prelude.{◌≡◌, ◌⊎◌, ◌||◌, ℕ, List, [], ◌∷◌, ◌++◌, flat_map, map, Result, Ok, Err, Vec, is_some}
+use Rattle.std.specs.Prelude.{Option, unwrap_or}
 use Rattle.std.specs.Borrow.{Bor}
 use Rattle.std.specs.Global.{Global}
 use Rattle.lc_arguments.specs.Combinations.{is_picture}
@@ -8,32 +8,26 @@ use Rattle.lc_arguments.specs.TableWords.{options_in}
 use Rattle.lc_arguments.specs.declared.count.CountRequest.{CountRequest}
 use Rattle.lc_io.specs.Reads.{Answer}
 use Rattle.lc_io.specs.declared.source.Failed.{Failed}
-use Rattle.lc_level.specs.Filters.{FiltersModel}
 use Rattle.lc_level.specs.NamedAttributes.{attributes_of}
 use Rattle.lc_io.specs.declared.printing.PrintFault.{PrintFault}
 use Rattle.lc_program.specs.Finds.{Finds, FindsNone}
 use Rattle.lc_program.specs.Nested.{AreApart, AreNested}
 use Rattle.lc_program.specs.Runs.{AnswersTable}
-use Rattle.lc_tree.specs.declared.file_systems.FileSystems.{FileSystems}
-use Rattle.lc_tree.specs.declared.file_systems.FileSystems.TheVariants.{All, One}
+use Rattle.lc_rows.specs.Laws.{all_columns}
 use Rattle.lc_sheet.specs.Conditions.{needs_files}
 use Rattle.lc_sheet.specs.declared.table_options.Format.{Format}
 use Rattle.lc_walk.specs.Walks.{Walks}
 use Rattle.lc_walk.specs.declared.options.Options.{Options}
+use Rattle.lc_walk.specs.declared.options.ReportLists.{ReportLists}
 use Rattle.lc_walk.specs.declared.report.Report.{Report}
 use Rattle.lc_walk.specs.declared.walk_fault.WalkFault.{WalkFault}
-use Rattle.lc_program.specs.PathLists.{AnswersWanted, GivesList}
 use Rattle.lc_program.specs.Causes.{print_cause}
 use Rattle.lc_program.specs.Replies.{IsRunReply, Reply}
 use Rattle.lc_program.specs.Filters.{Excludes, LacksRules, filters_of}
-use Rattle.lc_program.specs.Styles.{end_for}
 use Rattle.lc_program.specs.Systems.{SystemMay}
+use Rattle.lc_program.specs.WalkRequests.{AnswersPathsOf, IsAskedBy, entered_by}
 use Rattle.lc_program.specs.declared.cause.Cause.{Cause}
 use Rattle.lc_program.specs.declared.cause.Cause.TheVariants.{Memory}
-
--- the file systems whose directories the words of a count let it enter
-abbrev pub entered_by : CountRequest → FileSystems
-entered_by c = if c.one_file_system then One else All
 
 -- the names of the directories
 abbrev pub names_of : CountRequest → List (List ℕ)
@@ -51,24 +45,22 @@ one_text (name ∷ names) = name ++ after_spaces names
 abbrev pub counted_in : CountRequest → List ℕ
 counted_in c = one_text (names_of c)
 
--- options that ask for what the words of a count ask, by these filters
-pub record IsAskedBy (c : CountRequest) (f : FiltersModel) (o : Options) : Type 0 where
-  pub threads : o.threads ≡ c.threads
-  pub max_dirs : o.max_dirs ≡ c.max_dirs
-  pub files : o.lists.files
-      ≡ (c.table.files || is_some c.table.by.dir || is_picture c.table.format || needs_files c.conditions.items)
-  pub left_out : o.lists.left_out ≡ c.left_out
-  pub filters : o.filters.now ≡ f
+-- the lists that a count asks for: of the files also where they are needed
+abbrev pub lists_of : CountRequest → ReportLists
+lists_of c = record {
+  files = c.table.files || is_some (unwrap_or c.table.by all_columns).dir || is_picture c.table.format || needs_files c.conditions.items;
+  left_out = c.left_out;
+}
 
 module _ (may : SystemMay) {O : Type 0} (may_take : O → List ℕ → Result ℕ Failed → O → Type 0) (other : Format) (c : CountRequest) where
   -- what a walk by these options of the directory with this name may answer
   abbrev pub MayWalk : Options → List ℕ → Result Report WalkFault → Type 0
-  MayWalk o directory = Walks (may.list directory (entered_by c)) (may.give directory (entered_by c)) o
+  MayWalk o directory = Walks (may.list directory (entered_by c.walk)) (may.give directory (entered_by c.walk)) o
 
   -- the table of these conditions, with the format if the words name none
   abbrev pub AnswersTableOf : Report → Report → O → Result (Unit {0}) PrintFault → O → Type 0
   AnswersTableOf r left out answer wrote =
-      AnswersTable may_take (counted_in c) c.conditions.items (options_in other c.table) r left out answer wrote
+      AnswersTable may_take (counted_in c) c.conditions.items (options_in other all_columns c.table) r left out answer wrote
 
   -- the table of what is found in the directories was written whole, and this is left of it; or nothing was found, and nothing was written;
   -- or the table was not written, or not whole
@@ -81,20 +73,13 @@ module _ (may : SystemMay) {O : Type 0} (may_take : O → List ℕ → Result �
 
 module _ (may : SystemMay) {I O : Type 0} (may_give : I → ℕ → Answer → I → Type 0)
     (may_take : O → List ℕ → Result ℕ Failed → O → Type 0) (other : Format) (c : CountRequest) where
-  -- the paths that the words ask for, with those of the list that they name, or why there are none
-  abbrev pub AnswersPathsOf : I → Result (Vec (Bor (List ℕ)) Global) Cause → I → Type 0
-  AnswersPathsOf input answer read =
-      ((list : Vec ℕ Global) × GivesList may_give may.hold may.unread c.only_from input (Ok list) read
-      × AnswersWanted (map (λ path. path.now) c.only.items) c.only_from (end_for c.null) list.items answer)
-      ⊎ ((cause : Cause) × GivesList may_give may.hold may.unread c.only_from input (Err cause) read × (answer ≡ Err cause))
-
   -- what they have is printed, by what the words ask
   abbrev pub Runs : I → O → Reply → I → O → Type 0
   Runs input out reply read wrote =
-      (text : Option (List ℕ)) × Excludes may.hold c.filters.exclude_from text
-      × ((paths : Vec (Bor (List ℕ)) Global) × AnswersPathsOf input (Ok paths) read
-      × ((o : Options) × IsAskedBy c (filters_of c.filters text (map (λ path. path.now) paths.items)) o
-      × ((answer : Result Report Cause) × IsRunReply (attributes_of c.filters.without.items) answer reply
+      (text : Option (List ℕ)) × Excludes may.hold c.walk.filters.exclude_from text
+      × ((paths : Vec (Bor (List ℕ)) Global) × AnswersPathsOf may may_give c.walk input (Ok paths) read
+      × ((o : Options) × IsAskedBy c.walk (lists_of c) (filters_of c.walk.filters text (map (λ path. path.now) paths.items)) o
+      × ((answer : Result Report Cause) × IsRunReply (attributes_of c.walk.filters.without.items) answer reply
       × Prints may may_take other c o out answer wrote)))
 
   -- such a count; or there were no rules or no memory, and nothing was read; or there were no paths; then nothing was written
@@ -102,7 +87,7 @@ module _ (may : SystemMay) {I O : Type 0} (may_give : I → ℕ → Answer → I
   AnswersApart input out reply read wrote =
       Runs input out reply read wrote
       ⊎ ((cause : Cause) × (reply ≡ Err cause) × (wrote ≡ out)
-      × (((LacksRules may.hold c.filters cause ⊎ (cause ≡ Memory)) × (read ≡ input)) ⊎ AnswersPathsOf input (Err cause) read))
+      × (((LacksRules may.hold c.walk.filters cause ⊎ (cause ≡ Memory)) × (read ≡ input)) ⊎ AnswersPathsOf may may_give c.walk input (Err cause) read))
 
   -- no directory is another or lies in another, and they are counted; or one is or does, or there was no memory to see, and nothing was
   -- read or written

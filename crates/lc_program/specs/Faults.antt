@@ -9,6 +9,7 @@ use Rattle.lc_level.specs.FaultLines.{FaultLineModel}
 use Rattle.lc_text.specs.Visible.{visible_bytes}
 use Rattle.lc_sheet.specs.declared.table_options.Format.{Format}
 use Rattle.lc_sheet.specs.declared.table_options.Format.TheVariants.{Tsv, Table, Json, Csv, Markdown, Html}
+use Rattle.lc_program.specs.Commands.{or_here}
 use Rattle.lc_program.specs.Reasons.{uncounted_line}
 use Rattle.lc_program.specs.Tellings.{Tells}
 use Rattle.lc_reports.specs.Named.{named_top}
@@ -19,9 +20,9 @@ use Rattle.lc_program.specs.declared.unread_reason.UnreadReason.{UnreadReason}
 abbrev pub unread_line : List ℕ → List ℕ
 unread_line path = codes "lc: cannot read " ++ visible_bytes path ++ codes "\n"
 
--- a line for each path
+-- a line for each path; the empty one is that of a directory itself, which is a dot
 abbrev pub each_line : List FaultLineModel → List ℕ
-each_line faults = flat_map (λ (f : FaultLineModel). unread_line f.path) faults
+each_line faults = flat_map (λ (f : FaultLineModel). unread_line (or_here f.path)) faults
 
 -- how many paths could not be read
 abbrev pub number_text : ℕ → List ℕ

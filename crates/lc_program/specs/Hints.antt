@@ -3,7 +3,7 @@ use Rattle.std.specs.Prelude.{◌≡◌, ◌⊎◌, ◌&&◌, ℕ, Bool, true, f
 use Rattle.std.specs.Prelude.{codes, string_bytes}
 use Rattle.std.specs.List.{AllZip, list_all}
 use Rattle.lc_arguments.specs.declared.request.Request.{Request}
-use Rattle.lc_arguments.specs.declared.request.Request.TheVariants.{CheckJoined, Check, Count, Explain}
+use Rattle.lc_arguments.specs.declared.request.Request.TheVariants.{CheckJoined, Check, Count, Diff, Explain, Sum}
 use Rattle.lc_io.specs.declared.source.Failed.{Failed}
 use Rattle.lc_text.specs.Visible.{visible_bytes}
 use Rattle.lc_program.specs.Commands.{count_of, is_typed}
@@ -71,3 +71,5 @@ module _ {E : Type 0} (may_take : E → List ℕ → Result ℕ Failed → E →
   Hints may_lie stderr_is_terminal CheckJoined err told = told ≡ err
   Hints may_lie stderr_is_terminal (Check c) err told = told ≡ err
   Hints may_lie stderr_is_terminal (Explain c) err told = told ≡ err
+  Hints may_lie stderr_is_terminal (Sum c) err told = told ≡ err
+  Hints may_lie stderr_is_terminal (Diff d) err told = told ≡ err

@@ -1,8 +1,11 @@
 -- What is told of an input that is typed.
-use Rattle.std.specs.Prelude.{◌≡◌, ℕ, Bool, true, false, List, Result, Option, Some, None, bytes_eq, codes}
+use Rattle.std.specs.Prelude.{◌≡◌, ◌||◌, ℕ, Bool, true, false, List, Result, Option, Some, None, bytes_eq, codes}
+use Rattle.std.specs.Bool.{MatchBool}
 use Rattle.std.specs.Borrow.{Bor}
+use Rattle.std.specs.List.{list_any}
+use Rattle.lc_arguments.specs.declared.reports.NamedReport.{NamedReport}
 use Rattle.lc_arguments.specs.declared.request.Request.{Request}
-use Rattle.lc_arguments.specs.declared.request.Request.TheVariants.{CheckJoined, Check, Count, Explain}
+use Rattle.lc_arguments.specs.declared.request.Request.TheVariants.{CheckJoined, Check, Count, Diff, Explain, Sum}
 use Rattle.lc_io.specs.declared.source.Failed.{Failed}
 use Rattle.lc_glob.specs.Lists.{is_empty}
 use Rattle.lc_program.specs.Tellings.{Tells, TellsIf}
@@ -15,6 +18,10 @@ introduction = codes "lc: reads the lines of an ignore file, a line --, and path
 abbrev pub path_introduction : List ℕ
 path_introduction = codes "lc: reads paths from standard input; lc --help says more\n"
 
+-- what a sum reads of it
+abbrev pub report_introduction : List ℕ
+report_introduction = codes "lc: reads reports from standard input; lc --help says more\n"
+
 -- this is the name of the input
 abbrev pub is_input : Option (Bor (List ℕ)) → Bool
 is_input None = false
@@ -24,8 +31,20 @@ is_input (Some name) = bytes_eq name.now (codes "-")
 abbrev pub reads_paths : Request → Bool
 reads_paths CheckJoined = false
 reads_paths (Check c) = true
-reads_paths (Count c) = is_input c.only_from
+reads_paths (Count c) = is_input c.walk.only_from
 reads_paths (Explain c) = is_empty c.paths.items
+reads_paths (Sum c) = false
+reads_paths (Diff d) = is_input d.walk.only_from
+
+-- a report of these is the input
+abbrev pub read_input : List NamedReport → Bool
+read_input reports = list_any (λ (r : NamedReport). bytes_eq r.report.now (codes "-")) reports
+
+-- a request reads reports from the input
+abbrev pub reads_reports : Request → Bool
+reads_reports (Sum c) = read_input c.reports.items
+reads_reports (Diff d) = bytes_eq d.old.now (codes "-") || bytes_eq d.new.now (codes "-")
+reads_reports request = false
 
 module _ {E : Type 0} (may_take : E → List ℕ → Result ℕ Failed → E → Type 0) where
   -- what a request reads
@@ -34,6 +53,10 @@ module _ {E : Type 0} (may_take : E → List ℕ → Result ℕ Failed → E →
   IntroducesTyped (Check c) err told = TellsIf may_take (reads_paths (Check c)) path_introduction err told
   IntroducesTyped (Count c) err told = TellsIf may_take (reads_paths (Count c)) path_introduction err told
   IntroducesTyped (Explain c) err told = TellsIf may_take (reads_paths (Explain c)) path_introduction err told
+  IntroducesTyped (Sum c) err told = TellsIf may_take (reads_reports (Sum c)) report_introduction err told
+  IntroducesTyped (Diff d) err told =
+      MatchBool (reads_paths (Diff d)) (Tells may_take err path_introduction told)
+      (TellsIf may_take (reads_reports (Diff d)) report_introduction err told)
 
   -- it is told what a request reads, where the input is typed
   abbrev pub Introduces : Bool → Request → E → E → Type 0

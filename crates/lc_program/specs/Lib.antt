@@ -5,14 +5,18 @@ pub mod Faults
 pub mod Finds
 pub mod Hints
 pub mod Introductions
+pub mod NamedTexts
 pub mod Nested
 pub mod PathLists
 pub mod Program
 pub mod Reasons
 pub mod Replies
+pub mod ReportFiles
+pub mod ReportLines
 pub mod Requests
 pub mod Filters
 pub mod Styles
+pub mod Sums
 pub mod Systems
 pub mod Tellings
 pub mod Unlisted
@@ -20,3 +24,8 @@ pub mod Unmatched
 pub mod Unnamed
 pub mod ReportTexts
 pub mod Runs
+pub mod Choices
+pub mod Differences
+pub mod SideFaults
+pub mod Sides
+pub mod WalkRequests

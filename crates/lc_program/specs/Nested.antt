@@ -1,5 +1,5 @@
 -- Directories of a count of which one is another, or lies in another.
-use Rattle.std.specs.Prelude.{◌≡◌, ◌⊎◌, ℕ, Bool, true, false, cond, List, [], ◌∷◌, ◌++◌, String, Option, Some, None, codes, string_bytes}
+use Rattle.std.specs.Prelude.{◌≡◌, ℕ, Bool, true, false, cond, List, [], ◌∷◌, ◌++◌, String, Option, Some, None, codes, string_bytes}
 use Rattle.std.specs.Prelude.{bytes_eq, nat_eq}
 use Rattle.std.specs.Global.{Global}
 use Rattle.std.specs.List.{AllPairs, AllZip, ends_with, starts_with}

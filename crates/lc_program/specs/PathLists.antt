@@ -1,11 +1,10 @@
 -- The list of paths that words name, in a file or on the input.
-use Rattle.std.specs.Prelude.{◌≡◌, ◌≢◌, ◌⊎◌, ◌≤◌, ◌+◌, ◌&&◌, ℕ, Bool, true, false, not, cond, List, [], ◌∷◌, ◌++◌, map, length}
+use Rattle.std.specs.Prelude.{◌≡◌, ◌≢◌, ◌⊎◌, ◌&&◌, ℕ, Bool, true, false, not, cond, List, [], ◌∷◌, ◌++◌, map}
 use Rattle.std.specs.Prelude.{Option, Some, None, Result, Ok, Err, Vec, codes, string_bytes}
 use Rattle.std.specs.Borrow.{Bor}
 use Rattle.std.specs.Global.{Global}
-use Rattle.std.specs.List.{concat, list_any}
-use Rattle.lc_io.specs.Reads.{Answer, at_end, at_failure, at_neither}
-use Rattle.lc_io.specs.Whole.{AnswersWhole}
+use Rattle.std.specs.List.{list_any}
+use Rattle.lc_io.specs.Reads.{Answer}
 use Rattle.lc_io.specs.declared.whole.WholeFault.{WholeFault}
 use Rattle.lc_io.specs.declared.whole.WholeFault.TheVariants.{Read, TooLong, Memory}
 use Rattle.lc_text.specs.Lines.{input_paths_of}
@@ -13,6 +12,7 @@ use Rattle.lc_text.specs.PathLines.{is_bad_path, is_top, path_of, undotted}
 use Rattle.lc_text.specs.declared.lines.PathEnd.{PathEnd}
 use Rattle.lc_tree.specs.Trees.{Contents}
 use Rattle.lc_program.specs.Causes.{bad_path_line, no_path_line}
+use Rattle.lc_program.specs.NamedTexts.{ReadsNamed}
 use Rattle.lc_program.specs.declared.cause.Cause.{Cause}
 use Rattle.lc_program.specs.declared.cause.Cause.TheVariants as cause
 use Rattle.lc_program.specs.declared.unread_reason.UnreadReason.{UnreadReason}
@@ -21,33 +21,12 @@ use Rattle.lc_program.specs.declared.unread_reason.UnreadReason.{UnreadReason}
 abbrev pub max_list : ℕ
 max_list = 268435456
 
--- a list that is read whole, up to that limit; or the reads failed, or gave more bytes
-abbrev pub ReadsList : {I : Type 0} → (I → ℕ → Answer → I → Type 0) → I → Result (Vec ℕ Global) WholeFault → I → Type 0
-ReadsList may_give old (Ok bytes) new = AnswersWhole may_give max_list old (Ok tt) bytes.items new
-ReadsList may_give old (Err Read) new = (bytes : List ℕ) × AnswersWhole may_give max_list old (Err Read) bytes new
-ReadsList may_give old (Err TooLong) new = (bytes : List ℕ) × AnswersWhole may_give max_list old (Err TooLong) bytes new
-ReadsList may_give old (Err Memory) new = Unit {0}
-
--- the list in a file of which these reads may come
-abbrev pub LoadsList : Contents → Result (Vec ℕ Global) WholeFault → Type 0
-LoadsList gives (Ok bytes) =
-    (pieces : List (List ℕ)) × gives None pieces at_end × (concat pieces ≡ bytes.items) × (length bytes.items ≤ max_list)
-LoadsList gives (Err Read) = (pieces : List (List ℕ)) × gives None pieces at_failure × (length (concat pieces) ≤ max_list)
-LoadsList gives (Err TooLong) = (pieces : List (List ℕ)) × gives None pieces at_neither × (length (concat pieces) ≡ max_list + 1)
-LoadsList gives (Err Memory) = Unit {0}
-
 module _ {I : Type 0} (may_give : I → ℕ → Answer → I → Type 0) (holds : List ℕ → Contents) where
-  -- the list of this name: `-` is the input, and any other name a file's
-  abbrev pub ReadsNamed : List ℕ → I → Result (Vec ℕ Global) WholeFault → I → Type 0
-  ReadsNamed name input answer read =
-      ((name ≡ codes "-") × ReadsList may_give input answer read)
-      ⊎ ((name ≢ codes "-") × LoadsList (holds name) answer × (read ≡ input))
-
   -- the list that the words name; none has no bytes
   abbrev pub AnswersList : Option (Bor (List ℕ)) → I → Result (Vec ℕ Global) WholeFault → I → Type 0
   AnswersList None input (Ok bytes) read = (bytes.items ≡ []) × (read ≡ input)
   AnswersList None input (Err fault) read = ⊥
-  AnswersList (Some name) input answer read = ReadsNamed name.now input answer read
+  AnswersList (Some name) input answer read = ReadsNamed max_list may_give holds name.now input answer read
 
 -- why there is no list. The input has no reason; for a file that could not be read it is what the system may say
 module _ (may_unread : List ℕ → Option UnreadReason → Type 0) where

@@ -9,19 +9,21 @@ use Rattle.lc_program.specs.Hints.{Hints}
 use Rattle.lc_program.specs.Introductions.{Introduces}
 use Rattle.lc_program.specs.Replies.{Reply, ending_of}
 use Rattle.lc_program.specs.Requests.{AnswersRequest}
+use Rattle.lc_program.specs.SideFaults.{TellsSideFaults}
 use Rattle.lc_program.specs.Styles.{format_for}
 use Rattle.lc_program.specs.Systems.{SystemMay}
 use Rattle.lc_program.specs.Tellings.{Tells}
 use Rattle.lc_program.specs.Unlisted.{TellsUnlisted}
 use Rattle.lc_program.specs.Unmatched.{unmatched_in}
 use Rattle.lc_arguments.specs.Refusals.{IsMessage}
-use Rattle.lc_arguments.specs.TableWords.{options_in}
+use Rattle.lc_arguments.specs.TableWords.{format_in, options_in}
 use Rattle.lc_arguments.specs.Words.{AreRefused, Asks, MayShow, faults_in}
 use Rattle.lc_io.specs.Writes.{Writes, StopsWriting}
+use Rattle.lc_rows.specs.Laws.{all_columns}
 use Rattle.lc_arguments.specs.declared.request.Request.{Request}
-use Rattle.lc_arguments.specs.declared.request.Request.TheVariants.{Count, Explain}
+use Rattle.lc_arguments.specs.declared.request.Request.TheVariants.{Count, Diff, Explain, Sum}
 use Rattle.lc_program.specs.declared.answered.Answered.{Answered}
-use Rattle.lc_program.specs.declared.answered.Answered.TheVariants.{Counted, Explained}
+use Rattle.lc_program.specs.declared.answered.Answered.TheVariants.{Compared, Counted, Explained, Summed}
 use Rattle.lc_program.specs.declared.cause.Cause.{Cause}
 use Rattle.lc_program.specs.declared.cause.Cause.TheVariants.{Memory, Unwritten}
 use Rattle.lc_program.specs.declared.ending.Ending.{Ending}
@@ -46,17 +48,23 @@ module _ {E : Type 0} (may_take : E → List ℕ → Result ℕ Failed → E →
   TellsCause err cause told = Tells may_take err (cause_line cause) told ⊎ (HasNumber cause × Tells may_take err (cause_line Memory) told)
 
   -- after a count it is told what it could not read; its table has this format if the words name none. After an explanation that names a
-  -- fault it is told that its directory could not be listed, where the system may say so
+  -- fault it is told that its directory could not be listed, where the system may say so. After a sum it is told what its reports name,
+  -- which are of no directory. After a comparison it is told what each side could not read
   abbrev pub TellsUnread : (List ℕ → Option UnreadReason → Type 0) → Format → Request → Answered → E → E → Type 0
   TellsUnread may_unlist other (Count c) (Counted left unnamed) err told =
-      TellsFaults may_take may_unlist (names_of c) (options_in other c.table).format left.faults.items err told
+      TellsFaults may_take may_unlist (names_of c) (options_in other all_columns c.table).format left.faults.items err told
   TellsUnread may_unlist other (Explain c) (Explained outcome.SomeFaults) err told =
       TellsUnlisted may_take may_unlist c.directory.now err told
+  TellsUnread may_unlist other (Sum c) (Summed left) err told =
+      TellsFaults may_take may_unlist [] (format_in other c.table) left.faults.items err told
+  TellsUnread may_unlist other (Diff d) (Compared c unnamed) err told =
+      TellsSideFaults may_take d.old.now c.old.faults.items d.new.now c.new.faults.items err told
   TellsUnread may_unlist other request answered err told = told ≡ err
 
   -- and which attributes no attribute file names
   abbrev pub TellsUnnamed : Answered → E → E → Type 0
   TellsUnnamed (Counted left unnamed) err told = Tells may_take err (string_bytes unnamed) told
+  TellsUnnamed (Compared c unnamed) err told = Tells may_take err (string_bytes unnamed) told
   TellsUnnamed answered err told = told ≡ err
 
   -- what could not be read is told, and which attributes are not named

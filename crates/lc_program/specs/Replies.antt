@@ -3,7 +3,7 @@ use Rattle.std.specs.Prelude.{◌≡◌, ◌&&◌, Bool, true, false, String, Li
 use Rattle.std.specs.Global.{Global}
 use Rattle.lc_level.specs.FaultLines.{FaultLineModel}
 use Rattle.lc_arguments.specs.declared.request.Request.{Request}
-use Rattle.lc_arguments.specs.declared.request.Request.TheVariants.{Count}
+use Rattle.lc_arguments.specs.declared.request.Request.TheVariants.{Count, Diff, Sum}
 use Rattle.lc_walk.specs.declared.report.Report.{Report}
 use Rattle.lc_text.specs.declared.check_fault.CheckFault.{CheckFault}
 use Rattle.lc_text.specs.declared.outcome.Outcome.{Outcome}
@@ -12,7 +12,7 @@ use Rattle.lc_io.specs.declared.printing.PrintFault.{PrintFault}
 use Rattle.lc_program.specs.Causes.{check_cause, print_cause}
 use Rattle.lc_program.specs.Unnamed.{AreUnnamedLines}
 use Rattle.lc_program.specs.declared.answered.Answered.{Answered}
-use Rattle.lc_program.specs.declared.answered.Answered.TheVariants.{Checked, Counted, Explained}
+use Rattle.lc_program.specs.declared.answered.Answered.TheVariants.{Checked, Compared, Counted, Explained, Summed}
 use Rattle.lc_program.specs.declared.cause.Cause.{Cause}
 use Rattle.lc_program.specs.declared.ending.Ending.{Ending}
 use Rattle.lc_program.specs.declared.ending.Ending.TheVariants.{AnyFile, Done, SomeFaults}
@@ -20,25 +20,34 @@ use Rattle.lc_program.specs.declared.ending.Ending.TheVariants.{AnyFile, Done, S
 abbrev pub Reply : Type 0
 Reply = Result Answered Cause
 
--- whether a count names a fault
+-- whether a report names a fault
 abbrev pub outcome_by : List FaultLineModel → Outcome
 outcome_by [] = outcome.Clean
 outcome_by (fault ∷ faults) = outcome.SomeFaults
+
+-- whether one of two does
+abbrev pub outcome_of_both : Outcome → Outcome → Outcome
+outcome_of_both outcome.Clean other = other
+outcome_of_both outcome.SomeFaults other = outcome.SomeFaults
 
 -- whether an answer does
 abbrev pub outcome_of : Answered → Outcome
 outcome_of Checked = outcome.Clean
 outcome_of (Explained outcome) = outcome
 outcome_of (Counted left unnamed) = outcome_by left.faults.items
+outcome_of (Summed left) = outcome_by left.faults.items
+outcome_of (Compared c unnamed) = outcome_of_both (outcome_by c.old.faults.items) (outcome_by c.new.faults.items)
 
 -- a check that was done has no faults to tell
 abbrev pub checked : Result (Unit {0}) CheckFault → Reply
 checked (Ok _) = Ok Checked
 checked (Err fault) = Err (check_cause fault)
 
--- whether an answer counts a file, which was to be a failure
+-- whether an answer counts a file, or differs, which was to be a failure
 abbrev pub has_failure : Request → Answered → Bool
 has_failure (Count c) (Counted left unnamed) = c.fail_if_any && nat_lt 0 left.totals.files
+has_failure (Sum c) (Summed left) = c.fail_if_any && nat_lt 0 left.totals.files
+has_failure (Diff d) (Compared c unnamed) = d.fail_if_any && c.differ
 has_failure request answered = false
 
 abbrev pub ending_by : Bool → Outcome → Ending

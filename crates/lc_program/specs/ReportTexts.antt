@@ -1,5 +1,5 @@
 -- The text of a report, by its options.
-use Rattle.std.specs.Prelude.{◌≡◌, ℕ, Bool, true, false, List}
+use Rattle.std.specs.Prelude.{◌≡◌, ℕ, Bool, true, false, List, [], ◌∷◌}
 use Rattle.std.specs.List.Sorted.{IsPermutation}
 use Rattle.lc_formats.specs.Csv.{csv_of}
 use Rattle.lc_formats.specs.JsonSheets.{json_of, json_text_of}
@@ -8,8 +8,10 @@ use Rattle.lc_formats.specs.MarkdownText.{markdown_of}
 use Rattle.lc_formats.specs.TableText.{table_of}
 use Rattle.lc_formats.specs.Tsv.{tsv_of}
 use Rattle.lc_picture.specs.Page.{IsPageOf, drawn_number}
+use Rattle.lc_rows.specs.Classes.{classes_of}
 use Rattle.lc_rows.specs.Kept.{IsKept}
-use Rattle.lc_rows.specs.Sheets.{IsSheetOf}
+use Rattle.lc_rows.specs.Sheets.{IsSheetWith}
+use Rattle.lc_rows.specs.declared.classes.ClassSums.{ClassSums}
 use Rattle.lc_sheet.specs.Conditions.{ConditionModel}
 use Rattle.lc_sheet.specs.Sheets.{SheetModel}
 use Rattle.lc_sheet.specs.declared.table_options.Format.{Format}
@@ -35,24 +37,28 @@ IsTextIn Csv s text = text ≡ csv_of s
 IsTextIn Markdown s text = text ≡ markdown_of s
 IsTextIn Html s text = ⊥
 
--- the text of a sheet of a report with these options
-pub record HasSheet (options : TableOptions) (r : Report) (text : List ℕ) : Type 0 where
+-- the text of a sheet of a report with these options, and with these sums over text and binary files
+pub record HasSheetWith (options : TableOptions) (r : Report) (classes : ClassSums) (text : List ℕ) : Type 0 where
   pub sheet : SheetModel
-  pub is_sheet : IsSheetOf options r sheet
+  pub is_sheet : IsSheetWith options r classes sheet
   pub is : IsTextIn options.format sheet text
 
--- a text of a report of what was counted, with these options, in this format
-abbrev pub IsTextBy : Format → List ℕ → TableOptions → Report → List ℕ → Type 0
-IsTextBy Html counted options r text = IsPageOf counted (drawn_number options.sort) r text
-IsTextBy Tsv counted options r text = HasSheet options r text
-IsTextBy Table counted options r text = HasSheet options r text
-IsTextBy Json counted options r text = HasSheet options r text
-IsTextBy Csv counted options r text = HasSheet options r text
-IsTextBy Markdown counted options r text = HasSheet options r text
+-- a text of a report of what was counted, with these options and these sums, in this format
+abbrev pub IsTextBy : Format → List ℕ → TableOptions → Report → ClassSums → List ℕ → Type 0
+IsTextBy Html counted options r classes text = IsPageOf counted (drawn_number options.sort) r text
+IsTextBy Tsv counted options r classes text = HasSheetWith options r classes text
+IsTextBy Table counted options r classes text = HasSheetWith options r classes text
+IsTextBy Json counted options r classes text = HasSheetWith options r classes text
+IsTextBy Csv counted options r classes text = HasSheetWith options r classes text
+IsTextBy Markdown counted options r classes text = HasSheetWith options r classes text
 
--- a text of a report of what was counted, with these options
+-- a text of a report of what was counted, with these options and these sums
+abbrev pub IsTextWith : List ℕ → TableOptions → Report → ClassSums → List ℕ → Type 0
+IsTextWith counted options r classes text = IsTextBy options.format counted options r classes text
+
+-- a text whose sums over text and binary files are those of the report's rows
 abbrev pub IsTextOf : List ℕ → TableOptions → Report → List ℕ → Type 0
-IsTextOf counted options r text = IsTextBy options.format counted options r text
+IsTextOf counted options r text = IsTextWith counted options r (classes_of r.rows.items) text
 
 -- a report whose files are in another order; all else is the same
 pub record IsReordered (r left : Report) : Type 0 where
@@ -65,4 +71,17 @@ pub record IsPrinted (counted : List ℕ) (conditions : List ConditionModel) (op
   pub part : Report
   pub is_kept : IsKept conditions r part
   pub is_text : IsTextOf counted options part text
+  pub is_left : IsReordered part left
+
+-- the sums over text and binary files of what meets some conditions: without conditions those of all, and else those of its rows
+abbrev pub classes_kept : List ConditionModel → ClassSums → Report → ClassSums
+classes_kept [] classes part = classes
+classes_kept (c ∷ cs) classes part = classes_of part.rows.items
+
+-- such a text of a report whose sums over text and binary files are these, where its rows may not keep them apart
+pub record IsPrintedWith (counted : List ℕ) (conditions : List ConditionModel) (options : TableOptions) (r : Report) (classes : ClassSums)
+    (text : List ℕ) (left : Report) : Type 0 where
+  pub part : Report
+  pub is_kept : IsKept conditions r part
+  pub is_text : IsTextWith counted options part (classes_kept conditions classes part) text
   pub is_left : IsReordered part left

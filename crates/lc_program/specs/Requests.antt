@@ -19,12 +19,14 @@ use Rattle.lc_io.specs.declared.printing.PrintFault.{PrintFault}
 use Rattle.lc_text.specs.declared.style.PathFormat.{PathFormat}
 use Rattle.lc_text.specs.declared.style.PathStyle.{PathStyle}
 use Rattle.lc_arguments.specs.declared.request.Request.{Request}
-use Rattle.lc_arguments.specs.declared.request.Request.TheVariants.{CheckJoined, Check, Count, Explain}
+use Rattle.lc_arguments.specs.declared.request.Request.TheVariants.{CheckJoined, Check, Count, Diff, Explain, Sum}
 use Rattle.lc_arguments.specs.declared.explain.ExplainRequest.{ExplainRequest}
 use Rattle.lc_program.specs.Counts.{AnswersCount}
+use Rattle.lc_program.specs.Differences.{AnswersDiff}
 use Rattle.lc_program.specs.Replies.{Reply, checked, explained, told}
 use Rattle.lc_program.specs.Filters.{Excludes, GaveNoRules, LacksRules, LoadsFile, filters_of}
 use Rattle.lc_program.specs.Styles.{end_for, format_for, format_with, style_for}
+use Rattle.lc_program.specs.Sums.{AnswersSum}
 use Rattle.lc_program.specs.Systems.{SystemMay}
 use Rattle.lc_program.specs.declared.cause.Cause.{Cause}
 use Rattle.lc_program.specs.declared.cause.Cause.TheVariants.{Memory}
@@ -87,3 +89,7 @@ module _ (may : SystemMay) {I O : Type 0} (may_give : I → ℕ → Answer → I
       AnswersCount may may_give may_take (format_for is_terminal) c input out reply read wrote
   AnswersRequest is_terminal (Explain c) input out reply read wrote =
       AnswersExplanation (style_for is_terminal) c input out reply read wrote
+  AnswersRequest is_terminal (Sum c) input out reply read wrote =
+      AnswersSum may may_give may_take (format_for is_terminal) c input out reply read wrote
+  AnswersRequest is_terminal (Diff d) input out reply read wrote =
+      AnswersDiff may may_give may_take (format_for is_terminal) d input out reply read wrote

@@ -17,15 +17,18 @@ abbrev pub table_fault : PrintFault → RunFault
 table_fault print.Write = Write
 table_fault print.Memory = Memory
 
--- what a call answers that writes the table of what meets some conditions of a report, with these options, and leaves this of the report:
--- it was written whole; a write stopped it; nothing was written
+-- what a call answers that writes such a text: it was written whole; a write stopped it; nothing was written
+abbrev pub AnswersText : {O : Type 0} → (O → List ℕ → Result ℕ Failed → O → Type 0) → (List ℕ → Type 0) → O
+    → Result (Unit {0}) PrintFault → O → Type 0
+AnswersText may_take Is out (Ok _) wrote = (text : List ℕ) × Is text × Writes may_take out text wrote
+AnswersText may_take Is out (Err print.Write) wrote = (text : List ℕ) × Is text × StopsWriting may_take out text wrote
+AnswersText may_take Is out (Err print.Memory) wrote = wrote ≡ out
+
+-- what a call answers that writes the table of what meets some conditions of a report, with these options, and leaves this of the report
 abbrev pub AnswersTable : {O : Type 0} → (O → List ℕ → Result ℕ Failed → O → Type 0) → List ℕ → List ConditionModel → TableOptions → Report
     → Report → O → Result (Unit {0}) PrintFault → O → Type 0
-AnswersTable may_take counted conditions options r left out (Ok _) wrote =
-    (text : List ℕ) × IsPrinted counted conditions options r text left × Writes may_take out text wrote
-AnswersTable may_take counted conditions options r left out (Err print.Write) wrote =
-    (text : List ℕ) × IsPrinted counted conditions options r text left × StopsWriting may_take out text wrote
-AnswersTable may_take counted conditions options r left out (Err print.Memory) wrote = wrote ≡ out
+AnswersTable may_take counted conditions options r left out answer wrote =
+    AnswersText may_take (λ text. IsPrinted counted conditions options r text left) out answer wrote
 
 module _ {O : Type 0} (may_take : O → List ℕ → Result ℕ Failed → O → Type 0) (walks : Result Report WalkFault → Type 0)
     (counted : List ℕ) (conditions : List ConditionModel) (options : TableOptions) where

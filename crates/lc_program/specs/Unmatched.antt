@@ -3,7 +3,7 @@ use Rattle.std.specs.Prelude.{ℕ, cond, List, [], ◌++◌, codes, flat_map}
 use Rattle.std.specs.Borrow.{Bor}
 use Rattle.lc_arguments.specs.declared.filter_request.FilterRequest.{FilterRequest}
 use Rattle.lc_arguments.specs.declared.request.Request.{Request}
-use Rattle.lc_arguments.specs.declared.request.Request.TheVariants.{CheckJoined, Check, Count, Explain}
+use Rattle.lc_arguments.specs.declared.request.Request.TheVariants.{CheckJoined, Check, Count, Diff, Explain, Sum}
 use Rattle.lc_rules.specs.CanMatch.{can_match}
 use Rattle.lc_text.specs.Visible.{visible_bytes}
 
@@ -27,5 +27,7 @@ unmatched_of e = unmatched_lines e.exclude.items ++ unmatched_lines e.include.it
 abbrev pub unmatched_in : Request → List ℕ
 unmatched_in CheckJoined = []
 unmatched_in (Check c) = []
-unmatched_in (Count c) = unmatched_of c.filters
+unmatched_in (Count c) = unmatched_of c.walk.filters
 unmatched_in (Explain c) = unmatched_of c.filters
+unmatched_in (Sum c) = []
+unmatched_in (Diff d) = unmatched_of d.walk.filters

@@ -1,10 +1,11 @@
 //! The answers to requests.
 
 ghost use Rattle.std.specs.Prelude.{◌≡◌};
-ghost use Rattle.lc_program.specs.Replies.{outcome_of};
+ghost use Rattle.lc_program.specs.Replies.{outcome_by, outcome_of, outcome_of_both};
 
+use crate::comparison::Comparison;
 use lc_text::Outcome;
-use lc_walk::Report;
+use lc_walk::{FaultLine, Report};
 
 /// The answer that was written for a request.
 #[derive(Drop)]
@@ -15,6 +16,31 @@ pub(crate) enum Answered {
     Explained(Outcome),
     /// A count: the report that was printed, and lines about attributes that no attribute file names.
     Counted(Report, String),
+    /// A sum: the report that was printed.
+    Summed(Report),
+    /// A comparison: what was compared, and lines about attributes that no attribute file names.
+    Compared(Comparison, String),
+}
+
+/// Returns whether there are errors.
+fn outcome_by(faults: &[FaultLine]) -> Outcome
+    ensures { result ≡ outcome_by faults.now }
+{
+    if faults.is_empty() {
+        Outcome::Clean
+    } else {
+        Outcome::SomeFaults
+    }
+}
+
+/// Returns whether one of two outcomes has errors.
+fn outcome_of_both(one: Outcome, other: Outcome) -> Outcome
+    ensures { result ≡ outcome_of_both one other }
+{
+    match one {
+        Outcome::Clean => other,
+        Outcome::SomeFaults => Outcome::SomeFaults,
+    }
 }
 
 impl Answered {
@@ -25,13 +51,11 @@ impl Answered {
         match self {
             Answered::Checked => Outcome::Clean,
             Answered::Explained(outcome) => *outcome,
-            Answered::Counted(report, _) => {
-                if report.faults.is_empty() {
-                    Outcome::Clean
-                } else {
-                    Outcome::SomeFaults
-                }
-            }
+            Answered::Counted(report, _) | Answered::Summed(report) => outcome_by(&report.faults),
+            Answered::Compared(compared, _) => outcome_of_both(
+                outcome_by(&compared.old.faults),
+                outcome_by(&compared.new.faults),
+            ),
         }
     }
 }

@@ -7,9 +7,11 @@ ghost use Rattle.lc_program.specs.Systems.{system_may};
 use crate::answered::Answered;
 use crate::cause::Cause;
 use crate::checking::{check_file, check_input};
+use crate::comparing::compare;
 use crate::counting::count;
 use crate::explaining::explain_asked;
 use crate::streams::Terminals;
+use crate::summing::sum;
 use crate::system::System;
 use lc_arguments::Request;
 use lc_census::Source;
@@ -38,5 +40,7 @@ pub(crate) fn answer<R: Threads + Wait + Sync + AllocGlobal, Y: System, S: Sourc
         Request::Check(asked) => check_file(rt.alloc(), system, asked, style, input, out),
         Request::Count(asked) => count(rt, system, asked, terminals.format(), input, out),
         Request::Explain(asked) => explain_asked(rt.alloc(), system, asked, style, input, out),
+        Request::Sum(asked) => sum(rt.alloc(), system, asked, terminals.format(), input, out),
+        Request::Diff(asked) => compare(rt, system, asked, terminals.format(), input, out),
     }
 }

@@ -45,6 +45,10 @@ pub enum Cause {
     Nested(String),
     /// The walk of one of several directories ended without a report. The line says which.
     InDirectory(String),
+    /// A report can't be read, is refused, or can't be added to others. The line says which, and why.
+    InReport(String),
+    /// No column is in each of several reports.
+    NoSharedColumn,
     /// A sum over several reports does not fit its type.
     SumsTooLarge,
     /// The answer could not be written.
@@ -88,7 +92,11 @@ impl Cause {
             Cause::RulesTooLong => "lc: rules too long\n",
             Cause::UnreadPaths(why) => unread_paths_line(*why),
             Cause::PathsTooLong => "lc: paths too long\n",
-            Cause::BadPaths(line) | Cause::Nested(line) | Cause::InDirectory(line) => line.as_str(),
+            Cause::BadPaths(line)
+            | Cause::Nested(line)
+            | Cause::InDirectory(line)
+            | Cause::InReport(line) => return Ok(CowStr::Borrowed(line.as_str())),
+            Cause::NoSharedColumn => "lc: no column is in every report: count with --files\n",
             Cause::UnreadInput => "lc: cannot read input\n",
             Cause::InputTooLong => "lc: input too long\n",
             Cause::SumsTooLarge => "lc: sums too large\n",

@@ -4,8 +4,10 @@ ghost use Rattle.std.specs.Prelude.{◌≡◌, ◌++◌, map, IfOk, OnOk};
 ghost use Rattle.lc_arguments.specs.Combinations.{is_picture};
 ghost use Rattle.lc_arguments.specs.Words.{IsCountWithinLimits};
 ghost use Rattle.lc_arguments.specs.TableWords.{options_in};
-ghost use Rattle.lc_program.specs.Counts.{AnswersApart, AnswersCount, IsAskedBy, Prints, after_spaces, one_text};
+ghost use Rattle.lc_program.specs.Counts.{AnswersApart, AnswersCount, Prints, after_spaces, lists_of, one_text};
 ghost use Rattle.lc_program.specs.Systems.{system_may};
+ghost use Rattle.lc_program.specs.WalkRequests.{IsAskedBy};
+ghost use Rattle.lc_rows.specs.Laws.{all_columns};
 ghost use Rattle.lc_rows.specs.WalkedReports.{ListsFilesFor};
 ghost use Rattle.lc_walk.specs.WalkOptions.{AreWithinLimits};
 
@@ -19,11 +21,11 @@ use crate::path_list::{list_of, wanted_paths};
 use crate::showing::table;
 use crate::system::System;
 use crate::unnamed::unnamed_lines;
-use lc_arguments::{CountRequest, MAX_DIRS, MAX_THREADS};
+use lc_arguments::{CountRequest, MAX_DIRS, MAX_THREADS, WalkRequest};
 use lc_board::limits::{MAX_CAPACITY, MAX_WORKERS};
 use lc_census::Source;
 use lc_level::{Filters, NamedAttributes};
-use lc_sheet::{Format, ReportOptions, needs_files};
+use lc_sheet::{Columns, Format, ReportOptions, needs_files};
 use lc_text::Sink;
 use lc_walk::{Options, Report, ReportLists};
 use std::alloc::{AllocError, Global};
@@ -34,30 +36,38 @@ use std::thread::Threads;
 const _: () = prove!(MAX_THREADS == MAX_WORKERS && MAX_DIRS == MAX_CAPACITY);
 
 /// Returns whether a named format is a picture.
-fn is_picture(format: Option<Format>) -> bool
+pub(crate) fn is_picture(format: Option<Format>) -> bool
     ensures { result ≡ is_picture format }
 {
     matches!(format, Some(Format::Html))
 }
 
-/// Makes the options of a walk from the command line. Rows by directory, pictures and conditions on numbers need the report's files.
-fn options_of<'o>(
-    asked: &'o CountRequest<'_>,
+/// Returns the lists that a count asks for. Rows by directory, pictures and conditions on numbers need the files.
+fn lists_of(asked: &CountRequest<'_>) -> ReportLists
+    ensures { result ≡ lists_of asked.now }
+{
+    ReportLists {
+        files: asked.table.files
+            || asked.table.by.unwrap_or(Columns::ALL).dir.is_some()
+            || is_picture(asked.table.format)
+            || needs_files(&asked.conditions),
+        left_out: asked.left_out,
+    }
+}
+
+/// Makes the options of a walk from the command line.
+pub(crate) fn options_of<'o>(
+    asked: &WalkRequest<'_>,
+    lists: ReportLists,
     filters: &'o Filters<'_>,
     named: &'o NamedAttributes,
 ) -> Options<'o>
-    ensures { IsAskedBy asked.entry.now filters.entry.now result }
+    ensures { IsAskedBy asked.now lists filters.entry.now result }
 {
     Options {
         threads: asked.threads,
         max_dirs: asked.max_dirs,
-        lists: ReportLists {
-            files: asked.table.files
-                || asked.table.by.dir.is_some()
-                || is_picture(asked.table.format)
-                || needs_files(&asked.conditions),
-            left_out: asked.left_out,
-        },
+        lists,
         filters,
         named: Some(named),
     }
@@ -96,7 +106,7 @@ fn print_found<R: Threads + Wait + Sync + AllocGlobal, Y: System, O: Sink>(
     out: &mut O,
 ) -> Result<Report, Cause>
     requires limits { AreWithinLimits options.now }
-    requires files { ListsFilesFor options.now (options_in format asked.now.table) }
+    requires files { ListsFilesFor options.now (options_in format all_columns asked.now.table) }
     ensures { Prints (system_may (λ dir entered. Y.Tree.lists (Y.tree system.now dir entered))
         (λ dir entered. Y.Tree.gives (Y.tree system.now dir entered)) (Y.holds system.now)
         (Y.unlists system.now) (Y.unreads system.now) (Y.lies system.now) (Y.stands system.now))
@@ -105,7 +115,7 @@ fn print_found<R: Threads + Wait + Sync + AllocGlobal, Y: System, O: Sink>(
     let mut report = found(rt, system, asked, options)?;
     let counted = one_text(rt.alloc(), &asked.directories)?;
     let shown = ReportOptions {
-        table: asked.table.options(format),
+        table: asked.table.options(format, Columns::ALL),
         conditions: &asked.conditions,
         counted: &counted,
     };
@@ -128,17 +138,17 @@ fn count_apart<R: Threads + Wait + Sync + AllocGlobal, Y: System, S: Source, O: 
         (Y.unlists system.now) (Y.unreads system.now) (Y.lies system.now) (Y.stands system.now))
         S.may_give O.may_take format asked.now input.old out.old result input.new out.new }
 {
-    let filters = read_filters(rt.alloc(), system, &asked.filters)?;
-    let named = NamedAttributes::new(rt.alloc(), &asked.filters.without)?;
+    let filters = read_filters(rt.alloc(), system, &asked.walk.filters)?;
+    let named = NamedAttributes::new(rt.alloc(), &asked.walk.filters.without)?;
     // Borrowed before the list is, so that the options' references end together.
     let noted = &named;
-    let list = list_of(rt.alloc(), system, asked.only_from, input)?;
+    let list = list_of(rt.alloc(), system, asked.walk.only_from, input)?;
     let listed = list.as_slice();
-    let only = asked.only.as_slice();
-    let end = path_end(asked.null);
-    let wanted = wanted_paths(rt.alloc(), only, asked.only_from, end, listed)?;
+    let only = asked.walk.only.as_slice();
+    let end = path_end(asked.walk.null);
+    let wanted = wanted_paths(rt.alloc(), only, asked.walk.only_from, end, listed)?;
     let filters = narrowed(rt.alloc(), filters, wanted.as_slice())?;
-    let options = options_of(asked, &filters, noted);
+    let options = options_of(&asked.walk, lists_of(asked), &filters, noted);
     let report = print_found(rt, system, asked, &options, format, out)?;
     let unnamed = unnamed_lines(rt.alloc(), noted);
     Ok(Answered::Counted(report, unnamed))

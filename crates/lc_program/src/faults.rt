@@ -2,6 +2,7 @@
 
 ghost use Rattle.std.specs.Prelude.{◌≡◌, ◌++◌, map, string_bytes, IfOk, OnOk};
 ghost use Rattle.lc_level.specs.FaultLines.{FaultLineModel};
+ghost use Rattle.lc_program.specs.Commands.{or_here};
 ghost use Rattle.lc_program.specs.Faults.{AreFaultLines, AreTopLines, IsTopLine, TellsFaults, each_line, fault_rows, has_path};
 ghost use Rattle.lc_program.specs.Faults.{inside, is_inside};
 ghost use Rattle.lc_program.specs.Faults.{lines_by, lines_if, number_line, number_text, top_path, unread_line};
@@ -22,13 +23,20 @@ fn push_unread(text: &mut String, path: &[u8]) -> Result<(), AllocError>
     text.push_str("\n")
 }
 
+/// Returns a path, or a dot for the empty path of a directory itself.
+pub(crate) fn or_here(path: &[u8]) -> &[u8]
+    ensures { result.now ≡ or_here path.now }
+{
+    if path.is_empty() { b"." } else { path }
+}
+
 /// Makes a line for each path that could not be read.
 fn each_line(alloc: Global, faults: &[&FaultLine]) -> Result<String, AllocError>
     ensures { IfOk result (λ text. string_bytes text ≡ each_line (map (λ f. f.now) faults.now)) }
 {
     let mut text = String::new(alloc);
     for fault in faults {
-        push_unread(&mut text, &fault.path)?;
+        push_unread(&mut text, or_here(&fault.path))?;
     }
     Ok(text)
 }
@@ -99,7 +107,7 @@ fn top_path<'w>(directories: &[&str], directory: &'w str) -> &'w [u8]
     if name.is_empty() { b"/" } else { name }
 }
 
-fn has_path(path: &[u8], faults: &[FaultLine]) -> bool
+pub(crate) fn has_path(path: &[u8], faults: &[FaultLine]) -> bool
     ensures { result ≡ has_path path.now faults.now }
 {
     faults.iter().any(|fault| fault.path.as_slice() == path)

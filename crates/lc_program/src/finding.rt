@@ -2,16 +2,17 @@
 
 ghost use Rattle.std.specs.Prelude.{◌≡◌, ◌⊎◌, true, map, string_bytes, IfErr, IfOk};
 ghost use Rattle.std.specs.List.{AllZip};
-ghost use Rattle.lc_program.specs.Counts.{entered_by, names_of};
+ghost use Rattle.lc_program.specs.Counts.{names_of};
 ghost use Rattle.lc_program.specs.Finds.{EndsAmong, EndsIn, Finds, FindsNone, HasLine, IsCauseIn, IsWalkedBelow, JoinsNone};
 ghost use Rattle.lc_program.specs.Finds.{JoinsWalks, line_in};
+ghost use Rattle.lc_program.specs.WalkRequests.{entered_by};
 ghost use Rattle.lc_program.specs.declared.cause.Cause.TheVariants.{Memory};
 ghost use Rattle.lc_walk.specs.WalkOptions.{AreWithinLimits};
 ghost use Rattle.lc_walk.specs.Walks.{Walks};
 
 use crate::cause::Cause;
 use crate::system::System;
-use lc_arguments::{CountRequest, unslashed};
+use lc_arguments::{CountRequest, WalkRequest, unslashed};
 use lc_reports::{joined, named};
 use lc_text::push_visible;
 use lc_tree::FileSystems;
@@ -21,7 +22,7 @@ use std::sync::Wait;
 use std::thread::Threads;
 
 /// Walks the directory with this name.
-fn walk_of<R: Threads + Wait + Sync + AllocGlobal, Y: System>(
+pub(crate) fn walk_of<R: Threads + Wait + Sync + AllocGlobal, Y: System>(
     rt: &R,
     system: &Y,
     directory: &str,
@@ -60,7 +61,7 @@ fn named_cause(alloc: Global, directory: &str, why: &str) -> Cause
 }
 
 /// Makes the cause that says why the walk of one of several directories ended.
-fn cause_in(alloc: Global, directory: &str, fault: WalkFault) -> Cause
+pub(crate) fn cause_in(alloc: Global, directory: &str, fault: WalkFault) -> Cause
     ensures { IsCauseIn directory.now fault result }
 {
     match fault {
@@ -116,8 +117,8 @@ fn walks_below<R: Threads + Wait + Sync + AllocGlobal, Y: System>(
     Ok(reports)
 }
 
-/// Returns the file systems whose directories the count may enter.
-fn entered_by(asked: &CountRequest<'_>) -> FileSystems
+/// Returns the file systems whose directories a walk may enter.
+pub(crate) fn entered_by(asked: &WalkRequest<'_>) -> FileSystems
     ensures { result ≡ entered_by asked.now }
 {
     if asked.one_file_system {
@@ -182,14 +183,20 @@ pub(crate) fn found<R: Threads + Wait + Sync + AllocGlobal, Y: System>(
 ) -> Result<Report, Cause>
     requires limits { AreWithinLimits options.now }
     ensures found { IfOk result (Finds
-        (λ d. Walks (Y.Tree.lists (Y.tree system.now d (entered_by asked.now)))
-        (Y.Tree.gives (Y.tree system.now d (entered_by asked.now))) options.now)
+        (λ d. Walks (Y.Tree.lists (Y.tree system.now d (entered_by asked.now.walk)))
+        (Y.Tree.gives (Y.tree system.now d (entered_by asked.now.walk))) options.now)
         (names_of asked.now)) }
     ensures none { IfErr result (FindsNone
-        (λ d. Walks (Y.Tree.lists (Y.tree system.now d (entered_by asked.now)))
-        (Y.Tree.gives (Y.tree system.now d (entered_by asked.now))) options.now)
+        (λ d. Walks (Y.Tree.lists (Y.tree system.now d (entered_by asked.now.walk)))
+        (Y.Tree.gives (Y.tree system.now d (entered_by asked.now.walk))) options.now)
         (names_of asked.now)) }
     ensures files { IfOk result (λ report. options.now.lists.files ≡ true → report.lists.files ≡ true) }
 {
-    found_in(rt, system, &asked.directories, entered_by(asked), options)
+    found_in(
+        rt,
+        system,
+        &asked.directories,
+        entered_by(&asked.walk),
+        options,
+    )
 }

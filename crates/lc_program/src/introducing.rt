@@ -1,9 +1,9 @@
 //! The line on standard error that says what the program reads from a terminal.
 
 ghost use Rattle.std.specs.Prelude.{◌≡◌};
-ghost use Rattle.lc_program.specs.Introductions.{Introduces, reads_paths};
+ghost use Rattle.lc_program.specs.Introductions.{Introduces, read_input, reads_paths, reads_reports};
 
-use lc_arguments::Request;
+use lc_arguments::{NamedReport, Request};
 use lc_text::{Sink, print};
 
 /// Returns whether a request reads paths from the input.
@@ -13,11 +13,34 @@ fn reads_paths(request: &Request<'_>) -> bool
     match request {
         Request::CheckJoined => false,
         Request::Check(_) => true,
-        Request::Count(asked) => match asked.only_from {
+        Request::Count(asked) => match asked.walk.only_from {
             Some(name) => name == "-",
             None => false,
         },
         Request::Explain(asked) => asked.paths.is_empty(),
+        Request::Sum(_) => false,
+        Request::Diff(asked) => match asked.walk.only_from {
+            Some(name) => name == "-",
+            None => false,
+        },
+    }
+}
+
+/// Returns whether one of these reports is the input.
+fn read_input(reports: &[NamedReport<'_>]) -> bool
+    ensures { result ≡ read_input reports.now }
+{
+    reports.iter().any(|typed| typed.report == "-")
+}
+
+/// Returns whether a request reads reports from the input.
+fn reads_reports(request: &Request<'_>) -> bool
+    ensures { result ≡ reads_reports request.now }
+{
+    match request {
+        Request::Sum(asked) => read_input(&asked.reports),
+        Request::Diff(asked) => asked.old == "-" || asked.new == "-",
+        _ => false,
     }
 }
 
@@ -38,6 +61,11 @@ pub(crate) fn introduce<E: Sink>(request: &Request<'_>, stdin_is_terminal: bool,
         let _ = print(
             err,
             b"lc: reads paths from standard input; lc --help says more\n",
+        );
+    } else if reads_reports(request) {
+        let _ = print(
+            err,
+            b"lc: reads reports from standard input; lc --help says more\n",
         );
     }
 }

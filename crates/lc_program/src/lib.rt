@@ -2,20 +2,27 @@
 //!
 //! - `system`: the directories and files that a command line names, with `unread_reason`: why one could not be read, and `repository`: the
 //!   repository above a directory; `streams`: the streams, and which of them are terminals
-//! - `running`: the program; `answering`: answering each request, with `checking`, `counting` and `explaining`; `answered`: the answers
+//! - `running`: the program; `answering`: answering each request, with `checking`, `counting`, `explaining`, `summing` and `comparing`;
+//!   `answered`: the answers, with `comparison`: what was compared
 //! - `filters`: the filters of a command line, with `rules_file`: the rules of a file; `path_list`: the paths in a file
+//! - `report_files`: the reports in files, with `report_lines`: the lines about refused ones; `named_texts`: the texts of files and of the
+//!   input
 //! - `finding`: the report of the counted directories, with `nested`: whether one lies in another
+//! - `sides`: the sides of a comparison, with `choices`: options that choose files
 //! - `runs`: the walk of a tree and its table, with `showing`: making and writing the text of a report
 //! - `ending`: how the program ends; `cause`: why it stops with an error
-//! - `telling`: help, the version, and the lines on standard error, with `introducing`, `faults`, `unlisted`, `unnamed`, `unmatched` and
-//!   `hints`; `commands`: the commands that these lines suggest
+//! - `telling`: help, the version, and the lines on standard error, with `introducing`, `faults`, `side_faults`, `unlisted`, `unnamed`,
+//!   `unmatched` and `hints`; `commands`: the commands that these lines suggest
 #![tactic(auto)]
 
 mod answered;
 mod answering;
 mod cause;
 mod checking;
+mod choices;
 mod commands;
+mod comparing;
+mod comparison;
 mod counting;
 mod ending;
 mod explaining;
@@ -24,14 +31,20 @@ mod filters;
 mod finding;
 mod hints;
 mod introducing;
+mod named_texts;
 mod nested;
 mod path_list;
+mod report_files;
+mod report_lines;
 mod repository;
 mod rules_file;
 mod running;
 mod runs;
 mod showing;
+mod side_faults;
+mod sides;
 mod streams;
+mod summing;
 mod system;
 mod telling;
 mod unlisted;

@@ -50,7 +50,7 @@ fn push_place<'w, Y: System>(
     ensures { OnOk result ((path : Option (List ℕ)) × Y.stands system.now name.now path
         × (places.new.items ≡ places.old.items ++ place_if name.now path)) }
 {
-    let Some(path) = system.canonical(alloc, name) else {
+    let Some(path) = system.canonical(alloc, name)? else {
         return Ok(());
     };
     let path = with_slash(alloc, &path)?;

@@ -5,43 +5,18 @@ ghost use Rattle.std.specs.Borrow.{Bor};
 ghost use Rattle.std.specs.List.{list_any};
 ghost use Rattle.lc_text.specs.PathLines.{is_top};
 ghost use Rattle.lc_program.specs.Causes.{bad_path_line, no_path_line};
-ghost use Rattle.lc_program.specs.PathLists.{AnswersList, AnswersListed, AnswersNamed, AnswersWanted, GivesList, IsListCause, LoadsList, ReadsList, is_bad_listed};
+ghost use Rattle.lc_program.specs.PathLists.{AnswersList, AnswersListed, AnswersNamed, AnswersWanted, GivesList, IsListCause};
+ghost use Rattle.lc_program.specs.PathLists.{is_bad_listed};
 
 use crate::cause::Cause;
+use crate::named_texts::named_text;
 use crate::system::System;
-use lc_census::{Source, WholeFault, new_buffer, read_whole};
+use lc_census::{Source, WholeFault};
 use lc_text::{PathEnd, is_bad_path, is_top, push_visible, split_path, split_slash, undotted};
-use lc_tree::ReadFault;
 use std::alloc::{AllocError, Global};
 
 /// The greatest number of bytes of a list of paths.
-const MAX_LIST: usize = 268_435_456;
-
-/// Reads a list of paths to its end, or up to the first byte past [`MAX_LIST`].
-fn read_list<S: Source>(alloc: Global, list: &mut S) -> Result<Vec<u8>, WholeFault>
-    ensures { ReadsList S.may_give list.old result list.new }
-{
-    let Ok(mut buffer) = new_buffer(alloc) else {
-        return Err(WholeFault::Memory);
-    };
-    let mut bytes = Vec::new(alloc);
-    match read_whole(&mut buffer, &mut bytes, list, MAX_LIST) {
-        Ok(()) => Ok(bytes),
-        Err(fault) => Err(fault),
-    }
-}
-
-/// Reads the list of paths in the file with this name.
-fn list_in_file<Y: System>(alloc: Global, system: &Y, name: &str) -> Result<Vec<u8>, WholeFault>
-    ensures { LoadsList (Y.holds system.now name.now) result }
-{
-    let mut file = match system.open_file(alloc, name) {
-        Ok(file) => file,
-        Err(ReadFault::Memory) => return Err(WholeFault::Memory),
-        Err(_) => return Err(WholeFault::Read),
-    };
-    read_list(alloc, &mut file)
-}
+const MAX_LIST: u32 = 268_435_456;
 
 /// Reads the list of paths that a command line names: the list in a file, or in the input for `-`.
 fn named_list<Y: System, S: Source>(
@@ -54,8 +29,7 @@ fn named_list<Y: System, S: Source>(
 {
     match file {
         None => Ok(Vec::new(alloc)),
-        Some("-") => read_list(alloc, input),
-        Some(name) => list_in_file(alloc, system, name),
+        Some(name) => named_text(alloc, system, MAX_LIST, name, input),
     }
 }
 

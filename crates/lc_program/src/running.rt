@@ -1,6 +1,6 @@
 //! The program: it carries out its arguments in a system, and writes to its streams.
 
-ghost use Rattle.std.specs.Prelude.{◌≡◌, map};
+ghost use Rattle.std.specs.Prelude.{◌≡◌, ◌&&◌, map, nat_lt};
 ghost use Rattle.lc_program.specs.Program.{Advises, Comments, Ends, TellsUnread, status_of, streams_may};
 ghost use Rattle.lc_program.specs.Replies.{ending_of, has_failure};
 ghost use Rattle.lc_program.specs.Systems.{system_may};
@@ -13,6 +13,7 @@ use crate::ending::Ending;
 use crate::faults::tell_faults;
 use crate::hints::hint;
 use crate::introducing::introduce;
+use crate::side_faults::{SideFaults, tell_side_faults};
 use crate::streams::{Streams, Terminals};
 use crate::system::System;
 use crate::telling::{give_up, misuse, show};
@@ -21,14 +22,15 @@ use crate::unmatched::unmatched_in;
 use crate::unnamed::tell_unnamed;
 use lc_arguments::{ParseExit, Request};
 use lc_census::Source;
-use lc_sheet::Format;
+use lc_sheet::{Columns, Format};
 use lc_text::{Outcome, Sink, print};
+use lc_walk::Report;
 use std::alloc::Global;
 use std::convert::AsStr;
 use std::sync::Wait;
 use std::thread::Threads;
 
-/// Writes what a count or an explanation could not read. A count's table has this format unless the command line names one.
+/// Writes what a count, a sum, a comparison or an explanation could not read. A table has this format unless the command line names one.
 fn tell_unread<Y: System, E: Sink>(
     alloc: Global,
     system: &Y,
@@ -41,7 +43,7 @@ fn tell_unread<Y: System, E: Sink>(
 {
     match (request, answered) {
         (Request::Count(asked), Answered::Counted(report, _)) => {
-            let options = asked.table.options(format);
+            let options = asked.table.options(format, Columns::ALL);
             tell_faults(
                 alloc,
                 system,
@@ -50,6 +52,21 @@ fn tell_unread<Y: System, E: Sink>(
                 &report.faults,
                 err,
             );
+        }
+        (Request::Sum(asked), Answered::Summed(report)) => {
+            let options = asked.table.options(format, Columns::ALL);
+            tell_faults(alloc, system, &[], options.format, &report.faults, err);
+        }
+        (Request::Diff(asked), Answered::Compared(compared, _)) => {
+            let old = SideFaults {
+                name: asked.old,
+                faults: &compared.old.faults,
+            };
+            let new = SideFaults {
+                name: asked.new,
+                faults: &compared.new.faults,
+            };
+            tell_side_faults(alloc, old, new, err);
         }
         (Request::Explain(asked), Answered::Explained(Outcome::SomeFaults)) => {
             tell_unlisted(alloc, system, asked.directory, err);
@@ -73,13 +90,24 @@ fn comment<Y: System, E: Sink>(
     tell_unnamed(answered, err);
 }
 
-/// Returns whether an answer counts a file and `--fail-if-any` makes that a failure.
+/// Returns whether a printed report has a file, and that is a failure.
+fn is_failure(fail_if_any: bool, report: &Report) -> bool
+    ensures { result ≡ (fail_if_any && nat_lt 0 report.now.totals.files) }
+{
+    fail_if_any && report.totals.files > 0
+}
+
+/// Returns whether an answer counts a file, or differs, and `--fail-if-any` makes that a failure.
 fn has_failure(request: &Request<'_>, answered: &Answered) -> bool
     ensures { result ≡ has_failure request.now answered.now }
 {
     match (request, answered) {
         (Request::Count(asked), Answered::Counted(report, _)) => {
-            asked.fail_if_any && report.totals.files > 0
+            is_failure(asked.fail_if_any, report)
+        }
+        (Request::Sum(asked), Answered::Summed(report)) => is_failure(asked.fail_if_any, report),
+        (Request::Diff(asked), Answered::Compared(compared, _)) => {
+            asked.fail_if_any && compared.differ
         }
         _ => false,
     }
@@ -155,8 +183,8 @@ fn end_of<R: Threads + Wait + Sync + AllocGlobal, Y: System, W: AsStr, S: Source
 }
 
 /// Runs the program with these arguments and streams, and returns its exit status. The status is 0 for success, 1 for an answer with
-/// errors, 2 for refused arguments, and 3 if the program stopped with an error, with one line on `err`. It is 4 if a file is counted, and
-/// `--fail-if-any` is used.
+/// errors, 2 for refused arguments, and 3 if the program stopped with an error, with one line on `err`. It is 4 if `--fail-if-any` is used, and a
+/// file is counted or the sides of a comparison differ.
 ///
 /// - no arguments: the input has the lines of an ignore file, then a line `--`, then paths ([`check_joined`](lc_paths::check_joined));
 /// - `check FILE`: checks the paths of the input by the rules of the file with this name, which is read first ([`check`](lc_paths::check);
@@ -164,7 +192,10 @@ fn end_of<R: Threads + Wait + Sync + AllocGlobal, Y: System, W: AsStr, S: Source
 /// - `count DIR`: prints the table of the directory with this name ([`run`](crate::runs::run)); the file of `--exclude-from` is read before
 ///   the walk;
 /// - `explain DIR`: shows which rule of the directory with this name decides each path of the input or of the arguments
-///   ([`explain`](lc_paths::explain)).
+///   ([`explain`](lc_paths::explain));
+/// - `sum REPORT`: prints the table of what the reports with these names are together ([`summed`](lc_sums::summed)); all of them are read
+///   first;
+/// - `diff OLD NEW`: prints the changes from one directory or report to another ([`ShownChanges`](lc_changes::ShownChanges)).
 ///
 /// If standard input is a terminal and is read, a line says so first. If standard output is a terminal, checks and explanations escape
 /// paths and patterns that it would not show safely, and a table without a named format is printed in columns. If standard error is a

@@ -1,13 +1,13 @@
 //! Making and writing the text of a report.
 
 ghost use Rattle.std.specs.Prelude.{◌≡◌, false, IfOk};
-ghost use Rattle.lc_program.specs.ReportTexts.{HasSheet, IsPrinted, IsReordered, IsTextIn, IsTextOf, is_picture};
+ghost use Rattle.lc_program.specs.ReportTexts.{HasSheetWith, IsPrinted, IsReordered, IsTextIn, IsTextOf, IsTextWith, is_picture};
 ghost use Rattle.lc_program.specs.Runs.{AnswersTable};
 ghost use Rattle.lc_rows.specs.WalkedReports.{HasFilesFor};
 
 use lc_formats::{csv_text, json_text, markdown_text, table_text, tsv_text};
 use lc_picture::page;
-use lc_rows::{ReportSheet, Shown, keep, sort_files};
+use lc_rows::{ClassSums, ReportSheet, Shown, keep, sort_files};
 use lc_sheet::{Format, ReportOptions, TableOptions};
 use lc_text::{PrintFault, Sink, print};
 use lc_walk::Report;
@@ -27,22 +27,43 @@ fn text_in(alloc: Global, format: Format, sheet: &ReportSheet<'_>) -> Result<Vec
     }
 }
 
-/// Makes the text of the sheet of a report.
+/// Makes the text of the sheet of a report, with these sums over text and binary files.
 fn sheet_text(
     alloc: Global,
     report: &mut Report,
+    classes: ClassSums,
     options: TableOptions,
 ) -> Result<Vec<u8>, AllocError>
     requires sheet { is_picture options.format ≡ false }
     requires files { HasFilesFor options report.now.lists }
-    ensures text { IfOk result (λ text. HasSheet options report.old text.items) }
+    ensures text { IfOk result (λ text. HasSheetWith options report.old classes text.items) }
     ensures left { IsReordered report.old report.new }
 {
     sort_files(options.sort, &mut report.files);
-    let shown = Shown::of(alloc, report, &options)?;
+    let shown = Shown::with_classes(alloc, report, classes, &options)?;
     let sheet = shown.sheet();
     let text = text_in(alloc, options.format, &sheet)?;
     Ok(text)
+}
+
+/// Like [`report_text`], but with these sums over text and binary files, for a report whose rows may not keep them apart.
+pub(crate) fn text_with(
+    alloc: Global,
+    counted: &[u8],
+    report: &mut Report,
+    classes: ClassSums,
+    options: TableOptions,
+) -> Result<Vec<u8>, AllocError>
+    requires files { HasFilesFor options report.now.lists }
+    ensures text { IfOk result (λ text. IsTextWith counted.now options report.old classes text.items) }
+    ensures left { IsReordered report.old report.new }
+{
+    match options.format {
+        Format::Html => page(alloc, counted, report, options.sort),
+        Format::Tsv | Format::Table | Format::Json | Format::Csv | Format::Markdown => {
+            sheet_text(alloc, report, classes, options)
+        }
+    }
 }
 
 /// Makes the text of a report, or its picture, whose heading is what was counted.
@@ -59,12 +80,8 @@ pub fn report_text(
     ensures text { IfOk result (λ text. IsTextOf counted.now options report.old text.items) }
     ensures left { IsReordered report.old report.new }
 {
-    match options.format {
-        Format::Html => page(alloc, counted, report, options.sort),
-        Format::Tsv | Format::Table | Format::Json | Format::Csv | Format::Markdown => {
-            sheet_text(alloc, report, options)
-        }
-    }
+    let classes = ClassSums::of_all(&report.rows)?;
+    text_with(alloc, counted, report, classes, options)
 }
 
 /// Makes the text of the part of a report that meets the conditions ([`report_text`]). It drops the rest from the report.

@@ -67,6 +67,6 @@ pub trait System {
         ensures { lies self.now directory.now result };
 
     /// Returns the canonical path of the directory with this name, which has no symbolic link, or nothing if the system gives none.
-    fn canonical(&self, alloc: Global, directory: &str) -> Option<String>
-        ensures { stands self.now directory.now (option_map (λ path. string_bytes path) result) };
+    fn canonical(&self, alloc: Global, directory: &str) -> Result<Option<String>, AllocError>
+        ensures { IfOk result (λ found. stands self.now directory.now (option_map (λ path. string_bytes path) found)) };
 }

@@ -46,8 +46,8 @@ pub(crate) fn uncounted_line(
     Ok(text)
 }
 
-/// Makes the line about the directory of an explanation that could not be read.
-fn unexplained_line(
+/// Makes the line about the directory of an explanation, or about a report, that could not be read.
+pub(crate) fn unexplained_line(
     alloc: Global,
     directory: &str,
     why: Option<UnreadReason>,

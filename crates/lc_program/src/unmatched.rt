@@ -54,8 +54,9 @@ pub(crate) fn unmatched_in(alloc: Global, request: &Request<'_>) -> Result<Strin
     ensures { IfOk result (λ text. string_bytes text ≡ unmatched_in request.now) }
 {
     match request {
-        Request::Count(asked) => unmatched_of(alloc, &asked.filters),
+        Request::Count(asked) => unmatched_of(alloc, &asked.walk.filters),
+        Request::Diff(asked) => unmatched_of(alloc, &asked.walk.filters),
         Request::Explain(asked) => unmatched_of(alloc, &asked.filters),
-        Request::CheckJoined | Request::Check(_) => Ok(String::new(alloc)),
+        Request::CheckJoined | Request::Check(_) | Request::Sum(_) => Ok(String::new(alloc)),
     }
 }

@@ -48,11 +48,11 @@ pub(crate) fn unnamed_lines(alloc: Global, named: &NamedAttributes) -> String
     }
 }
 
-/// Writes which attributes no attribute file names, if the answer is a count.
+/// Writes which attributes no attribute file names, if the answer is a count or a comparison.
 pub(crate) fn tell_unnamed<E: Sink>(answered: &Answered, err: &mut E)
     ensures { TellsUnnamed E.may_take answered.now err.old err.new }
 {
-    if let Answered::Counted(_, unnamed) = answered {
+    if let Answered::Counted(_, unnamed) | Answered::Compared(_, unnamed) = answered {
         // Nothing depends on these lines, so a line that can't be written changes nothing.
         let _ = print(err, unnamed.as_bytes());
     }

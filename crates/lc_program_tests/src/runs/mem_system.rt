@@ -39,7 +39,7 @@ impl<'a> System for MemSystem<'a> {
 
     ghost holds = { λ s name. mem_gives s.files.now name };
 
-    ghost unlists = { λ s name answer. answer ≡ s.why };
+    ghost unlists = { λ s name answer. Unit {0} };
 
     ghost unreads = { λ s name answer. answer ≡ s.why };
 
@@ -69,7 +69,11 @@ impl<'a> System for MemSystem<'a> {
         MemTree::new(self.files).open_file(alloc, name.as_bytes())
     }
 
-    fn why_unlisted(&self, _alloc: Global, _directory: &str) -> Option<UnreadReason> {
+    /// A name that ends with `.json` is that of a file.
+    fn why_unlisted(&self, _alloc: Global, directory: &str) -> Option<UnreadReason> {
+        if directory.ends_with(".json") {
+            return Some(UnreadReason::IsFile);
+        }
         self.why
     }
 
@@ -85,13 +89,13 @@ impl<'a> System for MemSystem<'a> {
     }
 
     /// Each name is a path of its own, but for `away`, and `./` before a name.
-    fn canonical(&self, alloc: Global, directory: &str) -> Option<String> {
+    fn canonical(&self, alloc: Global, directory: &str) -> Result<Option<String>, AllocError> {
         if directory == "away" {
-            return None;
+            return Ok(None);
         }
         let path = directory.strip_prefix("./").unwrap_or(directory);
-        let mut canonical = String::from_str(alloc, "/").ok()?;
-        canonical.push_str(path).ok()?;
-        Some(canonical)
+        let mut canonical = String::from_str(alloc, "/")?;
+        canonical.push_str(path)?;
+        Ok(Some(canonical))
     }
 }

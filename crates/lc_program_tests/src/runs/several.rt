@@ -37,6 +37,20 @@ const CASES: &[Case<'static>] = &[
         ..EMPTY
     },
     Case {
+        name: "two_names_of_one_directory",
+        words: &["count", "./other", "other"],
+        status: 3,
+        err: b"lc: ./other and other are one directory\n",
+        ..EMPTY
+    },
+    Case {
+        name: "a_directory_in_another",
+        words: &["count", "other/inner", "top", "other"],
+        status: 3,
+        err: b"lc: other/inner lies in other\n",
+        ..EMPTY
+    },
+    Case {
         name: "beside_one_whose_name_begins_alike",
         words: &["count", "--by", "ext", "other", "other-2"],
         why: Some(UnreadReason::Missing),

@@ -1,5 +1,6 @@
 use Rattle.std.proofs.Common.{◌∙◌, ℕ, List, ap, inl, inr, map, refl, string_bytes, subst}
 use Rattle.lc_level.specs.NamedAttributes.{attributes_of}
+use Rattle.lc_program.specs.Counts.{lists_of}
 use Rattle.lc_program.specs.Unnamed.{AreUnnamedLines}
 use Rattle.lc_program.proofs.FiltersAsked.{asked_by_all, memory_wanted}
 use Rattle.lc_program.proofs.Loading.{given_up, run_counted, run_replied}
@@ -54,7 +55,7 @@ returns-in_err-filters-2 g c =
       Memory,
       given_up c.from_residual-in_err-filters-2.result Memory c.from_residual-in_err-filters-2.ensures.1,
       refl,
-      inr (inl (c.in_ok-list.list, c.in_ok-list.ensures, memory_wanted _ c.args.asked.now.only_from _ c.in_ok-list.list.items)),
+      inr (inl (c.in_ok-list.list, c.in_ok-list.ensures, memory_wanted _ c.args.asked.now.walk.only_from _ c.in_ok-list.list.items)),
     )
 
 pub returns-in_err-report : goal.returns-in_err-report
@@ -71,11 +72,12 @@ returns-in_err-report g c =
         ),
         (
           c.options_of-options.result,
-          asked_by_all c.args.asked.now c.in_ok-filters.ensures.0 _ _ _ _ _ c.options_of-options.ensures c.in_ok-filters-2.ensures
+          asked_by_all c.args.asked.now.walk _ (lists_of c.args.asked.now) c.in_ok-filters.ensures.0 _ _ _ _ _ c.lists_of.ensures
+              c.options_of-options.ensures c.in_ok-filters-2.ensures
               c.in_ok-filters.ensures.2 (ap (map (λ path. path.now)) c.as_slice.ensures.value),
           (
             c.print_found.result,
-            run_replied (attributes_of c.args.asked.now.filters.without.items) c.from_residual-in_err-report.result c.print_found.result
+            run_replied (attributes_of c.args.asked.now.walk.filters.without.items) c.from_residual-in_err-report.result c.print_found.result
                 c.in_err-report.field-0.0 c.from_residual-in_err-report.ensures.1 c.in_err-report.was,
             c.print_found.ensures,
           ),
@@ -97,11 +99,12 @@ returns g c =
         ),
         (
           c.options_of-options.result,
-          asked_by_all c.args.asked.now c.in_ok-filters.ensures.0 _ _ _ _ _ c.options_of-options.ensures c.in_ok-filters-2.ensures
+          asked_by_all c.args.asked.now.walk _ (lists_of c.args.asked.now) c.in_ok-filters.ensures.0 _ _ _ _ _ c.lists_of.ensures
+              c.options_of-options.ensures c.in_ok-filters-2.ensures
               c.in_ok-filters.ensures.2 (ap (map (λ path. path.now)) c.as_slice.ensures.value),
           (
             c.print_found.result,
-            run_counted (attributes_of c.args.asked.now.filters.without.items) c.print_found.result c.in_ok-report.report
+            run_counted (attributes_of c.args.asked.now.walk.filters.without.items) c.print_found.result c.in_ok-report.report
                 c.unnamed_lines-unnamed.result
                 (subst (λ (l : List (List ℕ)). AreUnnamedLines l (string_bytes c.unnamed_lines-unnamed.result))
                 (c.in_ok-named.ensures ∙ ap attributes_of c.deref.ensures.value)

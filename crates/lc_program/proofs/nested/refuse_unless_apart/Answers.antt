@@ -1,4 +1,4 @@
-use Rattle.std.proofs.Common.{inl, inr, subst, ◌∙◌, ap, map, ⊎_elim}
+use Rattle.std.proofs.Common.{map}
 use Rattle.lc_program.proofs.NestedPlaces.{apart_of, nested_of}
 use Rattle.lc_program.proofs.nested.refuse_unless_apart.Goals as goal
 

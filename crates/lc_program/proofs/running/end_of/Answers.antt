@@ -1,7 +1,7 @@
 use Rattle.std.proofs.Common.{◌∙◌, ℕ, List, inl, inr, refl, string_bytes, subst, sym}
 use Rattle.lc_arguments.specs.Refusals.{IsMessage}
 use Rattle.lc_program.specs.Program.{Advises}
-use Rattle.lc_program.proofs.Endings.{ends_answered}
+use Rattle.lc_program.proofs.Endings.{ends_answered, ends_shown}
 use Rattle.lc_program.proofs.running.end_of.Goals as goal
 
 pub returns-in-Err : goal.returns-in-Err
@@ -18,6 +18,14 @@ returns-in-Err g c =
       },
       c.give_up-in-Err.ensures.told,
     ))
+
+pub returns-in-Err-Shown : goal.returns-in-Err-Shown
+returns-in-Err-Shown g c =
+    ends_shown _ _ _ _ _ _ c.show.result
+    (rw c.in-Err-Shown.field-0-is at c.in-Err-Shown.ensures.answers, refl, (c.deref.result.now, c.show.ensures))
+
+pub returns-in-Err-Memory : goal.returns-in-Err-Memory
+returns-in-Err-Memory g c = rw c.give_up.ensures.ending (inr (inr (refl, refl, refl, c.give_up.ensures.told)))
 
 pub returns-in_default : goal.returns-in_default
 returns-in_default g c =

@@ -1,11 +1,7 @@
-use Rattle.std.proofs.Common.{◌≡◌, ◌∙◌, ◌++◌, ℕ, List, ap, append_assoc, codes, string_bytes}
+use Rattle.std.proofs.Common.{codes, string_bytes}
+use Rattle.lc_program.proofs.Appending.{appended}
 use Rattle.lc_text.specs.Visible.{visible_bytes}
 use Rattle.lc_program.proofs.unnamed.push_unnamed.Goals as goal
-
--- three texts that are appended one after the other
-appended : (old one two new a b c : List ℕ) → one ≡ old ++ a → two ≡ one ++ b → new ≡ two ++ c → new ≡ old ++ (a ++ b ++ c)
-appended old one two new a b c first second third =
-    third ∙ (ap (λ text. text ++ c) (second ∙ (ap (λ text. text ++ b) first ∙ append_assoc old a b)) ∙ append_assoc old (a ++ b) c)
 
 pub returns : goal.returns
 returns c =

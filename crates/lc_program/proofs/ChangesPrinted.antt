@@ -1,0 +1,33 @@
+-- Comparisons that are printed, or not, or not whole.
+use Rattle.std.proofs.Common.{◌≡◌, ℕ, List, Result, Ok, Err, inr, subst}
+use Rattle.std.specs.Result.{IsErrAnd}
+use Rattle.lc_arguments.specs.declared.diff.DiffRequest.{DiffRequest}
+use Rattle.lc_changes.specs.declared.options.ChangeOptions.{ChangeOptions}
+use Rattle.lc_io.specs.declared.printing.PrintFault.{PrintFault}
+use Rattle.lc_io.specs.declared.source.Failed.{Failed}
+use Rattle.lc_program.specs.Causes.{print_cause}
+use Rattle.lc_program.specs.Differences.{AnswersChanges, PrintsChanges, change_options}
+use Rattle.lc_program.specs.declared.cause.Cause.{Cause}
+use Rattle.lc_program.specs.declared.comparison.Comparison.{Comparison}
+use Rattle.lc_rows.specs.Kept.{IsKept}
+use Rattle.lc_sheet.specs.Conditions.{ConditionModel}
+use Rattle.lc_sheet.specs.declared.table_options.Format.{Format}
+use Rattle.lc_walk.specs.declared.report.Report.{Report}
+
+module _ {O : Type 0} (may_take : O → List ℕ → Result ℕ Failed → O → Type 0) (other : Format) (d : DiffRequest) (old new : Report) where
+  -- what was compared was not printed, or not whole
+  pub changes_stopped : (answer : Result Comparison Cause) (these those : List ConditionModel) (a b : Report) (options : ChangeOptions)
+      (fault : PrintFault) (out wrote : O) → IsErrAnd answer (λ cause. cause ≡ print_cause fault) → these ≡ d.conditions.items
+      → those ≡ d.conditions.items → options ≡ change_options other d → IsKept these old a → IsKept those new b
+      → AnswersChanges may_take options a b out (Err fault) wrote → PrintsChanges may_take other d old new out answer wrote
+  changes_stopped (Ok c) these those a b options fault out wrote is same alike asked first second stopped = absurd is
+  changes_stopped (Err cause) these those a b options fault out wrote is same alike asked first second stopped =
+      inr (
+        a,
+        b,
+        fault,
+        subst (λ cs. IsKept cs old a) same first,
+        subst (λ cs. IsKept cs new b) alike second,
+        is,
+        subst (λ os. AnswersChanges may_take os a b out (Err fault) wrote) asked stopped,
+      )

@@ -1,0 +1,69 @@
+-- Sides of a comparison that have a report, or none.
+use Rattle.std.proofs.Common.{◌≡◌, ℕ, Bool, true, false, List, [], Result, Ok, Err, inl, inr, subst, sym, ◌∙◌}
+use Rattle.lc_arguments.specs.declared.walk_request.WalkRequest.{WalkRequest}
+use Rattle.std.specs.Prelude.{◌⊎◌, Option, None}
+use Rattle.std.specs.Result.{IsErrAnd}
+use Rattle.lc_io.specs.Reads.{Answer}
+use Rattle.lc_level.specs.FaultLines.{FaultLineModel}
+use Rattle.lc_program.specs.Faults.{has_path}
+use Rattle.lc_program.specs.Reasons.{unexplained_line}
+use Rattle.lc_program.specs.ReportFiles.{Refuses}
+use Rattle.lc_program.specs.ReportLines.{IsTold}
+use Rattle.lc_program.specs.Sides.{CountsSide, GivesSide, GivesSides, ReadsSide}
+use Rattle.lc_program.specs.Systems.{SystemMay}
+use Rattle.lc_program.specs.WalkRequests.{entered_by}
+use Rattle.lc_program.specs.declared.cause.Cause.{Cause}
+use Rattle.lc_program.specs.declared.cause.Cause.TheVariants.{Memory}
+use Rattle.lc_program.specs.declared.unread_reason.UnreadReason.{UnreadReason}
+use Rattle.lc_sums.specs.declared.needs.Needs.{Needs}
+use Rattle.lc_tree.specs.declared.file_systems.FileSystems.{FileSystems}
+use Rattle.lc_walk.specs.Walks.{Walks}
+use Rattle.lc_walk.specs.declared.options.Options.{Options}
+use Rattle.lc_walk.specs.declared.report.Report.{Report}
+
+module _ (may : SystemMay) (w : WalkRequest) (o : Options) (name : List ℕ) (entered : FileSystems) (is : entered ≡ entered_by w) where
+  -- a directory that was listed
+  pub side_counted : (r : Report) (path : List ℕ) (faults : List FaultLineModel) (has : Bool)
+      → Walks (may.list name entered) (may.give name entered) o (Ok r) → has ≡ has_path path faults → has ≡ false → path ≡ []
+      → faults ≡ r.faults.items → CountsSide may w o name (Ok r)
+  side_counted r path faults has walked says is_false empty are = (
+    subst (λ e. Walks (may.list name e) (may.give name e) o (Ok r)) is walked,
+    subst (λ fs. has_path [] fs ≡ false) are (subst (λ p. has_path p faults ≡ false) empty (sym says ∙ is_false)),
+  )
+
+  -- one that was not
+  pub side_unlisted : (r : Report) (path : List ℕ) (faults : List FaultLineModel) (has : Bool) (why : Option UnreadReason) (cause : Cause)
+      → Walks (may.list name entered) (may.give name entered) o (Ok r) → has ≡ has_path path faults → has ≡ true → path ≡ []
+      → faults ≡ r.faults.items → may.unlist name why → IsTold (unexplained_line name why) cause → CountsSide may w o name (Err cause)
+  side_unlisted r path faults has why cause walked says is_true empty are may_be told =
+      inr (
+        r,
+        subst (λ e. Walks (may.list name e) (may.give name e) o (Ok r)) is walked,
+        subst (λ fs. has_path [] fs ≡ true) are (subst (λ p. has_path p faults ≡ true) empty (sym says ∙ is_true)),
+        (why, may_be, told),
+      )
+
+-- reports that were not read
+module _ (may : SystemMay) {I : Type 0} (may_give : I → ℕ → Answer → I → Type 0) (needs : Needs) (name : List ℕ) (input read : I) where
+  pub side_unread : (answer : Result Report Cause) (cause : Cause) → IsErrAnd answer (λ given. given ≡ cause)
+      → Refuses may_give may.hold may.unread (None, name) input cause read ⊎ (cause ≡ Memory)
+      → ReadsSide may may_give needs name input answer read
+  side_unread (Ok r) cause is refused = absurd is
+  side_unread (Err given) cause is refused =
+      subst (λ c. ReadsSide may may_give needs name input (Err c) read) (sym is) (inl refused)
+
+-- sides of which one has no report
+module _ (may : SystemMay) {I : Type 0} (may_give : I → ℕ → Answer → I → Type 0) (w : WalkRequest) (o : Options) (needs : Needs)
+    (old new : List ℕ) (input read : I) where
+  pub old_missing : (answer : Result (Report × Report) Cause) (cause : Cause) → IsErrAnd answer (λ given. given ≡ cause)
+      → GivesSide may may_give w o needs old input (Err cause) read → GivesSides may may_give w o needs old new input answer read
+  old_missing (Ok both) cause is none = absurd is
+  old_missing (Err given) cause is none =
+      subst (λ c. GivesSides may may_give w o needs old new input (Err c) read) (sym is) (inl none)
+
+  pub new_missing : (answer : Result (Report × Report) Cause) (cause : Cause) (r : Report) (between : I)
+      → IsErrAnd answer (λ given. given ≡ cause) → GivesSide may may_give w o needs old input (Ok r) between
+      → GivesSide may may_give w o needs new between (Err cause) read → GivesSides may may_give w o needs old new input answer read
+  new_missing (Ok both) cause r between is first none = absurd is
+  new_missing (Err given) cause r between is first none =
+      subst (λ c. GivesSides may may_give w o needs old new input (Err c) read) (sym is) (inr (r, between, first, none))

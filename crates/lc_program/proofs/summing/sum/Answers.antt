@@ -1,0 +1,25 @@
+use Rattle.std.proofs.Common.{ap, inl, sym}
+use Rattle.lc_program.specs.Sums.{sum_reply}
+use Rattle.lc_program.proofs.Loading.{sum_replied}
+use Rattle.lc_program.proofs.summing.sum.Goals as goal
+
+pub returns-in_err-report : goal.returns-in_err-report
+returns-in_err-report g c =
+    inl (
+      c.in_ok-parts.parts,
+      rw c.deref.ensures.value at c.in_ok-parts.ensures,
+      (
+        c.sum_parts.result,
+        sum_replied c.from_residual-in_err-report.result c.sum_parts.result c.in_err-report.field-0.0
+            c.from_residual-in_err-report.ensures.1 c.in_err-report.was,
+        c.sum_parts.ensures,
+      ),
+    )
+
+pub returns : goal.returns
+returns g c =
+    inl (
+      c.in_ok-parts.parts,
+      rw c.deref.ensures.value at c.in_ok-parts.ensures,
+      (c.sum_parts.result, sym (ap sum_reply c.in_ok-report.was), c.sum_parts.ensures),
+    )

@@ -1,0 +1,38 @@
+-- Options that choose files of a directory.
+use Rattle.std.specs.Prelude.{◌≡◌, ◌⊎◌, ℕ, true, false, not, if◌then◌else◌, List, ◌++◌, Option, Some, None, is_some, Result, Ok, Err, codes}
+use Rattle.lc_glob.specs.Lists.{is_empty}
+use Rattle.lc_arguments.specs.declared.walk_request.WalkRequest.{WalkRequest}
+use Rattle.lc_program.specs.ReportLines.{IsTold, origin_of}
+use Rattle.lc_program.specs.Sides.{IsSide}
+use Rattle.lc_program.specs.declared.cause.Cause.{Cause}
+use Rattle.lc_program.specs.declared.unread_reason.UnreadReason.{UnreadReason}
+use Rattle.lc_text.specs.Visible.{visible_bytes}
+
+-- both sides are reports
+abbrev pub are_reports : List ℕ → List ℕ → List ℕ
+are_reports old new = visible_bytes (origin_of old) ++ codes " and " ++ visible_bytes (origin_of new) ++ codes " are reports\n"
+
+-- what is told of an option that chooses files, where both sides are reports
+abbrev pub choice_line : List ℕ → List ℕ → List ℕ → List ℕ
+choice_line option old new = codes "lc: " ++ option ++ codes " chooses files of a directory, and " ++ are_reports old new
+
+-- the first option of the words that chooses files
+abbrev pub first_choice : WalkRequest → Option (List ℕ)
+first_choice w =
+    if is_some w.filters.exclude_from then Some (codes "--exclude-from")
+    else if not (is_empty w.filters.exclude.items) then Some (codes "--exclude")
+    else if not (is_empty w.filters.include.items) then Some (codes "--include")
+    else if w.filters.no_ignore then Some (codes "--no-ignore")
+    else if w.filters.archive then Some (codes "--archive")
+    else if not (is_empty w.filters.without.items) then Some (codes "--without")
+    else if not (is_empty w.only.items) then Some (codes "--only")
+    else if is_some w.only_from then Some (codes "--only-from")
+    else if w.one_file_system then Some (codes "--one-file-system")
+    else None
+
+-- there is no such option, or some side is a directory; or there is one, and both sides are reports
+abbrev pub AnswersChoices : (List ℕ → Option UnreadReason → Type 0) → WalkRequest → List ℕ → List ℕ → Result (Unit {0}) Cause → Type 0
+AnswersChoices may_unlist w old new (Ok _) = (first_choice w ≡ None) ⊎ (IsSide may_unlist old true ⊎ IsSide may_unlist new true)
+AnswersChoices may_unlist w old new (Err cause) =
+    (option : List ℕ) × (first_choice w ≡ Some option) × IsSide may_unlist old false × IsSide may_unlist new false
+    × IsTold (choice_line option old new) cause

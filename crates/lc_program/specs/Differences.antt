@@ -1,0 +1,151 @@
+-- How a comparison is answered, by what was read and written.
+use Rattle.std.specs.Prelude.{◌≡◌, ◌⊎◌, ℕ, Bool, true, false, cond, List, map, Option, Some, None, Result, Ok, Err}
+use Rattle.std.specs.Prelude.{String, Vec, string_bytes, unwrap_or}
+use Rattle.std.specs.Borrow.{Bor}
+use Rattle.std.specs.Global.{Global}
+use Rattle.lc_arguments.specs.TableWords.{format_in, is_for_reading, number_of}
+use Rattle.lc_arguments.specs.declared.diff.DiffRequest.{DiffRequest}
+use Rattle.lc_arguments.specs.declared.table.TableRequest.{TableRequest}
+use Rattle.lc_changes.specs.ChangeSheets.{AreChangesOf, ChangesModel}
+use Rattle.lc_changes.specs.declared.options.ChangeOptions.{ChangeOptions}
+use Rattle.lc_formats.specs.Changes.{csv_of_changes, markdown_of_changes, table_of_changes, tsv_of_changes}
+use Rattle.lc_formats.specs.JsonChanges.{json_of_changes, json_text_of_changes}
+use Rattle.lc_formats.specs.JsonText.{IsDocument}
+use Rattle.lc_io.specs.Reads.{Answer}
+use Rattle.lc_io.specs.Writes.{StopsWriting, Writes}
+use Rattle.lc_io.specs.declared.printing.PrintFault.{PrintFault}
+use Rattle.lc_io.specs.declared.printing.PrintFault.TheVariants as print
+use Rattle.lc_io.specs.declared.source.Failed.{Failed}
+use Rattle.lc_level.specs.NamedAttributes.{attributes_of}
+use Rattle.lc_program.specs.Causes.{print_cause}
+use Rattle.lc_program.specs.Choices.{AnswersChoices}
+use Rattle.lc_program.specs.Filters.{Excludes, LacksRules, filters_of}
+use Rattle.lc_program.specs.Replies.{Reply}
+use Rattle.lc_program.specs.Sides.{GivesSides}
+use Rattle.lc_program.specs.Systems.{SystemMay}
+use Rattle.lc_program.specs.Unnamed.{AreUnnamedLines}
+use Rattle.lc_program.specs.WalkRequests.{AnswersPathsOf, IsAskedBy}
+use Rattle.lc_program.specs.declared.answered.Answered.TheVariants.{Compared}
+use Rattle.lc_program.specs.declared.cause.Cause.{Cause}
+use Rattle.lc_program.specs.declared.cause.Cause.TheVariants.{Memory}
+use Rattle.lc_program.specs.declared.comparison.Comparison.{Comparison}
+use Rattle.lc_rows.specs.Kept.{IsKept}
+use Rattle.lc_sheet.specs.Sheets.{ComparisonModel}
+use Rattle.lc_sheet.specs.declared.column.Number.TheVariants.{Lines}
+use Rattle.lc_sheet.specs.declared.table_options.Columns.{Columns}
+use Rattle.lc_sheet.specs.declared.table_options.Format.{Format}
+use Rattle.lc_sheet.specs.declared.table_options.Format.TheVariants.{Tsv, Table, Json, Csv, Markdown, Html}
+use Rattle.lc_sheet.specs.declared.table_options.Order.{Order}
+use Rattle.lc_sheet.specs.declared.table_options.Order.TheVariants.{Name, Largest}
+use Rattle.lc_sums.specs.Needs.{needs_of}
+use Rattle.lc_sums.specs.declared.needs.Needs.{Needs}
+use Rattle.lc_walk.specs.declared.options.Options.{Options}
+use Rattle.lc_walk.specs.declared.options.ReportLists.{ReportLists}
+use Rattle.lc_walk.specs.declared.report.Report.{Report}
+
+-- ---- what is asked
+
+-- rows are by extension if the words name no columns
+abbrev pub compared_columns : TableRequest → Columns
+compared_columns s = unwrap_or s.by (record { dir = None; ext = true; text = false; eol = false })
+
+-- the order that the words name, or else that of the largest changes of lines in a format for reading
+abbrev pub change_order : Format → TableRequest → Order
+change_order format s = unwrap_or s.sort (cond (is_for_reading format) (Largest Lines) Name)
+
+-- the options of the comparison, with this format if nothing names another
+abbrev pub change_options : Format → DiffRequest → ChangeOptions
+change_options other d = record {
+  format = format_in other d.table;
+  by = compared_columns d.table;
+  sort = number_of (change_order (format_in other d.table) d.table);
+  top = d.table.top;
+  files = d.table.files;
+  all = d.all;
+}
+
+-- what is needed of each side
+abbrev pub compared_needs : DiffRequest → Needs
+compared_needs d = needs_of (Some (compared_columns d.table)) d.conditions.items d.table.files false
+
+-- the lists of a side that is counted
+abbrev pub compared_lists : DiffRequest → ReportLists
+compared_lists d = record { files = (compared_needs d).files; left_out = false }
+
+-- ---- what is printed
+
+-- the text of a comparison in a format; a picture shows no differences, and would be a table
+abbrev pub IsTextOfChanges : Format → ComparisonModel → List ℕ → Type 0
+IsTextOfChanges Tsv s text = text ≡ tsv_of_changes s
+IsTextOfChanges Table s text = text ≡ table_of_changes s
+IsTextOfChanges Json s text = (text ≡ json_text_of_changes s) × IsDocument (json_of_changes s) text
+IsTextOfChanges Csv s text = text ≡ csv_of_changes s
+IsTextOfChanges Markdown s text = text ≡ markdown_of_changes s
+IsTextOfChanges Html s text = text ≡ table_of_changes s
+
+-- a text of the changes from one report to another, and whether there are some
+pub record IsChangesText (options : ChangeOptions) (old new : Report) (text : List ℕ) (differ : Bool) : Type 0 where
+  pub changes : ChangesModel
+  pub are_changes : AreChangesOf options old new changes
+  pub is_text : IsTextOfChanges options.format changes.sheet text
+  pub is_differ : differ ≡ changes.some_differ
+
+module _ {O : Type 0} (may_take : O → List ℕ → Result ℕ Failed → O → Type 0) where
+  -- the changes were printed whole; or a write stopped it; or nothing was written
+  abbrev pub AnswersChanges : ChangeOptions → Report → Report → O → Result Bool PrintFault → O → Type 0
+  AnswersChanges options old new out (Ok differ) wrote =
+      (text : List ℕ) × IsChangesText options old new text differ × Writes may_take out text wrote
+  AnswersChanges options old new out (Err print.Write) wrote =
+      (text : List ℕ) × (differ : Bool) × IsChangesText options old new text differ × StopsWriting may_take out text wrote
+  AnswersChanges options old new out (Err print.Memory) wrote = wrote ≡ out
+
+  -- what meets the conditions in two reports was compared, and printed; or it was not printed, or not whole; or there was no memory
+  abbrev pub PrintsChanges : Format → DiffRequest → Report → Report → O → Result Comparison Cause → O → Type 0
+  PrintsChanges other d old new out (Ok c) wrote =
+      IsKept d.conditions.items old c.old × IsKept d.conditions.items new c.new
+      × AnswersChanges (change_options other d) c.old c.new out (Ok c.differ) wrote
+  PrintsChanges other d old new out (Err cause) wrote =
+      ((cause ≡ Memory) × (wrote ≡ out))
+      ⊎ ((a b : Report) × (fault : PrintFault) × IsKept d.conditions.items old a × IsKept d.conditions.items new b
+      × (cause ≡ print_cause fault) × AnswersChanges (change_options other d) a b out (Err fault) wrote)
+
+-- a comparison is replied with what was compared and lines about some of these attributes
+abbrev pub IsCompareReply : List (List ℕ) → Result Comparison Cause → Reply → Type 0
+IsCompareReply attributes (Ok c) reply =
+    (unnamed : String Global) × AreUnnamedLines attributes (string_bytes unnamed) × (reply ≡ Ok (Compared c unnamed))
+IsCompareReply attributes (Err cause) reply = reply ≡ Err cause
+
+module _ (may : SystemMay) {I O : Type 0} (may_give : I → ℕ → Answer → I → Type 0)
+    (may_take : O → List ℕ → Result ℕ Failed → O → Type 0) (other : Format) (d : DiffRequest) where
+  -- by these options of walks, both sides were counted or read, and compared; or one has no report, and nothing was written
+  abbrev pub ComparesSides : Options → I → O → Reply → I → O → Type 0
+  ComparesSides o input out reply read wrote =
+      ((cause : Cause) × GivesSides may may_give d.walk o (compared_needs d) d.old.now d.new.now input (Err cause) read
+      × (reply ≡ Err cause) × (wrote ≡ out))
+      ⊎ ((both : Report × Report) × GivesSides may may_give d.walk o (compared_needs d) d.old.now d.new.now input (Ok both) read
+      × ((answer : Result Comparison Cause) × IsCompareReply (attributes_of d.walk.filters.without.items) answer reply
+      × PrintsChanges may_take other d both.0 both.1 out answer wrote))
+
+  -- they were compared by options that ask what the words ask
+  abbrev pub Compares : I → O → Reply → I → O → Type 0
+  Compares input out reply read wrote =
+      (text : Option (List ℕ)) × Excludes may.hold d.walk.filters.exclude_from text
+      × ((paths : Vec (Bor (List ℕ)) Global) × (between : I) × AnswersPathsOf may may_give d.walk input (Ok paths) between
+      × ((o : Options)
+      × IsAskedBy d.walk (compared_lists d) (filters_of d.walk.filters text (map (λ path. path.now) paths.items)) o
+      × ComparesSides o between out reply read wrote))
+
+  -- such a comparison; or there were no rules or no memory, and nothing was read; or there were no paths; then nothing was written
+  abbrev pub AnswersSides : I → O → Reply → I → O → Type 0
+  AnswersSides input out reply read wrote =
+      Compares input out reply read wrote
+      ⊎ ((cause : Cause) × (reply ≡ Err cause) × (wrote ≡ out)
+      × (((LacksRules may.hold d.walk.filters cause ⊎ (cause ≡ Memory)) × (read ≡ input))
+      ⊎ AnswersPathsOf may may_give d.walk input (Err cause) read))
+
+  -- both sides are compared, by options that are for them; or an option is for no side, and nothing was read or written
+  abbrev pub AnswersDiff : I → O → Reply → I → O → Type 0
+  AnswersDiff input out reply read wrote =
+      (AnswersChoices may.unlist d.walk d.old.now d.new.now (Ok tt) × AnswersSides input out reply read wrote)
+      ⊎ ((cause : Cause) × AnswersChoices may.unlist d.walk d.old.now d.new.now (Err cause) × (reply ≡ Err cause) × (read ≡ input)
+      × (wrote ≡ out))

@@ -1,0 +1,80 @@
+-- What is read of the reports that the command line names.
+use Rattle.std.specs.Prelude.{◌≡◌, ◌⊎◌, ℕ, true, List, [], ◌∷◌, ◌++◌, Option, Some, None, Result, Ok, Err, Vec}
+use Rattle.std.specs.Global.{Global}
+use Rattle.std.specs.List.{AllZip, list_all}
+use Rattle.json.specs.Word.{is_space}
+use Rattle.lc_io.specs.Reads.{Answer}
+use Rattle.lc_io.specs.declared.whole.WholeFault.{WholeFault}
+use Rattle.lc_program.specs.NamedTexts.{ReadsNamed}
+use Rattle.lc_program.specs.ReportLines.{IsRefusedFor, IsUnreadFor, origin_of}
+use Rattle.lc_program.specs.declared.cause.Cause.{Cause}
+use Rattle.lc_program.specs.declared.cause.Cause.TheVariants.{Memory}
+use Rattle.lc_program.specs.declared.unread_reason.UnreadReason.{UnreadReason}
+use Rattle.lc_reading.specs.Texts.{AreReportsOf}
+use Rattle.lc_reading.specs.declared.read_fault.NoReport.TheVariants as why
+use Rattle.lc_reading.specs.declared.read_fault.ReadFault.{ReadFault}
+use Rattle.lc_reading.specs.declared.read_fault.ReadFault.TheVariants as fault
+use Rattle.lc_reading.specs.declared.read_report.ReadReport.{ReadReport}
+use Rattle.lc_reports.specs.Named.{IsNamed}
+use Rattle.lc_sums.specs.declared.part.Part.{Part}
+use Rattle.lc_tree.specs.Trees.{Contents}
+
+-- the most bytes of a REPORT
+abbrev pub max_report : ℕ
+max_report = 1073741824
+
+-- a REPORT of the command line: its name, if it has one, and its path
+abbrev pub Typed : Type 0
+Typed = Option (List ℕ) × List ℕ
+
+-- a report below a name, if there is one
+abbrev pub IsBelow : Option (List ℕ) → ReadReport → ReadReport → Type 0
+IsBelow None given below = below ≡ given
+IsBelow (Some name) given below =
+    IsNamed name given.report below.report × (below.columns ≡ given.columns) × (below.text ≡ given.text) × (below.binary ≡ given.binary)
+
+-- a part of a sum: a report of a REPORT, below the name of that, and what errors call that
+pub record IsPartOf (typed : Typed) (given : ReadReport) (part : Part) : Type 0 where
+  pub origin : part.origin.now ≡ origin_of typed.1
+  pub below : IsBelow typed.0 given part.report
+
+-- a text is refused for this reason; one of white space alone because it is empty
+abbrev pub MayRefuse : List ℕ → ReadFault → Type 0
+MayRefuse text refusal = list_all is_space text ≡ true → refusal ≡ fault.NoReport why.Empty
+
+module _ {I : Type 0} (may_give : I → ℕ → Answer → I → Type 0) (holds : List ℕ → Contents) where
+  -- the text of a REPORT is that of some reports, of which these parts are made
+  abbrev pub ReadsParts : Typed → I → List Part → I → Type 0
+  ReadsParts typed input parts read =
+      (text : Vec ℕ Global) × ReadsNamed max_report may_give holds typed.1 input (Ok text) read
+      × ((given : List ReadReport) × AreReportsOf text.items given × AllZip (IsPartOf typed) given parts)
+
+  -- the parts of each, one after another
+  abbrev pub ReadsAll : List Typed → I → List Part → I → Type 0
+  ReadsAll [] input parts read = (parts ≡ []) × (read ≡ input)
+  ReadsAll (typed ∷ others) input parts read =
+      (first more : List Part) × (between : I) × ReadsParts typed input first between × ReadsAll others between more read
+      × (parts ≡ first ++ more)
+
+module _ {I : Type 0} (may_give : I → ℕ → Answer → I → Type 0) (holds : List ℕ → Contents)
+    (may_unread : List ℕ → Option UnreadReason → Type 0) where
+  -- a REPORT is not read, or its text is refused
+  abbrev pub Refuses : Typed → I → Cause → I → Type 0
+  Refuses typed input cause read =
+      ((whole : WholeFault) × ReadsNamed max_report may_give holds typed.1 input (Err whole) read
+      × IsUnreadFor may_unread typed.1 whole cause)
+      ⊎ ((text : Vec ℕ Global) × ReadsNamed max_report may_give holds typed.1 input (Ok text) read
+      × ((refusal : ReadFault) × MayRefuse text.items refusal × IsRefusedFor (origin_of typed.1) refusal cause))
+
+  -- one of some is the first of which this is so: those before it are read, and those after it are not
+  abbrev pub RefusesFirst : List Typed → I → Cause → I → Type 0
+  RefusesFirst [] input cause read = ⊥
+  RefusesFirst (typed ∷ others) input cause read =
+      Refuses typed input cause read
+      ⊎ ((first : List Part) × (between : I) × ReadsParts may_give holds typed input first between
+      × RefusesFirst others between cause read)
+
+  -- the parts of all; or why there are none, perhaps for want of memory
+  abbrev pub AnswersParts : List Typed → I → Result (Vec Part Global) Cause → I → Type 0
+  AnswersParts all input (Ok parts) read = ReadsAll may_give holds all input parts.items read
+  AnswersParts all input (Err cause) read = RefusesFirst all input cause read ⊎ (cause ≡ Memory)

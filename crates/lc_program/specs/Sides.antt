@@ -1,0 +1,90 @@
+-- The sides of a comparison: directories that are counted, and reports that are read.
+use Rattle.std.specs.Prelude.{◌≡◌, ◌≢◌, ◌⊎◌, ℕ, Bool, true, false, List, []}
+use Rattle.std.specs.Prelude.{Option, Some, None, Result, Ok, Err, Vec, codes}
+use Rattle.std.specs.Global.{Global}
+use Rattle.lc_arguments.specs.declared.walk_request.WalkRequest.{WalkRequest}
+use Rattle.lc_io.specs.Reads.{Answer}
+use Rattle.lc_program.specs.Faults.{has_path}
+use Rattle.lc_program.specs.Finds.{IsCauseIn}
+use Rattle.lc_program.specs.Reasons.{unexplained_line}
+use Rattle.lc_program.specs.ReportFiles.{ReadsParts, Refuses}
+use Rattle.lc_program.specs.ReportLines.{IsTold, IsUnsummedFor}
+use Rattle.lc_program.specs.Systems.{SystemMay}
+use Rattle.lc_program.specs.WalkRequests.{entered_by}
+use Rattle.lc_program.specs.declared.cause.Cause.{Cause}
+use Rattle.lc_program.specs.declared.cause.Cause.TheVariants.{Memory}
+use Rattle.lc_program.specs.declared.unread_reason.UnreadReason.{UnreadReason}
+use Rattle.lc_program.specs.declared.unread_reason.UnreadReason.TheVariants.{Missing, Denied, IsDirectory, IsFile, NotDirectory, Other}
+use Rattle.lc_sums.specs.Sums.{IsSummed}
+use Rattle.lc_sums.specs.declared.needs.Needs.{Needs}
+use Rattle.lc_sums.specs.declared.part.Part.{Part}
+use Rattle.lc_sums.specs.declared.sum.Sum.{Sum}
+use Rattle.lc_sums.specs.declared.sum_fault.SumFault.{SumFault}
+use Rattle.lc_walk.specs.Walks.{Walks}
+use Rattle.lc_walk.specs.declared.options.Options.{Options}
+use Rattle.lc_walk.specs.declared.report.Report.{Report}
+use Rattle.lc_walk.specs.declared.walk_fault.WalkFault.{WalkFault}
+
+-- ---- which sides are directories
+
+-- whether a name can't be listed because no directory has it
+abbrev pub is_no_directory : Option UnreadReason → Bool
+is_no_directory None = false
+is_no_directory (Some Missing) = true
+is_no_directory (Some Denied) = false
+is_no_directory (Some IsDirectory) = false
+is_no_directory (Some IsFile) = true
+is_no_directory (Some NotDirectory) = true
+is_no_directory (Some Other) = false
+
+-- whether a side is a directory, by what the system may say of why one of this name can't be listed; `-` is standard input
+abbrev pub IsSide : (List ℕ → Option UnreadReason → Type 0) → List ℕ → Bool → Type 0
+IsSide may_unlist name true =
+    (name ≢ codes "-") × ((why : Option UnreadReason) × may_unlist name why × (is_no_directory why ≡ false))
+IsSide may_unlist name false =
+    (name ≡ codes "-") ⊎ ((why : Option UnreadReason) × may_unlist name why × (is_no_directory why ≡ true))
+
+-- ---- the report of a side
+
+module _ (may : SystemMay) (w : WalkRequest) (o : Options) where
+  -- what a walk of the directory with this name may answer
+  abbrev pub MayWalkSide : List ℕ → Result Report WalkFault → Type 0
+  MayWalkSide name = Walks (may.list name (entered_by w)) (may.give name (entered_by w)) o
+
+  -- a directory that could not be listed itself
+  abbrev pub IsUnlisted : List ℕ → Cause → Type 0
+  IsUnlisted name cause =
+      (r : Report) × MayWalkSide name (Ok r) × (has_path [] r.faults.items ≡ true)
+      × ((why : Option UnreadReason) × may.unlist name why × IsTold (unexplained_line name why) cause)
+
+  -- the report of a directory that was listed, or why there is none
+  abbrev pub CountsSide : List ℕ → Result Report Cause → Type 0
+  CountsSide name (Ok r) = MayWalkSide name (Ok r) × (has_path [] r.faults.items ≡ false)
+  CountsSide name (Err cause) =
+      ((fault : WalkFault) × MayWalkSide name (Err fault) × IsCauseIn name fault cause) ⊎ IsUnlisted name cause
+
+module _ (may : SystemMay) {I : Type 0} (may_give : I → ℕ → Answer → I → Type 0) (needs : Needs) where
+  -- the sum of the reports of a name, or why there is none
+  abbrev pub ReadsSide : List ℕ → I → Result Report Cause → I → Type 0
+  ReadsSide name input (Ok r) read =
+      (parts : Vec Part Global) × ReadsParts may_give may.hold (None, name) input parts.items read
+      × ((s : Sum) × IsSummed needs parts.items (Ok s) × (r ≡ s.report))
+  ReadsSide name input (Err cause) read =
+      (Refuses may_give may.hold may.unread (None, name) input cause read ⊎ (cause ≡ Memory))
+      ⊎ ((parts : Vec Part Global) × ReadsParts may_give may.hold (None, name) input parts.items read
+      × ((fault : SumFault) × IsSummed needs parts.items (Err fault) × IsUnsummedFor fault cause))
+
+module _ (may : SystemMay) {I : Type 0} (may_give : I → ℕ → Answer → I → Type 0) (w : WalkRequest) (o : Options) (needs : Needs) where
+  -- the report of a side
+  abbrev pub GivesSide : List ℕ → I → Result Report Cause → I → Type 0
+  GivesSide name input answer read =
+      (IsSide may.unlist name true × CountsSide may w o name answer × (read ≡ input))
+      ⊎ (IsSide may.unlist name false × ReadsSide may may_give needs name input answer read)
+
+  -- the reports of both sides, the old one first
+  abbrev pub GivesSides : List ℕ → List ℕ → I → Result (Report × Report) Cause → I → Type 0
+  GivesSides old new input (Ok both) read =
+      (between : I) × GivesSide old input (Ok both.0) between × GivesSide new between (Ok both.1) read
+  GivesSides old new input (Err cause) read =
+      GivesSide old input (Err cause) read
+      ⊎ ((r : Report) × (between : I) × GivesSide old input (Ok r) between × GivesSide new between (Err cause) read)

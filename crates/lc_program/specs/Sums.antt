@@ -1,0 +1,93 @@
+-- How a sum is answered, by what was read and written.
+use Rattle.std.specs.Prelude.{◌≡◌, ◌⊎◌, ◌||◌, ℕ, List, ◌++◌, map, nat_lt, codes, Some, None, Result, Ok, Err, Vec}
+use Rattle.std.specs.Global.{Global}
+use Rattle.lc_arguments.specs.Combinations.{is_picture}
+use Rattle.lc_arguments.specs.Reports.{report_model}
+use Rattle.lc_arguments.specs.TableWords.{options_in}
+use Rattle.lc_arguments.specs.declared.sum.SumRequest.{SumRequest}
+use Rattle.lc_io.specs.Reads.{Answer}
+use Rattle.lc_io.specs.declared.printing.PrintFault.{PrintFault}
+use Rattle.lc_io.specs.declared.source.Failed.{Failed}
+use Rattle.lc_program.specs.Causes.{print_cause}
+use Rattle.lc_program.specs.Counts.{one_text}
+use Rattle.lc_program.specs.Replies.{Reply}
+use Rattle.lc_program.specs.ReportFiles.{AnswersParts, Typed}
+use Rattle.lc_program.specs.ReportLines.{IsUnsummedFor}
+use Rattle.lc_program.specs.ReportTexts.{IsPrintedWith}
+use Rattle.lc_program.specs.Runs.{AnswersText}
+use Rattle.lc_program.specs.Systems.{SystemMay}
+use Rattle.lc_program.specs.declared.answered.Answered.TheVariants.{Summed}
+use Rattle.lc_program.specs.declared.cause.Cause.{Cause}
+use Rattle.lc_reading.specs.declared.row_columns.RowColumns.{RowColumns}
+use Rattle.lc_rows.specs.declared.classes.ClassSums.{ClassSums}
+use Rattle.lc_sheet.specs.declared.table_options.Columns.{Columns}
+use Rattle.lc_sheet.specs.declared.table_options.Format.{Format}
+use Rattle.lc_sums.specs.Needs.{needs_of}
+use Rattle.lc_sums.specs.Sums.{IsSummed}
+use Rattle.lc_sums.specs.declared.needs.Needs.{Needs}
+use Rattle.lc_sums.specs.declared.part.Part.{Part}
+use Rattle.lc_sums.specs.declared.sum.Sum.{Sum}
+use Rattle.lc_sums.specs.declared.sum_fault.SumFault.{SumFault}
+use Rattle.lc_walk.specs.declared.report.Report.{Report}
+
+-- the REPORTs of the words
+abbrev pub reports_of : SumRequest → List Typed
+reports_of c = map report_model c.reports.items
+
+-- a REPORT as it was typed
+abbrev pub typed_text : Typed → List ℕ
+typed_text (None, report) = report
+typed_text (Some name, report) = name ++ codes "=" ++ report
+
+-- all of them as one text
+abbrev pub summed_in : SumRequest → List ℕ
+summed_in c = one_text (map typed_text (reports_of c))
+
+-- what is needed of each report
+abbrev pub needed_by : SumRequest → Needs
+needed_by c = needs_of c.table.by c.conditions.items (c.table.files || is_picture c.table.format) c.left_out
+
+-- rows by these columns
+abbrev pub columns_of : RowColumns → Columns
+columns_of columns = record { dir = None; ext = columns.ext; text = columns.text; eol = columns.eol }
+
+-- the sums over text and binary files
+abbrev pub classes_in : Sum → ClassSums
+classes_in s = record { text = s.text; binary = s.binary; some_binary = nat_lt 0 s.binary.files }
+
+module _ {O : Type 0} (may_take : O → List ℕ → Result ℕ Failed → O → Type 0) (other : Format) (c : SumRequest) where
+  -- the table of what meets the conditions of a sum, with this format if the words name none; if they name no columns, those that each
+  -- report has
+  abbrev pub AnswersTableOf : Sum → Report → O → Result (Unit {0}) PrintFault → O → Type 0
+  AnswersTableOf s left out answer wrote =
+      AnswersText may_take
+      (λ text. IsPrintedWith (summed_in c) c.conditions.items (options_in other (columns_of s.columns) c.table) s.report (classes_in s) text
+      left) out answer wrote
+
+  -- the table of a sum was written whole, and this is left of it; or it was not written, or not whole
+  abbrev pub PrintsSum : Sum → O → Result Report Cause → O → Type 0
+  PrintsSum s out (Ok left) wrote = AnswersTableOf s left out (Ok tt) wrote
+  PrintsSum s out (Err cause) wrote =
+      (left : Report) × (fault : PrintFault) × (cause ≡ print_cause fault) × AnswersTableOf s left out (Err fault) wrote
+
+  -- parts were added up, and their sum was printed; or they have no sum, and nothing was written
+  abbrev pub PrintsParts : List Part → O → Result Report Cause → O → Type 0
+  PrintsParts parts out answer wrote =
+      ((s : Sum) × IsSummed (needed_by c) parts (Ok s) × PrintsSum s out answer wrote)
+      ⊎ ((fault : SumFault) × (cause : Cause) × IsSummed (needed_by c) parts (Err fault) × IsUnsummedFor fault cause × (answer ≡ Err cause)
+      × (wrote ≡ out))
+
+-- a sum is replied with the report of what was shown
+abbrev pub sum_reply : Result Report Cause → Reply
+sum_reply (Ok left) = Ok (Summed left)
+sum_reply (Err cause) = Err cause
+
+module _ (may : SystemMay) {I O : Type 0} (may_give : I → ℕ → Answer → I → Type 0)
+    (may_take : O → List ℕ → Result ℕ Failed → O → Type 0) (other : Format) (c : SumRequest) where
+  -- the reports were read, and their sum was printed; or there are no reports, and nothing was written
+  abbrev pub AnswersSum : I → O → Reply → I → O → Type 0
+  AnswersSum input out reply read wrote =
+      ((parts : Vec Part Global) × AnswersParts may_give may.hold may.unread (reports_of c) input (Ok parts) read
+      × ((answer : Result Report Cause) × (reply ≡ sum_reply answer) × PrintsParts may_take other c parts.items out answer wrote))
+      ⊎ ((cause : Cause) × AnswersParts may_give may.hold may.unread (reports_of c) input (Err cause) read × (reply ≡ Err cause)
+      × (wrote ≡ out))

@@ -1,0 +1,34 @@
+-- What the words of a command ask of walks.
+use Rattle.std.specs.Prelude.{◌≡◌, ◌⊎◌, ℕ, if◌then◌else◌, List, map, Result, Ok, Err, Vec}
+use Rattle.std.specs.Borrow.{Bor}
+use Rattle.std.specs.Global.{Global}
+use Rattle.lc_arguments.specs.declared.walk_request.WalkRequest.{WalkRequest}
+use Rattle.lc_io.specs.Reads.{Answer}
+use Rattle.lc_level.specs.Filters.{FiltersModel}
+use Rattle.lc_program.specs.PathLists.{AnswersWanted, GivesList}
+use Rattle.lc_program.specs.Styles.{end_for}
+use Rattle.lc_program.specs.Systems.{SystemMay}
+use Rattle.lc_program.specs.declared.cause.Cause.{Cause}
+use Rattle.lc_tree.specs.declared.file_systems.FileSystems.{FileSystems}
+use Rattle.lc_tree.specs.declared.file_systems.FileSystems.TheVariants.{All, One}
+use Rattle.lc_walk.specs.declared.options.Options.{Options}
+use Rattle.lc_walk.specs.declared.options.ReportLists.{ReportLists}
+
+-- the file systems whose directories the words let a walk enter
+abbrev pub entered_by : WalkRequest → FileSystems
+entered_by w = if w.one_file_system then One else All
+
+-- options that ask for what the words ask of a walk, by these filters, with these lists
+pub record IsAskedBy (w : WalkRequest) (wanted : ReportLists) (f : FiltersModel) (o : Options) : Type 0 where
+  pub threads : o.threads ≡ w.threads
+  pub max_dirs : o.max_dirs ≡ w.max_dirs
+  pub lists : o.lists ≡ wanted
+  pub filters : o.filters.now ≡ f
+
+module _ (may : SystemMay) {I : Type 0} (may_give : I → ℕ → Answer → I → Type 0) (w : WalkRequest) where
+  -- the paths that the words ask for, with those of the list that they name, or why there are none
+  abbrev pub AnswersPathsOf : I → Result (Vec (Bor (List ℕ)) Global) Cause → I → Type 0
+  AnswersPathsOf input answer read =
+      ((list : Vec ℕ Global) × GivesList may_give may.hold may.unread w.only_from input (Ok list) read
+      × AnswersWanted (map (λ path. path.now) w.only.items) w.only_from (end_for w.null) list.items answer)
+      ⊎ ((cause : Cause) × GivesList may_give may.hold may.unread w.only_from input (Err cause) read × (answer ≡ Err cause))

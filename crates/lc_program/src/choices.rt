@@ -1,0 +1,90 @@
+//! Refusing options that choose files of a directory, if no side of a comparison is a directory.
+
+ghost use Rattle.std.specs.Prelude.{◌≡◌, ◌++◌, option_map, string_bytes, IfOk, OnOk};
+ghost use Rattle.lc_program.specs.Choices.{AnswersChoices, are_reports, choice_line, first_choice};
+ghost use Rattle.lc_program.specs.ReportLines.{IsTold};
+
+use crate::cause::Cause;
+use crate::report_lines::origin_of;
+use crate::sides::is_directory;
+use crate::system::System;
+use lc_arguments::WalkRequest;
+use lc_text::push_visible;
+use std::alloc::{AllocError, Global};
+
+/// Returns the first option of the command line that chooses files, if there is one.
+fn first_choice(walk: &WalkRequest<'_>) -> Option<&'static str>
+    ensures { option_map (λ option. option.now) result ≡ first_choice walk.now }
+{
+    let filters = &walk.filters;
+    if filters.exclude_from.is_some() {
+        Some("--exclude-from")
+    } else if !filters.exclude.is_empty() {
+        Some("--exclude")
+    } else if !filters.include.is_empty() {
+        Some("--include")
+    } else if filters.no_ignore {
+        Some("--no-ignore")
+    } else if filters.archive {
+        Some("--archive")
+    } else if !filters.without.is_empty() {
+        Some("--without")
+    } else if !walk.only.is_empty() {
+        Some("--only")
+    } else if walk.only_from.is_some() {
+        Some("--only-from")
+    } else if walk.one_file_system {
+        Some("--one-file-system")
+    } else {
+        None
+    }
+}
+
+/// Adds that both sides are reports.
+fn push_reports(line: &mut String, old: &str, new: &str) -> Result<(), AllocError>
+    ensures { OnOk result (string_bytes line.new ≡ string_bytes line.old ++ are_reports old.now new.now) }
+{
+    push_visible(line, origin_of(old).as_bytes())?;
+    line.push_str(" and ")?;
+    push_visible(line, origin_of(new).as_bytes())?;
+    line.push_str(" are reports\n")
+}
+
+/// Makes the line about an option that chooses files.
+fn choice_line(alloc: Global, option: &str, old: &str, new: &str) -> Result<String, AllocError>
+    ensures { IfOk result (λ line. string_bytes line ≡ choice_line option.now old.now new.now) }
+{
+    let mut line = String::from_str(alloc, "lc: ")?;
+    line.push_str(option)?;
+    line.push_str(" chooses files of a directory, and ")?;
+    push_reports(&mut line, old, new)?;
+    Ok(line)
+}
+
+fn choice_cause(alloc: Global, option: &str, old: &str, new: &str) -> Cause
+    ensures { IsTold (choice_line option.now old.now new.now) result }
+{
+    match choice_line(alloc, option, old, new) {
+        Ok(line) => Cause::InReport(line),
+        Err(AllocError) => Cause::Memory,
+    }
+}
+
+/// Refuses an option that chooses files, if both sides are reports. It queries the system about the sides.
+pub(crate) fn refuse_choices<Y: System>(
+    alloc: Global,
+    system: &Y,
+    walk: &WalkRequest<'_>,
+    old: &str,
+    new: &str,
+) -> Result<(), Cause>
+    ensures { AnswersChoices (Y.unlists system.now) walk.now old.now new.now result }
+{
+    let Some(option) = first_choice(walk) else {
+        return Ok(());
+    };
+    if is_directory(alloc, system, old) || is_directory(alloc, system, new) {
+        return Ok(());
+    }
+    Err(choice_cause(alloc, option, old, new))
+}

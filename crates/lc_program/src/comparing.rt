@@ -1,0 +1,218 @@
+//! Answering comparisons of two directories or reports.
+
+ghost use Rattle.std.specs.Prelude.{◌≡◌, true, IfOk};
+ghost use Rattle.lc_arguments.specs.TableWords.{number_of};
+ghost use Rattle.lc_arguments.specs.Words.{IsDiffWithinLimits};
+ghost use Rattle.lc_changes.specs.ChangeSheets.{HasFilesFor};
+ghost use Rattle.lc_program.specs.Differences.{AnswersChanges, AnswersDiff, AnswersSides, IsChangesText, IsTextOfChanges, PrintsChanges};
+ghost use Rattle.lc_program.specs.Differences.{change_options, change_order, compared_columns, compared_lists, compared_needs};
+ghost use Rattle.lc_program.specs.Systems.{system_may};
+
+use crate::answered::Answered;
+use crate::cause::Cause;
+use crate::checking::path_end;
+use crate::choices::refuse_choices;
+use crate::comparison::Comparison;
+use crate::counting::options_of;
+use crate::filters::{narrowed, read_filters};
+use crate::path_list::{list_of, wanted_paths};
+use crate::sides::{SideOptions, both_sides};
+use crate::system::System;
+use crate::unnamed::unnamed_lines;
+use lc_arguments::{DiffRequest, TableRequest};
+use lc_census::Source;
+use lc_changes::{ChangeOptions, ChangeSheet, ShownChanges};
+use lc_formats::{csv_changes, json_changes, markdown_changes, table_changes, tsv_changes};
+use lc_level::NamedAttributes;
+use lc_rows::keep;
+use lc_sheet::{Columns, Format, Number, Order};
+use lc_sums::Needs;
+use lc_text::{PrintFault, Sink, print};
+use lc_walk::{Report, ReportLists};
+use std::alloc::{AllocError, Global};
+use std::sync::Wait;
+use std::thread::Threads;
+
+/// The columns of rows if the command line names none.
+const BY_EXTENSION: Columns = Columns {
+    dir: None,
+    ext: true,
+    text: false,
+    eol: false,
+};
+
+fn compared_columns(table: TableRequest) -> Columns
+    ensures { result ≡ compared_columns table }
+{
+    table.by.unwrap_or(BY_EXTENSION)
+}
+
+/// Returns the number whose largest changes come first, if rows are sorted by a number.
+fn sort_number(format: Format, table: TableRequest) -> Option<Number>
+    ensures { result ≡ number_of (change_order format table) }
+{
+    match (table.sort, format) {
+        (Some(Order::Largest(number)), _) => Some(number),
+        (Some(Order::Name), _) => None,
+        (None, Format::Table | Format::Markdown) => Some(Number::Lines),
+        (None, _) => None,
+    }
+}
+
+/// Returns the options of a comparison, with this format unless the command line names one.
+fn change_options(asked: &DiffRequest<'_>, other: Format) -> ChangeOptions
+    ensures { result ≡ change_options other asked.now }
+{
+    let by = compared_columns(asked.table);
+    let format = asked.table.options(other, by).format;
+    ChangeOptions {
+        format,
+        by,
+        sort: sort_number(format, asked.table),
+        top: asked.table.top,
+        files: asked.table.files,
+        all: asked.all,
+    }
+}
+
+/// Returns what is needed of each side.
+fn compared_needs(asked: &DiffRequest<'_>) -> Needs
+    ensures { result ≡ compared_needs asked.now }
+{
+    let by = compared_columns(asked.table);
+    Needs::of(Some(by), &asked.conditions, asked.table.files, false)
+}
+
+/// Returns the lists of a side that is counted.
+fn compared_lists(asked: &DiffRequest<'_>) -> ReportLists
+    ensures { result ≡ compared_lists asked.now }
+{
+    ReportLists {
+        files: compared_needs(asked).files,
+        left_out: false,
+    }
+}
+
+fn text_in(alloc: Global, format: Format, sheet: &ChangeSheet<'_>) -> Result<Vec<u8>, AllocError>
+    ensures { IfOk result (λ text. IsTextOfChanges format sheet.now text.items) }
+{
+    match format {
+        Format::Tsv => tsv_changes(alloc, sheet),
+        Format::Table | Format::Html => table_changes(alloc, sheet),
+        Format::Json => json_changes(alloc, sheet),
+        Format::Csv => csv_changes(alloc, sheet),
+        Format::Markdown => markdown_changes(alloc, sheet),
+    }
+}
+
+/// Makes the text of the changes from one report to another, and finds out whether there are some.
+fn changes_text(
+    alloc: Global,
+    options: &ChangeOptions,
+    old: &Report,
+    new: &Report,
+) -> Result<(Vec<u8>, bool), AllocError>
+    requires old_files { HasFilesFor options.now old.now.lists }
+    requires new_files { HasFilesFor options.now new.now.lists }
+    ensures { IfOk result (λ made. IsChangesText options.now old.now new.now made.0.items made.1) }
+{
+    let shown = ShownChanges::of(alloc, old, new, options)?;
+    let sheet = shown.comparison();
+    let text = text_in(alloc, options.format, &sheet)?;
+    Ok((text, shown.some_differ()))
+}
+
+/// Prints the changes from one report to another. It returns whether there are some.
+fn print_changes<O: Sink>(
+    alloc: Global,
+    options: &ChangeOptions,
+    old: &Report,
+    new: &Report,
+    out: &mut O,
+) -> Result<bool, PrintFault>
+    requires old_files { HasFilesFor options.now old.now.lists }
+    requires new_files { HasFilesFor options.now new.now.lists }
+    ensures { AnswersChanges O.may_take options.now old.now new.now out.old result out.new }
+{
+    let (text, differ) = changes_text(alloc, options, old, new)?;
+    print(out, &text)?;
+    Ok(differ)
+}
+
+/// Keeps what meets the conditions of two reports, and prints the changes from one to the other.
+fn print_kept<O: Sink>(
+    alloc: Global,
+    asked: &DiffRequest<'_>,
+    old: Report,
+    new: Report,
+    format: Format,
+    out: &mut O,
+) -> Result<Comparison, Cause>
+    requires old_files { HasFilesFor (change_options format asked.now) old.lists }
+    requires new_files { HasFilesFor (change_options format asked.now) new.lists }
+    ensures { PrintsChanges O.may_take format asked.now old new out.old result out.new }
+{
+    let mut old = old;
+    let mut new = new;
+    keep(alloc, &asked.conditions, &mut old)?;
+    keep(alloc, &asked.conditions, &mut new)?;
+    let options = change_options(asked, format);
+    let differ = print_changes(alloc, &options, &old, &new, out)?;
+    Ok(Comparison { old, new, differ })
+}
+
+/// Counts or reads both sides, and prints the changes from one to the other.
+fn compare_sides<R: Threads + Wait + Sync + AllocGlobal, Y: System, S: Source, O: Sink>(
+    rt: &R,
+    system: &Y,
+    asked: &DiffRequest<'_>,
+    format: Format,
+    input: &mut S,
+    out: &mut O,
+) -> Result<Answered, Cause>
+    requires limits { IsDiffWithinLimits asked.now }
+    ensures { AnswersSides (system_may (λ dir entered. Y.Tree.lists (Y.tree system.now dir entered))
+        (λ dir entered. Y.Tree.gives (Y.tree system.now dir entered)) (Y.holds system.now)
+        (Y.unlists system.now) (Y.unreads system.now) (Y.lies system.now) (Y.stands system.now))
+        S.may_give O.may_take format asked.now input.old out.old result input.new out.new }
+{
+    let filters = read_filters(rt.alloc(), system, &asked.walk.filters)?;
+    let named = NamedAttributes::new(rt.alloc(), &asked.walk.filters.without)?;
+    // Borrowed before the list is, so that the options' references end together.
+    let noted = &named;
+    let list = list_of(rt.alloc(), system, asked.walk.only_from, input)?;
+    let listed = list.as_slice();
+    let only = asked.walk.only.as_slice();
+    let end = path_end(asked.walk.null);
+    let wanted = wanted_paths(rt.alloc(), only, asked.walk.only_from, end, listed)?;
+    let filters = narrowed(rt.alloc(), filters, wanted.as_slice())?;
+    let options = options_of(&asked.walk, compared_lists(asked), &filters, noted);
+    let how = SideOptions {
+        walk: &asked.walk,
+        options: &options,
+        needs: compared_needs(asked),
+    };
+    let (old, new) = both_sides(rt, system, (asked.old, asked.new), how, input)?;
+    let compared = print_kept(rt.alloc(), asked, old, new, format, out)?;
+    let unnamed = unnamed_lines(rt.alloc(), noted);
+    Ok(Answered::Compared(compared, unnamed))
+}
+
+/// Compares two directories or reports, and prints the changes, in this format unless the command line names one.
+pub(crate) fn compare<R: Threads + Wait + Sync + AllocGlobal, Y: System, S: Source, O: Sink>(
+    rt: &R,
+    system: &Y,
+    asked: &DiffRequest<'_>,
+    format: Format,
+    input: &mut S,
+    out: &mut O,
+) -> Result<Answered, Cause>
+    requires limits { IsDiffWithinLimits asked.now }
+    ensures { AnswersDiff (system_may (λ dir entered. Y.Tree.lists (Y.tree system.now dir entered))
+        (λ dir entered. Y.Tree.gives (Y.tree system.now dir entered)) (Y.holds system.now)
+        (Y.unlists system.now) (Y.unreads system.now) (Y.lies system.now) (Y.stands system.now))
+        S.may_give O.may_take format asked.now input.old out.old result input.new out.new }
+{
+    refuse_choices(rt.alloc(), system, &asked.walk, asked.old, asked.new)?;
+    compare_sides(rt, system, asked, format, input, out)
+}

@@ -1,0 +1,14 @@
+//! What is left of a comparison that was printed.
+
+use lc_walk::Report;
+
+/// Two reports whose changes were printed: what meets the conditions of each.
+#[derive(Drop)]
+pub(crate) struct Comparison {
+    /// The old report.
+    pub(crate) old: Report,
+    /// The new report.
+    pub(crate) new: Report,
+    /// Whether a row differs, or a file if files are listed.
+    pub(crate) differ: bool,
+}

@@ -1,0 +1,133 @@
+//! Reading the reports that the command line names.
+
+ghost use Rattle.std.specs.Prelude.{◌≡◌, ◌⊎◌, map, option_map, IfErr, IfOk, None};
+ghost use Rattle.std.specs.List.{AllZip};
+ghost use Rattle.lc_arguments.specs.Reports.{report_model};
+ghost use Rattle.lc_program.specs.ReportFiles.{AnswersParts, IsBelow, IsPartOf, ReadsParts, Refuses};
+ghost use Rattle.lc_program.specs.declared.cause.Cause.TheVariants.{Memory};
+
+use crate::cause::Cause;
+use crate::named_texts::named_text;
+use crate::report_lines::{cause_of_refusal, cause_of_text, origin_of};
+use crate::system::System;
+use lc_arguments::NamedReport;
+use lc_census::Source;
+use lc_reading::{ReadReport, read_reports};
+use lc_reports::named;
+use lc_sums::Part;
+use std::alloc::{AllocError, Global};
+
+/// The greatest number of bytes of a report.
+const MAX_REPORT: u32 = 1_073_741_824;
+
+/// Moves a report below a name, if there is one.
+fn below(alloc: Global, name: Option<&str>, given: ReadReport) -> Result<ReadReport, AllocError>
+    ensures { IfOk result (IsBelow (option_map (λ n. n.now) name.entry) given) }
+{
+    let Some(name) = name else {
+        return Ok(given);
+    };
+    let ReadReport {
+        report,
+        columns,
+        text,
+        binary,
+    } = given;
+    let report = named(alloc, name.as_bytes(), report)?;
+    Ok(ReadReport {
+        report,
+        columns,
+        text,
+        binary,
+    })
+}
+
+/// Makes a part of a sum from a report of a text.
+fn part_of<'w>(
+    alloc: Global,
+    typed: NamedReport<'w>,
+    given: ReadReport,
+) -> Result<Part<'w>, AllocError>
+    ensures { IfOk result (IsPartOf (report_model typed.entry) given) }
+{
+    let report = below(alloc, typed.name, given)?;
+    Ok(Part {
+        origin: origin_of(typed.report),
+        report,
+    })
+}
+
+/// Makes the parts of a sum from the reports of a text.
+fn parts_of<'w>(
+    alloc: Global,
+    typed: NamedReport<'w>,
+    given: Vec<ReadReport>,
+) -> Result<Vec<Part<'w>>, AllocError>
+    ensures { IfOk result (λ parts. AllZip (IsPartOf (report_model typed.entry)) given.items parts.items) }
+{
+    let mut parts = Vec::with_capacity(alloc, given.len())?;
+    for report in given {
+        parts.push(part_of(alloc, typed, report)?)?;
+    }
+    Ok(parts)
+}
+
+/// Reads the reports in one of the texts that the command line names.
+fn read_parts<'w, Y: System, S: Source>(
+    alloc: Global,
+    system: &Y,
+    typed: NamedReport<'w>,
+    input: &mut S,
+) -> Result<Vec<Part<'w>>, Cause>
+    ensures parts { IfOk result (λ parts. ReadsParts S.may_give (Y.holds system.now) (report_model typed.entry) input.old parts.items
+        input.new) }
+    ensures refused { IfErr result (λ cause. Refuses S.may_give (Y.holds system.now) (Y.unreads system.now) (report_model typed.entry)
+        input.old cause input.new ⊎ (cause ≡ Memory)) }
+{
+    let text = match named_text(alloc, system, MAX_REPORT, typed.report, input) {
+        Ok(text) => text,
+        Err(fault) => return Err(cause_of_text(alloc, system, typed.report, fault)),
+    };
+    let given = match read_reports(alloc, &text) {
+        Ok(given) => given,
+        Err(fault) => {
+            let name = origin_of(typed.report);
+            return Err(cause_of_refusal(alloc, name.as_bytes(), fault));
+        }
+    };
+    let parts = parts_of(alloc, typed, given)?;
+    Ok(parts)
+}
+
+/// Reads the reports in the text of this name.
+pub(crate) fn read_one<'w, Y: System, S: Source>(
+    alloc: Global,
+    system: &Y,
+    report: &'w str,
+    input: &mut S,
+) -> Result<Vec<Part<'w>>, Cause>
+    ensures parts { IfOk result (λ parts. ReadsParts S.may_give (Y.holds system.now) (None, report.entry.now) input.old parts.items
+        input.new) }
+    ensures refused { IfErr result (λ cause. Refuses S.may_give (Y.holds system.now) (Y.unreads system.now) (None, report.entry.now)
+        input.old cause input.new ⊎ (cause ≡ Memory)) }
+{
+    read_parts(alloc, system, NamedReport { name: None, report }, input)
+}
+
+/// Reads the reports that the command line names, in their order. It stops at the first text that is not read, or is refused.
+pub(crate) fn read_all<'w, Y: System, S: Source>(
+    alloc: Global,
+    system: &Y,
+    reports: &[NamedReport<'w>],
+    input: &mut S,
+) -> Result<Vec<Part<'w>>, Cause>
+    ensures { AnswersParts S.may_give (Y.holds system.now) (Y.unreads system.now) (map report_model reports.now) input.old result
+        input.new }
+{
+    let mut parts = Vec::new(alloc);
+    for typed in reports {
+        let mut more = read_parts(alloc, system, *typed, input)?;
+        parts.append(&mut more)?;
+    }
+    Ok(parts)
+}

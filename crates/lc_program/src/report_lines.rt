@@ -1,0 +1,191 @@
+//! The lines about reports that can't be read or added up.
+
+ghost use Rattle.std.specs.Prelude.{◌≡◌, ◌++◌, codes, string_bytes, IfOk};
+ghost use Rattle.lc_sheet.specs.ColumnWords.{column_name};
+ghost use Rattle.lc_program.specs.ReportLines.{IsRefusedFor, IsTold, IsUnreadFor, IsUnsummedFor, MayBeWhy, no_report_text, origin_of};
+ghost use Rattle.lc_program.specs.ReportLines.{report_line, sums_text};
+ghost use Rattle.lc_program.specs.Reasons.{unexplained_line};
+
+use crate::cause::Cause;
+use crate::system::System;
+use crate::unlisted::unexplained_line;
+use crate::unread_reason::UnreadReason;
+use lc_census::WholeFault;
+use lc_reading::{NoReport, Part, ReadFault};
+use lc_sheet::Column;
+use lc_sums::SumFault;
+use lc_text::push_visible;
+use std::alloc::{AllocError, Global};
+
+/// Returns what errors call a report.
+pub(crate) fn origin_of(report: &str) -> &str
+    ensures { result.now ≡ origin_of report.now }
+{
+    if report == "-" {
+        "standard input"
+    } else {
+        report
+    }
+}
+
+/// Makes a line about a report, or about a path of several reports.
+fn report_line(alloc: Global, name: &[u8], why: &str) -> Result<String, AllocError>
+    ensures { IfOk result (λ line. string_bytes line ≡ report_line name.now why.now) }
+{
+    let mut line = String::from_str(alloc, "lc: ")?;
+    push_visible(&mut line, name)?;
+    line.push_str(" ")?;
+    line.push_str(why)?;
+    line.push_str("\n")?;
+    Ok(line)
+}
+
+/// Makes the cause with the line about a report, or about a path of several reports.
+fn report_cause(alloc: Global, name: &[u8], why: &str) -> Cause
+    ensures { IsTold (report_line name.now why.now) result }
+{
+    match report_line(alloc, name, why) {
+        Ok(line) => Cause::InReport(line),
+        Err(AllocError) => Cause::Memory,
+    }
+}
+
+/// Returns why a report could not be read, if the system gives a reason. Standard input has none.
+fn reason_for<Y: System>(alloc: Global, system: &Y, report: &str) -> Option<UnreadReason>
+    ensures { MayBeWhy (Y.unreads system.now) report.now result }
+{
+    if report == "-" {
+        return None;
+    }
+    system.why_unread(alloc, report)
+}
+
+/// Makes the cause with the line about a report that could not be read, for this reason if there is one.
+pub(crate) fn unread_cause(alloc: Global, name: &str, reason: Option<UnreadReason>) -> Cause
+    ensures { IsTold (unexplained_line name.now reason) result }
+{
+    match unexplained_line(alloc, name, reason) {
+        Ok(line) => Cause::InReport(line),
+        Err(AllocError) => Cause::Memory,
+    }
+}
+
+/// Makes the cause that says why the text of a report could not be read.
+pub(crate) fn cause_of_text<Y: System>(
+    alloc: Global,
+    system: &Y,
+    report: &str,
+    fault: WholeFault,
+) -> Cause
+    ensures { IsUnreadFor (Y.unreads system.now) report.now fault result }
+{
+    match fault {
+        WholeFault::Read => {
+            let reason = reason_for(alloc, system, report);
+            unread_cause(alloc, origin_of(report), reason)
+        }
+        WholeFault::TooLong => report_cause(alloc, origin_of(report).as_bytes(), "too long"),
+        WholeFault::Memory => Cause::Memory,
+    }
+}
+
+/// Makes the text about a text that is no report.
+fn no_report_text(alloc: Global, why: NoReport) -> Result<String, AllocError>
+    ensures { IfOk result (λ text. string_bytes text ≡ no_report_text why) }
+{
+    match why {
+        NoReport::Empty => String::from_str(alloc, "it is empty"),
+        NoReport::NoObject(at) => format!(in alloc; "no JSON object at byte {at}"),
+        NoReport::Missing(name) => format!(in alloc; "no member {name}"),
+        NoReport::Twice(name) => format!(in alloc; "{name} twice"),
+        NoReport::Bad(name) => format!(in alloc; "bad {name}"),
+    }
+}
+
+/// Returns the text about a report whose sums differ.
+fn sums_text(part: Part) -> &'static str
+    ensures { result.now ≡ sums_text part }
+{
+    match part {
+        Part::Rows => "is no report: its rows do not add up to its total",
+        Part::Files => "is no report: its files do not add up to its total",
+        Part::TextAndBinary => "is no report: its text and binary do not add up to its total",
+    }
+}
+
+/// Makes the text about a text that is no report, to follow its name.
+fn refusal_text(alloc: Global, why: NoReport) -> Result<String, AllocError>
+    ensures { IfOk result (λ text. string_bytes text ≡ codes "is no report: " ++ no_report_text why) }
+{
+    let why = no_report_text(alloc, why)?;
+    let mut text = String::from_str(alloc, "is no report: ")?;
+    text.push_str(&why)?;
+    Ok(text)
+}
+
+/// Makes the cause with the line about a text that is no report.
+fn no_report_cause(alloc: Global, name: &[u8], why: NoReport) -> Cause
+    ensures { IsTold (report_line name.now (codes "is no report: " ++ no_report_text why)) result }
+{
+    match refusal_text(alloc, why) {
+        Ok(text) => report_cause(alloc, name, &text),
+        Err(AllocError) => Cause::Memory,
+    }
+}
+
+/// Makes the cause that says why the text of a report is refused. Errors call the report by this name.
+pub(crate) fn cause_of_refusal(alloc: Global, name: &[u8], fault: ReadFault) -> Cause
+    ensures { IsRefusedFor name.now fault result }
+{
+    match fault {
+        ReadFault::Memory => Cause::Memory,
+        ReadFault::NoReport(why) => no_report_cause(alloc, name, why),
+        ReadFault::CutByTop => report_cause(alloc, name, "was cut by --top"),
+        ReadFault::DoNotAddUp(part) => report_cause(alloc, name, sums_text(part)),
+    }
+}
+
+/// Makes the text about a report without a column, to follow its name.
+fn no_column_text(alloc: Global, column: Column) -> Result<String, AllocError>
+    ensures { IfOk result (λ text. string_bytes text ≡ codes "has no column " ++ column_name column ++ codes ": count with --files") }
+{
+    let mut text = String::from_str(alloc, "has no column ")?;
+    text.push_str(column.name())?;
+    text.push_str(": count with --files")?;
+    Ok(text)
+}
+
+/// Makes the cause with the line about a report without a column.
+fn no_column_cause(alloc: Global, name: &[u8], column: Column) -> Cause
+    ensures { IsTold (report_line name.now (codes "has no column " ++ column_name column ++ codes ": count with --files")) result }
+{
+    match no_column_text(alloc, column) {
+        Ok(text) => report_cause(alloc, name, &text),
+        Err(AllocError) => Cause::Memory,
+    }
+}
+
+/// Makes the cause that says why reports have no sum.
+pub(crate) fn cause_of_sum(alloc: Global, fault: SumFault<'_>) -> Cause
+    ensures { IsUnsummedFor fault.entry result }
+{
+    match fault {
+        SumFault::Memory => Cause::Memory,
+        SumFault::NoColumn(name, column) => no_column_cause(alloc, name.as_bytes(), column),
+        SumFault::NoSharedColumn => Cause::NoSharedColumn,
+        SumFault::NoFiles(name) => {
+            report_cause(alloc, name.as_bytes(), "has no files: count with --files")
+        }
+        SumFault::NoSkipped(name) => report_cause(
+            alloc,
+            name.as_bytes(),
+            "has no skipped entries: count with --left-out",
+        ),
+        SumFault::SamePath(path) => report_cause(
+            alloc,
+            &path,
+            "is in two reports: lc sum NAME=REPORT tells them apart",
+        ),
+        SumFault::TooLarge => Cause::SumsTooLarge,
+    }
+}

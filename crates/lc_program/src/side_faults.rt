@@ -1,0 +1,91 @@
+//! The lines on standard error about what the sides of a comparison could not read.
+
+ghost use Rattle.std.specs.Prelude.{◌≡◌, ◌++◌, string_bytes, IfOk, OnOk};
+ghost use Rattle.lc_program.specs.ReportLines.{origin_of};
+ghost use Rattle.lc_program.specs.SideFaults.{TellsSideFaults, fault_line, have_no_faults, side_line, side_lines, side_path};
+
+use crate::faults::or_here;
+use crate::report_lines::origin_of;
+use lc_text::{Sink, print, push_visible};
+use lc_walk::FaultLine;
+use std::alloc::{AllocError, Global};
+
+/// The errors of a side of a comparison.
+#[derive(Clone, Copy)]
+pub(crate) struct SideFaults<'f> {
+    /// What the side was named.
+    pub(crate) name: &'f str,
+    /// What could not be read.
+    pub(crate) faults: &'f [FaultLine],
+}
+
+fn push_side_path(text: &mut String, path: &[u8]) -> Result<(), AllocError>
+    ensures { OnOk result (string_bytes text.new ≡ string_bytes text.old ++ side_path path.now) }
+{
+    text.push_str(": cannot read ")?;
+    push_visible(text, path)?;
+    text.push_str("\n")?;
+    Ok(())
+}
+
+fn push_side_line(text: &mut String, name: &str, path: &[u8]) -> Result<(), AllocError>
+    ensures { OnOk result (string_bytes text.new ≡ string_bytes text.old ++ side_line name.now path.now) }
+{
+    text.push_str("lc: ")?;
+    push_visible(text, name.as_bytes())?;
+    push_side_path(text, path)?;
+    Ok(())
+}
+
+fn push_fault(text: &mut String, name: &str, fault: &FaultLine) -> Result<(), AllocError>
+    ensures { OnOk result (string_bytes text.new ≡ string_bytes text.old ++ fault_line name.now fault.now) }
+{
+    push_side_line(text, name, or_here(&fault.path))
+}
+
+/// Makes a line for each path of a side that could not be read.
+fn side_lines(alloc: Global, name: &str, faults: &[FaultLine]) -> Result<String, AllocError>
+    ensures { IfOk result (λ text. string_bytes text ≡ side_lines name.now faults.now) }
+{
+    let mut text = String::new(alloc);
+    for fault in faults {
+        push_fault(&mut text, name, fault)?;
+    }
+    Ok(text)
+}
+
+/// Makes the lines about both sides.
+fn lines_of(alloc: Global, old: SideFaults<'_>, new: SideFaults<'_>) -> Result<String, AllocError>
+    ensures { IfOk result (λ text. string_bytes text ≡ side_lines (origin_of old.entry.name.now) old.entry.faults.now
+        ++ side_lines (origin_of new.entry.name.now) new.entry.faults.now) }
+{
+    let mut text = side_lines(alloc, origin_of(old.name), old.faults)?;
+    let more = side_lines(alloc, origin_of(new.name), new.faults)?;
+    text.push_str(&more)?;
+    Ok(text)
+}
+
+fn have_no_faults(old: &[FaultLine], new: &[FaultLine]) -> bool
+    ensures { result ≡ have_no_faults old.now new.now }
+{
+    old.is_empty() && new.is_empty()
+}
+
+/// Writes what the sides of a comparison could not read, the old one first. No format lists it.
+pub(crate) fn tell_side_faults<E: Sink>(
+    alloc: Global,
+    old: SideFaults<'_>,
+    new: SideFaults<'_>,
+    err: &mut E,
+)
+    ensures { TellsSideFaults E.may_take old.entry.name.now old.entry.faults.now new.entry.name.now new.entry.faults.now err.old err.new }
+{
+    if have_no_faults(old.faults, new.faults) {
+        return;
+    }
+    // The exit status shows the errors too, so a line that can't be written changes nothing.
+    let _ = match lines_of(alloc, old, new) {
+        Ok(text) => print(err, text.as_bytes()),
+        Err(AllocError) => print(err, b"lc: some paths could not be read\n"),
+    };
+}

@@ -1,0 +1,142 @@
+//! The sides of a comparison: directories that are counted, and reports that are read.
+
+ghost use Rattle.std.specs.Prelude.{◌≡◌, true, IfOk};
+ghost use Rattle.lc_program.specs.Sides.{CountsSide, GivesSide, GivesSides, IsSide, ReadsSide, is_no_directory};
+ghost use Rattle.lc_program.specs.Systems.{system_may};
+ghost use Rattle.lc_walk.specs.WalkOptions.{AreWithinLimits};
+
+use crate::cause::Cause;
+use crate::faults::has_path;
+use crate::finding::{cause_in, entered_by, walk_of};
+use crate::report_files::read_one;
+use crate::report_lines::{cause_of_sum, unread_cause};
+use crate::system::System;
+use crate::unread_reason::UnreadReason;
+use lc_arguments::WalkRequest;
+use lc_census::Source;
+use lc_sums::{Needs, summed};
+use lc_walk::{Options, Report};
+use std::alloc::Global;
+use std::sync::Wait;
+use std::thread::Threads;
+
+/// Returns whether a name can't be listed because no directory has it.
+fn is_no_directory(why: Option<UnreadReason>) -> bool
+    ensures { result ≡ is_no_directory why }
+{
+    match why {
+        None | Some(UnreadReason::Denied | UnreadReason::IsDirectory | UnreadReason::Other) =>
+            false,
+        Some(UnreadReason::Missing | UnreadReason::IsFile | UnreadReason::NotDirectory) => true,
+    }
+}
+
+/// Returns whether a side is a directory. `-` is standard input. It queries the system.
+pub(crate) fn is_directory<Y: System>(alloc: Global, system: &Y, name: &str) -> bool
+    ensures { IsSide (Y.unlists system.now) name.now result }
+{
+    if name == "-" {
+        return false;
+    }
+    !is_no_directory(system.why_unlisted(alloc, name))
+}
+
+/// How sides are counted and read.
+#[derive(Clone, Copy)]
+pub(crate) struct SideOptions<'o> {
+    /// What the command line asks of walks.
+    pub(crate) walk: &'o WalkRequest<'o>,
+    /// The options of walks.
+    pub(crate) options: &'o Options<'o>,
+    /// What is needed of reports.
+    pub(crate) needs: Needs,
+}
+
+/// Counts a directory. A directory that could not be listed itself has no report.
+fn counted_side<R: Threads + Wait + Sync + AllocGlobal, Y: System>(
+    rt: &R,
+    system: &Y,
+    name: &str,
+    how: SideOptions<'_>,
+) -> Result<Report, Cause>
+    requires limits { AreWithinLimits how.options.now }
+    ensures counts { CountsSide (system_may (λ dir entered. Y.Tree.lists (Y.tree system.now dir entered))
+        (λ dir entered. Y.Tree.gives (Y.tree system.now dir entered)) (Y.holds system.now)
+        (Y.unlists system.now) (Y.unreads system.now) (Y.lies system.now) (Y.stands system.now))
+        how.entry.walk.now how.entry.options.now name.now result }
+    ensures files { IfOk result (λ report. how.entry.options.now.lists.files ≡ true → report.lists.files ≡ true) }
+{
+    let report = match walk_of(rt, system, name, entered_by(how.walk), how.options) {
+        Ok(report) => report,
+        Err(fault) => return Err(cause_in(rt.alloc(), name, fault)),
+    };
+    if has_path(&[], &report.faults) {
+        let why = system.why_unlisted(rt.alloc(), name);
+        return Err(unread_cause(rt.alloc(), name, why));
+    }
+    Ok(report)
+}
+
+/// Reads the reports of a name, and adds them up.
+fn read_side<Y: System, S: Source>(
+    alloc: Global,
+    system: &Y,
+    name: &str,
+    needs: Needs,
+    input: &mut S,
+) -> Result<Report, Cause>
+    ensures reads { ReadsSide (system_may (λ dir entered. Y.Tree.lists (Y.tree system.now dir entered))
+        (λ dir entered. Y.Tree.gives (Y.tree system.now dir entered)) (Y.holds system.now)
+        (Y.unlists system.now) (Y.unreads system.now) (Y.lies system.now) (Y.stands system.now))
+        S.may_give needs name.now input.old result input.new }
+    ensures files { IfOk result (λ report. needs.files ≡ true → report.lists.files ≡ true) }
+{
+    let parts = read_one(alloc, system, name, input)?;
+    match summed(alloc, parts, needs) {
+        Ok(sum) => Ok(sum.report),
+        Err(fault) => Err(cause_of_sum(alloc, fault)),
+    }
+}
+
+/// Counts or reads a side.
+fn side<R: Threads + Wait + Sync + AllocGlobal, Y: System, S: Source>(
+    rt: &R,
+    system: &Y,
+    name: &str,
+    how: SideOptions<'_>,
+    input: &mut S,
+) -> Result<Report, Cause>
+    requires limits { AreWithinLimits how.options.now }
+    requires lists { how.options.now.lists.files ≡ how.needs.files }
+    ensures gives { GivesSide (system_may (λ dir entered. Y.Tree.lists (Y.tree system.now dir entered))
+        (λ dir entered. Y.Tree.gives (Y.tree system.now dir entered)) (Y.holds system.now)
+        (Y.unlists system.now) (Y.unreads system.now) (Y.lies system.now) (Y.stands system.now))
+        S.may_give how.entry.walk.now how.entry.options.now how.entry.needs name.now input.old result input.new }
+    ensures files { IfOk result (λ report. how.entry.needs.files ≡ true → report.lists.files ≡ true) }
+{
+    if is_directory(rt.alloc(), system, name) {
+        return counted_side(rt, system, name, how);
+    }
+    read_side(rt.alloc(), system, name, how.needs, input)
+}
+
+/// Counts or reads both sides, the old one first.
+pub(crate) fn both_sides<R: Threads + Wait + Sync + AllocGlobal, Y: System, S: Source>(
+    rt: &R,
+    system: &Y,
+    names: (&str, &str),
+    how: SideOptions<'_>,
+    input: &mut S,
+) -> Result<(Report, Report), Cause>
+    requires limits { AreWithinLimits how.options.now }
+    requires lists { how.options.now.lists.files ≡ how.needs.files }
+    ensures gives { GivesSides (system_may (λ dir entered. Y.Tree.lists (Y.tree system.now dir entered))
+        (λ dir entered. Y.Tree.gives (Y.tree system.now dir entered)) (Y.holds system.now)
+        (Y.unlists system.now) (Y.unreads system.now) (Y.lies system.now) (Y.stands system.now))
+        S.may_give how.entry.walk.now how.entry.options.now how.entry.needs names.entry.0.now names.entry.1.now input.old result input.new }
+    ensures files { IfOk result (λ both. how.entry.needs.files ≡ true → (both.0.lists.files ≡ true) × (both.1.lists.files ≡ true)) }
+{
+    let old = side(rt, system, names.0, how, input)?;
+    let new = side(rt, system, names.1, how, input)?;
+    Ok((old, new))
+}
