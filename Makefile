@@ -5,7 +5,7 @@ PREFIX ?= /usr/local
 CPU ?= $(or $(shell cat crates/lc/out/cpu 2> /dev/null),x86-64-v2)
 SHELL := /bin/bash
 
-.PHONY: run test test-memory test-program test-git test-faults test-fuzz test-edits test-memcheck test-picture install uninstall dist deb clean rt FORCE
+.PHONY: run test test-memory test-program test-git test-faults test-fuzz test-edits test-memcheck test-parts test-picture install uninstall dist deb clean rt FORCE
 
 lc: $(shell find crates -name out -prune -o -type f -print 2>/dev/null) crates.txt tools/build crates/lc/out/cpu | rt
 	@echo "make: proves lc and the crates below it, then builds it for $(CPU): 25 minutes on 4 cores the first time, then what has changed"
@@ -41,6 +41,7 @@ test-program: lc
 	tools/edits
 	tools/examples
 	tools/test-program
+	tools/test-reports
 
 # random rules and trees through git, a fixed small part of them
 test-git: lc
@@ -60,6 +61,10 @@ test-fuzz: lc
 # the mutants that the gate does not try (not part of the gate); tools/test-edits NAME tries those of one crate
 test-edits: rt
 	tools/test-edits
+
+# this repository counted in parts on two hosts that the script makes; no part of the gate
+test-parts: lc
+	tools/test-parts
 
 # pictures of this repository and of a tree of hostile names, laid out by headless Chromium; no part of the gate
 test-picture: lc
