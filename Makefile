@@ -25,6 +25,7 @@ run: rt
 # rt alone would run fewer checks side by side, since it counts a check's memory for more than it takes
 test: rt
 	@echo "make: proves every crate from nothing, tries the mutants and runs the tests: an hour on 4 cores"
+	tools/formatted
 	RT_JOBS=$${RT_JOBS:-$$(tools/build --cores)} tools/gate-times rt ci
 
 # up to 400 allocations of each test fail in turn; every public call that takes memory has a test
