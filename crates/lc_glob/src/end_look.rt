@@ -1,5 +1,5 @@
-//! Compares one byte at an end of a path with the elements of a pattern. This rejects most paths that the pattern doesn't match. The byte
-//! test is within the bound of a match, since no match needs as many tests as the bound allows.
+//! Compares one byte at an end of a path with the elements of a pattern. This rejects most paths that the pattern doesn't match. The bound
+//! on the number of byte tests covers this test too, since a match always needs fewer tests than the bound allows.
 
 ghost use Rattle.std.specs.Prelude.{◌≡◌, ◌≤◌, ◌+◌, ◌⊎◌, IsFalse};
 ghost use Rattle.lc_glob.specs.EndLooks.{DiffersAtEnd, HasLiteralEnd};

@@ -183,8 +183,8 @@ fn end_of<R: Threads + Wait + Sync + AllocGlobal, Y: System, W: AsStr, S: Source
 }
 
 /// Runs the program with these arguments and streams, and returns its exit status. The status is 0 for success, 1 for an answer with
-/// errors, 2 for refused arguments, and 3 if the program stopped with an error, with one line on `err`. It is 4 if `--fail-if-any` is used, and a
-/// file is counted or the sides of a comparison differ.
+/// errors, 2 for refused arguments, and 3 if the program stopped with an error, with one line on `err`. It is 4 if `--fail-if-any` is used,
+/// and a file is counted or the sides of a comparison differ.
 ///
 /// - no arguments: the input has the lines of an ignore file, then a line `--`, then paths ([`check_joined`](lc_paths::check_joined));
 /// - `check FILE`: checks the paths of the input by the rules of the file with this name, which is read first ([`check`](lc_paths::check);

@@ -19,7 +19,7 @@ fn first_eol(all: &[Eol], word: &str) -> Option<Eol>
     all.iter().copied().find(|eol| eol.as_str() == word)
 }
 
-/// Finds how lines end by the word for it.
+/// Returns the kind of line end that a word names, if it names one.
 pub(crate) fn eol_of(word: &str) -> Option<Eol>
     ensures { MatchOption result ((eol : EolModel) → eol_word eol ≢ word.now) (λ eol. eol_word eol ≡ word.now) }
 {

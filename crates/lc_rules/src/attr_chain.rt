@@ -106,7 +106,8 @@ impl AttrChain {
         }
     }
 
-    /// Returns the chain with one more file of the tree, or an equal chain. `depth` is the number of segments of the file's directory.
+    /// Returns the chain with one more file of the tree, or a copy if there is no file. `depth` is the number of segments of the file's
+    /// directory.
     pub fn below(
         &self,
         alloc: Global,
@@ -120,8 +121,8 @@ impl AttrChain {
         Ok(AttrChain { files, info })
     }
 
-    /// Returns the chain with the file of `.git/info/attributes`, or an equal chain. The file was read as a top-level one. It overrides
-    /// every file that the chain has or gains later, and replaces an earlier file of `.git/info`.
+    /// Returns the chain with the file of `.git/info/attributes`, or a copy if there is no file. The file was read as a top-level one. It
+    /// overrides every file that the chain has or gains later, and replaces an earlier file of `.git/info`.
     pub fn with_info(
         &self,
         alloc: Global,

@@ -58,7 +58,7 @@ impl Chain {
         }
     }
 
-    /// Returns the chain with the exclude file of the whole tree, or an equal chain.
+    /// Returns the chain with the exclude file of the whole tree. Without such a file it is the same chain.
     pub fn with_exclude(self, file: Option<Arc<IgnoreFile, Global>>) -> Chain
         ensures { result ≡ with_exclude self file }
     {
@@ -71,7 +71,7 @@ impl Chain {
         }
     }
 
-    /// Returns the chain with the patterns of the command line, or an equal chain. They override the rules of every file, also of those
+    /// Returns the chain with the patterns of the command line, if there are some. They override the rules of every file, also of those
     /// that the chain gains later.
     pub fn with_command_line(self, file: Option<Arc<IgnoreFile, Global>>) -> Chain
         ensures { result ≡ with_command_line self file }
@@ -99,7 +99,7 @@ impl Chain {
         self.no_ignore
     }
 
-    /// Returns the chain with the file of `.git/info/exclude`, or an equal chain.
+    /// Returns the chain with the file of `.git/info/exclude`. Without such a file it is the same chain.
     pub fn with_info(self, file: Option<Arc<IgnoreFile, Global>>) -> Chain
         ensures { result ≡ with_info self file }
     {
@@ -112,7 +112,8 @@ impl Chain {
         }
     }
 
-    /// Returns the chain with one more file of the tree, or an equal chain. `depth` is the number of segments of the file's directory.
+    /// Returns the chain with one more file of the tree, or a copy if there is no file. `depth` is the number of segments of the file's
+    /// directory.
     pub fn below(
         &self,
         alloc: Global,

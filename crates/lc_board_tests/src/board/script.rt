@@ -213,7 +213,7 @@ pub const SCRIPTS: &[Script] = &[
 /// More numbers than 16 bits have.
 pub const MANY: u32 = 65_537;
 
-/// One worker posts once more than there are numbers, and ends the first alone.
+/// One worker posts more directories than there are numbers, by one. It ends only the first.
 pub fn filling(alloc: Global, capacity: u32) -> Result<Vec<(Call, Told)>, AllocError> {
     let mut script = Vec::new(alloc);
     script.push((Call::Claim(0), Told::Got(0, ROOT)))?;

@@ -2,7 +2,8 @@
 
 ghost use Rattle.std.specs.Prelude.{◌≡◌};
 ghost use Rattle.lc_sheet.specs.Values.{value_model};
-ghost use Rattle.lc_rows.specs.Kinds.{skipped_value, attribute_value, entry_value, place_value, rule_file_value, rule_line_value, rule_name};
+ghost use Rattle.lc_rows.specs.Kinds.{attribute_value, entry_value, place_value, rule_file_value, rule_line_value, rule_name};
+ghost use Rattle.lc_rows.specs.Kinds.{skipped_value};
 
 use crate::values::bytes_value;
 use crate::words::{kind_word, skipped_end};
