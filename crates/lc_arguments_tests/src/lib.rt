@@ -6,6 +6,8 @@ mod conditions;
 #[cfg(test)]
 mod diffs;
 #[cfg(test)]
+mod meant;
+#[cfg(test)]
 mod requests;
 #[cfg(test)]
 mod sums;

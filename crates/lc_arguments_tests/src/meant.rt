@@ -1,0 +1,92 @@
+//! The command that refused words may have meant.
+
+use crate::texts::{Case, answer_text, text_of};
+use lc_arguments::Request;
+use std::alloc::{AllocError, Global};
+use std::process::Abort;
+use std::test::Fail;
+
+/// Refused words, and the command that they may have meant.
+const MEANT: &[Case] = &[
+    ("count --json .", "lc count --format json ."),
+    ("count . --csv", "lc count --format csv ."),
+    ("count -e py .", "lc count --include '*.py' ."),
+    ("count --ext rs src", "lc count --include '*.rs' ."),
+    ("count --thread 8 .", "lc count --threads 8 ."),
+    ("count --sorted lines .", "lc count --sort bytes ."),
+    ("count --hidden .", "lc count ."),
+    ("count --all .", "lc count --no-ignore ."),
+    ("count --text .", "lc count --by ext,text ."),
+    ("count -f json .", "lc count --format json ."),
+    ("-e rs .", "lc count --include '*.rs' ."),
+    ("--json", "lc count --format json ."),
+    ("count --share --cvs .", "lc count ."),
+    ("count --xdev .", "lc count --one-file-system ."),
+    (
+        "count --exit-code .",
+        "lc count --where 'lines>1000' --fail-if-any .",
+    ),
+    ("cuont .", "lc count ."),
+    ("chekc .", "git ls-files | lc check .gitignore"),
+    ("explian .", "lc explain . README.md"),
+    ("version", "lc --version"),
+    ("-v", "lc --version"),
+    ("count --version", "lc --version"),
+    ("count --json=x .", "lc count --format json ."),
+    ("suum a.json", "lc count --format json . | lc sum"),
+    ("sum --only a", "lc count --format json . | lc sum"),
+    ("dif a b", "lc diff . ."),
+    ("diff --left-out a b", "lc diff . ."),
+    ("json", "lc count --format json ."),
+    ("help src", "lc help count"),
+    ("a\u{1b}", "lc count ."),
+    ("a\\b", "lc count ."),
+    ("explain --files .", "lc explain . README.md"),
+];
+
+/// Words whose first is no command, and the count that they may have meant.
+const DIRECTORIES: &[Case] = &[
+    ("src", "lc count src"),
+    ("contrib", "lc count contrib"),
+    ("it's", "lc count 'it'\\''s'"),
+];
+
+/// Returns whether the program refuses the words of a command. A shell drops the quotes around them.
+fn is_refused(alloc: Global, command: &str) -> Result<bool, AllocError> {
+    let mut words = Vec::new(alloc);
+    for word in command.split_ascii_whitespace() {
+        words.push(word.trim_matches('\''))?;
+    }
+    let answer = answer_text(alloc, Request::read(alloc, words.as_slice()))?;
+    Ok(answer.starts_with("refused: "))
+}
+
+/// Checks the command that a refusal names after `label`, and that this command is not refused itself.
+fn check_meant(
+    rt: &impl Abort,
+    alloc: Global,
+    label: &str,
+    (line, wanted): &Case,
+) -> Result<(), AllocError> {
+    let found = text_of(alloc, line)?;
+    let end = format!(in alloc; "\n{label}: {wanted}\n")?;
+    assert!(rt;
+        found.starts_with("refused: ") && found.ends_with(end.as_str()),
+        "{line}: {found}"
+    );
+    if let Some((_, words)) = wanted.split_once("lc ") {
+        assert!(rt; !is_refused(alloc, words)?, "{wanted}");
+    }
+    Ok(())
+}
+
+#[test]
+fn refused_words_and_commands_that_work(rt: HostRuntime) -> Result<(), Fail> {
+    for case in MEANT {
+        check_meant(&rt, rt.alloc(), "Example", case)?;
+    }
+    for case in DIRECTORIES {
+        check_meant(&rt, rt.alloc(), "To count a directory", case)?;
+    }
+    Ok(())
+}
