@@ -64,7 +64,7 @@ fn repeated(alloc: Global, directory: &str) -> ParseExit
     }
 }
 
-/// Copies words. If there are none, the only one is `default`.
+/// Returns a copy of the words, or `default` alone if there are no words.
 pub(crate) fn or_default<'w>(
     alloc: Global,
     words: &[&'w str],

@@ -230,8 +230,8 @@ fn is_text_for(alloc: Global, text: &str, command: Option<Subcommand>) -> Result
     }
 }
 
-/// Returns whether a text names each argument of the command that the arguments name, as its help does. Without a command, it must name
-/// `lc`.
+/// Returns whether a text names each argument of a command, as the help of that command does. The command is the one that the arguments
+/// `words` name. If they name no command, the text must name `lc`.
 pub(crate) fn is_text_of<W: AsStr>(
     alloc: Global,
     text: &str,

@@ -21,15 +21,15 @@ pub(crate) enum Subcommand {
 /// The commands that have an argument.
 #[derive(Clone, Copy)]
 pub struct Commands {
-    /// `lc count` has it.
+    /// Whether `lc count` has the argument.
     pub count: bool,
-    /// `lc explain` has it.
+    /// Whether `lc explain` has the argument.
     pub explain: bool,
-    /// `lc check` has it.
+    /// Whether `lc check` has the argument.
     pub check: bool,
-    /// `lc sum` has it.
+    /// Whether `lc sum` has the argument.
     pub sum: bool,
-    /// `lc diff` has it.
+    /// Whether `lc diff` has the argument.
     pub diff: bool,
 }
 
@@ -163,7 +163,7 @@ pub struct OptionRow {
     pub kind: Kind,
     /// The value if none is typed.
     pub default: Option<&'static str>,
-    /// The commands that have it.
+    /// The commands that have the argument.
     pub of: Commands,
     /// The heading above it in help. An argument without a hyphen has none.
     pub heading: &'static str,

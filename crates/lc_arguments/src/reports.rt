@@ -16,7 +16,7 @@ use std::alloc::{AllocError, Global};
 /// A report, and the name below which its paths are moved.
 #[derive(Clone, Copy)]
 pub struct NamedReport<'w> {
-    /// A name that a directory can have, if there is one.
+    /// The name, if there is one. It is a name that a directory can have.
     pub name: Option<&'w str>,
     /// The path of the report, as it was typed. `-` is standard input.
     pub report: &'w str,

@@ -20,7 +20,7 @@ use std::alloc::Global;
 /// The table that a command prints, as in `--format table --by ext --sort lines`.
 #[derive(Clone, Copy)]
 pub struct TableRequest {
-    /// The format, if one is named. If none is, shares are shown in a table.
+    /// The format, if one is named. If none is named, shares are shown in the format `Table`.
     pub format: Option<Format>,
     /// The columns of `--by`, if they are named.
     pub by: Option<Columns>,
@@ -78,9 +78,9 @@ impl TableRequest {
         self.sort.unwrap_or(default_order(format, self.top))
     }
 
-    /// Returns the options of the table. If no format is named and no shares are shown, its format is `other`. If no columns are named, it
-    /// has `columns`. If no order is named, rows and files are sorted by lines with `--top` and in a format for reading, and otherwise by
-    /// their names.
+    /// Returns the options of the table. If no format is named and no shares are shown, the format is `other`. If no columns are named,
+    /// they are `columns`. If no order is named, rows and files are sorted by lines if there is a `--top` or the format is for reading, and
+    /// otherwise by their names.
     pub fn options(self, other: Format, columns: Columns) -> TableOptions
         ensures { result ≡ options_in other columns self }
     {

@@ -8,7 +8,7 @@ use lc_sheet::Columns;
 use std::alloc::{AllocError, Global};
 use std::process::Abort;
 
-/// Words, which are parted by spaces, and what they ask for, or the beginning of what is said of them.
+/// Words separated by spaces, and the request that they make, or the beginning of the message about them.
 pub(crate) type Case = (&'static str, &'static str);
 
 fn push_filters(text: &mut String, filters: &FilterRequest) -> Result<(), AllocError> {
@@ -178,7 +178,7 @@ fn sum_text(alloc: Global, request: &SumRequest) -> Result<String, AllocError> {
     Ok(text)
 }
 
-/// What is asked for, or what is said of the words.
+/// Returns the request as text, or the message about the words.
 pub(crate) fn answer_text(
     alloc: Global,
     answer: Result<Request<'_>, ParseExit>,
@@ -205,7 +205,7 @@ pub(crate) fn words_of(alloc: Global, line: &str) -> Result<Vec<&str>, AllocErro
     Ok(words)
 }
 
-/// Reads words that are parted by spaces, and returns what they ask for, or what is said of them.
+/// Reads words that are separated by spaces, and returns their request as text, or the message about them.
 pub(crate) fn text_of(alloc: Global, line: &str) -> Result<String, AllocError> {
     let words = words_of(alloc, line)?;
     answer_text(alloc, Request::read(alloc, words.as_slice()))

@@ -12,7 +12,7 @@ pub fn numbers_once<J, R>()
     ensures { NumbersOnce J R }
 {}
 
-/// The law that what a worker's own events say about a number that it claimed is true in the whole history.
+/// The law that a worker's own events are right about a number that it claimed: what they say is true in the whole history.
 #[tactic(auto, using(crate::proofs::PartsOfWhole::part_says_whole))]
 pub fn part_says_whole<J, R>()
     ensures { PartSaysWhole J R }
@@ -55,7 +55,7 @@ pub fn stays_legal<J, R>()
     ensures { StaysLegal J R }
 {}
 
-/// The law that numbers and ends are at most as many as the capacity.
+/// The law that there are at most as many numbers, and at most as many ends, as the capacity.
 #[tactic(auto, using(crate::proofs::RowsOfWorkers::few_numbers, crate::proofs::RowsOfWorkers::few_ends))]
 pub fn few_numbers<J, R>()
     ensures numbers { FewNumbers J R }

@@ -18,7 +18,7 @@ mod recorded;
 use pass::LockedPass;
 use recorded::Recorded;
 
-/// A board under one lock. It doesn't promise that the rows that it returns are in place.
+/// A board under one lock. It doesn't promise that the rows that it returns are at the places of their numbers.
 #[derive(Drop)]
 pub struct Locked<J, R> {
     alloc: Global,

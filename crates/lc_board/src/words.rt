@@ -23,7 +23,7 @@ mod start;
 mod steps;
 pub mod view;
 
-/// A board of words. The rows that it returns are in place.
+/// A board of words. The rows that it returns are at the places of their numbers.
 #[derive(Drop)]
 pub struct Words<J, R> {
     pub(crate) table: Table<Slot<J, R>, View<J, R>, BoardSetup<J>, OneHistory, Global>,

@@ -92,7 +92,7 @@ impl<'a> ChangedRow<'a> {
         !are_same_sums(self.old_sums, self.new_row.sums)
     }
 
-    /// Returns how far a number is from what it was.
+    /// Returns by how much a number of the row changed, up or down.
     pub(crate) fn change(&self, number: Number) -> u128
         ensures { result ≡ row_change number self.now }
     {

@@ -92,7 +92,7 @@ impl<'a> FileChange<'a> {
         }
     }
 
-    /// Returns how far a number of the file is from what it was. A report without the file counts 0.
+    /// Returns by how much a number of the file changed, up or down. A report without the file counts 0.
     pub(crate) fn change(&self, number: Number) -> u128
         ensures { result ≡ file_change number self.now }
     {

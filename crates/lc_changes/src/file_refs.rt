@@ -60,7 +60,7 @@ fn unite(refs: &mut Vec<FileRef<'_>>)
 
 /// Returns the files of a report in the order of their paths, each path once.
 ///
-/// A report of a walk has them so, and then this takes time in proportion to their number.
+/// The files of a walk's report are already in this order. Then this takes time in proportion to their number.
 pub(crate) fn by_path<'a>(
     alloc: Global,
     files: &'a [FileLine],

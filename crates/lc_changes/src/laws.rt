@@ -7,8 +7,8 @@ pub fn a_report_does_not_differ_from_itself()
     ensures { SelfLaw }
 {}
 
-/// The law that a row has the sums that tables of both reports show for its key, and that each row of these tables has a row. So all rows
-/// add up to the same as both tables.
+/// The law that a row has the sums that the tables of both reports show for its key, and that there is a row for each row of these tables.
+/// So all rows together add up to the same sums as both tables.
 pub fn rows_of_a_comparison_are_those_of_tables()
     ensures { TablesLaw }
 {}

@@ -3,7 +3,7 @@
 ghost use Rattle.std.specs.Prelude.{◌≡◌};
 ghost use Rattle.lc_changes.specs.Pairs.{left_of};
 
-/// Returns what is left of a list after its first element, if that is passed.
+/// Returns a list without its first element if that element is passed, and otherwise the whole list.
 pub(crate) fn left_of<T>(passed: bool, items: &[T]) -> &[T]
     ensures { result.now ≡ left_of passed items.now }
 {

@@ -61,8 +61,8 @@ fn paired_rows<'s, 'a>(
 
 /// Adds up the counts of two reports by these columns, and sets the sums of each key side by side, in the order of keys.
 ///
-/// Rows by directory are sums over the files, which the reports must have. An error means that an allocation failed, or that sums overflow,
-/// which those of a walk's rows never do.
+/// Rows by directory are sums over the files, which the reports must have. An error means that an allocation failed or that sums overflow.
+/// The sums of a walk's rows never overflow.
 pub(crate) fn compared_rows<'a>(
     alloc: Global,
     old: &'a Report,

@@ -121,7 +121,7 @@ impl<'a> ShownChanges<'a> {
     /// differ.
     ///
     /// Rows by directory, and the list of files, are made of the files, which both reports must have. An error means that an allocation
-    /// failed, or that sums overflow, which those of a walk's rows never do. The time is that of sorting rows and files. Each row of both
+    /// failed or that sums overflow. The sums of a walk's rows never overflow. The time is that of sorting rows and files. Each row of both
     /// reports takes memory while they are compared.
     ///
     /// ```

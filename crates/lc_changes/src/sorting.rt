@@ -26,7 +26,8 @@ fn sort_rows_by(by: Number, rows: &mut Vec<ChangedRow<'_>>)
     rows.sort_unstable_by(|a, b| compare_rows(by, a, b));
 }
 
-/// Sorts rows that are in the order of their keys: the largest change of a number first, if there is one.
+/// Sorts rows by the change of a number, the largest change first. The rows are in the order of their keys, and keep it if there is no
+/// number.
 pub(crate) fn sort_rows(by: Option<Number>, rows: &mut Vec<ChangedRow<'_>>)
     ensures { AreChangesSorted by rows.old.items rows.new.items }
 {
@@ -66,7 +67,8 @@ fn sort_files_by(by: Number, files: &mut Vec<FileChange<'_>>)
     files.sort_unstable_by(|a, b| compare_files(by, a, b));
 }
 
-/// Sorts files that are in the order of their paths: the largest change of a number first, if there is one.
+/// Sorts files by the change of a number, the largest change first. The files are in the order of their paths, and keep it if there is no
+/// number.
 pub(crate) fn sort_files(by: Option<Number>, files: &mut Vec<FileChange<'_>>)
     ensures { AreFileChangesSorted by files.old.items files.new.items }
 {

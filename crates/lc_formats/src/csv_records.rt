@@ -59,7 +59,7 @@ impl Fields {
         self.record.clear();
     }
 
-    /// Appends a field. If there is no memory, no field is left.
+    /// Appends a field. If there is no memory, all fields are dropped.
     pub(crate) fn push(&mut self, field: &[u8]) -> Result<(), AllocError>
         ensures { OnOk result (self.new ≡ self.old ++ field.now ∷ []) }
     {
@@ -116,7 +116,7 @@ impl CsvText {
         }
     }
 
-    /// Appends a record. If there is no memory, no record is left.
+    /// Appends a record. If there is no memory, all records are dropped.
     pub(crate) fn push_record(&mut self, fields: &Fields) -> Result<(), AllocError>
         ensures { OnOk result (self.new ≡ self.old ++ record_text fields.now) }
     {

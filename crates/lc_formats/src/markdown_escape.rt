@@ -48,7 +48,7 @@ fn push_break(text: &mut Vec<u8>, shown: &[u8]) -> Result<(), AllocError>
 
 /// Appends a text as the text of a cell: no byte of it is markup, no address in it becomes a link, and no blank at its ends is dropped.
 ///
-/// GitHub looks for addresses with an `@` in the text behind escapes and references, so only a tag keeps them text.
+/// GitHub looks for addresses with an `@` after it has resolved escapes and references, so only a tag keeps such addresses text.
 pub(crate) fn push_markdown(text: &mut Vec<u8>, shown: &[u8]) -> Result<(), AllocError>
     ensures { OnOk result (text.new.items ≡ text.old.items ++ markdown shown.now) }
 {

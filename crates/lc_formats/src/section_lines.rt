@@ -79,7 +79,7 @@ pub(crate) fn is_empty<L: Lines>(section: &Section<'_, L>) -> bool
     lines.is_empty()
 }
 
-/// Appends the lines of a section below their headings, and an empty line; without lines nothing.
+/// Appends the lines of a section below their headings, and then an empty line. If the section has no lines, it appends nothing.
 pub(crate) fn push_listing<'a, L: Lines>(
     alloc: Global,
     section: &Section<'a, L>,

@@ -79,7 +79,7 @@ fn push_eighths(text: &mut String, eighths: u128) -> Result<(), AllocError>
     text.push_str(last_block(eighths % 8))
 }
 
-/// Appends the share in per cent that a part is of a whole.
+/// Appends the share of a part in a whole, in per cent.
 pub(crate) fn push_share(text: &mut String, part: u128, whole: u128) -> Result<(), AllocError>
     ensures { OnOk result (string_bytes text.new ≡ string_bytes text.old ++ share_word (rounded_parts 1000 part whole)) }
 {

@@ -35,7 +35,8 @@ pub fn bars_are_as_long_as_their_cells()
     ensures { BarLengthLaw }
 {}
 
-/// The law that in a text for reading, an old number and its change add up to the new number, and that a number that stayed has a zero.
+/// The law that in a text for reading, an old number and its change add up to the new number, and that an unchanged number has a zero as
+/// its change.
 pub fn changes_add_up_to_new_numbers()
     ensures change { ChangeLaw }
     ensures none { NoChangeLaw }

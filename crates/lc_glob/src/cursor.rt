@@ -18,7 +18,7 @@ pub(crate) enum EndStep<'p, 'n, E> {
     Star,
     /// The token matches the last byte, and these elements are before it.
     Taken(Cursor<'p, 'n, E>),
-    /// The tokens fit the segment: there are neither, or a star alone.
+    /// The tokens fit the segment: no token and no byte is left, or the only token left is a star.
     Fitted,
     /// The tokens don't fit the segment.
     Stuck,
@@ -30,7 +30,7 @@ pub(crate) enum FrontStep<'p, 'n, E> {
     Star(&'p [E]),
     /// The token matches the first byte, and these elements are after it.
     Taken(Cursor<'p, 'n, E>),
-    /// The tokens fit the segment from here: there are neither, or a star alone.
+    /// The tokens fit the segment from here: no token and no byte is left, or the only token left is a star.
     Fitted,
     /// The tokens don't fit the segment from here.
     Stuck,

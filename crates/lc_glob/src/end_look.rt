@@ -8,8 +8,8 @@ use crate::element::Element;
 use crate::path_segment::{ByteTests, PathSegment};
 use crate::token::TokenRef;
 
-/// Returns whether the elements agree with `last` where their last is a literal, and else with `first` where their first is one: by one
-/// byte test.
+/// Returns whether an end of a path agrees with the elements, by one byte test: `last` if the last element is a literal, and otherwise
+/// `first` if the first element is one.
 #[inline]
 pub(crate) fn agrees_at_end<E: Element>(
     elements: &[E],

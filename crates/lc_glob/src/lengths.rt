@@ -16,7 +16,7 @@ pub(crate) struct Lengths {
 }
 
 impl Lengths {
-    /// Returns the lengths of a path that was not measured: any segment has such a length.
+    /// Returns the lengths of a path that was not measured. The length of any segment is between them.
     pub(crate) fn unknown() -> Self
         ensures { (names : List (List ℕ)) → All (λ name. length name ≤ usize.MAX) names → AreBetween result names }
     {
@@ -41,8 +41,8 @@ impl Lengths {
         Lengths { shortest, longest }
     }
 
-    /// Returns whether a pattern's segments may lead to the end of names of such lengths. It looks at no byte of a name, and where nothing
-    /// is known at no segment.
+    /// Returns whether a pattern's segments may lead to the end of names with such lengths. It reads no byte of a name and, if no length is
+    /// known, looks at no segment.
     #[inline]
     pub(crate) fn allow(self, segments: SegmentsRef) -> bool
         ensures { (names : List (List ℕ)) → AreBetween self names → Leads (segments_ref_model segments.entry) names → IsTrue result }

@@ -14,8 +14,8 @@ use crate::match_segment::fits;
 use crate::path_segment::{ByteTests, PathLeft};
 use crate::segment_ref::{SegmentRef, SegmentsRef};
 
-/// Returns whether the segments match the path's. It is inlined, so that segments of each kind have code of their own: to test which kind
-/// they are, and to pass them on in memory, costs more than to compare the last of them, which rejects most paths.
+/// Returns whether the segments match the path's. It is inlined, so that each kind of segments has its own code. To test the kind, and to
+/// pass the segments on in memory, would cost more than to compare the last segment, which rejects most paths.
 #[inline(always)]
 pub(crate) fn matches_path(segments: SegmentsRef, path: &Candidate, tests: &mut ByteTests) -> bool
     ensures matches_path { IsTrue result ↔ MatchesPath (segments_ref_model segments.entry) (segments_of path.now) }
@@ -54,7 +54,7 @@ struct PathCursor<'p, 'n> {
 enum PathEndStep<'p, 'n> {
     /// It is a double star.
     DoubleStar,
-    /// It fits it, and these are before them.
+    /// The pattern's segment fits the path's, and this cursor has what is before both.
     Taken(PathCursor<'p, 'n>),
     /// The pattern's segments lead to the end of the path: there are neither, or a double star alone.
     Arrived,
@@ -66,7 +66,7 @@ enum PathEndStep<'p, 'n> {
 enum PathFrontStep<'p, 'n> {
     /// It is a double star, and these segments are after it.
     DoubleStar(SegmentsRef<'p>),
-    /// It fits the first, and these are after them.
+    /// The pattern's segment fits the path's first, and this cursor has what is after both.
     Taken(PathCursor<'p, 'n>),
     /// The pattern's segments lead to the end of the path from here: there are neither, or a double star alone.
     Arrived,

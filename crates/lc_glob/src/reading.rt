@@ -79,7 +79,7 @@ fn read_tokens(alloc: Global, bytes: &[u8]) -> Result<Option<Vec<Token>>, AllocE
     Ok(Some(tokens))
 }
 
-/// Reads bytes as a pattern. Any bytes are one, perhaps a dead one.
+/// Reads bytes as a pattern. Any bytes are a pattern, perhaps a dead one.
 pub(crate) fn read_pattern(alloc: Global, bytes: &[u8]) -> Result<Pattern, AllocError>
     ensures { IfOk result (λ p. p ≡ pattern_of bytes.now) }
 {

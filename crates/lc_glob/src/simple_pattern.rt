@@ -30,7 +30,7 @@ pub(crate) enum SimpleKind {
     Other(OtherKind),
 }
 
-/// How a simple pattern is matched that is not a suffix.
+/// How a simple pattern that is not a suffix is matched.
 #[derive(Clone, Copy)]
 pub(crate) enum OtherKind {
     /// With nothing: it is dead, since a segment of it is empty, as in `a//b`.
@@ -52,7 +52,8 @@ pub(crate) struct SimpleForm {
     pub(crate) kind: SimpleKind,
 }
 
-/// A simple pattern: its form, and the bytes that it is matched from. These have no separators at the ends, and those of a suffix no star.
+/// A simple pattern: its form, and the bytes that it is matched from. The bytes have no separators at their ends, and those of a suffix
+/// have no star.
 #[derive(Clone, Copy)]
 pub(crate) struct SimplePattern<'p> {
     pub(crate) form: SimpleForm,

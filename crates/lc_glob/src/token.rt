@@ -61,7 +61,8 @@ impl<'p> TokenRef<'p> {
         }
     }
 
-    /// The token that was read, with the tokens after it, of which a bracket takes its ranges. A range or a separator is none.
+    /// Returns the token that was read, as it is matched. A bracket takes its ranges from the tokens after it. A range or a separator has
+    /// no such token.
     pub(crate) fn of_token(token: Token, after: &'p [Token]) -> Option<Self>
         ensures { MatchOption result (tokens_model (token ∷ after.now) ≡ tokens_model after.now)
             (λ found. tokens_model (token ∷ after.now) ≡ token_ref_model found ∷ tokens_model after.now) }

@@ -36,7 +36,7 @@ impl From<Failed> for PrintFault {
     }
 }
 
-/// Writes a text whole. A write that accepts no byte of a rest that is not empty is an error too.
+/// Writes a text whole. A write that accepts no byte is an error too, unless no byte is left.
 pub fn print<O: Sink>(out: &mut O, text: &[u8]) -> Result<(), PrintFault>
     ensures answers { AnswersPrint O.may_take out.old text.now result out.new }
     ensures no_memory { result ≢ Err PrintFault.Memory }

@@ -15,7 +15,7 @@ use std::io::{self, Error, ErrorKind, Write};
 ///
 /// Each type states what its writes may return, so that a contract can speak of the writes of a call.
 pub trait Sink {
-    /// Whether a write of these bytes may give this answer and leave the sink so.
+    /// Whether a write of these bytes may give this answer and leave the sink in this state.
     ghost may_take: { Self → List ℕ → Result ℕ Failed → Self → Type 0 };
 
     /// Writes some bytes from the front, and returns how many.

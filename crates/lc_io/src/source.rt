@@ -8,7 +8,8 @@ pub struct Failed;
 
 /// A reader of bytes.
 ///
-/// Each type states by `may_give` what its reads may return. `specs/Reads.antt` defines over it what the reads of a whole call returned.
+/// Each type states by `may_give` what its reads may return. From `may_give`, `specs/Reads.antt` defines what the reads of a whole call
+/// returned.
 pub trait Source {
     // A read of this reader, into a buffer of this length, may give this answer and leave this reader.
     ghost may_give: { Self → ℕ → Answer → Self → Type 0 };

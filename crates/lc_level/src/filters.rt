@@ -39,8 +39,8 @@ pub struct Filters<'p> {
     pub include: Option<RuleText>,
     /// Whether no ignore file of the tree is read: no `.gitignore`, and no `.git/info/exclude`.
     pub no_ignore: bool,
-    /// The attributes for which files and directories are skipped. Such an attribute is Set, such as `linguist-vendored`, or has exactly a
-    /// value, such as `linguist-generated=true` (gitattributes(5)). `git archive` skips what has `export-ignore`.
+    /// The attributes for which files and directories are skipped. Such an attribute must be Set, as for `linguist-vendored`, or have
+    /// exactly the value, as for `linguist-generated=true` (gitattributes(5)). `git archive` skips what has `export-ignore`.
     pub without: Vec<Vec<u8>>,
     /// The paths of `--only`: only these stay, with what is under them and the directories above them. If there are none, everything stays.
     pub only: OnlyPaths<'p>,
@@ -146,7 +146,7 @@ impl<'p> Filters<'p> {
         Ok(wanted)
     }
 
-    /// Returns the patterns of which one must match a file of a directory. There are none if all its files stay.
+    /// Returns the patterns for the files of a directory: a file must match one of them. There are none if all files of the directory stay.
     pub(crate) fn include_in(&self, directory: &[u8]) -> Option<&IgnoreFile>
         ensures { option_map (λ p. p.now) result ≡ patterns_for (include_rules self.now) directory.now }
     {
@@ -154,7 +154,7 @@ impl<'p> Filters<'p> {
         patterns_for(text.rules(), directory)
     }
 
-    /// Returns the first word for whose attribute a path is skipped. Only the attributes' macros are allocated.
+    /// Returns the first word with an attribute for which a path is skipped. Memory is allocated only for the macros of attributes.
     pub(crate) fn first_met(
         &self,
         alloc: Global,

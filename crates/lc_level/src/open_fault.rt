@@ -9,7 +9,7 @@ use crate::{FaultSite, FaultWord};
 /// Why a directory contributes none of its entries.
 #[derive(Clone, Copy, Debug, Drop, PartialEq, Eq)]
 pub enum OpenFault {
-    /// Its listing or one of its rule files, at this site, was not read: the report has this word for it.
+    /// The listing or one of the rule files, at this site, was not read. The report names the reason by this word.
     Faulted(FaultSite, FaultWord),
     /// An allocation failed.
     Memory,

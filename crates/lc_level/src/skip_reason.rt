@@ -29,7 +29,7 @@ fn ignored_by(job: &Job, path: &[u8], is_dir: bool) -> Option<ReasonRef<'static>
 }
 
 impl<'t, T> LevelReader<'t, T> {
-    /// Returns why the rules or the filters skip a path, if they do. Only attributes' macros are allocated.
+    /// Returns why the rules or the filters skip a path, if they do. Memory is allocated only for the macros of attributes.
     pub(crate) fn reason_at(
         &self,
         job: &Job,

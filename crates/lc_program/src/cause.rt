@@ -41,7 +41,7 @@ pub enum Cause {
     UnreadInput,
     /// Standard input has too many bytes.
     InputTooLong,
-    /// One directory of a count is another one, or lies in it. The line says which.
+    /// One directory of a count is the same as another, or is inside it. The line says which.
     Nested(String),
     /// The walk of one of several directories ended without a report. The line says which.
     InDirectory(String),

@@ -142,7 +142,7 @@ fn refuse_nested(alloc: Global, places: &[Place<'_>]) -> Result<(), Cause>
     Ok(())
 }
 
-/// Refuses directories if one is another, or lies in another. A directory without a canonical path is not compared.
+/// Refuses directories if one is the same as another, or is inside another. A directory without a canonical path is not compared.
 pub(crate) fn refuse_unless_apart<Y: System>(
     alloc: Global,
     system: &Y,

@@ -193,8 +193,7 @@ fn end_of<R: Threads + Wait + Sync + AllocGlobal, Y: System, W: AsStr, S: Source
 ///   the walk;
 /// - `explain DIR`: shows which rule of the directory with this name decides each path of the input or of the arguments
 ///   ([`explain`](lc_paths::explain));
-/// - `sum REPORT`: prints the table of what the reports with these names are together ([`summed`](lc_sums::summed)); all of them are read
-///   first;
+/// - `sum REPORT`: prints the table of the sum of the reports with these names ([`summed`](lc_sums::summed)); all of them are read first;
 /// - `diff OLD NEW`: prints the changes from one directory or report to another ([`ShownChanges`](lc_changes::ShownChanges)).
 ///
 /// If standard input is a terminal and is read, a line says so first. If standard output is a terminal, checks and explanations escape

@@ -69,7 +69,7 @@ pub(crate) fn text_with(
 /// Makes the text of a report, or its picture, whose heading is what was counted.
 ///
 /// It sorts the files of the report in place. Rows by directory and a picture are made from these files, so the report must have them. An
-/// error means that an allocation failed, or that sums or shares overflow, which those of a walk never do.
+/// error means that an allocation failed, or that sums or shares overflow. Those of a walk never overflow.
 pub fn report_text(
     alloc: Global,
     counted: &[u8],

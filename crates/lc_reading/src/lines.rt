@@ -21,7 +21,7 @@ use lc_census::Eol;
 use lc_rules::TextState;
 use std::alloc::Global;
 
-/// Returns the members of the object that is the value of the member with this name.
+/// Returns the members of `value`, which is the object under this name.
 #[tactic(auto, using(crate::proofs::LentObjects::object_of_members))]
 pub(crate) fn members_in<'v, 'a>(
     value: &'v Value<'a>,

@@ -6,7 +6,8 @@ use lc_walk::{Report, Sums};
 /// A report that was read, with facts that the report of a walk does not have.
 #[derive(Debug, Drop)]
 pub struct ReadReport {
-    /// The report. If it has no files, its rows have no extension, the state `Unspecified`, or no line ends in each column that they lack.
+    /// The report. If it has no files, its rows have a fixed value in each column that they lack: no extension, the state `Unspecified`, or
+    /// no line ends.
     pub report: Report,
     /// The columns that the rows are grouped by.
     pub columns: RowColumns,

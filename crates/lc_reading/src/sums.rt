@@ -31,7 +31,7 @@ pub(crate) fn sums_of<'a>(members: &[(&'a str, Value<'a>)]) -> Result<Sums, NoRe
     })
 }
 
-/// Reads the sums in the object that is the value of the member with this name.
+/// Reads the sums in the object under this name.
 pub(crate) fn sums_in<'a>(
     members: &[(&'a str, Value<'a>)],
     name: MemberName,

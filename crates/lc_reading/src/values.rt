@@ -125,7 +125,7 @@ fn bytes_of_text<'a>(
     }
 }
 
-/// Reads the bytes of a text under one name, or of a list of numbers under another, if there are any.
+/// Reads bytes: a text under one name, or a list of numbers under another name. It returns `None` if there is neither.
 pub(crate) fn optional_bytes<'a>(
     alloc: Global,
     members: &[(&'a str, Value<'a>)],
@@ -141,7 +141,7 @@ pub(crate) fn optional_bytes<'a>(
     }
 }
 
-/// Reads the bytes of a text under one name, or of a list of numbers under another.
+/// Reads bytes: a text under one name, or a list of numbers under another name.
 pub(crate) fn bytes_in<'a>(
     alloc: Global,
     members: &[(&'a str, Value<'a>)],

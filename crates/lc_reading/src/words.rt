@@ -40,7 +40,7 @@ fn first_fault(all: &[FaultWord], word: &str) -> Option<FaultWord>
     all.iter().copied().find(|fault| fault.as_str() == word)
 }
 
-/// Finds why something was not counted by the word for it.
+/// Returns the error that a word names, if it names one.
 pub(crate) fn fault_of(word: &str) -> Option<FaultWord>
     ensures { MatchOption result ((fault : FaultWordModel) → fault_word fault ≢ word.now) (λ fault. fault_word fault ≡ word.now) }
 {
@@ -71,7 +71,7 @@ fn first_state(all: &[TextState], word: &str) -> Option<TextState>
     all.iter().copied().find(|state| is_word_of(*state, word))
 }
 
-/// Finds a state by its word.
+/// Returns the state of the attribute `text` that a word names, if it names one.
 pub(crate) fn text_state_of(word: &str) -> Option<TextState>
     ensures { MatchOption result ((state : TextStateModel) → text_word state ≢ Some word.now) (λ state. text_word state ≡ Some word.now) }
 {

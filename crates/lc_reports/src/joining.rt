@@ -24,8 +24,8 @@ fn unite_skipped(skipped: &mut Vec<SkippedLine>)
     skipped.dedup_by(|a, b| compare_skipped(a, b).is_eq());
 }
 
-/// Joins reports. It adds up their rows and their numbers, and has the lists that each of them has. An error or a skipped entry that
-/// several reports have, the same in all fields, appears once.
+/// Joins reports. It adds up their rows and their numbers. The joined report has the lists that each of them has. An error or a skipped
+/// entry appears once if several reports have it with the same fields.
 ///
 /// The time is that of a sort of all lines. It allocates memory for the lists, but not for paths. Before it does, it finds out whether a
 /// sum is too large.

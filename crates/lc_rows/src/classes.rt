@@ -55,8 +55,7 @@ impl ClassSums {
         }
     }
 
-    /// Adds up rows by class: text or binary. It stops with an error only if the sums overflow, which those of a walk's
-    /// rows never do.
+    /// Adds up rows by class: text or binary. It stops with an error only if the sums overflow. The sums of a walk's rows never overflow.
     pub fn of_all(rows: &[TallyRow]) -> Result<ClassSums, AllocError>
         ensures classes { IfOk result (λ sums. sums ≡ classes_of rows.now) }
         ensures overflow { IfErr result (λ _. IsInRange (sums_of_rows rows.now) → ⊥) }

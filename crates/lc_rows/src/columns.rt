@@ -63,7 +63,8 @@ fn share_columns(format: Format) -> &'static [Column]
     }
 }
 
-/// Adds the columns of the keys of rows: all of them, or those that rows are grouped by. The directory is always one of the latter.
+/// Adds the columns of the keys of rows: all of them, or those that rows are grouped by. The column of the directory is added only if rows
+/// are grouped by it.
 pub fn push_keys(columns: &mut Vec<Column>, all: bool, by: Columns) -> Result<(), AllocError>
     ensures { OnOk result (columns.new.items ≡ columns.old.items ++ key_columns all by) }
 {

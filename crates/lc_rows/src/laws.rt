@@ -19,8 +19,8 @@ pub fn whole_keys_add_up_to_themselves()
     ensures { WholeLaw }
 {}
 
-/// The law that, for each directory and key, the rows of a table have the sums over the files with that key whose directory is cut to that
-/// one.
+/// The law that, for each directory and key, the rows of a table have the sums over certain files: those that have the key, and whose own
+/// directory is cut to that directory.
 pub fn rows_of_a_directory_are_the_sums_of_its_files()
     ensures { DirectoriesLaw }
 {}

@@ -37,7 +37,7 @@ fn summed<'a>(
 /// Adds up a report's counts by these columns, in the order of keys, each key once. Rows of all columns are added up too.
 ///
 /// Rows by directory are sums over `files`, which the report must have, and all other rows are sums over `rows`. An error means that an
-/// allocation failed, or that sums overflow, which those of a walk's rows never do.
+/// allocation failed or that sums overflow. The sums of a walk's rows never overflow.
 pub fn added_rows<'a>(
     alloc: Global,
     rows: &'a [TallyRow],
@@ -82,7 +82,7 @@ fn sort(by: Number, rows: &mut Vec<ShownRow<'_>>)
 /// Adds up a report's counts over the columns that a table lacks, and sorts the rows if the table is sorted by a number.
 ///
 /// Rows by directory are sums over `files`, which the report must have, and all other rows are sums over `rows`. Rows with all columns keep
-/// the order of the report. An error means that an allocation failed, or that sums overflow, which those of a walk's rows never do.
+/// the order of the report. An error means that an allocation failed or that sums overflow. The sums of a walk's rows never overflow.
 pub fn shown_rows<'a>(
     alloc: Global,
     rows: &'a [TallyRow],

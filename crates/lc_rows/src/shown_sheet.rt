@@ -156,7 +156,7 @@ impl<'a> Shown<'a> {
     /// Sums and sorts the rows of a report, cuts them, and adds up the sums that are also shown.
     ///
     /// Rows by directory are sums over the files, which the report must have, sorted as the sheet lists them. An error means that an
-    /// allocation failed, or that sums overflow, which those of a walk's rows never do.
+    /// allocation failed or that sums overflow. The sums of a walk's rows never overflow.
     pub fn of(
         alloc: Global,
         report: &'a Report,

@@ -77,9 +77,9 @@ fn decide_by_info<'a>(
     decide_by_file(query, file, path, is_dir, resolver)
 }
 
-/// The attribute files for a directory's entries, from the lowest precedence to the highest: those of the tree from the top down, each with
-/// the depth of its directory, then that of `.git/info`. The macros known are `binary`, which is built in, those of the first file, if it
-/// was read as top-level, and those of `.git/info`. A later macro overrides an earlier one of its name.
+/// The attribute files for a directory's entries, from the lowest precedence to the highest: the files of the tree from the top down, each
+/// with the depth of its directory, then the file of `.git/info`. The chain knows the macro `binary`, which is built in, the macros of the
+/// first file, if it was read as top-level, and the macros of `.git/info`. A later macro overrides an earlier one with the same name.
 #[derive(Drop)]
 pub struct AttrChain {
     files: ChainFiles<AttrFile>,

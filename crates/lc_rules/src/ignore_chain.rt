@@ -18,8 +18,8 @@ use std::alloc::{AllocError, Global};
 use std::marker::Model;
 use std::sync::Arc;
 
-/// The rules for a directory's entries, from the lowest precedence to the highest: the exclude file of the whole tree, that of `.git/info`,
-/// those of the tree from the top down, each with the depth of its directory, and the patterns of the command line.
+/// The rules for a directory's entries, from the lowest precedence to the highest: the exclude file of the whole tree, the exclude file of
+/// `.git/info`, the ignore files of the tree from the top down, each with the depth of its directory, and the patterns of the command line.
 #[derive(Drop)]
 pub struct Chain {
     exclude: Option<Arc<IgnoreFile, Global>>,
@@ -85,7 +85,7 @@ impl Chain {
         }
     }
 
-    /// Returns the chain of a tree whose ignore files are all read, or with `no_ignore` not read.
+    /// Returns the chain of a tree whose ignore files are all read or, with `no_ignore`, are not read.
     pub fn with_no_ignore(self, no_ignore: bool) -> Chain
         ensures { result ≡ with_no_ignore self no_ignore }
     {
@@ -135,8 +135,8 @@ impl Chain {
         })
     }
 
-    /// Returns the verdict of the last rule that matches a path. A file of the tree is matched with the path without its first segments, as
-    /// many as the file's depth.
+    /// Returns the verdict of the last rule that matches a path. A file of the tree at some depth is matched with the path without that
+    /// many of its first segments.
     pub fn verdict(&self, path: &[u8], is_dir: bool) -> Verdict
         ensures { result ≡ verdict_of (rules_in self.now) path.now is_dir }
     {

@@ -37,7 +37,7 @@ impl Model for IgnoreFile {
 }
 
 impl IgnoreFile {
-    /// Reads the bytes of an ignore file. Any bytes are one, if there are at most `MAX_RULE_BYTES` of them.
+    /// Reads the bytes of an ignore file. Any bytes are an ignore file, if there are at most `MAX_RULE_BYTES` of them.
     pub fn read(alloc: Global, bytes: &[u8]) -> Result<IgnoreFile, RuleFault>
         ensures ok { IfOk result (λ file. file ≡ rules_of bytes.now) }
         ensures too_long { (result ≡ Err RuleFault.TooLong) ↔ (max_rule_bytes < length bytes.now) }

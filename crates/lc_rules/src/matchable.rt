@@ -54,8 +54,8 @@ fn pattern_text(text: &[u8]) -> &[u8]
 
 /// Returns whether a line of an ignore file gives a rule that can match a path, as far as is known.
 ///
-/// It is false for an empty line, a comment, a pattern that can't be read, such as `[a`, and one with a segment `.` or `..`, such as
-/// `./a`, which is the name of no entry. Segments after the first bracket or backslash may be any.
+/// It is false for an empty line, a comment, and a pattern that can't be read, such as `[a`. It is also false for a pattern with a segment
+/// `.` or `..`, such as `./a`, since no entry has such a name. Segments after the first bracket or backslash may be anything.
 ///
 /// ```
 /// assert!(rt; can_match(alloc, b"*.o")? && !can_match(alloc, b"./src")?);

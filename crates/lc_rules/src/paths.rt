@@ -29,7 +29,7 @@ impl<'a> PathBelow<'a> {
         }
     }
 
-    /// Moves to the part of the path that a file sees whose directory has `depth` segments.
+    /// Moves to the part of the path that a file sees. `depth` is the number of segments of the directory of that file.
     pub(crate) fn at(self, depth: u32) -> PathBelow<'a>
         ensures path { result.path.now ≡ self.entry.path.now }
         ensures depth { result.depth ≡ depth }

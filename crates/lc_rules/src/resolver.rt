@@ -162,9 +162,9 @@ pub(crate) fn decide_by_lines<'a>(
     Ok(None)
 }
 
-/// The law that the decision, of which `AttrChain::state` returns one name, satisfies its equations, and that no other does. Nothing is
-/// left to be read, and a name that is decided stays so. The first assignment of a name decides it; if it sets a macro, the macro's
-/// assignments come before the rest.
+/// The law that the decision, which `AttrChain::state` returns for one name, satisfies its equations, and that no other decision does. Once
+/// nothing is left to be read, the decision stays as it is. A name that is decided stays so. The first assignment of a name decides it; if
+/// it sets a macro, the macro's assignments come before the rest.
 pub fn decides_by_equations()
     ensures { DecidesByEquations }
 {}

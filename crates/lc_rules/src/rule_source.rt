@@ -5,7 +5,7 @@
 pub enum RuleSource {
     /// The file of `--exclude-from`, which holds for the whole tree.
     ExcludeFrom,
-    /// The `.git/info/exclude` of the directory whose path has this number of segments: none in a walk, where only the top's is read.
+    /// The `.git/info/exclude` of the directory whose path has this number of segments: 0 in a walk, which reads only the one of the top.
     InfoExclude(u32),
     /// The `.gitignore` of the directory whose path has this number of segments.
     Gitignore(u32),

@@ -37,7 +37,7 @@ pub enum Test<'w> {
     OneOf(&'w [u8]),
     /// The value is none of these, which have commas between them.
     NoneOf(&'w [u8]),
-    /// The number compares so with this one.
+    /// The comparison of the value with this number holds.
     Compared(Comparison, u64),
 }
 

@@ -63,12 +63,12 @@ pub struct TableOptions {
     pub format: Format,
     /// The columns by which its rows are kept apart.
     pub by: Columns,
-    /// The number that sorts rows and files, largest first. Those with equal numbers, and all without a number, are in the order of their
-    /// keys and of their paths.
+    /// The number that sorts rows and files, largest first. Rows with equal numbers are in the order of their keys, and files in the order
+    /// of their paths. Without a number, so are all rows and all files.
     pub sort: Option<Number>,
     /// The most rows, and the most files, that it shows; all if there is no limit.
     pub top: Option<u32>,
-    /// Whether it lists the files. A report may have files for its rows by directory alone.
+    /// Whether the table lists the files. A report may have its files only for the sake of rows by directory.
     pub files: bool,
     /// Whether each row shows its share of the total, in the formats `Table` and `Markdown`.
     pub share: bool,

@@ -32,7 +32,7 @@ impl From<CloseFault> for WalkFault {
     }
 }
 
-/// Closes the board of workers that have all found it over, and assembles the report of its rows.
+/// Closes a board that all its workers have found over, and assembles the report of its rows.
 pub fn finish<B: Shared<Job, Row>, T: Tree>(
     alloc: Global,
     board: B,

@@ -56,15 +56,15 @@ pub fn lawful_in_part_is_lawful()
     ensures { PartLaw }
 {}
 
-/// The law of what the recursive walk of a tree finds. Names lead to each of its directories: each one above was listed without an error,
-/// and has the next as an entry to descend into. Each directory gives itself, its counted files, its errors and its skipped entries, by the
-/// fate of each entry.
+/// The law of what the recursive walk of a tree finds. Names lead to each directory that the walk finds: each directory above it was listed
+/// without an error, and has the next one as an entry to descend into. Each directory contributes itself, its counted files, its errors and
+/// its skipped entries, as the fate of each entry decides.
 pub fn all_that_is_found_is_given()
     ensures { FoundLaw }
 {}
 
-/// The law that all entries of the listed directories that take part are counted files, errors other than `absent`, directories or skipped
-/// entries, if the report lists the skipped entries. Only the top is no entry. Each error `absent` is about a requested path.
+/// The law that all entries that take part in the listed directories are counted files, errors other than `absent`, directories or skipped
+/// entries, if the report lists the skipped entries. Of all these, only the top is no entry. Each error `absent` is about a requested path.
 pub fn entries_are_accounted_for<T: Tree>(tree: &T)
     ensures { EntriesLaw (T.lists tree.now) (T.gives tree.now) }
 {
@@ -81,7 +81,7 @@ pub fn totals_of_a_report_add_up<T: Tree>(tree: &T)
 
 /// The law that a walk of some paths finds a part of what the walk of the whole tree finds: what is at or below one of the paths, the
 /// directories above them, and the errors on the way. It also finds the paths that are absent. The same is true of two walks if each
-/// directory that both read answered both of them alike.
+/// directory that both walks read gave both the same answers.
 pub fn a_part_is_the_whole_filtered()
     ensures two_walks { TwoWalksLaw }
     ensures one_tree { PartOfWalkLaw }

@@ -26,7 +26,7 @@ pub struct Options<'o> {
     pub max_dirs: u32,
     /// The lists of the report.
     pub lists: ReportLists,
-    /// Which entries take part, besides those that the tree's own rules skip.
+    /// What decides, besides the tree's own rules, which entries take part.
     pub filters: &'o Filters<'o>,
     /// Where to note which attributes the attribute files of the tree name. Noting them changes no report.
     pub named: Option<&'o NamedAttributes>,

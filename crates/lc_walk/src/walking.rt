@@ -70,8 +70,8 @@ fn walk_by_all<B: Shared<Job, Row>, T: Tree, R: Threads + Wait + Sync>(
     answer
 }
 
-/// Walks a tree over a board of this type, with a thread for each worker. If the workers run out of memory, or there is no memory to keep
-/// from them, one worker walks alone, since the stacks of many threads use memory that one walk may need.
+/// Walks a tree over a board of this type, with a thread for each worker. If the workers run out of memory, or if no memory can be kept
+/// back from them, one worker walks alone, since the stacks of many threads use memory that one walk may need.
 pub fn walk_on<B: Shared<Job, Row>, T: Tree, R: Threads + Wait + Sync>(
     rt: &R,
     alloc: Global,

@@ -70,7 +70,7 @@ impl<J, R> Cell<J, R> {
         }
     }
 
-    /// It has not ended.
+    /// Returns whether the number has not ended.
     pub(crate) fn is_left(&self) -> bool
         ensures { MatchBool result (IsLeft (Some self.now)) (¬ IsLeft (Some self.now)) }
     {

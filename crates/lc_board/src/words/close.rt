@@ -28,7 +28,7 @@ pub(crate) fn drain<S: Drop>(mut closed: Closed<S, Global>, from: usize)
     closed.free();
 }
 
-/// Returns how many numbers there are, if all have ended. Or else the least that has not.
+/// Returns how many numbers there are if all have ended, or else the least number that has not ended.
 pub(crate) fn count_ended<S>(closed: &Closed<S, Global>, capacity: u32) -> Result<u32, u32>
     requires words { slots_len closed.now.words ≡ capacity }
     requires full { IsFull closed.now.words }
@@ -125,7 +125,7 @@ impl<J, R> Words<J, R> {
         }
     }
 
-    /// Returns the words and slots, once one pass has taken in each other pass.
+    /// Makes one pass take in all others, and returns the words and the slots.
     pub(crate) fn gather(self, mut passes: Vec<WordsPass<J, R>>) -> Closed<Slot<J, R>, Global>
         requires all { vec_len passes ≡ self.workers }
         requires some { 0 < self.workers }

@@ -1,5 +1,5 @@
-//! The numbers that a pass posted last, which its next claims try first. They are hints without a promise: only its word shows whether a
-//! number is open.
+//! The numbers that a pass posted last, which its next claims try first. They are hints without a promise: only the word of a number shows
+//! whether it is open.
 ghost use Rattle.std.specs.Prelude.{◌<◌};
 ghost use Rattle.lc_board.specs.Limits.{capacity_limit};
 
@@ -16,8 +16,8 @@ impl Newest {
         Newest { start: 0, end: 0 }
     }
 
-    /// Notes a number that was posted. The first number under a claim replaces those that are left. A later one is added on top of them,
-    /// with the numbers that others have posted in between.
+    /// Notes a number that was posted. The first number under a claim replaces the numbers that are left in the list. A later number is
+    /// added on top of them, with the numbers that others have posted in between.
     pub fn note(&mut self, number: u32, is_first: bool)
         requires { number < capacity_limit }
     {

@@ -15,11 +15,11 @@ pub struct WordsPass<J, R> {
     pub(crate) worker: u32,
     pub(crate) holding: Option<u32>,
     pub(crate) posted: u32,
-    /// No word below it is absent.
+    /// No word below the front is absent.
     pub(crate) front: u32,
-    /// Each word below it has ended.
+    /// Each word below the low mark has ended.
     pub(crate) low: u32,
-    /// Each word below it has ended or is claimed.
+    /// Each word below the mark of the taken numbers has ended or is claimed.
     pub(crate) taken: u32,
     /// What its claims try first.
     pub(crate) newest: Newest,

@@ -39,7 +39,7 @@ pub enum Told {
     NoClaim,
     /// There was no memory to post this job with.
     NoPost(u32),
-    /// No such worker, or one that has claimed something where it should not, or the other way round.
+    /// There is no such worker, or it has a claim where the call needs none, or it has none where the call needs one.
     OutOfTurn,
 }
 
@@ -93,7 +93,7 @@ pub fn has_rows<R: Abort>(
     Ok(())
 }
 
-/// A board was closed so, if there was memory for its rows.
+/// Checks that closing a board ended like this, if there was memory for its rows.
 pub fn ends_so<R: Abort>(
     rt: &R,
     closed: Result<Closed<u32>, CloseFault>,
@@ -213,7 +213,7 @@ pub const SCRIPTS: &[Script] = &[
 /// More numbers than 16 bits have.
 pub const MANY: u32 = 65_537;
 
-/// One worker posts more directories than there are numbers, by one. It ends only the first.
+/// Makes a script in which one worker posts a directory for each unused number and then one more, and ends only the first directory.
 pub fn filling(alloc: Global, capacity: u32) -> Result<Vec<(Call, Told)>, AllocError> {
     let mut script = Vec::new(alloc);
     script.push((Call::Claim(0), Told::Got(0, ROOT)))?;

@@ -34,7 +34,7 @@ pub fn tell<B: Shared<u32, u32>, W: Wait>(rt: &W, board: &B, pass: &mut B::Pass,
     }
 }
 
-/// Makes a call, which answers so if there is memory for it.
+/// Makes a call, and checks that it answers like this if there is memory for it.
 pub fn expect<B: Shared<u32, u32>, R: Wait + Abort>(
     rt: &R,
     board: &B,

@@ -280,8 +280,8 @@ pub(super) fn compare<R: Threads + Wait + Sync + AllocGlobal + Abort, T: Tree>(
     Ok(())
 }
 
-/// So do a run over the case's own tree, walks of it over both boards, by each of these numbers of workers, and a run however
-/// its files are read.
+/// Checks that these end as the case says: a run over the case's own tree and walks of that tree over both boards, with each of these
+/// numbers of workers, and a run however its files are read.
 pub(super) fn compare_by<R: Threads + Wait + Sync + AllocGlobal + Abort>(
     rt: &R,
     case: &Case<'_>,
@@ -303,7 +303,7 @@ pub(super) fn compare_by<R: Threads + Wait + Sync + AllocGlobal + Abort>(
 
 const MANY: &[u32] = &[1, 2, 16];
 
-/// So do they by any number of workers.
+/// Like `compare_by`, but checks several cases, with any number of workers.
 pub(super) fn compare_all<R: Threads + Wait + Sync + AllocGlobal + Abort>(
     rt: &R,
     cases: &[Case<'_>],

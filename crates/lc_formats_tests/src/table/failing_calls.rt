@@ -1,4 +1,4 @@
-//! The table of a run by one worker of which a call fails, whichever it is, and of one that meets a file whose reads fail.
+//! The table of a run with one worker in which one call fails, whichever call that is, and of a run that meets a file whose reads fail.
 
 use crate::table::asking::{Case, compare, compare_all};
 use crate::table::runs::{BUILD, FIRST_CASE, IGNORE, KEPT, LOG, RULES, SRC};

@@ -227,7 +227,8 @@ fn is_made_of(text: &[u8], (header, rows, below): Parts<'_>) -> bool {
     rest.strip_prefix(rows) == Some(below)
 }
 
-/// Whether the table of a report with these options is these parts, one after the other. Rows by directory need its files.
+/// Returns whether the table of a report with these options consists of these parts, one after the other. Rows by directory need the
+/// report's files.
 pub(super) fn has_parts(
     alloc: Global,
     report: Report,
@@ -259,7 +260,7 @@ fn listing(case: &Case) -> Case {
     }
 }
 
-/// The table of each report is its text.
+/// Checks that the table of each report is the text of its case.
 pub(super) fn compare_as_asked<R: AllocGlobal + Abort>(
     rt: &R,
     header: &[u8],
@@ -271,7 +272,7 @@ pub(super) fn compare_as_asked<R: AllocGlobal + Abort>(
     Ok(())
 }
 
-/// The table of each report is its text, with the files listed if there are some.
+/// Checks that the table of each report is the text of its case, with the files listed if there are some.
 pub(super) fn compare_all<R: AllocGlobal + Abort>(
     rt: &R,
     header: &[u8],

@@ -24,7 +24,8 @@ pub(crate) fn stands_below(path: &[u8], other: &[u8]) -> bool
     }
 }
 
-/// Returns a path seen from a directory that it is below and not the same as: `a/b/c` is `c` from `a/b`, and the empty path is below none.
+/// Returns a path relative to a directory, if the path is below the directory and not the directory itself: `a/b/c` is `c` from `a/b`, and
+/// the empty path is below no directory.
 pub(crate) fn rest_from<'p>(directory: &[u8], path: &'p [u8]) -> Option<&'p [u8]>
     ensures { option_map (λ rest. rest.now) result ≡ rest_from directory.now path.entry.now }
 {

@@ -33,8 +33,8 @@ fn is_within(patterns: &IgnoreFile, directory: &[u8]) -> bool
     matches(patterns, directory, true) || has_matched_parent(patterns, directory)
 }
 
-/// Of patterns for files, returns those of which one must match a file of a directory. There are none if a pattern matches the directory or
-/// one above it.
+/// Returns the patterns for the files of a directory: a file must match one of them. There are none if a pattern matches the directory or a
+/// directory above it.
 pub(crate) fn patterns_for<'p>(patterns: &'p IgnoreFile, directory: &[u8]) -> Option<&'p IgnoreFile>
     ensures { option_map (λ p. p.now) result ≡ patterns_for (Some patterns.entry.now) directory.now }
 {

@@ -8,7 +8,8 @@ use lc_rules::{AttrChain, AttrFile, Chain, IgnoreFile};
 use std::alloc::{AllocError, Global};
 use std::sync::Arc;
 
-/// Returns a chain of ignore files with that of `.git/info` and a directory's own. If there is neither, the chain is shared.
+/// Returns a chain of ignore files to which the file of `.git/info` and the directory's own file are added. If there is neither file, the
+/// chain is shared.
 pub(crate) fn ignore_below(
     alloc: Global,
     chain: &Arc<Chain, Global>,
@@ -29,8 +30,8 @@ pub(crate) fn ignore_below(
     Ok(Arc::new(alloc, below.with_info(info))?)
 }
 
-/// Returns a chain of attribute files with that of `.git/info`, which overrides all others, and a directory's own. If there is neither, the
-/// chain is shared.
+/// Returns a chain of attribute files to which the file of `.git/info`, which overrides all others, and the directory's own file are added.
+/// If there is neither file, the chain is shared.
 pub(crate) fn attributes_below(
     alloc: Global,
     chain: &Arc<AttrChain, Global>,

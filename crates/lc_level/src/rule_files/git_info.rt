@@ -12,8 +12,8 @@ use crate::scratch::Scratch;
 use lc_tree::{Listing, Tree};
 
 impl<T: Tree> LevelReader<'_, T> {
-    /// Reads `exclude` and `attributes` in `.git/info` of the top, which has this listing. What is of another kind is absent.
-    /// The scratch paths are then those of another directory. `exclude` is not read if no ignore file is.
+    /// Reads `exclude` and `attributes` in `.git/info` of the top, which has this listing. What is of another kind counts as absent. The
+    /// scratch paths are then those of another directory. `exclude` is not read if no ignore file is read.
     pub(crate) fn read_git_info(
         &self,
         no_ignore: bool,

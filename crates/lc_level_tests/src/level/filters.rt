@@ -1,4 +1,4 @@
-//! What the command line's patterns, unread ignore files, values of attributes and included files leave of a directory.
+//! What stays of a directory by the command line's patterns, unread ignore files, values of attributes and included files.
 
 use crate::level::work::{Case, Part, check, check_parts};
 use std::test::Fail;

@@ -21,7 +21,7 @@ fn verdict_word(verdict: Verdict) -> &'static str
 pub(crate) enum Finding<'a> {
     /// No entry of a tree can have this path.
     Bad,
-    /// A directory above it is ignored: the highest such one by this rule.
+    /// A directory above the path is ignored. This rule ignores the highest such directory.
     Below(&'a Rule),
     /// The rule that decides it, if any does.
     Decided(Option<&'a Rule>),

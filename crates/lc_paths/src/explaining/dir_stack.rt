@@ -65,7 +65,7 @@ impl DirStack {
         Ok(DirStack { directories })
     }
 
-    /// Makes the stack of a directory in the last one.
+    /// Makes the stack of a directory that is in the last directory of this stack.
     pub(crate) fn with(&self, alloc: Global, directory: OpenDir) -> Result<DirStack, AllocError>
         ensures { IfOk result (λ stack. stack ≡ self.now ++ directory ∷ []) }
     {
@@ -110,7 +110,7 @@ impl DirStack {
         last.rest_of(path)
     }
 
-    /// Returns the bytes of the rules of this source, or none if there are no such rules.
+    /// Returns the text of the rules of this source, or no bytes if there are no such rules.
     pub(crate) fn text<'w>(&'w self, filters: &'w Filters<'_>, source: RuleSource) -> &'w [u8]
         ensures { result.now ≡ text_in filters.entry.now self.now source }
     {

@@ -89,7 +89,8 @@ impl<'a> Found<'a> {
 }
 
 impl<'a> Finding<'a> {
-    /// Makes the finding of a path that is skipped, or is below a directory that is: where a rule is the reason, it decides so.
+    /// Makes the finding for a path that is skipped, or that is below a skipped directory. If the reason is a rule, that rule makes this
+    /// decision.
     pub(crate) fn skipped(reason: Reason, decision: Decision) -> Finding<'a>
         ensures { (cite : RuleSource → ℕ → CitedRule) → explanation_of cite result
             ≡ said_for cite (decided decision) (reason_model reason) }

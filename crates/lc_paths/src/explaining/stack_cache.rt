@@ -106,7 +106,7 @@ impl StackCache {
         }
     }
 
-    /// Returns the bytes of the rules of this source for a stack, or none if there are no such rules.
+    /// Returns, for a stack, the text of the rules of this source, or no bytes if there are no such rules.
     pub(crate) fn text<'w>(
         &'w self,
         filters: &'w Filters<'_>,
@@ -124,7 +124,7 @@ impl StackCache {
         }
     }
 
-    /// Makes the stack of a directory that was opened in the last directory of another stack, or of the top.
+    /// Makes the stack of a directory that was opened in the last directory of another stack, or the stack of the top.
     pub(crate) fn below(
         &self,
         above: Option<usize>,

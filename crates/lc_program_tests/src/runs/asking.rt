@@ -149,7 +149,7 @@ fn compare_by<R: Threads + Wait + Sync + AllocGlobal + Abort>(
     Ok(())
 }
 
-/// So do they with one thread and with several.
+/// Like `compare_all`, but runs each case with one thread and with several.
 pub(super) fn compare_by_threads<R: Threads + Wait + Sync + AllocGlobal + Abort>(
     rt: &R,
     cases: &[Case<'_>],

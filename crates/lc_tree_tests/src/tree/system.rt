@@ -10,7 +10,7 @@ use std::sync::atomic::{AtomicU64, Ordering};
 /// The answers of the reads of a directory, in turn: names, or a failure.
 pub(super) type Reads = &'static [Option<&'static [u8]>];
 
-/// Interrupts all calls but each so many-th.
+/// Interrupts all calls except every `period`-th call.
 #[derive(Drop)]
 pub(super) struct Signals {
     pub calls: AtomicU64,

@@ -147,7 +147,8 @@ impl Drawn {
             && report.faults.is_empty()
     }
 
-    /// What a walk by so many workers finds, with room for just its directories: what is known of the tree, and no fault.
+    /// Walks the tree with this many workers and with room for just its directories. Checks that the walk finds what is known of the tree,
+    /// and no error.
     pub(super) fn walk<R: Threads + Wait + Sync + Abort>(
         &self,
         rt: &R,

@@ -1,4 +1,4 @@
-//! Trees one call of which fails: what that call was for is at fault, and all else is found.
+//! Trees of which one call fails: what that call was for has an error, and all else is found.
 ghost use Rattle.std.specs.Prelude.{◌<◌, IfOk, IfSome};
 
 use crate::walk::walked::{Board, ONLY_FILES, report_of, walk_options};

@@ -28,8 +28,8 @@ pub(super) const ONLY_FILES: ReportLists = ReportLists {
 /// A name, the sketch of a tree, what is asked as on a command line, and what a walk finds, or why it finds nothing.
 pub(super) type Case<'a> = (&'a str, &'a str, &'a str, &'a str);
 
-/// What a walk finds by what is asked. It may end with how often the tree is asked: a listing is one call; a file is opened, read, and
-/// read to its end.
+/// A name, arguments, and what a walk finds with these. It may end with the number of calls on the tree: a listing is one call; a file is
+/// opened, read, and read to its end.
 pub(super) type Part<'a> = (&'a str, &'a str, &'a str);
 
 /// A walk by so many workers, with these lists and by these filters.

@@ -39,14 +39,14 @@ impl<J, R> LockedPass<J, R> {
         self.notes.reserve(2)
     }
 
-    /// A claim was answered Memory.
+    /// Notes that a claim was answered Memory.
     pub(crate) fn refuse(&mut self)
         ensures { told self.new ≡ refusing (told self.old) }
     {
         self.refused = true;
     }
 
-    /// A post was answered Full.
+    /// Notes that a post was answered Full.
     pub(crate) fn fill(&mut self)
         ensures { told self.new ≡ filled (told self.old) }
     {
