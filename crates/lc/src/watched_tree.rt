@@ -8,7 +8,7 @@ use std::marker::Model;
 use std::rt::Files;
 use std::time::Clock;
 
-/// A directory of the host as a tree. It returns what the tree itself returns.
+/// A directory of the host as a tree. It returns what its field `tree` returns.
 #[derive(Drop)]
 pub(crate) struct WatchedTree<'a, R> {
     pub(crate) tree: SysTree<'a, R>,

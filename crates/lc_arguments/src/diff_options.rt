@@ -3,7 +3,7 @@
 use crate::option_row::{Completes, DIFF, FLAG, Kind, OptionRow};
 use crate::options_table::WHAT_IS_PRINTED;
 
-/// Rows in which nothing changed.
+/// The option `--all`: rows in which nothing changed.
 pub(crate) const ALL: OptionRow = OptionRow {
     name: "all",
     of: DIFF,
@@ -12,7 +12,7 @@ pub(crate) const ALL: OptionRow = OptionRow {
     ..FLAG
 };
 
-/// The list of files.
+/// The option `--files`: the list of files.
 pub(crate) const FILES: OptionRow = OptionRow {
     name: "files",
     of: DIFF,
@@ -21,7 +21,7 @@ pub(crate) const FILES: OptionRow = OptionRow {
     ..FLAG
 };
 
-/// The format, which is no picture.
+/// The option `--format`: the format, which is no picture.
 pub(crate) const FORMAT: OptionRow = OptionRow {
     name: "format",
     value: "FORMAT",
@@ -40,7 +40,7 @@ pub(crate) const FORMAT: OptionRow = OptionRow {
     ..FLAG
 };
 
-/// The columns of the rows.
+/// The option `--by`: the columns of the rows.
 pub(crate) const BY: OptionRow = OptionRow {
     name: "by",
     value: "COLUMNS",
@@ -53,7 +53,7 @@ pub(crate) const BY: OptionRow = OptionRow {
     ..FLAG
 };
 
-/// The order of rows and files.
+/// The option `--sort`: the order of rows and files.
 pub(crate) const SORT: OptionRow = OptionRow {
     name: "sort",
     value: "COLUMN",
@@ -72,7 +72,7 @@ pub(crate) const SORT: OptionRow = OptionRow {
     ..FLAG
 };
 
-/// A difference is a failure.
+/// The option `--fail-if-any`: a difference is a failure.
 pub(crate) const FAIL_IF_ANY: OptionRow = OptionRow {
     name: "fail-if-any",
     of: DIFF,
@@ -81,7 +81,7 @@ pub(crate) const FAIL_IF_ANY: OptionRow = OptionRow {
     ..FLAG
 };
 
-/// The old side.
+/// The argument `OLD`: the old side.
 pub(crate) const OLD: OptionRow = OptionRow {
     name: "OLD",
     kind: Kind::Word,
@@ -90,7 +90,7 @@ pub(crate) const OLD: OptionRow = OptionRow {
     ..FLAG
 };
 
-/// The new side.
+/// The argument `NEW`: the new side.
 pub(crate) const NEW: OptionRow = OptionRow {
     name: "NEW",
     kind: Kind::Word,

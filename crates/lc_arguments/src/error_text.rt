@@ -60,7 +60,7 @@ fn push_possible(text: &mut String, completes: Completes) -> Result<(), AllocErr
     text.push_str("]")
 }
 
-/// Makes the text of the refusal of a value of an option. `option` is the option's name without its hyphens.
+/// Makes the text that refuses a value of an option. `option` is the option's name without its hyphens.
 ///
 /// ```
 /// let text = value_refused(rt.alloc(), "by", "x", ": no column")?;
@@ -102,7 +102,7 @@ fn number_refusal(
     Ok(Some(text))
 }
 
-/// Makes the text of the refusal of a number. `text` is clap's text.
+/// Makes the text that refuses a number. `text` is clap's text.
 ///
 /// ```
 /// let text = "error: invalid value 'x' for '--threads <N>': invalid digit found in string\n";

@@ -165,7 +165,7 @@ pub struct OptionRow {
     pub default: Option<&'static str>,
     /// The commands that have the argument.
     pub of: Commands,
-    /// The heading above it in help. An argument without a hyphen has none.
+    /// The heading above the argument in help. An argument without a hyphen has none.
     pub heading: &'static str,
     /// The line of `-h`.
     pub help: &'static str,

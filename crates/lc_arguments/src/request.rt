@@ -117,7 +117,7 @@ pub(crate) fn explained(alloc: Global, error: &Error, usage: &str, advice: &Advi
     }
 }
 
-/// Makes the refusal of the value of an option. `option` is the option's name without its hyphens.
+/// Makes the refusal of an option's value. `option` is the option's name without its hyphens.
 pub(crate) fn refused(alloc: Global, option: &str, value: &str, why: &str) -> ParseExit
     ensures { IsRefusal result }
 {
@@ -243,7 +243,7 @@ fn naming_text<W: AsStr>(alloc: Global, words: &[W], text: String) -> Result<Str
 impl<'w> Request<'w> {
     /// Reads the arguments after the program's name.
     ///
-    /// A refusal quotes them as a terminal shows them ([`push_visible`](lc_text::push_visible)).
+    /// A refusal quotes the arguments as a terminal shows them ([`push_visible`](lc_text::push_visible)).
     pub fn read<W: AsStr>(alloc: Global, words: &'w [W]) -> Result<Request<'w>, ParseExit>
         ensures answers { AnswersWords (map W.text words.entry.now) result }
         ensures visible { IfErr result IsRefusedVisibly }

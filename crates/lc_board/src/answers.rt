@@ -7,9 +7,9 @@ ghost use Rattle.lc_board.specs.Ending.{row_in};
 pub enum Claim<J> {
     /// The number that was claimed, with its job.
     Got(u32, J),
-    /// Nothing that this worker has seen posted is open, but another worker may still post: claim again.
+    /// No number that this worker has seen posted is open, but another worker may still post one: claim again.
     Later,
-    /// No number is open or claimed, so nothing will be.
+    /// No number is open or claimed, so none will be.
     Over,
     /// There was no memory to claim with: nothing changed.
     Memory,
@@ -20,7 +20,7 @@ pub enum Claim<J> {
 pub enum PostFault<J> {
     /// All numbers of the board are used.
     Full(J),
-    /// There was no memory for one more: nothing changed.
+    /// There was no memory for one more number. Nothing changed.
     Memory(J),
 }
 

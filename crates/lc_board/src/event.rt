@@ -3,7 +3,7 @@
 /// One event of a board, with the job or the row that it moves.
 #[derive(PartialEq, Eq, Debug, Drop)]
 pub enum Event<J, R> {
-    /// The worker, which has claimed the parent, made the number open with this job.
+    /// The worker, which has claimed the parent, opened the number with this job.
     Post {
         worker: u32,
         parent: u32,

@@ -176,7 +176,7 @@ impl<J: Drop, R: Drop> Plain<J, R> {
         self.held.len() as u32
     }
 
-    /// All numbers are used.
+    /// Returns whether all numbers are used.
     pub(crate) fn is_full(&self) -> bool
         ensures { MatchBool result (IsFull self.now) (¬ IsFull self.now) }
     {

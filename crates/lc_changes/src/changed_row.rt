@@ -16,7 +16,7 @@ use std::marker::Model;
 pub struct ChangedRow<'a> {
     /// The row of the new report.
     pub new_row: ShownRow<'a>,
-    /// The sums over the same files of the old report.
+    /// The sums of the old report over the files with the same values.
     pub old_sums: Sums,
 }
 

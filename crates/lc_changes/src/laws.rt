@@ -19,7 +19,7 @@ pub fn old_numbers_and_changes_add_up_to_new_ones()
     ensures { DifferencesLaw }
 {}
 
-/// The law that the rows and the files of a comparison are determined by both reports, if no path is twice in one of them.
+/// The law that the rows and the files of a comparison are determined by both reports, if neither report has a path twice.
 pub fn reports_are_compared_in_one_way()
     ensures { OneComparisonLaw }
 {}

@@ -11,7 +11,7 @@ use crate::markdown_escape::push_markdown;
 use lc_sheet::{Column, Form, Lines, Side, Value};
 use std::alloc::AllocError;
 
-/// How the values of a line are set.
+/// The weight in which the values of a line are printed.
 #[derive(Clone, Copy)]
 pub(crate) enum Weight {
     Plain,

@@ -9,7 +9,7 @@ use crate::token::Token;
 #[derive(Clone, Copy)]
 pub(crate) struct ByteSet<'p> {
     pub(crate) negated: bool,
-    /// The tokens after the bracket's, of which the ranges are those that come first.
+    /// The tokens after the bracket's own. The ranges at their beginning are those of the bracket.
     pub(crate) tokens: &'p [Token],
 }
 

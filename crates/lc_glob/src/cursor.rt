@@ -16,7 +16,7 @@ pub(crate) struct Cursor<'p, 'n, E> {
 pub(crate) enum EndStep<'p, 'n, E> {
     /// It is a star.
     Star,
-    /// The token matches the last byte, and these elements are before it.
+    /// The token matches the last byte, and this cursor has what is before both.
     Taken(Cursor<'p, 'n, E>),
     /// The tokens fit the segment: no token and no byte is left, or the only token left is a star.
     Fitted,
@@ -28,7 +28,7 @@ pub(crate) enum EndStep<'p, 'n, E> {
 pub(crate) enum FrontStep<'p, 'n, E> {
     /// It is a star, and these tokens are after it.
     Star(&'p [E]),
-    /// The token matches the first byte, and these elements are after it.
+    /// The token matches the first byte, and this cursor has what is after both.
     Taken(Cursor<'p, 'n, E>),
     /// The tokens fit the segment from here: no token and no byte is left, or the only token left is a star.
     Fitted,

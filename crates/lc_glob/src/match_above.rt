@@ -67,7 +67,7 @@ fn flag_first(flags: &mut [bool])
     }
 }
 
-/// Keeps the flags of the names that the tokens fit, each of which is compared at most once.
+/// Keeps only the flags of the names that the tokens fit. Each name is compared at most once.
 pub(crate) fn keep(flags: &mut [bool], names: PathNames, tokens: TokensRef, tests: &mut ByteTests)
     requires { length names.names.now ≡ length flags.old }
     ensures len { length flags.new ≡ length flags.old }

@@ -104,7 +104,7 @@ impl<'p> SegmentRef<'p> {
 pub(crate) enum SegmentsRef<'p> {
     /// Segments of a simple pattern.
     Bytes(SegmentsLeft<'p, u8>),
-    /// Segments of a simple pattern, each a double star, or literals, alone or after a star.
+    /// Segments of a simple pattern. Each is a double star, or literals, either alone or after a star.
     Ends(SegmentsLeft<'p, u8>),
     /// Segments of a simple pattern, each of literals alone.
     Exact(SegmentsLeft<'p, u8>),

@@ -9,7 +9,7 @@ use crate::byte_set::ByteSet;
 /// One token of a pattern that isn't simple, as it is kept, in three bytes.
 #[derive(Clone, Copy)]
 pub(crate) enum Token {
-    /// That byte.
+    /// This byte.
     Literal(u8),
     /// `?`: one byte, but no slash.
     AnyByte,

@@ -17,7 +17,7 @@ pub fn a_slice_gives_its_bytes()
         → GivesBytes ⟦<&'static [u8] as Source>⟧.may_give AnyRoom old bytes at_failure new → ⊥ }
 {}
 
-/// The law that a text that was written to a vector is at its end, whether it was written in one piece or in several.
+/// The law that a text that was written to a vector is at the vector's end, whether it was written in one piece or in several.
 pub fn a_vector_takes_the_text()
     ensures whole { (old new : Vec ℕ Global) (text : List ℕ) → Writes AppendsAll old text new → new.items ≡ old.items ++ text }
     ensures in_pieces { (old new : Vec ℕ Global) (text : List ℕ) → WritesInPieces AppendsAll old text new

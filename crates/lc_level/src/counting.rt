@@ -57,7 +57,7 @@ impl CountedFiles {
 }
 
 impl<T: Tree> LevelReader<'_, T> {
-    /// Counts the file of a name, which moves to the counted files or to the faults.
+    /// Counts the file with a name. The name moves to the counted files or to the errors.
     pub(crate) fn count_named(
         &self,
         job: &Job,

@@ -34,8 +34,8 @@ pub struct Filters<'p> {
     pub exclude_from: Option<RuleText>,
     /// The patterns of the command line, one a line, which override the rules of all files (gitignore(5)).
     pub exclude: Option<RuleText>,
-    /// The patterns for files, one a line and none negated; if there are none, all files stay. A file stays only if a pattern matches it,
-    /// or a directory above it below the top. Directories are visited, whether or not a pattern matches them.
+    /// The patterns for files, one a line and none negated; if there are none, all files stay. A file stays only if a pattern matches the
+    /// file, or a directory that is above it and below the top. Directories are visited, whether or not a pattern matches them.
     pub include: Option<RuleText>,
     /// Whether no ignore file of the tree is read: no `.gitignore`, and no `.git/info/exclude`.
     pub no_ignore: bool,

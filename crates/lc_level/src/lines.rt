@@ -68,7 +68,7 @@ impl Line for FileLine {
 /// A file or a directory that was not counted, and why.
 #[derive(Debug, Drop)]
 pub struct FaultLine {
-    /// The names down to the file or directory, joined by slashes. It is empty if the path is relative to that directory itself.
+    /// The names down to the file or directory, joined by slashes. It is empty for the directory that the path is relative to.
     pub path: Vec<u8>,
     /// Why the file or directory was not counted.
     pub word: FaultWord,

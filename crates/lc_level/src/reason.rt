@@ -19,7 +19,7 @@ pub enum Reason {
     Attribute(Vec<u8>),
     /// It is a file, and no pattern of the filters includes it.
     NotIncluded,
-    /// It is of another kind than the files that are read and the directories that are entered.
+    /// It is neither a file that is read nor a directory that is entered.
     OtherKind(OtherKind),
 }
 
@@ -64,7 +64,7 @@ impl Reason {
         }
     }
 
-    /// Returns the word of the filters, such as `ATTR` or `ATTR=VALUE`, if an attribute is the reason.
+    /// Returns the word that names the attribute, `ATTR` or `ATTR=VALUE`, if an attribute is the reason.
     pub fn attribute(&self) -> Option<&[u8]>
         ensures { option_map (λ word. word.now) result ≡ attribute_of (reason_model self.entry.now) }
     {

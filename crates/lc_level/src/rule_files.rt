@@ -20,7 +20,7 @@ use lc_tree::{Listing, Tree};
 use std::alloc::{AllocError, Global};
 use std::sync::Arc;
 
-/// An ignore file, and its bytes where texts are kept, if it is there.
+/// An ignore file, if it exists, and its bytes if texts are kept.
 #[derive(Drop)]
 pub(crate) struct IgnoreRead {
     pub(crate) file: Option<Arc<IgnoreFile, Global>>,

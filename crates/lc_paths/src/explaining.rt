@@ -77,7 +77,7 @@ pub fn explain<T: Tree, S: Source, O: Sink>(
     Ok(outcome)
 }
 
-/// Like [`explain`], but for these paths in place of an input's.
+/// Like [`explain`], but for these paths instead of the paths of an input.
 ///
 /// After an error a prefix of the text was written.
 pub fn explain_words<T: Tree, O: Sink>(

@@ -2,7 +2,7 @@
 
 use std::alloc::{AllocError, Global};
 
-/// So many lines: three blocks, and what is left.
+/// The number of lines: they make three blocks and a rest.
 pub(crate) const LINES: usize = 200;
 
 /// A pattern of 1,003 bytes that matches `a`.
@@ -15,7 +15,7 @@ pub(crate) fn long_pattern(alloc: Global) -> Result<Vec<u8>, AllocError> {
     Ok(pattern)
 }
 
-/// This line so often.
+/// Returns this line, repeated `LINES` times.
 pub(crate) fn repeated(alloc: Global, line: &[u8]) -> Result<Vec<u8>, AllocError> {
     let mut text = Vec::new(alloc);
     for _ in 0..LINES {
@@ -24,7 +24,7 @@ pub(crate) fn repeated(alloc: Global, line: &[u8]) -> Result<Vec<u8>, AllocError
     Ok(text)
 }
 
-/// The text of so many paths `a`, which the pattern in the first line of this file ignores.
+/// Returns the text of `LINES` paths `a`, which the pattern in the first line of this file ignores.
 pub(crate) fn expected(alloc: Global, file: &[u8]) -> Result<Vec<u8>, AllocError> {
     let mut line = b"ignored\t".to_vec(alloc)?;
     line.extend_from_slice(file)?;

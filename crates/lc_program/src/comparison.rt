@@ -1,8 +1,8 @@
-//! What is left of a comparison that was printed.
+//! What remains of a comparison after it was printed.
 
 use lc_walk::Report;
 
-/// Two reports whose changes were printed: what meets the conditions of each.
+/// Two reports whose changes were printed. Each has only what meets the conditions.
 #[derive(Drop)]
 pub(crate) struct Comparison {
     /// The old report.

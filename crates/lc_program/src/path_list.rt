@@ -144,8 +144,8 @@ fn has_top(paths: &[&[u8]]) -> bool
     paths.iter().any(|path| is_top(path))
 }
 
-/// Returns the paths to count: the paths of the command line and of its list. If one of them is the directory itself, there are none, since
-/// all of it is counted.
+/// Returns the paths to count: the paths of the command line and of its list. If one of them is the directory itself, it returns no paths,
+/// since all of the directory is counted.
 pub(crate) fn wanted_paths<'w: 'l, 'l>(
     alloc: Global,
     only: &[&'w [u8]],

@@ -17,7 +17,7 @@ use lc_sums::SumFault;
 use lc_text::push_visible;
 use std::alloc::{AllocError, Global};
 
-/// Returns what errors call a report.
+/// Returns the name that errors use for a report.
 pub(crate) fn origin_of(report: &str) -> &str
     ensures { result.now ≡ origin_of report.now }
 {

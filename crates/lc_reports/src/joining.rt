@@ -27,8 +27,8 @@ fn unite_skipped(skipped: &mut Vec<SkippedLine>)
 /// Joins reports. It adds up their rows and their numbers. The joined report has the lists that each of them has. An error or a skipped
 /// entry appears once if several reports have it with the same fields.
 ///
-/// The time is that of a sort of all lines. It allocates memory for the lists, but not for paths. Before it does, it finds out whether a
-/// sum is too large.
+/// The time is that of a sort of all lines. It allocates memory for the lists, but not for paths. Before that, it finds out whether a sum
+/// is too large.
 ///
 /// ```
 /// let both = joined(alloc, reports)?;

@@ -18,14 +18,14 @@ pub fn reports_are_joined_in_one_way()
     ensures { JoinOnceLaw }
 {}
 
-/// The law that the totals of a joined report are the sums over its rows, and over its files if it lists them, if this is true of each of
-/// its reports.
+/// The law that the totals of a joined report are the sums over its rows, and over its files if it lists them, if this is true of each
+/// report that was joined.
 pub fn totals_of_a_joined_report_add_up()
     ensures { JoinTotalsLaw }
 {}
 
-/// The law that the totals of a report below a name are the sums over its rows, and over its files if it lists them. This must be true of
-/// the report itself, and each file must be below the top.
+/// The law that a report adds up also with a name in front of its paths: its totals are the sums over its rows, and over its files if it
+/// lists them. The report without the name must add up, and each of its files must be below the top.
 pub fn names_change_no_number()
     ensures { NameTotalsLaw }
 {}

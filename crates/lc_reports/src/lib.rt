@@ -1,6 +1,6 @@
-//! Reports of several trees, or of parts of one: a report below a name, and the sum of reports.
+//! Reports of several trees, or of parts of one: a report with a name in front of its paths, and the sum of reports.
 //!
-//! - `naming`: a report below a name
+//! - `naming`: a name in front of the paths of a report
 //! - `joining`: joining several reports, with `gathered`: their numbers and lines together, and `line_order`: the order of lines that may
 //!   have one path
 //! - `join_fault`: why several reports can't be joined

@@ -1,4 +1,4 @@
-//! Moving a report below a name.
+//! Putting a name in front of the paths of a report.
 ghost use Rattle.std.specs.Prelude.{◌≡◌, ◌+◌, ℕ, List, IfOk, map};
 ghost use Rattle.lc_level.specs.Reasons.{reason_model};
 ghost use Rattle.lc_reports.specs.Named.{IsNamed, named_depth, named_fault, named_file, named_path, named_reason, named_skipped};
@@ -10,7 +10,7 @@ use lc_rules::RuleSource;
 use lc_walk::{FaultLine, FileLine, Report, SkippedLine};
 use std::alloc::{AllocError, Global};
 
-/// A line of a report, which can be moved below a name.
+/// A line of a report, whose path can get a name in front.
 trait PathLine: Sized {
     ghost named_of: { List ℕ → Self → Self };
 
@@ -54,7 +54,7 @@ impl PathLine for SkippedLine {
     }
 }
 
-/// Makes the path below a name.
+/// Makes a path with a name and a slash in front.
 fn named_path(alloc: Global, name: &[u8], path: &[u8]) -> Result<Vec<u8>, AllocError>
     ensures { IfOk result (λ named. named.items ≡ named_path name.now path.now) }
 {

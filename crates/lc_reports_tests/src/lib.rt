@@ -1,4 +1,4 @@
-//! The tests of reports below names, and of joined reports.
+//! The tests of reports with a name in front of their paths, and of joined reports.
 #![tactic(auto)]
 
 #[cfg(test)]

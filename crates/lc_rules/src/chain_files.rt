@@ -46,7 +46,7 @@ impl<F: Drop> ChainEntry<F> {
     }
 }
 
-/// Adds an owner to a file that may be there.
+/// Adds an owner to a file, if there is a file.
 pub(crate) fn share<F: Drop>(
     file: &Option<Arc<F, Global>>,
 ) -> Result<Option<Arc<F, Global>>, AllocError>

@@ -76,8 +76,8 @@ impl IgnoreFile {
         &self.patterns
     }
 
-    /// Returns whether matching one directory after another repeats work, by the pattern of some rule, as
-    /// `lc_glob::Pattern::has_nested_wildcards` says. `DirectoriesAbove` then costs less for all directories above a path.
+    /// Returns whether matching one directory after another repeats work for the pattern of some rule, as
+    /// `lc_glob::Pattern::has_nested_wildcards` says. If so, `DirectoriesAbove` costs less for all directories above a path.
     pub fn has_nested_wildcards(&self) -> bool
         ensures { result ≡ list_any has_nested_wildcards (patterns_of self.now) }
     {

@@ -98,7 +98,7 @@ pub fn text_of_line<'a>(line: &'a [u8]) -> &'a [u8]
     without_spaces(without_return(line))
 }
 
-/// Reads a line with this number as a rule and its pattern. An empty line and a comment have none.
+/// Reads a line with this number as a rule and its pattern. An empty line and a comment have no rule.
 pub(crate) fn read_rule(
     alloc: Global,
     number: u32,

@@ -17,8 +17,8 @@ pub(crate) struct Macro {
     pub(crate) assignments: Vec<u8>,
 }
 
-/// Macros in the order of their lines, and of each name the place of its last macro, so that a file of many macros is
-/// searched in the logarithm of their number.
+/// Macros in the order of their lines, and for each name the place of its last macro, so that a search takes time in the logarithm of the
+/// number of macros.
 #[derive(Drop)]
 pub(crate) struct MacroTable {
     defined: Vec<Macro>,

@@ -5,7 +5,7 @@
 #[derive(Clone, Copy, Debug, PartialEq, Eq)]
 pub enum Verdict {
     Ignored,
-    /// By a negated rule.
+    /// Included by a negated rule.
     Included,
     NoRule,
 }

@@ -17,7 +17,7 @@ pub enum Number {
     Bytes,
 }
 
-/// What two reports are compared by: a word or a number that a file has, or a row.
+/// What is compared in two reports: a word or a number of a file, or a number of a row.
 #[derive(Debug, Clone, Copy, PartialEq, Eq)]
 pub enum Compared {
     /// What the attribute `text` is for the file.

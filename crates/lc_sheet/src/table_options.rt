@@ -81,6 +81,6 @@ pub struct ReportOptions<'c> {
     pub table: TableOptions,
     /// Only the files that meet all of these are shown and summed.
     pub conditions: &'c [Condition<'c>],
-    /// What was counted, as it was named, which a picture has at its top.
+    /// What was counted, as it was named. A picture has this at its top.
     pub counted: &'c [u8],
 }

@@ -9,7 +9,7 @@ use std::marker::Model;
 pub enum OtherKind {
     /// It is neither a regular file nor a directory: a symbolic link, for instance.
     Special,
-    /// It is a directory on another file system than the top of its tree, which stays on one.
+    /// It is a directory on another file system than the top of its tree, and the tree stays on one file system.
     Mounted,
 }
 

@@ -13,7 +13,7 @@ use std::rt::Files;
 pub enum FileSystems {
     /// All.
     All,
-    /// That of the tree's top alone.
+    /// The file system of the tree's top alone.
     One,
 }
 

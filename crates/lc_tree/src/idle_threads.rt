@@ -11,7 +11,7 @@ use std::sync::atomic::{AtomicU32, Ordering};
 /// It stores two numbers, neither of them below 0:
 ///
 /// - idle: how many threads have called `begin` and not yet `end`
-/// - lent: how many idle threads `take` has returned that were not given back
+/// - lent: how many of the idle threads that `take` returned were not given back
 ///
 /// `take` returns at most idle less lent, or nothing if more are lent than idle. So two callers never get the same idle thread. A thread
 /// that finds work while it is lent only lowers that number. The count is right again once the lent threads are given back.

@@ -23,9 +23,9 @@ const NAME_ROOM: usize = 256;
 /// A directory of the system, with everything under it.
 ///
 /// Symbolic links in it, and all that is neither a regular file nor a directory, are `Kind::Other`. So are directories on other file
-/// systems, if the tree stays on that of its top. An error of the system is `ReadFault::Failed`, and a name that is not UTF-8 makes its
-/// directory `ReadFault::Unnamed`. An entry that is removed while its directory is listed is no entry. A call that a signal interrupts is
-/// tried again, up to `MAX_TRIES` times in all.
+/// systems, if the tree stays on the file system of its top. An error of the system is `ReadFault::Failed`, and a name that is not UTF-8
+/// makes its directory `ReadFault::Unnamed`. An entry that is removed while its directory is listed is no entry. A call that a signal
+/// interrupts is tried again, up to `MAX_TRIES` times in all.
 ///
 /// An entry whose path has over `MAX_PATH` bytes is `Kind::Other`, and its metadata are not read: the system would refuse the path, and a
 /// walk stops at the entry whatever it is. A shorter path that has over 4,095 bytes with the path of the top before it makes its directory

@@ -9,7 +9,7 @@ use std::snapshot::Snapshot;
 
 mod noting;
 
-/// A pass that stores the events of its worker without their jobs and rows, which only contracts remember.
+/// A pass that stores the events of its worker, but not their jobs and rows. Only contracts speak of those.
 #[derive(Drop)]
 pub struct LockedPass<J, R> {
     worker: u32,

@@ -76,7 +76,7 @@ impl<J: Drop, R: Drop> Recorded<J, R> {
         answer
     }
 
-    /// All numbers are used.
+    /// Returns whether all numbers are used.
     pub(crate) fn is_full(&self) -> bool
         ensures { MatchBool result (IsFull self.now.board) (¬ IsFull self.now.board) }
     {

@@ -29,7 +29,7 @@ impl<J, R> Words<J, R> {
         Word::of(old).is_absent()
     }
 
-    /// Fills the slot of the number, which the seat holds and which is empty.
+    /// Fills the number's slot, which is empty and which the seat holds.
     pub(crate) fn fill(
         &self,
         seat: &mut Seat<Slot<J, R>, View<J, R>>,

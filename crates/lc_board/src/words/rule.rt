@@ -30,7 +30,7 @@ impl<J, R> Play<Slot<J, R>, View<J, R>> for Look {
     ghost then = { looked };
 }
 
-/// The step that reads a word before a number is drawn.
+/// The step that reads a word on the way to a free number, and goes on.
 pub struct StepOver;
 
 impl<J, R> Play<Slot<J, R>, View<J, R>> for StepOver {

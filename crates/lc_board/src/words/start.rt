@@ -89,7 +89,7 @@ impl<J: Drop, R: Drop> Words<J, R> {
 }
 
 impl<J, R> Words<J, R> {
-    /// One more pass, of the next worker.
+    /// Makes one more pass, for the next worker.
     pub(crate) fn another(&self, pass: &mut WordsPass<J, R>, worker: u32) -> WordsPass<J, R>
         requires board { IsPassOf self.now pass.old }
         requires next { (0 < worker) × (worker < self.now.workers)

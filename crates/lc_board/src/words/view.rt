@@ -16,7 +16,7 @@ const _: () = prove!(size_of::<Slot<Box<[u64; 100]>, Box<[u64; 50]>>>() == 16);
 
 /// What a pass knows, with the newest events first. It exists in contracts alone.
 pub struct View<J, R> {
-    /// Whether no other pass has taken it in.
+    /// Whether no other pass has taken this pass in.
     pub live: bool,
     pub root: Option<J>,
     /// How many workers share the board.

@@ -1,4 +1,4 @@
-//! The scripts on a board of one thread. Who has claimed what is remembered by the board's answers.
+//! The scripts on a board of one thread. What each worker has claimed is remembered from the board's answers.
 ghost use Rattle.std.specs.Prelude.{◌≡◌, ◌≤◌};
 ghost use Rattle.lc_board.specs.Limits.{capacity_limit, workers_limit};
 

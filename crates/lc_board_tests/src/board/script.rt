@@ -69,7 +69,7 @@ pub fn says<R: Abort>(rt: &R, call: Call, answer: Told, told: Told) {
     assert!(rt; answer == told, "{call:?}");
 }
 
-/// A call answered what it is to answer, if there was memory for it.
+/// Checks that a call answered as it should, if there was memory for it.
 pub fn answers<R: Abort>(rt: &R, call: Call, answer: Told, told: Told) -> Result<(), AllocError> {
     match answer {
         Told::NoClaim => return Err(AllocError),
@@ -79,7 +79,7 @@ pub fn answers<R: Abort>(rt: &R, call: Call, answer: Told, told: Told) -> Result
     Ok(())
 }
 
-/// A board was closed with these rows, if there was memory for them.
+/// Checks that a board was closed with these rows, if there was memory for them.
 pub fn has_rows<R: Abort>(
     rt: &R,
     closed: Result<Closed<u32>, CloseFault>,

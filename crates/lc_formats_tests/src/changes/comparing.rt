@@ -1,4 +1,4 @@
-//! Comparisons as the tests write them, and their texts.
+//! Reads comparisons in the short form that the tests use, and prints them.
 
 use crate::samples::{Sample, Samples, Version};
 use lc_formats::{csv_changes, json_changes, markdown_changes, table_changes, tsv_changes};

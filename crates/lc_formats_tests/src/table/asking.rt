@@ -263,7 +263,7 @@ fn all_end_so<R: Threads + Wait + Sync + AllocGlobal>(
     )
 }
 
-/// A run by so many workers over a tree ends as the case says.
+/// Checks that a run with this many workers over a tree ends as the case says.
 pub(super) fn compare<R: Threads + Wait + Sync + AllocGlobal + Abort, T: Tree>(
     rt: &R,
     tree: &T,

@@ -1,4 +1,4 @@
-//! Runs over a tree of which one call fails, whichever it is.
+//! Runs over a tree of which one call fails, whichever call that is.
 
 ghost use Rattle.std.specs.Prelude.{◌≤◌};
 

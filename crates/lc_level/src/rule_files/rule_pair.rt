@@ -26,7 +26,7 @@ pub(crate) struct PairRead {
 }
 
 impl PairRead {
-    /// Reads no file.
+    /// Returns the pair of which no file exists.
     pub(crate) fn none() -> PairRead
         ensures { result ≡ record { files = record { rules = None; attributes = None }; text = None } }
     {

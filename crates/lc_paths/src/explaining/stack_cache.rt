@@ -173,7 +173,7 @@ impl StackCache {
 
     /// Caches a stack and returns its number. Past the limit it first drops all other stacks.
     ///
-    /// That happens again only after another `MAX_KEPT` bytes, so dropping costs less than opening what was dropped.
+    /// Stacks are dropped again only after another `MAX_KEPT` bytes, so dropping them costs less than opening what was dropped.
     pub(crate) fn keep(&mut self, stack: DirStack) -> Result<usize, AllocError>
         ensures { IfOk result (λ at. Keeps self.old stack self.new at) }
     {

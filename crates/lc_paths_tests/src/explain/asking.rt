@@ -81,7 +81,7 @@ pub(crate) fn explained_words<T: Tree>(
     }
 }
 
-/// The lines of paths give this text, and this outcome.
+/// Checks that the lines of paths give this text and this outcome.
 pub(crate) fn check<R: Abort + AllocGlobal>(
     rt: &R,
     case: &Case,

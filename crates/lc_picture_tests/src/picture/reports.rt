@@ -11,7 +11,7 @@ pub(super) type File = (&'static [u8], [u64; 3]);
 /// An extension, and the files, lines, blank lines and bytes.
 pub(super) type Row = (Option<&'static [u8]>, [u64; 4]);
 
-/// What is before the rows of the chart, the word for the number, and the boxes, and what is after these.
+/// The parts before the rows of the chart, before the word for the number and before the boxes, and the part after the boxes.
 pub(super) const BETWEEN: [&[u8]; 4] = [
     b"<h2>By extension</h2>\n<table>\n\
       <tr><th>extension</th><th>files</th><th>lines</th><th>blank</th><th>bytes</th><th>share</th><td></td></tr>\n",

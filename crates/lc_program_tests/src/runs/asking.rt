@@ -125,7 +125,7 @@ fn is_so<R: Threads + Wait + Sync + AllocGlobal>(
     ends_so(rt, &system, words, case)
 }
 
-/// Runs of these cases end as they say.
+/// Checks that the runs of these cases end as the cases say.
 pub(super) fn compare_all<R: Threads + Wait + Sync + AllocGlobal + Abort>(
     rt: &R,
     cases: &[Case<'_>],

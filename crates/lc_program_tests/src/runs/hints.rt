@@ -1,4 +1,4 @@
-//! What is told beside an answer, and what a terminal changes.
+//! What is written besides an answer, and what a terminal changes.
 
 use crate::runs::asking::{Case, EMPTY, NO_TERMINALS, compare_all};
 use lc_program::{Terminals, UnreadReason};

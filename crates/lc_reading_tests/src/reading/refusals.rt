@@ -147,7 +147,7 @@ const ENTRIES: &[Case] = &[
     ),
 ];
 
-/// Returns what is said of a text, which is empty if it is read.
+/// Returns the message about a text, which is empty if the text is read.
 pub(super) fn said_of(alloc: Global, text: &[u8]) -> Result<String, AllocError> {
     match read_reports(alloc, text) {
         Ok(_) => Ok(String::new(alloc)),

@@ -179,7 +179,7 @@ fn put_line(alloc: Global, report: &mut Report, line: &str) -> Result<(), AllocE
     Ok(())
 }
 
-/// The report of these lines. What no line names is 0, and each list is there:
+/// Returns the report of these lines. A number that no line names is 0, and each list is present:
 ///
 /// | Line | What the report has |
 /// |---|---|

@@ -1,4 +1,4 @@
-//! Lines of which it is known that no rule of them matches a path.
+//! Lines that are known to give no rule that matches a path.
 
 use lc_rules::can_match;
 use std::process::Abort;

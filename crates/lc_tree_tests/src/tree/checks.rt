@@ -27,7 +27,7 @@ pub(super) fn are_entries(listing: &Listing, wanted: Entries) -> bool {
     true
 }
 
-/// The directory at each path is listed so.
+/// Checks that the directory at each path is listed like this.
 pub(super) fn check_listings<T: Tree>(
     rt: &impl Abort,
     alloc: Global,
@@ -61,7 +61,7 @@ fn is_given<F: Source + Drop>(
     }
 }
 
-/// The file at each path gives these bytes.
+/// Checks that the file at each path gives these bytes.
 pub(super) fn check_files<T: Tree>(
     rt: &impl Abort,
     alloc: Global,

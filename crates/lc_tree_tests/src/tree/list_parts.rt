@@ -1,4 +1,4 @@
-//! Large directories are listed in parts as they are by one thread.
+//! Large directories, whose listing in parts is the same as the listing by one thread.
 
 use crate::tree::system::{Reads, Signals, System};
 use lc_tests::Sketch;

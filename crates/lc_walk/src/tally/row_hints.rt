@@ -27,7 +27,7 @@ impl RowHints {
     }
 }
 
-/// Returns the slot of a key: the upper bits of a product that spreads its parts.
+/// Returns the slot of a key, as a hash: it multiplies the parts of the key by a constant, and takes the upper bits.
 pub(crate) fn slot_of(key: &KeyRef<'_>) -> usize
     ensures { result < 512 }
 {

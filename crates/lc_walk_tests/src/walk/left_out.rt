@@ -1,4 +1,4 @@
-//! What attributes, and rules and kinds, leave out of a walk, and for which reason.
+//! What a walk skips by attributes, rules and kinds, and for which reason.
 
 use crate::walk::walked::{Part, check_parts};
 use std::test::Fail;

@@ -87,7 +87,7 @@ const RUNS: &[(Board, u32)] = &[
     (Board::Locked, 16),
 ];
 
-/// The report of a walk that nothing can stop but a refusal of memory.
+/// Returns the report of a walk that nothing but a failed allocation can stop.
 pub(super) fn report_of(
     rt: &impl Abort,
     answer: Result<Report, WalkFault>,
@@ -161,7 +161,7 @@ fn check_run<R: Threads + Wait + Sync + Abort>(
     check_answer(rt, alloc, wanted, &answer, call.begun())
 }
 
-/// The walk of this tree finds what is wanted, over each board and by each number of workers.
+/// Checks that the walk of this tree finds what is expected, over each board and with each number of workers.
 pub(super) fn check_node<R: Threads + Wait + Sync + Abort>(
     rt: &R,
     alloc: Global,

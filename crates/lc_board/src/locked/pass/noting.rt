@@ -10,7 +10,7 @@ use std::alloc::{AllocError, Global};
 use std::snapshot::Snapshot;
 
 impl<J, R> LockedPass<J, R> {
-    /// A pass that has done nothing.
+    /// Makes a pass that has done nothing.
     pub(crate) fn new(alloc: Global, worker: u32) -> LockedPass<J, R>
         ensures { told result ≡ new_pass worker }
     {
