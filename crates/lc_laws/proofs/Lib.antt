@@ -20,3 +20,5 @@ pub mod SheetRecords
 pub mod SharesPrinted
 pub mod GivenRules
 pub mod IncludedOnes
+pub mod OneOrder
+pub mod OneTally
