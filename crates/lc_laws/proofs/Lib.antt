@@ -22,3 +22,6 @@ pub mod GivenRules
 pub mod IncludedOnes
 pub mod OneOrder
 pub mod OneTally
+pub mod WordsApart
+pub mod LexedApart
+pub mod TokensApart
