@@ -9,3 +9,4 @@ pub mod SheetReadable
 pub mod PrintedShares
 pub mod NoIgnore
 pub mod IncludedEntries
+pub mod ReadBack

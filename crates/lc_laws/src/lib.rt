@@ -4,10 +4,12 @@
 //!   with or without a slash at the end of a directory's path; the report of a count without the ignore files of a tree, and the report of
 //!   a count of included files
 //! - `printed_laws`: the sheet of a report has what the laws of its texts require, and no printed share is over 100.0 per cent
+//! - `reading_laws`: a report printed as JSON and read is that report
 #![tactic(auto)]
 
 mod laws;
 mod printed_laws;
+mod reading_laws;
 
 pub use laws::{
     counts_are_as_checked, counts_are_as_explained,
@@ -19,3 +21,4 @@ pub use printed_laws::{
     printed_shares_are_at_most_the_whole, sheets_of_reports_are_readable,
     sheets_of_reports_have_records,
 };
+pub use reading_laws::reports_read_back;

@@ -1,0 +1,78 @@
+-- Reports of walks that were printed as JSON with all their files, and what meets conditions of them, as they are read.
+use Rattle.std.proofs.Common.{◌≡◌, ◌∙◌, ℕ, true, List, [], ◌∷◌, Option, Some, None, sym, ap, subst, IsPermutation}
+use Rattle.std.proofs.lemmas.Cmp.{nat_list_cmp_total}
+use Rattle.std.specs.List.{All}
+use Rattle.std.proofs.lemmas.List.Elements.{All-head}
+use Rattle.std.proofs.lemmas.List.Sorted.{IsPermutation-refl}
+use Rattle.json.specs.Json.{Json, document}
+use Rattle.lc_formats.specs.JsonSheets.{json_of}
+use Rattle.lc_formats.specs.JsonText.{Member, members_with, object_with}
+use Rattle.lc_level.specs.Level.{FileLineModel}
+use Rattle.lc_reading.specs.declared.read_report.ReadReport.{ReadReport}
+use Rattle.lc_rows.proofs.WalkedSheets.{walked_adds_up}
+use Rattle.lc_rows.specs.Classes.{classes_of}
+use Rattle.lc_rows.specs.Kept.{IsKept, file_meets}
+use Rattle.lc_rows.specs.ShownFiles.{AreFilesSorted}
+use Rattle.lc_sheet.specs.Conditions.{ConditionModel}
+use Rattle.lc_sheet.specs.declared.column.Number.{Number}
+use Rattle.lc_tree.specs.ByteOrder.{AreInOrder, bytes_cmp}
+use Rattle.lc_tree.specs.Trees.{Listings, Contents}
+use Rattle.lc_walk.proofs.ReportTotals.{walked_lists}
+use Rattle.lc_walk.specs.ReportLines.{fault_paths, file_paths, skipped_paths}
+use Rattle.lc_walk.specs.ReportTotals.{TotalsAddUp}
+use Rattle.lc_walk.specs.declared.options.ReportLists.{ReportLists}
+use Rattle.lc_walk.specs.declared.report.Report.{Report}
+use Rattle.lc_laws.proofs.OneOrder.{filtered_risen}
+use Rattle.lc_laws.proofs.OneReportRead.{OneReport, one_report}
+use Rattle.lc_laws.proofs.PrintedReport.{printed_parts, report_members, sheet_printed}
+use Rattle.lc_laws.proofs.ReportReadBack.{printed_members}
+use Rattle.lc_laws.proofs.WholeReadBack.{IsWholeReport, report_read_back}
+use Rattle.lc_laws.specs.ReadBack.{FitsTypes, ReadBackLaw}
+
+-- the files are all of the report's, in some order
+files_moved : (sort : Option Number) (fs sorted : List FileLineModel) → AreFilesSorted sort fs sorted → IsPermutation fs sorted
+files_moved None fs sorted e = subst (IsPermutation fs) (sym e) (IsPermutation-refl fs)
+files_moved (Some n) fs sorted h = h.0
+
+-- what meets conditions of a report that is whole is whole
+kept_whole : (cs : List ConditionModel) (whole r : Report) → IsKept cs whole r → TotalsAddUp r → whole.lists.files ≡ true
+    → AreInOrder (file_paths whole.files.items) → AreInOrder (fault_paths whole.faults.items)
+    → AreInOrder (skipped_paths whole.skipped.items) → IsWholeReport r
+kept_whole [] whole r is adds_up listed files faults skipped = record {
+  adds_up = adds_up;
+  lists_files = ap (λ (x : Report). x.lists.files) is ∙ listed;
+  files = subst (λ (x : Report). AreInOrder (file_paths x.files.items)) (sym is) files;
+  faults = subst (λ (x : Report). AreInOrder (fault_paths x.faults.items)) (sym is) faults;
+  skipped = subst (λ (x : Report). AreInOrder (skipped_paths x.skipped.items)) (sym is) skipped;
+}
+kept_whole (c ∷ cs) whole r is adds_up listed files faults skipped = record {
+  adds_up = adds_up;
+  lists_files = ap (λ (l : ReportLists). l.files) is.lists ∙ listed;
+  files = subst (λ fs. AreInOrder (file_paths fs)) (sym is.files)
+      (filtered_risen (λ (f : FileLineModel). f.path) bytes_cmp nat_list_cmp_total (file_meets (c ∷ cs)) whole.files.items files);
+  faults = subst (λ v. AreInOrder (fault_paths v.items)) (sym is.faults) faults;
+  skipped = subst (λ v. AreInOrder (skipped_paths v.items)) (sym is.skipped) skipped;
+}
+
+pub read_back_law : (lists : List ℕ → Listings) (gives : List ℕ → Contents) → ReadBackLaw lists gives
+read_back_law lists gives o options r s text reports w listed json sheet (line, text_is, line_is) fits read_fits are =
+    let whole : IsWholeReport r =
+    kept_whole w.conditions w.whole r w.kept (walked_adds_up lists gives o r w)
+    (ap (λ (l : ReportLists). l.files) (walked_lists lists gives o w.whole w.walked) ∙ listed) w.walked.files_once w.walked.faults_once
+    w.walked.skipped_once in
+    let members : List Member =
+    report_members (printed_parts options r (classes_of r.rows.items) sheet.has.rows sheet.files) r.lists.left_out r.entries
+    r.skipped.items in
+    let value : json_of s ≡ object_with members =
+    ap json_of sheet.has.is ∙ sheet_printed options r (classes_of r.rows.items) sheet.has.rows sheet.files json in
+    let line_members : document line ≡ Some (object_with members) = line_is ∙ ap (λ (j : Json). Some j) value in
+    let one : OneReport line reports = one_report line text (members_with members) reports line_members text_is are in
+    let read_fit : FitsTypes one.read.report =
+    All-head (λ (q : ReadReport). FitsTypes q.report) one.read []
+    (subst (All (λ (q : ReadReport). FitsTypes q.report)) one.one read_fits) in record {
+      read = one.read;
+      one = one.one;
+      is = report_read_back options r sheet.has.rows sheet.files one.read whole
+          (files_moved options.sort r.files.items sheet.files sheet.are_files) fits read_fit
+          (printed_members line members one.read line_members one.is);
+    }

@@ -1,0 +1,128 @@
+-- A report that is printed as JSON and read is that report.
+use Rattle.std.specs.Prelude.{◌≡◌, ◌<◌, ◌^◌, ◌++◌, ℕ, true, List, [], ◌∷◌, map, Option, None, option_map}
+use Rattle.std.specs.Bool.{MatchBool}
+use Rattle.std.specs.List.{All}
+use Rattle.std.specs.Option.{IfSome}
+use Rattle.lc_census.specs.declared.line_count.Count.{Count}
+use Rattle.lc_formats.specs.JsonSheets.{json_of}
+use Rattle.lc_formats.specs.JsonText.{IsDocument}
+use Rattle.lc_formats.specs.Readable.{AreBytes}
+use Rattle.lc_level.specs.FaultLines.{FaultLineModel}
+use Rattle.lc_level.specs.Level.{FileLineModel, SkippedLineModel}
+use Rattle.lc_level.specs.ReasonWords.{attribute_of, reason_word, rule_of}
+use Rattle.lc_reading.specs.Texts.{AreReportsOf}
+use Rattle.lc_reading.specs.declared.read_report.ReadReport.{ReadReport}
+use Rattle.lc_rows.specs.Classes.{binary_sums, text_sums}
+use Rattle.lc_rows.specs.Sheets.{IsSheetOf}
+use Rattle.lc_rows.specs.WalkedReports.{IsOfWalk}
+use Rattle.lc_rows.specs.Words.{kind_word}
+use Rattle.lc_rules.specs.declared.rule_source.RuleSource.{RuleSource}
+use Rattle.lc_sheet.specs.Sheets.{SheetModel}
+use Rattle.lc_sheet.specs.declared.table_options.Format.TheVariants.{Json}
+use Rattle.lc_sheet.specs.declared.table_options.TableOptions.{TableOptions}
+use Rattle.lc_text.specs.RulePlaces.{source_directory, source_name}
+use Rattle.lc_tree.specs.Trees.{Listings, Contents}
+use Rattle.lc_walk.specs.Sums.{IsInRange}
+use Rattle.lc_walk.specs.declared.options.Options.{Options}
+use Rattle.lc_walk.specs.declared.report.Report.{Report}
+
+-- ---- numbers and bytes that fit their types
+
+-- the counts of a file fit their types
+pub record FitsCount (c : Count) : Type 0 where
+  pub lines : c.lines < 2 ^ 64
+  pub blank : c.blank < 2 ^ 64
+  pub bytes : c.bytes < 2 ^ 64
+
+-- the path of a file consists of bytes, and its counts fit their types
+pub record FitsFile (f : FileLineModel) : Type 0 where
+  pub path : AreBytes f.path
+  pub count : FitsCount f.count
+
+-- the path of a skipped entry and its attribute consist of bytes, and the number of its rule's line fits its type
+pub record FitsSkipped (l : SkippedLineModel) : Type 0 where
+  pub path : AreBytes l.path
+  pub line : IfSome (rule_of l.reason) (λ (rule : RuleSource × ℕ). rule.1 < 2 ^ 32)
+  pub attribute : IfSome (attribute_of l.reason) AreBytes
+
+-- each number of a report fits its type, and paths and words consist of bytes: it is so in each report that a program has
+pub record FitsTypes (r : Report) : Type 0 where
+  pub totals : IsInRange r.totals
+  pub directories : r.directories < 2 ^ 64
+  pub entries : r.entries < 2 ^ 64
+  pub files : All FitsFile r.files.items
+  pub skipped : All FitsSkipped r.skipped.items
+  pub faults : All (λ (f : FaultLineModel). AreBytes f.path) r.faults.items
+
+-- ---- what is read back
+
+-- what JSON has of a skipped entry: its path, the words of its kind and of its reason, the file and the line of the rule that skips it,
+-- and the word of the attribute that does. A directory and a mount have one word, so which of them a rule skips is not read back; nor is
+-- the depth of the rule's file, but its path is
+pub record SkippedTextModel : Type 0 where
+  pub path : List ℕ
+  pub kind : List ℕ
+  pub reason : List ℕ
+  pub file : Option (List ℕ)
+  pub line : Option ℕ
+  pub attribute : Option (List ℕ)
+
+-- the file of a rule that decides a path
+abbrev pub file_of_rule : List ℕ → RuleSource × ℕ → List ℕ
+file_of_rule path rule = source_directory path rule.0 ++ source_name rule.0
+
+abbrev pub line_of_rule : RuleSource × ℕ → ℕ
+line_of_rule rule = rule.1
+
+abbrev pub skipped_text : SkippedLineModel → SkippedTextModel
+skipped_text l = record {
+  path = l.path;
+  kind = kind_word l.kind;
+  reason = reason_word l.reason;
+  file = option_map (file_of_rule l.path) (rule_of l.reason);
+  line = option_map line_of_rule (rule_of l.reason);
+  attribute = attribute_of l.reason;
+}
+
+-- the skipped entries and the number of entries are the same where they were printed; else there are none
+pub record HasSkippedOf (r read : Report) : Type 0 where
+  pub entries : read.entries ≡ r.entries
+  pub skipped : map skipped_text read.skipped.items ≡ map skipped_text r.skipped.items
+
+pub record HasNoSkipped (read : Report) : Type 0 where
+  pub entries : read.entries ≡ 0
+  pub skipped : read.skipped.items ≡ []
+
+-- a report that was read has what this report has: its sums, also over text and over binary files, the number of its directories, its
+-- files and its errors in their order, its rows with all columns, and the skipped entries if it lists them
+pub record IsReadBack (r : Report) (read : ReadReport) : Type 0 where
+  pub totals : read.report.totals ≡ r.totals
+  pub text : read.text ≡ text_sums r.rows.items
+  pub binary : read.binary ≡ binary_sums r.rows.items
+  pub directories : read.report.directories ≡ r.directories
+  pub lists : read.report.lists ≡ r.lists
+  pub faults : read.report.faults.items ≡ r.faults.items
+  pub files : read.report.files.items ≡ r.files.items
+  pub rows : read.report.rows.items ≡ r.rows.items
+  pub columns : read.columns ≡ record { ext = true; text = true; eol = true }
+  pub skipped : MatchBool r.lists.left_out (HasSkippedOf r read.report) (HasNoSkipped read.report)
+
+-- a table as JSON that lists all files and all rows
+pub record IsWholeJson (options : TableOptions) : Type 0 where
+  pub json : options.format ≡ Json
+  pub files : options.files ≡ true
+  pub uncut : options.top ≡ None
+
+-- the one report that was read is this report
+pub record IsReadFrom (r : Report) (reports : List ReadReport) : Type 0 where
+  pub read : ReadReport
+  pub one : reports ≡ read ∷ []
+  pub is : IsReadBack r read
+
+-- so it is with the report of each walk that lists its files, and with what meets conditions of it: if a text is a document of its sheet
+-- and a line feed, as `json_text` writes it, and these reports are in the text, as `read_reports` reads it, then they are this one report
+abbrev pub ReadBackLaw : (List ℕ → Listings) → (List ℕ → Contents) → Type 0
+ReadBackLaw lists gives =
+    (o : Options) (options : TableOptions) (r : Report) (s : SheetModel) (text : List ℕ) (reports : List ReadReport)
+    → IsOfWalk lists gives o r → o.lists.files ≡ true → IsWholeJson options → IsSheetOf options r s → IsDocument (json_of s) text
+    → FitsTypes r → All (λ (q : ReadReport). FitsTypes q.report) reports → AreReportsOf text reports → IsReadFrom r reports
