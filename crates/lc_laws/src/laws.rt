@@ -25,7 +25,7 @@ pub fn explanations_are_by_given_answers<T: Tree>(tree: &T)
     let _tree = tree;
 }
 
-/// The law that two explanations of a path are the same if the same was read of each directory on the way to it.
+/// The law that two explanations of a path are the same if the same was read from each directory on the way to the path.
 pub fn one_answer_is_one_explanation<T: Tree>(tree: &T)
     ensures answers { AnswersOneExplanationLaw }
     ensures tree { OneExplanationLaw (T.lists tree.now) (T.gives tree.now) }
@@ -33,7 +33,7 @@ pub fn one_answer_is_one_explanation<T: Tree>(tree: &T)
     let _tree = tree;
 }
 
-/// The law that a slash at the end of a directory's path changes no explanation by the same answers.
+/// The law that a slash at the end of a directory's path does not change the explanation, if the answers are the same.
 pub fn slashes_of_directories_say_nothing<T: Tree>(tree: &T)
     ensures answers { AnswersSlashLaw }
     ensures tree { SlashLaw (T.lists tree.now) (T.gives tree.now) }
@@ -41,8 +41,8 @@ pub fn slashes_of_directories_say_nothing<T: Tree>(tree: &T)
     let _tree = tree;
 }
 
-/// The law that a count and an explanation agree on each path if the same was read of each directory on the way to it. A counted file is
-/// explained as taken, and a skipped entry by the same reason. The explanation of an entry shows where the report has it.
+/// The law that a count and an explanation agree on each path if the same was read from each directory on the way to the path. A counted
+/// file is explained as taken, and a skipped entry by the same reason. The explanation of an entry shows where the report has it.
 pub fn counts_are_as_explained<T: Tree>(tree: &T)
     ensures answers { AnswersExplainedLaw }
     ensures tree { ExplainedLaw (T.lists tree.now) (T.gives tree.now) }
