@@ -1,11 +1,12 @@
 -- Boxes inside the boxes of the directories that hold them.
-use Rattle.std.proofs.Common.{◌≡◌, ℕ, ◌+◌, ◌-◌, Bool, true, false, List, [], ◌∷◌, ◌++◌, drop, length, min, suc, zero}
-use Rattle.std.proofs.Common.{refl, ap, ap₂, ◌∙◌, append_assoc, arith, length-append}
-use Rattle.lc_rows.specs.ShownRows.{number_in}
+use Rattle.std.proofs.Common.{◌≡◌, ℕ, ◌+◌, ◌-◌, ◌==◌, nat_le, Bool, true, false, if◌then◌else◌, List, [], ◌∷◌, ◌++◌, drop, length, min}
+use Rattle.std.proofs.Common.{suc, zero, refl, ap, ap₂, ◌∙◌, append_assoc, arith, codes, length-append}
 use Rattle.lc_picture.specs.declared.scale.Scale.{Scale}
-use Rattle.lc_picture.specs.Boxes.{BoxModel, boxes_in, closings, is_open, left_beside, opening, tag_end}
+use Rattle.lc_picture.specs.declared.small_directories.SmallDirectories.{SmallDirectories}
+use Rattle.lc_picture.specs.Boxes.{BoxModel, boxes_in, closings, is_open, opening, others_in, others_space, small_box, small_number}
+use Rattle.lc_picture.specs.Boxes.{tag_end}
 use Rattle.lc_picture.specs.Inside.{AreBoxesAt, ComeDepthFirst, InsideLaw, boxes_read}
-use Rattle.lc_picture.specs.Pieces.{Piece}
+use Rattle.lc_picture.specs.Pieces.{Piece, markup}
 use Rattle.lc_text.specs.Visible.{visible_path}
 
 -- closing tags end the innermost boxes
@@ -23,10 +24,24 @@ read_tag_end : (around : List (List ℕ)) (is : Bool) (ps : List Piece) → boxe
 read_tag_end around true ps = refl
 read_tag_end around false ps = refl
 
+read_word : (around : List (List ℕ)) (one : Bool) (ps : List Piece)
+    → boxes_read around (markup (if one then codes " small directory: " else codes " small directories: ") ∷ ps) ≡ boxes_read around ps
+read_word around true ps = refl
+read_word around false ps = refl
+
+-- there may be small directories
+read_space : (around : List (List ℕ)) (scale : Scale) (s : SmallDirectories) (left : ℕ) (some : Bool) (ps : List Piece)
+    → boxes_read around (((if some then small_box scale s else []) ++ others_space left) ++ ps) ≡ boxes_read around ps
+read_space around scale s left true ps = read_word around (s.count == 1) ((small_number scale s.number ++ others_space left) ++ ps)
+read_space around scale s left false ps = refl
+
 read_opened : (around : List (List ℕ)) (scale : Scale) (b : BoxModel) (left : ℕ) (ps : List Piece)
     → boxes_read around (opening scale b left ++ ps)
     ≡ (visible_path b.directory ∷ around) ∷ boxes_read (visible_path b.directory ∷ around) ps
-read_opened around scale b left ps = read_tag_end around (is_open b.depth) _
+read_opened around scale b left ps =
+    read_tag_end around (is_open b.depth) _
+    ∙ ap (λ (found : List (List (List ℕ))). (visible_path b.directory ∷ around) ∷ found)
+    (read_space (visible_path b.directory ∷ around) scale b.small left (nat_le 1 b.small.count) ps)
 
 all_inside : (scale : Scale) (before : List (List ℕ)) (bs : List BoxModel) (ds : List (List (List ℕ))) → ComeDepthFirst before ds
     → AreBoxesAt bs ds → boxes_read before (boxes_in scale (length before) bs) ≡ ds
@@ -36,7 +51,7 @@ all_inside scale before (b ∷ bs) [] come at = absurd at
 all_inside scale before (b ∷ bs) ([] ∷ ds) come at = absurd at
 all_inside scale before (b ∷ bs) ((own ∷ above) ∷ ds) ((left, is), come) ((named, deep), at) =
     let rest : ℕ → List Piece = λ n. boxes_in scale n bs in
-    let inside = left_beside scale.by b.depth (number_in scale.by b.sums) bs in
+    let inside = others_in scale.by b bs in
     let many : length before ≡ length left + length above = ap length is ∙ length-append left above in
     let closed : length before - b.depth ≡ length left = omega (arith, many, deep) in
     let more : ℕ = min (length before) b.depth + 1 in

@@ -5,6 +5,8 @@ pub mod References
 pub mod Outlines
 pub mod ReportShown
 pub mod ChartColours
+pub mod SmallRows
+pub mod DrawnRows
 pub mod Boxing
 pub mod Falling
 pub mod Branches

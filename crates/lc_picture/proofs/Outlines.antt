@@ -11,18 +11,21 @@ use Rattle.lc_sheet.specs.Values as value
 use Rattle.lc_sheet.specs.Values.{ValueModel}
 use Rattle.lc_sheet.specs.declared.column.Number.{Number}
 use Rattle.lc_picture.specs.declared.scale.Scale.{Scale}
+use Rattle.lc_picture.specs.declared.small_directories.SmallDirectories.{SmallDirectories}
 use Rattle.lc_picture.specs.Boxes.{BoxModel, box_of, boxes_in, closing, closings, drawn_boxes, is_open, label}
-use Rattle.lc_picture.specs.Boxes.{left_beside, next_box, opening, space, tag_end, title_of}
+use Rattle.lc_picture.specs.Boxes.{left_beside, next_box, opening, others_in, others_space, small_box, space, tag_end, title_of}
 use Rattle.lc_picture.specs.Chart.{cell, cells, cells_in, coloured_line, coloured_lines, plain_line, plain_lines}
 use Rattle.lc_picture.specs.Colours.{main_colour, path_of, rows_from, shared_colour}
 use Rattle.lc_level.specs.FaultLines.{FaultLineModel}
 use Rattle.lc_picture.specs.Faults.{fault_lines, faults_end, faults_listed, faults_part, more_faults}
-use Rattle.lc_picture.specs.Laws.{DrawnLaw, OutlineLaw, ShownLaw, is_shown, nameless, outline, shown_of_box, shown_of_boxes}
-use Rattle.lc_picture.specs.Laws.{shown_of_fault}
+use Rattle.lc_picture.specs.Laws.{DrawnLaw, OutlineLaw, ShownLaw, counts, is_shown, nameless, outline, share_in, shown_of_box}
+use Rattle.lc_picture.specs.Laws.{shown_of_boxes, shown_of_fault}
 use Rattle.lc_picture.specs.Laws.{shown_of_faults, shown_of_head, shown_of_more}
 use Rattle.lc_picture.specs.Laws.{shown_of_line, shown_of_value, without_colour}
 use Rattle.lc_picture.specs.Page.{chart_part, tree_part}
-use Rattle.lc_picture.specs.Pieces.{Piece, count, markup}
+use Rattle.lc_picture.specs.Pieces.{Piece, count, markup, name, percent, title}
+use Rattle.lc_picture.specs.Small.{no_directories, row_level, small_in}
+use Rattle.lc_text.specs.Visible.{visible_path}
 
 -- ---- what a page shows
 
@@ -35,16 +38,25 @@ tag_end_shows : (is : Bool) (ps : List Piece) → filter is_shown (tag_end is �
 tag_end_shows true ps = refl
 tag_end_shows false ps = refl
 
+-- there may be small directories
+space_shows : (scale : Scale) (s : SmallDirectories) (left : ℕ) (some : Bool)
+    → filter is_shown ((if some then small_box scale s else []) ++ others_space left)
+    ≡ (if some then count s.count ∷ count s.number ∷ percent s.number scale.whole ∷ [] else []) ++ count left ∷ []
+space_shows scale s left true = refl
+space_shows scale s left false = refl
+
 opening_shows : (scale : Scale) (b : BoxModel) (left : ℕ) → filter is_shown (opening scale b left) ≡ shown_of_box scale b left
 opening_shows scale b left =
     tag_end_shows (is_open b.depth)
-    (title_of scale b.path b.sums ++ (label scale b.directory (number_in scale.by b.sums) ++ space left))
+    (title_of scale b.path b.sums ++ (label scale b.directory (number_in scale.by b.sums) ++ space scale b.small left))
+    ∙ ap (λ (ps : List Piece). title (visible_path b.path) ∷ (counts b.sums ++ share_in scale b.sums ∷ name (visible_path b.directory)
+    ∷ count (number_in scale.by b.sums) ∷ share_in scale b.sums ∷ ps)) (space_shows scale b.small left (nat_le 1 b.small.count))
 
 box_shows : (scale : Scale) (within : ℕ) (b : BoxModel) (bs : List BoxModel)
     → filter is_shown (next_box scale within b bs)
-    ≡ shown_of_box scale b (left_beside scale.by b.depth (number_in scale.by b.sums) bs)
+    ≡ shown_of_box scale b (others_in scale.by b bs)
 box_shows scale within b bs =
-    let left : ℕ = left_beside scale.by b.depth (number_in scale.by b.sums) bs in
+    let left : ℕ = others_in scale.by b bs in
     filter-append is_shown (closings (within - b.depth)) (opening scale b left)
     ∙ ap (λ (ps : List Piece). ps ++ filter is_shown (opening scale b left)) (closings_show (within - b.depth))
     ∙ opening_shows scale b left
@@ -127,16 +139,16 @@ shown_law counted scale faults s boxes =
 
 drawn_row : (by : Number) (least : ℕ) (chart : List ShownRowModel) (r : ShownRowModel) (rs kinds : List ShownRowModel) (drawn : Bool)
     → map without_colour (drawn_boxes by least chart (rows_from (path_of r) kinds) rs)
-    ≡ map (λ s. box_of s 0) (filter (λ s. nat_le least (number_in by s.sums)) rs)
+    ≡ map (λ s. box_of s 0 no_directories) (filter (λ s. nat_le least (number_in by s.sums)) rs)
     → map without_colour (drawn_boxes by least chart kinds rs)
-    ≡ map (λ s. box_of s 0) (filter (λ s. nat_le least (number_in by s.sums)) rs)
+    ≡ map (λ s. box_of s 0 no_directories) (filter (λ s. nat_le least (number_in by s.sums)) rs)
     → map without_colour (if drawn
-    then box_of r (main_colour chart by (path_of r) 0 shared_colour (rows_from (path_of r) kinds))
+    then box_of r (main_colour chart by (path_of r) 0 shared_colour (rows_from (path_of r) kinds)) (small_in by least (row_level r) rs)
     ∷ drawn_boxes by least chart (rows_from (path_of r) kinds) rs
     else drawn_boxes by least chart kinds rs)
-    ≡ map (λ s. box_of s 0) (if drawn then r ∷ filter (λ s. nat_le least (number_in by s.sums)) rs
+    ≡ map (λ s. box_of s 0 no_directories) (if drawn then r ∷ filter (λ s. nat_le least (number_in by s.sums)) rs
     else filter (λ s. nat_le least (number_in by s.sums)) rs)
-drawn_row by least chart r rs kinds true drawn left = ap (λ (bs : List BoxModel). box_of r 0 ∷ bs) drawn
+drawn_row by least chart r rs kinds true drawn left = ap (λ (bs : List BoxModel). box_of r 0 no_directories ∷ bs) drawn
 drawn_row by least chart r rs kinds false drawn left = left
 
 pub drawn_law : DrawnLaw
@@ -161,7 +173,7 @@ box_nameless : (scale : Scale) (within : ℕ) (b : BoxModel) (bs : List BoxModel
     → map nameless (next_box scale within (outline b) (map outline bs)) ≡ map nameless (next_box scale within b bs)
 box_nameless scale within b bs =
     let begin = λ (left : ℕ). map nameless (closings (within - b.depth) ++ opening scale (outline b) left) in
-    ap begin (left_same scale.by b.depth (number_in scale.by b.sums) bs)
+    ap begin (left_same scale.by b.depth (number_in scale.by b.sums - b.small.number) bs)
     ∙ map-append nameless (closings (within - b.depth)) _ ∙ sym (map-append nameless (closings (within - b.depth)) _)
 
 boxes_nameless : (scale : Scale) (within : ℕ) (bs : List BoxModel)

@@ -1,39 +1,59 @@
 -- The boxes of a tree of directories. Each has a box inside for each directory right in it, and its share of the space is its number.
 use Rattle.std.specs.Prelude.{ℕ, ◌+◌, ◌-◌, ◌/◌, ◌%◌, ◌==◌, Bool, true, false, nat_le, nat_lt, if◌then◌else◌, List, [], ◌∷◌, ◌++◌}
 use Rattle.std.specs.Prelude.{max, min, replicate, codes}
-use Rattle.lc_rows.specs.Directories.{level_of, own_part}
+use Rattle.lc_rows.specs.Directories.{own_part}
 use Rattle.lc_rows.specs.RowKeys.{ShownRowModel}
 use Rattle.lc_rows.specs.ShownRows.{number_in}
 use Rattle.lc_text.specs.Visible.{visible_path}
 use Rattle.lc_sheet.specs.declared.column.Number.{Number}
 use Rattle.lc_walk.specs.declared.tally.sums.Sums.{Sums}
 use Rattle.lc_picture.specs.declared.scale.Scale.{Scale}
+use Rattle.lc_picture.specs.declared.small_directories.SmallDirectories.{SmallDirectories}
 use Rattle.lc_picture.specs.Colours.{main_colour, path_of, rows_from, shared_colour}
 use Rattle.lc_picture.specs.Pieces.{Piece, count, markup, name, percent, share, share_pieces, sums_pieces, title, word}
+use Rattle.lc_picture.specs.Small.{row_level, small_in}
 
--- a directory: its path, the part of it from the directory right above it on, how many directories are above it, its colour, and the sums
--- over the files in it and below it
+-- a directory: its path, the part of it from the directory right above it on, how many directories are above it, its colour, the sums
+-- over the files in it and below it, and the small directories right in it
 pub record BoxModel : Type 0 where
   pub path : List ℕ
   pub directory : List ℕ
   pub depth : ℕ
   pub colour : ℕ
   pub sums : Sums
+  pub small : SmallDirectories
 
-abbrev pub box_of : ShownRowModel → ℕ → BoxModel
-box_of r colour =
-    record { path = path_of r; directory = own_part (path_of r); depth = level_of (path_of r); colour = colour; sums = r.sums }
+abbrev pub box_of : ShownRowModel → ℕ → SmallDirectories → BoxModel
+box_of r colour small = record {
+  path = path_of r;
+  directory = own_part (path_of r);
+  depth = row_level r;
+  colour = colour;
+  sums = r.sums;
+  small = small;
+}
+
+abbrev pub coloured : ℕ → BoxModel → BoxModel
+coloured colour b = record {
+  path = b.path;
+  directory = b.directory;
+  depth = b.depth;
+  colour = colour;
+  sums = b.sums;
+  small = b.small;
+}
 
 -- the least number that is drawn: a thousandth of the total, rounded up, and not nothing
 abbrev pub least_drawn : ℕ → ℕ
 least_drawn total = max (total / 1000 + (if nat_le 1 (total % 1000) then 1 else 0)) 1
 
--- the directories that are drawn, with the colours of their largest extensions, which come in the same order
+-- the directories that are drawn, with the colours of their largest extensions, which come in the same order, and with the small
+-- directories right in them
 abbrev pub drawn_boxes : Number → ℕ → List ShownRowModel → List ShownRowModel → List ShownRowModel → List BoxModel
 drawn_boxes by least chart kinds [] = []
 drawn_boxes by least chart kinds (r ∷ rs) =
     if nat_le least (number_in by r.sums)
-    then box_of r (main_colour chart by (path_of r) 0 shared_colour (rows_from (path_of r) kinds))
+    then box_of r (main_colour chart by (path_of r) 0 shared_colour (rows_from (path_of r) kinds)) (small_in by least (row_level r) rs)
     ∷ drawn_boxes by least chart (rows_from (path_of r) kinds) rs
     else drawn_boxes by least chart kinds rs
 
@@ -75,15 +95,39 @@ abbrev pub label : Scale → List ℕ → ℕ → List Piece
 label scale directory n =
     markup (codes "\"><b>") ∷ name (visible_path directory) ∷ markup (codes "</b> <span>") ∷ number_drawn scale n
 
--- the space of the files right in a directory and of the directories in it that are not drawn, and its number
-abbrev pub space : ℕ → List Piece
-space left =
+-- the word for so many small directories
+abbrev pub small_word : ℕ → List ℕ
+small_word n = if n == 1 then codes " small directory: " else codes " small directories: "
+
+-- the number of small directories, and its share
+abbrev pub small_number : Scale → ℕ → List Piece
+small_number scale n =
+    word scale.by ∷ markup (codes " ") ∷ count n ∷ markup (codes " (") ∷ percent n scale.whole ∷ markup (codes ")</em></i>") ∷ []
+
+-- small directories together: how many they are, and their number
+abbrev pub small_box : Scale → SmallDirectories → List Piece
+small_box scale small =
+    markup (codes "<i style=\"--n:") ∷ share small.number ∷ markup (codes "\"><em>") ∷ count small.count
+    ∷ markup (small_word small.count) ∷ small_number scale small.number
+
+-- nothing, where there are none
+abbrev pub small_space : Scale → SmallDirectories → List Piece
+small_space scale small = if nat_le 1 small.count then small_box scale small else []
+
+-- the space of the files right in a directory, and its number
+abbrev pub others_space : ℕ → List Piece
+others_space left =
     markup (codes "<i style=\"--n:") ∷ share left ∷ markup (codes "\"><em>others ") ∷ count left ∷ markup (codes "</em></i>") ∷ []
+
+-- the space of what is right in a directory and has no box of its own
+abbrev pub space : Scale → SmallDirectories → ℕ → List Piece
+space scale small left = small_space scale small ++ others_space left
 
 -- the begin of a box
 abbrev pub opening : Scale → BoxModel → ℕ → List Piece
 opening scale b left =
-    tag scale.by b.depth b.colour b.sums ++ (title_of scale b.path b.sums ++ (label scale b.directory (number_in scale.by b.sums) ++ space left))
+    tag scale.by b.depth b.colour b.sums
+    ++ (title_of scale b.path b.sums ++ (label scale b.directory (number_in scale.by b.sums) ++ space scale b.small left))
 
 abbrev pub closing : Piece
 closing = markup (codes "</div></details>\n")
@@ -91,10 +135,14 @@ closing = markup (codes "</div></details>\n")
 abbrev pub closings : ℕ → List Piece
 closings n = replicate n closing
 
+-- the number of the files right in a directory, whose boxes are followed by these: that of the directory without those of its small
+-- directories, and of the boxes right in it
+abbrev pub others_in : Number → BoxModel → List BoxModel → ℕ
+others_in by b bs = left_beside by b.depth (number_in by b.sums - b.small.number) bs
+
 -- the next box: the open ones that don't hold it are closed before it begins
 abbrev pub next_box : Scale → ℕ → BoxModel → List BoxModel → List Piece
-next_box scale within b bs =
-    closings (within - b.depth) ++ opening scale b (left_beside scale.by b.depth (number_in scale.by b.sums) bs)
+next_box scale within b bs = closings (within - b.depth) ++ opening scale b (others_in scale.by b bs)
 
 -- the boxes of directories that come depth first, while so many boxes are open
 abbrev pub boxes_in : Scale → ℕ → List BoxModel → List Piece

@@ -17,14 +17,16 @@ use Rattle.lc_walk.specs.declared.report.Report.{Report}
 use Rattle.lc_walk.specs.declared.tally.sums.Sums.{Sums}
 use Rattle.lc_text.specs.Names.{named}
 use Rattle.lc_text.specs.Visible.{visible_bytes, visible_path}
-use Rattle.lc_picture.specs.Boxes.{BoxModel, box_of, boxes_in, drawn_boxes, left_beside}
+use Rattle.lc_picture.specs.Boxes.{BoxModel, box_of, boxes_in, drawn_boxes, others_in}
 use Rattle.lc_picture.specs.Chart.{line_colour}
 use Rattle.lc_picture.specs.Colours.{colour_of}
 use Rattle.lc_picture.specs.Escaping.{html}
 use Rattle.lc_picture.specs.Faults.{faults_listed}
 use Rattle.lc_picture.specs.Page.{chart_columns, chart_options, chart_view, page_pieces, scale_of}
 use Rattle.lc_picture.specs.Pieces.{Piece, count, markup, name, percent, share, title, word}
+use Rattle.lc_picture.specs.Small.{no_directories}
 use Rattle.lc_picture.specs.declared.scale.Scale.{Scale}
+use Rattle.lc_picture.specs.declared.small_directories.SmallDirectories.{SmallDirectories}
 use Rattle.lc_level.specs.FaultLines.{FaultLineModel}
 use Rattle.lc_level.specs.FaultWords.{fault_word}
 use Rattle.lc_level.specs.Level.{FileLineModel}
@@ -103,17 +105,21 @@ shown_of_line values = flat_map shown_of_value values
 abbrev pub share_in : Scale → Sums → Piece
 share_in scale s = percent (number_in scale.by s) scale.whole
 
+-- how many the small directories right in one are, their number and its share, where there are some
+abbrev pub shown_of_small : Scale → SmallDirectories → List Piece
+shown_of_small scale s = if nat_le 1 s.count then count s.count ∷ count s.number ∷ percent s.number scale.whole ∷ [] else []
+
 -- the path of a directory, its sums and its share; and its name, with the number that is drawn and the share once more;
--- and the number of what is in no box right in it
+-- and of what is right in it and in no box the small directories, and the number of the files
 abbrev pub shown_of_box : Scale → BoxModel → ℕ → List Piece
 shown_of_box scale b left =
     title (visible_path b.path) ∷ (counts b.sums ++ share_in scale b.sums ∷ name (visible_path b.directory)
-    ∷ count (number_in scale.by b.sums) ∷ share_in scale b.sums ∷ count left ∷ [])
+    ∷ count (number_in scale.by b.sums) ∷ share_in scale b.sums ∷ (shown_of_small scale b.small ++ count left ∷ []))
 
 abbrev pub shown_of_boxes : Scale → List BoxModel → List Piece
 shown_of_boxes scale [] = []
 shown_of_boxes scale (b ∷ bs) =
-    shown_of_box scale b (left_beside scale.by b.depth (number_in scale.by b.sums) bs) ++ shown_of_boxes scale bs
+    shown_of_box scale b (others_in scale.by b bs) ++ shown_of_boxes scale bs
 
 -- a page shows what was counted, the numbers of all files, what could not be read, the names and the numbers of the rows of its sheet and
 -- of the sums over the others, and the directories that are drawn with their sums and shares: each once, in turn, and nothing else
@@ -165,14 +171,15 @@ ColoursLaw =
     → colour_of (chart_view extensions).rows (slice_index_or (chart_view extensions).rows place d).key.extension ≡ line_colour place
 
 abbrev pub without_colour : BoxModel → BoxModel
-without_colour b = record { path = b.path; directory = b.directory; depth = b.depth; colour = 0; sums = b.sums }
+without_colour b =
+    record { path = b.path; directory = b.directory; depth = b.depth; colour = 0; sums = b.sums; small = no_directories }
 
--- whatever the colours, the directories that are drawn are those with at least the least number, each once
+-- whatever the colours and the small directories, the directories that are drawn are those with at least the least number, each once
 abbrev pub DrawnLaw : Type 0
 DrawnLaw =
     (by : Number) (least : ℕ) (chart kinds tree : List ShownRowModel)
     → map without_colour (drawn_boxes by least chart kinds tree)
-    ≡ map (λ r. box_of r 0) (filter (λ r. nat_le least (number_in by r.sums)) tree)
+    ≡ map (λ r. box_of r 0 no_directories) (filter (λ r. nat_le least (number_in by r.sums)) tree)
 
 -- a piece without its name
 abbrev pub nameless : Piece → Piece
@@ -186,9 +193,9 @@ nameless (name t) = name []
 
 -- a directory without its name
 abbrev pub outline : BoxModel → BoxModel
-outline b = record { path = []; directory = []; depth = b.depth; colour = b.colour; sums = b.sums }
+outline b = record { path = []; directory = []; depth = b.depth; colour = b.colour; sums = b.sums; small = b.small }
 
--- but for the names, the boxes depend on depths, colours and sums alone: no name adds a tag, or takes one away
+-- but for the names, the boxes depend on depths, colours and numbers alone: no name adds a tag, or takes one away
 abbrev pub OutlineLaw : Type 0
 OutlineLaw =
     (scale : Scale) (bs cs : List BoxModel) → map outline bs ≡ map outline cs

@@ -2,6 +2,7 @@ pub mod Escaping
 pub mod Pieces
 pub mod Style
 pub mod Colours
+pub mod Small
 pub mod Boxes
 pub mod Places
 pub mod Head

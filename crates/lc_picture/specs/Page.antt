@@ -38,8 +38,8 @@ tree_begin = codes "</table>\n<h2>By directory</h2>\n<p>Each box is as tall as i
 
 abbrev pub boxes_begin : List ℕ
 boxes_begin =
-    codes ", in the colour of the extension that has most of them. Others are the files right in a directory, "
-    ++ codes "and directories with less than a thousandth of all. Fold a box to make room for the rest.</p>\n<div class=\"tree\">\n"
+    codes ", in the colour of the extension that has most of them. Directories with less than a thousandth of all are drawn together, "
+    ++ codes "and others are the files right in a directory. Fold a box to make room for the rest.</p>\n<div class=\"tree\">\n"
 
 abbrev pub tree_part : Scale → List BoxModel → List Piece
 tree_part scale boxes =

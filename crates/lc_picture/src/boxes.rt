@@ -2,7 +2,7 @@
 
 ghost use Rattle.std.specs.Prelude.{◌≡◌, ◌+◌, ◌-◌, ◌==◌, if◌then◌else◌, ◌++◌, IfOk, OnOk, min};
 ghost use Rattle.lc_rows.specs.ShownRows.{number_in};
-ghost use Rattle.lc_picture.specs.Boxes.{boxes_in, closings, label, left_beside, next_box, number_drawn, opening, space, tag};
+ghost use Rattle.lc_picture.specs.Boxes.{boxes_in, closings, label, left_beside, next_box, number_drawn, opening, others_in, tag};
 ghost use Rattle.lc_picture.specs.Boxes.{tag_end, title_of};
 ghost use Rattle.lc_picture.specs.Pieces.{piece_text, text_of};
 
@@ -10,6 +10,7 @@ use crate::directory_box::DirectoryBox;
 use crate::escaping::push_path;
 use crate::percents::push_percent;
 use crate::scale::Scale;
+use crate::space::push_space;
 use crate::sums::{number_word, push_count, push_number, push_share, push_sums};
 use lc_rows::number_in;
 use lc_sheet::Number;
@@ -30,8 +31,7 @@ fn left_after(by: Number, depth: usize, left: u128, next: &DirectoryBox<'_>) -> 
     }
 }
 
-/// Returns what a box has besides the boxes right in it: the files of its directory, and directories that are not drawn. The boxes after it
-/// are `after`.
+/// Returns what is left of a number without the boxes right in one of this depth. The boxes after that one are `after`.
 fn left_beside<'a>(by: Number, depth: usize, number: u128, after: &[DirectoryBox<'a>]) -> u128
     ensures { result ≡ left_beside by depth number after.now }
 {
@@ -43,6 +43,15 @@ fn left_beside<'a>(by: Number, depth: usize, number: u128, after: &[DirectoryBox
         left = left_after(by, depth, left, next);
     }
     left
+}
+
+/// Returns the number of the files right in a directory: what it has besides its small directories and the boxes right in it. The boxes
+/// after it are `after`.
+fn others_in<'a>(by: Number, drawn: &DirectoryBox<'a>, after: &[DirectoryBox<'a>]) -> u128
+    ensures { result ≡ others_in by drawn.now after.now }
+{
+    let number = number_in(by, drawn.sums).saturating_sub(drawn.small.number);
+    left_beside(by, drawn.depth, number, after)
 }
 
 /// Returns the end of the tag of a box, and the beginning of its title.
@@ -121,17 +130,6 @@ fn push_label(
     push_drawn_number(text, scale, n, made)
 }
 
-fn push_space(text: &mut Vec<u8>, left: u128, made: &mut String) -> Result<(), AllocError>
-    ensures { OnOk result (text.new.items ≡ text.old.items ++ text_of (space left)) }
-{
-    text.extend_from_slice(b"<i style=\"--n:")?;
-    push_number(text, left)?;
-    text.extend_from_slice(b"\"><em>others ")?;
-    push_count(text, left, made)?;
-    text.extend_from_slice(b"</em></i>")?;
-    Ok(())
-}
-
 /// Begins a box.
 fn push_opening(
     text: &mut Vec<u8>,
@@ -151,7 +149,7 @@ fn push_opening(
         number_in(scale.by, drawn.sums),
         made,
     )?;
-    push_space(text, left, made)?;
+    push_space(text, scale, drawn.small, left, made)?;
     Ok(())
 }
 
@@ -181,12 +179,7 @@ fn push_box<'a>(
 {
     let next = within.min(drawn.depth).checked_add(1).ok_or(AllocError)?;
     push_closings(text, within.saturating_sub(drawn.depth))?;
-    let left = left_beside(
-        scale.by,
-        drawn.depth,
-        number_in(scale.by, drawn.sums),
-        after,
-    );
+    let left = others_in(scale.by, drawn, after);
     push_opening(text, scale, drawn, left, made)?;
     Ok(next)
 }

@@ -2,10 +2,11 @@
 
 ghost use Rattle.std.specs.Prelude.{◌≡◌, [], ◌∷◌, ◌++◌, IfOk, OnOk, drop};
 ghost use Rattle.lc_rows.specs.ShownRows.{number_in};
-ghost use Rattle.lc_picture.specs.Boxes.{box_of, drawn_boxes, least_drawn};
+ghost use Rattle.lc_picture.specs.Boxes.{box_of, coloured, drawn_boxes, least_drawn};
 ghost use Rattle.lc_picture.specs.Colours.{main_colour, path_of, rows_from, shared_colour};
 
 use crate::colours::{main_colour, next_place, path_of};
+use crate::small_directories::{SmallDirectories, small_at, smalls_of};
 use lc_rows::{ShownRow, level_of, number_in, own_part};
 use lc_sheet::Number;
 use lc_walk::Sums;
@@ -25,6 +26,8 @@ pub(crate) struct DirectoryBox<'a> {
     pub(crate) colour: usize,
     /// The sums over the files in the directory and below it.
     pub(crate) sums: Sums,
+    /// The small directories right in the directory.
+    pub(crate) small: SmallDirectories,
 }
 
 impl<'a> Model for DirectoryBox<'a> {
@@ -38,6 +41,7 @@ impl<'a> Model for DirectoryBox<'a> {
       depth = b.depth;
       colour = b.colour;
       sums = b.sums;
+      small = b.small;
     } };
 }
 
@@ -51,6 +55,16 @@ impl<'a> DirectoryBox<'a> {
             depth: self.depth,
             colour: self.colour,
             sums: self.sums,
+            small: self.small,
+        }
+    }
+
+    fn coloured(&self, colour: usize) -> DirectoryBox<'a>
+        ensures { result ≡ coloured colour self.now }
+    {
+        DirectoryBox {
+            colour,
+            ..self.copy()
         }
     }
 }
@@ -69,40 +83,41 @@ fn rest_from<'a, 'b>(kinds: &'b [ShownRow<'a>], place: usize) -> &'b [ShownRow<'
     &kinds[place.min(kinds.len())..]
 }
 
-fn box_of<'a>(row: &ShownRow<'a>, colour: usize) -> DirectoryBox<'a>
-    ensures { result ≡ box_of row.now colour }
+fn box_of<'a>(row: &ShownRow<'a>, small: SmallDirectories) -> DirectoryBox<'a>
+    ensures { result ≡ box_of row.now 0 small }
 {
     let path = path_of(row);
     DirectoryBox {
         path,
         directory: own_part(path),
         depth: level_of(path),
-        colour,
+        colour: 0,
         sums: row.sums,
+        small,
     }
 }
 
-/// Appends the box of a directory, and returns the place of its first row among those by directory and extension.
+/// Appends the box of a directory in its colour, and returns the place of its first row among those by directory and extension.
 fn push_drawn<'a>(
     boxes: &mut Vec<DirectoryBox<'a>>,
     by: Number,
-    row: &ShownRow<'a>,
+    drawn: &DirectoryBox<'a>,
     chart: &[ShownRow<'_>],
     kinds: &[ShownRow<'_>],
     start: usize,
 ) -> Result<usize, AllocError>
-    ensures kinds { IfOk result (λ place. drop place kinds.now ≡ rows_from (path_of row.now) (drop start kinds.now)) }
+    ensures kinds { IfOk result (λ place. drop place kinds.now ≡ rows_from drawn.now.path (drop start kinds.now)) }
     ensures boxes { OnOk result (boxes.new.items ≡ boxes.old.items
-        ++ box_of row.now (main_colour chart.now by (path_of row.now) 0 shared_colour (rows_from (path_of row.now) (drop start kinds.now)))
+        ++ coloured (main_colour chart.now by drawn.now.path 0 shared_colour (rows_from drawn.now.path (drop start kinds.now))) drawn.now
         ∷ []) }
 {
-    let place = next_place(path_of(row), kinds, start);
-    let colour = main_colour(chart, by, path_of(row), rest_from(kinds, place));
-    boxes.push(box_of(row, colour))?;
+    let place = next_place(drawn.path, kinds, start);
+    let colour = main_colour(chart, by, drawn.path, rest_from(kinds, place));
+    boxes.push(drawn.coloured(colour))?;
     Ok(place)
 }
 
-/// Returns the directories that are drawn, which are those with a number of at least `least`.
+/// Returns the directories that are drawn, which are those with a number of at least `least`, each with the small ones right in it.
 ///
 /// Their colours come from the rows of `kinds`, by directory and extension, which are in the same order.
 pub(crate) fn drawn_boxes<'a>(
@@ -115,11 +130,14 @@ pub(crate) fn drawn_boxes<'a>(
 ) -> Result<Vec<DirectoryBox<'a>>, AllocError>
     ensures { IfOk result (λ boxes. boxes.items ≡ drawn_boxes by least chart.now kinds.now rows.now) }
 {
+    let smalls = smalls_of(alloc, by, least, rows)?;
     let mut boxes = Vec::new(alloc);
     let mut place = 0;
-    for row in rows {
+    for index in 0..rows.len() {
+        let row = &rows[index];
         if number_in(by, row.sums) >= least {
-            place = push_drawn(&mut boxes, by, row, chart, kinds, place)?;
+            let drawn = box_of(row, small_at(&smalls, index));
+            place = push_drawn(&mut boxes, by, &drawn, chart, kinds, place)?;
         }
     }
     Ok(boxes)

@@ -1,7 +1,8 @@
 //! The picture of a tree: a page of HTML with the sums of a report, a bar chart of its extensions, and the boxes of its directories.
 //!
 //! - `escaping`: texts in HTML; `style`: the fixed parts of a page
-//! - `boxes`, `directory_box`: the boxes of the directories, each inside the box of the directory above it
+//! - `boxes`, `directory_box`: the boxes of the directories, each inside the box of the directory above it; `small_directories`, `space`:
+//!   the directories that are too small for boxes of their own, and the space of what has no box
 //! - `largest_first`, `places`: the order of boxes
 //! - `colours`: the colours of extensions and of directories
 //! - `faults`: the errors at the top of a page
@@ -25,6 +26,8 @@ mod percents;
 mod places;
 mod report_page;
 mod scale;
+mod small_directories;
+mod space;
 mod style;
 mod sums;
 

@@ -32,20 +32,20 @@ pub(crate) fn style() -> &'static [u8]
       .tree{--w:max(11em,12.5cqw);container-type:inline-size;\
       display:flex;flex-direction:column;height:92vh;min-height:42rem;overflow:auto}\n\
       details{position:relative;flex:var(--n) 0 0;min-width:var(--w)}\n\
-      details:hover,details:focus-within{min-height:2.8em}\n\
+      details:hover,details:focus-within,details>div>i:hover{min-height:2.8em}\n\
       details:not([open]){flex-grow:0;min-height:1.5em}\n\
       details details details details details details details details:not([open]){flex-grow:var(--n);min-height:0}\n\
-      details:not([open])>summary,details:not(:has(details))>summary{right:0;width:auto}\
-      details:not(:has(details))>div{display:none}\n\
-      summary{position:absolute;inset:0 auto 0 0;box-sizing:border-box;width:var(--w);overflow:hidden;\
-      overflow-wrap:anywhere;border:1px solid #888;border-width:1px 0 0 1px;cursor:pointer;\
+      details:not([open])>summary,details:not(:has(>div>:nth-child(2)))>summary{right:0;width:auto}\n\
+      details:not(:has(>div>:nth-child(2)))>div{display:none}\n\
+      summary,details>div>i{box-sizing:border-box;overflow:hidden;overflow-wrap:anywhere;\
       display:flex;flex-flow:column wrap;align-content:flex-start;container-type:size}\n\
-      summary::before{content:\"\"}\n\
-      summary>*,summary::before{flex:none;box-sizing:border-box;width:100%;padding:0 .3rem}\n\
+      summary{position:absolute;inset:0 auto 0 0;width:var(--w);border:1px solid #888;border-width:1px 0 0 1px;cursor:pointer}\n\
+      summary::before,details>div>i::before{content:\"\"}\n\
+      summary>*,summary::before,details>div>i>*,details>div>i::before{flex:none;box-sizing:border-box;width:100%;padding:0 .3rem}\n\
       details:not([open])>summary>b::before{content:\"+ \"}\n\
       details>div{position:absolute;inset:0 0 0 var(--w);display:flex;flex-direction:column}\n\
-      details>div>i{order:1;flex:var(--n) 0 0;overflow:hidden;min-width:var(--w);box-sizing:border-box;\
-      padding-left:.3rem;white-space:nowrap;container-type:size}\ndetails>div>i:only-child>em{display:none}\n\
+      details>div>i{order:1;flex:var(--n) 0 0;min-width:var(--w)}\n\
+      details>div>i:has(+i)>em{border-top:1px solid #888}\n\
       @container (height<2.7em){summary>span{display:none}}\n\
       @container (height<1.35em){summary>b,details>div>i>em{display:none}}\n\
       summary,.bar i{background:var(--c)}\n\
@@ -92,6 +92,6 @@ pub(crate) fn tree_begin() -> &'static [u8]
 pub(crate) fn boxes_begin() -> &'static [u8]
     ensures { result.now ≡ boxes_begin }
 {
-    b", in the colour of the extension that has most of them. Others are the files right in a directory, \
-      and directories with less than a thousandth of all. Fold a box to make room for the rest.</p>\n<div class=\"tree\">\n"
+    b", in the colour of the extension that has most of them. Directories with less than a thousandth of all are drawn together, \
+      and others are the files right in a directory. Fold a box to make room for the rest.</p>\n<div class=\"tree\">\n"
 }

@@ -85,7 +85,7 @@ const CASES: &[Case] = &[
                 </div></details>\n",
         ],
     },
-    // The directory `tiny` has less than a thousandth of the bytes, so it has no box.
+    // The directory `tiny` has less than a thousandth of the bytes, so it has no box of its own.
     Case {
         name: "markup_and_hidden_bytes_in_names",
         sort: Some(Number::Bytes),
@@ -119,7 +119,8 @@ const CASES: &[Case] = &[
             b"bytes",
             b"<details class=\"e0\" style=\"--n:3000\" open><summary title=\".: lines 8, files 4, blank 0, bytes 3,000, \
                 100.0% of all bytes\"><b>.</b> <span>bytes 3,000 (100.0%)\
-                </span></summary><div><i style=\"--n:2\"><em>others 2</em>\
+                </span></summary><div><i style=\"--n:2\"><em>1 small directory: bytes 2 (0.1%)</em></i>\
+                <i style=\"--n:0\"><em>others 0</em>\
                 </i><details class=\"e0\" style=\"--n:1995\" open><summary title=\"\\xff: lines 2, files 1, blank 0, bytes \
                 1,995, 66.5% of all bytes\"><b>\\xff</b> <span>bytes 1,995 (66.5%)\
                 </span></summary><div><i style=\"--n:0\"><em>others 0</em>\
@@ -188,6 +189,16 @@ const CASES: &[Case] = &[
     },
 ];
 
+/// The directories right in `a` and in the top have less than a thousandth of the lines, and so has `c/d`, which is in one of them.
+const SMALL: &[File] = &[
+    (b"a/s/q.c", [4, 0, 4]),
+    (b"a/x.c", [9_984, 0, 9_984]),
+    (b"b/y.c", [5, 0, 5]),
+    (b"c/d/w.c", [3, 0, 3]),
+    (b"c/z.c", [2, 0, 2]),
+    (b"m.c", [2, 0, 2]),
+];
+
 /// Extensions, of which the chart has no place for the last two.
 const MANY: &[Row] = &[
     (Some(b"a"), [1, 40, 0, 0]),
@@ -236,6 +247,21 @@ fn pages(rt: HostRuntime) -> Result<(), Fail> {
     for case in CASES {
         assert!(rt; has_parts(rt.alloc(), case)?, "{}", case.name);
     }
+    Ok(())
+}
+
+#[test]
+fn small_directories_are_drawn_together(rt: HostRuntime) -> Result<(), Fail> {
+    let rows: &[Row] = &[(Some(b"c"), [6, 10_000, 0, 10_000])];
+    let report = report_of(rt.alloc(), rows, [6, 10_000, 0, 10_000], SMALL)?;
+    let text = page(rt.alloc(), b"tree", &report, None)?;
+    let end = b"<b>.</b> <span>lines 10,000 (100.0%)</span></summary><div>\
+        <i style=\"--n:10\"><em>2 small directories: lines 10 (0.1%)</em></i><i style=\"--n:2\"><em>others 2</em></i>\
+        <details class=\"e0\" style=\"--n:9988\" open><summary title=\"a: lines 9,988, files 2, blank 0, bytes 9,988, 99.9% \
+        of all lines\"><b>a</b> <span>lines 9,988 (99.9%)</span></summary><div>\
+        <i style=\"--n:4\"><em>1 small directory: lines 4 (0.0%)</em></i><i style=\"--n:9984\"><em>others 9,984</em></i>\
+        </div></details>\n</div></details>\n</div>\n</body>\n</html>\n";
+    assert!(rt; text.ends_with(end));
     Ok(())
 }
 

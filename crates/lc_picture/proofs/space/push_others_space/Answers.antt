@@ -1,7 +1,7 @@
 use Rattle.std.proofs.Common.{codes}
 use Rattle.lc_picture.specs.Pieces.{count, markup, share}
 use Rattle.lc_picture.proofs.Texts.{five_pieces}
-use Rattle.lc_picture.proofs.boxes.push_space.Goals as goal
+use Rattle.lc_picture.proofs.space.push_others_space.Goals as goal
 
 pub returns : goal.returns
 returns c =

@@ -1,0 +1,15 @@
+use Rattle.std.proofs.Common.{◌≡◌, ◌≤◌, ◌++◌, List, refl, sym, ap, ◌∙◌}
+use Rattle.std.proofs.lemmas.Bool.{le-leb}
+use Rattle.lc_picture.specs.declared.scale.Scale.{Scale}
+use Rattle.lc_picture.specs.declared.small_directories.SmallDirectories.{SmallDirectories}
+use Rattle.lc_picture.specs.Boxes.{small_box, small_space}
+use Rattle.lc_picture.specs.Pieces.{Piece, text_of}
+use Rattle.lc_picture.proofs.space.push_small_space.Goals as goal
+
+some_small : (scale : Scale) (small : SmallDirectories) → 1 ≤ small.count → small_space scale small ≡ small_box scale small
+some_small scale small some = rw (le-leb 1 small.count some) refl
+
+pub returns-in_ok-push_small_box : goal.returns-in_ok-push_small_box
+returns-in_ok-push_small_box c =
+    c.in_ok-push_small_box.ensures
+    ∙ ap (λ (ps : List Piece). c.args.text.now.items ++ text_of ps) (sym (some_small c.args.scale c.args.small c.if-small-ge1.true))
