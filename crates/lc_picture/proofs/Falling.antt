@@ -1,6 +1,6 @@
--- Of boxes whose directories are right in the same one, the largest comes first.
+-- Of boxes right in the same one, the largest comes first.
 use Rattle.std.proofs.Common.{◌≡◌, ℕ, ◌<◌, ◌≤◌, false, take, length, List, [], ◌∷◌, ◌++◌, get_or, refl, sym, ap, ap₂, ◌∙◌, arith}
-use Rattle.std.specs.Cmp.{IsTotalOrder}
+use Rattle.std.specs.Cmp.{IsTotalOrder, bool_cmp_total}
 use Rattle.std.specs.Cmp.Lexicographic.{slice_cmp}
 use Rattle.std.specs.Ordering.{is_lt, ordering_then}
 use Rattle.std.proofs.lemmas.Cmp.{back_total, lists_total, nat_cmp_total, nat_list_cmp_total, on_total, then_total, tied_itself}
@@ -16,8 +16,9 @@ use Rattle.lc_picture.specs.Places.{AreInOrder, FallingLaw, PlaceModel, PlacedMo
 
 place_cmp_total : IsTotalOrder place_cmp
 place_cmp_total =
-    then_total (on_total (λ (p : PlaceModel). p.number) (back_total nat_cmp_total))
-    (on_total (λ (p : PlaceModel). p.directory) nat_list_cmp_total)
+    then_total
+    (then_total (on_total (λ (p : PlaceModel). p.number) (back_total nat_cmp_total))
+    (on_total (λ (p : PlaceModel). p.own_name) nat_list_cmp_total)) (on_total (λ (p : PlaceModel). p.is_file) bool_cmp_total)
 
 -- branches are in a total order
 pub branches_total : IsTotalOrder (slice_cmp place_cmp)
@@ -60,7 +61,7 @@ its_number by boxes placed sorted i d within above a ends =
     (same_last above own.0 a (place_of by (get_or placed i d).drawn) (sym ends ∙ own.1))
 
 places_fall : (a b : PlaceModel) → is_lt (slice_cmp place_cmp (b ∷ []) (a ∷ [])) ≡ false → b.number ≤ a.number
-places_fall a b last = ge_from_not_lt a.number b.number (first_decides _ _ (first_decides _ _ last))
+places_fall a b last = ge_from_not_lt a.number b.number (first_decides _ _ (first_decides _ _ (first_decides _ _ last)))
 
 pub falling_law : FallingLaw
 falling_law by boxes placed d i j above a b sorted before within first second =

@@ -30,18 +30,21 @@ read_word around true ps = refl
 read_word around false ps = refl
 
 -- there may be small directories
-read_space : (around : List (List ℕ)) (scale : Scale) (s : SmallDirectories) (left : ℕ) (some : Bool) (ps : List Piece)
-    → boxes_read around (((if some then small_box scale s else []) ++ others_space left) ++ ps) ≡ boxes_read around ps
-read_space around scale s left true ps = read_word around (s.count == 1) ((small_number scale s.number ++ others_space left) ++ ps)
-read_space around scale s left false ps = refl
+read_space : (around : List (List ℕ)) (scale : Scale) (s : SmallDirectories) (left : ℕ) (is_file some : Bool) (ps : List Piece)
+    → boxes_read around ((if is_file then [] else (if some then small_box scale s else []) ++ others_space left) ++ ps)
+    ≡ boxes_read around ps
+read_space around scale s left true some ps = refl
+read_space around scale s left false true ps =
+    read_word around (s.count == 1) ((small_number scale s.number ++ others_space left) ++ ps)
+read_space around scale s left false false ps = refl
 
 read_opened : (around : List (List ℕ)) (scale : Scale) (b : BoxModel) (left : ℕ) (ps : List Piece)
     → boxes_read around (opening scale b left ++ ps)
-    ≡ (visible_path b.directory ∷ around) ∷ boxes_read (visible_path b.directory ∷ around) ps
+    ≡ (visible_path b.own_name ∷ around) ∷ boxes_read (visible_path b.own_name ∷ around) ps
 read_opened around scale b left ps =
     read_tag_end around (is_open b.depth) _
-    ∙ ap (λ (found : List (List (List ℕ))). (visible_path b.directory ∷ around) ∷ found)
-    (read_space (visible_path b.directory ∷ around) scale b.small left (nat_le 1 b.small.count) ps)
+    ∙ ap (λ (found : List (List (List ℕ))). (visible_path b.own_name ∷ around) ∷ found)
+    (read_space (visible_path b.own_name ∷ around) scale b.small left b.is_file (nat_le 1 b.small.count) ps)
 
 all_inside : (scale : Scale) (before : List (List ℕ)) (bs : List BoxModel) (ds : List (List (List ℕ))) → ComeDepthFirst before ds
     → AreBoxesAt bs ds → boxes_read before (boxes_in scale (length before) bs) ≡ ds

@@ -30,16 +30,17 @@ word_after n true ps = refl
 word_after n false ps = refl
 
 -- there may be small directories
-space_after : (n : ℕ) (scale : Scale) (s : SmallDirectories) (left : ℕ) (some : Bool) (ps : List Piece)
-    → open_after n (((if some then small_box scale s else []) ++ others_space left) ++ ps) ≡ open_after n ps
-space_after n scale s left true ps = word_after n (s.count == 1) ((small_number scale s.number ++ others_space left) ++ ps)
-space_after n scale s left false ps = refl
+space_after : (n : ℕ) (scale : Scale) (s : SmallDirectories) (left : ℕ) (is_file some : Bool) (ps : List Piece)
+    → open_after n ((if is_file then [] else (if some then small_box scale s else []) ++ others_space left) ++ ps) ≡ open_after n ps
+space_after n scale s left true some ps = refl
+space_after n scale s left false true ps = word_after n (s.count == 1) ((small_number scale s.number ++ others_space left) ++ ps)
+space_after n scale s left false false ps = refl
 
 opened_after : (n : ℕ) (scale : Scale) (b : BoxModel) (left : ℕ) (ps : List Piece)
     → open_after n (opening scale b left ++ ps) ≡ open_after (n + 1) ps
 opened_after n scale b left ps =
-    tag_ended_after (n + 1) (is_open b.depth) (space scale b.small left ++ ps)
-    ∙ space_after (n + 1) scale b.small left (nat_le 1 b.small.count) ps
+    tag_ended_after (n + 1) (is_open b.depth) (space scale b.is_file b.small left ++ ps)
+    ∙ space_after (n + 1) scale b.small left b.is_file (nat_le 1 b.small.count) ps
 
 all_closed : (scale : Scale) (within : ℕ) (bs : List BoxModel) → open_after within (boxes_in scale within bs) ≡ Some 0
 all_closed scale within [] =

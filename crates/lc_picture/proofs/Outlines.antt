@@ -39,18 +39,20 @@ tag_end_shows true ps = refl
 tag_end_shows false ps = refl
 
 -- there may be small directories
-space_shows : (scale : Scale) (s : SmallDirectories) (left : ℕ) (some : Bool)
-    → filter is_shown ((if some then small_box scale s else []) ++ others_space left)
-    ≡ (if some then count s.count ∷ count s.number ∷ percent s.number scale.whole ∷ [] else []) ++ count left ∷ []
-space_shows scale s left true = refl
-space_shows scale s left false = refl
+space_shows : (scale : Scale) (s : SmallDirectories) (left : ℕ) (is_file some : Bool)
+    → filter is_shown (if is_file then [] else (if some then small_box scale s else []) ++ others_space left)
+    ≡ (if is_file then []
+    else (if some then count s.count ∷ count s.number ∷ percent s.number scale.whole ∷ [] else []) ++ count left ∷ [])
+space_shows scale s left true some = refl
+space_shows scale s left false true = refl
+space_shows scale s left false false = refl
 
 opening_shows : (scale : Scale) (b : BoxModel) (left : ℕ) → filter is_shown (opening scale b left) ≡ shown_of_box scale b left
 opening_shows scale b left =
     tag_end_shows (is_open b.depth)
-    (title_of scale b.path b.sums ++ (label scale b.directory (number_in scale.by b.sums) ++ space scale b.small left))
-    ∙ ap (λ (ps : List Piece). title (visible_path b.path) ∷ (counts b.sums ++ share_in scale b.sums ∷ name (visible_path b.directory)
-    ∷ count (number_in scale.by b.sums) ∷ share_in scale b.sums ∷ ps)) (space_shows scale b.small left (nat_le 1 b.small.count))
+    (title_of scale b.path b.sums ++ (label scale b.own_name (number_in scale.by b.sums) ++ space scale b.is_file b.small left))
+    ∙ ap (λ (ps : List Piece). title (visible_path b.path) ∷ (counts b.sums ++ share_in scale b.sums ∷ name (visible_path b.own_name)
+    ∷ count (number_in scale.by b.sums) ∷ share_in scale b.sums ∷ ps)) (space_shows scale b.small left b.is_file (nat_le 1 b.small.count))
 
 box_shows : (scale : Scale) (within : ℕ) (b : BoxModel) (bs : List BoxModel)
     → filter is_shown (next_box scale within b bs)

@@ -1,4 +1,5 @@
--- The boxes of a tree of directories. Each has a box inside for each directory right in it, and its share of the space is its number.
+-- The boxes of a tree of directories. Each has a box inside for each directory and each large file right in it, and its share of the space
+-- is its number.
 use Rattle.std.specs.Prelude.{ℕ, ◌+◌, ◌-◌, ◌/◌, ◌%◌, ◌==◌, Bool, true, false, nat_le, nat_lt, if◌then◌else◌, List, [], ◌∷◌, ◌++◌}
 use Rattle.std.specs.Prelude.{max, min, replicate, codes}
 use Rattle.lc_rows.specs.Directories.{own_part}
@@ -13,34 +14,37 @@ use Rattle.lc_picture.specs.Colours.{main_colour, path_of, rows_from, shared_col
 use Rattle.lc_picture.specs.Pieces.{Piece, count, markup, name, percent, share, share_pieces, sums_pieces, title, word}
 use Rattle.lc_picture.specs.Small.{row_level, small_in}
 
--- a directory: its path, the part of it from the directory right above it on, how many directories are above it, its colour, the sums
--- over the files in it and below it, and the small directories right in it
+-- a directory or a file: its path, the part of it from the directory right above it on, how many directories are above it, its colour, the
+-- sums over the files in it and below it, the small directories right in it, and whether it is a file
 pub record BoxModel : Type 0 where
   pub path : List ℕ
-  pub directory : List ℕ
+  pub own_name : List ℕ
   pub depth : ℕ
   pub colour : ℕ
   pub sums : Sums
   pub small : SmallDirectories
+  pub is_file : Bool
 
 abbrev pub box_of : ShownRowModel → ℕ → SmallDirectories → BoxModel
 box_of r colour small = record {
   path = path_of r;
-  directory = own_part (path_of r);
+  own_name = own_part (path_of r);
   depth = row_level r;
   colour = colour;
   sums = r.sums;
   small = small;
+  is_file = false;
 }
 
 abbrev pub coloured : ℕ → BoxModel → BoxModel
 coloured colour b = record {
   path = b.path;
-  directory = b.directory;
+  own_name = b.own_name;
   depth = b.depth;
   colour = colour;
   sums = b.sums;
   small = b.small;
+  is_file = b.is_file;
 }
 
 -- the least number that is drawn: a thousandth of the total, rounded up, and not nothing
@@ -90,7 +94,7 @@ number_drawn scale n =
     word scale.by ∷ markup (codes " ") ∷ count n ∷ markup (codes " (") ∷ percent n scale.whole
     ∷ markup (codes ")</span></summary><div>") ∷ []
 
--- the name of a directory, and the number that is drawn
+-- the name of a directory or a file, and the number that is drawn
 abbrev pub label : Scale → List ℕ → ℕ → List Piece
 label scale directory n =
     markup (codes "\"><b>") ∷ name (visible_path directory) ∷ markup (codes "</b> <span>") ∷ number_drawn scale n
@@ -114,20 +118,21 @@ small_box scale small =
 abbrev pub small_space : Scale → SmallDirectories → List Piece
 small_space scale small = if nat_le 1 small.count then small_box scale small else []
 
--- the space of the files right in a directory, and its number
+-- the space of the other files right in a directory, and their number
 abbrev pub others_space : ℕ → List Piece
 others_space left =
     markup (codes "<i style=\"--n:") ∷ share left ∷ markup (codes "\"><em>others ") ∷ count left ∷ markup (codes "</em></i>") ∷ []
 
--- the space of what is right in a directory and has no box of its own
-abbrev pub space : Scale → SmallDirectories → ℕ → List Piece
-space scale small left = small_space scale small ++ others_space left
+-- the space of what is right in a directory and has no box of its own. A file has none
+abbrev pub space : Scale → Bool → SmallDirectories → ℕ → List Piece
+space scale is_file small left = if is_file then [] else small_space scale small ++ others_space left
 
 -- the begin of a box
 abbrev pub opening : Scale → BoxModel → ℕ → List Piece
 opening scale b left =
     tag scale.by b.depth b.colour b.sums
-    ++ (title_of scale b.path b.sums ++ (label scale b.directory (number_in scale.by b.sums) ++ space scale b.small left))
+    ++ (title_of scale b.path b.sums
+    ++ (label scale b.own_name (number_in scale.by b.sums) ++ space scale b.is_file b.small left))
 
 abbrev pub closing : Piece
 closing = markup (codes "</div></details>\n")
@@ -135,7 +140,7 @@ closing = markup (codes "</div></details>\n")
 abbrev pub closings : ℕ → List Piece
 closings n = replicate n closing
 
--- the number of the files right in a directory, whose boxes are followed by these: that of the directory without those of its small
+-- the number of the other files right in a directory, whose box is followed by these: that of the directory without those of its small
 -- directories, and of the boxes right in it
 abbrev pub others_in : Number → BoxModel → List BoxModel → ℕ
 others_in by b bs = left_beside by b.depth (number_in by b.sums - b.small.number) bs
@@ -144,7 +149,7 @@ others_in by b bs = left_beside by b.depth (number_in by b.sums - b.small.number
 abbrev pub next_box : Scale → ℕ → BoxModel → List BoxModel → List Piece
 next_box scale within b bs = closings (within - b.depth) ++ opening scale b (others_in scale.by b bs)
 
--- the boxes of directories that come depth first, while so many boxes are open
+-- boxes that come depth first, while so many boxes are open
 abbrev pub boxes_in : Scale → ℕ → List BoxModel → List Piece
 boxes_in scale within [] = closings within
 boxes_in scale within (b ∷ bs) = next_box scale within b bs ++ boxes_in scale (min within b.depth + 1) bs

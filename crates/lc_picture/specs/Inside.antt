@@ -33,7 +33,7 @@ AreBoxesAt [] (d ∷ ds) = ⊥
 AreBoxesAt (b ∷ bs) [] = ⊥
 AreBoxesAt (b ∷ bs) ([] ∷ ds) = ⊥
 AreBoxesAt (b ∷ bs) ((own ∷ above) ∷ ds) =
-    ((visible_path b.directory ≡ own) × (b.depth ≡ length above)) × AreBoxesAt bs ds
+    ((visible_path b.own_name ≡ own) × (b.depth ≡ length above)) × AreBoxesAt bs ds
 
 -- then a reader finds each directory, inside those above it
 abbrev pub InsideLaw : Type 0

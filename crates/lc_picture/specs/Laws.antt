@@ -109,12 +109,16 @@ share_in scale s = percent (number_in scale.by s) scale.whole
 abbrev pub shown_of_small : Scale → SmallDirectories → List Piece
 shown_of_small scale s = if nat_le 1 s.count then count s.count ∷ count s.number ∷ percent s.number scale.whole ∷ [] else []
 
--- the path of a directory, its sums and its share; and its name, with the number that is drawn and the share once more;
--- and of what is right in it and in no box the small directories, and the number of the files
+-- of what is right in a directory and in no box of its own the small directories, and the number of the other files
+abbrev pub shown_of_space : Scale → BoxModel → ℕ → List Piece
+shown_of_space scale b left = if b.is_file then [] else shown_of_small scale b.small ++ count left ∷ []
+
+-- the path of a directory or a file, its sums and its share; and its name, with the number that is drawn and the share once more;
+-- and of a directory what is right in it and in no box of its own
 abbrev pub shown_of_box : Scale → BoxModel → ℕ → List Piece
 shown_of_box scale b left =
-    title (visible_path b.path) ∷ (counts b.sums ++ share_in scale b.sums ∷ name (visible_path b.directory)
-    ∷ count (number_in scale.by b.sums) ∷ share_in scale b.sums ∷ (shown_of_small scale b.small ++ count left ∷ []))
+    title (visible_path b.path) ∷ (counts b.sums ++ share_in scale b.sums ∷ name (visible_path b.own_name)
+    ∷ count (number_in scale.by b.sums) ∷ share_in scale b.sums ∷ shown_of_space scale b left)
 
 abbrev pub shown_of_boxes : Scale → List BoxModel → List Piece
 shown_of_boxes scale [] = []
@@ -122,7 +126,8 @@ shown_of_boxes scale (b ∷ bs) =
     shown_of_box scale b (others_in scale.by b bs) ++ shown_of_boxes scale bs
 
 -- a page shows what was counted, the numbers of all files, what could not be read, the names and the numbers of the rows of its sheet and
--- of the sums over the others, and the directories that are drawn with their sums and shares: each once, in turn, and nothing else
+-- of the sums over the others, and the directories and the files that are drawn with their sums and shares: each once, in turn, and
+-- nothing else
 abbrev pub ShownLaw : Type 0
 ShownLaw =
     (counted : List ℕ) (scale : Scale) (faults : List FaultLineModel) (s : SheetModel) (boxes : List BoxModel)
@@ -172,7 +177,7 @@ ColoursLaw =
 
 abbrev pub without_colour : BoxModel → BoxModel
 without_colour b =
-    record { path = b.path; directory = b.directory; depth = b.depth; colour = 0; sums = b.sums; small = no_directories }
+    record { path = b.path; own_name = b.own_name; depth = b.depth; colour = 0; sums = b.sums; small = no_directories; is_file = b.is_file }
 
 -- whatever the colours and the small directories, the directories that are drawn are those with at least the least number, each once
 abbrev pub DrawnLaw : Type 0
@@ -191,11 +196,11 @@ nameless (percent part whole) = percent part whole
 nameless (title t) = title []
 nameless (name t) = name []
 
--- a directory without its name
+-- a box without its name
 abbrev pub outline : BoxModel → BoxModel
-outline b = record { path = []; directory = []; depth = b.depth; colour = b.colour; sums = b.sums; small = b.small }
+outline b = record { path = []; own_name = []; depth = b.depth; colour = b.colour; sums = b.sums; small = b.small; is_file = b.is_file }
 
--- but for the names, the boxes depend on depths, colours and numbers alone: no name adds a tag, or takes one away
+-- but for the names, the boxes depend on depths, colours, numbers and which of them are files alone: no name adds a tag, or takes one away
 abbrev pub OutlineLaw : Type 0
 OutlineLaw =
     (scale : Scale) (bs cs : List BoxModel) → map outline bs ≡ map outline cs

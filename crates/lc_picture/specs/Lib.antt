@@ -4,6 +4,7 @@ pub mod Style
 pub mod Colours
 pub mod Small
 pub mod Boxes
+pub mod Files
 pub mod Places
 pub mod Head
 pub mod Faults

@@ -17,6 +17,7 @@ use Rattle.lc_picture.specs.declared.scale.Scale.{Scale}
 use Rattle.lc_picture.specs.Boxes.{BoxModel, boxes_in, drawn_boxes, least_drawn}
 use Rattle.lc_picture.specs.Chart.{chart}
 use Rattle.lc_picture.specs.Faults.{faults_part}
+use Rattle.lc_picture.specs.Files.{large_files, with_files}
 use Rattle.lc_picture.specs.Head.{head_part}
 use Rattle.lc_picture.specs.Places.{AreLargestFirst}
 use Rattle.lc_picture.specs.Pieces.{Piece, markup, text_of, word}
@@ -39,7 +40,8 @@ tree_begin = codes "</table>\n<h2>By directory</h2>\n<p>Each box is as tall as i
 abbrev pub boxes_begin : List ℕ
 boxes_begin =
     codes ", in the colour of the extension that has most of them. Directories with less than a thousandth of all are drawn together, "
-    ++ codes "and others are the files right in a directory. Fold a box to make room for the rest.</p>\n<div class=\"tree\">\n"
+    ++ codes "and others are the files right in a directory with less than that. "
+    ++ codes "Fold a box to make room for the rest.</p>\n<div class=\"tree\">\n"
 
 abbrev pub tree_part : Scale → List BoxModel → List Piece
 tree_part scale boxes =
@@ -95,17 +97,20 @@ chart_view extensions = view_of (Some chart_rows) extensions []
 abbrev pub tree_depth : ℕ
 tree_depth = 250
 
--- the boxes of the directories that are drawn, with their colours, the largest first
+-- the boxes of the directories and of the files that are drawn, with their colours, the largest first
 pub record AreBoxesOf (by : Number) (totals : Sums) (files : List FileLineModel) (chart : List ShownRowModel) (boxes : List BoxModel)
     : Type 0 where
   pub tree : List ShownRowModel
   pub are_tree : AreTreeRows tree_depth tree_columns files tree
   pub kinds : List ShownRowModel
   pub are_kinds : AreTreeRows tree_depth kind_columns files kinds
-  pub are : AreLargestFirst by (drawn_boxes by (least_drawn (number_in by totals)) chart kinds tree) boxes
+  pub are :
+      AreLargestFirst by
+      (with_files (large_files tree_depth by (least_drawn (number_in by totals)) chart files)
+      (drawn_boxes by (least_drawn (number_in by totals)) chart kinds tree)) boxes
 
--- a text is the page of a report of what was counted, drawn by a number: of the sheet of its extensions, sorted, and of the directories
--- of its files
+-- a text is the page of a report of what was counted, drawn by a number: of the sheet of its extensions, sorted, and of its files and
+-- their directories
 pub record IsPageOf (counted : List ℕ) (by : Number) (r : Report) (text : List ℕ) : Type 0 where
   pub extensions : List ShownRowModel
   pub are_extensions : AreShown chart_columns (Some by) r.rows.items r.files.items extensions

@@ -1,4 +1,4 @@
-//! The boxes of a tree of directories. Each box is inside the box of the directory above it.
+//! The boxes of a tree of directories and files. Each box is inside the box of the directory above it.
 
 ghost use Rattle.std.specs.Prelude.{◌≡◌, ◌+◌, ◌-◌, ◌==◌, if◌then◌else◌, ◌++◌, IfOk, OnOk, min};
 ghost use Rattle.lc_rows.specs.ShownRows.{number_in};
@@ -6,7 +6,7 @@ ghost use Rattle.lc_picture.specs.Boxes.{boxes_in, closings, label, left_beside,
 ghost use Rattle.lc_picture.specs.Boxes.{tag_end, title_of};
 ghost use Rattle.lc_picture.specs.Pieces.{piece_text, text_of};
 
-use crate::directory_box::DirectoryBox;
+use crate::drawn_box::DrawnBox;
 use crate::escaping::push_path;
 use crate::percents::push_percent;
 use crate::scale::Scale;
@@ -21,7 +21,7 @@ use std::alloc::AllocError;
 const OPEN_LEVELS: usize = 7;
 
 /// Returns a number without the number of the next box, if that box is right in a box of this depth, and otherwise the number itself.
-fn left_after(by: Number, depth: usize, left: u128, next: &DirectoryBox<'_>) -> u128
+fn left_after(by: Number, depth: usize, left: u128, next: &DrawnBox<'_>) -> u128
     ensures { result ≡ (if next.now.depth == depth + 1 then left - number_in by next.now.sums else left) }
 {
     if next.depth > depth && next.depth - depth == 1 {
@@ -32,7 +32,7 @@ fn left_after(by: Number, depth: usize, left: u128, next: &DirectoryBox<'_>) -> 
 }
 
 /// Returns what is left of a number without the boxes right in one of this depth. The boxes after that one are `after`.
-fn left_beside<'a>(by: Number, depth: usize, number: u128, after: &[DirectoryBox<'a>]) -> u128
+fn left_beside<'a>(by: Number, depth: usize, number: u128, after: &[DrawnBox<'a>]) -> u128
     ensures { result ≡ left_beside by depth number after.now }
 {
     let mut left = number;
@@ -45,9 +45,9 @@ fn left_beside<'a>(by: Number, depth: usize, number: u128, after: &[DirectoryBox
     left
 }
 
-/// Returns the number of the files right in a directory: what it has besides its small directories and the boxes right in it. The boxes
-/// after it are `after`.
-fn others_in<'a>(by: Number, drawn: &DirectoryBox<'a>, after: &[DirectoryBox<'a>]) -> u128
+/// Returns the number of the other files right in a directory: what the directory has besides its small directories and the boxes right in
+/// it. The boxes after it are `after`.
+fn others_in<'a>(by: Number, drawn: &DrawnBox<'a>, after: &[DrawnBox<'a>]) -> u128
     ensures { result ≡ others_in by drawn.now after.now }
 {
     let number = number_in(by, drawn.sums).saturating_sub(drawn.small.number);
@@ -118,14 +118,14 @@ fn push_drawn_number(
 fn push_label(
     text: &mut Vec<u8>,
     scale: Scale,
-    directory: &[u8],
+    own_name: &[u8],
     n: u128,
     made: &mut String,
 ) -> Result<(), AllocError>
-    ensures { OnOk result (text.new.items ≡ text.old.items ++ text_of (label scale directory.now n)) }
+    ensures { OnOk result (text.new.items ≡ text.old.items ++ text_of (label scale own_name.now n)) }
 {
     text.extend_from_slice(b"\"><b>")?;
-    push_path(text, directory, made)?;
+    push_path(text, own_name, made)?;
     text.extend_from_slice(b"</b> <span>")?;
     push_drawn_number(text, scale, n, made)
 }
@@ -134,7 +134,7 @@ fn push_label(
 fn push_opening(
     text: &mut Vec<u8>,
     scale: Scale,
-    drawn: &DirectoryBox<'_>,
+    drawn: &DrawnBox<'_>,
     left: u128,
     made: &mut String,
 ) -> Result<(), AllocError>
@@ -145,11 +145,11 @@ fn push_opening(
     push_label(
         text,
         scale,
-        drawn.directory,
+        drawn.own_name,
         number_in(scale.by, drawn.sums),
         made,
     )?;
-    push_space(text, scale, drawn.small, left, made)?;
+    push_space(text, scale, drawn.is_file, drawn.small, left, made)?;
     Ok(())
 }
 
@@ -170,8 +170,8 @@ fn push_box<'a>(
     text: &mut Vec<u8>,
     scale: Scale,
     within: usize,
-    drawn: &DirectoryBox<'a>,
-    after: &[DirectoryBox<'a>],
+    drawn: &DrawnBox<'a>,
+    after: &[DrawnBox<'a>],
     made: &mut String,
 ) -> Result<usize, AllocError>
     ensures text { OnOk result (text.new.items ≡ text.old.items ++ text_of (next_box scale within drawn.now after.now)) }
@@ -184,11 +184,11 @@ fn push_box<'a>(
     Ok(next)
 }
 
-/// Appends the boxes of directories, which come depth first.
+/// Appends the boxes of directories and files, which come depth first.
 pub(crate) fn push_boxes<'a>(
     text: &mut Vec<u8>,
     scale: Scale,
-    boxes: &[DirectoryBox<'a>],
+    boxes: &[DrawnBox<'a>],
     made: &mut String,
 ) -> Result<(), AllocError>
     ensures { OnOk result (text.new.items ≡ text.old.items ++ text_of (boxes_in scale 0 boxes.now)) }

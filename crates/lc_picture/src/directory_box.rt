@@ -1,4 +1,4 @@
-//! A directory as a box of the picture.
+//! The boxes of directories.
 
 ghost use Rattle.std.specs.Prelude.{◌≡◌, [], ◌∷◌, ◌++◌, IfOk, OnOk, drop};
 ghost use Rattle.lc_rows.specs.ShownRows.{number_in};
@@ -6,68 +6,11 @@ ghost use Rattle.lc_picture.specs.Boxes.{box_of, coloured, drawn_boxes, least_dr
 ghost use Rattle.lc_picture.specs.Colours.{main_colour, path_of, rows_from, shared_colour};
 
 use crate::colours::{main_colour, next_place, path_of};
+use crate::drawn_box::DrawnBox;
 use crate::small_directories::{SmallDirectories, small_at, smalls_of};
 use lc_rows::{ShownRow, level_of, number_in, own_part};
 use lc_sheet::Number;
-use lc_walk::Sums;
 use std::alloc::{AllocError, Global};
-use std::marker::Model;
-
-/// A directory that is drawn.
-#[derive(Drop)]
-pub(crate) struct DirectoryBox<'a> {
-    /// The path of the directory. The path of the top is empty.
-    pub(crate) path: &'a [u8],
-    /// The part of the path that follows the parent directory, which is the last name in most trees. The top has an empty one.
-    pub(crate) directory: &'a [u8],
-    /// The number of directories above the directory.
-    pub(crate) depth: usize,
-    /// The colour of the extension with the largest number in the directory.
-    pub(crate) colour: usize,
-    /// The sums over the files in the directory and below it.
-    pub(crate) sums: Sums,
-    /// The small directories right in the directory.
-    pub(crate) small: SmallDirectories,
-}
-
-impl<'a> Model for DirectoryBox<'a> {
-    ghost use Rattle.lc_picture.specs.Boxes.{BoxModel};
-
-    ghost Value = { BoxModel };
-
-    ghost view = { λ b. record {
-      path = b.path.now;
-      directory = b.directory.now;
-      depth = b.depth;
-      colour = b.colour;
-      sums = b.sums;
-      small = b.small;
-    } };
-}
-
-impl<'a> DirectoryBox<'a> {
-    pub(crate) fn copy(&self) -> DirectoryBox<'a>
-        ensures { result ≡ self.now }
-    {
-        DirectoryBox {
-            path: self.path,
-            directory: self.directory,
-            depth: self.depth,
-            colour: self.colour,
-            sums: self.sums,
-            small: self.small,
-        }
-    }
-
-    fn coloured(&self, colour: usize) -> DirectoryBox<'a>
-        ensures { result ≡ coloured colour self.now }
-    {
-        DirectoryBox {
-            colour,
-            ..self.copy()
-        }
-    }
-}
 
 /// Returns the least number that is drawn: a thousandth of the total, rounded up, and at least 1.
 pub(crate) fn least_drawn(total: u128) -> u128
@@ -83,25 +26,26 @@ fn rest_from<'a, 'b>(kinds: &'b [ShownRow<'a>], place: usize) -> &'b [ShownRow<'
     &kinds[place.min(kinds.len())..]
 }
 
-fn box_of<'a>(row: &ShownRow<'a>, small: SmallDirectories) -> DirectoryBox<'a>
+fn box_of<'a>(row: &ShownRow<'a>, small: SmallDirectories) -> DrawnBox<'a>
     ensures { result ≡ box_of row.now 0 small }
 {
     let path = path_of(row);
-    DirectoryBox {
+    DrawnBox {
         path,
-        directory: own_part(path),
+        own_name: own_part(path),
         depth: level_of(path),
         colour: 0,
         sums: row.sums,
         small,
+        is_file: false,
     }
 }
 
 /// Appends the box of a directory in its colour, and returns the place of its first row among those by directory and extension.
 fn push_drawn<'a>(
-    boxes: &mut Vec<DirectoryBox<'a>>,
+    boxes: &mut Vec<DrawnBox<'a>>,
     by: Number,
-    drawn: &DirectoryBox<'a>,
+    drawn: &DrawnBox<'a>,
     chart: &[ShownRow<'_>],
     kinds: &[ShownRow<'_>],
     start: usize,
@@ -127,7 +71,7 @@ pub(crate) fn drawn_boxes<'a>(
     rows: &[ShownRow<'a>],
     chart: &[ShownRow<'_>],
     kinds: &[ShownRow<'_>],
-) -> Result<Vec<DirectoryBox<'a>>, AllocError>
+) -> Result<Vec<DrawnBox<'a>>, AllocError>
     ensures { IfOk result (λ boxes. boxes.items ≡ drawn_boxes by least chart.now kinds.now rows.now) }
 {
     let smalls = smalls_of(alloc, by, least, rows)?;

@@ -5,17 +5,17 @@ ghost use Rattle.std.specs.Cmp.Lexicographic.{slice_cmp};
 ghost use Rattle.std.specs.List.Sorted.{IsPermutation, IsSortedByKey};
 ghost use Rattle.lc_picture.specs.Places.{AreLargestFirst, PlacedModel, branch_of, place_cmp, placed_from};
 
-use crate::directory_box::DirectoryBox;
+use crate::drawn_box::DrawnBox;
 use crate::places::{Place, compare_branches};
 use lc_sheet::Number;
 use std::alloc::{AllocError, Global};
 use std::marker::Model;
 
-/// A box, with the places of its directory and of the directories above it.
+/// A box, with its place and those of the directories above it.
 #[derive(Drop)]
 struct PlacedBox<'a> {
     branch: Vec<Place<'a>>,
-    drawn: DirectoryBox<'a>,
+    drawn: DrawnBox<'a>,
 }
 
 impl<'a> Model for PlacedBox<'a> {
@@ -36,11 +36,11 @@ fn copies<'a>(alloc: Global, places: &[Place<'a>]) -> Result<Vec<Place<'a>>, All
     Ok(made)
 }
 
-/// Turns the places of the previous directory, and of the directories above it, into the places of this directory and of those above it.
+/// Turns the places of the previous box, and of the directories above it, into the places of this box and of the directories above it.
 fn next_branch<'a>(
     branch: &mut Vec<Place<'a>>,
     by: Number,
-    drawn: &DirectoryBox<'a>,
+    drawn: &DrawnBox<'a>,
 ) -> Result<(), AllocError>
     ensures { OnOk result (branch.new.items ≡ branch_of by branch.old.items drawn.now) }
 {
@@ -53,7 +53,7 @@ fn push_placed<'a>(
     alloc: Global,
     placed: &mut Vec<PlacedBox<'a>>,
     branch: &[Place<'a>],
-    drawn: &DirectoryBox<'a>,
+    drawn: &DrawnBox<'a>,
 ) -> Result<(), AllocError>
     ensures { OnOk result (placed.new.items ≡ placed.old.items ++ record { branch = branch.now; drawn = drawn.now } ∷ []) }
 {
@@ -68,7 +68,7 @@ fn push_placed<'a>(
 fn placed_boxes<'a>(
     alloc: Global,
     by: Number,
-    boxes: &[DirectoryBox<'a>],
+    boxes: &[DrawnBox<'a>],
 ) -> Result<Vec<PlacedBox<'a>>, AllocError>
     ensures { IfOk result (λ placed. placed.items ≡ placed_from by [] boxes.now) }
 {
@@ -88,10 +88,7 @@ fn sort(placed: &mut Vec<PlacedBox<'_>>)
     placed.sort_unstable_by(|a, b| compare_branches(&a.branch, &b.branch));
 }
 
-fn boxes_of<'a>(
-    alloc: Global,
-    placed: &[PlacedBox<'a>],
-) -> Result<Vec<DirectoryBox<'a>>, AllocError>
+fn boxes_of<'a>(alloc: Global, placed: &[PlacedBox<'a>]) -> Result<Vec<DrawnBox<'a>>, AllocError>
     ensures { IfOk result (λ boxes. boxes.items ≡ map (λ (p : PlacedModel). p.drawn) placed.now) }
 {
     let mut boxes = Vec::with_capacity(alloc, placed.len())?;
@@ -106,8 +103,8 @@ fn boxes_of<'a>(
 pub(crate) fn largest_first<'a>(
     alloc: Global,
     by: Number,
-    boxes: &[DirectoryBox<'a>],
-) -> Result<Vec<DirectoryBox<'a>>, AllocError>
+    boxes: &[DrawnBox<'a>],
+) -> Result<Vec<DrawnBox<'a>>, AllocError>
     ensures { IfOk result (λ sorted. AreLargestFirst by boxes.now sorted.items) }
 {
     let mut placed = placed_boxes(alloc, by, boxes)?;

@@ -12,8 +12,8 @@ pub fn names_are_never_markup()
 {}
 
 /// The law that a page shows the numbers of all files, the names and numbers of its sheet's rows and of the sums over the others, and each
-/// drawn directory with its sums. It shows each once, and no other numbers or names. In a report the rows are its extensions. The drawn
-/// directories are those with enough lines, or with enough of the number that is requested.
+/// drawn directory and file with its sums. It shows each once, and no other numbers or names. In a report the rows are its extensions. The
+/// drawn directories are those with enough lines, or with enough of the number that is requested.
 pub fn a_page_shows_each_directory_once()
     ensures shown { ShownLaw }
     ensures report { ReportLaw }
@@ -30,13 +30,13 @@ pub fn boxes_are_nested()
     ensures { NestingLaw }
 {}
 
-/// The law that the boxes of directories, which come depth first, open inside the boxes of the directories above them. A reader who joins
-/// the names of the open boxes finds the path of each directory.
+/// The law that boxes, which come depth first, open inside the boxes of the directories above them. A reader who joins the names of the
+/// open boxes finds the path of each directory and file.
 pub fn a_box_opens_inside_that_of_its_parent()
     ensures { InsideLaw }
 {}
 
-/// The law that the first of two boxes has the larger number, or the same number, if their directories are right in the same directory.
+/// The law that the first of two boxes has the larger number, or the same number, if both are right in the same directory.
 pub fn larger_boxes_come_first()
     ensures { FallingLaw }
 {}

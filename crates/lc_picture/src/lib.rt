@@ -1,8 +1,9 @@
 //! The picture of a tree: a page of HTML with the sums of a report, a bar chart of its extensions, and the boxes of its directories.
 //!
 //! - `escaping`: texts in HTML; `style`: the fixed parts of a page
-//! - `boxes`, `directory_box`: the boxes of the directories, each inside the box of the directory above it; `small_directories`, `space`:
-//!   the directories that are too small for boxes of their own, and the space of what has no box
+//! - `boxes`, `drawn_box`: the boxes of directories and files, each inside the box of the directory above it; `directory_box`, `file_box`:
+//!   which directories and files have boxes; `small_directories`, `space`: the directories that are too small for boxes of their own, and
+//!   the space of what has no box
 //! - `largest_first`, `places`: the order of boxes
 //! - `colours`: the colours of extensions and of directories
 //! - `faults`: the errors at the top of a page
@@ -17,8 +18,10 @@ mod cells;
 mod chart;
 mod colours;
 mod directory_box;
+mod drawn_box;
 mod escaping;
 mod faults;
+mod file_box;
 mod head;
 mod largest_first;
 mod laws;

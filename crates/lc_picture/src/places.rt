@@ -1,20 +1,21 @@
-//! The places of directories. Of the directories right in the same one, the largest comes first.
+//! The places of directories and files. Of those right in the same directory, the largest comes first.
 
 ghost use Rattle.std.specs.Prelude.{◌≡◌};
 ghost use Rattle.std.specs.Cmp.Lexicographic.{slice_cmp};
 ghost use Rattle.lc_picture.specs.Places.{place_cmp, place_of};
 
-use crate::directory_box::DirectoryBox;
+use crate::drawn_box::DrawnBox;
 use lc_rows::number_in;
 use lc_sheet::Number;
 use std::cmp::Ordering;
 use std::marker::Model;
 
-/// The place of a directory among the directories right in the same one.
+/// The place of a directory or a file among those right in the same directory.
 #[derive(Drop)]
 pub(crate) struct Place<'a> {
     number: u128,
-    directory: &'a [u8],
+    own_name: &'a [u8],
+    is_file: bool,
 }
 
 impl<'a> Model for Place<'a> {
@@ -22,16 +23,17 @@ impl<'a> Model for Place<'a> {
 
     ghost Value = { PlaceModel };
 
-    ghost view = { λ p. record { number = p.number; directory = p.directory.now } };
+    ghost view = { λ p. record { number = p.number; own_name = p.own_name.now; is_file = p.is_file } };
 }
 
 impl<'a> Place<'a> {
-    pub(crate) fn of(by: Number, drawn: &DirectoryBox<'a>) -> Place<'a>
+    pub(crate) fn of(by: Number, drawn: &DrawnBox<'a>) -> Place<'a>
         ensures { result ≡ place_of by drawn.now }
     {
         Place {
             number: number_in(by, drawn.sums),
-            directory: drawn.directory,
+            own_name: drawn.own_name,
+            is_file: drawn.is_file,
         }
     }
 
@@ -40,7 +42,8 @@ impl<'a> Place<'a> {
     {
         Place {
             number: self.number,
-            directory: self.directory,
+            own_name: self.own_name,
+            is_file: self.is_file,
         }
     }
 
@@ -50,11 +53,12 @@ impl<'a> Place<'a> {
         other
             .number
             .cmp(&self.number)
-            .then(self.directory.cmp(&other.directory))
+            .then(self.own_name.cmp(&other.own_name))
+            .then(self.is_file.cmp(&other.is_file))
     }
 }
 
-/// Compares the places of two directories and of the directories above them, from the top down.
+/// Compares the places of two boxes and of the directories above them, from the top down.
 pub(crate) fn compare_branches(a: &[Place<'_>], b: &[Place<'_>]) -> Ordering
     ensures { result ≡ slice_cmp place_cmp a.now b.now }
 {

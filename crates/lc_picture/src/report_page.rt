@@ -8,8 +8,10 @@ ghost use Rattle.lc_picture.specs.Pieces.{text_of};
 
 use crate::boxes::push_boxes;
 use crate::chart::push_chart;
-use crate::directory_box::{DirectoryBox, drawn_boxes, least_drawn};
+use crate::directory_box::{drawn_boxes, least_drawn};
+use crate::drawn_box::DrawnBox;
 use crate::faults::push_faults;
+use crate::file_box::{large_files, with_files};
 use crate::head::push_head_part;
 use crate::largest_first::largest_first;
 use crate::scale::Scale;
@@ -63,7 +65,7 @@ fn push_chart_part<R: Lines, T: Lines, F: Lines, S: Lines, E: Lines>(
 fn push_tree_part(
     text: &mut Vec<u8>,
     scale: Scale,
-    boxes: &[DirectoryBox<'_>],
+    boxes: &[DrawnBox<'_>],
     made: &mut String,
 ) -> Result<(), AllocError>
     ensures { OnOk result (text.new.items ≡ text.old.items ++ text_of (tree_part scale boxes.now)) }
@@ -82,7 +84,7 @@ fn page_text<R: Lines, T: Lines, F: Lines, S: Lines, E: Lines>(
     scale: Scale,
     faults: &[FaultLine],
     sheet: &Sheet<'_, R, T, F, S, E>,
-    boxes: &[DirectoryBox<'_>],
+    boxes: &[DrawnBox<'_>],
 ) -> Result<Vec<u8>, AllocError>
     ensures { IfOk result (λ text. text.items ≡ text_of (page_pieces counted.now scale faults.now sheet.now boxes.now)) }
 {
@@ -126,21 +128,23 @@ fn first_rows<'a, 'b>(rows: &'b [ShownRow<'a>]) -> &'b [ShownRow<'a>]
     &rows[..rows.len().min(CHART_ROWS as usize)]
 }
 
-/// Returns the boxes of the directories of some files.
+/// Returns the boxes of some files and of their directories.
 fn boxes_of<'a>(
     alloc: Global,
     by: Number,
     totals: Sums,
     files: &'a [FileLine],
     chart: &[ShownRow<'_>],
-) -> Result<Vec<DirectoryBox<'a>>, AllocError>
+) -> Result<Vec<DrawnBox<'a>>, AllocError>
     ensures { IfOk result (λ boxes. AreBoxesOf by totals files.entry.now chart.now boxes.items) }
 {
     let tree = tree_rows(alloc, files, TREE_COLUMNS, TREE_DEPTH)?;
     let kinds = tree_rows(alloc, files, KIND_COLUMNS, TREE_DEPTH)?;
     let least = least_drawn(number_in(by, totals));
     let drawn = drawn_boxes(alloc, by, least, &tree, chart, &kinds)?;
-    let boxes = largest_first(alloc, by, &drawn)?;
+    let large = large_files(alloc, TREE_DEPTH, by, least, chart, files)?;
+    let all = with_files(alloc, &large, &drawn)?;
+    let boxes = largest_first(alloc, by, &all)?;
     Ok(boxes)
 }
 
@@ -170,10 +174,10 @@ fn page_by(
 /// Makes the page of a report: one file of HTML with no script, no font and no address.
 ///
 /// It has what was counted (`counted`, as terminals show it), the sums over all files, a bar for each of the first extensions, and a box
-/// for each directory. Each box is inside the box of the directory above it, and the largest come first. If the report has errors, the page
-/// says how many, and lists the first hundred. The number `sort`, or lines without it, determines the bars and the boxes, and the browser
-/// divides the space by these numbers. Directories with less than a thousandth of the total have no boxes. A reader can fold a box to leave
-/// its space to others.
+/// for each directory and each file with at least a thousandth of the total. Each box is inside the box of the directory above it, and the
+/// largest come first. If the report has errors, the page says how many, and lists the first hundred. The number `sort`, or lines without
+/// it, determines the bars and the boxes, and the browser divides the space by these numbers. The smaller directories right in a directory
+/// are drawn together, and so are its smaller files. A reader can fold a box to leave its space to others.
 ///
 /// The report must have its files. An error means that an allocation failed, or that sums overflow, which those of a walk never do.
 pub fn page(

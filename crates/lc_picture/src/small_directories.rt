@@ -19,7 +19,7 @@ pub(crate) struct SmallDirectories {
 }
 
 impl SmallDirectories {
-    fn none() -> SmallDirectories
+    pub(crate) fn none() -> SmallDirectories
         ensures { result ≡ no_directories }
     {
         SmallDirectories {

@@ -82,16 +82,20 @@ fn push_others_space(text: &mut Vec<u8>, left: u128, made: &mut String) -> Resul
     Ok(())
 }
 
-/// Appends the boxes of small directories and of the other files.
+/// Appends the boxes of small directories and of the other files. A file has none.
 pub(crate) fn push_space(
     text: &mut Vec<u8>,
     scale: Scale,
+    is_file: bool,
     small: SmallDirectories,
     left: u128,
     made: &mut String,
 ) -> Result<(), AllocError>
-    ensures { OnOk result (text.new.items ≡ text.old.items ++ text_of (space scale small left)) }
+    ensures { OnOk result (text.new.items ≡ text.old.items ++ text_of (space scale is_file small left)) }
 {
+    if is_file {
+        return Ok(());
+    }
     push_small_space(text, scale, small, made)?;
     push_others_space(text, left, made)
 }

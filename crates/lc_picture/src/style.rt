@@ -42,7 +42,8 @@ pub(crate) fn style() -> &'static [u8]
       summary{position:absolute;inset:0 auto 0 0;width:var(--w);border:1px solid #888;border-width:1px 0 0 1px;cursor:pointer}\n\
       summary::before,details>div>i::before{content:\"\"}\n\
       summary>*,summary::before,details>div>i>*,details>div>i::before{flex:none;box-sizing:border-box;width:100%;padding:0 .3rem}\n\
-      details:not([open])>summary>b::before{content:\"+ \"}\n\
+      details:not([open]):has(>div>*)>summary>b::before{content:\"+ \"}\n\
+      details:not(:has(>div>*))>summary>b{font-weight:normal}\n\
       details>div{position:absolute;inset:0 0 0 var(--w);display:flex;flex-direction:column}\n\
       details>div>i{order:1;flex:var(--n) 0 0;min-width:var(--w)}\n\
       details>div>i:has(+i)>em{border-top:1px solid #888}\n\
@@ -93,5 +94,5 @@ pub(crate) fn boxes_begin() -> &'static [u8]
     ensures { result.now ≡ boxes_begin }
 {
     b", in the colour of the extension that has most of them. Directories with less than a thousandth of all are drawn together, \
-      and others are the files right in a directory. Fold a box to make room for the rest.</p>\n<div class=\"tree\">\n"
+      and others are the files right in a directory with less than that. Fold a box to make room for the rest.</p>\n<div class=\"tree\">\n"
 }

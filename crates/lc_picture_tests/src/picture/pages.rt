@@ -64,24 +64,31 @@ const CASES: &[Case] = &[
                 <td>15</td><td>5.6%</td><td><div class=\"bar\"><i style=\"--n:1\">\
                 </i><u style=\"--n:12\"></u></div></td></tr>\n",
             b"lines",
-            b"<details class=\"e0\" style=\"--n:18\" open><summary title=\".: lines 18, files 5, blank 5, bytes 109, 100.0% \
-                of all lines\"><b>.</b> <span>lines 18 (100.0%)</span></summary>\
-                <div><i style=\"--n:4\"><em>others 4</em></i><details class=\"e0\" style=\"--n:11\" open>\
-                <summary title=\"src: lines 11, files 3, blank 3, bytes 85, 61.1% of all lines\">\
-                <b>src</b> <span>lines 11 (61.1%)</span></summary><div><i style=\"--n:7\">\
-                <em>others 7</em></i><details class=\"e0\" style=\"--n:4\" open>\
-                <summary title=\"src/view: lines 4, files 2, blank 3, bytes 35, 22.2% of all lines\">\
-                <b>view</b> <span>lines 4 (22.2%)</span></summary><div><i style=\"--n:3\">\
-                <em>others 3</em></i><details class=\"e2\" style=\"--n:1\" open>\
-                <summary title=\"src/view/old: lines 1, files 1, blank 0, bytes 15, 5.6% of all lines\">\
-                <b>old</b> <span>lines 1 (5.6%)</span></summary><div><i style=\"--n:1\">\
-                <em>others 1</em></i></div></details>\n\
+            b"<details class=\"e0\" style=\"--n:18\" open><summary title=\".: lines 18, files 5, blank 5, bytes 109, \
+                100.0% of all lines\"><b>.</b> <span>lines 18 (100.0%)</span></summary><div><i style=\"--n:0\"><em>others 0</em>\
+                </i><details class=\"e0\" style=\"--n:11\" open><summary title=\"src: lines 11, files 3, blank 3, bytes 85, \
+                61.1% of all lines\"><b>src</b> <span>lines 11 (61.1%)</span></summary><div><i style=\"--n:0\"><em>others 0</em>\
+                </i><details class=\"e0\" style=\"--n:7\" open><summary title=\"src/main.c: lines 7, files 1, blank 0, \
+                bytes 50, 38.9% of all lines\"><b>main.c</b> <span>lines 7 (38.9%)</span></summary><div></div></details>\n\
+                <details class=\"e0\" style=\"--n:4\" open><summary title=\"src/view: lines 4, files 2, blank 3, bytes 35, \
+                22.2% of all lines\"><b>view</b> <span>lines 4 (22.2%)</span></summary><div><i style=\"--n:0\"><em>others 0</em>\
+                </i><details class=\"e0\" style=\"--n:3\" open><summary title=\"src/view/rows.c: lines 3, files 1, blank 3, \
+                bytes 20, 16.7% of all lines\"><b>rows.c</b> <span>lines 3 (16.7%)</span></summary><div></div></details>\n\
+                <details class=\"e2\" style=\"--n:1\" open><summary title=\"src/view/old: lines 1, files 1, blank 0, bytes 15, \
+                5.6% of all lines\"><b>old</b> <span>lines 1 (5.6%)</span></summary><div><i style=\"--n:0\"><em>others 0</em>\
+                </i><details class=\"e2\" style=\"--n:1\" open><summary title=\"src/view/old/rows.h: lines 1, files 1, blank 0, \
+                bytes 15, 5.6% of all lines\"><b>rows.h</b> <span>lines 1 (5.6%)</span></summary><div></div></details>\n\
                 </div></details>\n\
                 </div></details>\n\
+                </div></details>\n\
+                <details class=\"e1\" style=\"--n:4\" open><summary title=\"Makefile: lines 4, files 1, blank 1, bytes 9, \
+                22.2% of all lines\"><b>Makefile</b> <span>lines 4 (22.2%)</span></summary><div></div></details>\n\
                 <details class=\"e0\" style=\"--n:3\" open><summary title=\"src-old: lines 3, files 1, blank 1, bytes 15, \
-                16.7% of all lines\"><b>src-old</b> <span>lines 3 (16.7%)\
-                </span></summary><div><i style=\"--n:3\"><em>others 3</em>\
-                </i></div></details>\n\
+                16.7% of all lines\"><b>src-old</b> <span>lines 3 (16.7%)</span></summary><div><i style=\"--n:0\"><em>\
+                others 0</em></i><details class=\"e0\" style=\"--n:3\" open><summary title=\"src-old/main.c: lines 3, files 1, \
+                blank 1, bytes 15, 16.7% of all lines\"><b>main.c</b> <span>lines 3 (16.7%)</span></summary><div></div>\
+                </details>\n\
+                </div></details>\n\
                 </div></details>\n",
         ],
     },
@@ -118,24 +125,29 @@ const CASES: &[Case] = &[
                 </i><u style=\"--n:1990\"></u></div></td></tr>\n",
             b"bytes",
             b"<details class=\"e0\" style=\"--n:3000\" open><summary title=\".: lines 8, files 4, blank 0, bytes 3,000, \
-                100.0% of all bytes\"><b>.</b> <span>bytes 3,000 (100.0%)\
-                </span></summary><div><i style=\"--n:2\"><em>1 small directory: bytes 2 (0.1%)</em></i>\
-                <i style=\"--n:0\"><em>others 0</em>\
-                </i><details class=\"e0\" style=\"--n:1995\" open><summary title=\"\\xff: lines 2, files 1, blank 0, bytes \
-                1,995, 66.5% of all bytes\"><b>\\xff</b> <span>bytes 1,995 (66.5%)\
-                </span></summary><div><i style=\"--n:0\"><em>others 0</em>\
-                </i><details class=\"e0\" style=\"--n:1995\" open><summary title=\"\\xff/\\xe2\\x80\\xae: lines 2, files \
-                1, blank 0, bytes 1,995, 66.5% of all bytes\"><b>\\xe2\\x80\\xae\
-                </b> <span>bytes 1,995 (66.5%)</span></summary><div><i style=\"--n:1995\">\
-                <em>others 1,995</em></i></div></details>\n\
+                100.0% of all bytes\"><b>.</b> <span>bytes 3,000 (100.0%)</span></summary><div><i style=\"--n:2\"><em>\
+                1 small directory: bytes 2 (0.1%)</em></i><i style=\"--n:0\"><em>others 0</em></i>\
+                <details class=\"e0\" style=\"--n:1995\" open><summary title=\"\\xff: lines 2, files 1, blank 0, bytes 1,995, \
+                66.5% of all bytes\"><b>\\xff</b> <span>bytes 1,995 (66.5%)</span></summary><div><i style=\"--n:0\"><em>\
+                others 0</em></i><details class=\"e0\" style=\"--n:1995\" open><summary title=\"\\xff/\\xe2\\x80\\xae: lines 2, \
+                files 1, blank 0, bytes 1,995, 66.5% of all bytes\"><b>\\xe2\\x80\\xae</b> <span>bytes 1,995 (66.5%)</span>\
+                </summary><div><i style=\"--n:0\"><em>others 0</em></i><details class=\"e0\" style=\"--n:1995\" open>\
+                <summary title=\"\\xff/\\xe2\\x80\\xae/y: lines 2, files 1, blank 0, bytes 1,995, 66.5% of all bytes\"><b>y</b> \
+                <span>bytes 1,995 (66.5%)</span></summary><div></div></details>\n\
+                </div></details>\n\
                 </div></details>\n\
                 <details class=\"e1\" style=\"--n:1000\" open><summary title=\"&#60;b&#62;&#38;amp;&#34;&#39;: lines 1, \
-                files 1, blank 0, bytes 1,000, 33.3% of all bytes\"><b>&#60;b&#62;&#38;amp;&#34;&#39;\
-                </b> <span>bytes 1,000 (33.3%)</span></summary><div><i style=\"--n:1000\">\
-                <em>others 1,000</em></i></div></details>\n\
-                <details class=\"e2\" style=\"--n:3\" open><summary title=\"deep: lines 0, files 1, blank 0, bytes 3, 0.1% \
-                of all bytes\"><b>deep</b> <span>bytes 3 (0.1%)</span></summary>\
-                <div><i style=\"--n:3\"><em>others 3</em></i></div></details>\n\
+                files 1, blank 0, bytes 1,000, 33.3% of all bytes\"><b>&#60;b&#62;&#38;amp;&#34;&#39;</b> <span>bytes 1,\
+                000 (33.3%)</span></summary><div><i style=\"--n:0\"><em>others 0</em></i>\
+                <details class=\"e1\" style=\"--n:1000\" open>\
+                <summary title=\"&#60;b&#62;&#38;amp;&#34;&#39;/x.&#60;i&#62;: lines 1, files 1, blank 0, bytes 1,000, \
+                33.3% of all bytes\"><b>x.&#60;i&#62;</b> <span>bytes 1,000 (33.3%)</span></summary><div></div></details>\n\
+                </div></details>\n\
+                <details class=\"e2\" style=\"--n:3\" open><summary title=\"deep: lines 0, files 1, blank 0, bytes 3, \
+                0.1% of all bytes\"><b>deep</b> <span>bytes 3 (0.1%)</span></summary><div><i style=\"--n:0\"><em>others 0</em>\
+                </i><details class=\"e2\" style=\"--n:3\" open><summary title=\"deep/z.h: lines 0, files 1, blank 0, bytes 3, \
+                0.1% of all bytes\"><b>z.h</b> <span>bytes 3 (0.1%)</span></summary><div></div></details>\n\
+                </div></details>\n\
                 </div></details>\n",
         ],
     },
@@ -163,27 +175,34 @@ const CASES: &[Case] = &[
                 <td>9</td><td>40.0%</td><td><div class=\"bar\"><i style=\"--n:6\">\
                 </i><u style=\"--n:3\"></u></div></td></tr>\n",
             b"lines",
-            b"<details class=\"e0\" style=\"--n:15\" open><summary title=\".: lines 15, files 5, blank 0, bytes 20, 100.0% \
-                of all lines\"><b>.</b> <span>lines 15 (100.0%)</span></summary>\
-                <div><i style=\"--n:3\"><em>others 3</em></i><details class=\"e0\" style=\"--n:5\" open>\
-                <summary title=\"/: lines 5, files 1, blank 0, bytes 6, 33.3% of all lines\">\
-                <b>/</b> <span>lines 5 (33.3%)</span></summary><div><i style=\"--n:5\">\
-                <em>others 5</em></i></div></details>\n\
-                <details class=\"e0\" style=\"--n:4\" open><summary title=\"/usr: lines 4, files 1, blank 0, bytes 5, 26.7% \
-                of all lines\"><b>/usr</b> <span>lines 4 (26.7%)</span></summary>\
-                <div><i style=\"--n:0\"><em>others 0</em></i><details class=\"e0\" style=\"--n:4\" open>\
-                <summary title=\"/usr/include: lines 4, files 1, blank 0, bytes 5, 26.7% of all lines\">\
-                <b>include</b> <span>lines 4 (26.7%)</span></summary><div>\
-                <i style=\"--n:4\"><em>others 4</em></i></div></details>\n\
+            b"<details class=\"e0\" style=\"--n:15\" open><summary title=\".: lines 15, files 5, blank 0, bytes 20, \
+                100.0% of all lines\"><b>.</b> <span>lines 15 (100.0%)</span></summary><div><i style=\"--n:0\"><em>others 0</em>\
+                </i><details class=\"e0\" style=\"--n:5\" open><summary title=\"/: lines 5, files 1, blank 0, bytes 6, \
+                33.3% of all lines\"><b>/</b> <span>lines 5 (33.3%)</span></summary><div><i style=\"--n:0\"><em>others 0</em>\
+                </i><details class=\"e0\" style=\"--n:5\" open><summary title=\"/x.h: lines 5, files 1, blank 0, bytes 6, \
+                33.3% of all lines\"><b>x.h</b> <span>lines 5 (33.3%)</span></summary><div></div></details>\n\
                 </div></details>\n\
-                <details class=\"e1\" style=\"--n:2\" open><summary title=\"./src: lines 2, files 1, blank 0, bytes 3, 13.3% \
-                of all lines\"><b>./src</b> <span>lines 2 (13.3%)</span>\
-                </summary><div><i style=\"--n:2\"><em>others 2</em></i></div>\
+                <details class=\"e0\" style=\"--n:4\" open><summary title=\"/usr: lines 4, files 1, blank 0, bytes 5, \
+                26.7% of all lines\"><b>/usr</b> <span>lines 4 (26.7%)</span></summary><div><i style=\"--n:0\"><em>others 0</em>\
+                </i><details class=\"e0\" style=\"--n:4\" open><summary title=\"/usr/include: lines 4, files 1, blank 0, \
+                bytes 5, 26.7% of all lines\"><b>include</b> <span>lines 4 (26.7%)</span></summary><div><i style=\"--n:0\"><em>\
+                others 0</em></i><details class=\"e0\" style=\"--n:4\" open><summary title=\"/usr/include/x.h: lines 4, \
+                files 1, blank 0, bytes 5, 26.7% of all lines\"><b>x.h</b> <span>lines 4 (26.7%)</span></summary><div></div>\
                 </details>\n\
+                </div></details>\n\
+                </div></details>\n\
+                <details class=\"e1\" style=\"--n:3\" open><summary title=\"x.c: lines 3, files 1, blank 0, bytes 4, \
+                20.0% of all lines\"><b>x.c</b> <span>lines 3 (20.0%)</span></summary><div></div></details>\n\
+                <details class=\"e1\" style=\"--n:2\" open><summary title=\"./src: lines 2, files 1, blank 0, bytes 3, \
+                13.3% of all lines\"><b>./src</b> <span>lines 2 (13.3%)</span></summary><div><i style=\"--n:0\"><em>\
+                others 0</em></i><details class=\"e1\" style=\"--n:2\" open><summary title=\"./src/m.c: lines 2, files 1, \
+                blank 0, bytes 3, 13.3% of all lines\"><b>m.c</b> <span>lines 2 (13.3%)</span></summary><div></div></details>\n\
+                </div></details>\n\
                 <details class=\"e1\" style=\"--n:1\" open><summary title=\"../lib: lines 1, files 1, blank 0, bytes 2, \
-                6.7% of all lines\"><b>../lib</b> <span>lines 1 (6.7%)</span>\
-                </summary><div><i style=\"--n:1\"><em>others 1</em></i></div>\
-                </details>\n\
+                6.7% of all lines\"><b>../lib</b> <span>lines 1 (6.7%)</span></summary><div><i style=\"--n:0\"><em>others 0</em>\
+                </i><details class=\"e1\" style=\"--n:1\" open><summary title=\"../lib/a.c: lines 1, files 1, blank 0, bytes 2, \
+                6.7% of all lines\"><b>a.c</b> <span>lines 1 (6.7%)</span></summary><div></div></details>\n\
+                </div></details>\n\
                 </div></details>\n",
         ],
     },
@@ -251,16 +270,22 @@ fn pages(rt: HostRuntime) -> Result<(), Fail> {
 }
 
 #[test]
-fn small_directories_are_drawn_together(rt: HostRuntime) -> Result<(), Fail> {
+fn small_directories_and_files_are_drawn_together(rt: HostRuntime) -> Result<(), Fail> {
     let rows: &[Row] = &[(Some(b"c"), [6, 10_000, 0, 10_000])];
     let report = report_of(rt.alloc(), rows, [6, 10_000, 0, 10_000], SMALL)?;
     let text = page(rt.alloc(), b"tree", &report, None)?;
-    let end = b"<b>.</b> <span>lines 10,000 (100.0%)</span></summary><div>\
-        <i style=\"--n:10\"><em>2 small directories: lines 10 (0.1%)</em></i><i style=\"--n:2\"><em>others 2</em></i>\
-        <details class=\"e0\" style=\"--n:9988\" open><summary title=\"a: lines 9,988, files 2, blank 0, bytes 9,988, 99.9% \
-        of all lines\"><b>a</b> <span>lines 9,988 (99.9%)</span></summary><div>\
-        <i style=\"--n:4\"><em>1 small directory: lines 4 (0.0%)</em></i><i style=\"--n:9984\"><em>others 9,984</em></i>\
-        </div></details>\n</div></details>\n</div>\n</body>\n</html>\n";
+    let end = b"<b>.</b> <span>lines 10,000 (100.0%)</span></summary><div><i style=\"--n:10\"><em>\
+        2 small directories: lines 10 (0.1%)</em></i><i style=\"--n:2\"><em>others 2</em></i>\
+        <details class=\"e0\" style=\"--n:9988\" open><summary title=\"a: lines 9,988, files 2, blank 0, bytes 9,988, \
+        99.9% of all lines\"><b>a</b> <span>lines 9,988 (99.9%)</span></summary><div><i style=\"--n:4\"><em>\
+        1 small directory: lines 4 (0.0%)</em></i><i style=\"--n:0\"><em>others 0</em></i>\
+        <details class=\"e0\" style=\"--n:9984\" open><summary title=\"a/x.c: lines 9,984, files 1, blank 0, bytes 9,\
+        984, 99.8% of all lines\"><b>x.c</b> <span>lines 9,984 (99.8%)</span></summary><div></div></details>\n\
+        </div></details>\n\
+        </div></details>\n\
+        </div>\n\
+        </body>\n\
+        </html>\n";
     assert!(rt; text.ends_with(end));
     Ok(())
 }

@@ -17,7 +17,8 @@ pub(super) const BETWEEN: [&[u8]; 4] = [
       <tr><th>extension</th><th>files</th><th>lines</th><th>blank</th><th>bytes</th><th>share</th><td></td></tr>\n",
     b"</table>\n<h2>By directory</h2>\n<p>Each box is as tall as its share of the ",
     b", in the colour of the extension that has most of them. \
-      Directories with less than a thousandth of all are drawn together, and others are the files right in a directory. \
+      Directories with less than a thousandth of all are drawn together, and others are the files right in a directory \
+      with less than that. \
       Fold a box to make room for the rest.</p>\n<div class=\"tree\">\n",
     b"</div>\n</body>\n</html>\n",
 ];

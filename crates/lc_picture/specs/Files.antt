@@ -1,0 +1,50 @@
+-- The files that have boxes of their own, in the boxes of the directories that hold them.
+use Rattle.std.specs.Prelude.{ℕ, ◌+◌, Bool, true, nat_le, bytes_eq, List, [], ◌∷◌, ◌++◌, map}
+use Rattle.std.specs.List.{filter}
+use Rattle.lc_rows.specs.Directories.{directory_of, level_of, name_of}
+use Rattle.lc_rows.specs.RowKeys.{ShownRowModel}
+use Rattle.lc_rows.specs.ShownFiles.{file_number}
+use Rattle.lc_sheet.specs.declared.column.Number.{Number}
+use Rattle.lc_walk.specs.Extension.{extension_of}
+use Rattle.lc_walk.specs.Sums.{one_file}
+use Rattle.lc_picture.specs.Boxes.{BoxModel}
+use Rattle.lc_picture.specs.Colours.{colour_of}
+use Rattle.lc_picture.specs.Small.{no_directories}
+use Rattle.lc_level.specs.Level.{FileLineModel}
+
+-- a file with a box of its own: the directory that holds it, cut after n names, and its box
+pub record FileBoxModel : Type 0 where
+  pub parent : List ℕ
+  pub drawn : BoxModel
+
+-- whether a file has at least the least number that is drawn
+abbrev pub is_large : Number → ℕ → FileLineModel → Bool
+is_large by least f = nat_le least (file_number by f)
+
+-- the box of a file has its path, its name, its numbers, and the colour of its extension
+abbrev pub box_of_file : ℕ → List ShownRowModel → FileLineModel → BoxModel
+box_of_file n chart f = record {
+  path = f.path;
+  own_name = name_of f.path;
+  depth = level_of (directory_of n f.path) + 1;
+  colour = colour_of chart (extension_of (name_of f.path));
+  sums = one_file f.count;
+  small = no_directories;
+  is_file = true;
+}
+
+abbrev pub file_box : ℕ → List ShownRowModel → FileLineModel → FileBoxModel
+file_box n chart f = record { parent = directory_of n f.path; drawn = box_of_file n chart f }
+
+-- all files with at least the least number
+abbrev pub large_files : ℕ → Number → ℕ → List ShownRowModel → List FileLineModel → List FileBoxModel
+large_files n by least chart fs = map (file_box n chart) (filter (is_large by least) fs)
+
+-- the boxes of those that are right in a directory
+abbrev pub files_in : List ℕ → List FileBoxModel → List BoxModel
+files_in directory fs = map (λ (f : FileBoxModel). f.drawn) (filter (λ (f : FileBoxModel). bytes_eq directory f.parent) fs)
+
+-- directories that come depth first, each with its files right after it
+abbrev pub with_files : List FileBoxModel → List BoxModel → List BoxModel
+with_files fs [] = []
+with_files fs (b ∷ bs) = b ∷ (files_in b.path fs ++ with_files fs bs)

@@ -1,0 +1,68 @@
+//! A box of the picture: a directory or a file.
+
+ghost use Rattle.std.specs.Prelude.{◌≡◌};
+ghost use Rattle.lc_picture.specs.Boxes.{coloured};
+
+use crate::small_directories::SmallDirectories;
+use lc_walk::Sums;
+use std::marker::Model;
+
+/// A directory or a file that is drawn.
+#[derive(Drop)]
+pub(crate) struct DrawnBox<'a> {
+    /// The path. The path of the top is empty.
+    pub(crate) path: &'a [u8],
+    /// The part of the path that follows the parent directory, which is the last name in most trees. The top has an empty one.
+    pub(crate) own_name: &'a [u8],
+    /// The number of directories above the directory or the file.
+    pub(crate) depth: usize,
+    /// The colour of the extension with the largest number in the directory, or of the file's own.
+    pub(crate) colour: usize,
+    /// The sums over the files in the directory and below it, or over the file alone.
+    pub(crate) sums: Sums,
+    /// The small directories right in the directory. A file has none.
+    pub(crate) small: SmallDirectories,
+    /// Whether it is a file.
+    pub(crate) is_file: bool,
+}
+
+impl<'a> Model for DrawnBox<'a> {
+    ghost use Rattle.lc_picture.specs.Boxes.{BoxModel};
+
+    ghost Value = { BoxModel };
+
+    ghost view = { λ b. record {
+      path = b.path.now;
+      own_name = b.own_name.now;
+      depth = b.depth;
+      colour = b.colour;
+      sums = b.sums;
+      small = b.small;
+      is_file = b.is_file;
+    } };
+}
+
+impl<'a> DrawnBox<'a> {
+    pub(crate) fn copy(&self) -> DrawnBox<'a>
+        ensures { result ≡ self.now }
+    {
+        DrawnBox {
+            path: self.path,
+            own_name: self.own_name,
+            depth: self.depth,
+            colour: self.colour,
+            sums: self.sums,
+            small: self.small,
+            is_file: self.is_file,
+        }
+    }
+
+    pub(crate) fn coloured(&self, colour: usize) -> DrawnBox<'a>
+        ensures { result ≡ coloured colour self.now }
+    {
+        DrawnBox {
+            colour,
+            ..self.copy()
+        }
+    }
+}
