@@ -7,6 +7,7 @@ pub mod ReportShown
 pub mod ChartColours
 pub mod SmallRows
 pub mod DrawnRows
+pub mod LargeFiles
 pub mod Boxing
 pub mod Falling
 pub mod Branches

@@ -1,7 +1,8 @@
 -- What is true of pages.
 use Rattle.std.specs.Prelude.{◌≡◌, ◌+◌, ◌*◌, ◌-◌, ℕ, nat_eq, Bool, true, false, if◌then◌else◌, List, [], ◌∷◌, ◌++◌, map, flat_map, codes}
 use Rattle.std.specs.Prelude.{◌==◌, ◌<◌, bytes_eq, length, nat_le, nat_lt, take, Option, Some, None}
-use Rattle.std.specs.List.{filter, list_any, slice_index_or}
+use Rattle.std.specs.List.{Contains, filter, list_any, slice_index_or}
+use Rattle.lc_rows.specs.Directories.{directory_of}
 use Rattle.lc_rows.specs.RowKeys.{ShownRowModel}
 use Rattle.lc_rows.specs.SheetLaws.{first_number}
 use Rattle.lc_rows.specs.Sheets.{sheet_of}
@@ -22,6 +23,7 @@ use Rattle.lc_picture.specs.Chart.{line_colour}
 use Rattle.lc_picture.specs.Colours.{colour_of}
 use Rattle.lc_picture.specs.Escaping.{html}
 use Rattle.lc_picture.specs.Faults.{faults_listed}
+use Rattle.lc_picture.specs.Files.{box_of_file, is_large, large_files, with_files}
 use Rattle.lc_picture.specs.Page.{chart_columns, chart_options, chart_view, page_pieces, scale_of}
 use Rattle.lc_picture.specs.Pieces.{Piece, count, markup, name, percent, share, title, word}
 use Rattle.lc_picture.specs.Small.{no_directories}
@@ -185,6 +187,14 @@ DrawnLaw =
     (by : Number) (least : ℕ) (chart kinds tree : List ShownRowModel)
     → map without_colour (drawn_boxes by least chart kinds tree)
     ≡ map (λ r. box_of r 0 no_directories) (filter (λ r. nat_le least (number_in by r.sums)) tree)
+
+-- each file with at least the least number has a box, if its directory has one
+abbrev pub LargeLaw : Type 0
+LargeLaw =
+    (n : ℕ) (by : Number) (least : ℕ) (chart : List ShownRowModel) (fs : List FileLineModel) (directories : List BoxModel)
+    (f : FileLineModel) (b : BoxModel) → Contains fs f → is_large by least f ≡ true → Contains directories b
+    → bytes_eq b.path (directory_of n f.path) ≡ true
+    → Contains (with_files (large_files n by least chart fs) directories) (box_of_file n chart f)
 
 -- a piece without its name
 abbrev pub nameless : Piece → Piece

@@ -2,7 +2,8 @@
 
 ghost use Rattle.lc_picture.specs.Inside.{InsideLaw};
 ghost use Rattle.lc_picture.specs.Places.{FallingLaw};
-ghost use Rattle.lc_picture.specs.Laws.{ColoursLaw, DrawnLaw, NestingLaw, OutlineLaw, ReportLaw, ShownLaw, TagLaw, UnescapedLaw};
+ghost use Rattle.lc_picture.specs.Laws.{ColoursLaw, DrawnLaw, LargeLaw, NestingLaw, OutlineLaw, ReportLaw, ShownLaw, TagLaw};
+ghost use Rattle.lc_picture.specs.Laws.{UnescapedLaw};
 
 /// The law that a name in the page begins and ends no tag and no attribute. With its character references decoded, it is the name as
 /// terminals show it.
@@ -18,6 +19,12 @@ pub fn a_page_shows_each_directory_once()
     ensures shown { ShownLaw }
     ensures report { ReportLaw }
     ensures drawn { DrawnLaw }
+{}
+
+/// The law that each file with enough lines, or with enough of the number that is requested, has a box, if the directory that holds it has
+/// one.
+pub fn large_files_have_boxes()
+    ensures { LargeLaw }
 {}
 
 /// The law that each row of the chart has the colour in which boxes show its extension.

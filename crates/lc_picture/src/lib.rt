@@ -36,7 +36,7 @@ mod sums;
 
 pub use laws::{
     a_box_opens_inside_that_of_its_parent, a_page_shows_each_directory_once, boxes_are_nested,
-    larger_boxes_come_first, names_are_never_markup, names_change_no_tag,
+    large_files_have_boxes, larger_boxes_come_first, names_are_never_markup, names_change_no_tag,
     rows_have_the_colours_of_their_extensions,
 };
 pub use report_page::page;

@@ -1,4 +1,4 @@
-use Rattle.std.proofs.Common.{◌≡◌, ◌≤◌, ◌++◌, List, refl, sym, ap, ◌∙◌}
+use Rattle.std.proofs.Common.{◌≡◌, ◌≤◌, ◌++◌, List, refl, sym, ap, ◌∙◌, arith}
 use Rattle.std.proofs.lemmas.Bool.{le-leb}
 use Rattle.lc_picture.specs.declared.scale.Scale.{Scale}
 use Rattle.lc_picture.specs.declared.small_directories.SmallDirectories.{SmallDirectories}
@@ -12,4 +12,4 @@ some_small scale small some = rw (le-leb 1 small.count some) refl
 pub returns-in_ok-push_small_box : goal.returns-in_ok-push_small_box
 returns-in_ok-push_small_box c =
     c.in_ok-push_small_box.ensures
-    ∙ ap (λ (ps : List Piece). c.args.text.now.items ++ text_of ps) (sym (some_small c.args.scale c.args.small c.if-small-ge1.true))
+    ∙ ap (λ (ps : List Piece). c.args.text.now.items ++ text_of ps) (sym (some_small c.args.scale c.args.small (omega arith)))
