@@ -67,7 +67,11 @@ where
         }
     }
 
-    fn why_unlisted(&self, alloc: Global, directory: &str) -> Option<UnreadReason> {
+    fn why_unlisted(
+        &self,
+        alloc: Global,
+        directory: &str,
+    ) -> Result<Option<UnreadReason>, AllocError> {
         why_unlisted(self.rt, alloc, directory)
     }
 

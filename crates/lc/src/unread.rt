@@ -25,11 +25,27 @@ fn with_slash(alloc: Global, directory: &str) -> Result<String, AllocError> {
 }
 
 /// Returns whether a path is that of a file. A link to a file is not one, since a count skips links.
-fn is_file(rt: &impl Files, path: &str) -> bool {
+fn is_file(rt: &impl Files, path: &str) -> Result<bool, AllocError> {
     match fs::symlink_metadata(rt, path) {
-        Ok(metadata) => metadata.is_file(),
-        Err(_) => false,
+        Ok(metadata) => Ok(metadata.is_file()),
+        Err(error) if error.kind() == ErrorKind::OutOfMemory => Err(AllocError),
+        Err(_) => Ok(false),
     }
+}
+
+/// Returns why a directory could not be opened, after this error.
+fn reason_of_directory(
+    rt: &impl Files,
+    directory: &str,
+    kind: ErrorKind,
+) -> Result<UnreadReason, AllocError> {
+    if kind == ErrorKind::OutOfMemory {
+        return Err(AllocError);
+    }
+    if is_file(rt, directory)? {
+        return Ok(UnreadReason::IsFile);
+    }
+    Ok(reason_of(kind))
 }
 
 /// Returns why a directory can't be listed. It opens the directory to find out.
@@ -37,16 +53,15 @@ pub(crate) fn why_unlisted<R: Files>(
     rt: &R,
     alloc: Global,
     directory: &str,
-) -> Option<UnreadReason> {
+) -> Result<Option<UnreadReason>, AllocError> {
     // With a slash, the empty path would be the root, but it names nothing.
     if directory.is_empty() {
-        return Some(UnreadReason::Missing);
+        return Ok(Some(UnreadReason::Missing));
     }
-    let path = with_slash(alloc, directory).ok()?;
+    let path = with_slash(alloc, directory)?;
     match rt.open_dir(path.as_str()) {
-        Ok(_) => None,
-        Err(_) if is_file(rt, directory) => Some(UnreadReason::IsFile),
-        Err(error) => Some(reason_of(error.kind())),
+        Ok(_) => Ok(None),
+        Err(error) => Ok(Some(reason_of_directory(rt, directory, error.kind())?)),
     }
 }
 

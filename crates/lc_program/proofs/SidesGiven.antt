@@ -31,16 +31,18 @@ module _ (may : SystemMay) (w : WalkRequest) (o : Options) (name : List ℕ) (en
     subst (λ fs. has_path [] fs ≡ false) are (subst (λ p. has_path p faults ≡ false) empty (sym says ∙ is_false)),
   )
 
-  -- one that was not
-  pub side_unlisted : (r : Report) (path : List ℕ) (faults : List FaultLineModel) (has : Bool) (why : Option UnreadReason) (cause : Cause)
+  -- one that was not, for a reason that is told unless memory is refused
+  pub side_unlisted : (r : Report) (path : List ℕ) (faults : List FaultLineModel) (has : Bool) (cause : Cause)
       → Walks (may.list name entered) (may.give name entered) o (Ok r) → has ≡ has_path path faults → has ≡ true → path ≡ []
-      → faults ≡ r.faults.items → may.unlist name why → IsTold (unexplained_line name why) cause → CountsSide may w o name (Err cause)
-  side_unlisted r path faults has why cause walked says is_true empty are may_be told =
+      → faults ≡ r.faults.items
+      → (((why : Option UnreadReason) × may.unlist name why × IsTold (unexplained_line name why) cause) ⊎ (cause ≡ Memory))
+      → CountsSide may w o name (Err cause)
+  side_unlisted r path faults has cause walked says is_true empty are told =
       inr (
         r,
         subst (λ e. Walks (may.list name e) (may.give name e) o (Ok r)) is walked,
         subst (λ fs. has_path [] fs ≡ true) are (subst (λ p. has_path p faults ≡ true) empty (sym says ∙ is_true)),
-        (why, may_be, told),
+        told,
       )
 
 -- reports that were not read

@@ -5,6 +5,7 @@ use Rattle.lc_arguments.specs.declared.walk_request.WalkRequest.{WalkRequest}
 use Rattle.lc_program.specs.ReportLines.{IsTold, origin_of}
 use Rattle.lc_program.specs.Sides.{IsSide}
 use Rattle.lc_program.specs.declared.cause.Cause.{Cause}
+use Rattle.lc_program.specs.declared.cause.Cause.TheVariants.{Memory}
 use Rattle.lc_program.specs.declared.unread_reason.UnreadReason.{UnreadReason}
 use Rattle.lc_text.specs.Visible.{visible_bytes}
 
@@ -30,9 +31,10 @@ first_choice w =
     else if w.one_file_system then Some (codes "--one-file-system")
     else None
 
--- there is no such option, or some side is a directory; or there is one, and both sides are reports
+-- there is no such option, or some side is a directory; or there is one, and both sides are reports; or memory is refused
 abbrev pub AnswersChoices : (List ℕ → Option UnreadReason → Type 0) → WalkRequest → List ℕ → List ℕ → Result (Unit {0}) Cause → Type 0
 AnswersChoices may_unlist w old new (Ok _) = (first_choice w ≡ None) ⊎ (IsSide may_unlist old true ⊎ IsSide may_unlist new true)
 AnswersChoices may_unlist w old new (Err cause) =
-    (option : List ℕ) × (first_choice w ≡ Some option) × IsSide may_unlist old false × IsSide may_unlist new false
-    × IsTold (choice_line option old new) cause
+    ((option : List ℕ) × (first_choice w ≡ Some option) × IsSide may_unlist old false × IsSide may_unlist new false
+    × IsTold (choice_line option old new) cause)
+    ⊎ (cause ≡ Memory)

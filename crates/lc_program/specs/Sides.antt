@@ -55,7 +55,7 @@ module _ (may : SystemMay) (w : WalkRequest) (o : Options) where
   abbrev pub IsUnlisted : List ℕ → Cause → Type 0
   IsUnlisted name cause =
       (r : Report) × MayWalkSide name (Ok r) × (has_path [] r.faults.items ≡ true)
-      × ((why : Option UnreadReason) × may.unlist name why × IsTold (unexplained_line name why) cause)
+      × (((why : Option UnreadReason) × may.unlist name why × IsTold (unexplained_line name why) cause) ⊎ (cause ≡ Memory))
 
   -- the report of a directory that was listed, or why there is none
   abbrev pub CountsSide : List ℕ → Result Report Cause → Type 0
@@ -75,11 +75,12 @@ module _ (may : SystemMay) {I : Type 0} (may_give : I → ℕ → Answer → I �
       × ((fault : SumFault) × IsSummed needs parts.items (Err fault) × IsUnsummedFor fault cause))
 
 module _ (may : SystemMay) {I : Type 0} (may_give : I → ℕ → Answer → I → Type 0) (w : WalkRequest) (o : Options) (needs : Needs) where
-  -- the report of a side
+  -- the report of a side, or that memory is refused before either is known
   abbrev pub GivesSide : List ℕ → I → Result Report Cause → I → Type 0
   GivesSide name input answer read =
       (IsSide may.unlist name true × CountsSide may w o name answer × (read ≡ input))
       ⊎ (IsSide may.unlist name false × ReadsSide may may_give needs name input answer read)
+      ⊎ ((answer ≡ Err Memory) × (read ≡ input))
 
   -- the reports of both sides, the old one first
   abbrev pub GivesSides : List ℕ → List ℕ → I → Result (Report × Report) Cause → I → Type 0

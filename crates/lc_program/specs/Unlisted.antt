@@ -16,7 +16,7 @@ module _ {E : Type 0} (may_take : E → List ℕ → Result ℕ Failed → E →
   TellsWhy directory (Some why) err told =
       Tells may_take err (unexplained_line directory (Some why)) told ⊎ Tells may_take err short_line told
 
-  -- that, for what the system may say
+  -- that, for what the system may say, or the short line where it finds no memory to say it
   abbrev pub TellsUnlisted : (List ℕ → Option UnreadReason → Type 0) → List ℕ → E → E → Type 0
   TellsUnlisted may_unlist directory err told =
-      (why : Option UnreadReason) × may_unlist directory why × TellsWhy directory why err told
+      ((why : Option UnreadReason) × may_unlist directory why × TellsWhy directory why err told) ⊎ Tells may_take err short_line told

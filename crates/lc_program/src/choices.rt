@@ -83,7 +83,7 @@ pub(crate) fn refuse_choices<Y: System>(
     let Some(option) = first_choice(walk) else {
         return Ok(());
     };
-    if is_directory(alloc, system, old) || is_directory(alloc, system, new) {
+    if is_directory(alloc, system, old)? || is_directory(alloc, system, new)? {
         return Ok(());
     }
     Err(choice_cause(alloc, option, old, new))

@@ -8,7 +8,7 @@ ghost use Rattle.lc_program.specs.Faults.{inside, is_inside};
 ghost use Rattle.lc_program.specs.Faults.{lines_by, lines_if, number_line, number_text, top_path, unread_line};
 
 use crate::system::System;
-use crate::unlisted::uncounted_line;
+use crate::unlisted::{tell_shortly, uncounted_line};
 use lc_arguments::unslashed;
 use lc_sheet::Format;
 use lc_text::{Sink, print, push_visible};
@@ -156,7 +156,7 @@ fn top_line<Y: System>(
     if !has_path(top_path(directories, directory), faults) {
         return Ok(String::new(alloc));
     }
-    let why = system.why_unlisted(alloc, directory);
+    let why = system.why_unlisted(alloc, directory)?;
     uncounted_line(alloc, directory, why)
 }
 
@@ -210,9 +210,11 @@ pub(crate) fn tell_faults<Y: System, E: Sink>(
     if faults.is_empty() {
         return;
     }
-    // The exit status shows the errors too, so a line that can't be written changes nothing.
-    let _ = match fault_lines(alloc, system, directories, format, faults) {
-        Ok(text) => print(err, text.as_bytes()),
-        Err(AllocError) => print(err, b"lc: some paths could not be read\n"),
-    };
+    match fault_lines(alloc, system, directories, format, faults) {
+        // The exit status shows the errors too, so a line that can't be written changes nothing.
+        Ok(text) => {
+            let _ = print(err, text.as_bytes());
+        }
+        Err(AllocError) => tell_shortly(err),
+    }
 }

@@ -6,6 +6,7 @@ ghost use Rattle.lc_program.specs.SideFaults.{TellsSideFaults, fault_line, have_
 
 use crate::faults::or_here;
 use crate::report_lines::origin_of;
+use crate::unlisted::tell_shortly;
 use lc_text::{Sink, print, push_visible};
 use lc_walk::FaultLine;
 use std::alloc::{AllocError, Global};
@@ -83,9 +84,11 @@ pub(crate) fn tell_side_faults<E: Sink>(
     if have_no_faults(old.faults, new.faults) {
         return;
     }
-    // The exit status shows the errors too, so a line that can't be written changes nothing.
-    let _ = match lines_of(alloc, old, new) {
-        Ok(text) => print(err, text.as_bytes()),
-        Err(AllocError) => print(err, b"lc: some paths could not be read\n"),
-    };
+    match lines_of(alloc, old, new) {
+        // The exit status shows the errors too, so a line that can't be written changes nothing.
+        Ok(text) => {
+            let _ = print(err, text.as_bytes());
+        }
+        Err(AllocError) => tell_shortly(err),
+    }
 }

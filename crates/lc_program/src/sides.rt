@@ -16,7 +16,7 @@ use lc_arguments::WalkRequest;
 use lc_census::Source;
 use lc_sums::{Needs, summed};
 use lc_walk::{Options, Report};
-use std::alloc::Global;
+use std::alloc::{AllocError, Global};
 use std::sync::Wait;
 use std::thread::Threads;
 
@@ -32,13 +32,18 @@ fn is_no_directory(why: Option<UnreadReason>) -> bool
 }
 
 /// Returns whether a side is a directory. `-` is standard input. It queries the system.
-pub(crate) fn is_directory<Y: System>(alloc: Global, system: &Y, name: &str) -> bool
-    ensures { IsSide (Y.unlists system.now) name.now result }
+pub(crate) fn is_directory<Y: System>(
+    alloc: Global,
+    system: &Y,
+    name: &str,
+) -> Result<bool, AllocError>
+    ensures { IfOk result (IsSide (Y.unlists system.now) name.now) }
 {
     if name == "-" {
-        return false;
+        return Ok(false);
     }
-    !is_no_directory(system.why_unlisted(alloc, name))
+    let why = system.why_unlisted(alloc, name)?;
+    Ok(!is_no_directory(why))
 }
 
 /// How sides are counted and read.
@@ -71,7 +76,7 @@ fn counted_side<R: Threads + Wait + Sync + AllocGlobal, Y: System>(
         Err(fault) => return Err(cause_in(rt.alloc(), name, fault)),
     };
     if has_path(&[], &report.faults) {
-        let why = system.why_unlisted(rt.alloc(), name);
+        let why = system.why_unlisted(rt.alloc(), name)?;
         return Err(unread_cause(rt.alloc(), name, why));
     }
     Ok(report)
@@ -114,7 +119,7 @@ fn side<R: Threads + Wait + Sync + AllocGlobal, Y: System, S: Source>(
         S.may_give how.entry.walk.now how.entry.options.now how.entry.needs name.now input.old result input.new }
     ensures files { IfOk result (λ report. how.entry.needs.files ≡ true → report.lists.files ≡ true) }
 {
-    if is_directory(rt.alloc(), system, name) {
+    if is_directory(rt.alloc(), system, name)? {
         return counted_side(rt, system, name, how);
     }
     read_side(rt.alloc(), system, name, how.needs, input)

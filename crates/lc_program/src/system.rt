@@ -55,8 +55,12 @@ pub trait System {
         ensures { Opens Self.File.may_give (holds self.now name.now) result };
 
     /// Returns why the directory with this name can't be listed, or nothing if it can be listed or the system gives no reason.
-    fn why_unlisted(&self, alloc: Global, directory: &str) -> Option<UnreadReason>
-        ensures { unlists self.now directory.now result };
+    fn why_unlisted(
+        &self,
+        alloc: Global,
+        directory: &str,
+    ) -> Result<Option<UnreadReason>, AllocError>
+        ensures { IfOk result (λ why. unlists self.now directory.now why) };
 
     /// Returns why the file with this name can't be read, or nothing if it can be read or the system gives no reason.
     fn why_unread(&self, alloc: Global, name: &str) -> Option<UnreadReason>

@@ -2,7 +2,8 @@
 
 ghost use Rattle.std.specs.Prelude.{◌≡◌, string_bytes, IfOk};
 ghost use Rattle.lc_program.specs.Reasons.{count_instead, reason_given, uncounted_line, unexplained_line};
-ghost use Rattle.lc_program.specs.Unlisted.{TellsUnlisted, TellsWhy};
+ghost use Rattle.lc_program.specs.Tellings.{Tells};
+ghost use Rattle.lc_program.specs.Unlisted.{TellsUnlisted, TellsWhy, short_line};
 
 use crate::commands::file_count;
 use crate::system::System;
@@ -61,17 +62,27 @@ pub(crate) fn unexplained_line(
     Ok(text)
 }
 
+/// Writes that something could not be read, if there is no memory for its name.
+pub(crate) fn tell_shortly<E: Sink>(err: &mut E)
+    ensures { Tells E.may_take err.old short_line err.new }
+{
+    // The answer and the exit status show the error too, so a line that can't be written changes nothing.
+    let _ = print(err, b"lc: some paths could not be read\n");
+}
+
 fn tell_why<E: Sink>(alloc: Global, directory: &str, why: Option<UnreadReason>, err: &mut E)
     ensures { TellsWhy E.may_take directory.now why err.old err.new }
 {
     let Some(_reason) = why else {
         return;
     };
-    // The answer shows the error too, so a line that can't be written changes nothing.
-    let _ = match unexplained_line(alloc, directory, why) {
-        Ok(text) => print(err, text.as_bytes()),
-        Err(AllocError) => print(err, b"lc: some paths could not be read\n"),
-    };
+    match unexplained_line(alloc, directory, why) {
+        // The answer shows the error too, so a line that can't be written changes nothing.
+        Ok(text) => {
+            let _ = print(err, text.as_bytes());
+        }
+        Err(AllocError) => tell_shortly(err),
+    }
 }
 
 /// Writes why the directory of an explanation could not be read, if the system gives a reason.
@@ -83,6 +94,8 @@ pub(crate) fn tell_unlisted<Y: System, E: Sink>(
 )
     ensures { TellsUnlisted E.may_take (Y.unlists system.now) directory.now err.old err.new }
 {
-    let why = system.why_unlisted(alloc, directory);
-    tell_why(alloc, directory, why, err);
+    match system.why_unlisted(alloc, directory) {
+        Ok(why) => tell_why(alloc, directory, why, err),
+        Err(AllocError) => tell_shortly(err),
+    }
 }

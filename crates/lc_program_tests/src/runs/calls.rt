@@ -48,7 +48,7 @@ fn answers_of_a_system(rt: HostRuntime) -> Result<(), Fail> {
         why: Some(UnreadReason::Missing),
         above: Some(("..", "top")),
     };
-    let why = system.why_unlisted(rt.alloc(), "top");
+    let why = system.why_unlisted(rt.alloc(), "top")?;
     assert!(rt; matches!(why, Some(UnreadReason::Missing)));
     let why = system.why_unread(rt.alloc(), "list");
     assert!(rt; matches!(why, Some(UnreadReason::Missing)));

@@ -11,7 +11,7 @@ use std::alloc::{AllocError, Global};
 pub(super) struct MemSystem<'a> {
     /// Directories, each with its name.
     pub(super) directories: &'a [(&'a str, Node)],
-    /// The same without what is on other file systems.
+    /// The same directories, without what is on other file systems.
     pub(super) bounded: &'a [(&'a str, Node)],
     /// The directory of any other name.
     pub(super) absent: &'a Node,
@@ -70,11 +70,15 @@ impl<'a> System for MemSystem<'a> {
     }
 
     /// A name that ends with `.json` is that of a file.
-    fn why_unlisted(&self, _alloc: Global, directory: &str) -> Option<UnreadReason> {
+    fn why_unlisted(
+        &self,
+        _alloc: Global,
+        directory: &str,
+    ) -> Result<Option<UnreadReason>, AllocError> {
         if directory.ends_with(".json") {
-            return Some(UnreadReason::IsFile);
+            return Ok(Some(UnreadReason::IsFile));
         }
-        self.why
+        Ok(self.why)
     }
 
     fn why_unread(&self, _alloc: Global, _name: &str) -> Option<UnreadReason> {

@@ -1,4 +1,4 @@
-use Rattle.std.proofs.Common.{refl}
+use Rattle.std.proofs.Common.{inl, refl}
 use Rattle.lc_program.proofs.SidesGiven.{side_counted, side_unlisted}
 use Rattle.lc_program.specs.Systems.{SystemMay, system_may}
 use Rattle.lc_program.proofs.sides.counted_side.Goals as goal
@@ -10,8 +10,8 @@ returns-then-has_path-clause-counts g c =
     (λ dir entered. g.Y.Tree.Tree.gives (g.Y.System.tree system dir entered)) (g.Y.System.holds system) (g.Y.System.unlists system)
     (g.Y.System.unreads system) (g.Y.System.lies system) (g.Y.System.stands system) in
     side_unlisted may c.args.how.walk.now c.args.how.options.now c.args.name.now c.entered_by.result c.entered_by.ensures c.in-Ok.report _
-    c.deref.result.now c.has_path.result c.why_unlisted-why.result c.unread_cause.result c.in-Ok.ensures c.has_path.ensures
-    c.if-has_path.true refl c.deref.ensures.value c.why_unlisted-why.ensures c.unread_cause.ensures
+    c.deref.result.now c.has_path.result c.unread_cause.result c.in-Ok.ensures c.has_path.ensures c.if-has_path.true refl
+    c.deref.ensures.value (inl (c.in_ok-why.why, c.in_ok-why.ensures, c.unread_cause.ensures))
 
 pub returns-clause-counts : goal.returns-clause-counts
 returns-clause-counts g c =
