@@ -1,4 +1,4 @@
-//! A kind of lines for tests: what two reports have of a file or of a row.
+//! A kind of lines for tests. A line has the values of a file or of a row in two reports.
 
 ghost use Rattle.std.specs.Prelude.{◌≡◌};
 ghost use Rattle.lc_sheet.specs.Values.{value_model};

@@ -1,4 +1,4 @@
-//! The colours of extensions and of directories. A colour is a number, which the style of the page turns into one.
+//! The colours of extensions and of directories. Here a colour is a number, which the style of the page turns into an actual colour.
 
 ghost use Rattle.std.specs.Prelude.{◌≡◌, drop, option_map};
 ghost use Rattle.lc_picture.specs.Colours.{colour_of, main_colour, path_of, place_of, rows_from, same_extension, shared_colour};
@@ -57,7 +57,7 @@ pub(crate) fn next_place(directory: &[u8], kinds: &[ShownRow<'_>], start: usize)
     kinds.len()
 }
 
-/// Returns the colour of the extension with the largest number in a directory, whose rows come first.
+/// Returns the colour of the extension with the largest number in a directory. The rows of the directory come first.
 pub(crate) fn main_colour(
     chart: &[ShownRow<'_>],
     by: Number,

@@ -1,4 +1,4 @@
-//! The picture of a tree: a page of HTML with the sums of a report, a bar chart of its extensions, and the boxes of its directories.
+//! The picture of a tree: a page of HTML with the sums of a report, a bar chart of its extensions, and boxes of directories and files.
 //!
 //! - `escaping`: texts in HTML; `style`: the fixed parts of a page
 //! - `boxes`, `drawn_box`: the boxes of directories and files, each inside the box of the directory above it; `directory_box`, `file_box`:
@@ -8,7 +8,8 @@
 //! - `colours`: the colours of extensions and of directories
 //! - `faults`: the errors at the top of a page
 //! - `head`: the numbers of all files; `chart`, `cells`: the bar chart of a sheet, and the cells of its lines
-//! - `sums`, `percents`: numbers, each with its word, and shares; `scale`: the drawn number, and its sum over all files
+//! - `sums`: numbers, each with a word for what it counts; `percents`: shares; `scale`: the number that is drawn, and its sum over all
+//!   files
 //! - `report_page`: the page of a report
 //! - `laws`: laws of the definitions that the contracts cite
 #![tactic(auto)]

@@ -30,7 +30,7 @@ fn push_tenths(text: &mut Vec<u8>, tenths: u128) -> Result<(), AllocError>
     text.extend_from_slice(b"%")
 }
 
-/// Appends the share in per cent that a part is of a whole, with one decimal.
+/// Appends the share of a part in a whole, in per cent with one decimal.
 pub(crate) fn push_percent(text: &mut Vec<u8>, part: u128, whole: u128) -> Result<(), AllocError>
     ensures { OnOk result (text.new.items ≡ text.old.items ++ share_word (rounded_parts 1000 part whole)) }
 {

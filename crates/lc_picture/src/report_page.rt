@@ -179,7 +179,7 @@ fn page_by(
 /// it, determines the bars and the boxes, and the browser divides the space by these numbers. The smaller directories right in a directory
 /// are drawn together, and so are its smaller files. A reader can fold a box to leave its space to others.
 ///
-/// The report must have its files. An error means that an allocation failed, or that sums overflow, which those of a walk never do.
+/// The report must have its files. An error means that an allocation failed or that sums overflow. The sums of a walk never overflow.
 pub fn page(
     alloc: Global,
     counted: &[u8],

@@ -82,7 +82,7 @@ pub(crate) fn chart_begin() -> &'static [u8]
       <th>share</th><td></td></tr>\n"
 }
 
-/// Returns the part between the chart and the name of the number of the boxes.
+/// Returns the part between the chart and the name of the boxes' number.
 pub(crate) fn tree_begin() -> &'static [u8]
     ensures { result.now ≡ tree_begin }
 {

@@ -80,7 +80,7 @@ pub(crate) fn push_sums(text: &mut Vec<u8>, sums: Sums, made: &mut String) -> Re
     )
 }
 
-/// Appends the share that a number is of the whole, and what the whole is.
+/// Appends the share of a number in the whole, and what the whole is.
 pub(crate) fn push_share(text: &mut Vec<u8>, scale: Scale, n: u128) -> Result<(), AllocError>
     ensures { OnOk result (text.new.items ≡ text.old.items ++ text_of (share_pieces scale n)) }
 {

@@ -1,4 +1,4 @@
-//! Answering each request.
+//! Answers each request.
 
 ghost use Rattle.lc_arguments.specs.Words.{IsWithinLimits};
 ghost use Rattle.lc_program.specs.Requests.{AnswersRequest};

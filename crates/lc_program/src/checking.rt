@@ -1,4 +1,4 @@
-//! Answering checks of paths.
+//! Answers `lc check`: checks paths.
 
 ghost use Rattle.std.specs.Prelude.{◌≡◌, true, false};
 ghost use Rattle.lc_program.specs.Requests.{AnswersFile, AnswersJoined};

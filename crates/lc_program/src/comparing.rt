@@ -1,4 +1,4 @@
-//! Answering comparisons of two directories or reports.
+//! Answers `lc diff`: compares two directories or reports, and prints the changes.
 
 ghost use Rattle.std.specs.Prelude.{◌≡◌, true, IfOk};
 ghost use Rattle.lc_arguments.specs.TableWords.{number_of};

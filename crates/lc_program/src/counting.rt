@@ -1,4 +1,4 @@
-//! Answering counts.
+//! Answers `lc count`: counts directories, and prints the table.
 
 ghost use Rattle.std.specs.Prelude.{◌≡◌, ◌++◌, map, IfOk, OnOk};
 ghost use Rattle.lc_arguments.specs.Combinations.{is_picture};

@@ -1,4 +1,4 @@
-//! Answering explanations of paths.
+//! Answers `lc explain`: explains paths.
 
 ghost use Rattle.std.specs.Prelude.{◌≡◌};
 ghost use Rattle.lc_program.specs.Requests.{AnswersExplanation, AnswersPaths};

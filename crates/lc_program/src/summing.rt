@@ -1,4 +1,4 @@
-//! Answering sums of reports.
+//! Answers `lc sum`: reads reports, adds them up, and prints the sum.
 
 ghost use Rattle.std.specs.Prelude.{◌≡◌, ◌++◌, map, IfOk, OnOk};
 ghost use Rattle.lc_arguments.specs.Reports.{report_model};

@@ -122,7 +122,8 @@ pub fn level_of(directory: &[u8]) -> usize
     }
 }
 
-/// Returns the part of a directory's path that follows its parent directory: its last name, with the segments before it that are no names.
+/// Returns the part of a directory's path that follows its parent directory: its last name, and the segments
+/// right before it that are no names, such as `..`.
 ///
 /// ```
 /// assert!(rt; own_part(b"../lib/a") == b"a".as_slice() && own_part(b"../lib") == b"../lib".as_slice());

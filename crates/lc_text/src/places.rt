@@ -39,7 +39,7 @@ fn above(path: &[u8], depth: u32) -> &[u8]
 
 /// Returns the directory of the file that a rule was read from. It is the beginning of a path that the rule decides.
 ///
-/// It ends with a slash. It is empty at the top, and for a file whose name is all of its path.
+/// The directory ends with a slash. It is empty for a file at the top, and for one that has a name alone, such as `--exclude`.
 ///
 /// ```
 /// assert!(rt; source_directory(b"src/gen/a.c", RuleSource::Gitignore(1)) == b"src/".as_slice());

@@ -131,7 +131,7 @@ impl ListedRow {
         }
     }
 
-    /// Returns the number of the directory's entries that take part.
+    /// Returns the number of the directory's entries that take part in the walk, as the filters decide.
     pub fn entries(&self) -> u32
         ensures { result ≡ self.now.entries }
     {

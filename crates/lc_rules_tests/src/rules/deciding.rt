@@ -1,4 +1,4 @@
-//! The rules that decide, by their lines.
+//! Which rule decides a path. A rule is named by its line.
 
 use lc_rules::{Chain, DirectoriesAbove, IgnoreFile, Lines, RuleSource, Verdict, text_of_line};
 use std::alloc::{AllocError, Global};

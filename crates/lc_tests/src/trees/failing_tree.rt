@@ -15,7 +15,7 @@ use std::alloc::Global;
 /// ```
 #[derive(Drop)]
 pub struct FailingTree<'a, T> {
-    /// The other tree.
+    /// The tree whose calls these are.
     pub tree: &'a T,
     /// The count of calls, with the number of the call that fails.
     pub call: &'a FailingCall,

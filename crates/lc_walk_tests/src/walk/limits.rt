@@ -1,4 +1,4 @@
-//! How much a walk takes: directories, segments and bytes of a path, bytes of a rule file.
+//! The limits of a walk: directories, segments and bytes of a path, bytes of a rule file.
 
 use crate::walk::drawn::draw_tree;
 use crate::walk::walked::{BOARDS, Case, check, check_node};
