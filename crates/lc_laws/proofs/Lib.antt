@@ -19,6 +19,7 @@ pub mod ReportSheets
 pub mod SheetRecords
 pub mod SharesPrinted
 pub mod GivenRules
+pub mod IncludedFates
 pub mod IncludedOnes
 pub mod JsonMembers
 pub mod PrintedMembers
