@@ -11,7 +11,7 @@ use std::alloc::{AllocError, Global};
 pub(super) struct MemSystem<'a> {
     /// Directories, each with its name.
     pub(super) directories: &'a [(&'a str, Node)],
-    /// The same directories, without what is on other file systems.
+    /// The same directories, without entries on other file systems.
     pub(super) bounded: &'a [(&'a str, Node)],
     /// The directory of any other name.
     pub(super) absent: &'a Node,
