@@ -1,4 +1,4 @@
-//! The repository above a directory of the host.
+//! Finds the Git repository that a directory of the host lies in.
 
 use lc_program::Repository;
 use std::alloc::{AllocError, Global};
@@ -6,7 +6,7 @@ use std::fs;
 use std::path::Path;
 use std::rt::Files;
 
-/// The greatest number of `..` in the name of a repository's top.
+/// The greatest number of `..` in a path that names a repository's top directory.
 const MAX_STEPS: usize = 8;
 
 /// Returns whether a directory has an entry `.git`. The answer is no if the system can't say.
@@ -17,7 +17,8 @@ fn has_git<R: Files + AllocGlobal>(rt: &R, alloc: Global, directory: Path<'_>) -
     }
 }
 
-/// Returns the top of the repository that a directory lies in, or nothing if the directory itself is a top.
+/// Returns the top directory of the repository that a directory lies in, or `None` if the directory is a top itself or lies in no
+/// repository.
 fn top_above<'p, R: Files + AllocGlobal>(
     rt: &R,
     alloc: Global,
@@ -34,7 +35,7 @@ fn top_above<'p, R: Files + AllocGlobal>(
     None
 }
 
-/// Returns whether a path leads to the top of a repository.
+/// Returns whether a path leads to `top`, the absolute path of a repository's top directory.
 fn leads_to<R: Files + AllocGlobal>(rt: &R, path: &str, top: Path<'_>) -> bool {
     match fs::canonicalize(rt, path) {
         Ok(found) => found.as_path().as_str() == top.as_str(),
@@ -42,8 +43,8 @@ fn leads_to<R: Files + AllocGlobal>(rt: &R, path: &str, top: Path<'_>) -> bool {
     }
 }
 
-/// Names the top by its path from the directory that the program runs in, if it is that directory or at most [`MAX_STEPS`] directories
-/// above it.
+/// Returns the path of a repository's top from the directory that the program runs in: `.`, or at most [`MAX_STEPS`] times `..`. Returns
+/// `None` if there is no such path.
 fn name_from_here<R: Files + AllocGlobal>(
     rt: &R,
     alloc: Global,
@@ -58,7 +59,7 @@ fn name_from_here<R: Files + AllocGlobal>(
     Some(steps_up(alloc, steps))
 }
 
-/// Makes the path that leads up by this many steps.
+/// Makes the path that leads up by this many directories, such as `../..`, or `.` if the number is 0.
 fn steps_up(alloc: Global, steps: usize) -> Result<String, AllocError> {
     if steps == 0 {
         return String::from_str(alloc, ".");
@@ -70,7 +71,7 @@ fn steps_up(alloc: Global, steps: usize) -> Result<String, AllocError> {
     Ok(path)
 }
 
-/// Returns the front of a directory's path, without its path in the repository, if the directory's path ends with the latter.
+/// Returns the part of a directory's path before `inner`, if the path ends with `inner`. `inner` is the directory's path in its repository.
 fn front_of<'d>(directory: &'d str, inner: &str) -> Option<&'d str> {
     let front = directory.trim_end_matches('/').strip_suffix(inner)?;
     let front = front.strip_suffix('/')?;
@@ -81,8 +82,8 @@ fn front_of<'d>(directory: &'d str, inner: &str) -> Option<&'d str> {
     }
 }
 
-/// Names the top of a repository as a command line may: by its path from the directory that the program runs in, by the front of the
-/// directory's path, or by its whole path.
+/// Returns a path of a repository's top that a command line can use: from the directory that the program runs in, the part of `directory`
+/// before `inner`, or the absolute path. `inner` is the directory's path in the repository.
 fn name_of_top<R: Files + AllocGlobal>(
     rt: &R,
     alloc: Global,
@@ -99,7 +100,7 @@ fn name_of_top<R: Files + AllocGlobal>(
     }
 }
 
-/// Returns the repository in which a directory lies, below the repository's top.
+/// Returns the repository that a directory lies in, if the directory is below the repository's top.
 pub(crate) fn repository_above<R: Files + AllocGlobal>(
     rt: &R,
     alloc: Global,

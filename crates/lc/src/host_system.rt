@@ -13,12 +13,12 @@ use std::io::ErrorKind;
 use std::rt::Files;
 use std::time::Clock;
 
-/// The directories and files of the host. Any answer may come for any name, but a listing is made from names that were read and from
-/// metadata.
+/// The directories and files of the host. The contracts allow any answer for any name, but a listing of a directory is made from names that
+/// were read and from metadata.
 #[derive(Drop)]
 pub(crate) struct HostSystem<'a, R> {
     pub(crate) rt: &'a R,
-    /// The progress that counts what is opened of a directory, if a terminal shows it.
+    /// The counter of opened directories and files, if a terminal shows a progress line.
     pub(crate) progress: Option<&'a Progress>,
 }
 

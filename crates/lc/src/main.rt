@@ -1,7 +1,7 @@
 //! The program `lc` counts the files and lines of a directory, skips what Git would ignore, and shows which rule decides a path.
 //!
 //! `lc_program` has most of the program. This crate adds its arguments, its streams, and the directories and files of the host
-//! (`host_system`, with `unread` and `host_repository`). It also adds the line that a long count shows on a terminal (`progress`,
+//! (`host_system`, with `unread` and `host_repository`). It also adds the progress line that a long count shows on a terminal (`progress`,
 //! `watched_tree` and `watched_sink`).
 #![tactic(auto)]
 

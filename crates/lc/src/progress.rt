@@ -1,4 +1,4 @@
-//! The line that a long count rewrites on a terminal.
+//! The progress line that a long count shows on a terminal.
 
 use lc_formats::push_number;
 use std::alloc::{AllocError, Global};
@@ -6,20 +6,21 @@ use std::io::{Stderr, Write};
 use std::sync::atomic::{AtomicBool, AtomicU64, Ordering};
 use std::time::Clock;
 
-/// The time that a count runs before it shows a line, in milliseconds.
+/// The time that a count runs before it shows its progress line, in milliseconds.
 const DELAY: u64 = 1000;
 
-/// The least time between two lines, in milliseconds.
+/// The least time between two updates of the progress line, in milliseconds.
 const PERIOD: u64 = 250;
 
-/// What a count has opened so far, and the time to show it next. The count's result does not depend on it.
+/// The numbers of directories and files that a count has opened, and when they are next shown on a terminal. The count's result does not
+/// depend on them.
 #[derive(Drop)]
 pub(crate) struct Progress {
     alloc: Global,
     terminal: Stderr,
     directories: AtomicU64,
     files: AtomicU64,
-    /// When the next line is due, in milliseconds of the clock.
+    /// When the next update of the progress line is due, in milliseconds of the clock.
     due: AtomicU64,
     is_shown: AtomicBool,
 }
@@ -30,7 +31,7 @@ fn milliseconds(clock: &impl Clock) -> Option<u64> {
     u64::try_from(time.as_millis()).ok()
 }
 
-/// Appends a number and the word for what it counts, in the singular or the plural.
+/// Appends a number and a word for what is counted: `one` if the number is 1, and otherwise `many`.
 fn push_count(
     text: &mut String,
     count: &AtomicU64,
@@ -43,7 +44,7 @@ fn push_count(
 }
 
 impl Progress {
-    /// Makes the progress of a count that may show lines on a terminal, unless the clock can't be read.
+    /// Makes the progress of a count that has opened nothing yet, or `None` if the clock can't be read.
     pub(crate) fn new(clock: &impl Clock, alloc: Global, terminal: Stderr) -> Option<Progress> {
         let now = milliseconds(clock)?;
         Some(Progress {
@@ -68,7 +69,7 @@ impl Progress {
         self.show_if_due(clock);
     }
 
-    /// Shows a line if it is due. If several threads find it due, one of them shows it.
+    /// Shows the progress line if an update is due. If several threads find it due, one of them shows the line.
     fn show_if_due(&self, clock: &impl Clock) {
         let due = self.due.load(Ordering::SeqCst);
         let Some(now) = milliseconds(clock) else {
@@ -85,7 +86,7 @@ impl Progress {
         }
     }
 
-    /// Writes the line over the line before it, which is not longer.
+    /// Writes the progress line over its last version, which is not longer.
     fn show(&self) -> Result<(), AllocError> {
         let mut line = String::from_str(self.alloc, "\rlc: ")?;
         push_count(&mut line, &self.files, " file", " files")?;
@@ -96,7 +97,7 @@ impl Progress {
         Ok(())
     }
 
-    /// Erases the line, if one is shown.
+    /// Erases the progress line, if it is shown.
     pub(crate) fn erase(&self) {
         if self.is_shown.swap(false, Ordering::SeqCst) {
             let _ = (&self.terminal).write_all(b"\r\x1B[K");

@@ -6,7 +6,7 @@ use std::fs;
 use std::io::ErrorKind;
 use std::rt::Files;
 
-/// Returns the reason for an error of the host.
+/// Returns the reason why a path could not be read, from the kind of the host's error.
 fn reason_of(kind: ErrorKind) -> UnreadReason {
     match kind {
         ErrorKind::NotFound => UnreadReason::Missing,
@@ -33,7 +33,7 @@ fn is_file(rt: &impl Files, path: &str) -> Result<bool, AllocError> {
     }
 }
 
-/// Returns why a directory could not be opened, after this error.
+/// Returns why a directory could not be opened. `kind` is the kind of the error that opening it returned.
 fn reason_of_directory(
     rt: &impl Files,
     directory: &str,
@@ -48,7 +48,7 @@ fn reason_of_directory(
     Ok(reason_of(kind))
 }
 
-/// Returns why a directory can't be listed. It opens the directory to find out.
+/// Returns why a directory can't be listed, or `None` if it can. The function opens the directory to find out.
 pub(crate) fn why_unlisted<R: Files>(
     rt: &R,
     alloc: Global,
@@ -65,7 +65,7 @@ pub(crate) fn why_unlisted<R: Files>(
     }
 }
 
-/// Returns why a file can't be read. It opens nothing but a file, since opening a pipe may wait.
+/// Returns why a file can't be read, or `None` if no reason is found. The function opens regular files only, since opening a pipe may wait.
 pub(crate) fn why_unread<R: Files>(rt: &R, name: &str) -> Option<UnreadReason> {
     let metadata = match fs::metadata(rt, name) {
         Ok(metadata) => metadata,

@@ -1,10 +1,10 @@
-//! Outputs that erase the line of a long count before they are written to.
+//! Outputs that erase the progress line of a long count before anything else is written.
 
 use crate::progress::Progress;
 use lc_census::Failed;
 use lc_text::Sink;
 
-/// A sink that erases the line of a count before each write.
+/// A sink that erases the progress line of a count before each write.
 #[derive(Drop)]
 pub(crate) struct WatchedSink<'a, S> {
     pub(crate) sink: S,

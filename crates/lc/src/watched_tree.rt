@@ -1,4 +1,4 @@
-//! A directory of the host as a tree that counts its calls for a terminal.
+//! A directory of the host as a tree that counts what is opened, for a progress line on a terminal.
 
 use crate::progress::Progress;
 use lc_census::{Source, StdSource};
@@ -13,7 +13,7 @@ use std::time::Clock;
 pub(crate) struct WatchedTree<'a, R> {
     pub(crate) tree: SysTree<'a, R>,
     pub(crate) clock: &'a R,
-    /// The progress that counts what is opened, if a terminal shows it.
+    /// The counter of opened directories and files, if a terminal shows a progress line.
     pub(crate) progress: Option<&'a Progress>,
 }
 

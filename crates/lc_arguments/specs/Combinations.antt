@@ -13,74 +13,74 @@ use Rattle.lc_arguments.specs.declared.diff.DiffRequest.{DiffRequest}
 use Rattle.lc_arguments.specs.declared.walk_request.WalkRequest.{WalkRequest}
 use Rattle.lc_arguments.specs.declared.table.TableRequest.{TableRequest}
 
--- rows have shares in the format that was named; where none is, shares make it a table
+-- the named format can show each row's share of the total; without a named format, `--share` means a table, which can
 abbrev pub shows_shares : Option Format → Bool
 shows_shares None = true
 shows_shares (Some Table) = true
 shows_shares (Some Markdown) = true
 shows_shares _ = false
 
--- the format was named that has records of one kind
+-- `--format csv` was typed: the format that has records of one kind only
 abbrev pub has_one_kind : Option Format → Bool
 has_one_kind (Some Csv) = true
 has_one_kind _ = false
 
--- the format was named that is a picture
+-- `--format html` was typed: the format that is a picture
 abbrev pub is_picture : Option Format → Bool
 is_picture (Some Html) = true
 is_picture _ = false
 
--- the order was named that sorts by no number
+-- `--sort name` was typed: the order that sorts by no number
 abbrev pub is_by_name : Option Order → Bool
 is_by_name (Some Name) = true
 is_by_name _ = false
 
--- columns were named that are not all of a report's
+-- `--by` names a different set of columns than ext, text and eol, the columns of a report's rows
 abbrev pub narrows : Option Columns → Bool
 narrows None = false
 narrows (Some by) = is_some by.dir || not (by.ext && by.text && by.eol)
 
--- rows were asked for that are not all of a report's, or lists
+-- a table lists files or skipped entries, is limited by `--top`, or has other columns than a report's rows
 abbrev pub asks_for_rows : TableRequest → Bool → Bool
 asks_for_rows table left_out = table.files || left_out || is_some table.top || narrows table.by
 
--- shares are shown in a format that has them; not both files and what is left out are listed in one that has records of one kind; and a
--- picture has no rows and no lists, and draws a number
+-- shares need a format that can show them; csv lists files or skipped entries, but not both; and a picture lists nothing, shows all rows of
+-- a report, and is not sorted by name
 abbrev pub table_fits : TableRequest → Bool → Bool
 table_fits table left_out =
     (not table.share || shows_shares table.format)
     && (not (table.files && left_out && has_one_kind table.format)
     && (not (is_picture table.format && asks_for_rows table left_out) && not (is_picture table.format && is_by_name table.sort)))
 
--- paths were asked for, each relative to one directory
+-- `--only` or `--only-from` chooses paths, which are relative to one directory
 abbrev pub asks_for_paths : WalkRequest → Bool
 asks_for_paths w = not (is_empty w.only.items) || is_some w.only_from
 
--- paths end with NUL where they come from a file
+-- `--null` needs `--only-from`
 abbrev pub walk_fits : WalkRequest → Bool
 walk_fits w = not w.null || is_some w.only_from
 
--- paths are of one directory
+-- `--only` and `--only-from` need one directory, because their paths are relative to it
 abbrev pub paths_fit : CountRequest → Bool
 paths_fit c = not (nat_lt 1 (length c.directories.items) && asks_for_paths c.walk)
 
--- the options of the table go together, and those that choose files; and paths are of one directory
+-- the options of the table can be combined, and the options that choose files can be; and chosen paths belong to one directory
 abbrev pub fit_together : CountRequest → Bool
 fit_together c = table_fits c.table c.left_out && (walk_fits c.walk && paths_fit c)
 
--- standard input has this name
+-- the word is `-`, which names standard input
 abbrev pub is_dash : List ℕ → Bool
 is_dash word = bytes_eq word (codes "-")
 
--- the paths to count come on standard input
+-- the paths of `--only-from` are read from standard input
 abbrev pub takes_input : WalkRequest → Bool
 takes_input w = option_map_or (λ file. is_dash file.now) w.only_from false
 
--- not both sides are standard input, and none is if paths come on it
+-- at most one of OLD, NEW and the file of `--only-from` is standard input
 abbrev pub reads_input_once : DiffRequest → Bool
 reads_input_once d =
     not (is_dash d.old.now && is_dash d.new.now) && not (takes_input d.walk && (is_dash d.old.now || is_dash d.new.now))
 
--- the options of the table go together, which is no picture, and those that choose files; and standard input is read once
+-- the table is no picture; its options can be combined, and the options that choose files can be; and standard input is read once
 abbrev pub diff_fits : DiffRequest → Bool
 diff_fits d = not (is_picture d.table.format) && (table_fits d.table false && (walk_fits d.walk && reads_input_once d))

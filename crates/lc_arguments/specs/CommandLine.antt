@@ -10,8 +10,8 @@ use Rattle.lc_arguments.specs.declared.option_row.Kind.TheVariants.{Flag, Text, 
 use Rattle.lc_arguments.specs.declared.option_row.Subcommand.{Subcommand}
 use Rattle.lc_arguments.specs.declared.option_row.Subcommand.TheVariants.{Count, Explain, Check, Sum, Diff}
 
--- an argument of this kind with this name: an option without a value, with a text, with a text that may be repeated, or with a number from
--- 1 on; or without a hyphen, one that is required, or any number of them
+-- an argument of this kind with this name: an option without a value, with a text, with a text and repeatable, or with a number from 1 to a
+-- limit; or, without a hyphen, a required argument, or any number of arguments
 abbrev pub kind_rule : Kind → List ℕ → Rule
 kind_rule Flag name = record (new_rule name) { long = Some name; action = Some SetTrue }
 kind_rule Text name = record (new_rule name) { long = Some name; value_names = 1; action = Some Set }
@@ -25,25 +25,25 @@ kind_rule (Number most) name = record (new_rule name) {
 kind_rule Word name = record (new_rule name) { required = true; action = Some Set }
 kind_rule Words name = record (new_rule name) { action = Some Append }
 
--- one with a short name beside the long one
+-- the argument with a short name, if there is one, besides its long name
 abbrev pub with_letter : Option ℕ → Rule → Rule
 with_letter None rule = rule
 with_letter (Some letter) rule = record rule { short = Some letter }
 
--- one with the value that it has if none is given
+-- the argument with a default value, if there is one
 abbrev pub with_default : Option (List ℕ) → Rule → Rule
 with_default None rule = rule
 with_default (Some text) rule = record rule { defaults = text ∷ [] }
 
--- an argument as clap sees it
+-- clap's rule for an argument
 abbrev pub option_rule : OptionModel → Rule
 option_rule o = with_default o.default (with_letter o.letter (kind_rule o.kind o.name))
 
--- the arguments of a command, in their order
+-- clap's rules for the arguments of a command, in the order of the table
 abbrev pub rules_in : Subcommand → List OptionModel → List Rule
 rules_in command all = map option_rule (filter (λ o. is_of command o.of) all)
 
--- a command without arguments, whose own name is not among the words
+-- a command without arguments; the words that it reads begin after its own name
 abbrev pub bare_app : List ℕ → App
 bare_app name = on_top (λ (s : Shape). record s { no_binary_name = true }) (new_app name)
 
@@ -62,7 +62,7 @@ sum_rules = rules_in Sum options
 abbrev pub diff_rules : List Rule
 diff_rules = rules_in Diff options
 
--- each in turn
+-- a command with each of these rules added, in their order
 abbrev pub with_rules : App → List Rule → App
 with_rules a [] = a
 with_rules a (r ∷ rs) = with_rules (with_rule a r) rs
@@ -86,14 +86,14 @@ sum_app = app_with (codes "sum") sum_rules
 abbrev pub diff_app : App
 diff_app = app_with (codes "diff") diff_rules
 
--- for what belongs to no command
+-- the program without commands and arguments, for words that name no command
 abbrev pub bare_lc_app : App
 bare_lc_app = on_top (λ (s : Shape). record s { no_binary_name = true; has_version = true; has_long_version = true }) (new_app (codes "lc"))
 
 abbrev pub subcommand_apps : List App
 subcommand_apps = count_app ∷ sum_app ∷ diff_app ∷ check_app ∷ explain_app ∷ []
 
--- each in turn
+-- a command with each of these subcommands added, in their order
 abbrev pub with_subcommands : App → List App → App
 with_subcommands a [] = a
 with_subcommands a (s ∷ ss) = with_subcommands (with_subcommand a s.top) ss

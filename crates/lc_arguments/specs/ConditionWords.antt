@@ -27,7 +27,7 @@ greater_sign = 62
 abbrev pub dot : ℕ
 dot = 46
 
--- what follows these bytes, where a text begins with them
+-- the rest of a text after `front`, if the text begins with `front`
 abbrev pub after_front : List ℕ → List ℕ → Option (List ℕ)
 after_front front text = cond (bytes_eq (take (length front) text) front) (Some (drop (length front) text)) None
 
@@ -45,14 +45,14 @@ abbrev pub or_column : Column → Option (List ℕ) → Option (Column × List �
 or_column column (Some rest) other = Some (column, rest)
 or_column column None other = other
 
--- the first of some columns with whose name a text begins, and what follows the name
+-- the first of these columns whose name begins a text, and the text after the name
 abbrev pub column_among : List Column → List ℕ → Option (Column × List ℕ)
 column_among [] text = None
 column_among (c ∷ cs) text = or_column c (after_front (column_name c) text) (column_among cs text)
 
 -- ---- operators
 
--- the operator of a byte that an equals sign follows, or does not
+-- the operator that consists of a byte and, if the Bool is true, of an equals sign after the byte
 abbrev pub comparison_of : ℕ → Bool → Option Comparison
 comparison_of b true =
     cond (b == exclamation_mark) (Some Unequal) (cond (b == less_sign) (Some AtMost) (cond (b == greater_sign) (Some AtLeast) None))
@@ -67,20 +67,20 @@ abbrev pub operator_by : ℕ → List ℕ → Option (List ℕ) → Option (Comp
 operator_by b bs (Some rest) = with_rest (comparison_of b true) rest
 operator_by b bs None = with_rest (comparison_of b false) bs
 
--- the operator with which a text begins, and what follows it
+-- the operator that begins a text, and the text after the operator
 abbrev pub operator_at : List ℕ → Option (Comparison × List ℕ)
 operator_at [] = None
 operator_at (b ∷ bs) = operator_by b bs (after_front (equals_sign ∷ []) bs)
 
 -- ---- values
 
--- what follows the dot of an extension: something without a further dot and without a slash
+-- what can follow the dot of an extension: some bytes without a further dot and without a slash
 abbrev pub is_after_dot : Option (List ℕ) → Bool
 is_after_dot None = false
 is_after_dot (Some []) = false
 is_after_dot (Some (b ∷ bs)) = not (list_any (is_byte dot) (b ∷ bs)) && not (list_any (is_byte slash) (b ∷ bs))
 
--- a value that a column can have; a hyphen is none
+-- a text can be a value of a column; `-` means no extension, or no attribute text
 abbrev pub can_have : Column → List ℕ → Bool
 can_have Ext text = bytes_eq text (codes "-") || is_after_dot (after_front (dot ∷ []) text)
 can_have Text text =
@@ -91,7 +91,7 @@ can_have Eol text =
     || bytes_eq text (codes "mixed") || bytes_eq text (codes "nul")
 can_have other text = false
 
--- all values between commas are such
+-- a column can have each of some values, which commas separate
 abbrev pub can_have_all : Column → List ℕ → Bool
 can_have_all column texts = list_all (can_have column) (pieces_of comma texts)
 
@@ -102,7 +102,7 @@ is_digit b = nat_le 48 b && nat_le b 57
 abbrev pub max_number : ℕ
 max_number = 18446744073709551615
 
--- a number, and one digit more
+-- a number with one more digit, if the byte is a digit and the result is not over the largest number
 abbrev pub with_digit : ℕ → ℕ → Option ℕ
 with_digit n b = cond (is_digit b && nat_le (n * 10 + (b - 48)) max_number) (Some (n * 10 + (b - 48))) None
 
@@ -118,7 +118,7 @@ number_in (b ∷ bs) = digits_from (Some 0) (b ∷ bs)
 
 -- ---- conditions
 
--- values are among some, or are not
+-- the condition that a column has one of these values (`=`), or none of them (`!=`)
 abbrev pub list_condition : Column → Comparison → List ℕ → Option ConditionModel
 list_condition column Equal texts =
     cond (can_have_all column texts) (Some (record { column = column; test = one_of (pieces_of comma texts) })) None
@@ -130,7 +130,7 @@ abbrev pub number_condition : Column → Comparison → Option ℕ → Option Co
 number_condition column comparison None = None
 number_condition column comparison (Some n) = Some (record { column = column; test = compared comparison n })
 
--- the condition of a column, an operator and what follows it
+-- the condition of a column, an operator, and the text after the operator
 abbrev pub condition_with : Column → Comparison → List ℕ → Option ConditionModel
 condition_with (Number n) comparison values = number_condition (Number n) comparison (number_in values)
 condition_with column comparison values = list_condition column comparison values
@@ -147,7 +147,7 @@ condition_on (Some column) = condition_by column.0 (operator_at (without_spaces 
 abbrev pub condition_of : List ℕ → Option ConditionModel
 condition_of text = condition_on (column_among condition_columns text)
 
--- all that texts write
+-- the conditions that texts write; a text that is no condition adds none
 abbrev pub conditions_of : List (List ℕ) → List ConditionModel
 conditions_of texts = filter_map condition_of texts
 
@@ -155,6 +155,6 @@ conditions_of texts = filter_map condition_of texts
 abbrev pub not_binary : ConditionModel
 not_binary = record { column = Eol; test = none_of (codes "nul" ∷ []) }
 
--- what texts write, and that files are not binary where this is asked for
+-- the conditions that texts write, and, if `--no-binary` was typed, the condition that a file is not binary
 abbrev pub all_conditions : List (List ℕ) → Bool → List ConditionModel
 all_conditions texts asked = conditions_of texts ++ cond asked (not_binary ∷ []) []

@@ -11,26 +11,26 @@ use Rattle.clap.specs.declared.builder.command.Command.TheViews.{out-Command}
 use Rattle.lc_arguments.specs.CommandLine.{bare_app, count_app, diff_app, sum_app}
 use Rattle.lc_arguments.specs.ReadNumbers.{ReadsCountWithinLimits, ReadsCutsWithinLimits}
 
--- a name that is not empty, nor that of an argument which each command has
+-- a name that is not empty, and is not `help` or `version`, which each command has
 abbrev pub is_own_name : List ℕ → Bool
 is_own_name id = not (bytes_eq id [] || bytes_eq id (codes "help") || bytes_eq id (codes "version"))
 
--- an argument that clap sees so, and that may stand beside any other
+-- clap reads the argument by this rule, and a command can have the argument among others (`FitsChain`)
 abbrev pub IsArgOf : Rule → Arg → Type 0
 IsArgOf rule a = (rule_of a ≡ rule) × FitsChain a
 
--- arguments that clap sees so, one by one
+-- clap reads each of the arguments by its rule, in their order
 abbrev pub AreArgsOf : List Rule → List Arg → Type 0
 AreArgsOf [] [] = Unit {0}
 AreArgsOf (rule ∷ rules) (a ∷ args) = IsArgOf rule a × AreArgsOf rules args
 AreArgsOf [] (a ∷ args) = ⊥
 AreArgsOf (rule ∷ rules) [] = ⊥
 
--- a command that clap sees so, and none of whose arguments its subcommands take
+-- clap reads the command as this app, and its subcommands inherit none of its arguments
 abbrev pub IsCommandOf : App → Command → Type 0
 IsCommandOf app c = (app_of c ≡ app) × ((out-Command c).has_globals ≡ false)
 
--- commands that clap sees so, one by one
+-- clap reads each of the commands as its app, in their order
 abbrev pub AreCommandsOf : List App → List Command → Type 0
 AreCommandsOf [] [] = Unit {0}
 AreCommandsOf (app ∷ apps) (c ∷ commands) = IsCommandOf app c × AreCommandsOf apps commands

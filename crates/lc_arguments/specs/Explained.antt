@@ -41,13 +41,13 @@ use Rattle.lc_arguments.specs.declared.diff.DiffRequest.{DiffRequest}
 use Rattle.lc_arguments.specs.declared.walk_request.WalkRequest.{WalkRequest}
 use Rattle.lc_arguments.specs.Words.{AsksNoDiff, AsksNoWalk, IsDiffOf, IsFitDiffOf, IsWalkOf}
 
--- a text that was asked for is shown; any other is why words are refused
+-- what an error of clap becomes: a text of help or of the version is shown; any other error refuses the words, unless memory runs out
 abbrev pub Explains : Error → ParseExit → Type 0
 Explains e (Shown _) = IsText (kind_of e)
 Explains e (Refused _) = (kind_of e ≢ OutOfMemory) × (IsText (kind_of e) → ⊥)
 Explains e Memory = Unit {0}
 
--- words are refused for this reason, or there was no memory to say so
+-- the words are refused for this reason, or there is no memory to say so
 abbrev pub IsRefusedFor : Type 0 → ParseExit → Type 0
 IsRefusedFor No (Shown _) = ⊥
 IsRefusedFor No (Refused _) = No
@@ -57,24 +57,24 @@ IsRefusedFor No Memory = Unit {0}
 abbrev pub IsRefusal : ParseExit → Type 0
 IsRefusal = IsRefusedFor (Unit {0})
 
--- what holds of an answer, or why there is none
+-- an answer has this property, or the words are refused for this reason
 abbrev pub AnswersOr : {A : Type 0} → (A → Type 0) → Type 0 → Result A ParseExit → Type 0
 AnswersOr {A} Is No (Ok a) = Is a
 AnswersOr {A} Is No (Err why) = IsRefusedFor No why
 
--- the words of a command are shown a text or refused by clap, or refused by what was read of them
+-- why a command makes no request: clap shows a text, clap refuses the words, or the values that clap read are refused
 abbrev pub IsUnread : App → (List Row → Type 0) → List (List ℕ) → ParseExit → Type 0
 IsUnread app No words (Shown _) = MayShow (fault_of app words)
 IsUnread app No words (Refused _) = MayRefuse (fault_of app words) ⊎ ((fault_of app words ≡ []) × No (matches_of app words))
 IsUnread app No words Memory = Unit {0}
 
--- what holds of what was read of the words of a command, or why they were not read
+-- the request of a command has this property for the values that clap read, or the words make no request for one of these reasons
 abbrev pub AnswersCommand : {A : Type 0} → App → (List Row → A → Type 0) → (List Row → Type 0) → List (List ℕ)
     → Result A ParseExit → Type 0
 AnswersCommand {A} app Is No words (Ok a) = (fault_of app words ≡ []) × Is (matches_of app words) a
 AnswersCommand {A} app Is No words (Err why) = IsUnread app No words why
 
--- the words after `count`, `explain`, `sum` and `diff`
+-- the results of reading the words after `count`, `explain`, `sum` and `diff`
 abbrev pub AnswersCountWords : List (List ℕ) → Result CountRequest ParseExit → Type 0
 AnswersCountWords = AnswersCommand count_app IsFitCountOf AsksNoCount
 
@@ -87,7 +87,7 @@ AnswersSumWords = AnswersCommand sum_app IsFitSumOf AsksNoSum
 abbrev pub AnswersDiffWords : List (List ℕ) → Result DiffRequest ParseExit → Type 0
 AnswersDiffWords = AnswersCommand diff_app IsFitDiffOf AsksNoDiff
 
--- what leaves entries out by what was read; or an option has values that it may not have
+-- the filters that were read, or an option has values that it may not have
 abbrev pub AnswersFilters : List Row → Result FilterRequest ParseExit → Type 0
 AnswersFilters rows = AnswersOr (AreFiltersOf rows) (Misvalue rows)
 
@@ -95,7 +95,7 @@ AnswersFilters rows = AnswersOr (AreFiltersOf rows) (Misvalue rows)
 abbrev pub AnswersConditions : List Row → Result (Vec ConditionModel) ParseExit → Type 0
 AnswersConditions rows = AnswersOr (λ (conditions : Vec ConditionModel). AreConditionsOf rows conditions.items) (Misvalue rows)
 
--- the values of an option, in their order, which it may have
+-- the values of an option, in their order, or the option may not have them all
 abbrev pub AnswersRepeated : Repeated → List (List ℕ) → Result (Vec (Bor (List ℕ))) ParseExit → Type 0
 AnswersRepeated option texts =
     AnswersOr (λ (values : Vec (Bor (List ℕ))). (map (λ value. value.now) values.items ≡ texts) × (are_allowed option texts ≡ true))
@@ -105,7 +105,7 @@ AnswersRepeated option texts =
 abbrev pub AnswersRepeatedIn : List Row → Repeated → Result (Vec (Bor (List ℕ))) ParseExit → Type 0
 AnswersRepeatedIn rows option result = AnswersRepeated option (values_read rows option) result
 
--- the paths of these words, in their order; or one is neither that of an entry nor the directory
+-- the paths of these words, in their order; or a path is neither the path of an entry nor `.`
 abbrev pub AnswersPaths : List (List ℕ) → Result (Vec (Bor (List ℕ))) ParseExit → Type 0
 AnswersPaths words =
     AnswersOr (λ (paths : Vec (Bor (List ℕ))).
@@ -127,7 +127,7 @@ AnswersDirectories words =
 abbrev pub AnswersDirectoriesIn : List Row → Result (Vec (Bor (List ℕ))) ParseExit → Type 0
 AnswersDirectoriesIn rows result = AnswersDirectories (directories_read rows) result
 
--- the reports of these words, in their order; or one names none, or two name standard input
+-- the reports of these words, in their order; or a word names no report, or two words name standard input
 abbrev pub AnswersReports : List (List ℕ) → Result (Vec NamedReport) ParseExit → Type 0
 AnswersReports words =
     AnswersOr (λ (reports : Vec NamedReport).
@@ -138,56 +138,56 @@ AnswersReports words =
 abbrev pub AnswersReportsIn : List Row → Result (Vec NamedReport) ParseExit → Type 0
 AnswersReportsIn rows result = AnswersReports (reports_read rows) result
 
--- what is asked for; or nothing is, or there was no memory to say so
+-- a value with this property; or no value has the property, or there is no memory to say so
 abbrev pub AnswersBy : {A : Type 0} → (A → Type 0) → Result A ParseExit → Type 0
 AnswersBy {A} Is = AnswersOr Is ((a : A) → ¬ Is a)
 
--- the format of this name, if one is given
+-- the format of this name, if there is a name
 abbrev pub AnswersFormat : Option (List ℕ) → Result (Option Format) ParseExit → Type 0
 AnswersFormat name = AnswersBy (λ (format : Option Format). option_map format_word format ≡ name)
 
--- the order of this name, if one is given
+-- the order of this name, if there is a name
 abbrev pub AnswersSort : Option (List ℕ) → Result (Option Order) ParseExit → Type 0
 AnswersSort name = AnswersBy (λ (sort : Option Order). option_map order_word sort ≡ name)
 
--- the columns of these names
+-- the columns that the text of `--by` names, with the depth of `--depth`
 abbrev pub AnswersColumns : Option (List ℕ) → Option ℕ → Result (Option Columns) ParseExit → Type 0
 AnswersColumns by depth = AnswersBy (λ (columns : Option Columns). AreColumnsBy by depth columns)
 
--- the table of these texts
+-- the table that the values of `--format`, `--by`, `--depth` and `--sort` request
 abbrev pub AnswersTable : Option (List ℕ) → Option (List ℕ) → Option ℕ → Option (List ℕ) → Result TableRequest ParseExit → Type 0
 AnswersTable format by depth sort = AnswersBy (IsTableBy format by depth sort)
 
--- the table that was read with these numbers, or none was asked for
+-- the table that was read, if these are the numbers that were read; or the options request no table
 abbrev pub AnswersTableIn : List Row → Cuts → Result TableRequest ParseExit → Type 0
 AnswersTableIn rows cuts =
     AnswersOr (λ (table : TableRequest). AreCutsIn rows cuts → IsWholeTableIn rows table) (AreCutsIn rows cuts → AsksNoTable rows)
 
--- how directories are counted, as it was read with these numbers
+-- how directories are counted, as it was read, if these are the numbers that were read; or the options request no walk
 abbrev pub AnswersWalkIn : List Row → Numbers → Result WalkRequest ParseExit → Type 0
 AnswersWalkIn rows numbers = AnswersOr (λ (w : WalkRequest). AreNumbersIn rows numbers → IsWalkOf rows w) (AsksNoWalk rows)
 
--- the count that was read with these numbers, whose options may not go together
+-- the count that was read, if these are the numbers that were read; its options may not fit together
 abbrev pub AnswersCountIn : List Row → Numbers → Result CountRequest ParseExit → Type 0
 AnswersCountIn rows numbers =
     AnswersOr (λ (c : CountRequest). AreNumbersIn rows numbers → IsCountOf rows c) (AreNumbersIn rows numbers → AsksNoCount rows)
 
--- and the difference
+-- the difference that was read, if these are the numbers that were read; its options may not fit together
 abbrev pub AnswersDiffIn : List Row → Numbers → Result DiffRequest ParseExit → Type 0
 AnswersDiffIn rows numbers =
     AnswersOr (λ (d : DiffRequest). AreNumbersIn rows numbers → IsDiffOf rows d) (AreNumbersIn rows numbers → AsksNoDiff rows)
 
--- and the sum
+-- the sum that was read, if these are the numbers that were read; its options may not fit together
 abbrev pub AnswersSumIn : List Row → Cuts → Result SumRequest ParseExit → Type 0
 AnswersSumIn rows cuts =
     AnswersOr (λ (s : SumRequest). AreCutsIn rows cuts → IsSumOf rows s) (AreCutsIn rows cuts → AsksNoSum rows)
 
--- the words after `check`
+-- the result of reading the words after `check`
 abbrev pub AnswersCheckWords : List (List ℕ) → Result CheckRequest ParseExit → Type 0
 AnswersCheckWords words (Ok c) = (fault_of check_app words ≡ []) × IsCheckOf (matches_of check_app words) c
 AnswersCheckWords words (Err why) = IsNoRequestBy (fault_of check_app words) why
 
--- words that name no command
+-- the result of reading words that name no command
 abbrev pub AnswersOthers : List (List ℕ) → Result Request ParseExit → Type 0
 AnswersOthers words (Ok request) = (fault_of lc_app words ≡ []) × (request ≡ CheckJoined)
 AnswersOthers words (Err why) = IsNoRequestBy (fault_of lc_app words) why

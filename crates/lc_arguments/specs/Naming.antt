@@ -1,4 +1,4 @@
--- Which arguments a text names: help those of its command, and a usage error one.
+-- Which arguments a text names: help names the arguments of its command, and a usage error names one argument.
 use Rattle.std.specs.Prelude.{◌≡◌, ◌⊎◌, ℕ, Bool, true, false, cond, is_some, bytes_eq, List, [], ◌∷◌, ◌++◌, codes, string_bytes}
 use Rattle.std.specs.Prelude.{Option, Some, None, ⊤}
 use Rattle.std.specs.Str.Iter.{HasSubslice}
@@ -12,8 +12,8 @@ use Rattle.lc_arguments.specs.declared.option_row.Subcommand.TheVariants.{Count,
 use Rattle.lc_arguments.specs.declared.request.ParseExit.{ParseExit}
 use Rattle.lc_arguments.specs.declared.request.ParseExit.TheVariants.{Shown, Refused, Memory}
 
--- what is before the name of an argument and after it: the hyphens of an option, and the brackets of what has none, by whether it may be
--- omitted
+-- what a message of clap has before and after the name of an argument: the hyphens of an option; or, without a hyphen, `<` and `>` around a
+-- required argument, and `[` and `]` around one that may be omitted
 abbrev pub mark_before : Kind → List ℕ
 mark_before Flag = codes "--"
 mark_before Text = codes "--"
@@ -30,13 +30,13 @@ mark_after (Number most) = []
 mark_after Word = codes ">"
 mark_after Words = codes "]"
 
--- a text has the name of an argument, with its marks
+-- a text has the name of an argument, with what clap writes before and after the name
 abbrev pub Names : List ℕ → OptionModel → Type 0
 Names text o = HasSubslice text (mark_before o.kind ++ (o.name ++ mark_after o.kind))
 
 -- ---- help
 
--- of each argument of a command
+-- a text names each argument of a command
 abbrev pub NamesAll : Subcommand → List OptionModel → List ℕ → Type 0
 NamesAll command [] text = ⊤
 NamesAll command (o ∷ os) text = (is_of command o.of ≡ true → Names text o) × NamesAll command os text
@@ -59,7 +59,7 @@ IsTextOf (Some command) text = NamesAll command options text
 
 -- ---- usage errors
 
--- an argument that may be omitted is in each usage, so it shows nothing of an error
+-- the name of an argument of this kind shows what is wrong; `Words` are in each usage line, so their names show nothing
 abbrev pub is_telling : Kind → Bool
 is_telling Flag = true
 is_telling Text = true
@@ -68,17 +68,17 @@ is_telling (Number most) = true
 is_telling Word = true
 is_telling Words = false
 
--- a text names one of these arguments
+-- a text names one of these arguments, apart from `Words`
 abbrev pub NamesSome : List OptionModel → List ℕ → Type 0
 NamesSome [] text = ⊥
 NamesSome (o ∷ os) text = ((is_telling o.kind ≡ true) × Names text o) ⊎ NamesSome os text
 
--- it has one of these words in quotes, as a terminal shows it
+-- a text has one of these words in quotes, as a terminal shows the word
 abbrev pub QuotesSome : List (List ℕ) → List ℕ → Type 0
 QuotesSome [] text = ⊥
 QuotesSome (word ∷ words) text = HasSubslice text (codes "'" ++ (visible_bytes word ++ codes "'")) ⊎ QuotesSome words text
 
--- an argument that was typed, or one of the table
+-- a text has a typed word in quotes, or names an argument of the table of options
 unfoldable pub NamesOne : List (List ℕ) → List ℕ → Type 0
 NamesOne words text = QuotesSome words text ⊎ NamesSome options text
 
@@ -95,7 +95,7 @@ pub record IsNamingError (words : List (List ℕ)) (text : List ℕ) : Type 0 wh
 
 -- ---- both
 
--- what is written of words that ask for no request
+-- what the program writes if words make no request names arguments
 abbrev pub NamesArguments : List (List ℕ) → ParseExit → Type 0
 NamesArguments words (Shown text) = IsTextOf (named_command words) (string_bytes text)
 NamesArguments words (Refused why) = IsNamingError words (string_bytes why)

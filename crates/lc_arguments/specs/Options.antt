@@ -15,7 +15,7 @@ pub record OptionModel : Type 0 where
   pub default : Option (List ℕ)
   pub of : Commands
 
--- what a row says to clap
+-- the part of a row that clap reads
 abbrev pub option_model : OptionRow → OptionModel
 option_model row = record {
   name = row.name.now;
@@ -25,7 +25,7 @@ option_model row = record {
   of = row.of;
 }
 
--- a command is among these
+-- a command is in the set
 abbrev pub is_of : Subcommand → Commands → Bool
 is_of Count commands = commands.count
 is_of Explain commands = commands.explain
@@ -52,7 +52,7 @@ sum = record none { sum = true }
 abbrev pub diff : Commands
 diff = record none { diff = true }
 
--- the commands that skip entries
+-- the commands with options that skip entries
 abbrev pub filters : Commands
 filters = record none { count = true; explain = true; diff = true }
 
@@ -72,15 +72,15 @@ printed = record none { count = true; sum = true }
 abbrev pub tables : Commands
 tables = record none { count = true; sum = true; diff = true }
 
--- the most rows and files that are asked for
+-- the greatest value of `--top`
 abbrev pub max_top : ℕ
 max_top = 4294967295
 
--- the most segments of a row's directory
+-- the greatest value of `--depth`
 abbrev pub max_depth : ℕ
 max_depth = 256
 
--- the most threads of a count, and the most directories
+-- the greatest values of `--threads` and `--max-dirs`
 abbrev pub max_threads : ℕ
 max_threads = 16
 

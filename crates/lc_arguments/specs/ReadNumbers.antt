@@ -14,51 +14,51 @@ use Rattle.lc_arguments.specs.Options.{max_depth, max_dirs, max_threads, max_top
 use Rattle.lc_arguments.specs.declared.numbers.Cuts.{Cuts}
 use Rattle.lc_arguments.specs.declared.numbers.Numbers.{Numbers}
 
--- what was read of this argument is a number from the one to the other
+-- the value that was read of this argument, if there is one, is a number from `low` to `high`
 abbrev pub IsReadWithin : Found → List ℕ → ℕ → ℕ → Type 0
 IsReadWithin found id low high =
     (text : List ℕ) → matches.one_text found id ≡ Some text
     → (digits : List ℕ) × (text ≡ without_minus digits) × IsSignedIn (pos low) (pos high) digits
 
--- what a parse by this command reads of this argument is such a number
+-- each parse by this command reads of this argument a number from `low` to `high`, if the parse reads a value
 abbrev pub ReadsWithin : Command → List ℕ → ℕ → ℕ → Type 0
 ReadsWithin command id low high = (m : ArgMatches) → IsParsedFrom command m → IsReadWithin (found_of m) id low high
 
--- what was read of the numbers of a table is within their limits
+-- the values of `--depth` and `--top` that were read are within their limits
 pub record AreCutsReadWithin (found : Found) : Type 0 where
   pub depth : IsReadWithin found (codes "depth") 1 max_depth
   pub top : IsReadWithin found (codes "top") 1 max_top
 
--- what was read of the numbers of a count is within their limits
+-- the values of the options with numbers that were read are within their limits
 pub record AreReadWithin (found : Found) : Type 0 where
   pub threads : IsReadWithin found (codes "threads") 1 max_threads
   pub max_dirs : IsReadWithin found (codes "max-dirs") 1 max_dirs
   pub cuts : AreCutsReadWithin found
 
--- what a parse by a command with a table reads of its numbers
+-- each parse by this command reads values of `--depth` and `--top` that are within their limits
 abbrev pub ReadsCutsWithinLimits : Command → Type 0
 ReadsCutsWithinLimits command = (m : ArgMatches) → IsParsedFrom command m → AreCutsReadWithin (found_of m)
 
--- what a parse by the command of a count reads of its numbers
+-- each parse by this command reads values of the options with numbers that are within their limits
 abbrev pub ReadsCountWithinLimits : Command → Type 0
 ReadsCountWithinLimits command = (m : ArgMatches) → IsParsedFrom command m → AreReadWithin (found_of m)
 
--- the number that was read in digits, or that of the default where nothing was read
+-- the number that the digits of an argument's value write, or the digits of its default if no value was read
 abbrev pub IsNumber : List ℕ → List ℕ → List Row → ℕ → Type 0
 IsNumber id default rows n = n ≡ digits_value 10 (without_leading_plus (unwrap_or (one_of id rows) default))
 
--- the number that was read in digits, where one was
+-- the number that the digits of an argument's value write, if a value was read
 abbrev pub number_if_given : List ℕ → List Row → Option ℕ
 number_if_given id rows = option_map (λ text. digits_value 10 (without_leading_plus text)) (one_of id rows)
 
--- the numbers of a table, as they were read, within their limits
+-- the values of `--depth` and `--top`, as they were read, within their limits
 pub record AreCutsIn (rows : List Row) (c : Cuts) : Type 0 where
   pub some_depth : 1 ≤ unwrap_or c.depth 1
   pub within_depth : unwrap_or c.depth 1 ≤ max_depth
   pub depth : c.depth ≡ number_if_given (codes "depth") rows
   pub top : c.top ≡ number_if_given (codes "top") rows
 
--- the numbers of a count, as they were read, within their limits
+-- the values of the options with numbers, as they were read, within their limits
 pub record AreNumbersIn (rows : List Row) (n : Numbers) : Type 0 where
   pub some_threads : 1 ≤ n.threads
   pub within_threads : n.threads ≤ max_threads

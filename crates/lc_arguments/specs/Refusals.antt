@@ -13,7 +13,7 @@ message_char c = cond (nat_eq c 10 || nat_eq c backslash) (encode_utf8 c) (visib
 abbrev pub IsMessage : List ℕ → Type 0
 IsMessage bytes = (text : List ℕ) × (bytes ≡ codes "error: " ++ flat_map message_char text)
 
--- why arguments are refused is such a message
+-- the text that refuses arguments is a message
 abbrev pub IsRefusedVisibly : ParseExit → Type 0
 IsRefusedVisibly (Shown _) = Unit {0}
 IsRefusedVisibly (Refused why) = IsMessage (string_bytes why)

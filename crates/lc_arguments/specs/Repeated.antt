@@ -1,4 +1,4 @@
--- The values of options that may stand several times: attributes, patterns, and conditions.
+-- The values of options that may be used several times: attributes, patterns, and conditions.
 use Rattle.std.specs.Prelude.{◌++◌, ◌&&◌, ℕ, Bool, true, not, nat_le, List, [], ◌∷◌, length, flat_map, is_some, codes}
 use Rattle.std.specs.List.{before_first, list_all, list_any}
 use Rattle.lc_glob.specs.Pieces.{is_byte}
@@ -29,20 +29,20 @@ id_of Excluded = codes "exclude"
 id_of Included = codes "include"
 id_of Conditions = codes "where"
 
--- what one value of it may be
+-- an option may have this value
 abbrev pub is_allowed : Repeated → List ℕ → Bool
 is_allowed Attributes word = has_attribute_name word
 is_allowed Excluded pattern = has_one_line pattern
 is_allowed Included pattern = has_one_line pattern && not (is_negated pattern)
 is_allowed Conditions text = is_some (condition_of text)
 
--- all its patterns are the lines of one ignore file, where it has patterns
+-- the values of an option are short enough: patterns must fit into one ignore file as its lines
 abbrev pub are_short : Repeated → List (List ℕ) → Bool
 are_short Attributes words = true
 are_short Conditions texts = true
 are_short Excluded patterns = nat_le (length (lines_text patterns)) max_rule_bytes
 are_short Included patterns = nat_le (length (lines_text patterns)) max_rule_bytes
 
--- what all its values may be
+-- an option may have these values together
 abbrev pub are_allowed : Repeated → List (List ℕ) → Bool
 are_allowed option values = list_all (is_allowed option) values && are_short option values

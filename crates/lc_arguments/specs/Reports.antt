@@ -9,11 +9,11 @@ use Rattle.lc_glob.specs.Pieces.{is_byte}
 use Rattle.lc_rules.specs.Bytes.{equals_sign}
 use Rattle.lc_arguments.specs.declared.reports.NamedReport.{NamedReport}
 
--- a word names its report: it has an equals sign, and no slash before the first
+-- a word has the form NAME=REPORT: it has an equals sign, and no slash before the first equals sign
 abbrev pub has_name : List ℕ → Bool
 has_name word = list_any (is_byte equals_sign) word && not (list_any (is_byte slash) (before_first (is_byte equals_sign) word))
 
--- the name that a word gives its report, which is what is before that sign; and the report, what is after it or the word
+-- the NAME of a word, if there is one, and its REPORT: the text before and after the first equals sign, or the whole word as the REPORT
 abbrev pub named_of : List ℕ → Option (List ℕ) × List ℕ
 named_of word =
     cond (has_name word) (Some (before_first (is_byte equals_sign) word), after_first (is_byte equals_sign) word) (None, word)
@@ -21,7 +21,7 @@ named_of word =
 abbrev pub report_model : NamedReport → Option (List ℕ) × List ℕ
 report_model r = (option_map (λ name. name.now) r.name, r.report.now)
 
--- a report with a path, below what a directory can be named, if it has a name
+-- a report whose path is not empty, and whose name, if there is one, can be the name of a directory
 abbrev pub is_good_report : Option (List ℕ) × List ℕ → Bool
 is_good_report (name, report) = not (bytes_eq report []) && option_map_or is_good_name name true
 

@@ -1,4 +1,4 @@
--- What the words ask a table to look like.
+-- The table that the words of a command line request.
 use Rattle.std.specs.Prelude.{◌≡◌, ◌||◌, ℕ, ◌+◌, Bool, true, false, cond, List, length, filter, Option, Some, None, option_map, unwrap_or}
 use Rattle.std.specs.Prelude.{is_some, codes, IfSome}
 use Rattle.std.specs.Str.{bytes_eq}
@@ -27,7 +27,7 @@ sort_word Lines = codes "lines"
 sort_word Blank = codes "blank"
 sort_word Bytes = codes "bytes"
 
--- an order is that of the names, or by the number of this column
+-- the word of `--sort` that names an order: by name, or by the number of a column
 abbrev pub order_word : Order → List ℕ
 order_word Name = codes "name"
 order_word (Largest number) = sort_word number
@@ -35,7 +35,7 @@ order_word (Largest number) = sort_word number
 abbrev pub comma : ℕ
 comma = 44
 
--- how often a name stands among others
+-- how often a name is in a list of names
 abbrev pub how_often : List ℕ → List (List ℕ) → ℕ
 how_often name names = length (filter (bytes_eq name) names)
 
@@ -46,7 +46,7 @@ once_if false = 0
 abbrev pub how_many : Columns → ℕ
 how_many c = once_if (is_some c.dir) + once_if c.ext + once_if c.text + once_if c.eol
 
--- the names of these columns, each once, and no others; directories are cut to some segments
+-- the names are those of these columns, each once, and no others; directories are cut to `depth` segments
 pub record AreNamesOf (names : List (List ℕ)) (depth : ℕ) (c : Columns) : Type 0 where
   pub dir : how_often (codes "dir") names ≡ once_if (is_some c.dir)
   pub cut : IfSome c.dir (λ segments. segments ≡ depth)
@@ -55,29 +55,29 @@ pub record AreNamesOf (names : List (List ℕ)) (depth : ℕ) (c : Columns) : Ty
   pub eol : how_often (codes "eol") names ≡ once_if c.eol
   pub no_others : length names ≡ how_many c
 
--- names with commas between them
+-- a text has the names of these columns, with commas between them
 abbrev pub IsColumnsText : List ℕ → ℕ → Columns → Type 0
 IsColumnsText text depth c = AreNamesOf (pieces_of comma text) depth c
 
--- the columns of this text; a depth is given only where directories are among them
+-- the columns that the text of `--by` names; there is a depth only if directories are among the columns
 pub record AreColumnsNamed (text : List ℕ) (depth : Option ℕ) (c : Columns) : Type 0 where
   pub named : IsColumnsText text (unwrap_or depth 1) c
   pub cuts : IfSome depth (λ _. is_some c.dir ≡ true)
 
--- the columns that two options ask for, if they are named
+-- the columns that `--by` and `--depth` request, if `--by` was typed
 abbrev pub AreColumnsBy : Option (List ℕ) → Option ℕ → Option Columns → Type 0
 AreColumnsBy None depth None = depth ≡ None
 AreColumnsBy (Some text) depth (Some c) = AreColumnsNamed text depth c
 AreColumnsBy None depth (Some c) = ⊥
 AreColumnsBy (Some text) depth None = ⊥
 
--- the table that the texts of three options and a number ask for, as far as they are given
+-- the table that the texts of `--format`, `--by` and `--sort` and the number of `--depth` request, each only if it was typed
 pub record IsTableBy (format by : Option (List ℕ)) (depth : Option ℕ) (sort : Option (List ℕ)) (s : TableRequest) : Type 0 where
   pub format_is : option_map format_word s.format ≡ format
   pub by_is : AreColumnsBy by depth s.by
   pub sort_is : option_map order_word s.sort ≡ sort
 
--- the format: the one that is named; else a table where shares are asked for, and else this one
+-- the format: the named one; if none is named, `Table` for a table with shares, and otherwise `other`
 abbrev pub format_in : Format → TableRequest → Format
 format_in other s = unwrap_or s.format (cond s.share Table other)
 
@@ -87,20 +87,20 @@ is_for_reading Table = true
 is_for_reading Markdown = true
 is_for_reading _ = false
 
--- the order where none is named: by lines where only the first rows and files are asked for, or in a format for reading
+-- the order if none is named: by lines with `--top` or in a format for reading, and otherwise by name
 abbrev pub default_order : Format → Option ℕ → Order
 default_order format top = cond (is_some top || is_for_reading format) (Largest Lines) Name
 
--- the number by which an order sorts; that of names sorts by none
+-- the number by which an order sorts; the order by name sorts by no number
 abbrev pub number_of : Order → Option Number
 number_of Name = None
 number_of (Largest number) = Some number
 
--- the order in a format: the one that is named, or its default
+-- the order in a format: the named order, or the default order of the format
 abbrev pub order_in : Format → TableRequest → Order
 order_in format s = unwrap_or s.sort (default_order format s.top)
 
--- the options of a table, which has this format if nothing asks for another, and these columns if none are named
+-- the options of a table: if no format is named and no shares are shown, the format is `other`; if no columns are named, these columns
 abbrev pub options_in : Format → Columns → TableRequest → TableOptions
 options_in other columns s = record {
   format = format_in other s;

@@ -1,4 +1,4 @@
--- What the words of a command line ask for.
+-- The requests that the words of a command line make.
 use Rattle.std.specs.Prelude.{◌≡◌, ◌≢◌, ◌⊎◌, ◌≤◌, ◌==◌, ◌&&◌, ◌||◌, not, ℕ, Bool, true, false, cond, List, [], ◌∷◌, Some, None, Option}
 use Rattle.std.specs.Prelude.{Result, Ok, Err, unwrap_or, option_map, map, codes, IfSome}
 use Rattle.std.specs.Borrow.{Bor}
@@ -39,11 +39,11 @@ use Rattle.lc_arguments.specs.declared.count.CountRequest.{CountRequest}
 use Rattle.lc_arguments.specs.declared.filter_request.FilterRequest.{FilterRequest}
 use Rattle.lc_arguments.specs.declared.explain.ExplainRequest.{ExplainRequest}
 
--- a table with directories of some segments in its rows, not over the limit
+-- the directories in a table's rows, if the rows have any, are cut to at least 1 segment and at most `max_depth` segments
 abbrev pub IsTableWithinLimits : TableRequest → Type 0
 IsTableWithinLimits t = IfSome t.by (λ by. IfSome by.dir (λ segments. (1 ≤ segments) × (segments ≤ max_depth)))
 
--- directories are counted by some threads, and some of them, not over the limits
+-- the numbers of threads and of directories of a walk are at least 1 and not over their limits
 pub record IsWalkWithinLimits (w : WalkRequest) : Type 0 where
   pub some_threads : 1 ≤ w.threads
   pub threads : w.threads ≤ max_threads
@@ -55,7 +55,7 @@ pub record IsCountWithinLimits (c : CountRequest) : Type 0 where
   pub walk : IsWalkWithinLimits c.walk
   pub table : IsTableWithinLimits c.table
 
--- and a difference
+-- a difference within all limits
 pub record IsDiffWithinLimits (d : DiffRequest) : Type 0 where
   pub walk : IsWalkWithinLimits d.walk
   pub table : IsTableWithinLimits d.table
@@ -68,7 +68,7 @@ IsWithinLimits (Explain _) = Unit {0}
 IsWithinLimits (Sum s) = IsTableWithinLimits s.table
 IsWithinLimits (Diff d) = IsDiffWithinLimits d
 
--- a flag, as it was read
+-- the value of a flag that was read
 abbrev pub IsFlag : List ℕ → List Row → Bool → Type 0
 IsFlag id rows set =
     (one_of id rows ≡ Some (codes "true") → set ≡ true) × (one_of id rows ≡ Some (codes "false") → set ≡ false)
@@ -77,16 +77,16 @@ IsFlag id rows set =
 abbrev pub texts_read : List ℕ → List Row → List (List ℕ)
 texts_read id rows = unwrap_or (all_of id rows) []
 
--- what was read of an option that may stand several times, in its order
+-- all values that were read of an option that may be used several times, in their order
 abbrev pub values_read : List Row → Repeated → List (List ℕ)
 values_read rows option = texts_read (id_of option) rows
 
--- the values of an option that were read, which it may have
+-- these are the values that were read of an option, and the option may have them
 abbrev pub AreValuesOf : List Row → Repeated → List (Bor (List ℕ)) → Type 0
 AreValuesOf rows option values =
     (map (λ value. value.now) values ≡ values_read rows option) × (are_allowed option (values_read rows option) ≡ true)
 
--- values were read that an option may not have: what is no attribute's name, no line of an ignore file, or no condition
+-- some option has values that it may not have: no attribute's name, no line of an ignore file, or no condition
 abbrev pub Misvalue : List Row → Type 0
 Misvalue rows = (option : Repeated) × (are_allowed option (values_read rows option) ≡ false)
 
@@ -94,37 +94,37 @@ Misvalue rows = (option : Repeated) × (are_allowed option (values_read rows opt
 abbrev pub part_of : List ℕ → List ℕ
 part_of word = path_of (undotted word)
 
--- a path that no entry can have, nor the counted directory, which is `.`
+-- a path that no entry can have, and that is not `.`, the counted directory
 abbrev pub is_bad_part : List ℕ → Bool
 is_bad_part path = is_bad_path path && not (is_top path)
 
--- the paths that were asked for
+-- the paths that the values of `--only` name
 abbrev pub paths_read : List Row → List (List ℕ)
 paths_read rows = map part_of (texts_read (codes "only") rows)
 
--- what neither an entry nor the directory can have as its path was asked for
+-- a value of `--only` names a path that no entry can have, and that is not `.`
 abbrev pub Misplace : List Row → Type 0
 Misplace rows = list_any is_bad_part (paths_read rows) ≡ true
 
--- the paths that were asked for, in their order, each one of an entry or of the directory
+-- these are the paths of `--only`, in their order, and each is the path of an entry or `.`
 abbrev pub ArePathsOf : List Row → List (Bor (List ℕ)) → Type 0
 ArePathsOf rows paths = (map (λ path. path.now) paths ≡ paths_read rows) × (list_any is_bad_part (paths_read rows) ≡ false)
 
--- the directories that were asked for; this one where none was
+-- the directories that were typed, or `.` alone if none was typed
 abbrev pub directories_read : List Row → List (List ℕ)
 directories_read rows = or_default (codes ".") (texts_read (codes "DIR") rows)
 
--- one of them was asked for twice, apart from slashes at its end
+-- a directory was typed twice, apart from slashes at its end
 abbrev pub NamesOneTwice : List Row → Type 0
 NamesOneTwice rows = are_distinct (map unslashed (directories_read rows)) ≡ false
 
--- the directories that were asked for, in their order and as they were typed, none twice
+-- these are the directories as they were typed, in their order, and none is there twice
 abbrev pub AreDirectoriesOf : List Row → List (Bor (List ℕ)) → Type 0
 AreDirectoriesOf rows directories =
     (map (λ directory. directory.now) directories ≡ directories_read rows)
     × (are_distinct (map unslashed (directories_read rows)) ≡ true)
 
--- the filters that were asked for
+-- these are the filters that the options request
 pub record AreFiltersOf (rows : List Row) (e : FilterRequest) : Type 0 where
   pub exclude_from : option_map (λ s. s.now) e.exclude_from ≡ first_of (codes "exclude-from") rows
   pub archive : IsFlag (codes "archive") rows e.archive
@@ -133,39 +133,39 @@ pub record AreFiltersOf (rows : List Row) (e : FilterRequest) : Type 0 where
   pub include : AreValuesOf rows Included e.include.items
   pub no_ignore : IsFlag (codes "no-ignore") rows e.no_ignore
 
--- the conditions that were asked for
+-- these are the conditions that `--where` and `--no-binary` request
 pub record AreConditionsOf (rows : List Row) (cs : List ConditionModel) : Type 0 where
   pub allowed : are_allowed Conditions (values_read rows Conditions) ≡ true
   pub no_binary : Bool
   pub flag : IsFlag (codes "no-binary") rows no_binary
   pub are : cs ≡ all_conditions (values_read rows Conditions) no_binary
 
--- the format, the columns and the order that were asked for, with directories of this depth in the rows
+-- a table has the requested format, columns and order, and its directories are cut to this depth
 abbrev pub IsTableAt : List Row → Option ℕ → TableRequest → Type 0
 IsTableAt rows depth s =
     IsTableBy (first_of (codes "format") rows) (first_of (codes "by") rows) depth (first_of (codes "sort") rows) s
 
--- these, with the depth that was asked for
+-- a table has the requested format, columns and order, and its directories are cut to the depth of `--depth`
 abbrev pub IsTableIn : List Row → TableRequest → Type 0
 IsTableIn rows s = IsTableAt rows (number_if_given (codes "depth") rows) s
 
--- the table that was asked for, but for shares
+-- this is the requested table, apart from shares
 pub record IsPlainTableIn (rows : List Row) (s : TableRequest) : Type 0 where
   pub within : IsTableWithinLimits s
   pub named : IsTableIn rows s
   pub top : s.top ≡ number_if_given (codes "top") rows
   pub files : IsFlag (codes "files") rows s.files
 
--- the table that was asked for
+-- this is the requested table
 pub record IsWholeTableIn (rows : List Row) (s : TableRequest) : Type 0 where
   pub plain : IsPlainTableIn rows s
   pub share : IsFlag (codes "share") rows s.share
 
--- no table was asked for
+-- the options request no table
 abbrev pub AsksNoTable : List Row → Type 0
 AsksNoTable rows = (s : TableRequest) → ¬ IsTableIn rows s
 
--- how directories are counted, as it was asked for
+-- directories are counted as the options request
 pub record IsWalkOf (rows : List Row) (w : WalkRequest) : Type 0 where
   pub within : IsWalkWithinLimits w
   pub threads : IsNumber (codes "threads") (codes "4") rows w.threads
@@ -176,11 +176,11 @@ pub record IsWalkOf (rows : List Row) (w : WalkRequest) : Type 0 where
   pub null : IsFlag (codes "null") rows w.null
   pub one_file_system : IsFlag (codes "one-file-system") rows w.one_file_system
 
--- it was asked for by what is no value of an option, or no path of an entry
+-- the options request no walk: an option has values that it may not have, or `--only` names a path that no entry can have
 abbrev pub AsksNoWalk : List Row → Type 0
 AsksNoWalk rows = Misvalue rows ⊎ Misplace rows
 
--- the count that was asked for, by what was read of each argument
+-- this is the count that the arguments request; its options may not fit together
 pub record IsCountOf (rows : List Row) (c : CountRequest) : Type 0 where
   pub walk : IsWalkOf rows c.walk
   pub left_out : IsFlag (codes "left-out") rows c.left_out
@@ -189,32 +189,31 @@ pub record IsCountOf (rows : List Row) (c : CountRequest) : Type 0 where
   pub fail_if_any : IsFlag (codes "fail-if-any") rows c.fail_if_any
   pub directories : AreDirectoriesOf rows c.directories.items
 
--- the count that was asked for, whose options go together
+-- this is the requested count, and its options fit together
 abbrev pub IsFitCountOf : List Row → CountRequest → Type 0
 IsFitCountOf rows c = IsCountOf rows c × (fit_together c ≡ true)
 
--- a count was asked for whose options do not go together
+-- the arguments request a count whose options do not fit together
 abbrev pub Misfit : List Row → Type 0
 Misfit rows = (c : CountRequest) × IsCountOf rows c × (fit_together c ≡ false)
 
--- no count was asked for: by what is no value of an option, no path of an entry, a directory that was named twice or no table, or by
--- options that do not go together
+-- the arguments request no count: they request no walk, name a directory twice, request no table, or have options that do not fit together
 abbrev pub AsksNoCount : List Row → Type 0
 AsksNoCount rows = AsksNoWalk rows ⊎ (NamesOneTwice rows ⊎ (AsksNoTable rows ⊎ Misfit rows))
 
--- the words of reports that were read; standard input where there was none
+-- the words that name reports, or `-`, standard input, alone if there are none
 abbrev pub reports_read : List Row → List (List ℕ)
 reports_read rows = or_default (codes "-") (texts_read (codes "REPORT") rows)
 
--- a word names no report, or standard input was named twice
+-- a word names no report, or two words name standard input
 abbrev pub MisnamesReports : List Row → Type 0
 MisnamesReports rows = name_reports (reports_read rows) ≡ false
 
--- the reports that were asked for, in their order
+-- these are the requested reports, in their order
 abbrev pub AreReportsOf : List Row → List NamedReport → Type 0
 AreReportsOf rows reports = (map report_model reports ≡ map named_of (reports_read rows)) × (name_reports (reports_read rows) ≡ true)
 
--- the sum that was asked for
+-- this is the sum that the arguments request; its options may not fit together
 pub record IsSumOf (rows : List Row) (s : SumRequest) : Type 0 where
   pub left_out : IsFlag (codes "left-out") rows s.left_out
   pub table : IsWholeTableIn rows s.table
@@ -222,19 +221,19 @@ pub record IsSumOf (rows : List Row) (s : SumRequest) : Type 0 where
   pub fail_if_any : IsFlag (codes "fail-if-any") rows s.fail_if_any
   pub reports : AreReportsOf rows s.reports.items
 
--- the sum that was asked for, whose options go together
+-- this is the requested sum, and its options fit together
 abbrev pub IsFitSumOf : List Row → SumRequest → Type 0
 IsFitSumOf rows s = IsSumOf rows s × (table_fits s.table s.left_out ≡ true)
 
--- a sum was asked for whose options do not go together
+-- the arguments request a sum whose options do not fit together
 abbrev pub MisfitSum : List Row → Type 0
 MisfitSum rows = (s : SumRequest) × IsSumOf rows s × (table_fits s.table s.left_out ≡ false)
 
--- no sum was asked for: by what is no condition, no report or no table, or by options that do not go together
+-- the arguments request no sum: they have a wrong value, name no report, request no table, or have options that do not fit together
 abbrev pub AsksNoSum : List Row → Type 0
 AsksNoSum rows = Misvalue rows ⊎ (MisnamesReports rows ⊎ (AsksNoTable rows ⊎ MisfitSum rows))
 
--- the difference that was asked for
+-- this is the difference that the arguments request; its options may not fit together
 pub record IsDiffOf (rows : List Row) (d : DiffRequest) : Type 0 where
   pub walk : IsWalkOf rows d.walk
   pub table : IsPlainTableIn rows d.table
@@ -245,32 +244,32 @@ pub record IsDiffOf (rows : List Row) (d : DiffRequest) : Type 0 where
   pub old : d.old.now ≡ unwrap_or (first_of (codes "OLD") rows) []
   pub new : d.new.now ≡ unwrap_or (first_of (codes "NEW") rows) []
 
--- the difference that was asked for, whose options go together
+-- this is the requested difference, and its options fit together
 abbrev pub IsFitDiffOf : List Row → DiffRequest → Type 0
 IsFitDiffOf rows d = IsDiffOf rows d × (diff_fits d ≡ true)
 
--- a difference was asked for whose options do not go together
+-- the arguments request a difference whose options do not fit together
 abbrev pub MisfitDiff : List Row → Type 0
 MisfitDiff rows = (d : DiffRequest) × IsDiffOf rows d × (diff_fits d ≡ false)
 
--- no difference was asked for: by what is no value of an option, no path of an entry or no table, or by options that do not go together
+-- the arguments request no difference: they request no walk, request no table, or have options that do not fit together
 abbrev pub AsksNoDiff : List Row → Type 0
 AsksNoDiff rows = AsksNoWalk rows ⊎ (AsksNoTable rows ⊎ MisfitDiff rows)
 
--- the check that was asked for
+-- this is the check that the arguments request
 pub record IsCheckOf (rows : List Row) (c : CheckRequest) : Type 0 where
   pub explain : IsFlag (codes "explain") rows c.explain
   pub null : IsFlag (codes "null") rows c.null
   pub file : c.file.now ≡ unwrap_or (first_of (codes "FILE") rows) []
 
--- the explanation that was asked for
+-- this is the explanation that the arguments request
 pub record IsExplainOf (rows : List Row) (c : ExplainRequest) : Type 0 where
   pub filters : AreFiltersOf rows c.filters
   pub null : IsFlag (codes "null") rows c.null
   pub directory : c.directory.now ≡ unwrap_or (first_of (codes "DIR") rows) []
   pub paths : map (λ path. path.now) c.paths.items ≡ texts_read (codes "PATH") rows
 
--- kinds of errors of which one is a text that was asked for, or one is not
+-- an error of this kind shows a requested text, help or the version; `MayShow`: one of the kinds does so; `MayRefuse`: one of them does not
 abbrev pub IsText : ErrorKind → Type 0
 IsText k = (k ≡ DisplayHelp) ⊎ (k ≡ DisplayVersion)
 
@@ -280,18 +279,18 @@ MayShow kinds = (k : ErrorKind) × IsAmong k kinds × IsText k
 abbrev pub MayRefuse : Kinds → Type 0
 MayRefuse kinds = (k : ErrorKind) × IsAmong k kinds × (IsText k → ⊥)
 
--- why there is no request, where words may fail in these ways; there may be no memory for any words
+-- why words that may fail in these ways make no request; memory may run out for any words
 abbrev pub IsNoRequestBy : Kinds → ParseExit → Type 0
 IsNoRequestBy kinds (Shown _) = MayShow kinds
 IsNoRequestBy kinds (Refused _) = MayRefuse kinds
 IsNoRequestBy kinds Memory = Unit {0}
 
--- a word that begins as options do
+-- a word begins with a hyphen, as options do
 abbrev pub begins_with_hyphen : List ℕ → Bool
 begins_with_hyphen [] = false
 begins_with_hyphen (b ∷ bs) = b == hyphen
 
--- help or the version of the program
+-- a word is an option for the program's own help or version
 abbrev pub is_own_option : List ℕ → Bool
 is_own_option word =
     bytes_eq word (codes "-h") || bytes_eq word (codes "--help") || bytes_eq word (codes "-V") || bytes_eq word (codes "--version")
@@ -300,17 +299,17 @@ is_own_option word =
 abbrev pub is_plain_path : List ℕ → Bool
 is_plain_path word = bytes_eq word (codes ".") || bytes_eq word (codes "..") || list_any (is_byte slash) word
 
--- a first word that asks for a count, though it does not name the command
+-- a first word begins a count that omits the word `count`
 abbrev pub begins_count : List ℕ → Bool
 begins_count word = (begins_with_hyphen word && not (is_own_option word)) || is_plain_path word
 
--- the words of a count, where words ask for one: those after `count`, or all where the first begins a count
+-- the words of a count, if words request one: the words after `count`, or all words if the first begins a count
 abbrev pub count_words : List (List ℕ) → Option (List (List ℕ))
 count_words [] = None
 count_words (word ∷ words) =
     cond (bytes_eq word (codes "count")) (Some words) (cond (begins_count word) (Some (word ∷ words)) None)
 
--- the ways in which words fail that ask for no count; a command reads those after its name
+-- the ways in which words that request no count fail; a command reads the words after its name
 abbrev pub other_faults_in : List (List ℕ) → Kinds
 other_faults_in [] = []
 other_faults_in (word ∷ words) =
@@ -324,13 +323,13 @@ other_faults_in (word ∷ words) =
 abbrev pub faults_in : List (List ℕ) → Kinds
 faults_in words = unwrap_or (option_map (fault_of count_app) (count_words words)) (other_faults_in words)
 
--- the words ask for no count, and begin with no other command
+-- the words request no count, and begin with no other command
 abbrev pub NameNoCommand : List (List ℕ) → Type 0
 NameNoCommand words = (count_words words ≡ None) × ((more : List (List ℕ)) →
     (words ≢ codes "check" ∷ more) × (words ≢ codes "explain" ∷ more) × (words ≢ codes "sum" ∷ more)
     × (words ≢ codes "diff" ∷ more))
 
--- what words ask for that fail in no way
+-- words that fail in no way make this request
 abbrev pub Asks : List (List ℕ) → Request → Type 0
 Asks words CheckJoined = NameNoCommand words
 Asks words (Check c) = (more : List (List ℕ)) × (words ≡ codes "check" ∷ more) × IsCheckOf (matches_of check_app more) c
@@ -339,19 +338,19 @@ Asks words (Explain c) = (more : List (List ℕ)) × (words ≡ codes "explain" 
 Asks words (Sum s) = (more : List (List ℕ)) × (words ≡ codes "sum" ∷ more) × IsFitSumOf (matches_of sum_app more) s
 Asks words (Diff d) = (more : List (List ℕ)) × (words ≡ codes "diff" ∷ more) × IsFitDiffOf (matches_of diff_app more) d
 
--- the words of a count fail in no way, but ask for no count
+-- the words of a count fail in no way in clap, but request no count
 abbrev pub AskForNoCount : List (List ℕ) → Type 0
 AskForNoCount words = (fault_of count_app words ≡ []) × AsksNoCount (matches_of count_app words)
 
--- and those after `explain`, but an option has values that it may not have
+-- the words after `explain` fail in no way in clap, but an option has values that it may not have
 abbrev pub AskForNoExplanation : List (List ℕ) → Type 0
 AskForNoExplanation words = (fault_of explain_app words ≡ []) × Misvalue (matches_of explain_app words)
 
--- and those after `sum`, but they ask for no sum
+-- the words after `sum` fail in no way in clap, but request no sum
 abbrev pub AskForNoSum : List (List ℕ) → Type 0
 AskForNoSum words = (fault_of sum_app words ≡ []) × AsksNoSum (matches_of sum_app words)
 
--- and those after `diff`, but they ask for no difference
+-- the words after `diff` fail in no way in clap, but request no difference
 abbrev pub AskForNoDiff : List (List ℕ) → Type 0
 AskForNoDiff words = (fault_of diff_app words ≡ []) × AsksNoDiff (matches_of diff_app words)
 
@@ -364,13 +363,13 @@ AreRefused words =
     ⊎ (((more : List (List ℕ)) × (words ≡ codes "sum" ∷ more) × AskForNoSum more)
     ⊎ ((more : List (List ℕ)) × (words ≡ codes "diff" ∷ more) × AskForNoDiff more))))
 
--- why words ask for nothing; there may be no memory for any words
+-- why words make no request; memory may run out for any words
 abbrev pub AskNothing : List (List ℕ) → ParseExit → Type 0
 AskNothing words (Shown _) = MayShow (faults_in words)
 AskNothing words (Refused _) = AreRefused words
 AskNothing words Memory = Unit {0}
 
--- the request of words
+-- the result of reading words: their request, or why they make none
 abbrev pub AnswersWords : List (List ℕ) → Result Request ParseExit → Type 0
 AnswersWords words (Ok request) = (faults_in words ≡ []) × Asks words request
 AnswersWords words (Err why) = AskNothing words why

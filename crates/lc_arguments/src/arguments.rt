@@ -1,4 +1,4 @@
-//! The arguments of a command, made from the table of options, and a command without arguments.
+//! Makes clap's arguments from the table of options, and clap commands that have no arguments yet.
 
 ghost use Rattle.std.specs.Prelude.{◌≡◌, IfOk, map, option_map, true};
 ghost use Rattle.std.specs.List.{list_all};
@@ -14,7 +14,7 @@ use clap::builder::ValueParser;
 use clap::{Arg, ArgAction, Command};
 use std::alloc::{AllocError, Global};
 
-/// Makes an argument with the kind of a row.
+/// Makes a clap argument with the name and the kind of a row of the table of options.
 fn with_kind<'a>(alloc: Global, row: &'static OptionRow) -> Arg<'a>
     requires own { is_own_name row.now.name.now ≡ true }
     ensures { IsArgOf (kind_rule row.now.kind row.now.name.now) result }
@@ -72,7 +72,7 @@ fn with_help<'a>(arg: Arg<'a>, row: &'static OptionRow) -> Arg<'a>
     arg.long_help(row.long_help()).help_heading(row.heading)
 }
 
-/// Makes the argument of a row.
+/// Makes the clap argument for a row of the table of options.
 fn arg<'a>(alloc: Global, row: &'static OptionRow) -> Arg<'a>
     requires own { is_own_name row.now.name.now ≡ true }
     ensures { IsArgOf (option_rule (option_model row.now)) result }
@@ -83,7 +83,7 @@ fn arg<'a>(alloc: Global, row: &'static OptionRow) -> Arg<'a>
     with_help(arg, row)
 }
 
-/// Makes the arguments of a command's rows.
+/// Makes the clap arguments for those of the rows that belong to a command.
 fn args_of<'a>(
     alloc: Global,
     command: Subcommand,
@@ -101,14 +101,14 @@ fn args_of<'a>(
     Ok(args)
 }
 
-/// Makes the arguments of a command.
+/// Makes all clap arguments of a command, from the table of options.
 pub(crate) fn args<'a>(alloc: Global, command: Subcommand) -> Result<Vec<Arg<'a>>, AllocError>
     ensures { IfOk result (λ args. AreArgsOf (rules_in command options) args.items) }
 {
     args_of(alloc, command, options())
 }
 
-/// Makes a command without arguments. The arguments that it reads begin after its own name.
+/// Makes a clap command that has no arguments yet. The words that the command parses begin after its own name.
 pub(crate) fn bare<'a>(
     alloc: Global,
     name: &'a str,

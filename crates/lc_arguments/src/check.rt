@@ -34,7 +34,7 @@ pub(crate) fn command<'a>(alloc: Global) -> Result<Command<'a>, AllocError>
     command.args(args)
 }
 
-/// Explains an error of clap, and suggests a check that may have been meant.
+/// Turns an error of clap into a `ParseExit`. If an argument is missing or unknown, the text suggests an `lc check` command.
 fn explained_check(alloc: Global, error: &Error) -> ParseExit
     ensures { Explains error.now result }
 {

@@ -10,21 +10,21 @@ use crate::table::TableRequest;
 use crate::walk_request::WalkRequest;
 use lc_sheet::{Columns, Format, Order};
 
-/// Returns whether rows have shares in the named format, or in a table if no format is named.
+/// Returns whether the format of `--format` can show each row's share of the total. Without `--format`, `--share` means a table, which can.
 fn shows_shares(format: Option<Format>) -> bool
     ensures { result ≡ shows_shares format }
 {
     matches!(format, None | Some(Format::Table | Format::Markdown))
 }
 
-/// Returns whether the named order is the one by name, which sorts by no number.
+/// Returns whether `--sort` names the order by name, which sorts by no number.
 fn is_by_name(order: Option<Order>) -> bool
     ensures { result ≡ is_by_name order }
 {
     matches!(order, Some(Order::Name))
 }
 
-/// Returns whether columns are named that are not all of a report's.
+/// Returns whether `--by` names a different set of columns than ext, text and eol, the columns of a report's rows.
 fn narrows(by: Option<Columns>) -> bool
     ensures { result ≡ narrows by }
 {
@@ -34,14 +34,15 @@ fn narrows(by: Option<Columns>) -> bool
     }
 }
 
-/// Returns whether a table has lists, or rows other than all of a report's.
+/// Returns whether a table lists files or skipped entries, is limited by `--top`, or has other columns than a report's rows. `left_out` is
+/// whether skipped entries are listed.
 fn asks_for_rows(table: TableRequest, left_out: bool) -> bool
     ensures { result ≡ asks_for_rows table left_out }
 {
     table.files || left_out || table.top.is_some() || narrows(table.by)
 }
 
-/// Finds out why the options of a table can't be combined. `left_out` is whether skipped entries are listed.
+/// Returns why the options of a table can't be combined, or `None` if they can. `left_out` is whether skipped entries are listed.
 pub(crate) fn table_misfit(table: TableRequest, left_out: bool) -> Option<&'static str>
     ensures { is_some result ≡ not (table_fits table left_out) }
 {
@@ -63,7 +64,7 @@ pub(crate) fn table_misfit(table: TableRequest, left_out: bool) -> Option<&'stat
     None
 }
 
-/// Finds out why the options that choose files do not go together.
+/// Returns why the options that choose files can't be combined, or `None` if they can.
 fn walk_misfit(walk: &WalkRequest<'_>) -> Option<&'static str>
     ensures { is_some result ≡ not (walk_fits walk.now) }
 {
@@ -73,14 +74,14 @@ fn walk_misfit(walk: &WalkRequest<'_>) -> Option<&'static str>
     None
 }
 
-/// Returns whether paths are asked for, each relative to one directory.
+/// Returns whether `--only` or `--only-from` chooses paths, which are relative to one DIR.
 fn asks_for_paths(walk: &WalkRequest<'_>) -> bool
     ensures { result ≡ asks_for_paths walk.now }
 {
     !walk.only.is_empty() || walk.only_from.is_some()
 }
 
-/// Finds out why paths are not those of one directory.
+/// Returns the error if `--only` or `--only-from` is combined with several DIRs.
 fn paths_misfit(request: &CountRequest<'_>) -> Option<&'static str>
     ensures { is_some result ≡ not (paths_fit request.now) }
 {
@@ -92,7 +93,7 @@ fn paths_misfit(request: &CountRequest<'_>) -> Option<&'static str>
     None
 }
 
-/// Finds out why the options of a count can't be combined.
+/// Returns why the options of `lc count` can't be combined, or `None` if they can.
 pub(crate) fn misfit(request: &CountRequest<'_>) -> Option<&'static str>
     ensures { is_some result ≡ not (fit_together request.now) }
 {
@@ -121,7 +122,7 @@ fn takes_input(walk: &WalkRequest<'_>) -> bool
     }
 }
 
-/// Finds out why standard input would be read twice.
+/// Returns the error if two arguments name standard input, which is read once.
 fn input_misfit(request: &DiffRequest<'_>) -> Option<&'static str>
     ensures { is_some result ≡ not (reads_input_once request.now) }
 {
@@ -140,7 +141,7 @@ fn is_picture(format: Option<Format>) -> bool
     matches!(format, Some(Format::Html))
 }
 
-/// Finds out why the options of a difference do not go together.
+/// Returns why the options of `lc diff` can't be combined, or `None` if they can.
 pub(crate) fn diff_misfit(request: &DiffRequest<'_>) -> Option<&'static str>
     ensures { is_some result ≡ not (diff_fits request.now) }
 {

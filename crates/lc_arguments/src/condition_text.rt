@@ -9,7 +9,7 @@ ghost use Rattle.lc_arguments.specs.ConditionWords.{digits_from, is_digit, with_
 use lc_glob::cut_at_first;
 use lc_sheet::{Column, Comparison, Condition, Number, Test};
 
-/// Returns the text after `front` if it begins with `front`.
+/// Returns the rest of a text after `front`, if the text begins with `front`.
 fn after_front<'w>(front: &[u8], text: &'w [u8]) -> Option<&'w [u8]>
     ensures { option_map (λ rest. rest.now) result ≡ after_front front.now text.entry.now }
 {
@@ -55,7 +55,7 @@ fn column_at(text: &[u8]) -> Option<(Column, &[u8])>
     None
 }
 
-/// Returns the operator that a byte begins, with or without an equals sign after it.
+/// Returns the operator that consists of a byte and, if `equals`, of an equals sign after the byte.
 fn comparison_of(byte: u8, equals: bool) -> Option<Comparison>
     ensures { result ≡ comparison_of byte equals }
 {
@@ -87,7 +87,7 @@ fn operator_at(text: &[u8]) -> Option<(Comparison, &[u8])>
     }
 }
 
-/// Returns whether these bytes can follow the dot of an extension.
+/// Returns whether these bytes can follow the dot of a file's extension. `None` means that there is no dot.
 fn is_after_dot(rest: Option<&[u8]>) -> bool
     ensures { result ≡ is_after_dot (option_map (λ r. r.now) rest.entry) }
 {
@@ -97,7 +97,7 @@ fn is_after_dot(rest: Option<&[u8]>) -> bool
     }
 }
 
-/// Returns whether a column can have a value.
+/// Returns whether a text can be a value of a column, as `crlf` can be of `eol`. For a column of numbers, no text can.
 fn can_have(column: Column, text: &[u8]) -> bool
     ensures { result ≡ can_have column text.now }
 {
@@ -137,7 +137,7 @@ fn can_have_all(column: Column, texts: &[u8]) -> bool
     true
 }
 
-/// Appends a digit to a number if the byte is a digit and the number stays small enough.
+/// Appends a digit to a number, unless the byte is no digit or the number would reach 2^64.
 fn with_digit(number: u64, byte: u8) -> Option<u64>
     ensures { result ≡ with_digit number byte }
 {
@@ -163,7 +163,7 @@ fn number_in(text: &[u8]) -> Option<u64>
     Some(number)
 }
 
-/// Makes the condition that a value is in a list, or is not in it.
+/// Makes the condition that a column has one of these values (`=`), or none of them (`!=`). Commas separate the values.
 fn list_condition(column: Column, comparison: Comparison, texts: &[u8]) -> Option<Condition<'_>>
     ensures { result ≡ list_condition column comparison texts.entry.now }
 {
@@ -183,7 +183,7 @@ fn list_condition(column: Column, comparison: Comparison, texts: &[u8]) -> Optio
     }
 }
 
-/// Makes the condition on a number.
+/// Makes the condition that compares a column with a number, if there is a number.
 fn number_condition<'w>(
     column: Column,
     comparison: Comparison,
@@ -218,12 +218,12 @@ pub(crate) fn condition_of(text: &[u8]) -> Option<Condition<'_>>
     condition_with(column, comparison, without_spaces(values))
 }
 
-/// Returns whether some operator has this byte.
+/// Returns whether this byte is part of an operator.
 fn is_operator_byte(byte: u8) -> bool {
     matches!(byte, b'!' | b'<' | b'=' | b'>')
 }
 
-/// Returns the text about the values that a condition on a column takes.
+/// Returns the end of a usage error about a column: the operators and values that a condition on the column can have.
 fn values_of(column: Column) -> &'static str {
     match column {
         Column::Ext => {
@@ -239,7 +239,7 @@ fn values_of(column: Column) -> &'static str {
     }
 }
 
-/// Returns why a text is no condition.
+/// Returns the end of a usage error about a text: why the text is no condition.
 pub(crate) fn why_no_condition(text: &[u8]) -> &'static str {
     if text.starts_with(b"dir") || text.starts_with(b"path") {
         return ": --only and --include choose directories and paths";

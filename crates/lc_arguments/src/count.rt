@@ -33,10 +33,10 @@ pub struct CountRequest<'w> {
     pub table: TableRequest,
     /// Show only files that meet all of these conditions.
     pub conditions: Vec<Condition<'w>>,
-    /// End with the status of a failure if a file is counted and meets the conditions.
+    /// Exit with status 4 if a file is counted and meets the conditions.
     pub fail_if_any: bool,
-    /// The path of each DIR, as it was typed, in their order and none twice. If none was typed, it is `.`, the directory that the program
-    /// runs in.
+    /// The paths of the DIRs as they were typed, in their order, none twice. If no DIR was typed, the only path is `.`, the directory that
+    /// the program runs in.
     pub directories: Vec<&'w str>,
 }
 
@@ -49,7 +49,7 @@ pub(crate) fn command<'a>(alloc: Global) -> Result<Command<'a>, AllocError>
     command.args(args)
 }
 
-/// Explains an error of clap, and suggests a count that may have been meant.
+/// Turns an error of clap into a `ParseExit`. If an argument is missing or unknown, the text suggests an `lc count` command.
 fn explained_count<W: AsStr>(alloc: Global, error: &Error, words: &[W]) -> ParseExit
     ensures { Explains error.now result }
 {
@@ -62,7 +62,7 @@ fn explained_count<W: AsStr>(alloc: Global, error: &Error, words: &[W]) -> Parse
     }
 }
 
-/// Reads the options from clap's values. It refuses those that can't be combined.
+/// Reads the options from clap's values, and refuses wrong values. `misfit` then finds options that can't be combined.
 fn request_in<'w>(
     alloc: Global,
     matches: &ArgMatches<'w>,

@@ -24,19 +24,19 @@ use std::convert::AsStr;
 /// The options of `lc diff`, as in `lc diff --files v1.json src`.
 #[derive(Drop)]
 pub struct DiffRequest<'w> {
-    /// How the sides that are directories are counted.
+    /// How to count OLD and NEW, if they are directories.
     pub walk: WalkRequest<'w>,
-    /// How the table is printed, without shares and in another format than `Html`.
+    /// How the table is printed. The table has no shares, and its format is not `Html`.
     pub table: TableRequest,
-    /// Only files that meet all of these are compared.
+    /// Compare only files that meet all of these conditions.
     pub conditions: Vec<Condition<'w>>,
-    /// A row or a file that differs is a failure.
+    /// Exit with status 4 if a row or a file differs.
     pub fail_if_any: bool,
-    /// Print the rows in which nothing changed, too.
+    /// Also print rows in which nothing changed.
     pub all: bool,
-    /// The path of the old directory or report, as it was given. `-` is standard input.
+    /// The path of the old directory or report, as it was typed. `-` is standard input.
     pub old: &'w str,
-    /// The path of the new directory or report, as it was given. `-` is standard input.
+    /// The path of the new directory or report, as it was typed. `-` is standard input.
     pub new: &'w str,
 }
 
@@ -49,7 +49,7 @@ pub(crate) fn command<'a>(alloc: Global) -> Result<Command<'a>, AllocError>
     command.args(args)
 }
 
-/// Explains an error of clap, with the difference that the arguments may have meant.
+/// Turns an error of clap into a `ParseExit`. If an argument is missing or unknown, the text suggests an `lc diff` command.
 fn explained_diff(alloc: Global, error: &Error) -> ParseExit
     ensures { Explains error.now result }
 {
@@ -62,7 +62,7 @@ fn explained_diff(alloc: Global, error: &Error) -> ParseExit
     }
 }
 
-/// Takes the options that clap read, which may not go together.
+/// Reads the options from clap's values, and refuses wrong values. `diff_misfit` then finds options that can't be combined.
 fn request_in<'w>(
     alloc: Global,
     matches: &ArgMatches<'w>,

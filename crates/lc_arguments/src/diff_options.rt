@@ -1,9 +1,9 @@
-//! The options of `lc diff` that no other command has, or that say something else there.
+//! The rows in the table of options for `lc diff` alone: options that no other command has, or whose help differs for `lc diff`.
 
 use crate::option_row::{Completes, DIFF, FLAG, Kind, OptionRow};
 use crate::options_table::WHAT_IS_PRINTED;
 
-/// The option `--all`: rows in which nothing changed.
+/// The option `--all`, which also prints rows in which nothing changed.
 pub(crate) const ALL: OptionRow = OptionRow {
     name: "all",
     of: DIFF,
@@ -12,7 +12,7 @@ pub(crate) const ALL: OptionRow = OptionRow {
     ..FLAG
 };
 
-/// The option `--files`: the list of files.
+/// The option `--files`, which also prints a line for each file that differs.
 pub(crate) const FILES: OptionRow = OptionRow {
     name: "files",
     of: DIFF,
@@ -21,7 +21,7 @@ pub(crate) const FILES: OptionRow = OptionRow {
     ..FLAG
 };
 
-/// The option `--format`: the format, which is no picture.
+/// The option `--format`, which has all formats of `lc count` except for `html`.
 pub(crate) const FORMAT: OptionRow = OptionRow {
     name: "format",
     value: "FORMAT",
@@ -40,7 +40,7 @@ pub(crate) const FORMAT: OptionRow = OptionRow {
     ..FLAG
 };
 
-/// The option `--by`: the columns of the rows.
+/// The option `--by`, which names the columns of the rows.
 pub(crate) const BY: OptionRow = OptionRow {
     name: "by",
     value: "COLUMNS",
@@ -53,7 +53,7 @@ pub(crate) const BY: OptionRow = OptionRow {
     ..FLAG
 };
 
-/// The option `--sort`: the order of rows and files.
+/// The option `--sort`, which names the order of rows and files.
 pub(crate) const SORT: OptionRow = OptionRow {
     name: "sort",
     value: "COLUMN",
@@ -72,7 +72,7 @@ pub(crate) const SORT: OptionRow = OptionRow {
     ..FLAG
 };
 
-/// The option `--fail-if-any`: a difference is a failure.
+/// The option `--fail-if-any`, with which the program exits with status 4 if a row or a file differs.
 pub(crate) const FAIL_IF_ANY: OptionRow = OptionRow {
     name: "fail-if-any",
     of: DIFF,
@@ -81,7 +81,7 @@ pub(crate) const FAIL_IF_ANY: OptionRow = OptionRow {
     ..FLAG
 };
 
-/// The argument `OLD`: the old side.
+/// The argument `OLD`: the directory or report to compare with.
 pub(crate) const OLD: OptionRow = OptionRow {
     name: "OLD",
     kind: Kind::Word,
@@ -90,7 +90,7 @@ pub(crate) const OLD: OptionRow = OptionRow {
     ..FLAG
 };
 
-/// The argument `NEW`: the new side.
+/// The argument `NEW`: the directory or report to compare.
 pub(crate) const NEW: OptionRow = OptionRow {
     name: "NEW",
     kind: Kind::Word,

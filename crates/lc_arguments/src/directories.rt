@@ -28,7 +28,7 @@ pub fn unslashed(directory: &str) -> &[u8]
     left
 }
 
-/// Returns whether a name is the name of one of these directories.
+/// Returns whether one of these directories has the path `name`, apart from slashes at the directory's end.
 fn is_among(name: &[u8], directories: &[&str]) -> bool
     ensures { result ≡ list_any (bytes_eq name.now) (map (λ d. unslashed d.now) directories.now) }
 {
@@ -40,7 +40,7 @@ fn is_among(name: &[u8], directories: &[&str]) -> bool
     false
 }
 
-/// Finds the first directory that is named again after it.
+/// Finds the first directory that occurs again later in the list, apart from slashes at its end.
 fn given_twice<'w>(directories: &[&'w str]) -> Option<&'w str>
     ensures { is_some result ≡ not (are_distinct (map (λ d. unslashed d.now) directories.now)) }
 {
@@ -78,7 +78,7 @@ pub(crate) fn or_default<'w>(
     words.to_vec(alloc)
 }
 
-/// Returns directories, unless one is named twice.
+/// Returns the directories unchanged, or a refusal if one of them is named twice.
 fn distinct<'w>(alloc: Global, directories: Vec<&'w str>) -> Result<Vec<&'w str>, ParseExit>
     ensures { AnswersDirectories (map (λ directory. directory.now) directories.entry.items) result }
 {

@@ -36,7 +36,7 @@ pub(crate) fn advised(
     Ok(text)
 }
 
-/// Returns the name in help of the value of an option, and the completions of the value.
+/// Returns the name that help shows for an option's value, such as `FILE`, and what completes the value.
 fn value_named(option: &str) -> (&'static str, Completes) {
     for row in options() {
         if row.name == option {
@@ -46,7 +46,7 @@ fn value_named(option: &str) -> (&'static str, Completes) {
     ("", Completes::Nothing)
 }
 
-/// Appends the possible values if there are only certain words.
+/// Appends the list of possible values, if only certain words are allowed.
 fn push_possible(text: &mut String, completes: Completes) -> Result<(), AllocError> {
     let Completes::Meanings(words) = completes else {
         return Ok(());
@@ -81,7 +81,8 @@ pub(crate) fn value_refused(
     Ok(text)
 }
 
-/// Makes the text of the refusal of a number, if clap refuses a number of this option. `problem` is clap's message.
+/// Makes the text that refuses a number, if clap's message `problem` is about a value of this option. `most` is the greatest allowed
+/// number.
 fn number_refusal(
     alloc: Global,
     problem: &str,
@@ -102,7 +103,7 @@ fn number_refusal(
     Ok(Some(text))
 }
 
-/// Makes the text that refuses a number. `text` is clap's text.
+/// Makes the text that refuses a number, from the text in which clap refuses the number. Any other text is copied.
 ///
 /// ```
 /// let text = "error: invalid value 'x' for '--threads <N>': invalid digit found in string\n";

@@ -37,7 +37,7 @@ pub(crate) fn command<'a>(alloc: Global) -> Result<Command<'a>, AllocError>
     command.args(args)
 }
 
-/// Explains an error of clap, and suggests an explanation that may have been meant.
+/// Turns an error of clap into a `ParseExit`. If an argument is missing or unknown, the text suggests an `lc explain` command.
 fn explained_explanation<W: AsStr>(alloc: Global, error: &Error, words: &[W]) -> ParseExit
     ensures { Explains error.now result }
 {

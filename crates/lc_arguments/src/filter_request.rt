@@ -16,7 +16,7 @@ pub struct FilterRequest<'w> {
     pub exclude_from: Option<&'w str>,
     /// Skip entries that have the attribute `export-ignore`.
     pub archive: bool,
-    /// Skip entries that have one of these attributes: `ATTR` means that it is Set, and `ATTR=VALUE` that it has this value.
+    /// Skip entries that have one of these attributes. `ATTR` means that the attribute is Set, and `ATTR=VALUE` that it has this value.
     pub without: Vec<&'w str>,
     /// The lines of an ignore file that takes precedence over all others. None has a line feed.
     pub exclude: Vec<&'w str>,

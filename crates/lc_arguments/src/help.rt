@@ -9,20 +9,20 @@ macro_rules! version {
 
 pub(crate) const VERSION: &str = version!("");
 
-/// The version of the program, and the logic that its contracts are written for, as `rt version` prints it.
+/// The version of the program, and the version of Rattle's logic for which its contracts are written, as `rt version` prints it.
 pub(crate) const LONG_VERSION: &str = version!("\nwritten for Rattle's logic dac8208d650f15bf");
 
-/// Sets the help of a command.
+/// The texts that the help of a command shows, besides its options.
 #[derive(Clone, Copy)]
 pub(crate) struct CommandHelp {
-    /// The command as it is typed.
+    /// The command as it is typed, such as `lc count`.
     pub(crate) full_name: &'static str,
-    /// The lines of its usage.
+    /// The lines that show how the command is used.
     pub(crate) usage: &'static str,
     pub(crate) about: &'static str,
-    /// The text after the options for `-h`.
+    /// The text after the options in the help of `-h`.
     pub(crate) after: &'static str,
-    /// The text after the options for `--help`.
+    /// The text after the options in the help of `--help`.
     pub(crate) after_long: &'static str,
 }
 

@@ -1,13 +1,13 @@
-//! The limits of the numbers of a count.
+//! The greatest values of the options that take numbers.
 
 /// The greatest number of rows and files that `--top` can limit a table to.
 pub(crate) const MAX_TOP: u32 = u32::MAX;
 
-/// The greatest number of segments of a row's directory.
+/// The greatest value of `--depth`: the number of segments to which the directories of `--by dir` are cut.
 pub(crate) const MAX_DEPTH: u32 = 256;
 
-/// The greatest number of threads of a count.
+/// The greatest value of `--threads`: the number of threads of a count.
 pub const MAX_THREADS: u32 = 16;
 
-/// The greatest number of directories of a count, DIR included.
+/// The greatest value of `--max-dirs`: the limit of directories in each DIR, DIR included.
 pub const MAX_DIRS: u32 = 1_048_576;

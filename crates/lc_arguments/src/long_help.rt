@@ -1,6 +1,6 @@
 //! The texts of `--help` about the options, by their names and headings.
 //!
-//! These texts are no part of the table of options, since proofs about the table compute with all of it.
+//! These texts are not in the table of options, because proofs about the table compute with everything in the table.
 
 use crate::option_row::{Commands, OptionRow};
 use crate::options_table::{LIMITS, ON_INPUT, WHAT_IS_PRINTED, WHICH_FILES};
@@ -162,7 +162,7 @@ them, so that a path may contain a line feed",
     ),
 ];
 
-/// The texts of options that are only those of `lc diff`.
+/// The texts of `--help` about the options of `lc diff` alone, by their names and headings.
 const OF_DIFFERENCES: &[(&str, &str, &str)] = &[
     (
         "all",
@@ -215,8 +215,8 @@ fn texts(of: Commands) -> &'static [(&'static str, &'static str, &'static str)] 
 }
 
 impl OptionRow {
-    /// Returns the text of `--help` about the option, without a full stop at its end. An option that has none gets the
-    /// text of `-h`.
+    /// Returns the text of `--help` about the option, without a full stop at its end. An option without a text for `--help` gets its text
+    /// of `-h`.
     pub fn long_help(&self) -> &'static str {
         for (name, heading, text) in texts(self.of) {
             if *name == self.name && *heading == self.heading {

@@ -1,4 +1,5 @@
-//! The arguments that a text names. No clause describes clap's texts, so they are checked before they are written.
+//! Checks that help and usage errors name arguments. No contract describes clap's texts, so the program checks the texts before it writes
+//! them.
 
 ghost use Rattle.std.specs.Prelude.{◌≡◌, ◌++◌, IfOk, OnOk, codes, map, string_bytes, true};
 ghost use Rattle.std.specs.Str.Iter.{HasSubslice};
@@ -15,7 +16,7 @@ use lc_text::push_visible;
 use std::alloc::{AllocError, Global};
 use std::convert::AsStr;
 
-/// Returns the text before the name of an argument in a message.
+/// Returns what a message of clap has before the name of an argument, such as `--` or `<`.
 fn mark_before(kind: Kind) -> &'static str
     ensures { result.now ≡ mark_before kind }
 {
@@ -26,7 +27,7 @@ fn mark_before(kind: Kind) -> &'static str
     }
 }
 
-/// Returns the text after the name of an argument in a message.
+/// Returns what a message of clap has after the name of an argument, such as `>`.
 fn mark_after(kind: Kind) -> &'static str
     ensures { result.now ≡ mark_after kind }
 {
@@ -37,7 +38,8 @@ fn mark_after(kind: Kind) -> &'static str
     }
 }
 
-/// Returns whether a usage error that names an argument of this kind shows more than the usage line does.
+/// Returns whether a usage error that names an argument of this kind shows what is wrong. An argument of the kind `Words` is in each usage
+/// line, so its name shows nothing.
 fn is_telling(kind: Kind) -> bool
     ensures { result ≡ is_telling kind }
 {
@@ -51,7 +53,7 @@ fn has(text: &str, part: &str) -> bool
     text.contains(part)
 }
 
-/// Returns whether a text names an argument.
+/// Returns whether a text has the name of an argument as clap writes it, such as `--top` or `<FILE>`.
 fn names(alloc: Global, text: &str, row: &OptionRow) -> Result<bool, AllocError>
     ensures { IfOk result (λ named. named ≡ true → Names text.now (option_model row.now)) }
 {
@@ -104,7 +106,7 @@ fn names_telling(alloc: Global, text: &str, row: &OptionRow) -> Result<bool, All
     Ok(false)
 }
 
-/// Returns whether a text names one of these arguments.
+/// Returns whether a text names one of these arguments. Arguments of the kind `Words` do not count.
 fn names_some(alloc: Global, text: &str, rows: &[OptionRow]) -> Result<bool, AllocError>
     ensures { IfOk result (λ named. named ≡ true → NamesSome (map option_model rows.now) text.now) }
 {
@@ -150,7 +152,7 @@ fn quotes_some<W: AsStr>(alloc: Global, text: &str, words: &[W]) -> Result<bool,
     Ok(false)
 }
 
-/// Returns whether a text names an argument: a typed one in quotes, or one of the table.
+/// Returns whether a text has a typed argument in quotes, or names an argument of the table of options. `words` are the typed arguments.
 fn names_one<W: AsStr>(alloc: Global, text: &str, words: &[W]) -> Result<bool, AllocError>
     ensures { IfOk result (λ named. named ≡ true → NamesOne (map W.text words.now) text.now) }
 {
@@ -172,7 +174,7 @@ pub(crate) fn is_naming_error<W: AsStr>(
     names_one(alloc, problem_of(text), words)
 }
 
-/// Adds all arguments, as they were typed, to the first paragraph of a usage error.
+/// Adds all typed arguments, each in quotes, to the first paragraph of a usage error.
 pub(crate) fn with_words<W: AsStr>(
     alloc: Global,
     text: &str,

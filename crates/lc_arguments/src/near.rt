@@ -6,15 +6,16 @@ use strsim::osa_distance;
 /// The greatest length of a word that is compared. No known name is half as long.
 const MAX_WORD: usize = 32;
 
-/// Returns whether a name is so close to a word that it was probably meant. At most a third of the longer one is edited. If that takes
-/// several edits, both begin with the same letter. So `sorted` is near `sort`, but `include-from` is not near `exclude-from`.
+/// Returns whether a name is so close to a word that the user probably meant the name. `edits` may be at most a third of the longer length.
+/// If `edits` is more than 1, both must begin with the same letter. So `sorted` is near `sort`, but `include-from` is not near
+/// `exclude-from`.
 fn is_near(word: &str, name: &str, edits: usize) -> bool {
     let longer = word.len().max(name.len());
     let begins_alike = word.as_bytes().first() == name.as_bytes().first();
     edits <= longer / 3 && (edits <= 1 || begins_alike)
 }
 
-/// Finds the known name that is nearest to a word, with its value, if one is near. Hyphens before the word do not count.
+/// Finds the pair in `known` whose name is nearest to a word, if a name is near. Hyphens at the word's beginning do not count.
 ///
 /// ```
 /// let known = &[("threads", "lc --threads 8 ."), ("top", "lc --top 10 .")];

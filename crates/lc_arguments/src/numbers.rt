@@ -1,4 +1,4 @@
-//! The numbers that options give.
+//! The values of the options that take numbers.
 
 ghost use Rattle.clap.specs.Matches.{found_of};
 ghost use Rattle.clap.specs.Walk.{rows_of};
@@ -6,7 +6,7 @@ ghost use Rattle.lc_arguments.specs.ReadNumbers.{AreCutsIn, AreCutsReadWithin, A
 
 use clap::ArgMatches;
 
-/// The numbers of a table: where its directories and where its rows are cut.
+/// The values of `--depth` and `--top`, if they were typed: where a table cuts its directories and its rows.
 #[derive(Clone, Copy)]
 pub(crate) struct Cuts {
     pub(crate) depth: Option<u32>,
@@ -25,7 +25,7 @@ impl Cuts {
     }
 }
 
-/// The numbers of a count.
+/// The values of the options of `lc count` and `lc diff` that take numbers.
 #[derive(Clone, Copy)]
 pub(crate) struct Numbers {
     pub(crate) threads: u32,

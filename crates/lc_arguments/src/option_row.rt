@@ -18,7 +18,7 @@ pub(crate) enum Subcommand {
     Diff,
 }
 
-/// The commands that have an argument.
+/// A set of commands: those that have a certain argument.
 #[derive(Clone, Copy)]
 pub struct Commands {
     /// Whether `lc count` has the argument.
@@ -34,7 +34,7 @@ pub struct Commands {
 }
 
 impl Commands {
-    /// Returns whether a command is among these.
+    /// Returns whether a command is in the set.
     pub(crate) fn has(self, command: Subcommand) -> bool
         ensures { result ≡ is_of command self }
     {
@@ -81,7 +81,7 @@ pub(crate) const SUM: Commands = Commands { sum: true, ..NONE };
 /// `lc diff` alone.
 pub(crate) const DIFF: Commands = Commands { diff: true, ..NONE };
 
-/// The commands that skip entries.
+/// The commands with options that skip entries.
 pub(crate) const FILTERS: Commands = Commands {
     count: true,
     explain: true,
@@ -125,9 +125,9 @@ pub enum Kind {
     Flag,
     /// An option with a text.
     Text,
-    /// An option with a text that may be repeated.
+    /// An option with a text. The option may be repeated.
     Texts,
-    /// An option with a number from 1 to this one.
+    /// An option with a number from 1 to this number.
     Number(u32),
     /// A required argument without a hyphen.
     Word,
@@ -167,11 +167,11 @@ pub struct OptionRow {
     pub of: Commands,
     /// The heading above the argument in help. An argument without a hyphen has none.
     pub heading: &'static str,
-    /// The line of `-h`.
+    /// The line that `-h` shows about the argument.
     pub help: &'static str,
-    /// The text that completions show next to the option, if it is not `help`.
+    /// The text that completions show next to the option. If the text is empty, completions show `help`.
     pub brief: &'static str,
-    /// A count with this option, which usage errors of `lc count` suggest.
+    /// The command that usage errors of `lc count` suggest for this option.
     pub example: &'static str,
     /// What a shell offers to complete the value.
     pub completes: Completes,

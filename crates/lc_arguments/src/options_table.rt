@@ -1,6 +1,6 @@
 //! The table of options: a row for each argument of the commands, in the order of help.
 //!
-//! An argument whose help or kind differs by command has a row for each. The texts of `--help` are in `long_help`.
+//! An argument whose help or kind differs between commands has several rows. The texts of `--help` are in `long_help`.
 
 ghost use Rattle.std.specs.Prelude.{◌≡◌, map};
 ghost use Rattle.lc_arguments.specs.Options.{option_model, options};

@@ -23,7 +23,7 @@ fn misplaced(alloc: Global, word: &str) -> ParseExit
     )
 }
 
-/// Returns the path of a value, without any `./` at its beginning and without a slash at its end.
+/// Returns the path that a value of `--only` names: without any `./` at its beginning and without a slash at its end.
 fn part_of(word: &str) -> &[u8]
     ensures { result.now ≡ part_of word.now }
 {
@@ -38,7 +38,8 @@ fn is_bad_part(path: &[u8]) -> bool
     is_bad_path(path) && !is_top(path)
 }
 
-/// Reads paths. A path that was read has no `./` at its beginning and no slash at its end, and DIR itself is `.`.
+/// Reads the values of `--only`, and refuses a value that is no path relative to DIR. The paths have no `./` at their beginning and no
+/// slash at their end, and DIR itself is `.`.
 fn paths_of<'w>(alloc: Global, words: &[&'w str]) -> Result<Vec<&'w [u8]>, ParseExit>
     ensures { AnswersPaths (map (λ word. word.now) words.now) result }
 {

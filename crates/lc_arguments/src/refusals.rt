@@ -1,4 +1,4 @@
-//! The text of refusals. No control character that was typed reaches a terminal.
+//! The text of usage errors, escaped so that no control character that was typed reaches a terminal.
 
 ghost use Rattle.std.specs.Prelude.{◌≡◌, ◌++◌, IfOk, OnOk, chars, flat_map, string_bytes};
 ghost use Rattle.lc_arguments.specs.Refusals.{IsMessage, message_char};
@@ -7,7 +7,7 @@ use lc_text::push_visible;
 use std::alloc::{AllocError, Global};
 use std::convert::AsStr;
 
-/// Copies arguments as a terminal shows them.
+/// Copies arguments, with control characters escaped for a terminal.
 pub(crate) fn visible_words<W: AsStr>(
     alloc: Global,
     words: &[W],

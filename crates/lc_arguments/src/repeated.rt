@@ -29,7 +29,7 @@ pub(crate) enum Repeated {
     Conditions,
 }
 
-/// Returns whether a word is the name of an attribute, or begins with one that an equals sign follows.
+/// Returns whether a word is `ATTR` or `ATTR=VALUE`, where `ATTR` can be the name of an attribute.
 fn has_attribute_name(word: &str) -> bool
     ensures { result ≡ has_attribute_name word.now }
 {
@@ -92,7 +92,7 @@ impl Repeated {
     }
 }
 
-/// Makes the text of an ignore file with these lines.
+/// Makes the text of an ignore file with these lines, each of which gets a line feed at its end.
 pub fn lines_text(alloc: Global, lines: &[&str]) -> Result<Vec<u8>, AllocError>
     ensures { IfOk result (λ text. text.items ≡ lines_text (map (λ line. line.now) lines.now)) }
 {
@@ -104,7 +104,7 @@ pub fn lines_text(alloc: Global, lines: &[&str]) -> Result<Vec<u8>, AllocError>
     Ok(text)
 }
 
-/// Returns whether the values of an option fit into one ignore file as its lines, if they are patterns.
+/// Returns whether the values of an option are short enough. Patterns must fit into one ignore file; other values have no limit.
 fn are_short(alloc: Global, option: Repeated, values: &[&str]) -> Result<bool, AllocError>
     ensures { IfOk result (λ short. short ≡ are_short option (map (λ value. value.now) values.now)) }
 {
@@ -129,7 +129,7 @@ fn first_refused<'w>(option: Repeated, values: &[&'w str]) -> Option<&'w str>
     None
 }
 
-/// Copies the values of an option, if it can have all of them.
+/// Copies the values of an option, or makes a refusal if the option can't have all of them.
 fn allowed<'w>(
     alloc: Global,
     option: Repeated,

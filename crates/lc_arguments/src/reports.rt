@@ -13,7 +13,7 @@ use clap::ArgMatches;
 use lc_glob::path::is_good_name;
 use std::alloc::{AllocError, Global};
 
-/// A report, and the name below which its paths are moved.
+/// A report of `lc sum`, and the name that is put in front of the report's paths.
 #[derive(Clone, Copy)]
 pub struct NamedReport<'w> {
     /// The name, if there is one. It is a name that a directory can have.
@@ -23,7 +23,7 @@ pub struct NamedReport<'w> {
 }
 
 impl<'w> NamedReport<'w> {
-    /// Reads a word: a report, or a name, `=` and a report. A word with a slash before its first `=` has no name.
+    /// Reads an argument `REPORT` or `NAME=REPORT`. An argument with a slash before its first `=` has no name.
     fn of(word: &'w str) -> NamedReport<'w>
         ensures { report_model result ≡ named_of word.entry.now }
     {
@@ -43,7 +43,7 @@ impl<'w> NamedReport<'w> {
         }
     }
 
-    /// Returns whether there is a path of a report, and the name, if there is one, can be that of a directory.
+    /// Returns whether the report's path is not empty, and the name, if there is one, can be the name of a directory.
     fn is_good(self) -> bool
         ensures { result ≡ is_good_report (report_model self.entry) }
     {
@@ -55,14 +55,14 @@ impl<'w> NamedReport<'w> {
     }
 }
 
-/// Returns whether a word names standard input.
+/// Returns whether the report that an argument names is `-`, standard input.
 fn is_input(word: &str) -> bool
     ensures { result ≡ is_input word.now }
 {
     NamedReport::of(word).report == "-"
 }
 
-/// Finds the first word that names no report.
+/// Finds the first word that is not a valid `[NAME=]REPORT`.
 fn first_bad<'w>(words: &[&'w str]) -> Option<&'w str>
     ensures { is_some result ≡ not (list_all (λ word. is_good_report (named_of word)) (map (λ word. word.now) words.now)) }
 {
@@ -104,7 +104,7 @@ fn second_input<'w>(words: &[&'w str]) -> Option<&'w str>
     None
 }
 
-/// Makes the refusal of a word that names no report.
+/// Makes the refusal of a word that is not a valid `[NAME=]REPORT`.
 fn misnamed(alloc: Global, word: &str) -> ParseExit
     ensures { IsRefusal result }
 {
@@ -116,7 +116,7 @@ fn misnamed(alloc: Global, word: &str) -> ParseExit
     }
 }
 
-/// Makes the refusal of a word that names standard input again.
+/// Makes the refusal of the second word that names standard input.
 fn read_again(alloc: Global, word: &str) -> ParseExit
     ensures { IsRefusal result }
 {
@@ -126,7 +126,7 @@ fn read_again(alloc: Global, word: &str) -> ParseExit
     }
 }
 
-/// Reads words, each of which names a report.
+/// Reads words, each of which is a valid `[NAME=]REPORT`.
 fn named<'w>(alloc: Global, words: &[&'w str]) -> Result<Vec<NamedReport<'w>>, AllocError>
     ensures { IfOk result (λ reports. map report_model reports.items ≡ map (λ word. named_of word.now) words.now) }
 {
@@ -137,7 +137,7 @@ fn named<'w>(alloc: Global, words: &[&'w str]) -> Result<Vec<NamedReport<'w>>, A
     Ok(reports)
 }
 
-/// Reads words, unless one names no report, or two name standard input.
+/// Reads words, or makes a refusal if one is not a valid `[NAME=]REPORT`, or if two name standard input.
 fn reports_of<'w>(alloc: Global, words: &[&'w str]) -> Result<Vec<NamedReport<'w>>, ParseExit>
     ensures { AnswersReports (map (λ word. word.now) words.now) result }
 {

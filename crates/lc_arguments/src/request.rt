@@ -27,7 +27,7 @@ use std::convert::AsStr;
 /// What the program is to do.
 #[derive(Drop)]
 pub enum Request<'w> {
-    /// Check paths by rules, both from standard input. The program has no arguments then.
+    /// Check paths by rules, both read from standard input. This is the request if the program has no arguments.
     CheckJoined,
     /// Check the paths on standard input by the rules of a file, as in `check .gitignore`.
     Check(CheckRequest<'w>),
@@ -35,9 +35,9 @@ pub enum Request<'w> {
     Count(CountRequest<'w>),
     /// Explain which rule of a directory decides each path, as in `explain . a.log`.
     Explain(ExplainRequest<'w>),
-    /// Add reports, as `sum a.json b.json`.
+    /// Add reports, as in `sum a.json b.json`.
     Sum(SumRequest<'w>),
-    /// Compare two directories or reports, as `diff v1.json src`.
+    /// Compare two directories or reports, as in `diff v1.json src`.
     Diff(DiffRequest<'w>),
 }
 
@@ -100,7 +100,7 @@ fn text_of(
     }
 }
 
-/// Turns an error of clap into the reason why the program ends.
+/// Turns an error of clap into the reason why the program carries out no request.
 pub(crate) fn explained(alloc: Global, error: &Error, usage: &str, advice: &Advice) -> ParseExit
     ensures { Explains error.now result }
 {
@@ -137,7 +137,7 @@ pub(crate) fn unfit(alloc: Global, why: &str) -> ParseExit
     }
 }
 
-/// Explains an error of clap for arguments that name no command.
+/// Turns an error of clap about arguments that name no command into a `ParseExit`.
 fn explained_others<W: AsStr>(alloc: Global, error: &Error, words: &[W]) -> ParseExit
     ensures { Explains error.now result }
 {
@@ -202,8 +202,8 @@ fn read_words<'w, W: AsStr>(alloc: Global, words: &'w [W]) -> Result<Request<'w>
     read_others(alloc, words)
 }
 
-/// Reads refused arguments once more from escaped copies, so that the refusal quotes them as a terminal shows them. `why` quotes the
-/// arguments as they were typed.
+/// Makes the text of a refusal that quotes the arguments in escaped form, by reading escaped copies of them. `why` is the refusal that
+/// quotes the arguments as they were typed.
 fn refusal<W: AsStr>(alloc: Global, words: &[W], why: &str) -> Result<String, AllocError>
     ensures { IfOk result (λ text. IsMessage (string_bytes text)) }
 {
@@ -215,8 +215,8 @@ fn refusal<W: AsStr>(alloc: Global, words: &[W], why: &str) -> Result<String, Al
     }
 }
 
-/// Makes a refusal whose first paragraph names an argument. If clap's text names none, all arguments are added as they were typed. For
-/// `-xz`, for example, clap names the letter alone.
+/// Makes a refusal whose first paragraph names an argument. If clap's text names none, the refusal lists all typed arguments. For `-xz`,
+/// for example, clap names only one letter.
 fn naming_refusal<W: AsStr>(alloc: Global, words: &[W], why: &str) -> Result<String, AllocError>
     ensures visible { IfOk result (λ text. IsMessage (string_bytes text)) }
     ensures names { IfOk result (λ text. IsNamingError (map W.text words.entry.now) (string_bytes text)) }
@@ -232,7 +232,8 @@ fn naming_refusal<W: AsStr>(alloc: Global, words: &[W], why: &str) -> Result<Str
     if named { Ok(second) } else { Err(AllocError) }
 }
 
-/// Returns the help or the version if it names what it is about. clap's texts do so, though no clause says it.
+/// Returns the text of help or of the version, if the text names the arguments or the program that it is about. clap's texts do, but no
+/// contract says so.
 fn naming_text<W: AsStr>(alloc: Global, words: &[W], text: String) -> Result<String, AllocError>
     ensures { IfOk result (λ text. IsTextOf (named_command (map W.text words.entry.now)) (string_bytes text)) }
 {

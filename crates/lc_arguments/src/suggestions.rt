@@ -32,7 +32,7 @@ const COMMANDS: &[(&str, &str)] = &[
     ("help", "lc --help"),
 ];
 
-/// The advice of a usage error, besides what is wrong.
+/// The advice that a usage error gives after it says what is wrong.
 #[derive(Drop)]
 pub(crate) struct Advice {
     /// What the user may have meant.
@@ -57,7 +57,7 @@ fn with_tip(alloc: Global, tip: String, command: &str) -> Result<Advice, AllocEr
     })
 }
 
-/// Finds the command that an unknown word may have meant: words that other tools use.
+/// Finds the command that an unknown word may have meant. The function knows words that other tools use.
 fn word_meant(word: &str) -> Option<&'static str> {
     match word {
         "-v" | "-V" | "--version" | "version" => Some("lc --version"),
@@ -133,7 +133,7 @@ fn is_shown_as_typed(alloc: Global, word: &str) -> Result<bool, AllocError> {
     Ok(shown.as_str() == word)
 }
 
-/// Returns the part of the refused arguments that clap quotes.
+/// Returns the refused argument, or the part of it, that clap's message quotes.
 fn quoted(problem: &str) -> &str {
     let Some((_, rest)) = problem.split_once('\'') else {
         return "";
@@ -144,8 +144,8 @@ fn quoted(problem: &str) -> &str {
     }
 }
 
-/// Lists the names of a command's options. Each option of `lc count` comes with a count that uses it, and each other one with the command's
-/// example.
+/// Lists the names of a command's options, each with an example. An option of `lc count` comes with its own example, and an option of
+/// another command with `other`.
 fn known_options(
     alloc: Global,
     command: Subcommand,
@@ -165,8 +165,8 @@ fn known_options(
     Ok(known)
 }
 
-/// Makes the advice for an unknown argument: the closest option if it is a long option and one is close, and otherwise this example of the
-/// command.
+/// Makes the advice for an unknown argument. If it is a long option and a known option is close to it, the advice names the known option.
+/// Otherwise the advice is `other`, an example of the command.
 fn option_or(
     alloc: Global,
     problem: &str,
@@ -185,7 +185,7 @@ fn option_or(
     with_tip(alloc, tip, meant)
 }
 
-/// Returns what the program does anyway, if an unknown option may have meant that.
+/// Returns a tip for an unknown option that asks for what the program does anyway.
 fn needless(option: &str) -> Option<&'static str> {
     match option {
         "--hidden" => Some("names that begin with a dot are counted without an option"),
@@ -196,7 +196,7 @@ fn needless(option: &str) -> Option<&'static str> {
     }
 }
 
-/// Finds the count that refused arguments of `lc count` may have meant. `problem` is clap's message.
+/// Makes the advice for refused arguments of `lc count`: a count that the user may have meant. `problem` is clap's message.
 ///
 /// ```
 /// let problem = "error: unexpected argument '--json' found";
@@ -232,7 +232,7 @@ fn count_of(alloc: Global, word: &str) -> Result<Advice, AllocError> {
     })
 }
 
-/// Finds the command that a first argument that is no command may have meant.
+/// Makes the advice for a first argument that is no command: a command that the user may have meant.
 pub(crate) fn command(alloc: Global, first: &str) -> Result<Advice, AllocError> {
     if first == "help" {
         return example(alloc, "lc help count");
@@ -247,7 +247,7 @@ pub(crate) fn command(alloc: Global, first: &str) -> Result<Advice, AllocError> 
     with_tip(alloc, tip, meant)
 }
 
-/// Returns the name of the value in help, for an option of `lc explain` that takes the next argument as its value.
+/// Returns the name that help shows for an option's value, such as `FILE`, if the option is one of `lc explain` that takes a value.
 fn value_name(option: &str) -> Option<&'static str> {
     let name = option.strip_prefix("--").unwrap_or("");
     for row in options() {
@@ -258,7 +258,7 @@ fn value_name(option: &str) -> Option<&'static str> {
     None
 }
 
-/// Returns a text about the last argument that was read as the value of an option, if there is one.
+/// Returns a tip, such as `'a' is the FILE of '--exclude-from'`, about the last argument that was read as the value of an option.
 fn value_taken<W: AsStr>(alloc: Global, words: &[W]) -> Result<Option<String>, AllocError> {
     let mut taken = None;
     for pair in words.windows(2) {
@@ -272,7 +272,7 @@ fn value_taken<W: AsStr>(alloc: Global, words: &[W]) -> Result<Option<String>, A
     Ok(taken)
 }
 
-/// Finds the explanation that refused arguments of `lc explain` may have meant. `problem` is clap's message.
+/// Makes the advice for refused arguments of `lc explain`. `problem` is clap's message.
 pub(crate) fn explain<W: AsStr>(
     alloc: Global,
     words: &[W],
@@ -286,17 +286,17 @@ pub(crate) fn explain<W: AsStr>(
     option_or(alloc, problem, Subcommand::Explain, EXPLAIN)
 }
 
-/// Finds the check that refused arguments of `lc check` may have meant. `problem` is clap's message.
+/// Makes the advice for refused arguments of `lc check`. `problem` is clap's message.
 pub(crate) fn check(alloc: Global, problem: &str) -> Result<Advice, AllocError> {
     option_or(alloc, problem, Subcommand::Check, CHECK)
 }
 
-/// Finds the sum that refused arguments of `lc sum` may have meant. `problem` is what clap says is wrong.
+/// Makes the advice for refused arguments of `lc sum`. `problem` is clap's message.
 pub(crate) fn sum(alloc: Global, problem: &str) -> Result<Advice, AllocError> {
     option_or(alloc, problem, Subcommand::Sum, SUM)
 }
 
-/// Finds the difference that refused arguments of `lc diff` may have meant. `problem` is what clap says is wrong.
+/// Makes the advice for refused arguments of `lc diff`. `problem` is clap's message.
 pub(crate) fn diff(alloc: Global, problem: &str) -> Result<Advice, AllocError> {
     option_or(alloc, problem, Subcommand::Diff, DIFF)
 }

@@ -29,11 +29,11 @@ pub struct SumRequest<'w> {
     pub left_out: bool,
     /// How the table is printed.
     pub table: TableRequest,
-    /// Only files that meet all of these are shown.
+    /// Show only files that meet all of these conditions.
     pub conditions: Vec<Condition<'w>>,
-    /// A file that meets the conditions is a failure.
+    /// Exit with status 4 if a file of the reports meets the conditions.
     pub fail_if_any: bool,
-    /// The reports in their order: standard input alone if none is named. At most one is standard input.
+    /// The reports in their order, or standard input alone if none is named. At most one report is standard input.
     pub reports: Vec<NamedReport<'w>>,
 }
 
@@ -46,7 +46,7 @@ pub(crate) fn command<'a>(alloc: Global) -> Result<Command<'a>, AllocError>
     command.args(args)
 }
 
-/// Explains an error of clap, with the sum that the arguments may have meant.
+/// Turns an error of clap into a `ParseExit`. If an argument is missing or unknown, the text suggests an `lc sum` command.
 fn explained_sum(alloc: Global, error: &Error) -> ParseExit
     ensures { Explains error.now result }
 {
@@ -59,7 +59,7 @@ fn explained_sum(alloc: Global, error: &Error) -> ParseExit
     }
 }
 
-/// Reads the options from clap's values. Some of them may not be combined with others.
+/// Reads the options from clap's values, and refuses wrong values. `misfit` then finds options that can't be combined.
 fn request_in<'w>(
     alloc: Global,
     matches: &ArgMatches<'w>,
@@ -79,7 +79,7 @@ fn request_in<'w>(
     })
 }
 
-/// Finds out why the options of a sum can't be combined.
+/// Returns why the options of `lc sum` can't be combined, or `None` if they can.
 fn misfit(request: &SumRequest<'_>) -> Option<&'static str>
     ensures { is_some result ≡ not (table_fits request.now.table request.now.left_out) }
 {

@@ -1,4 +1,4 @@
-//! The options of a count's table.
+//! The options of the table that a command prints, such as `--format`, `--by` and `--sort`.
 
 ghost use Rattle.std.specs.Prelude.{◌≡◌, ◌≢◌, MatchOption, option_map};
 ghost use Rattle.clap.specs.Matches.{found_of};
@@ -34,14 +34,14 @@ pub struct TableRequest {
     pub share: bool,
 }
 
-/// Returns whether a format is for reading, so that its rows begin with the largest.
+/// Returns whether a format is human-readable. Rows in such a format begin with the largest, unless `--sort` names another order.
 fn is_for_reading(format: Format) -> bool
     ensures { result ≡ is_for_reading format }
 {
     matches!(format, Format::Table | Format::Markdown)
 }
 
-/// Returns the default order: by lines if the table shows only the first rows or is for reading.
+/// Returns the default order: by lines if the table shows only the first rows or its format is for reading, and otherwise by name.
 fn default_order(format: Format, top: Option<u32>) -> Order
     ensures { result ≡ default_order format top }
 {
@@ -167,7 +167,7 @@ fn format_of(alloc: Global, name: Option<&str>) -> Result<Option<Format>, ParseE
     }
 }
 
-/// Makes the refusal of a depth without directories.
+/// Makes the refusal of `--depth` without `--by dir`.
 fn undirected(alloc: Global) -> ParseExit
     ensures { IsRefusal result }
 {
@@ -215,7 +215,7 @@ fn sort_of(alloc: Global, name: Option<&str>) -> Result<Option<Order>, ParseExit
     }
 }
 
-/// Reads the values of the four options.
+/// Reads the values of `--format`, `--by`, `--depth` and `--sort`. The request has no other options.
 fn table_of(
     alloc: Global,
     format: Option<&str>,

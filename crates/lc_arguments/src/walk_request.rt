@@ -1,4 +1,4 @@
-//! How to count directories.
+//! The options that say how to count directories.
 
 ghost use Rattle.clap.specs.Matches.{found_of};
 ghost use Rattle.clap.specs.Walk.{rows_of};
@@ -32,7 +32,7 @@ pub struct WalkRequest<'w> {
 }
 
 impl<'w> WalkRequest<'w> {
-    /// Takes the options that clap read.
+    /// Reads the options from clap's values, apart from those in `numbers`, which were read before.
     pub(crate) fn read(
         alloc: Global,
         matches: &ArgMatches<'w>,

@@ -1,4 +1,4 @@
-//! The conditions of `--where` and `--no-binary`.
+//! Tests of the conditions of `--where` and `--no-binary`.
 
 use lc_arguments::{CountRequest, ParseExit, Request};
 use lc_sheet::{Condition, Test, Value, needs_files};
@@ -7,7 +7,7 @@ use std::io::Write;
 use std::process::Abort;
 use std::test::Fail;
 
-/// A value of `--where`, and the condition that it writes, or why it writes none.
+/// A value of `--where`, and its condition as text, or why the value is no condition.
 type Case = (&'static str, &'static str);
 
 const CONDITIONS: &[Case] = &[
@@ -131,7 +131,7 @@ fn answer_text(
     }
 }
 
-/// Returns the conditions of a count with these arguments, or why there is none.
+/// Returns the conditions of a count with these arguments as text, or the message that refuses the arguments.
 fn text_of(alloc: Global, words: &[&str]) -> Result<String, AllocError> {
     answer_text(alloc, Request::read(alloc, words))
 }
@@ -161,7 +161,7 @@ fn texts_that_write_none(rt: HostRuntime) -> Result<(), Fail> {
     Ok(())
 }
 
-/// Returns whether the condition that a text writes holds of a value, and whether it is on a number.
+/// Returns whether the condition `typed` holds for a value, and whether the condition is on a number.
 fn holds(alloc: Global, typed: &str, value: Value<'_>) -> Result<(bool, bool), AllocError> {
     let words = ["count", "--where", typed];
     match Request::read(alloc, words.as_slice()) {

@@ -1,4 +1,4 @@
-//! The words of `lc diff`, and what they ask for.
+//! Tests of the arguments of `lc diff`, and of the requests that they make.
 
 use crate::texts::{Case, check_all};
 use std::test::Fail;

@@ -1,4 +1,4 @@
-//! The command that refused words may have meant.
+//! Tests of the command that a usage error suggests for refused arguments.
 
 use crate::texts::{Case, answer_text, text_of};
 use lc_arguments::Request;
@@ -6,7 +6,7 @@ use std::alloc::{AllocError, Global};
 use std::process::Abort;
 use std::test::Fail;
 
-/// Refused words, and the command that they may have meant.
+/// Refused arguments, and the command that the usage error suggests.
 const MEANT: &[Case] = &[
     ("count --json .", "lc count --format json ."),
     ("count . --csv", "lc count --format csv ."),
@@ -44,14 +44,14 @@ const MEANT: &[Case] = &[
     ("explain --files .", "lc explain . README.md"),
 ];
 
-/// Words whose first is no command, and the count that they may have meant.
+/// Arguments that begin with no command, and the count of a directory that the usage error suggests.
 const DIRECTORIES: &[Case] = &[
     ("src", "lc count src"),
     ("contrib", "lc count contrib"),
     ("it's", "lc count 'it'\\''s'"),
 ];
 
-/// Returns whether the program refuses the words of a command. A shell drops the quotes around them.
+/// Returns whether the program refuses the arguments of a command. Quotes around an argument are dropped, as a shell drops them.
 fn is_refused(alloc: Global, command: &str) -> Result<bool, AllocError> {
     let mut words = Vec::new(alloc);
     for word in command.split_ascii_whitespace() {
@@ -61,7 +61,8 @@ fn is_refused(alloc: Global, command: &str) -> Result<bool, AllocError> {
     Ok(answer.starts_with("refused: "))
 }
 
-/// Checks the command that a refusal names after `label`, and that this command is not refused itself.
+/// Checks that the arguments are refused, that the refusal suggests the wanted command after `label`, and that the program accepts this
+/// command.
 fn check_meant(
     rt: &impl Abort,
     alloc: Global,

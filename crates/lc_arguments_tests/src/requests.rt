@@ -1,4 +1,4 @@
-//! The words of a command line, and what they ask for.
+//! Tests of command lines, and of the requests that they make.
 
 use crate::texts::{Case, check_all, words_of};
 use lc_arguments::{ParseExit, Request, count_words, unslashed};
@@ -77,7 +77,7 @@ const COUNTS: &[Case] = &[
     ),
 ];
 
-/// Words of a count that leave the command or DIR out.
+/// Command lines of a count that omit the word `count` or DIR.
 const SHORT_COUNTS: &[Case] = &[
     (
         "count",
@@ -316,7 +316,8 @@ fn words_and_requests(rt: HostRuntime) -> Result<(), Fail> {
     Ok(())
 }
 
-/// Returns the number by which a table with these words is sorted, in a format.
+/// Returns the column of numbers by which a count sorts its table. `line` has the arguments of the count, and `format` applies if they name
+/// no format.
 fn sorted_by(alloc: Global, line: &str, format: Format) -> Result<Option<Number>, AllocError> {
     let words = words_of(alloc, line)?;
     match Request::read(alloc, words.as_slice()) {

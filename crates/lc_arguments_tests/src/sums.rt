@@ -1,4 +1,4 @@
-//! The words of `lc sum`, and what they ask for.
+//! Tests of the arguments of `lc sum`, and of the requests that they make.
 
 use crate::texts::{Case, answer_text, check_all};
 use lc_arguments::Request;

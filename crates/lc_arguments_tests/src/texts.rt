@@ -1,4 +1,4 @@
-//! The text of what words ask for.
+//! Turns requests into text, which the tests compare.
 
 use lc_arguments::{
     CheckRequest, CountRequest, DiffRequest, ExplainRequest, FilterRequest, ParseExit, Request,
@@ -8,7 +8,7 @@ use lc_sheet::Columns;
 use std::alloc::{AllocError, Global};
 use std::process::Abort;
 
-/// Words separated by spaces, and the request that they make, or the beginning of the message about them.
+/// Arguments separated by spaces, and the text of the request that they make, or the beginning of the text that the program prints instead.
 pub(crate) type Case = (&'static str, &'static str);
 
 fn push_filters(text: &mut String, filters: &FilterRequest) -> Result<(), AllocError> {
@@ -178,7 +178,7 @@ fn sum_text(alloc: Global, request: &SumRequest) -> Result<String, AllocError> {
     Ok(text)
 }
 
-/// Returns the request as text, or the message about the words.
+/// Returns a request as text, or the text that the program prints instead of carrying out a request.
 pub(crate) fn answer_text(
     alloc: Global,
     answer: Result<Request<'_>, ParseExit>,
@@ -196,7 +196,7 @@ pub(crate) fn answer_text(
     }
 }
 
-/// Returns words that are parted by spaces.
+/// Splits a line into its words, which spaces separate.
 pub(crate) fn words_of(alloc: Global, line: &str) -> Result<Vec<&str>, AllocError> {
     let mut words = Vec::new(alloc);
     for word in line.split_ascii_whitespace() {
@@ -205,7 +205,7 @@ pub(crate) fn words_of(alloc: Global, line: &str) -> Result<Vec<&str>, AllocErro
     Ok(words)
 }
 
-/// Reads words that are separated by spaces, and returns their request as text, or the message about them.
+/// Reads arguments that spaces separate, and returns their request as text, or the text that the program prints instead.
 pub(crate) fn text_of(alloc: Global, line: &str) -> Result<String, AllocError> {
     let words = words_of(alloc, line)?;
     answer_text(alloc, Request::read(alloc, words.as_slice()))

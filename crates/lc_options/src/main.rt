@@ -7,7 +7,7 @@ use lc_arguments::{Commands, Completes, Kind, OptionRow, options};
 use std::alloc::{AllocError, Global};
 use std::io;
 
-/// The names of the fields.
+/// The first printed line: the names of the fields.
 const NAMES: &str =
     "name\tletter\tvalue\tkind\tdefault\tcommands\theading\thelp\tlong help\tbrief\texample\tcompletes";
 
@@ -39,7 +39,7 @@ fn push_commands(line: &mut String, commands: Commands) -> Result<(), AllocError
     Ok(())
 }
 
-/// Appends a text on one line.
+/// Appends a text, with spaces instead of its line feeds.
 fn push_joined(line: &mut String, text: &str) -> Result<(), AllocError> {
     for c in text.chars() {
         line.push(if c == '\n' { ' ' } else { c })?;
@@ -76,7 +76,7 @@ fn push_completes(line: &mut String, completes: Completes) -> Result<(), AllocEr
     }
 }
 
-/// Makes the line of a row.
+/// Makes the printed line of a row in the table of options.
 fn line_of(alloc: Global, row: &OptionRow) -> Result<String, AllocError> {
     let (name, value) = (row.name, row.value);
     let mut line = format!(in alloc; "{name}\t")?;
