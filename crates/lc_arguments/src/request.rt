@@ -156,7 +156,7 @@ fn read_others<'w, W: AsStr>(alloc: Global, words: &'w [W]) -> Result<Request<'w
         return Err(ParseExit::Memory);
     };
     match command.try_get_matches_from(words) {
-        // The only argument is `--`.
+        // clap accepts no arguments and `--`. `read_words` and `count_words` read both elsewhere.
         Ok(_) => Ok(Request::CheckJoined),
         Err(error) => Err(explained_others(alloc, &error, words)),
     }
