@@ -34,7 +34,7 @@ pub(crate) struct Classified {
 pub struct ChildDirectory {
     /// The name of the directory in its parent.
     pub name: Vec<u8>,
-    /// The path of the directory, and both chains of its parent.
+    /// The path of the directory, and the chains of ignore files and of attribute files of its parent.
     pub job: Job,
 }
 
@@ -62,7 +62,7 @@ fn child_job(alloc: Global, job: &Job, path: &[u8]) -> Result<Job, OpenFault>
 }
 
 impl<T: Tree> LevelReader<'_, T> {
-    /// Adds a skipped entry, if these are kept.
+    /// Adds an entry to the skipped ones, if the reader's options say to keep these.
     fn leave_out(
         &self,
         name: Vec<u8>,
@@ -88,7 +88,7 @@ impl<T: Tree> LevelReader<'_, T> {
         }
     }
 
-    /// Adds a file to those that stay, or to the skipped entries. It must match one of these patterns, if there are some.
+    /// Adds a file to the files that stay, or to the skipped entries. To stay, the file must match one of `patterns`, if there are any.
     fn classify_file(
         &self,
         job: &Job,
@@ -140,7 +140,7 @@ impl<T: Tree> LevelReader<'_, T> {
         }
     }
 
-    /// Adds what is neither a file nor a directory to the skipped entries.
+    /// Adds an entry that is neither a file nor a directory to the skipped ones, if the reader's options say to keep these.
     fn classify_other(
         &self,
         job: &Job,
@@ -162,8 +162,8 @@ impl<T: Tree> LevelReader<'_, T> {
         }
     }
 
-    /// Adds one entry to those that stay or to those that are skipped. Its name moves there. A file must match one of these patterns, if
-    /// there are some.
+    /// Adds one entry to those that stay or to the skipped ones, and moves its name there. To stay, a file must match one of `patterns`, if
+    /// there are any.
     fn classify_entry(
         &self,
         job: &Job,

@@ -45,7 +45,7 @@ impl CountedFiles {
         Ok(())
     }
 
-    /// Adds a file that was not counted.
+    /// Adds the error of a file that could not be counted.
     fn push_fault(&mut self, job: &Job, name: Vec<u8>, word: FaultWord) -> Result<(), AllocError>
         ensures { AddsResult job.now name.items (Err word) self.old self.new result }
     {
@@ -57,7 +57,7 @@ impl CountedFiles {
 }
 
 impl<T: Tree> LevelReader<'_, T> {
-    /// Counts the file with a name. The name moves to the counted files or to the errors.
+    /// Counts the file with this name in the job's directory, and moves the name to the counted files or to the errors.
     pub(crate) fn count_named(
         &self,
         job: &Job,
@@ -80,8 +80,8 @@ impl<T: Tree> LevelReader<'_, T> {
         }
     }
 
-    /// Counts the files with these names, in order. The errors of absent paths come before those of files. The scratch paths are those of
-    /// the directory.
+    /// Counts the files with these names in the job's directory, in order. The result has the errors in `absent` before the errors of
+    /// files. `scratch` must have the path of this directory.
     pub fn count(
         &self,
         job: &Job,

@@ -1,4 +1,4 @@
-//! Entering a directory: its listing and its rule files, read whole.
+//! Entering a directory: listing it, and reading its rule files whole.
 ghost use Rattle.std.specs.Prelude.{◌≡◌, ◌&&◌, IfOk, OnOk, true, codes};
 ghost use Rattle.lc_level.specs.EntryLooks.{has_dir};
 ghost use Rattle.lc_level.specs.Enters.{EntersLevel};
@@ -17,7 +17,7 @@ use crate::scratch::Scratch;
 use lc_tree::{Entry, Listing, ReadFault, Tree};
 use std::alloc::AllocError;
 
-/// The bytes of the ignore files that apply from a directory on, as far as these exist and their texts are kept.
+/// The bytes of the ignore files that are read for one directory. A field is `None` if the file does not exist, or if texts are not kept.
 #[derive(Drop)]
 pub struct RuleTexts {
     /// The bytes of `.git/info/exclude`, which is read in the top alone.
@@ -29,7 +29,7 @@ pub struct RuleTexts {
 /// A directory whose listing and rule files were read.
 #[derive(Drop)]
 pub struct Entered {
-    /// The directory, with its own rule files in both chains.
+    /// The job of the directory, whose chains include the directory's own rule files.
     pub job: Job,
     /// The entries of the directory, in the order of their names.
     pub entries: Vec<Entry>,
@@ -38,7 +38,7 @@ pub struct Entered {
 }
 
 impl<T: Tree> LevelReader<'_, T> {
-    /// Reads the files of `.git/info`, which apply from the top on. Below the top it reads nothing.
+    /// Reads the rule files of `.git/info` if the directory is the top. For any other directory, reads nothing.
     fn read_info(
         &self,
         no_ignore: bool,
@@ -55,8 +55,8 @@ impl<T: Tree> LevelReader<'_, T> {
         self.read_git_info(no_ignore, listing, scratch)
     }
 
-    /// Reads a directory's own `.gitignore`, unless no ignore file is read, and `.gitattributes`. The scratch paths are then the
-    /// directory's.
+    /// Reads a directory's own `.gitignore`, unless `no_ignore` is set, and `.gitattributes`. On success `scratch` has the path of this
+    /// directory.
     fn read_own(
         &self,
         no_ignore: bool,
@@ -85,7 +85,7 @@ impl<T: Tree> LevelReader<'_, T> {
         self.read_pair(listing, names, scratch)
     }
 
-    /// Returns the directory of a job with these rule files in both chains.
+    /// Returns the job with these rule files added to its chains: those of `.git/info`, and the directory's own.
     fn with_files(&self, job: &Job, info: RulePair, own: RulePair) -> Result<Job, AllocError>
         ensures path { IfOk result (λ k. k.path ≡ job.now.path) }
         ensures files { IfOk result (λ k. (i o : Pair) → AreFilesOf true info i → AreFilesOf (is_top job.now.path) own o
@@ -103,7 +103,7 @@ impl<T: Tree> LevelReader<'_, T> {
         job.with_chains(self.alloc, ignore, attributes)
     }
 
-    /// Enters the directory of a job by its listing, up to the first fault. The scratch paths are then those of the directory.
+    /// Like `enter`, but takes the listing of the job's directory as an argument.
     pub(crate) fn enter_listed(
         &self,
         job: &Job,
@@ -133,8 +133,7 @@ impl<T: Tree> LevelReader<'_, T> {
         })
     }
 
-    /// Lists the directory of a job and reads its rule files, up to the first error. On success `scratch` has the path
-    /// of this directory.
+    /// Lists the directory of a job and reads its rule files, up to the first error. On success `scratch` has the path of this directory.
     pub fn enter(&self, job: &Job, scratch: &mut Scratch) -> Result<Entered, OpenFault>
         ensures at { IfOk result (λ e. scratch.new.path.directory ≡ e.job.path) }
         ensures enters { EntersLevel (T.lists self.now.tree.now) (T.gives self.now.tree.now) job.now self.now.options.texts result }

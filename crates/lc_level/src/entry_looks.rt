@@ -26,7 +26,7 @@ pub fn entry_named<'e>(entries: &'e [Entry], name: &[u8]) -> Option<&'e Entry>
     }
 }
 
-/// Returns whether there is a file of this name.
+/// Returns whether a listing has a file with this name.
 pub(crate) fn has_file(listing: &Listing, name: &[u8]) -> bool
     ensures { result ≡ has_file name.now listing.now }
 {
@@ -36,7 +36,7 @@ pub(crate) fn has_file(listing: &Listing, name: &[u8]) -> bool
     }
 }
 
-/// Returns whether there is a directory of this name.
+/// Returns whether a listing has a directory with this name.
 pub(crate) fn has_dir(listing: &Listing, name: &[u8]) -> bool
     ensures { result ≡ has_dir name.now listing.now }
 {

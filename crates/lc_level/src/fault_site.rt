@@ -5,7 +5,7 @@ ghost use Rattle.lc_level.specs.SitePaths.{site_path};
 use crate::paths::path_in;
 use std::alloc::{AllocError, Global};
 
-/// The place in a directory that could not be read. Only the top has the places in `.git`.
+/// What could not be read: the directory itself, or one of its rule files. Only the top has the variants in `.git`.
 #[derive(Clone, Copy, PartialEq, Eq, Debug, Drop)]
 pub enum FaultSite {
     /// The directory itself.

@@ -25,7 +25,7 @@ pub enum FaultWord {
 }
 
 impl FaultWord {
-    /// Returns the word for a directory that was not listed. A failed allocation has none, since there is no report then.
+    /// Returns the word for the error of listing a directory. A failed allocation has no word, because no report is made then.
     pub fn of(fault: ReadFault) -> Option<FaultWord>
         ensures { result ≡ fault_word_of fault }
     {

@@ -11,7 +11,7 @@ use lc_rules::MAX_RULE_BYTES;
 use lc_tree::{ReadFault, Tree};
 
 impl<T: Tree> LevelReader<'_, T> {
-    /// Counts the file at a path by reads into the lent buffer, which has `BUFFER_LEN` bytes.
+    /// Counts the file at a path. Reads go into `buffer`, which has `BUFFER_LEN` bytes.
     pub(crate) fn count_at(&self, path: &[u8], buffer: &mut [u8]) -> Result<Count, ContentFault>
         requires { length buffer.old ≡ buffer_len }
         ensures { IsAnswer (MayCount (T.gives self.now.tree.now path.now)) (λ count. count) result }
@@ -29,7 +29,7 @@ impl<T: Tree> LevelReader<'_, T> {
         }
     }
 
-    /// Reads the file at a path whole, as rules, into the lent vector.
+    /// Reads the whole file at a path into `bytes`, as a rule file, through `buffer`. A file of over `MAX_RULE_BYTES` bytes is an error.
     pub(crate) fn read_rules(
         &self,
         path: &[u8],

@@ -1,4 +1,4 @@
-//! The filters of a tree: which entries stay, besides what its own rule files say.
+//! The filters of a walk: what decides, besides the tree's own rule files, which entries are skipped.
 ghost use Rattle.std.specs.Prelude.{◌≡◌, IfOk, option_map, map};
 ghost use Rattle.lc_level.specs.Filters.{attribute_of, include_rules, is_state, no_filters, patterns_for, value_of};
 ghost use Rattle.lc_level.specs.Level.{attribute_reason, by_attribute, is_met};
@@ -19,7 +19,7 @@ use std::alloc::{AllocError, Global};
 use std::marker::Model;
 use std::sync::Arc;
 
-/// What decides, besides a tree's own rule files, which entries stay. It is made once, and lent to all that read the tree.
+/// What decides, besides a tree's own rule files, which entries are skipped. One value is made, and all that read the tree borrow it.
 ///
 /// ```
 /// let as_it_is = Filters::none(alloc);
@@ -39,8 +39,9 @@ pub struct Filters<'p> {
     pub include: Option<RuleText>,
     /// Whether no ignore file of the tree is read: no `.gitignore`, and no `.git/info/exclude`.
     pub no_ignore: bool,
-    /// The attributes for which files and directories are skipped. Such an attribute must be Set, as for `linguist-vendored`, or have
-    /// exactly the value, as for `linguist-generated=true` (gitattributes(5)). `git archive` skips what has `export-ignore`.
+    /// The attributes for which files and directories are skipped, each as a word `ATTR` or `ATTR=VALUE` (gitattributes(5)). With `ATTR`,
+    /// such as `linguist-vendored`, the attribute must be Set. With `ATTR=VALUE`, such as `linguist-generated=true`, it must have exactly
+    /// this value. `git archive` skips what has `export-ignore`.
     pub without: Vec<Vec<u8>>,
     /// The paths of `--only`: only these stay, with what is under them and the directories above them. If there are none, everything stays.
     pub only: OnlyPaths<'p>,
@@ -62,7 +63,7 @@ impl<'p> Model for Filters<'p> {
     } };
 }
 
-/// Splits a word at its first `=`: the attribute that it names, and the value that it requires.
+/// Splits a word, `ATTR` or `ATTR=VALUE`, at its first `=` into the attribute and the value.
 fn split_word(word: &[u8]) -> (&[u8], Option<&[u8]>)
     ensures attribute { result.0.now ≡ attribute_of word.now }
     ensures value { option_map (λ v. v.now) result.1 ≡ value_of word.now }
@@ -70,7 +71,7 @@ fn split_word(word: &[u8]) -> (&[u8], Option<&[u8]>)
     cut_at_first(b'=', word)
 }
 
-/// Returns whether a state is the required one: this value, or Set if no value is required.
+/// Returns whether an attribute's state is the required one: this value, or Set if no value is required.
 fn is_state(wanted: Option<&[u8]>, state: State<'_>) -> bool
     ensures { result ≡ is_state (option_map (λ v. v.now) wanted.entry) (state_model state.entry) }
 {
@@ -85,7 +86,8 @@ fn is_state(wanted: Option<&[u8]>, state: State<'_>) -> bool
     }
 }
 
-/// Returns whether an attribute has at a path the state that a word requires. Only the attribute's macros are allocated.
+/// Returns whether the attribute of a word, `ATTR` or `ATTR=VALUE`, has the required state at a path. Memory is allocated only for the
+/// attribute's macros.
 fn is_met(
     alloc: Global,
     job: &Job,
@@ -100,7 +102,7 @@ fn is_met(
     Ok(is_state(wanted, state))
 }
 
-/// Shares the rules of a text, if there is one.
+/// Returns the rules of a text, if there is one, shared with the text rather than copied.
 fn shared_rules(text: &Option<RuleText>) -> Result<Option<Arc<IgnoreFile, Global>>, AllocError>
     ensures { IfOk result (λ rules. shared rules ≡ option_map rules_of text.now) }
 {
@@ -125,7 +127,7 @@ impl<'p> Filters<'p> {
         }
     }
 
-    /// Returns the chain of the top of a tree, by the rules for the whole tree.
+    /// Returns the chain of ignore files of a tree's top. Its only rules are those that these filters set for the whole tree.
     pub(crate) fn top_chain(&self) -> Result<Chain, AllocError>
         ensures { IfOk result (λ chain. chain ≡ (top_job self.now).ignore) }
     {
@@ -134,7 +136,7 @@ impl<'p> Filters<'p> {
         Ok(asked.with_no_ignore(self.no_ignore))
     }
 
-    /// Returns what the paths select of a directory.
+    /// Returns what the paths of `--only` select of a directory: all of it, or some paths below it.
     pub(crate) fn wanted_in(
         &self,
         alloc: Global,
@@ -146,7 +148,8 @@ impl<'p> Filters<'p> {
         Ok(wanted)
     }
 
-    /// Returns the patterns for the files of a directory: a file must match one of them. There are none if all files of the directory stay.
+    /// Returns the patterns for the files of a directory: each file must match one of them to stay. Returns `None` if no file has to match
+    /// a pattern.
     pub(crate) fn include_in(&self, directory: &[u8]) -> Option<&IgnoreFile>
         ensures { option_map (λ p. p.now) result ≡ patterns_for (include_rules self.now) directory.now }
     {
@@ -154,7 +157,8 @@ impl<'p> Filters<'p> {
         patterns_for(text.rules(), directory)
     }
 
-    /// Returns the first word with an attribute for which a path is skipped. Memory is allocated only for the macros of attributes.
+    /// Returns the first word of `without` whose attribute has the required state at a path, so that the path is skipped. Memory is
+    /// allocated only for the macros of attributes.
     pub(crate) fn first_met(
         &self,
         alloc: Global,

@@ -14,9 +14,9 @@ use std::alloc::{AllocError, Global};
 use std::marker::Model;
 use std::sync::Arc;
 
-/// A directory to be visited: its path, and the chains of ignore files and of attribute files above it. Directories under the same rule
-/// files share the chains. Once a directory's own rule files are read, a second `Job` has the chains that include them. A job is one
-/// pointer, so it is moved at no cost.
+/// A directory to be visited: its path, and two chains of rule files, the ignore files and the attribute files above the directory.
+/// Directories under the same rule files share the chains. Once a directory's own rule files are read, a second `Job` has the chains that
+/// include them. A `Job` is one pointer, so moving it costs nothing.
 ///
 /// ```
 /// let top = Job::top(alloc, &Filters::none(alloc))?; // its path is empty, and its chains have no rule
@@ -56,7 +56,7 @@ impl Model for Job {
 }
 
 impl Job {
-    /// Makes the job of the top of a tree, by the rules of these filters for the whole tree.
+    /// Makes the job of the top of a tree. Its only rules are those that the filters set for the whole tree.
     pub fn top(alloc: Global, filters: &Filters<'_>) -> Result<Job, AllocError>
         ensures { IfOk result (λ j. j ≡ top_job filters.now) }
     {
@@ -66,7 +66,7 @@ impl Job {
         Job::new(alloc, path, Arc::new(alloc, ignore)?, attributes)
     }
 
-    /// Makes a job of its parts.
+    /// Makes a job from a path and both chains.
     pub(crate) fn new(
         alloc: Global,
         path: Vec<u8>,
@@ -90,7 +90,7 @@ impl Job {
         }
     }
 
-    /// Returns the chain of ignore files above the directory's own.
+    /// Returns the job's chain of ignore files.
     pub(crate) fn ignore(&self) -> &Arc<Chain, Global>
         ensures { arc_value result.now ≡ self.now.ignore }
     {
@@ -104,7 +104,7 @@ impl Job {
         self.parts.ignore.no_ignore()
     }
 
-    /// Returns the chain of attribute files above the directory's own.
+    /// Returns the job's chain of attribute files.
     pub(crate) fn attributes(&self) -> &Arc<AttrChain, Global>
         ensures { arc_value result.now ≡ self.now.attributes }
     {
@@ -131,7 +131,7 @@ impl Job {
         depth_of(self.parts.path.as_slice()) as u32
     }
 
-    /// Makes the job of the directory at this path, under the rule files of this one.
+    /// Makes the job of the directory at `path`, with the chains of `self`.
     pub fn at(&self, alloc: Global, path: &[u8]) -> Result<Job, AllocError>
         requires { length path.now ≤ max_path }
         ensures { IfOk result (λ j. j ≡ job_at self.now path.now) }
@@ -141,7 +141,7 @@ impl Job {
         Job::new(alloc, path, ignore, Arc::try_clone(&self.parts.attributes)?)
     }
 
-    /// Returns the last rule that matches a path, and which file has it.
+    /// Returns the last ignore rule that matches a path, and the source of this rule.
     pub fn last_match(&self, path: &[u8], is_dir: bool) -> Option<(RuleSource, &Rule)>
         ensures { option_map (λ r. (r.0, r.1.now)) result ≡ last_match (rules_in self.now.ignore) path.now is_dir }
     {
@@ -155,7 +155,8 @@ impl Job {
         &self.parts.path
     }
 
-    /// Returns the path of the directory without a copy, and drops the rest. The path is in a box, so that it is one word long as a job is.
+    /// Returns the path of the directory without a copy, and drops the chains. The path is in a box, so the result is one pointer, as a job
+    /// is.
     pub fn into_path(self) -> Box<Vec<u8>, Global>
         ensures { result.value.items ≡ self.path }
     {

@@ -1,4 +1,4 @@
-//! Laws of one directory's work. The functions do nothing: their contracts are what is proved.
+//! Theorems about opening a directory and counting its files. Each is the contract of a function that does nothing.
 ghost use Rattle.lc_level.specs.Examples.{LevelExamplesHold};
 ghost use Rattle.lc_level.specs.FileReads.{CountsOnce, ReadsRulesOnce};
 ghost use Rattle.lc_level.specs.Laws.{CountedLaw, OpenedLaw};
@@ -8,7 +8,7 @@ use lc_census::bytes_have_one_cutting;
 use lc_tree::{Tree, trees_of_memory_list_once};
 use std::alloc::Global;
 
-/// The law that opening a directory and counting its files together give its level.
+/// The law that opening a directory and counting its files together give its level, which is all that the directory contributes to a walk.
 pub fn work_is_a_level<T: Tree>(tree: &T)
     ensures opened { OpenedLaw (T.lists tree.now) (T.gives tree.now) }
     ensures counted { CountedLaw (T.lists tree.now) (T.gives tree.now) }
@@ -16,14 +16,16 @@ pub fn work_is_a_level<T: Tree>(tree: &T)
     let _tree = tree;
 }
 
-/// The law that a tree that answers each question in one way has one level for each directory.
+/// The law that each directory of a tree has only one level if the tree gives only one answer to each question: each listing, each count
+/// and each reading of a rule file.
 pub fn one_answer_is_one_level<T: Tree>(tree: &T)
     ensures { OneLevelLaw (T.lists tree.now) (T.gives tree.now) }
 {
     let _tree = tree;
 }
 
-/// The law that a file of a tree in memory is read as rules in one way. A file with under 2^47 bytes is also counted in one way.
+/// The law that reading a file of a tree in memory as a rule file has only one result. If the file has under 2^47 bytes, counting it has
+/// only one result too.
 pub fn files_of_memory_are_read_once()
     ensures counts { CountsOnce }
     ensures rules { ReadsRulesOnce }
@@ -31,7 +33,8 @@ pub fn files_of_memory_are_read_once()
     bytes_have_one_cutting();
 }
 
-/// The law that a tree in memory answers each question in one way, if each of its files has under 2^47 bytes.
+/// The law that a tree in memory gives only one answer to each question, if each of its files has under 2^47 bytes. A question is a
+/// listing, a count or a reading of a rule file.
 pub fn trees_of_memory_give_one()
     ensures { MemoryLaw }
 {
@@ -39,8 +42,8 @@ pub fn trees_of_memory_give_one()
     files_of_memory_are_read_once();
 }
 
-/// The law that a node is one tree in memory, as a value. The answers of that value are some that the tree may give. If each file has under
-/// 2^47 bytes, no other answers give another level.
+/// The law that a `Node` defines one value with an answer for each path, and that the tree in memory of this node may give these answers.
+/// If each file has under 2^47 bytes, each directory has only the level that these answers give.
 pub fn a_node_is_one_tree()
     ensures answers { NodeAnswersLaw }
     ensures levels { NodeLevelsLaw }
@@ -49,7 +52,7 @@ pub fn a_node_is_one_tree()
     trees_of_memory_give_one();
 }
 
-/// The law that the definitions of a node's tree give the expected results on a small node.
+/// The law that the definitions of a tree in memory give the expected results for one small directory.
 pub fn level_examples_hold(alloc: Global)
     ensures { LevelExamplesHold alloc }
 {

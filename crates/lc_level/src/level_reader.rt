@@ -1,18 +1,18 @@
-//! What all methods that read a tree's directories share. The methods are in the modules of what they read.
+//! The reader of a tree's directories. Most of its methods are in other modules, by what they read.
 ghost use Rattle.std.specs.Prelude.{◌≡◌};
 
 use crate::filters::Filters;
 use crate::named_attributes::NamedAttributes;
 use std::alloc::Global;
 
-/// What a reader keeps besides what a count needs. Nothing else is kept, so options that are off cost nothing.
+/// What a reader keeps besides what a count needs. Options that are off cost nothing.
 #[derive(Clone, Copy, Drop)]
 pub struct ReaderOptions<'n> {
     /// Whether to keep the skipped entries, with their reasons.
     pub left_out: bool,
     /// Whether to keep the bytes of `.git/info/exclude` and of each `.gitignore`.
     pub texts: bool,
-    /// Where to note which attributes the attribute files of the tree name. The notes change no answer.
+    /// Where to note which attributes the tree's attribute files name. The notes change no result.
     pub named: Option<&'n NamedAttributes>,
 }
 

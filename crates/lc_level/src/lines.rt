@@ -12,18 +12,18 @@ use lc_tree::Kind;
 use std::alloc::{AllocError, Global};
 use std::marker::Model;
 
-/// A line of a report about something at a path. The path is the names down to it, joined by slashes, from a directory or from the top of a
-/// tree.
+/// A line of a report: a counted file, an error or a skipped entry, with its path. The path is relative to a directory or to the top of a
+/// tree, and slashes join its names.
 pub trait Line: Sized {
     ghost path_of: { Self → List ℕ };
 
     ghost below_of: { List ℕ → Self → Self };
 
-    /// Lends the path.
+    /// Returns the path of the line.
     fn path(&self) -> &[u8]
         ensures { result.now ≡ path_of self.now };
 
-    /// Makes the same line of what has its path below a directory.
+    /// Makes a copy of the line, with `directory` joined before its path.
     fn below(&self, alloc: Global, directory: &[u8]) -> Result<Self, AllocError>
         ensures { IfOk result (λ line. line ≡ below_of directory.now self.now) };
 }
@@ -33,9 +33,9 @@ pub trait Line: Sized {
 pub struct FileLine {
     /// The names down to the file, joined by slashes.
     pub path: Vec<u8>,
-    /// What the attribute `text` is for the file.
+    /// The state of the attribute `text` for the file.
     pub text: TextState,
-    /// The census of the file's bytes.
+    /// The numbers of the file's lines, blank lines and bytes, and its line ends.
     pub count: Count,
 }
 
@@ -68,7 +68,7 @@ impl Line for FileLine {
 /// A file or a directory that was not counted, and why.
 #[derive(Debug, Drop)]
 pub struct FaultLine {
-    /// The names down to the file or directory, joined by slashes. It is empty for the directory that the path is relative to.
+    /// The names down to the file or directory, joined by slashes. For the directory that the path is relative to, the path is empty.
     pub path: Vec<u8>,
     /// Why the file or directory was not counted.
     pub word: FaultWord,
@@ -104,7 +104,7 @@ impl Line for FaultLine {
 pub struct SkippedLine {
     /// The names down to the entry, joined by slashes.
     pub path: Vec<u8>,
-    /// What the entry is.
+    /// Whether the entry is a file, a directory or something else.
     pub kind: Kind,
     /// The first reason that holds for the entry.
     pub reason: Reason,

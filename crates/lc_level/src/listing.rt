@@ -8,7 +8,7 @@ use crate::{FaultSite, FaultWord};
 use lc_tree::{Listing, ReadFault, Tree};
 
 impl<T: Tree> LevelReader<'_, T> {
-    /// Returns the listing of the directory at a path, or its error, which is reported at this site.
+    /// Returns a listing of the directory at a path, or the error of this listing as one that is reported at `site`.
     pub(crate) fn listed_for(
         &self,
         path: &[u8],
@@ -27,7 +27,7 @@ impl<T: Tree> LevelReader<'_, T> {
         }
     }
 
-    /// Lists the directory at a path. An error is reported at this site.
+    /// Lists the directory at a path. An error is reported at `site`.
     pub(crate) fn list_for(&self, path: &[u8], site: FaultSite) -> Result<Listing, OpenFault>
         ensures { ListsFor (T.lists self.now.tree.now path.now) site result }
     {

@@ -11,7 +11,7 @@ use std::sync::atomic::{AtomicBool, Ordering};
 /// The attributes that a command line names, and which of them the attribute files of a tree contain. Workers note these as they read the
 /// files.
 ///
-/// No contract says which attributes the files contain, so this serves for a hint alone. The name of an attribute also counts if it is a
+/// No contract says which attributes the files contain, so this is only good for a hint. The name of an attribute also counts if it is a
 /// part of another word, or is in a comment.
 ///
 /// ```
@@ -33,7 +33,7 @@ struct NotedWord {
 }
 
 impl NotedWord {
-    /// Adds the attribute if no attribute file contained it so far.
+    /// Adds the attribute to `unnamed` if none of the attribute files that were read contains its name.
     fn push_unnamed(&self, alloc: Global, unnamed: &mut Vec<Vec<u8>>) -> Result<(), AllocError>
         ensures { OnOk result (AddsAtMost self.now.attribute.items unnamed.old.items unnamed.new.items) }
     {
@@ -45,7 +45,7 @@ impl NotedWord {
 }
 
 impl NamedAttributes {
-    /// Makes the list of the attributes that words name, each word `ATTR` or `ATTR=VALUE`. None is noted yet.
+    /// Makes the list of the attributes in these words, each `ATTR` or `ATTR=VALUE`. No attribute is noted as contained in a file yet.
     pub fn new(alloc: Global, words: &[&str]) -> Result<NamedAttributes, AllocError>
         ensures { IfOk result (λ named. noted named ≡ attributes_of words.now) }
     {
@@ -60,7 +60,7 @@ impl NamedAttributes {
         Ok(NamedAttributes { words: noted })
     }
 
-    /// Returns the attributes that no attribute file which was read contains, in the order of the words.
+    /// Returns the attributes that none of the attribute files that were read contains, in the order of the words.
     pub fn unnamed(&self, alloc: Global) -> Result<Vec<Vec<u8>>, AllocError>
         ensures { IfOk result (λ told. AreSomeAttributes (noted self.now) told.items) }
     {

@@ -43,7 +43,7 @@ impl<'o> Model for Wanted<'o> {
     ghost invariant = { λ w. AreInOrder (map (λ rest. rest.now) w.rests.items) };
 }
 
-/// Returns whether an entry of a directory leads to one of the paths that are seen from it.
+/// Returns whether an entry is at one of these paths, or is a directory above one. The paths are relative to the entry's parent.
 fn leads_on(rests: &[&[u8]], entry: &Entry) -> bool
     requires { AreInOrder (map (λ rest. rest.now) rests.now) }
     ensures { result ≡ list_any (leads_to entry.now) (map (λ rest. rest.now) rests.now) }
@@ -57,7 +57,7 @@ fn leads_on(rests: &[&[u8]], entry: &Entry) -> bool
     }
 }
 
-/// Returns whether an entry of a directory leads to a path that is seen from it.
+/// Returns whether an entry is at this path, or is a directory above it. The path is relative to the entry's parent.
 fn leads_to(entry: &Entry, rest: &[u8]) -> bool
     ensures { result ≡ leads_to entry.now rest.now }
 {
@@ -70,7 +70,8 @@ fn leads_to(entry: &Entry, rest: &[u8]) -> bool
     }
 }
 
-/// Returns whether one of a directory's entries leads to a path. Only the entry of the path's first name can.
+/// Returns whether one of a directory's entries is at a path, or is a directory above it. The path is relative to this directory. Only the
+/// entry with the path's first name can lead there.
 fn is_led_to(entries: &[Entry], rest: &[u8]) -> bool
     requires { IsListing entries.now }
     ensures { result ≡ is_led_to entries.now rest.now }
@@ -82,7 +83,8 @@ fn is_led_to(entries: &[Entry], rest: &[u8]) -> bool
     }
 }
 
-/// Adds the error of a path to which no entry of the directory leads. The path is relative to the directory.
+/// Adds an error for a path of `--only` if no entry of the directory is at the path or is a directory above it. The path is relative to the
+/// directory.
 fn add_unled(
     alloc: Global,
     rest: &[u8],
@@ -106,7 +108,7 @@ fn add_unled(
 }
 
 impl<'o> Wanted<'o> {
-    /// Returns the entries of the directory that stay. If all of it is selected, nothing is allocated.
+    /// Returns the entries of the directory that the paths of `--only` select. If all of it is selected, nothing is allocated.
     pub(crate) fn part_of(
         &self,
         alloc: Global,
@@ -126,7 +128,7 @@ impl<'o> Wanted<'o> {
         Ok(part)
     }
 
-    /// Returns the faults of the paths to which none of the directory's entries leads.
+    /// Returns an error for each path of `--only` that is absent: no entry of the directory is at the path or is a directory above it.
     pub(crate) fn absent(
         &self,
         alloc: Global,

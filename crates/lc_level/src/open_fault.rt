@@ -9,7 +9,7 @@ use crate::{FaultSite, FaultWord};
 /// Why a directory contributes none of its entries.
 #[derive(Clone, Copy, Debug, Drop, PartialEq, Eq)]
 pub enum OpenFault {
-    /// The listing or one of the rule files, at this site, was not read. The report names the reason by this word.
+    /// The listing or one of the rule files could not be read. The site says which, and the report names the reason by this word.
     Faulted(FaultSite, FaultWord),
     /// An allocation failed.
     Memory,
@@ -18,7 +18,7 @@ pub enum OpenFault {
 }
 
 impl ContentFault {
-    /// Returns the error of a directory whose file at this place was not read.
+    /// Converts the error of a file into the error of its directory. `site` says which file of the directory it is.
     pub fn at(self, site: FaultSite) -> OpenFault
         ensures { result ≡ open_fault_by site self }
     {

@@ -17,23 +17,22 @@ use std::thread::Threads;
 /// A directory whose entries are known, before its files are counted.
 #[derive(Drop)]
 pub struct Opened {
-    /// The directory, with its own rule files in both chains.
+    /// The job of the directory, whose chains include the directory's own rule files.
     pub job: Job,
     /// The names of the files that are to be counted.
     pub files: Vec<Vec<u8>>,
     /// The directories that are to be visited.
     pub children: Vec<ChildDirectory>,
-    /// The skipped entries, in the order of the listing. There are none unless they are requested.
+    /// The skipped entries, in the order of the listing. The list is empty unless the reader's options say to keep them.
     pub skipped: Vec<SkippedLine>,
-    /// The paths of `--only` that are absent, relative to the directory.
+    /// An error for each path of `--only` that is absent, relative to the directory.
     pub absent: Vec<FaultLine>,
-    /// The number of entries that the paths of `--only` select.
+    /// The number of the directory's entries that the paths of `--only` select. Without such paths, all are selected.
     pub entries: u32,
 }
 
 impl<T: Tree> LevelReader<'_, T> {
-    /// Opens the directory of a job by its listing, up to the first fault or an entry that is too deep for a walk. The scratch paths are
-    /// then those of the directory.
+    /// Like `open`, but takes the listing of the job's directory as an argument.
     fn open_listed(
         &self,
         job: &Job,
@@ -69,8 +68,8 @@ impl<T: Tree> LevelReader<'_, T> {
         }
     }
 
-    /// Lists the directory of a job and decides which entries stay, up to the first error or an entry that is too deep for a walk. The
-    /// scratch paths are then those of the directory.
+    /// Lists the directory of a job, reads its rule files and decides which entries stay. Stops at the first error, and at an entry that is
+    /// too deep for a walk. On success `scratch` has the path of this directory.
     pub fn open(&self, job: &Job, scratch: &mut Scratch) -> Result<Opened, OpenFault>
         ensures at { IfOk result (λ o. scratch.new.path.directory ≡ o.job.path) }
         ensures opens { OpensLevel (T.lists self.now.tree.now) (T.gives self.now.tree.now) self.now.options.left_out

@@ -1,4 +1,4 @@
-//! A buffer for a directory's path, and for those of its entries one after another.
+//! A buffer for a directory's path, and for the path of one of its entries at a time.
 ghost use Rattle.std.specs.Prelude.{◌≡◌, OnOk};
 ghost use Rattle.lc_glob.specs.Path.{path_in};
 ghost use Rattle.lc_level.specs.PathBuffers.{IsNamed};
@@ -36,7 +36,7 @@ impl PathBuffer {
         }
     }
 
-    /// Goes to a directory.
+    /// Sets the directory, and the path to the directory's own.
     pub(crate) fn enter(&mut self, directory: &[u8]) -> Result<(), AllocError>
         ensures { OnOk result (self.new.directory ≡ directory.now) }
     {
@@ -57,7 +57,7 @@ impl PathBuffer {
         Ok(())
     }
 
-    /// Like `set_name`, but refuses a path that is too long for a walk.
+    /// Like `set_name`, but returns an error if the path is too long for a walk.
     pub(crate) fn set_short(&mut self, name: &[u8]) -> Result<(), OpenFault>
         ensures same { self.new.directory ≡ self.old.directory }
         ensures named { IsNamed (path_in self.old.directory name.now) self.new.path result }
@@ -72,7 +72,7 @@ impl PathBuffer {
         Ok(())
     }
 
-    /// The path that was set last.
+    /// Returns the path that was set last.
     pub(crate) fn as_slice(&self) -> &[u8]
         ensures { result.now ≡ self.now.path }
     {

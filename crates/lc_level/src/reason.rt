@@ -11,20 +11,20 @@ use std::alloc::{AllocError, Global};
 /// Why an entry is skipped: the first of these reasons that holds.
 #[derive(Debug, Drop)]
 pub enum Reason {
-    /// It is named `.git`.
+    /// The entry is named `.git`.
     Git,
-    /// The last rule that matches it ignores it. The rule is in the file of this source, on the line with this number, from 1.
+    /// The last rule that matches the entry ignores it. The rule is in the file of this source, on the line with this number, from 1.
     Rule { source: RuleSource, line: u32 },
-    /// An attribute has the state that this word of the filters requires, such as `ATTR` or `ATTR=VALUE`.
+    /// An attribute has for the entry the state that this word of the filters requires. The word is `ATTR` or `ATTR=VALUE`.
     Attribute(Vec<u8>),
-    /// It is a file, and no pattern of the filters includes it.
+    /// The entry is a file, and no pattern of the filters includes it.
     NotIncluded,
-    /// It is neither a file that is read nor a directory that is entered.
+    /// The entry is neither a file that is read nor a directory that is entered.
     OtherKind(OtherKind),
 }
 
 impl Reason {
-    /// Makes a copy, in memory of its own.
+    /// Makes a copy of the reason, which has its own memory.
     pub fn copy(&self, alloc: Global) -> Result<Reason, AllocError>
         ensures { IfOk result (λ r. reason_model r ≡ reason_model self.now) }
     {
@@ -75,7 +75,7 @@ impl Reason {
     }
 }
 
-/// A reason whose attribute is lent.
+/// Like [`Reason`], but borrows the word of an attribute.
 #[derive(Clone, Copy, Debug)]
 pub(crate) enum ReasonRef<'a> {
     Git,
@@ -86,7 +86,7 @@ pub(crate) enum ReasonRef<'a> {
 }
 
 impl ReasonRef<'_> {
-    /// Returns the reason with the attribute's word in memory of its own.
+    /// Returns the reason as a [`Reason`], with its own copy of an attribute's word.
     pub(crate) fn to_reason(self, alloc: Global) -> Result<Reason, AllocError>
         ensures { IfOk result (λ r. reason_model r ≡ reason_ref_model self.entry) }
     {

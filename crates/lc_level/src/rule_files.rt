@@ -20,7 +20,7 @@ use lc_tree::{Listing, Tree};
 use std::alloc::{AllocError, Global};
 use std::sync::Arc;
 
-/// An ignore file, if it exists, and its bytes if texts are kept.
+/// An ignore file, if it exists, and its bytes if the reader's options say to keep texts.
 #[derive(Drop)]
 pub(crate) struct IgnoreRead {
     pub(crate) file: Option<Arc<IgnoreFile, Global>>,
@@ -28,7 +28,7 @@ pub(crate) struct IgnoreRead {
 }
 
 impl IgnoreRead {
-    /// No ignore file was read.
+    /// Returns the value that means that no ignore file was read.
     fn none() -> IgnoreRead
         ensures { result ≡ record { file = None; text = None } }
     {
@@ -40,7 +40,7 @@ impl IgnoreRead {
 }
 
 impl<T: Tree> LevelReader<'_, T> {
-    /// Returns the bytes that were read, if texts are kept.
+    /// Returns a copy of a file's bytes, if the reader's options say to keep texts.
     fn text_of(&self, bytes: &[u8]) -> Result<Option<Vec<u8>>, AllocError>
         ensures { IfOk result (λ text. text_items text ≡ text_if self.now.options.texts (Some bytes.now)) }
     {
@@ -50,7 +50,7 @@ impl<T: Tree> LevelReader<'_, T> {
         Ok(Some(bytes.to_vec(self.alloc)?))
     }
 
-    /// Reads the file of this name in the directory of the scratch paths into the scratch rules, and returns whether it is there.
+    /// Reads the file with this name in the directory of `scratch.path` into `scratch.rules`. Returns whether the listing has the file.
     fn read_named(
         &self,
         listing: &Listing,
@@ -75,7 +75,7 @@ impl<T: Tree> LevelReader<'_, T> {
         Ok(true)
     }
 
-    /// Reads the ignore file of this name in the directory of the scratch paths, if it is there.
+    /// Reads the ignore file with this name in the directory of `scratch.path`, if the listing has the file.
     pub(crate) fn ignore_file(
         &self,
         listing: &Listing,
@@ -106,7 +106,7 @@ impl<T: Tree> LevelReader<'_, T> {
         }
     }
 
-    /// Reads the ignore file of this name, as `ignore_file` does, unless no ignore file is read.
+    /// Like `ignore_file`, but reads nothing if `no_ignore` is set.
     pub(crate) fn ignore_file_if(
         &self,
         no_ignore: bool,
@@ -124,8 +124,8 @@ impl<T: Tree> LevelReader<'_, T> {
         self.ignore_file(listing, name, scratch)
     }
 
-    /// Reads the attribute file of this name in the directory of the scratch paths, if it is there. It may define macros only if
-    /// `top` is set.
+    /// Reads the attribute file with this name in the directory of `scratch.path`, if the listing has the file. The file may define macros
+    /// only if `top` is set.
     pub(crate) fn attribute_file(
         &self,
         listing: &Listing,

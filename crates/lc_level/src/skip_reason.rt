@@ -14,7 +14,7 @@ use lc_rules::Verdict;
 use lc_tree::Kind;
 use std::alloc::AllocError;
 
-/// Returns the last rule that matches a path, if it ignores the path.
+/// Returns the last ignore rule that matches a path as a reason, if this rule ignores the path.
 fn ignored_by(job: &Job, path: &[u8], is_dir: bool) -> Option<ReasonRef<'static>>
     ensures { option_map reason_ref_model result ≡ rule_reason (last_match (rules_in job.now.ignore) path.now is_dir) }
 {

@@ -1,4 +1,4 @@
-//! Paths that are under others.
+//! Testing whether a path is below another, and finding the rest of the path from there.
 ghost use Rattle.std.specs.Prelude.{◌≡◌, ◌∷◌, ◌++◌, [], None, option_map};
 ghost use Rattle.std.specs.Ordering.{is_lt};
 ghost use Rattle.lc_glob.specs.Bytes.{slash};
@@ -7,7 +7,7 @@ ghost use Rattle.lc_tree.specs.ByteOrder.{bytes_cmp};
 
 use crate::paths::relative_to;
 
-/// Returns the rest of a text that begins with these bytes.
+/// Returns what follows `front` in a text, if the text begins with `front`.
 fn after<'p>(front: &[u8], text: &'p [u8]) -> Option<&'p [u8]>
     ensures { option_map (λ rest. rest.now) result ≡ after front.now text.entry.now }
 {
@@ -35,8 +35,8 @@ pub(crate) fn rest_from<'p>(directory: &[u8], path: &'p [u8]) -> Option<&'p [u8]
     relative_to(directory, path)
 }
 
-/// Returns whether a path comes before all paths below another, in the order of their bytes: `a`, `a-b` and `a.b` come before those below
-/// `a`, and `a/b` and `ab` do not.
+/// Returns whether a path sorts before every path below `other`, by their bytes. If `other` is `a`, then `a`, `a-b` and `a.b` do, and `a/b`
+/// and `ab` do not.
 pub(crate) fn is_before_below(path: &[u8], other: &[u8]) -> bool
     ensures { result ≡ is_lt (bytes_cmp path.now (other.now ++ slash ∷ [])) }
 {

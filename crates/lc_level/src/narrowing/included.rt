@@ -1,4 +1,4 @@
-//! Which files the patterns for files match.
+//! Which files the patterns of `--include` match.
 ghost use Rattle.std.specs.Prelude.{◌≡◌, Some, option_map};
 ghost use Rattle.lc_level.specs.Filters.{has_matched_parent, is_included, is_within, matches, patterns_for};
 
@@ -33,8 +33,8 @@ fn is_within(patterns: &IgnoreFile, directory: &[u8]) -> bool
     matches(patterns, directory, true) || has_matched_parent(patterns, directory)
 }
 
-/// Returns the patterns for the files of a directory: a file must match one of them. There are none if a pattern matches the directory or a
-/// directory above it.
+/// Returns the patterns for the files of a directory: each file must match one of them to stay. Returns `None` if a pattern matches the
+/// directory, or one above it and below the top: all its files stay.
 pub(crate) fn patterns_for<'p>(patterns: &'p IgnoreFile, directory: &[u8]) -> Option<&'p IgnoreFile>
     ensures { option_map (λ p. p.now) result ≡ patterns_for (Some patterns.entry.now) directory.now }
 {
@@ -44,7 +44,7 @@ pub(crate) fn patterns_for<'p>(patterns: &'p IgnoreFile, directory: &[u8]) -> Op
     Some(patterns)
 }
 
-/// Returns whether a file matches one of the patterns that it must match.
+/// Returns whether a file matches one of the patterns. If there are no patterns, returns true.
 pub(crate) fn is_included(patterns: Option<&IgnoreFile>, path: &[u8]) -> bool
     ensures { result ≡ is_included (option_map (λ p. p.now) patterns.entry) path.now }
 {

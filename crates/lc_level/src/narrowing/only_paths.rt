@@ -12,7 +12,7 @@ use crate::narrowing::sorted_paths::is_within;
 use std::alloc::{AllocError, Global};
 use std::marker::Model;
 
-/// The paths of `--only`. They are sorted once, so that each directory finds those that concern it by a binary search.
+/// The paths of `--only`, sorted once. For each directory, a binary search finds the paths that concern it.
 ///
 /// ```
 /// let only = OnlyPaths::new(alloc, &[b"src", b"docs/a.md"])?;
@@ -56,7 +56,7 @@ fn comes_before(path: &[u8], directory: &[u8]) -> bool
     is_before_below(path, directory)
 }
 
-/// Returns the place of the first of sorted paths that does not come before those below a directory.
+/// Returns the index of the first of these sorted paths that does not sort before the paths below a directory.
 fn first_past(paths: &[&[u8]], directory: &[u8]) -> usize
     requires { AreInOrder (map (λ path. path.now) paths.now) }
     ensures within { result ≤ length paths.now }
@@ -66,7 +66,8 @@ fn first_past(paths: &[&[u8]], directory: &[u8]) -> usize
     paths.partition_point(|path| comes_before(path, directory))
 }
 
-/// Returns the paths under a directory, relative to it. The paths are sorted, and none comes before those under the directory.
+/// Returns those of `paths` that are under a directory, relative to the directory. `paths` is sorted, and none of its paths sorts before
+/// those under the directory.
 fn seen_from<'o>(
     alloc: Global,
     directory: &[u8],

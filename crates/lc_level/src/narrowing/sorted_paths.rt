@@ -25,7 +25,7 @@ pub(crate) fn has_below(paths: &[&[u8]], other: &[u8]) -> bool
     at < paths.len() && stands_below(paths[at], other)
 }
 
-/// Returns whether a byte of a directory's path is a slash, and what is before it is among sorted paths.
+/// Returns whether the byte at this index of a directory's path is a slash, and the path before the slash is one of these sorted paths.
 fn is_cut_among(paths: &[&[u8]], directory: &[u8], at: usize) -> bool
     requires order { AreInOrder (map (λ path. path.now) paths.now) }
     requires within { at < length directory.now }
@@ -34,7 +34,8 @@ fn is_cut_among(paths: &[&[u8]], directory: &[u8], at: usize) -> bool
     directory[at] == b'/' && is_among(paths, &directory[..at])
 }
 
-/// Returns whether a directory is one of sorted paths, or is below one. It makes a search for each segment of the directory.
+/// Returns whether a directory is one of these sorted paths, or is below one. Makes a binary search for each segment of the directory's
+/// path.
 pub(crate) fn is_within(paths: &[&[u8]], directory: &[u8]) -> bool
     requires { AreInOrder (map (λ path. path.now) paths.now) }
     ensures { result ≡ list_any (λ path. bytes_eq path directory.now || stands_below directory.now path)

@@ -1,4 +1,4 @@
-//! Adding a directory's rule files to both chains.
+//! Adding a directory's rule files to its chains of ignore files and of attribute files.
 ghost use Rattle.std.specs.Prelude.{◌≡◌, ◌<◌, ◌^◌, IfOk};
 ghost use Rattle.std.specs.Arc.{arc_value};
 ghost use Rattle.lc_level.specs.RuleFiles.{with_file_at, first_of};
@@ -8,8 +8,8 @@ use lc_rules::{AttrChain, AttrFile, Chain, IgnoreFile};
 use std::alloc::{AllocError, Global};
 use std::sync::Arc;
 
-/// Returns a chain of ignore files to which the file of `.git/info` and the directory's own file are added. If there is neither file, the
-/// chain is shared.
+/// Returns `chain` with two ignore files added: the one in `.git/info`, and the directory's own. If there is neither, the result shares
+/// `chain`.
 pub(crate) fn ignore_below(
     alloc: Global,
     chain: &Arc<Chain, Global>,
@@ -30,8 +30,8 @@ pub(crate) fn ignore_below(
     Ok(Arc::new(alloc, below.with_info(info))?)
 }
 
-/// Returns a chain of attribute files to which the file of `.git/info`, which overrides all others, and the directory's own file are added.
-/// If there is neither file, the chain is shared.
+/// Returns `chain` with two attribute files added: the one in `.git/info`, which overrides all others, and the directory's own. If there is
+/// neither, the result shares `chain`.
 pub(crate) fn attributes_below(
     alloc: Global,
     chain: &Arc<AttrChain, Global>,

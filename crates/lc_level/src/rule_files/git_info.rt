@@ -12,8 +12,8 @@ use crate::scratch::Scratch;
 use lc_tree::{Listing, Tree};
 
 impl<T: Tree> LevelReader<'_, T> {
-    /// Reads `exclude` and `attributes` in `.git/info` of the top, which has this listing. What is of another kind counts as absent. The
-    /// scratch paths are then those of another directory. `exclude` is not read if no ignore file is read.
+    /// Reads the files `exclude` and `attributes` in `.git/info` of the top, whose listing is `listing`. An entry of another kind counts as
+    /// absent. `exclude` is not read if `no_ignore` is set. The directory of `scratch.path` may be another one afterwards.
     pub(crate) fn read_git_info(
         &self,
         no_ignore: bool,

@@ -1,4 +1,4 @@
-//! The two rule files of one directory: its rules and its attributes.
+//! The two rule files of one directory: an ignore file and an attribute file.
 ghost use Rattle.std.specs.Prelude.{◌≡◌};
 ghost use Rattle.lc_level.specs.RulePairs.{ReadsBoth, pair_asked};
 
@@ -18,7 +18,7 @@ pub(crate) struct RulePair {
     pub(crate) attributes: Option<Arc<AttrFile, Global>>,
 }
 
-/// Both rule files of a directory, each if it exists, and the bytes of the ignore file if texts are kept.
+/// Both rule files of a directory, each if it exists, and the bytes of the ignore file if the reader's options say to keep texts.
 #[derive(Drop)]
 pub(crate) struct PairRead {
     pub(crate) files: RulePair,
@@ -26,7 +26,7 @@ pub(crate) struct PairRead {
 }
 
 impl PairRead {
-    /// Returns the pair of which no file exists.
+    /// Returns the value for a directory that has neither file.
     pub(crate) fn none() -> PairRead
         ensures { result ≡ record { files = record { rules = None; attributes = None }; text = None } }
     {
@@ -40,14 +40,15 @@ impl PairRead {
     }
 }
 
-/// The name of a rule file, and the site to report where it could not be read.
+/// The name of a rule file, and the site that is reported if the file can't be read.
 #[derive(Clone, Copy)]
 pub(crate) struct RuleName<'a> {
     pub(crate) name: &'a [u8],
     pub(crate) site: FaultSite,
 }
 
-/// Which two files of a directory are read, whether its attributes may define macros, and whether the rules are not read after all.
+/// The two files to read in a directory: the ignore file `rules` and the attribute file. The attribute file may define macros only if `top`
+/// is set. The ignore file is not read if `no_ignore` is set.
 #[derive(Clone, Copy)]
 pub(crate) struct PairNames<'a> {
     pub(crate) rules: RuleName<'a>,
@@ -57,7 +58,7 @@ pub(crate) struct PairNames<'a> {
 }
 
 impl<T: Tree> LevelReader<'_, T> {
-    /// Reads the two files of these names in the directory of the scratch paths, the rules first, unless no ignore file is read.
+    /// Reads the two files with these names in the directory of `scratch.path`, first the ignore file, unless `names.no_ignore` is set.
     pub(crate) fn read_pair(
         &self,
         listing: &Listing,

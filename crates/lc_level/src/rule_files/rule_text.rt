@@ -36,7 +36,7 @@ impl From<AllocError> for RulesFileFault {
     }
 }
 
-/// A file that was not opened has no rules: an allocation failed, or it cannot be read.
+/// The error of opening a file becomes `Memory` if an allocation failed, and `Read` otherwise.
 impl From<io::Error> for RulesFileFault {
     ghost from_gives = { λ _ fault. fault ≢ TooLong };
 

@@ -17,8 +17,8 @@ use lc_tree::{Helpers, IdleThreads, Tree};
 use std::alloc::AllocError;
 use std::thread::Threads;
 
-/// A file is large if it has more bytes: the files after it may be large too, and counting one takes some milliseconds, many times as
-/// long as starting a thread.
+/// The number of bytes over which a file is large. The files after a large one may be large too, and counting one takes some milliseconds,
+/// many times as long as starting a thread.
 const LARGE_FILE: u64 = 16 << 20;
 
 /// Takes as many idle threads as can help with this many files that may be large.
@@ -39,7 +39,8 @@ impl CountedFiles {
 }
 
 impl<T: Tree> LevelReader<'_, T> {
-    /// Counts the file of a name, or adds the name to the rest where the rest has names already or a large file was counted last.
+    /// Counts the file with this name, or adds the name to `rest`. The name is added if `rest` has names already, or if a large file was
+    /// counted last.
     fn count_unless_after_large(
         &self,
         job: &Job,
@@ -84,7 +85,7 @@ impl<T: Tree> LevelReader<'_, T> {
         Ok((found, rest))
     }
 
-    /// Counts the files of these names with the help of this many threads.
+    /// Counts the files with these names, in parts side by side if there are helpers.
     fn count_by_helpers<R: Threads + Sync>(
         &self,
         rt: &R,
@@ -103,8 +104,7 @@ impl<T: Tree> LevelReader<'_, T> {
         self.count_side_by_side(rt, helpers, job, names, absent)
     }
 
-    /// Counts the files of these names as `count` does, one after another up to a large one. Those after it are counted in parts where
-    /// threads are idle.
+    /// Like `count`, but if threads are idle, the files after a large one are counted in parts side by side.
     pub(crate) fn count_undivided<R: Threads + Sync>(
         &self,
         threads: &SpareThreads<'_, R>,

@@ -15,11 +15,12 @@ use std::alloc::{AllocError, Global};
 use std::thread;
 use std::thread::Threads;
 
-/// A part has at least this many files: counting them takes about a millisecond where they are small, several times as long as starting
-/// a thread and waiting for its end. So a directory with fewer than twice as many is counted as a whole.
+/// The least number of files in a part. Counting this many small files takes about a millisecond, several times as long as starting a
+/// thread and waiting for its end. So a directory with fewer than twice this many files is counted as a whole.
 const PART_FILES: usize = 256;
 
-/// The most threads that help with one directory: a walk has no more workers besides the one that counts it.
+/// The greatest number of threads that help with one directory: a walk has at most this many workers besides the one that counts the
+/// directory.
 pub(crate) const MOST_HELPERS: usize = 15;
 
 // Takes as many idle threads as can help with this many files.
