@@ -1,4 +1,4 @@
-//! Tests of one directory's work on trees in memory.
+//! Tests of opening one directory of a tree in memory and counting its files.
 
 mod after_large;
 mod entering;

@@ -1,4 +1,4 @@
-//! The tests of what one directory gives.
+//! The tests of `lc_level`: what opening a directory and counting its files give.
 #![tactic(auto)]
 
 #[cfg(test)]

@@ -6,14 +6,14 @@ use lc_tree::{MemTree, Node};
 use std::alloc::{AllocError, Global};
 use std::test::Fail;
 
-/// More than the 16 MiB from which on the files after one are counted in parts.
+/// The number of bytes of the large file: over 16 MiB, so that the files after this one are counted in parts.
 const LARGE: usize = 17 << 20;
 
 fn empty_lines(alloc: Global) -> Result<Vec<u8>, AllocError> {
     Ok(vec![in alloc; b'\n'; LARGE]?)
 }
 
-/// A small file, a large one, and three after it, of which the second fails in place of its end.
+/// Returns a directory of a small file, a large one, and three more. The second of these three fails in place of its end.
 fn files(alloc: Global) -> Result<Node, AllocError> {
     let mut entries = Vec::new(alloc);
     entries.push((b"a".to_vec(alloc)?, Node::File(b"a\n".to_vec(alloc)?)))?;

@@ -1,4 +1,4 @@
-//! Directories that are entered: their entries, the texts of their rules, and what these decide of a path.
+//! Entering directories: their entries, the texts of their ignore files, and what their rules decide for a path.
 
 use crate::level::work::{NOTHING, job_of};
 use lc_level::{Entered, Filters, Job, LevelReader, OpenFault, ReaderOptions, Scratch, path_in};
@@ -17,7 +17,8 @@ const REPOSITORY: &str = "
     .gitattributes=docs_export-ignore;
     .git/{ info/{ exclude=*.tmp; attributes=*.c_text; } }";
 
-/// The name of a directory below the top, or of the top, whether the texts of its rules are kept, and what is found.
+/// The name of a directory in the top, or an empty name for the top, whether the texts of ignore files are kept, and the expected result or
+/// error.
 type Case = (&'static str, bool, &'static str);
 
 const ENTERED: &[Case] = &[
@@ -32,7 +33,7 @@ const ENTERED: &[Case] = &[
     ("c", true, "Faulted(Directory, Read)"),
 ];
 
-/// Adds the text of a rule file behind this word, if it is kept, with `|` for each line end.
+/// Appends the word and the text of an ignore file, with `|` for each line end, if the text was kept.
 fn push_rules(text: &mut String, word: &str, rules: &Option<Vec<u8>>) -> Result<(), AllocError> {
     let Some(rules) = rules else {
         return Ok(());
@@ -50,7 +51,7 @@ fn push_rules(text: &mut String, word: &str, rules: &Option<Vec<u8>>) -> Result<
     text.push_str("\n")
 }
 
-/// The entries of a directory, the rules of `.git/info` and its own.
+/// Returns as text the entries of a directory, the rules of `.git/info/exclude`, and those of the directory's own `.gitignore`.
 fn text_of(alloc: Global, found: &Entered) -> Result<String, AllocError> {
     let mut text = String::new(alloc);
     for entry in &found.entries {
@@ -62,7 +63,7 @@ fn text_of(alloc: Global, found: &Entered) -> Result<String, AllocError> {
     Ok(text)
 }
 
-/// What is found in the directory of the job, or what stops it.
+/// Enters the directory of the job, and returns what was found, or the error, as text.
 fn enter(
     alloc: Global,
     reader: &LevelReader<MemTree>,
@@ -109,7 +110,7 @@ fn entries_and_texts(rt: HostRuntime) -> Result<(), Fail> {
     Ok(())
 }
 
-/// A path, and the rule that decides it, with its place.
+/// A path, and the last rule that matches the path, if there is one: the rule's source, line and verdict.
 type Deciding = (&'static [u8], Option<(RuleSource, u32, Verdict)>);
 
 const TOP: RuleSource = RuleSource::Gitignore(0);
@@ -130,7 +131,7 @@ fn check_last_match(rt: &impl Abort, inside: &Job) {
     }
 }
 
-/// An entry, and why it is skipped, if it is.
+/// The name and the kind of an entry, and why the entry is skipped. The reason is empty if the entry stays.
 type Judged = (&'static [u8], Kind, &'static str);
 
 const JUDGED: &[Judged] = &[
@@ -158,7 +159,7 @@ fn check_reason(
     Ok(())
 }
 
-/// Reasons in the top, and in a directory below it.
+/// Checks which rules match paths, and why entries are skipped, in the top and in a directory below.
 fn check_inside(
     rt: &impl Abort,
     alloc: Global,

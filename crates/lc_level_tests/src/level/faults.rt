@@ -1,4 +1,4 @@
-//! Errors of directories: at which place, and with which word.
+//! Errors of directories: which file or directory could not be read, and the word that names the reason.
 
 use crate::level::work::{Case, check, check_anywhere};
 use std::test::Fail;
@@ -33,7 +33,7 @@ const OF_A_DIRECTORY: &[Case] = &[
     ),
 ];
 
-/// At fault by its `.git`, and its rules are not read.
+/// Trees in which something in `.git` can't be read. Their `.gitignore` can't be read either, but opening the top stops before.
 const OF_THE_REPOSITORY: &[Case] = &[
     (
         ".git can't be listed",

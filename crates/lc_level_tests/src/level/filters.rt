@@ -1,9 +1,9 @@
-//! What stays of a directory by the command line's patterns, unread ignore files, values of attributes and included files.
+//! Which entries of a directory stay with the options `--exclude`, `--exclude-from`, `--no-ignore`, `--without` and `--include`.
 
 use crate::level::work::{Case, Part, check, check_parts};
 use std::test::Fail;
 
-/// A directory whose ignore file includes again what the command line ignores, and ignores what it includes.
+/// A directory with files for which its ignore file and the options of the tests decide differently.
 const RULED: &str = ".gitignore=!a.o;*.c; a.c a.o b.c b.o";
 
 const EXCLUDED: &[Case] = &[
@@ -41,7 +41,7 @@ fn the_command_line_overrides_every_file(rt: HostRuntime) -> Result<(), Fail> {
     Ok(())
 }
 
-/// A repository with each file of rules.
+/// A repository with each kind of rule file.
 const REPOSITORY: &str = "
     .git/{ info/{ exclude=b; attributes=t_text; } }
     .gitattributes=c_hidden;
@@ -85,7 +85,7 @@ fn no_ignore_file_is_read(rt: HostRuntime) -> Result<(), Fail> {
     Ok(())
 }
 
-/// Files with an attribute in each state, and with values that begin alike.
+/// Files that have an attribute in each state, or with values that begin alike.
 const VALUED: &str = "
     .gitattributes=*.a_made=yes;*.b_made;*.c_made=yesterday;*.d_made=;*.e_-made;*.f_made=a=b;
     x.a x.b x.c x.d x.e x.f";
@@ -124,7 +124,7 @@ fn attributes_skip_by_their_value(rt: HostRuntime) -> Result<(), Fail> {
     Ok(())
 }
 
-/// A top with files, a directory and a link, and a directory in it.
+/// A top with files, a link and a directory. The directory has files and a directory.
 const INCLUDED: &str = ".gitignore=x.rs; a.rs b.txt docs/{ a.rs b.txt deep/ } l@ x.rs";
 
 const AT_THE_TOP: &[Part] = &[

@@ -12,7 +12,7 @@ use std::thread::Threads;
 
 const FILES: u32 = 2000;
 
-/// So many files of their names' bytes. Every seventh fails in place of its end.
+/// Returns a directory of `FILES` files, each with its name as its bytes. Every seventh file fails in place of its end.
 fn flat(alloc: Global) -> Result<Node, AllocError> {
     let mut entries = Vec::new(alloc);
     for number in 0..FILES {
@@ -41,7 +41,8 @@ fn is_same(found: &CountedFiles, wanted: &CountedFiles) -> bool {
         && found.faults.len() == wanted.faults.len()
 }
 
-/// The files of the directory, and an absent path, counted with the help of these threads or by `count`.
+/// Counts the files of a tree's top: by `count_divided` with these idle threads, or by `count` if `idle` is `None`. The counted files come
+/// with the error of an absent path.
 pub(super) fn count_flat<'t, R: Threads + Sync>(
     rt: &R,
     alloc: Global,
@@ -73,8 +74,8 @@ pub(super) fn count_flat<'t, R: Threads + Sync>(
     }
 }
 
-/// Checks that with this many idle threads the files are the same as without, and that the threads are free again, even if an allocation
-/// fails.
+/// Checks that a count with this many idle threads finds the same files as a count without them. Afterwards all these threads must be idle
+/// again, even if an allocation failed.
 pub(super) fn check<R: Threads + Sync + Abort>(
     rt: &R,
     alloc: Global,

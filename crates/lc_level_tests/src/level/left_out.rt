@@ -1,4 +1,4 @@
-//! The skipped entries: which, of which kind and why.
+//! Skipped entries: which entries of a directory are skipped, of which kind they are, and why.
 
 use crate::level::work::{Case, Part, check, check_parts};
 use lc_level::Reason;
@@ -70,7 +70,7 @@ const CASES: &[Case] = &[
     ),
 ];
 
-/// A directory with rules of its own and of the one above.
+/// A top with rules, and in it a directory `s` with rules of its own.
 const BELOW: &str = ".gitignore=a; s/{ .git .gitignore=#_its_own;b; a/ b }";
 
 const IN_ITS_FILE: &[Part] = &[(
@@ -87,7 +87,7 @@ const ATTRIBUTED: &str = "
     s/
     x.tmp";
 
-/// Without what has the attribute `export-ignore`.
+/// The expected result if entries with the attribute `export-ignore` are skipped.
 const EXPORTED: &str = "
     .gitattributes
     b.y
@@ -126,7 +126,7 @@ const INFO_RULE: Reason = Reason::Rule {
     line: 7,
 };
 
-/// The words of a reason's copy.
+/// Copies a reason, and returns the words of the copy.
 fn copied(alloc: Global, reason: &Reason) -> Result<String, AllocError> {
     let mut text = String::new(alloc);
     push_reason(&mut text, &reason.copy(alloc)?)?;

@@ -1,4 +1,4 @@
-//! Directories that are listed: which entries are kept, and what becomes of the files.
+//! Directories that can be listed: which entries stay, and what counting their files gives.
 
 use crate::level::work::{Case, check, check_anywhere};
 use std::test::Fail;

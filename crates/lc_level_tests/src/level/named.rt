@@ -9,7 +9,7 @@ use std::test::Fail;
 
 const WORDS: &[&str] = &["generated=true", "vendored"];
 
-/// Opens the top of a tree, and notes what its attribute files name.
+/// Opens the top of a tree, and notes in `named` which attributes the tree's attribute files name.
 fn open_top<'t>(
     alloc: Global,
     node: &Node,
@@ -30,7 +30,7 @@ fn open_top<'t>(
     }
 }
 
-/// The attributes that no attribute file names, each with a space behind it.
+/// Returns the attributes that no attribute file names, each with a space after it.
 fn unnamed(alloc: Global, named: &NamedAttributes) -> Result<String, AllocError> {
     let mut text = String::new(alloc);
     for attribute in &named.unnamed(alloc)? {

@@ -14,7 +14,7 @@ const TREE: &str = "
     src/{ .gitignore=gen; deep/{ a.c } deeper/ gen/ main.c }
     srcs/";
 
-/// All that the top has.
+/// The expected result for the top if all its entries are selected.
 const TOP: &str = "
     .gitignore
     b.c
@@ -90,7 +90,7 @@ const PARTS_OF_SOURCES: &[Part] = &[
     ),
 ];
 
-/// Names whose bytes come before and after the slash.
+/// A tree with the name `a`, and names in which `a` is followed by a byte that is less or greater than the slash.
 const AROUND_SLASH: &str = "a/{ x y } a-b/{ x } a.b a0/{ x }";
 
 const PARTS_AROUND_SLASH: &[Part] = &[

@@ -28,7 +28,7 @@ const BELOW_THE_TOP: &str = "
     left git .git/
     left rule */.gitignore:1 k.c";
 
-/// No rule is read.
+/// The expected result for a directory with one file, `a`, and no rules.
 const A_ALONE: &str = "a, left git .git/";
 
 const CASES: &[Case] = &[

@@ -1,4 +1,4 @@
-//! Files of rules that give little at once, fail, are too long or never end.
+//! Rule files that are read a byte at a time, fail, are too long or never end.
 
 use lc_census::Source;
 use lc_level::{RulesFileFault, read_rule_text};
@@ -7,7 +7,7 @@ use std::alloc::AllocError;
 use std::process::Abort;
 use std::test::Fail;
 
-/// A file has so many rules, or gives none for this cause.
+/// Checks that reading a file as rules gives what is wanted: the number of its rules, or an error.
 fn compare_rules<R: AllocGlobal + Abort, S: Source>(
     rt: &R,
     file: &mut S,

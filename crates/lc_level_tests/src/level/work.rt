@@ -12,10 +12,10 @@ use std::process::Abort;
 /// A name, the sketch of a tree, arguments as on a command line, and the expected result or error.
 pub(crate) type Case<'a> = (&'a str, &'a str, &'a str, &'a str);
 
-/// The expected result of a directory with these arguments.
+/// A name, arguments as on a command line, and the expected result or error for one directory of a tree.
 pub(crate) type Part<'a> = (&'a str, &'a str, &'a str);
 
-/// Nothing besides what a count needs.
+/// The options with which a reader keeps nothing besides what a count needs.
 pub(crate) const NOTHING: ReaderOptions<'static> = ReaderOptions {
     left_out: false,
     texts: false,
@@ -36,7 +36,7 @@ fn job_named(children: Vec<ChildDirectory>, name: &[u8]) -> Option<Job> {
     None
 }
 
-/// The job of the top, or of the directory of this name below it, if it is there.
+/// Returns the job of the top if `below` is empty, and otherwise of the top's child directory with this name, if there is one.
 pub(crate) fn job_of(
     alloc: Global,
     reader: &LevelReader<MemTree>,
@@ -55,7 +55,7 @@ pub(crate) fn job_of(
     }
 }
 
-/// What the work on a directory found.
+/// What opening a directory and counting its files found.
 #[derive(Drop)]
 struct Found {
     counted: CountedFiles,
@@ -147,7 +147,8 @@ fn is_whole(found: &Found) -> bool {
     found.entries as usize == counted.wrapping_add(walked)
 }
 
-/// Returns the result of a directory of a tree, or its error, and how many entries the paths of `--only` select.
+/// Opens a directory of a tree and counts its files. Returns the result or the error as text, and how many entries the paths of `--only`
+/// select.
 fn found_in(
     rt: &impl Abort,
     alloc: Global,
@@ -175,7 +176,7 @@ fn found_in(
     }
 }
 
-/// Checks that the result is the same whether skipped entries are kept or not, but for these.
+/// Checks the result for one directory, with skipped entries kept and without. Only the skipped entries may differ.
 fn check_node(
     rt: &impl Abort,
     alloc: Global,
@@ -197,7 +198,7 @@ fn check_node(
     Ok(())
 }
 
-/// Works on a directory of one tree: on the top, or on what has this name below it.
+/// Checks the results for one directory of a tree: the top if `below` is empty, and otherwise the child directory with this name.
 pub(crate) fn check_parts(
     rt: &impl Abort,
     alloc: Global,
@@ -212,7 +213,7 @@ pub(crate) fn check_parts(
     Ok(())
 }
 
-/// Works on the top of each tree.
+/// Checks each case on the top of its tree.
 pub(crate) fn check(rt: &impl Abort, alloc: Global, cases: &[Case]) -> Result<(), AllocError> {
     for (name, sketch, words, wanted) in cases {
         check_parts(rt, alloc, sketch, "", &[(*name, *words, *wanted)])?;
@@ -220,7 +221,7 @@ pub(crate) fn check(rt: &impl Abort, alloc: Global, cases: &[Case]) -> Result<()
     Ok(())
 }
 
-/// Works on the top of each tree, and on such a tree as the directory `s` of another.
+/// Checks each case on the top of its tree, and on the directory `s` of a tree in which `s` has the same contents.
 pub(crate) fn check_anywhere(
     rt: &impl Abort,
     alloc: Global,
