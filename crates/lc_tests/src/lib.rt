@@ -1,9 +1,9 @@
 //! Shared parts of the test crates: readers, writers and trees whose behaviour is known, and requests and findings as text.
 //!
 //! - `readers`, `writers`, `trees`: readers, a writer and trees whose contracts determine what they do
-//! - `sketch`: an in-memory tree from a sketch; `sketch_table`: an in-memory tree from a table
-//! - `request`: a request, as on a command line
-//! - `lines`: findings, in the words that `lc count` prints
+//! - `sketch`: in-memory trees from a line of text; `sketch_table`: in-memory trees from a constant table
+//! - `request`: what a user requests, read from options as on a command line
+//! - `lines`: what a walk finds, in the words that `lc count` prints
 #![tactic(auto)]
 
 mod lines;

@@ -1,4 +1,4 @@
-//! Findings, in the words that `lc count` prints.
+//! What a walk finds, in the words that `lc count` prints.
 
 use lc_census::Eol;
 use lc_level::Reason;

@@ -1,19 +1,19 @@
-//! A request, as on a command line.
+//! What a user requests, read from options as on a command line.
 
 use crate::sketch::content;
 use lc_level::{Filters, OnlyPaths, RuleText, RulesFileFault, read_rule_text};
 use std::alloc::{AllocError, Global};
 
-/// A request for a walk, or for the work on one directory.
+/// A request for a walk, or for opening one directory, read from options as on a command line.
 #[derive(Drop)]
 pub struct Asked<'a> {
     pub files: bool,
     pub left_out: bool,
     pub max_dirs: u32,
-    /// Whether each word has a meaning.
+    /// Whether each word of the request is a known option or a path of `--only`.
     pub is_known: bool,
     exclude_from: Option<Vec<u8>>,
-    /// The patterns of `--exclude` and of `--include`, each followed by a line feed.
+    /// The patterns of `--exclude`, each followed by a line feed. `include` has those of `--include` in this form.
     exclude: Vec<u8>,
     include: Vec<u8>,
     no_ignore: bool,
@@ -22,8 +22,8 @@ pub struct Asked<'a> {
 }
 
 impl<'a> Asked<'a> {
-    /// Reads the request of some words: options of `lc count`, with `=` before their values, and the paths of `--only`. The value of an
-    /// exclude file is its bytes, as in a sketch. The limit is 100 directories.
+    /// Reads a request from words: options of `lc count`, with `=` before their values, and the paths of `--only`. The value of
+    /// `--exclude-from` is the contents of the file, written as in a sketch. The limit is 100 directories without `--max-dirs`.
     pub fn read(alloc: Global, words: &'a str) -> Result<Asked<'a>, AllocError> {
         let mut asked = Asked {
             files: false,

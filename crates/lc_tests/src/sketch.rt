@@ -52,7 +52,7 @@ fn put(open: &mut Vec<Open>, name: Vec<u8>, node: Node) -> Result<(), AllocError
     Ok(())
 }
 
-/// Closes the directory that was opened last.
+/// Closes the directory that was opened last, and adds it to the one in which it is.
 fn close(open: &mut Vec<Open>) -> Result<(), AllocError> {
     match open.pop() {
         Some((name, entries)) => put(open, name, Node::Dir(entries)),
@@ -72,13 +72,13 @@ fn put_word(alloc: Global, open: &mut Vec<Open>, word: &str) -> Result<(), Alloc
     put(open, name.as_bytes().to_vec(alloc)?, node)
 }
 
-/// Makes the tree of a sketch, which consists of the entries of the top. Spaces and line ends separate them:
+/// Makes the tree of a sketch. The sketch lists the entries of the top, separated by spaces and line ends:
 ///
 /// | Word | Entry |
 /// |---|---|
 /// | `a` | a file of the line `x` |
 /// | `a=*.c_text;b` | a file of these bytes: `;` is a line feed, `^` a carriage return, and `_` a space |
-/// | `a!` or `a!x;` | a file that has such bytes and then fails instead of ending |
+/// | `a!` or `a!x;` | a file that has these bytes and then fails instead of ending |
 /// | `a/` | a directory without entries |
 /// | `a/{ b c }` | a directory with these entries |
 /// | `a/!` | a directory that can't be listed |

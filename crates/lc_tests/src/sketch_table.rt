@@ -1,11 +1,11 @@
-//! An in-memory tree, as a table writes it.
+//! Descriptions of in-memory trees that fit in a constant table.
 ghost use Rattle.std.specs.Prelude.{IfOk};
 ghost use Rattle.lc_tests.specs.Sketches.{IsTreeOf};
 
 use lc_tree::{Node, OtherKind};
 use std::alloc::{AllocError, Global};
 
-/// An in-memory tree, as a table writes it, for tests and benchmarks.
+/// A description of an in-memory tree that fits in a constant table, for tests and benchmarks.
 ///
 /// ```
 /// let top = Sketch::Dir(&[(b"a.c", Sketch::File(b"int a;\n")), (b"b", Sketch::Dir(&[]))]);
@@ -21,7 +21,8 @@ pub enum Sketch<'a> {
 }
 
 impl Sketch<'_> {
-    /// Makes the tree. Each path has what the sketch has there. If a name occurs twice, the first entry counts.
+    /// Makes the tree that the sketch describes: each path has what the sketch has there. If a name occurs twice in a directory, the first
+    /// entry counts.
     pub fn node(&self, alloc: Global) -> Result<Node, AllocError>
         ensures { IfOk result (λ node. IsTreeOf self.now node) }
     {

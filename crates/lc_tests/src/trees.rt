@@ -1,4 +1,4 @@
-//! Trees over other trees. Their contracts say how they may differ from the others.
+//! Trees that pass calls on to another tree. Their contracts say how their answers may differ from those of the other tree.
 
 mod bytewise_tree;
 mod failing_call;

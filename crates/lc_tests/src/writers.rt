@@ -15,7 +15,7 @@ pub enum WhenFull {
     Fails,
 }
 
-/// Writers for tests that stop a text at each place: the most bytes that one write accepts, and what the writer does once it is full.
+/// Writers for tests that stop the output at each byte: the most bytes that one write accepts, and what the writer does once it is full.
 pub const WRITERS: &[(usize, WhenFull)] = &[
     (1, WhenFull::TakesNothing),
     (1, WhenFull::Fails),
@@ -23,14 +23,14 @@ pub const WRITERS: &[(usize, WhenFull)] = &[
     (7, WhenFull::Fails),
 ];
 
-/// A writer that accepts at most so many bytes in one write, and only so many in all.
+/// A writer that accepts at most `step` bytes in one write, and at most `room` bytes in all.
 ///
 /// ```
 /// let mut out = Narrow::new(rt.alloc(), 1, 10, WhenFull::Fails)?; // ten writes of a byte, and then failures
 /// ```
 #[derive(Drop)]
 pub struct Narrow {
-    /// The bytes that it accepted.
+    /// The bytes that the writer accepted.
     pub taken: Vec<u8>,
     step: usize,
     room: usize,
@@ -38,7 +38,7 @@ pub struct Narrow {
 }
 
 impl Narrow {
-    /// Makes a writer that has accepted nothing so far. It allocates the memory for all bytes that it may accept.
+    /// Makes a writer that has accepted nothing so far. Allocates the memory for all bytes that the writer may accept.
     pub fn new(
         alloc: Global,
         step: usize,

@@ -7,7 +7,7 @@ use lc_io::{Failed, Source};
 /// A reader that passes reads on to another reader, and counts them.
 #[derive(Drop)]
 pub struct Counted<S> {
-    /// The other reader.
+    /// The reader to which reads are passed on.
     pub source: S,
     /// The number of reads so far, up to the greatest `u64`.
     pub reads: u64,

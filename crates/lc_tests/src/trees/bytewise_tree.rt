@@ -5,7 +5,7 @@ use crate::readers::Bytewise;
 use lc_tree::{Listing, ReadFault, Tree};
 use std::alloc::Global;
 
-/// A tree that passes calls on to another, and reads at most one byte of its files at a time.
+/// A tree that passes calls on to another tree. Each read of a file reads at most one byte.
 ///
 /// ```
 /// let node = sketch.node(rt.alloc())?;

@@ -1,10 +1,10 @@
-//! Calls, one of which fails.
+//! A count of calls, one of which is to fail.
 ghost use Rattle.std.specs.Prelude.{◌≡◌};
 
 use std::marker::Model;
 use std::sync::atomic::{AtomicU64, Ordering};
 
-/// Counts calls over all threads, one of which is to fail. Contracts see the number of the failing call, but not the count.
+/// A count of the calls of all threads, one of which is to fail. Contracts see the number of the failing call, but not the count.
 #[derive(Drop)]
 pub struct FailingCall {
     begun: AtomicU64,

@@ -1,10 +1,10 @@
-//! A file whose reads are among the calls, one of which fails.
+//! A file of a tree in which one call fails. The failing call may be a read of the file.
 ghost use Rattle.lc_tests.specs.FailingTrees.{MayFail};
 
 use super::failing_call::FailingCall;
 use lc_io::{Failed, Source};
 
-/// A file of another tree, one read of which may fail. Later reads go on at the same place.
+/// A file of another tree. One read of the file may fail, and later reads go on at the same place.
 #[derive(Drop)]
 pub struct FailingFile<'a, F> {
     pub(super) file: F,

@@ -5,7 +5,8 @@ use super::failing_file::FailingFile;
 use lc_tree::{Listing, ReadFault, Tree};
 use std::alloc::Global;
 
-/// A tree that passes calls on to another, and fails one of them. It counts listings, openings of files and reads together.
+/// A tree that passes calls on to another tree, except for one call, which fails. Listings, openings of files and reads are counted
+/// together.
 ///
 /// A listing or an opening that fails returns `ReadFault::Failed`.
 ///
@@ -15,7 +16,7 @@ use std::alloc::Global;
 /// ```
 #[derive(Drop)]
 pub struct FailingTree<'a, T> {
-    /// The tree whose calls these are.
+    /// The tree to which calls are passed on.
     pub tree: &'a T,
     /// The count of calls, with the number of the call that fails.
     pub call: &'a FailingCall,
