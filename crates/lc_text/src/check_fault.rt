@@ -1,4 +1,4 @@
-//! The errors of a check or an explanation.
+//! The errors of checking or explaining paths.
 
 ghost use Rattle.std.specs.Prelude.{◌≡◌};
 ghost use Rattle.lc_text.specs.CheckFaults.{input_fault, rules_fault, print_fault};
@@ -9,7 +9,7 @@ use lc_rules::RuleFault;
 use std::alloc::AllocError;
 use thiserror::Error;
 
-/// Why a check or an explanation of paths was not written, or not whole. An explanation never answers `RulesTooLong`; one type serves both.
+/// Why the result of checking or explaining paths was not written, or only in part. An explanation never returns `RulesTooLong`.
 #[derive(Debug, Clone, Copy, PartialEq, Eq, Error)]
 pub enum CheckFault {
     /// A read of the input failed.
@@ -18,15 +18,15 @@ pub enum CheckFault {
     /// The input has over [`MAX_INPUT`](crate::MAX_INPUT) bytes.
     #[error("input too long")]
     InputTooLong,
-    /// The rules that come with the paths have over [`MAX_RULE_BYTES`](lc_rules::MAX_RULE_BYTES) bytes. Only a check of rules and
-    /// paths in one input stops with it.
+    /// The rules that come with the paths have over [`MAX_RULE_BYTES`](lc_rules::MAX_RULE_BYTES) bytes. Only a check that reads rules and
+    /// paths from one input returns this error.
     #[error("rules too long")]
     RulesTooLong,
-    /// There is no memory for the input, the rules or the text. A prefix of a text that is written as it is made may have been
+    /// An allocation for the input, the rules or the text failed. If the text is written as it is made, a prefix of the text may have been
     /// written.
     #[error("out of memory")]
     Memory,
-    /// A write failed, or took nothing. What was written is a prefix of the text.
+    /// A write failed, or accepted nothing. What was written is a prefix of the text.
     #[error("cannot write")]
     Write,
 }

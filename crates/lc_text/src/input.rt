@@ -1,4 +1,4 @@
-//! Reading the input of a check or of an explanation. It is read whole, and each of its lines names a path.
+//! Reading the input of `lc check` or `lc explain`. The input is read whole, and each of its lines names a path.
 
 ghost use Rattle.lc_text.specs.Input.{ReadsInput};
 

@@ -1,10 +1,10 @@
 //! Printing paths, names and the places of rules, for all crates that print.
 //!
-//! - `escaping`: escaping paths for a program; `visible`: escaping them for a terminal; `style`: one of the two
+//! - `escaping`: escaping paths for a program; `visible`: escaping paths for a terminal; `style`: choosing between these two
 //! - `quoting`: quoting a text as one argument of a shell
 //! - `places`: where a rule is; `name`: a path or an extension with what is printed before and after it
-//! - `input`: reading an input of paths; `lines`, `path_line`: its paths, and the path of a line; `check_fault`: why its paths have no
-//!   answer
+//! - `input`: reading an input with a path on each line; `lines`: splitting the input into paths; `path_line`: the path of a line;
+//!   `check_fault`: the errors of checking or explaining these paths
 //! - `outcome`: whether the text that was written shows an error
 //! - `laws`: what is true of the definitions that the contracts cite
 #![tactic(auto)]

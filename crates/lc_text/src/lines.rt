@@ -1,4 +1,4 @@
-//! The paths of an input, one after another.
+//! Splitting an input into its paths, one after another.
 
 ghost use Rattle.std.specs.Prelude.{◌≡◌, ◌<◌, ◌∷◌, length};
 ghost use Rattle.lc_text.specs.Lines.{end_byte, input_paths_of};

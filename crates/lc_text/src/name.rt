@@ -28,7 +28,7 @@ pub struct Name<'a> {
     pub bytes: &'a [u8],
     /// What is printed after the bytes.
     pub end: &'static str,
-    /// The number of a line in the file of this name.
+    /// A line number, which is printed after a colon at the end.
     pub line: Option<u32>,
 }
 
@@ -41,7 +41,7 @@ fn push_line(text: &mut Vec<u8>, line: Option<u32>) -> Result<(), AllocError>
     }
 }
 
-/// Appends a name, with its bytes escaped like [`push_escaped`] does.
+/// Appends a name, with its bytes escaped as [`push_escaped`] does.
 pub fn push_name(text: &mut Vec<u8>, name: Name<'_>) -> Result<(), AllocError>
     ensures { OnOk result (text.new.items ≡ text.old.items ++ named escape_bytes (name_model name.entry)) }
 {
@@ -60,7 +60,7 @@ fn push_visible_line(text: &mut String, line: Option<u32>) -> Result<(), AllocEr
     }
 }
 
-/// Appends a name, with its bytes escaped like [`push_visible`] does.
+/// Appends a name, with its bytes escaped as [`push_visible`] does.
 pub fn push_visible_name(text: &mut String, name: Name<'_>) -> Result<(), AllocError>
     ensures { OnOk result (string_bytes text.new ≡ string_bytes text.old ++ named visible_bytes (name_model name.entry)) }
 {

@@ -1,9 +1,9 @@
-//! The outcomes of writing a text.
+//! Whether a text that was written shows an error.
 
 /// Whether a text that was written shows something that could not be read.
 #[derive(Debug, Clone, Copy, PartialEq, Eq)]
 pub enum Outcome {
-    /// All that was met could be read.
+    /// Every directory and file could be read.
     Clean,
     /// The text has a line for each directory or file that could not be read.
     SomeFaults,

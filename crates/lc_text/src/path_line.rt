@@ -5,7 +5,7 @@ ghost use Rattle.lc_text.specs.PathLines.{is_dir_line, path_of, is_bad_path, aft
 
 use lc_glob::path::{is_good_path, is_too_long};
 
-/// Returns what follows the `./` that a line began with, without further slashes and further `./`.
+/// Returns the rest of a line without further slashes and further `./` at its beginning. `tail` is what follows the line's first `./`.
 fn after_dot(tail: &[u8]) -> &[u8]
     ensures { result.now ≡ after_dot tail.now }
 {
@@ -29,7 +29,7 @@ fn or_dot(path: &[u8]) -> &[u8]
     }
 }
 
-/// Returns a line without any `./` at its beginning, and without further slashes after such a dot. If nothing is left, it returns `.`.
+/// Returns a line without any `./` at its beginning, and without further slashes after these. If nothing is left, returns `.`.
 ///
 /// ```
 /// assert!(rt; undotted(b".//./src/") == b"src/".as_slice() && undotted(b"./") == b".".as_slice());
@@ -50,7 +50,7 @@ pub fn is_top(path: &[u8]) -> bool
     matches!(path, [b'.'])
 }
 
-/// Splits a line into its path and whether a slash follows it, which means a directory.
+/// Splits a line into its path and whether the line ends with a slash, which means a directory.
 pub fn split_slash(line: &[u8]) -> (&[u8], bool)
     ensures path { result.0.now ≡ path_of line.now }
     ensures dir { result.1 ≡ is_dir_line line.now }

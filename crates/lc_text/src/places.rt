@@ -23,8 +23,7 @@ fn after_slash(path: &[u8]) -> &[u8]
     }
 }
 
-/// Returns the part of a path above what a file of the directory with `depth` segments sees: that directory's path with a slash at its end,
-/// or nothing at the top.
+/// Returns the beginning of a path with this number of segments, each followed by its slash. At depth 0 this is nothing.
 fn above(path: &[u8], depth: u32) -> &[u8]
     ensures { result.now ≡ above depth path.now }
 {
@@ -37,9 +36,9 @@ fn above(path: &[u8], depth: u32) -> &[u8]
     &path[..path.len() - rest.len()]
 }
 
-/// Returns the directory of the file that a rule was read from. It is the beginning of a path that the rule decides.
+/// Returns the directory of the file that has a rule for a path. This directory is the beginning of the path.
 ///
-/// The directory ends with a slash. It is empty for a file at the top, and for one that has a name alone, such as `--exclude`.
+/// The directory ends with a slash. It is empty for a file at the top, and for the rules of `--exclude` and `--exclude-from`.
 ///
 /// ```
 /// assert!(rt; source_directory(b"src/gen/a.c", RuleSource::Gitignore(1)) == b"src/".as_slice());
@@ -53,7 +52,7 @@ pub fn source_directory(path: &[u8], source: RuleSource) -> &[u8]
     }
 }
 
-/// Returns the name of the file that a rule was read from, which follows its directory ([`source_directory`]).
+/// Returns the name of the file that has a rule, or of the option for its rules. [`source_directory`] returns the file's directory.
 pub fn source_name(source: RuleSource) -> &'static str
     ensures { result.now ≡ source_name source }
 {
@@ -65,8 +64,8 @@ pub fn source_name(source: RuleSource) -> &'static str
     }
 }
 
-/// Appends the place of the rule that decides a path: the path of its file in a style, and the number of its line. Such places are
-/// `src/.gitignore:3`, `.git/info/exclude:2`, `--exclude-from:7` and `--exclude:2`, the second pattern of the command line.
+/// Appends the place of a rule that decides a path: the path of the rule's file, escaped in a style, and the number of its line. Such
+/// places are `src/.gitignore:3`, `.git/info/exclude:2`, `--exclude-from:7` and `--exclude:2`, the second pattern of the command line.
 ///
 /// ```
 /// push_rule_source(&mut text, PathStyle::Escaped, b"src/gen/a.c", RuleSource::Gitignore(1), 3)?; // src/.gitignore:3

@@ -14,7 +14,7 @@ use std::alloc::AllocError;
 pub enum PathStyle {
     /// For a pipe or a file: a program can read the bytes back ([`push_escaped`]).
     Escaped,
-    /// For a terminal: nothing in them moves the cursor or turns the direction of text ([`push_visible`]).
+    /// For a terminal: nothing in the bytes moves the cursor or turns the direction of text ([`push_visible`]).
     Visible,
 }
 
@@ -48,7 +48,7 @@ pub fn push_styled(text: &mut Vec<u8>, style: PathStyle, bytes: &[u8]) -> Result
     }
 }
 
-/// Appends a path in a style; the top's empty path is a dot.
+/// Appends a path, escaped as the style requires. The empty path of the top becomes a dot.
 pub fn push_styled_path(text: &mut Vec<u8>, style: PathStyle, path: &[u8]) -> Result<(), AllocError>
     ensures { OnOk result (text.new.items ≡ text.old.items ++ styled_path style path.now) }
 {

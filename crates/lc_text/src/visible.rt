@@ -101,8 +101,8 @@ fn push_text(text: &mut String, shown: &str) -> Result<(), AllocError>
     }
 }
 
-/// Appends bytes, escaped for a terminal. Like [`push_escaped`](crate::push_escaped), but it also writes `\x` and two digits for each byte
-/// of a character that moves the cursor or turns the direction of text. If the bytes are not UTF-8, it does so for each byte from 128 on.
+/// Appends bytes, escaped for a terminal. Like [`push_escaped`](crate::push_escaped), but also writes `\x` and two digits for each byte of
+/// a character that moves the cursor or turns the direction of text. If the bytes are not UTF-8, each byte from 128 on is written this way.
 pub fn push_visible(text: &mut String, bytes: &[u8]) -> Result<(), AllocError>
     ensures { OnOk result (string_bytes text.new ≡ string_bytes text.old ++ visible_bytes bytes.now) }
 {
@@ -112,7 +112,7 @@ pub fn push_visible(text: &mut String, bytes: &[u8]) -> Result<(), AllocError>
     }
 }
 
-/// Appends a path, escaped for a terminal. The top's empty path becomes a dot.
+/// Appends a path, escaped for a terminal. The empty path of the top becomes a dot.
 ///
 /// ```
 /// push_visible_path(&mut text, "a\u{202e}b".as_bytes())?;
