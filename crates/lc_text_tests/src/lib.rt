@@ -1,4 +1,4 @@
-//! The tests of what is printed.
+//! The tests of `lc_text`: paths, names and places of rules as they are printed.
 #![tactic(auto)]
 
 #[cfg(test)]

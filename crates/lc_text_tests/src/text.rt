@@ -1,4 +1,5 @@
-//! What no clause says: worked cases, that calls succeed where there is memory, and streams that misbehave.
+//! Tests of what no contract says: the results of example calls, that calls succeed where there is memory, and what happens with streams
+//! that misbehave.
 
 mod blocks;
 mod interrupted;

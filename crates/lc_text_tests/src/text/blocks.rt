@@ -6,7 +6,7 @@ use std::alloc::{AllocError, Global};
 use std::process::Abort;
 use std::test::Fail;
 
-/// A block of so many bytes.
+/// Returns a block with this many bytes of text.
 fn block_of(alloc: Global, length: usize) -> Result<Block, AllocError> {
     let mut block = Block::new(alloc);
     block.text.reserve(length)?;

@@ -1,4 +1,4 @@
-//! Writers of std that a signal interrupts.
+//! Writers of `std::io` that a signal interrupts.
 
 use lc_io::MAX_TRIES;
 use lc_text::{PrintFault, StdSink, print};
@@ -6,7 +6,7 @@ use std::alloc::{AllocError, Global};
 use std::io::{self, ErrorKind, Write};
 use std::test::Fail;
 
-/// Takes three bytes at once, and is interrupted so often before each write that takes any.
+/// A writer that accepts at most three bytes in one write. Before each such write, `times` writes are interrupted.
 #[derive(Drop)]
 struct Interrupted {
     taken: Vec<u8>,
@@ -41,7 +41,7 @@ impl Write for Interrupted {
     }
 }
 
-/// How often each write is interrupted.
+/// How many times each write is interrupted before it succeeds, a number for each case.
 const TIMES: &[u32] = &[0, 1, 5, MAX_TRIES - 1];
 
 #[test]

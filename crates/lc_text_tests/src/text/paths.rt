@@ -1,10 +1,10 @@
-//! The paths of an input.
+//! Splitting an input into its paths, and reading the path of a line.
 
 use lc_text::{PathEnd, is_top, split_path, split_slash, undotted};
 use std::process::Abort;
 use std::test::Fail;
 
-/// The byte that ends each path, bytes, the first path, and what follows it.
+/// The byte that ends each path, an input, the first path of the input, and what follows this path.
 type Case = (PathEnd, &'static [u8], &'static [u8], &'static [u8]);
 
 const CASES: &[Case] = &[
@@ -25,7 +25,7 @@ fn a_path_ends_at_its_byte(rt: HostRuntime) -> Result<(), Fail> {
     Ok(())
 }
 
-/// A path as `find .` or a person writes it, and the same path without what means nothing.
+/// Lines as `find .` or a person writes them, and what `undotted` returns for each.
 const UNDOTTED: &[(&[u8], &[u8])] = &[
     (b"", b""),
     (b"/", b"/"),

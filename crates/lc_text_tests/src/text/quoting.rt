@@ -1,4 +1,4 @@
-//! Words that a shell takes for one argument, as `printf '%s\n'` of dash and bash gives them back.
+//! Quoting words for a shell. `printf '%s\n'` in dash and in bash prints each word again from its expected text.
 
 use lc_text::push_quoted;
 use std::process::Abort;

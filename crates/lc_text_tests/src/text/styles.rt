@@ -5,7 +5,7 @@ use std::alloc::{AllocError, Global};
 use std::process::Abort;
 use std::test::Fail;
 
-/// What is shown, bytes, and their text in each style: in a pipe, and on a terminal.
+/// The name of the case, bytes, and the expected text in each style: first for a program, then for a terminal.
 type Case = (&'static str, &'static [u8], &'static [u8], &'static [u8]);
 
 const CASES: &[Case] = &[
@@ -34,7 +34,7 @@ const CASES: &[Case] = &[
     ),
 ];
 
-/// Whether bytes are printed so behind others.
+/// Returns whether `push_styled` appends the expected text for these bytes.
 fn is_printed(
     alloc: Global,
     style: PathStyle,
@@ -72,7 +72,7 @@ fn the_top_is_a_dot(rt: HostRuntime) -> Result<(), Fail> {
     Ok(())
 }
 
-/// Paths, and their text.
+/// Paths, and the expected text of `escape` for each.
 const ESCAPED: &[(&[u8], &[u8])] = &[
     (b"t\x01.c", b"t\\x01.c"),
     (b"a\\b", b"a\\\\b"),

@@ -5,7 +5,7 @@ use std::alloc::{AllocError, Global};
 use std::process::Abort;
 use std::test::Fail;
 
-/// What is shown, a path, and its text.
+/// The name of the case, a path, and the expected text.
 type Case = (&'static str, &'static str, &'static str);
 
 const CASES: &[Case] = &[
@@ -46,7 +46,7 @@ const CASES: &[Case] = &[
     ),
 ];
 
-/// Whether a path is shown so.
+/// Returns whether `push_visible_path` writes the expected text for this path.
 fn is_shown(alloc: Global, path: &[u8], expected: &str) -> Result<bool, AllocError> {
     let mut text = String::new(alloc);
     push_visible_path(&mut text, path)?;
@@ -67,7 +67,7 @@ fn a_path_that_is_no_text(rt: HostRuntime) -> Result<(), Fail> {
     Ok(())
 }
 
-/// Whether a name is shown so.
+/// Returns whether `push_visible_name` writes the expected text for this name.
 fn is_name_shown(alloc: Global, name: Name<'_>, expected: &str) -> Result<bool, AllocError> {
     let mut text = String::new(alloc);
     push_visible_name(&mut text, name)?;
