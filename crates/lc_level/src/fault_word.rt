@@ -5,7 +5,7 @@ ghost use Rattle.lc_level.specs.FaultWords.{fault_word, fault_word_of};
 
 use lc_tree::ReadFault;
 
-/// Why a listing or a file was not read, as reports name it.
+/// The reason for which a listing or a file could not be read, as a word in reports.
 #[derive(Clone, Copy, Debug, Drop, PartialEq, Eq)]
 pub enum FaultWord {
     /// A listing, an open or a read failed.

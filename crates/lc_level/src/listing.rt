@@ -8,7 +8,7 @@ use crate::{FaultSite, FaultWord};
 use lc_tree::{Listing, ReadFault, Tree};
 
 impl<T: Tree> LevelReader<'_, T> {
-    /// Returns a listing of the directory at a path, or the error of this listing as one that is reported at `site`.
+    /// Returns the listing that was made of the directory at `path`. An error of the listing becomes one that is reported at `site`.
     pub(crate) fn listed_for(
         &self,
         path: &[u8],

@@ -36,7 +36,7 @@ impl PathBuffer {
         }
     }
 
-    /// Sets the directory, and the path to the directory's own.
+    /// Sets the directory, whose path is then the buffer's path.
     pub(crate) fn enter(&mut self, directory: &[u8]) -> Result<(), AllocError>
         ensures { OnOk result (self.new.directory ≡ directory.now) }
     {

@@ -16,7 +16,8 @@ pub fn path_in(alloc: Global, directory: &[u8], name: &[u8]) -> Result<Vec<u8>, 
     Ok(path)
 }
 
-/// Returns a path relative to a directory above it: `a/b/c` is `c` from `a/b`. From the top every path is itself.
+/// Returns a path relative to a directory, or `None` if the path is not below the directory: `a/b/c` is `c` from `a/b`. From the top every
+/// path stays as it is.
 ///
 /// ```
 /// assert_eq!(relative_to(b"a/b", b"a/b/c"), Some(b"c"));

@@ -15,7 +15,7 @@ const TEXT_STATES: &[TextState] = &[
 
 const LINE_ENDS: &[Eol] = &[Eol::Lf, Eol::CrLf, Eol::Cr, Eol::Mixed, Eol::Nul];
 
-/// Returns the state of the attribute `text` for a word.
+/// Returns the state of the attribute `text` that a word names, such as `auto`.
 pub fn text_of_word(word: &str) -> TextState {
     let mut states = TEXT_STATES
         .iter()
@@ -23,7 +23,7 @@ pub fn text_of_word(word: &str) -> TextState {
     states.next().copied().unwrap_or(TextState::Unspecified)
 }
 
-/// Returns the line ends for a word.
+/// Returns the line ends that a word names, such as `crlf`.
 pub fn eol_of_word(word: &str) -> Eol {
     let mut ends = LINE_ENDS.iter().filter(|eol| eol_word(**eol) == word);
     ends.next().copied().unwrap_or(Eol::NoEnd)

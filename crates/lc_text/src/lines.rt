@@ -23,7 +23,7 @@ fn end_byte(end: PathEnd) -> u8
     }
 }
 
-/// Splits bytes into their first path, without the byte that ends it, and what follows it.
+/// Splits bytes into the first path and what follows this path. The byte that ends the path is in neither part.
 ///
 /// ```
 /// assert!(rt; split_path(PathEnd::Nul, b"a\nb\0c") == (b"a\nb".as_slice(), b"c".as_slice()));

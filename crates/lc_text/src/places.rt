@@ -52,7 +52,8 @@ pub fn source_directory(path: &[u8], source: RuleSource) -> &[u8]
     }
 }
 
-/// Returns the name of the file that has a rule, or of the option for its rules. [`source_directory`] returns the file's directory.
+/// Returns the name of the file that has a rule, such as `.gitignore`, or of the option, such as `--exclude`. [`source_directory`] returns
+/// the file's directory.
 pub fn source_name(source: RuleSource) -> &'static str
     ensures { result.now ≡ source_name source }
 {

@@ -13,7 +13,7 @@ fn empty_lines(alloc: Global) -> Result<Vec<u8>, AllocError> {
     Ok(vec![in alloc; b'\n'; LARGE]?)
 }
 
-/// Returns a directory of a small file, a large one, and three more. The second of these three fails in place of its end.
+/// Returns a directory of a small file, a large one, and three more. A read fails at the end of the second of these three.
 fn files(alloc: Global) -> Result<Node, AllocError> {
     let mut entries = Vec::new(alloc);
     entries.push((b"a".to_vec(alloc)?, Node::File(b"a\n".to_vec(alloc)?)))?;

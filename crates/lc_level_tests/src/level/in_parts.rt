@@ -12,7 +12,7 @@ use std::thread::Threads;
 
 const FILES: u32 = 2000;
 
-/// Returns a directory of `FILES` files, each with its name as its bytes. Every seventh file fails in place of its end.
+/// Returns a directory of `FILES` files, each with its name as its bytes. A read fails at the end of every seventh file.
 fn flat(alloc: Global) -> Result<Node, AllocError> {
     let mut entries = Vec::new(alloc);
     for number in 0..FILES {
