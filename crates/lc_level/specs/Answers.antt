@@ -6,7 +6,8 @@ use Rattle.lc_tree.specs.declared.entry.Kind.TheVariants.{File, Dir, Other}
 use Rattle.lc_tree.specs.declared.entry.OtherKind.{OtherKind}
 use Rattle.lc_level.specs.declared.fault_word.FaultWord.{FaultWord}
 
--- an entry: of a file what counting it gave, its census or a fault, and what reading it whole as rules gave, its bytes or a fault
+-- an entry; a file has the result of counting it, its census or an error, and the result of reading it whole as a rule file, its bytes or
+-- an error
 pub data Item : Type 0 where
   file_item : (name : List ℕ) → (counted : Result Count FaultWord) → (rules : Result (List ℕ) FaultWord) → Item
   directory_item : (name : List ℕ) → Item
@@ -23,7 +24,7 @@ entries_of items = map entry_of items
 abbrev pub name_of : Item → List ℕ
 name_of item = (entry_of item).name
 
--- a listing with what its files gave, or its fault
+-- the items of a listing, or the word for its error
 abbrev pub Items : Type 0
 Items = Result (List Item) FaultWord
 
@@ -33,7 +34,7 @@ pub record Answers : Type 0 where
   pub git : Items
   pub info : Items
 
--- those for a directory that was not listed
+-- the answers for a directory that was not listed
 abbrev pub no_answers : Answers
 no_answers = record { here = Ok []; git = Ok []; info = Ok [] }
 

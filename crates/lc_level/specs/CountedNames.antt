@@ -11,7 +11,7 @@ use Rattle.lc_level.specs.declared.counting.CountedFiles.{CountedFiles}
 use Rattle.lc_level.specs.declared.fault_word.FaultWord.{FaultWord}
 use Rattle.lc_level.specs.FaultLines.{FaultLineModel}
 
--- the file of each name may have given its result, in order
+-- counting the file of each name may have given the result at the same place
 abbrev pub AreCounted : (List ℕ → Contents) → JobModel → List (List ℕ) → List (Result Count FaultWord) → Type 0
 AreCounted gives j [] [] = Unit {0}
 AreCounted gives j [] (r ∷ rs) = ⊥
@@ -24,7 +24,7 @@ file_fates j [] rs = []
 file_fates j (n ∷ ns) [] = []
 file_fates j (n ∷ ns) (r ∷ rs) = (n, file_fate j n r) ∷ file_fates j ns rs
 
--- these are the files of these names, and their faults behind those of absent paths
+-- what was found is the counted files of these names, and the errors of absent paths, followed by those of the files
 pub record IsCounted (gives : List ℕ → Contents) (j : JobModel) (names : List (List ℕ)) (absent : List FaultLineModel)
     (found : CountedFiles) : Type 0 where
   pub results : List (Result Count FaultWord)
@@ -32,13 +32,13 @@ pub record IsCounted (gives : List ℕ → Contents) (j : JobModel) (names : Lis
   pub files : found.files.items ≡ counted_in (file_fates j names results)
   pub faults : found.faults.items ≡ absent ++ failed_in (file_fates j names results)
 
--- what adding what one file gave answers
+-- the result of adding one file, by the result of counting it
 abbrev pub AddsResult : JobModel → List ℕ → Result Count FaultWord → CountedFiles → CountedFiles → Result (Unit {0}) AllocError → Type 0
 AddsResult j name r old new (Ok _) = (new.files.items ≡ old.files.items ++ counted_of (name, file_fate j name r))
     × (new.faults.items ≡ old.faults.items ++ failed_of (name, file_fate j name r))
 AddsResult j name r old new (Err _) = Unit {0}
 
--- what counting one file more answers
+-- the result of counting one more file
 abbrev pub AddsCounted : (List ℕ → Contents) → JobModel → List ℕ → CountedFiles → CountedFiles → Result (Unit {0}) AllocError → Type 0
 AddsCounted gives j name old new (Ok _) =
     (r : Result Count FaultWord) × MayCount (gives (path_in j.path name)) r

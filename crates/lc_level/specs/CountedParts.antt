@@ -11,12 +11,12 @@ use Rattle.lc_level.specs.declared.counting.CountedFiles.{CountedFiles}
 use Rattle.lc_tree.specs.Trees.{Contents}
 use Rattle.lc_level.specs.FaultLines.{FaultLineModel}
 
--- each part has counted the files of the run at its place, or memory was refused to it
+-- each part has counted the files of the run at the same place, or an allocation failed in the part
 abbrev pub HaveCounted : (List ℕ → Contents) → JobModel → List (Vec (Vec ℕ Global) Global) → List (Result CountedFiles AllocError) → Type 0
 HaveCounted gives j runs parts = (i : ℕ) (run : Vec (Vec ℕ Global) Global) (part : Result CountedFiles AllocError) → i < length runs →
     IfOk (slice_index_or parts i part) (IsCounted gives j (bytes_of (slice_index_or runs i run).items) [])
 
--- what a part has found
+-- the counted files of a part; and below, its errors
 abbrev pub files_of : Result CountedFiles AllocError → List FileLineModel
 files_of (Ok found) = found.files.items
 files_of (Err _) = []
@@ -25,13 +25,14 @@ abbrev pub faults_of : Result CountedFiles AllocError → List FaultLineModel
 faults_of (Ok found) = found.faults.items
 faults_of (Err _) = []
 
--- memory was refused to no part, and these are the files and the faults of all, in order, the faults behind those of absent paths
+-- no allocation failed in a part, and what was found is the files of all parts, in order, and the errors of absent paths, followed by those
+-- of all parts
 pub record Joins (parts : List (Result CountedFiles AllocError)) (absent : List FaultLineModel) (found : CountedFiles) : Type 0 where
   pub each : AllByRecursion IsOk parts
   pub files : found.files.items ≡ flat_map files_of parts
   pub faults : found.faults.items ≡ absent ++ flat_map faults_of parts
 
--- the files of these names are counted but for those of the last, which are left
+-- the files of these names are counted, except for the last ones, whose names are `rest`
 pub record CountsSome (gives : List ℕ → Contents) (j : JobModel) (names : List (Vec ℕ Global)) (absent : List FaultLineModel)
     (rest : List (Vec ℕ Global)) (found : CountedFiles) : Type 0 where
   pub done : List (Vec ℕ Global)

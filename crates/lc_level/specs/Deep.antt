@@ -12,14 +12,14 @@ use Rattle.lc_level.specs.Narrowing.{part_of}
 use Rattle.lc_level.specs.RuleFiles.{RuleBytes, rule_bytes, extended}
 use Rattle.lc_level.specs.Filters.{FiltersModel}
 
--- an entry, other than `.git`, whose path has over 4,096 bytes, or a directory of over 256 segments that the rules leave in
+-- whether an entry is too deep: it is not `.git`, and its path has over 4,096 bytes, or over 256 segments if it is a directory that stays
 abbrev pub is_too_deep : FiltersModel → JobModel → EntryModel → Bool
 is_too_deep f j e =
     not (bytes_eq e.name (codes ".git"))
     && (nat_lt max_path (length (path_in j.path e.name))
     || (is_dir e.kind && is_kept f j (path_in j.path e.name) true && nat_lt max_depth (depth_of (path_in j.path e.name))))
 
--- some of these items that take part is, by both chains with the rule files
+-- whether one of the selected items is too deep, by both chains with the directory's rule files
 abbrev pub some_too_deep : FiltersModel → JobModel → List Item → Result RuleBytes FaultLineModel → Bool
 some_too_deep f j items (Ok files) =
     list_any (λ item. is_too_deep f (extended j files) (entry_of item)) (part_of f.only j.path items)
@@ -29,6 +29,6 @@ abbrev pub too_deep_among : FiltersModel → JobModel → Answers → Items → 
 too_deep_among f j a (Ok items) = some_too_deep f j items (rule_bytes j.ignore.no_ignore j.path items a)
 too_deep_among f j a (Err word) = false
 
--- a directory that is not at fault has such an entry
+-- whether a directory without an error has an entry that is too deep
 abbrev pub has_too_deep : FiltersModel → JobModel → Answers → Bool
 has_too_deep f j a = too_deep_among f j a a.here

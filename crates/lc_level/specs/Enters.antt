@@ -1,4 +1,4 @@
--- What entering a directory answers: its listing and its rule files.
+-- What entering a directory may return: its listing and its rule files.
 use Rattle.std.specs.Prelude.{◌≡◌, ℕ, Bool, List, Result, Ok, Err}
 use Rattle.lc_level.specs.Answers.{Item, Answers, entries_of}
 use Rattle.lc_level.specs.Job.{JobModel}
@@ -15,7 +15,7 @@ use Rattle.lc_level.specs.declared.open_fault.OpenFault.{OpenFault}
 use Rattle.lc_level.specs.declared.open_fault.OpenFault.TheVariants.{Faulted, Memory, TooDeep}
 
 module _ (lists : List ℕ → Listings) (gives : List ℕ → Contents) (j : JobModel) where
-  -- by answers that the tree may give, this is the directory with its rule files in both chains
+  -- by answers that the tree may give, `k` is the job with the directory's rule files in both chains
   pub record IsInside (k : JobModel) : Type 0 where
     pub answers : Answers
     pub may : MayAnswer lists gives j.path answers
@@ -26,14 +26,15 @@ module _ (lists : List ℕ → Listings) (gives : List ℕ → Contents) (j : Jo
     pub read : rule_bytes j.ignore.no_ignore j.path items answers ≡ Ok bytes
     pub extends : k ≡ extended j bytes
 
-  -- by such answers: the directory so, its entries, and the texts of its rules, where texts are kept
+  -- by answers that the tree may give: the job with the directory's rule files, its entries, and the texts of its ignore files if `texts`
+  -- is set
   pub record IsEntered (texts : Bool) (e : Entered) : Type 0 where
     pub inside : IsInside e.job
     pub entries : e.entries.items ≡ entries_of inside.items
     pub info_text : text_items e.texts.info ≡ text_if texts inside.bytes.info.rules
     pub own_text : text_items e.texts.own ≡ text_if texts inside.bytes.own.rules
 
-  -- a directory that is entered, at fault, or given up for want of memory
+  -- the directory was entered, has an error, or an allocation failed
   abbrev pub EntersLevel : Bool → Result Entered OpenFault → Type 0
   EntersLevel texts (Ok e) = IsEntered texts e
   EntersLevel texts (Err (Faulted site word)) = (a : Answers) × MayAnswer lists gives j.path a × IsWellFormed a

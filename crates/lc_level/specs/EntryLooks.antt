@@ -1,4 +1,4 @@
--- What is looked for among the entries of a directory.
+-- Searches among the entries of a directory.
 use Rattle.std.specs.Prelude.{ℕ, Bool, ◌&&◌, List, bytes_eq}
 use Rattle.std.specs.List.{list_any}
 use Rattle.lc_tree.specs.Kinds.{is_file, is_dir}

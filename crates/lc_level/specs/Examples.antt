@@ -1,4 +1,4 @@
--- The tree of a node of memory, computed on a small node.
+-- The tree of a `Node`, computed on a small node.
 use Rattle.std.specs.Prelude.{◌≡◌, ℕ, ◌^◌, nat_lt, true, false, List, [], ◌∷◌, ◌++◌, length, map, Vec, Ok, Err, refl, codes}
 use Rattle.std.specs.declared.alloc.Global.{Global}
 use Rattle.std.proofs.Math.Nat.{le_refl}
@@ -39,7 +39,7 @@ module _ (alloc : Global) where
   abbrev pub attribute_file : Child
   attribute_file = (vec alloc (codes ".gitattributes") refl, roll-Node (Node-F.File (vec alloc (codes "s export-ignore\n") refl)))
 
-  -- as it stands in a further working tree
+  -- a file `.git`, as a linked working tree has
   abbrev pub git_file : Child
   git_file = (vec alloc (codes ".git") refl, roll-Node (Node-F.File (vec alloc (codes "x") refl)))
 
@@ -87,7 +87,7 @@ small_items =
     ∷ whole_file (codes "c") (codes "one\n") ∷ directory_item (codes "d") ∷ file_item (codes "e") (Err Read) (Err Read)
     ∷ other_item (codes "l") Special ∷ whole_file (codes "s") (codes "x") ∷ []
 
--- the names of a level's counted files, of the others, and of its child directories; and what is left out, and why
+-- the names of a level's counted files, of its files with errors, and of its child directories; and its skipped entries
 pub record Names : Type 0 where
   pub files : List (List ℕ)
   pub faults : List (List ℕ)
@@ -110,11 +110,11 @@ as_it_is = no_filters
 abbrev pub exported : FiltersModel
 exported = leaving_out no_filters (codes "export-ignore" ∷ [])
 
--- of the small directory, by filters
+-- the names of the level of the small directory, by these filters
 abbrev pub small_names : Global → FiltersModel → Names
 small_names alloc f = names_in (level f (top_job f) (tree_of_node (small_node alloc) []))
 
--- what is left out of it in any case
+-- the entries of the small directory that are skipped with either filters
 abbrev pub small_outside : List SkippedLineModel
 small_outside =
     record { path = codes ".git"; kind = File; reason = named_git }
@@ -129,8 +129,8 @@ small_as_it_is = record {
   outside = small_outside;
 }
 
--- a directory's entries stand in order of their names; the one that fails is a fault; `.git`, the ignored file and the link are left out,
--- and of what is exported what has the attribute `export-ignore`; what is closed, or has a bad name in it, can't be listed
+-- a directory's entries are in the order of their names; the file that fails has an error; `.git`, the ignored file and the link are
+-- skipped, and on export also what has the attribute `export-ignore`; a closed directory, and one with a bad name in it, can't be listed
 pub record LevelExamplesHold (alloc : Global) : Type 0 where
   pub top : (tree_of_node (small_node alloc) []).here ≡ Ok small_items
   pub count : census (codes "one\n") ≡ record { lines = 1; blank = 0; bytes = 4; eol = Lf }

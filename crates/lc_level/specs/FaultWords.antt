@@ -1,4 +1,4 @@
--- The words by which faults are told.
+-- The words by which reports name errors.
 use Rattle.std.specs.Prelude.{ℕ, List, Option, Some, None, codes}
 use Rattle.lc_level.specs.declared.fault_word.FaultWord.{FaultWord}
 use Rattle.lc_level.specs.declared.fault_word.FaultWord.TheVariants.{Read, Name, Twice, Many, Long, Endless, Absent}
@@ -14,7 +14,7 @@ fault_word Long = codes "long"
 fault_word Endless = codes "endless"
 fault_word Absent = codes "absent"
 
--- that of a fault of a listing; want of memory has none
+-- the word for an error of a listing; a failed allocation has none
 abbrev pub fault_word_of : ReadFault → Option FaultWord
 fault_word_of fault.Failed = Some Read
 fault_word_of fault.Unnamed = Some Name

@@ -1,4 +1,4 @@
--- What a file of memory gives, as values: where it is counted, and where it is read as rules.
+-- What a file in memory gives, as values: when it is counted, and when it is read as a rule file.
 use Rattle.std.specs.Prelude.{ℕ, cond, nat_lt, List, length, Result, Ok, Err}
 use Rattle.lc_census.specs.Census.{count_of}
 use Rattle.lc_census.specs.TheCutting.{cut}

@@ -1,4 +1,4 @@
--- What decides, beside the rule files of a tree, which of its entries take part.
+-- What decides, besides a tree's own rule files, which of its entries are skipped.
 use Rattle.std.specs.Prelude.{ℕ, Bool, true, false, ◌&&◌, ◌||◌, nat_eq, cond, List, [], ◌∷◌, length, take, slice_index, bytes_eq}
 use Rattle.std.specs.Prelude.{Option, Some, None, option_map}
 use Rattle.std.specs.List.{list_any, before_first, after_first, range_with_len}
@@ -10,9 +10,9 @@ use Rattle.lc_rules.specs.Bytes.{equals_sign}
 use Rattle.lc_rules.specs.IgnoreRules.{RuleModel, rules_of}
 use Rattle.lc_rules.specs.Verdicts.{at_depth, last_match}
 
--- the text of an ignore file that all others override, and the patterns that override all others, one a line; patterns, one a line, where
--- there are some: only files that they include take part; whether no ignore file of the tree is read; words of attributes: what has the
--- state that one of them asks for is left out; and paths: where there are some, only what stands at or below one of them takes part
+-- the text of an ignore file that all others override; the patterns that override all others, one a line; the patterns for files, one a
+-- line: if there are some, only files that they include stay; whether no ignore file of the tree is read; words `ATTR` or `ATTR=VALUE`:
+-- what has the state that one of them requires is skipped; and paths: if there are some, only what is at or below one of them stays
 pub record FiltersModel : Type 0 where
   pub exclude_from : Option (List ℕ)
   pub exclude : Option (List ℕ)
@@ -21,11 +21,11 @@ pub record FiltersModel : Type 0 where
   pub without : List (List ℕ)
   pub only : List (List ℕ)
 
--- those by which nothing but a tree's own rules decides
+-- the filters that skip only what a tree's own rules ignore
 abbrev pub no_filters : FiltersModel
 no_filters = record { exclude_from = None; exclude = None; include = None; no_ignore = false; without = []; only = [] }
 
--- the same with these words of attributes
+-- these filters with these words of attributes
 abbrev pub leaving_out : FiltersModel → List (List ℕ) → FiltersModel
 leaving_out f without = record {
   exclude_from = f.exclude_from;
@@ -36,7 +36,7 @@ leaving_out f without = record {
   only = f.only;
 }
 
--- the same of these paths alone
+-- these filters with these paths of `--only`
 abbrev pub narrowed : FiltersModel → List (List ℕ) → FiltersModel
 narrowed f only = record {
   exclude_from = f.exclude_from;
@@ -47,7 +47,7 @@ narrowed f only = record {
   only = only;
 }
 
--- the same of files that these patterns include
+-- these filters with these patterns for files
 abbrev pub including : FiltersModel → Option (List ℕ) → FiltersModel
 including f patterns = record {
   exclude_from = f.exclude_from;
@@ -68,16 +68,16 @@ include_rules f = option_map rules_of f.include
 abbrev pub attribute_of : List ℕ → List ℕ
 attribute_of word = before_first (is_byte equals_sign) word
 
--- the value that it asks for: what follows the sign, if there is one
+-- the value that a word requires: what follows its first equals sign, if it has one
 abbrev pub value_of : List ℕ → Option (List ℕ)
 value_of word = cond (list_any (is_byte equals_sign) word) (Some (after_first (is_byte equals_sign) word)) None
 
--- whether a value is the one that is asked for
+-- whether a value is the required one
 abbrev pub is_value : Option (List ℕ) → List ℕ → Bool
 is_value None found = false
 is_value (Some wanted) found = bytes_eq found wanted
 
--- whether a state is the one that is asked for: exactly this value, or Set where no value is asked for
+-- whether a state is the required one: exactly this value, or Set if no value is required
 abbrev pub is_state : Option (List ℕ) → StateModel → Bool
 is_state wanted set = is_none wanted
 is_state wanted unset = false
@@ -86,29 +86,30 @@ is_state wanted unspecified = false
 
 -- ---- patterns of files
 
--- one of these patterns matches
+-- whether one of these patterns matches a path
 abbrev pub matches : List RuleModel → List ℕ → Bool → Bool
 matches patterns path is_dir = is_some (last_match (at_depth 0 patterns) path is_dir)
 
--- at place k of a path stands a slash, and a pattern matches what stands before it, a directory
+-- whether a slash is at place k of a path, and a pattern matches the directory before the slash
 abbrev pub is_matched_parent : List RuleModel → List ℕ → ℕ → Bool
 is_matched_parent patterns path k = nat_eq (slice_index path k) slash && matches patterns (take k path) true
 
--- a pattern matches a directory above the path, below the top
+-- whether a pattern matches a directory above the path, below the top
 abbrev pub has_matched_parent : List RuleModel → List ℕ → Bool
 has_matched_parent patterns path = list_any (is_matched_parent patterns path) (range_with_len 0 (length path))
 
--- a pattern matches the directory at a path, or one above it, below the top
+-- whether a pattern matches the directory at a path, or one above it, below the top
 abbrev pub is_within : List RuleModel → List ℕ → Bool
 is_within patterns [] = false
 is_within patterns (b ∷ bs) = matches patterns (b ∷ bs) true || has_matched_parent patterns (b ∷ bs)
 
--- what a file of a directory must match to take part: nothing where all files do, or where the directory is matched, or one above it
+-- the patterns of which a file of a directory must match one to stay: None if there are no patterns, or if one matches the directory or a
+-- directory above it
 abbrev pub patterns_for : Option (List RuleModel) → List ℕ → Option (List RuleModel)
 patterns_for None directory = None
 patterns_for (Some patterns) directory = cond (is_within patterns directory) None (Some patterns)
 
--- whether a file matches what it must
+-- whether a file matches one of the patterns that it must match, if there are any
 abbrev pub is_included : Option (List RuleModel) → List ℕ → Bool
 is_included None path = true
 is_included (Some patterns) path = matches patterns path false

@@ -1,4 +1,4 @@
--- What reading the rule files of `.git/info` answers.
+-- What reading the rule files of `.git/info` may return.
 use Rattle.std.specs.Prelude.{◌≡◌, ℕ, Bool, true, List, Result, Ok, Err, codes}
 use Rattle.lc_level.specs.Answers.{Answers}
 use Rattle.lc_tree.specs.Listing.{EntryModel}
@@ -12,7 +12,7 @@ use Rattle.lc_level.specs.declared.open_fault.OpenFault.{OpenFault}
 use Rattle.lc_level.specs.declared.open_fault.OpenFault.TheVariants.{Faulted, Memory, TooDeep}
 use Rattle.lc_level.specs.declared.fault_site.FaultSite.{FaultSite}
 
--- the answer to listing a directory for the sake of its rule files: a fault is one of this site
+-- the result of listing a directory for its rule files: an error is one at this site
 abbrev pub ListsFor : Listings → FaultSite → Result (List EntryModel) OpenFault → Type 0
 ListsFor may site (Ok entries) = may (Ok entries)
 ListsFor may site (Err (Faulted at word)) = (at ≡ site) × FailsBy may word
@@ -25,7 +25,8 @@ module _ (lists : List ℕ → Listings) (gives : List ℕ → Contents) where
     pub git : there ≡ true → MayList lists gives (codes ".git") a.git
     pub info : there ≡ true → has_directory (codes "info") (items_of a.git) ≡ true → MayList lists gives (codes ".git/info") a.info
 
-  -- the answer by such answers: what was read, or the site of the first fault, or memory was refused
+  -- the result of reading the two rule files, by answers that the tree may give: what was read, the site of the first error, or a failed
+  -- allocation
   abbrev pub ReadsGit : (no_ignore texts : Bool) → Bool → Result PairRead OpenFault → Type 0
   ReadsGit no_ignore texts there (Ok read) =
       (a : Answers) × MayAnswerGit there a

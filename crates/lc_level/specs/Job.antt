@@ -1,9 +1,9 @@
--- A directory to be walked.
+-- A directory to be visited.
 use Rattle.std.specs.Prelude.{ℕ, List}
 use Rattle.lc_rules.specs.IgnoreChains.{ChainModel}
 use Rattle.lc_rules.specs.AttrStates.{AttrChainModel}
 
--- its path, and both chains of its parent
+-- its path, its chain of ignore files, and its chain of attribute files
 pub record JobModel : Type 0 where
   pub path : List ℕ
   pub ignore : ChainModel

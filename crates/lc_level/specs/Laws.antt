@@ -1,4 +1,4 @@
--- The laws of one directory's work.
+-- The laws of opening a directory and counting its files.
 use Rattle.std.specs.Prelude.{◌≡◌, ℕ, Bool, false, List}
 use Rattle.lc_tree.specs.Trees.{Listings, Contents}
 use Rattle.lc_level.specs.Answers.{Answers}
@@ -15,7 +15,7 @@ use Rattle.lc_level.specs.declared.counting.CountedFiles.{CountedFiles}
 use Rattle.lc_level.specs.declared.opening.Opened.{Opened}
 use Rattle.lc_level.specs.FaultLines.{FaultLineModel}
 
--- what is told of a directory that was opened, whose files gave these
+-- the parts of the level of a directory that was opened, with these counted files and these errors of absent paths and of files
 abbrev pub parts_with : Opened → List FileLineModel → List FaultLineModel → LevelParts
 parts_with o files faults = record {
   files = files;
@@ -26,8 +26,8 @@ parts_with o files faults = record {
 }
 
 module _ (lists : List ℕ → Listings) (gives : List ℕ → Contents) where
-  -- a directory that was opened and whose files were counted: by answers that the tree may give, these are its level, and none of its
-  -- entries is too deep
+  -- if a directory was opened and its files were counted, the tree may give answers by which all that was found is the directory's level,
+  -- and none of its entries is too deep
   abbrev pub CountedLaw : Type 0
   CountedLaw =
       (left_out : Bool) (f : FiltersModel) (j : JobModel) (o : Opened) (found : CountedFiles) →
@@ -35,7 +35,7 @@ module _ (lists : List ℕ → Listings) (gives : List ℕ → Contents) where
       (a : Answers) × MayAnswer lists gives j.path a × IsWellFormed a
       × IsLevelOf (level f j a) left_out (parts_with o found.files.items found.faults.items) × (has_too_deep f j a ≡ false)
 
-  -- all but the files of one that was opened is that of its level, whatever its files give
+  -- if a directory was opened, all that was found is that of its level, except for its files and errors, whatever its files give
   abbrev pub OpenedLaw : Type 0
   OpenedLaw =
       (left_out : Bool) (f : FiltersModel) (j : JobModel) (o : Opened) (c : IsOpened lists gives left_out f j o) →

@@ -29,9 +29,9 @@ pub record FileLineModel : Type 0 where
   pub text : TextState
   pub count : Count
 
--- why an entry is left out, the first that holds: it is named `.git`; the rule that decides ignores it, and stands in a file of this
--- source, on the line with this number; an attribute has the state for it that this word asks for; it is a file that no pattern
--- includes; it is of another kind than those
+-- why an entry is skipped, the first of these that holds: it is named `.git`; the last rule that matches it ignores it, and is in a file of
+-- this source, on the line with this number; an attribute has for it the state that this word requires; it is a file that no pattern
+-- includes; it is neither a file nor a directory
 pub data Reason : Type 0 where
   named_git : Reason
   by_rule : RuleSource → (line : ℕ) → Reason
@@ -39,72 +39,72 @@ pub data Reason : Type 0 where
   not_included : Reason
   other_kind : OtherKind → Reason
 
--- an entry that is left out, by its path: what stands there, and why it is left out
+-- a skipped entry: its path, its kind, and why it is skipped
 pub record SkippedLineModel : Type 0 where
   pub path : List ℕ
   pub kind : Kind
   pub reason : Reason
 
--- the same of what has its path below a directory
+-- a line of a file, with its path joined to the path of a directory above
 abbrev pub file_below : List ℕ → FileLineModel → FileLineModel
 file_below directory f = record { path = path_in directory f.path; text = f.text; count = f.count }
 
 abbrev pub skipped_below : List ℕ → SkippedLineModel → SkippedLineModel
 skipped_below directory l = record { path = path_in directory l.path; kind = l.kind; reason = l.reason }
 
--- what becomes of an entry: a file is counted, or has a fault; a directory is to be walked, by this job; or the entry, of this kind, is
--- left out
+-- what becomes of an entry: a file is counted, or has an error; a directory is to be visited, by this job; or the entry, of this kind, is
+-- skipped
 pub data Fate : Type 0 where
   counted : FileLineModel → Fate
   failed : FaultWord → Fate
   walked : JobModel → Fate
   skipped : Kind → Reason → Fate
 
--- a directory gives a fault at some path and nothing else, or the names with their fates of the entries that take part, in the order of
--- its listing, and the paths that are asked for and absent, seen from it
+-- what a directory contributes: an error at some path and nothing else; or the names of the selected entries with their fates, in the order
+-- of the listing, and the paths of `--only` that are absent, relative to the directory
 pub data Level : Type 0 where
   faulted_level : (path : List ℕ) → FaultWord → Level
   listed_level : List (List ℕ × Fate) → (absent : List (List ℕ)) → Level
 
--- ---- what leaves an entry out
+-- ---- why an entry is skipped
 
--- whether an attribute has the state at a path that a word asks for
+-- whether the attribute of a word has at a path the state that the word requires
 abbrev pub is_met : JobModel → List ℕ → Bool → List ℕ → Bool
 is_met j path is_dir word = is_state (value_of word) (state_of j.attributes path is_dir (attribute_of word))
 
--- the first word of the filters for which one has
+-- the first word of the filters whose attribute has the required state at a path, as a reason
 abbrev pub attribute_reason : FiltersModel → JobModel → List ℕ → Bool → Option Reason
 attribute_reason f j path is_dir = option_map by_attribute (find (is_met j path is_dir) f.without)
 
--- the rule that decides, where it ignores
+-- the last rule that matches, as a reason if it ignores the path
 abbrev pub rule_reason : Option (RuleSource × RuleModel) → Option Reason
 rule_reason None = None
 rule_reason (Some rule) = if rule.1.is_negated then None else Some (by_rule rule.0 rule.1.line)
 
--- by a path
+-- why the rules or the attributes skip a path, if they do
 abbrev pub reason_at : FiltersModel → JobModel → List ℕ → Bool → Option Reason
 reason_at f j path is_dir =
     option_or (rule_reason (last_match (rules_in j.ignore) path is_dir)) (attribute_reason f j path is_dir)
 
--- by a name in the directory
+-- why the entry with this name in the directory is skipped, if it is, by its name, the rules or the attributes
 abbrev pub reason_of : FiltersModel → JobModel → List ℕ → Bool → Option Reason
 reason_of f j name is_dir = cond (bytes_eq name (codes ".git")) (Some named_git) (reason_at f j (path_in j.path name) is_dir)
 
--- of a file that does not match what it must
+-- why a file is skipped that matches none of the patterns that it must match
 abbrev pub include_reason : Option (List RuleModel) → List ℕ → Option Reason
 include_reason patterns path = cond (is_included patterns path) None (Some not_included)
 
--- of a file by its name in the directory
+-- why the file with this name in the directory is skipped, if it is
 abbrev pub file_reason : FiltersModel → JobModel → List ℕ → Option Reason
 file_reason f j name = option_or (reason_of f j name false) (include_reason (patterns_for (include_rules f) j.path) (path_in j.path name))
 
--- of an entry, which may be of a kind that is left out
+-- why the entry of this name and kind is skipped, if it is
 abbrev pub reason_for : FiltersModel → JobModel → List ℕ → Kind → Option Reason
 reason_for f j name File = file_reason f j name
 reason_for f j name Dir = reason_of f j name true
 reason_for f j name (Other what) = option_or (reason_of f j name false) (Some (other_kind what))
 
--- nothing does
+-- whether neither the rules nor the attributes skip a path
 abbrev pub is_kept : FiltersModel → JobModel → List ℕ → Bool → Bool
 is_kept f j path is_dir = is_none (reason_at f j path is_dir)
 
@@ -119,14 +119,14 @@ is_counted f j name = is_none (file_reason f j name)
 abbrev pub text_of : JobModel → List ℕ → TextState
 text_of j path = as_text (state_of j.attributes path false (codes "text"))
 
--- the directory at a path under the same rule files
+-- the job of the directory at a path, with the chains of this job
 abbrev pub job_at : JobModel → List ℕ → JobModel
 job_at j path = record { path = path; ignore = j.ignore; attributes = j.attributes }
 
 abbrev pub child_job : JobModel → List ℕ → JobModel
 child_job j name = job_at j (path_in j.path name)
 
--- of a file that is not left out, by what counting it gave
+-- the fate of a file that is not skipped, by the result of counting it
 abbrev pub file_fate : JobModel → List ℕ → Result Count FaultWord → Fate
 file_fate j name (Ok count) = counted (record { path = name; text = text_of j (path_in j.path name); count = count })
 file_fate j name (Err word) = failed word
@@ -158,7 +158,8 @@ abbrev pub skipped_of : List ℕ × Fate → List SkippedLineModel
 skipped_of (name, skipped kind reason) = record { path = name; kind = kind; reason = reason } ∷ []
 skipped_of (name, _) = []
 
--- the counted files, the faults of files, the child directories with their jobs, the entries left out
+-- the counted files of some fates; the three definitions below have the errors of files, the child directories with their jobs, and the
+-- skipped entries
 abbrev pub counted_in : List (List ℕ × Fate) → List FileLineModel
 counted_in fates = flat_map counted_of fates
 
@@ -171,12 +172,12 @@ walked_in fates = flat_map walked_of fates
 abbrev pub skipped_in : List (List ℕ × Fate) → List SkippedLineModel
 skipped_in fates = flat_map skipped_of fates
 
--- the faults of paths that are absent
+-- an error for each absent path
 abbrev pub absent_faults : List (List ℕ) → List FaultLineModel
 absent_faults absent = map (λ rest. record { path = rest; word = Absent }) absent
 
--- what is told of a directory that was listed: its counted files, the faults of absent paths and of files, its child directories, entries
--- left out, and the number of its entries that take part
+-- the parts of a directory's level: its counted files, the errors of absent paths and of files, its child directories, its skipped entries,
+-- and the number of its selected entries
 pub record LevelParts : Type 0 where
   pub files : List FileLineModel
   pub faults : List FaultLineModel
@@ -184,7 +185,7 @@ pub record LevelParts : Type 0 where
   pub skipped : List SkippedLineModel
   pub entries : ℕ
 
--- a level that was listed has these parts; the entries left out where they are asked for
+-- the level is that of a directory that was listed, and has these parts; the skipped entries are there only if `left_out` is set
 pub record IsLevelOf (l : Level) (left_out : Bool) (parts : LevelParts) : Type 0 where
   pub fates : List (List ℕ × Fate)
   pub absent : List (List ℕ)
@@ -210,6 +211,6 @@ abbrev pub level_of : FiltersModel → JobModel → Answers → Items → Level
 level_of f j a (Ok items) = level_after f j items (rule_bytes j.ignore.no_ignore j.path items a)
 level_of f j a (Err word) = faulted_level j.path word
 
--- the level of a directory whose answers these are
+-- the level of a directory, by the tree's answers for it
 abbrev pub level : FiltersModel → JobModel → Answers → Level
 level f j a = level_of f j a a.here

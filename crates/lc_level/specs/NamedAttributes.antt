@@ -1,4 +1,4 @@
--- Which attributes of a command line are noted, and which of them are told.
+-- Which attributes of a command line are noted, and which of them are returned.
 use Rattle.std.specs.Prelude.{◌≡◌, ◌⊎◌, ℕ, List, [], ◌∷◌, ◌++◌, Vec, map}
 use Rattle.std.specs.Borrow.{Bor}
 use Rattle.std.specs.Global.{Global}
@@ -24,7 +24,7 @@ AreSomeOf (t ∷ ts) (o ∷ os) = ((t ≡ o) × AreSomeOf ts os) ⊎ AreSomeOf (
 abbrev pub AreSomeAttributes : List (List ℕ) → List (Vec ℕ Global) → Type 0
 AreSomeAttributes attributes told = AreSomeOf (map (λ (a : Vec ℕ Global). a.items) told) attributes
 
--- this attribute may have been added
+-- the list is as before, or has this attribute added
 abbrev pub AddsAtMost : List ℕ → List (Vec ℕ Global) → List (Vec ℕ Global) → Type 0
 AddsAtMost attribute before after =
     (after ≡ before) ⊎ ((told : Vec ℕ Global) × (told.items ≡ attribute) × (after ≡ before ++ told ∷ []))

@@ -1,4 +1,4 @@
--- The tree that a node of memory stands for: its answers at each place, as values.
+-- The tree that a `Node` defines: the answers for each directory, as values.
 use Rattle.std.specs.Prelude.{ℕ, List, [], ◌∷◌, ◌++◌, map, Option, Some, None, Result, Ok, Err, unwrap_or, codes}
 use Rattle.lc_level.specs.Answers.{Item, file_item, directory_item, other_item, entry_of, Items, Tree}
 use Rattle.lc_level.specs.FileAnswers.{counted, read_as_rules}
@@ -15,7 +15,7 @@ use Rattle.lc_tree.specs.declared.node.Node.TheOpen.{Node-F}
 use Rattle.lc_tree.specs.declared.read_fault.ReadFault.{ReadFault}
 use Rattle.lc_tree.specs.declared.read_fault.ReadFault.TheVariants.{Failed}
 
--- an entry, with what its file gives
+-- the item of an entry with this name and kind; if it is a file, `file` is its content
 abbrev pub item_by : List ℕ → Content → Kind → Item
 item_by name file File = file_item name (counted file) (read_as_rules file)
 item_by name file Dir = directory_item name
@@ -36,7 +36,7 @@ abbrev pub listing_at : Option Node → Result (List Item) ReadFault
 listing_at None = Err Failed
 listing_at (Some node) = listing_within (out-Node node)
 
--- the items, or the word of the fault, which is never want of memory
+-- the items, or the word for the error of the listing, which is never a failed allocation
 abbrev pub told_items : Result (List Item) ReadFault → Items
 told_items (Ok items) = Ok items
 told_items (Err fault) = Err (unwrap_or (fault_word_of fault) Read)
@@ -44,7 +44,7 @@ told_items (Err fault) = Err (unwrap_or (fault_word_of fault) Read)
 abbrev pub items_at : Option Node → Items
 items_at node = told_items (listing_at node)
 
--- the tree below a node
+-- the answers for each directory below a node, by the names that lead to it from the node
 abbrev pub tree_of_node : Node → Tree
 tree_of_node top place = record {
   here = items_at (node_below place top);

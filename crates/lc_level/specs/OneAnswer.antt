@@ -1,4 +1,4 @@
--- Trees that answer each question in one way.
+-- Trees that give only one answer to each question.
 use Rattle.std.specs.Prelude.{◌≡◌, ℕ, ◌<◌, ◌^◌, List, length, Result}
 use Rattle.lc_census.specs.declared.line_count.Count.{Count}
 use Rattle.lc_tree.specs.Listing.{EntryModel}
@@ -19,37 +19,37 @@ use Rattle.lc_level.specs.WellFormed.{IsWellFormed}
 use Rattle.lc_level.specs.TreeAnswers.{MayAnswer}
 
 module _ (lists : List ℕ → Listings) (gives : List ℕ → Contents) where
-  -- each path has one listing, and each file one count and one text as rules
+  -- each path has only one listing, and each file has only one count and only one text as a rule file
   pub record GivesOne : Type 0 where
     pub listing : (path : List ℕ) (x y : Result (List EntryModel) ReadFault) → lists path x → lists path y → x ≡ y
     pub count : (path : List ℕ) (x y : Result Count FaultWord) → MayCount (gives path) x → MayCount (gives path) y → x ≡ y
     pub rules : (path : List ℕ) (x y : Result (List ℕ) FaultWord) → MayReadRules (gives path) x → MayReadRules (gives path) y → x ≡ y
 
-  -- then each directory has one level
+  -- if a tree gives only one answer to each question, each directory has only one level
   abbrev pub OneLevelLaw : Type 0
   OneLevelLaw =
       GivesOne → (f : FiltersModel) (j : JobModel) (a b : Answers) → MayAnswer lists gives j.path a → MayAnswer lists gives j.path b
       → level f j a ≡ level f j b
 
--- each file of a tree of memory has under 2^47 bytes, the address space of a program on x86-64
+-- each file of a tree in memory has under 2^47 bytes, the address space of a program on x86-64
 abbrev pub FitsMemory : Node → Type 0
 FitsMemory top = (path : List ℕ) → length (content_at top path).bytes < 2 ^ 47
 
--- such a tree has one level for each directory
+-- if each file has under 2^47 bytes, a tree in memory gives only one answer to each question
 abbrev pub MemoryLaw : Type 0
 MemoryLaw = (top : Node) → FitsMemory top → GivesOne (mem_lists top) (mem_gives top)
 
--- the tree that a node stands for: its answers are some that a tree of memory may give
+-- the answers of `tree_of_node` are some that the tree in memory of the node may give
 abbrev pub NodeAnswersLaw : Type 0
 NodeAnswersLaw = (top : Node) (path : List ℕ) → MayAnswer (mem_lists top) (mem_gives top) path (tree_of_node top (names_of_path path))
 
--- no others give another level
+-- if each file has under 2^47 bytes, all answers that the tree in memory may give make the level that the answers of `tree_of_node` make
 abbrev pub NodeLevelsLaw : Type 0
 NodeLevelsLaw =
     (top : Node) → FitsMemory top → (f : FiltersModel) (j : JobModel) (a : Answers)
     → MayAnswer (mem_lists top) (mem_gives top) j.path a
     → level f j a ≡ level f j (tree_of_node top (names_of_path j.path))
 
--- and its listings are listings
+-- the names in each listing of `tree_of_node` are good, distinct and in order
 abbrev pub NodeWellFormedLaw : Type 0
 NodeWellFormedLaw = (top : Node) (place : List (List ℕ)) → IsWellFormed (tree_of_node top place)

@@ -1,4 +1,4 @@
--- What opening a directory answers: what becomes of its entries, before its files are counted.
+-- What opening a directory may return: what becomes of its entries, before its files are counted.
 use Rattle.std.specs.Prelude.{◌≡◌, ℕ, Bool, true, false, List, length, Result, Ok, Err}
 use Rattle.std.specs.List.{flat_map}
 use Rattle.lc_level.specs.Answers.{Answers, entries_of}
@@ -18,8 +18,8 @@ use Rattle.lc_level.specs.declared.open_fault.OpenFault.{OpenFault}
 use Rattle.lc_level.specs.declared.open_fault.OpenFault.TheVariants.{Faulted, Memory, TooDeep}
 
 module _ (lists : List ℕ → Listings) (gives : List ℕ → Contents) (left_out : Bool) (f : FiltersModel) (j : JobModel) where
-  -- by answers that the tree may give: the directory with its rule files, what of its entries that take part these leave in and out,
-  -- the paths that are asked for and absent, and how many entries take part, of which none is too deep
+  -- by answers that the tree may give: the job with the directory's rule files in both chains, which of the selected entries stay and which
+  -- are skipped, the paths of `--only` that are absent, and the number of selected entries, none of which is too deep
   pub record IsOpened (o : Opened) : Type 0 where
     pub inside : IsInside lists gives j o.job
     pub files : bytes_of o.files.items ≡ flat_map (kept_file f o.job) (entries_of (part_of f.only j.path inside.items))
@@ -29,7 +29,7 @@ module _ (lists : List ℕ → Listings) (gives : List ℕ → Contents) (left_o
     pub entries : o.entries ≡ length (part_of f.only j.path inside.items)
     pub shallow : has_too_deep f j inside.answers ≡ false
 
-  -- a directory that is opened, at fault, too deep for a walk, or given up for want of memory
+  -- the directory was opened, has an error, has an entry that is too deep for a walk, or an allocation failed
   abbrev pub OpensLevel : Result Opened OpenFault → Type 0
   OpensLevel (Ok o) = IsOpened o
   OpensLevel (Err (Faulted site word)) = (a : Answers) × MayAnswer lists gives j.path a × IsWellFormed a

@@ -9,7 +9,7 @@ pub record PathBufferModel : Type 0 where
   pub directory : List ℕ
   pub path : List ℕ
 
--- what naming an entry of this path answers: the path then is that one, which is not too long for a walk
+-- the result of setting the path to that of an entry: the buffer has this path, which is not too long for a walk; or an error
 abbrev pub IsNamed : List ℕ → List ℕ → Result (Unit {0}) OpenFault → Type 0
 IsNamed path new (Ok _) = (new ≡ path) × (nat_lt max_path (length path) ≡ false)
 IsNamed path new (Err Memory) = Unit {0}

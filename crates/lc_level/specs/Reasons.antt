@@ -1,4 +1,4 @@
--- What definitions see of a reason, of one that is lent, and of an entry that is left out.
+-- What definitions see of a `Reason` and of a `ReasonRef`.
 use Rattle.lc_level.specs.Level.{Reason, named_git, by_rule, by_attribute, not_included, other_kind}
 use Rattle.lc_level.specs.declared.reason.Reason.{Reason as OwnedReason}
 use Rattle.lc_level.specs.declared.reason.Reason.TheVariants as owned

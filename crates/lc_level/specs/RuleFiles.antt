@@ -1,4 +1,4 @@
--- The rule files of a directory: gitignore(5), DESCRIPTION, and gitattributes(5), DESCRIPTION, on where rules stand.
+-- The rule files of a directory: gitignore(5), DESCRIPTION, and gitattributes(5), DESCRIPTION, on where rules are read.
 use Rattle.std.specs.Prelude.{ℕ, Bool, true, false, ◌&&◌, ◌||◌, cond, List, [], ◌∷◌, ◌++◌, Option, Some, None, Result, Ok, Err}
 use Rattle.std.specs.Prelude.{bytes_eq, option_map, codes}
 use Rattle.lc_glob.specs.Path.{path_in, depth_of}
@@ -16,7 +16,7 @@ file_named name (file_item m counted rules ∷ items) = cond (bytes_eq m name) (
 file_named name (directory_item m ∷ items) = file_named name items
 file_named name (other_item m what ∷ items) = file_named name items
 
--- the same of an ignore file: nothing where none is read
+-- what reading the ignore file of a name gave, if there is one: nothing if `no_ignore` is set
 abbrev pub ignore_named : Bool → List ℕ → List Item → Option (Result (List ℕ) FaultWord)
 ignore_named no_ignore name items = cond no_ignore None (file_named name items)
 
@@ -59,35 +59,35 @@ info_items there a =
     and_then (listing there (codes ".git") a.git)
     (λ in_git. listing (has_directory (codes "info") in_git) (codes ".git/info") a.info)
 
--- the bytes of a file of rules and of a file of attributes, as far as they are there
+-- the bytes of an ignore file and of an attribute file, each if it is there
 pub record Pair : Type 0 where
   pub rules : Option (List ℕ)
   pub attributes : Option (List ℕ)
 
--- those of two files at these paths, the first read first
+-- the bytes of two rule files at these paths, or the first error; the first file is read first
 abbrev pub both_read : List ℕ → Option (Result (List ℕ) FaultWord) → List ℕ → Option (Result (List ℕ) FaultWord)
     → Result Pair FaultLineModel
 both_read path file other_path other =
     and_then (reading path file) (λ x. and_then (reading other_path other) (λ y. Ok (record { rules = x; attributes = y })))
 
--- those in `.git/info`
+-- the bytes of the two rule files in `.git/info`
 abbrev pub info_bytes : Bool → List Item → Result Pair FaultLineModel
 info_bytes no_ignore items =
     both_read (codes ".git/info/exclude") (ignore_named no_ignore (codes "exclude") items)
     (codes ".git/info/attributes") (file_named (codes "attributes") items)
 
--- a directory's own
+-- the bytes of a directory's own two rule files
 abbrev pub own_bytes : Bool → List ℕ → List Item → Result Pair FaultLineModel
 own_bytes no_ignore path items =
     both_read (path_in path (codes ".gitignore")) (ignore_named no_ignore (codes ".gitignore") items)
     (path_in path (codes ".gitattributes")) (file_named (codes ".gitattributes") items)
 
--- the bytes of all rule files that speak of a directory for the first time
+-- the bytes of the rule files that are read for a directory: in the top those in `.git/info`, and its own
 pub record RuleBytes : Type 0 where
   pub info : Pair
   pub own : Pair
 
--- the same in the order in which they are read, or the first fault
+-- the bytes of the rule files that are read for a directory, in the order of reading, or the first error
 abbrev pub rule_bytes : Bool → List ℕ → List Item → Answers → Result RuleBytes FaultLineModel
 rule_bytes no_ignore path items a =
     and_then (and_then (info_items (has_git path items) a) (info_bytes no_ignore))
@@ -105,7 +105,7 @@ abbrev pub first_of : {A : Type 0} → Option A → Option A → Option A
 first_of (Some x) y = Some x
 first_of None y = y
 
--- a directory with these rule files in both chains
+-- the job of a directory, with these rule files added to both chains
 abbrev pub extended : JobModel → RuleBytes → JobModel
 extended j files = record {
   path = j.path;

@@ -1,4 +1,4 @@
--- What reading the two rule files of one directory answers.
+-- What reading the two rule files of one directory may return.
 use Rattle.std.specs.Prelude.{◌≡◌, ℕ, Bool, not, ◌&&◌, ◌⊎◌, List, Option, Some, Result, Ok, Err, option_map, codes}
 use Rattle.lc_glob.specs.Path.{path_in}
 use Rattle.lc_rules.specs.IgnoreRules.{rules_of}
@@ -19,28 +19,28 @@ use Rattle.lc_level.specs.declared.fault_site.FaultSite.{FaultSite}
 use Rattle.lc_level.specs.declared.fault_site.FaultSite.TheVariants.{Gitignore, Gitattributes}
 use Rattle.lc_level.specs.declared.fault_word.FaultWord.{FaultWord}
 
--- what becomes of a directory whose file at a site was not read
+-- the error of a directory whose file at a site could not be read
 abbrev pub open_fault_by : FaultSite → ContentFault → OpenFault
 open_fault_by site (content_fault.Fault word) = Faulted site word
 open_fault_by site content_fault.Memory = Memory
 
--- the files are those of these bytes
+-- the two rule files are those of these bytes
 pub record AreFilesOf (top : Bool) (files : RulePair) (bytes : Pair) : Type 0 where
   pub rules : shared files.rules ≡ option_map rules_of bytes.rules
   pub attributes : shared files.attributes ≡ option_map (attribute_file_of top) bytes.attributes
 
--- they were read of these bytes; of the rules, these are kept where texts are
+-- the two rule files were read from these bytes; the text of the ignore file is kept if `texts` is set
 pub record IsReadOf (texts top : Bool) (read : PairRead) (bytes : Pair) : Type 0 where
   pub files : AreFilesOf top read.files bytes
   pub text : text_items read.text ≡ text_if texts bytes.rules
 
--- a rule file by its name, and the site that is at fault where it can't be read
+-- the name of a rule file, and the site that is reported if the file can't be read
 pub record NameAsked : Type 0 where
   pub name : List ℕ
   pub site : FaultSite
 
--- two rule files that are asked for: in which directory, among which entries, whether its attributes may define macros, whether the
--- rules are not read, and whether their text is kept
+-- which two rule files to read: in which directory, among which entries, whether its attributes may define macros, whether the ignore file
+-- is not read, and whether its text is kept
 pub record PairAsked : Type 0 where
   pub directory : List ℕ
   pub entries : List EntryModel
@@ -50,7 +50,7 @@ pub record PairAsked : Type 0 where
   pub no_ignore : Bool
   pub texts : Bool
 
--- those of these names
+-- the two rule files of these names in a directory
 abbrev pub pair_asked : PairNames → Bool → List ℕ → List EntryModel → PairAsked
 pair_asked names texts directory entries = record {
   directory = directory;
@@ -62,7 +62,7 @@ pair_asked names texts directory entries = record {
   texts = texts;
 }
 
--- a directory's own
+-- a directory's own `.gitignore` and `.gitattributes`
 abbrev pub own_asked : (no_ignore texts : Bool) → List ℕ → List EntryModel → PairAsked
 own_asked no_ignore texts directory entries = record {
   directory = directory;
@@ -75,7 +75,7 @@ own_asked no_ignore texts directory entries = record {
 }
 
 module _ (gives : List ℕ → Contents) (asked : PairAsked) where
-  -- what the rules may have given, if they are there and read, and the attributes, if they are there
+  -- what reading the ignore file may have returned, nothing if it is not there or is not read; and below, the attribute file
   abbrev pub MayGiveRules : Option (Result (List ℕ) FaultWord) → Type 0
   MayGiveRules read =
       MayGive (gives (path_in asked.directory asked.rules.name)) (not asked.no_ignore && has_file asked.rules.name asked.entries) read
@@ -84,12 +84,12 @@ module _ (gives : List ℕ → Contents) (asked : PairAsked) where
   MayGiveAttributes read =
       MayGive (gives (path_in asked.directory asked.attributes.name)) (has_file asked.attributes.name asked.entries) read
 
-  -- the bytes of both may have been read
+  -- reading both files may have returned these bytes
   pub record MayGiveBoth (bytes : Pair) : Type 0 where
     pub rules_given : MayGiveRules (option_map Ok bytes.rules)
     pub attributes_given : MayGiveAttributes (option_map Ok bytes.attributes)
 
-  -- the answer to reading both, the rules first: what was read, or the site of the first fault, or memory was refused
+  -- the result of reading both files, first the ignore file: what was read, the site of the first error, or a failed allocation
   abbrev pub ReadsBoth : Result PairRead OpenFault → Type 0
   ReadsBoth (Ok read) = (bytes : Pair) × IsReadOf asked.texts asked.top read bytes × MayGiveBoth bytes
   ReadsBoth (Err (Faulted site word)) =

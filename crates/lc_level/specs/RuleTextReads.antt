@@ -1,4 +1,4 @@
--- What reading a file of rules whole answers, by its reads.
+-- What reading a file of rules whole may return, by its reads.
 use Rattle.std.specs.Prelude.{ℕ, List, Result, Ok, Err, Vec}
 use Rattle.std.specs.Global.{Global}
 use Rattle.lc_io.specs.Reads.{Answer}
@@ -11,13 +11,13 @@ use Rattle.lc_rules.specs.declared.faults.RuleFault.TheVariants as rule
 use Rattle.lc_level.specs.declared.rule_files.rule_text.RulesFileFault.{RulesFileFault}
 use Rattle.lc_level.specs.declared.rule_files.rule_text.RulesFileFault.TheVariants.{Read, TooLong, Memory}
 
--- a file that was not read whole
+-- the error for a file that was not read whole
 abbrev pub file_fault : WholeFault → RulesFileFault
 file_fault whole.Read = Read
 file_fault whole.TooLong = TooLong
 file_fault whole.Memory = Memory
 
--- bytes that gave no rules
+-- the error for bytes that gave no rules
 abbrev pub bytes_fault : RuleFault → RulesFileFault
 bytes_fault rule.TooLong = TooLong
 bytes_fault rule.Memory = Memory
@@ -30,7 +30,7 @@ ReadsRuleText may_give old (Err TooLong) new =
     (bytes : List ℕ) × AnswersWhole may_give max_rule_bytes old (Err whole.TooLong) bytes new
 ReadsRuleText may_give old (Err Memory) new = Unit {0}
 
--- those bytes as a vector, or why there are none
+-- like `ReadsRuleText`, with the bytes as a vector
 abbrev pub ReadsRuleBytes : {S : Type 0} → (S → ℕ → Answer → S → Type 0) → S → Result (Vec ℕ Global) WholeFault → S → Type 0
 ReadsRuleBytes may_give old (Ok bytes) new = ReadsRuleText may_give old (Ok bytes.items) new
 ReadsRuleBytes may_give old (Err fault) new = ReadsRuleText may_give old (Err (file_fault fault)) new

@@ -1,11 +1,11 @@
--- The path at which a directory is at fault.
+-- The paths of the sites at which a directory can have an error.
 use Rattle.std.specs.Prelude.{ℕ, List, codes}
 use Rattle.lc_glob.specs.Path.{path_in}
 use Rattle.lc_level.specs.declared.fault_site.FaultSite.{FaultSite}
 use Rattle.lc_level.specs.declared.fault_site.FaultSite.TheVariants.{Directory, Git, GitInfo, InfoExclude, InfoAttributes}
 use Rattle.lc_level.specs.declared.fault_site.FaultSite.TheVariants.{Gitignore, Gitattributes}
 
--- the path that is at fault, of a directory at a path
+-- the path of a site, for a directory at a path
 abbrev pub site_path : List ℕ → FaultSite → List ℕ
 site_path directory Directory = directory
 site_path directory Git = codes ".git"

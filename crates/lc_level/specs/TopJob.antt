@@ -4,7 +4,7 @@ use Rattle.lc_rules.specs.IgnoreRules.{rules_of}
 use Rattle.lc_level.specs.Filters.{FiltersModel}
 use Rattle.lc_level.specs.Job.{JobModel}
 
--- the top itself, by the rules of these filters for the whole tree
+-- the job of the top, whose only rules are those that these filters set for the whole tree
 abbrev pub top_job : FiltersModel → JobModel
 top_job f = record {
   path = [];

@@ -15,13 +15,13 @@ abbrev pub items_of : Items → List Item
 items_of (Ok items) = items
 items_of (Err word) = []
 
--- a listing may answer a fault that this word tells of
+-- a listing may return an error that has this word
 abbrev pub FailsBy : Listings → FaultWord → Type 0
 FailsBy may word = (fault : ReadFault) × (fault_word_of fault ≡ Some word) × may (Err fault)
 
 -- `lists` and `gives` say what the listings and the files of a tree may answer at each path
 module _ (lists : List ℕ → Listings) (gives : List ℕ → Contents) where
-  -- what an item of the directory at a path holds
+  -- an item of the directory at a path has results that its file may give
   abbrev pub MayHave : List ℕ → Item → Type 0
   MayHave path (file_item name counted rules) = MayCount (gives (path_in path name)) counted
       × MayReadRules (gives (path_in path name)) rules
@@ -32,7 +32,7 @@ module _ (lists : List ℕ → Listings) (gives : List ℕ → Contents) where
   MayList path (Ok items) = lists path (Ok (entries_of items)) × AllByRecursion (MayHave path) items
   MayList path (Err word) = FailsBy (lists path) word
 
-  -- `.git` and `.git/info` are asked about only where the top has them
+  -- the tree may give these answers for the directory at a path; those for `.git` and `.git/info` matter only if the top has them
   pub record MayAnswer (path : List ℕ) (a : Answers) : Type 0 where
     pub here : MayList path a.here
     pub git : has_git path (items_of a.here) ≡ true → MayList (codes ".git") a.git

@@ -1,4 +1,4 @@
--- Answers whose listing is one.
+-- Answers whose listing is well formed.
 use Rattle.std.specs.Prelude.{List, [], Ok, Err}
 use Rattle.lc_tree.specs.Listing.{EntryModel, IsListing}
 use Rattle.lc_level.specs.Answers.{Answers, Items, entries_of}
