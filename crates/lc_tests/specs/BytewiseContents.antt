@@ -3,7 +3,7 @@ use Rattle.std.proofs.Common.{ℕ, List, [], ◌∷◌, None}
 use Rattle.lc_io.specs.Reads.{Stop, at_end, at_failure, at_neither}
 use Rattle.lc_tree.specs.Trees.{Content, Contents, FillRooms, GivesContent, MayHold, Rooms}
 
--- whatever the buffers are, reads give what reads into some buffers do
+-- reads into buffers of any lengths give what reads of the other tree into some buffers give
 abbrev pub ByteByByte : Contents → Contents
 ByteByByte gives rooms pieces stop = gives None pieces stop
 

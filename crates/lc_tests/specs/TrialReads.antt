@@ -7,6 +7,6 @@ abbrev pub GivesThenFails : List ℕ → ℕ → Answer → List ℕ → Type 0
 GivesThenFails old room (gave piece) new = (old ≢ []) × (piece ≡ take room old) × (new ≡ drop room old)
 GivesThenFails old room failed new = (old ≡ []) × (new ≡ [])
 
--- one read more, into a buffer of this length
+-- the counts after one more read, into a buffer of this length
 abbrev pub CountsRead : ℕ → ℕ → ℕ → ℕ → ℕ → Type 0
 CountsRead room reads longest reads' longest' = (reads' ≡ min (reads + 1) (2 ^ 64 - 1)) × (longest' ≡ max longest room)
