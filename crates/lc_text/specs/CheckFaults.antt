@@ -1,4 +1,4 @@
--- What becomes of the faults that stop a check.
+-- The errors of a check, by the error that stops it.
 use Rattle.lc_io.specs.declared.whole.WholeFault.{WholeFault}
 use Rattle.lc_io.specs.declared.whole.WholeFault.TheVariants as whole
 use Rattle.lc_rules.specs.declared.faults.RuleFault.{RuleFault}
@@ -8,18 +8,18 @@ use Rattle.lc_io.specs.declared.printing.PrintFault.TheVariants as print
 use Rattle.lc_text.specs.declared.check_fault.CheckFault.{CheckFault}
 use Rattle.lc_text.specs.declared.check_fault.CheckFault.TheVariants.{Read, InputTooLong, RulesTooLong, Memory, Write}
 
--- of its input
+-- the error of reading the input
 abbrev pub input_fault : WholeFault → CheckFault
 input_fault whole.Read = Read
 input_fault whole.TooLong = InputTooLong
 input_fault whole.Memory = Memory
 
--- of the rules in its input
+-- the error of the rules in the input
 abbrev pub rules_fault : RuleFault → CheckFault
 rules_fault rule.TooLong = RulesTooLong
 rules_fault rule.Memory = Memory
 
--- of its output
+-- the error of writing the output
 abbrev pub print_fault : PrintFault → CheckFault
 print_fault print.Write = Write
 print_fault print.Memory = Memory

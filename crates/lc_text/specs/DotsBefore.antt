@@ -4,7 +4,7 @@ use Rattle.lc_glob.specs.Bytes.{dot, slash}
 use Rattle.lc_glob.specs.Path.{is_good_path}
 use Rattle.lc_text.specs.PathLines.{or_dot, undotted}
 
--- a dot and a slash, and so many slashes more
+-- a dot and a slash, and this many more slashes
 abbrev pub dot_slashes : ℕ → List ℕ
 dot_slashes more = dot ∷ slash ∷ replicate more slash
 
@@ -22,7 +22,7 @@ abbrev pub path_after : List ℕ → List ℕ → List ℕ
 path_after [] rest = rest
 path_after (more ∷ dots) rest = or_dot rest
 
--- a line is dots, each with its slashes, and a rest: no more of them are at the beginning of the rest, and it gives the path
+-- a line is a run of dots, each with its slashes, and a rest, which begins with no more of them and gives the path
 pub record IsAfterDots (line path : List ℕ) : Type 0 where
   pub dots : List ℕ
   pub rest : List ℕ

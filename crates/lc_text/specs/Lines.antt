@@ -7,7 +7,7 @@ use Rattle.lc_rules.specs.Bytes.{line_feed}
 use Rattle.lc_text.specs.declared.lines.PathEnd.{PathEnd}
 use Rattle.lc_text.specs.declared.lines.PathEnd.TheVariants.{LineFeed, Nul}
 
--- without the last piece where that is empty
+-- these pieces without the last one if it is empty
 abbrev pub without_empty_last : List (List ℕ) → List (List ℕ)
 without_empty_last [] = []
 without_empty_last (p ∷ []) = cond (is_empty p) [] (p ∷ [])
@@ -18,11 +18,11 @@ abbrev pub end_byte : PathEnd → ℕ
 end_byte LineFeed = line_feed
 end_byte Nul = nul
 
--- what stands between such bytes; a last path needs none, and nothing after the last one is no path
+-- the paths between the bytes that end them; the last path needs no such byte, and an empty rest after the last one is no path
 abbrev pub input_paths_of : PathEnd → List ℕ → List (List ℕ)
 input_paths_of end bytes = without_empty_last (pieces_of (end_byte end) bytes)
 
--- what stands between line feeds
+-- the lines between line feeds
 abbrev pub input_lines_of : List ℕ → List (List ℕ)
 input_lines_of bytes = input_paths_of LineFeed bytes
 

@@ -12,7 +12,7 @@ is_dir_line line = ends_with nat_eq line (slash ∷ [])
 abbrev pub path_of : List ℕ → List ℕ
 path_of line = cond (is_dir_line line) (take (length line - 1) line) line
 
--- over 4,096 bytes, or no path of an entry: with a segment that is empty, `.` or `..`, or has a NUL byte
+-- whether a path has over 4,096 bytes, or is no path of an entry: it has a segment that is empty, `.` or `..`, or a NUL byte
 abbrev pub is_bad_path : List ℕ → Bool
 is_bad_path path = nat_lt max_path (length path) || not (is_good_path path)
 
@@ -23,7 +23,7 @@ after_dot (b ∷ []) = if b == slash then [] else b ∷ []
 after_dot (b ∷ c ∷ cs) =
     if b == slash then after_dot (c ∷ cs) else if (b == dot) && (c == slash) then after_dot cs else b ∷ c ∷ cs
 
--- the directory itself, where nothing else is named
+-- a path, or `.`, the directory itself, if the path is empty
 abbrev pub or_dot : List ℕ → List ℕ
 or_dot [] = dot ∷ []
 or_dot (b ∷ bs) = b ∷ bs

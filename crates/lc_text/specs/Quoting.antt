@@ -1,4 +1,4 @@
--- How a shell takes a text for one argument: POSIX.1-2017, Shell Command Language, 2.2 (Quoting).
+-- How a text is written as one argument of a shell: POSIX.1-2017, Shell Command Language, 2.2 (Quoting).
 use Rattle.std.specs.Prelude.{ℕ, ◌==◌, ◌||◌, Bool, if◌then◌else◌, List, [], ◌∷◌, ◌++◌, codes, flat_map}
 use Rattle.std.specs.Int.{is_in_range}
 use Rattle.std.specs.List.{list_all, list_any}

@@ -7,25 +7,25 @@ use Rattle.lc_rules.specs.Verdicts.{below}
 use Rattle.lc_rules.specs.declared.rule_source.RuleSource.{RuleSource}
 use Rattle.lc_rules.specs.declared.rule_source.RuleSource.TheVariants.{ExcludeFrom, InfoExclude, Gitignore, CommandLine}
 
--- the part of a path above what a file of the directory at this depth sees: that directory's path with a slash, nothing at the top
+-- the beginning of a path with this number of segments, each followed by its slash
 abbrev pub above : ℕ → List ℕ → List ℕ
 above depth path = take (length path - length (below depth path)) path
 
--- the directory that has the file of a rule that decides a path, or the `.git` of that file; nothing for the command line's
+-- the directory of the file that has a rule for a path, or of the `.git` that has this file; nothing for `--exclude` and `--exclude-from`
 abbrev pub source_directory : List ℕ → RuleSource → List ℕ
 source_directory path ExcludeFrom = []
 source_directory path (InfoExclude depth) = above depth path
 source_directory path (Gitignore depth) = above depth path
 source_directory path CommandLine = []
 
--- the file, seen from there
+-- the path of the rule's file from this directory, or the name of the option
 abbrev pub source_name : RuleSource → List ℕ
 source_name ExcludeFrom = codes "--exclude-from"
 source_name (InfoExclude depth) = codes ".git/info/exclude"
 source_name (Gitignore depth) = codes ".gitignore"
 source_name CommandLine = codes "--exclude"
 
--- the file of a rule that decides a path, its directory written by `escape`
+-- the path of the file that has a rule for a path; its directory is written by `escape`
 abbrev pub rule_file : (List ℕ → List ℕ) → List ℕ → RuleSource → List ℕ
 rule_file escape path source = escape (source_directory path source) ++ source_name source
 
@@ -33,6 +33,6 @@ rule_file escape path source = escape (source_directory path source) ++ source_n
 abbrev pub rule_place : (List ℕ → List ℕ) → List ℕ → RuleSource → ℕ → List ℕ
 rule_place escape path source line = rule_file escape path source ++ codes ":" ++ decimal line
 
--- what the line of a file with this number is read as
+-- the text of the rule on the line with this number
 abbrev pub line_text : List ℕ → ℕ → List ℕ
 line_text bytes number = text_of_line (slice_index_or (rule_lines_of bytes) (number - 1) [])

@@ -10,7 +10,8 @@ pub data Place : Type 0 where
   in_single : Place
   escaped : Place
 
--- the text of a word from such a place on; None where it goes on in the next line, or has a byte that may mean more to a shell
+-- the text of the rest of a word that begins at such a place; None if the word goes on in the next line, or has a byte that may mean more
+-- to a shell
 abbrev pub word_text : Place → List ℕ → Option (List ℕ)
 word_text outside [] = Some []
 word_text in_single [] = None
@@ -23,6 +24,6 @@ word_text in_single (b ∷ bs) =
     if b == apostrophe then word_text outside bs else option_map (λ text. b ∷ text) (word_text in_single bs)
 word_text escaped (b ∷ bs) = if b == line_feed then None else option_map (λ text. b ∷ text) (word_text outside bs)
 
--- a text that is quoted is no empty word, and a shell reads it as the text
+-- a quoted text is not empty, and a shell reads it as the text
 abbrev pub QuotedLaw : Type 0
 QuotedLaw = (text : List ℕ) → (quoted text ≡ [] → ⊥) × (word_text outside (quoted text) ≡ Some text)

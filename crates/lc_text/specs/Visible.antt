@@ -19,7 +19,7 @@ visible_char c =
     (cond (is_hidden c) (flat_map hex_byte (encode_utf8 c))
     (encode_utf8 c))
 
--- of bytes that are no text: as other formats have it, but for the digits of a byte from 128 on
+-- a byte of bytes that are not UTF-8: as `escape_byte` writes it below 128, otherwise its digits
 abbrev pub visible_byte : ℕ → List ℕ
 visible_byte b = cond (nat_lt b 128) (escape_byte b) (hex_byte b)
 
