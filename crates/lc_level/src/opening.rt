@@ -21,7 +21,7 @@ pub struct Opened {
     pub job: Job,
     /// The names of the files that are to be counted.
     pub files: Vec<Vec<u8>>,
-    /// The directories that are to be visited.
+    /// The child directories that are to be visited.
     pub children: Vec<ChildDirectory>,
     /// The skipped entries, in the order of the listing. The list is empty unless the reader's options say to keep them.
     pub skipped: Vec<SkippedLine>,

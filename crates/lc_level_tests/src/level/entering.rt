@@ -17,8 +17,7 @@ const REPOSITORY: &str = "
     .gitattributes=docs_export-ignore;
     .git/{ info/{ exclude=*.tmp; attributes=*.c_text; } }";
 
-/// The name of a directory in the top, or an empty name for the top, whether the texts of ignore files are kept, and the expected result or
-/// error.
+/// The name of a directory in the top (empty for the top), whether the texts of ignore files are kept, and the expected result or error.
 type Case = (&'static str, bool, &'static str);
 
 const ENTERED: &[Case] = &[

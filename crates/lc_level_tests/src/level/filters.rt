@@ -3,7 +3,7 @@
 use crate::level::work::{Case, Part, check, check_parts};
 use std::test::Fail;
 
-/// A directory with files for which its ignore file and the options of the tests decide differently.
+/// A directory whose ignore file and the options of the tests decide differently for some files.
 const RULED: &str = ".gitignore=!a.o;*.c; a.c a.o b.c b.o";
 
 const EXCLUDED: &[Case] = &[
