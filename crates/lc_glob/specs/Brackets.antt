@@ -3,7 +3,7 @@ use Rattle.std.specs.Prelude.{ℕ, zero, suc, ◌+◌, ◌-◌, Bool, true, fals
 use Rattle.std.specs.{Prelude.{◌++◌, length, take, drop, slice_index, Option, Some, None, codes, bytes_eq}, List.position_or_len}
 use Rattle.lc_glob.specs.{Bytes.{backslash, opening, closing, exclamation_mark, caret, hyphen, colon}, Tokens.{TokenModel, class}}
 
--- the ranges where the name is the one asked for, else what the other names give
+-- the ranges of a class if it has the name, and otherwise what the other classes give
 abbrev pub named : Bool → List (ℕ × ℕ) → Option (List (ℕ × ℕ)) → Option (List (ℕ × ℕ))
 named true ranges others = Some ranges
 named false ranges others = others
@@ -47,14 +47,14 @@ abbrev pub range_to : ℕ → ℕ → Option (ℕ × ℕ) → Option (List (ℕ 
 range_to x k None = None
 range_to x k (Some y) = Some ((x, max x y.0) ∷ [], k + 2 + y.1)
 
--- the element x, after which k bytes are taken, and perhaps a range from it
+-- the range from the element x, or x alone if no range follows, and how many bytes it takes: k for x, and those of the range
 abbrev pub range_from : ℕ → ℕ → List ℕ → Option (List (ℕ × ℕ) × ℕ)
 range_from x k [] = Some ((x, x) ∷ [], k)
 range_from x k (d ∷ []) = Some ((x, x) ∷ [], k)
 range_from x k (d ∷ c ∷ cs) =
     if d == hyphen && not (c == closing) then range_to x k (element c cs) else Some ((x, x) ∷ [], k)
 
--- an element that was found before the bytes, and perhaps a range from it
+-- the range from an element that was found, or the element alone if no range follows
 abbrev pub from_element : Option (ℕ × ℕ) → List ℕ → Option (List (ℕ × ℕ) × ℕ)
 from_element None bs = None
 from_element (Some x) bs = range_from x.0 x.1 (drop x.1 bs)
@@ -101,7 +101,7 @@ abbrev pub taken_more : List (ℕ × ℕ) → Option (List (ℕ × ℕ) × ℕ) 
 taken_more ranges None = None
 taken_more ranges (Some r) = Some (ranges ++ r.0, suc r.1)
 
--- at a close, or at an item after which it goes on
+-- the ranges at a close, which are none, or those of an item that was found and of the items after it
 abbrev pub items_on : Bool → Option (List (ℕ × ℕ) × ℕ) → (ℕ → Option (List (ℕ × ℕ) × ℕ)) → Option (List (ℕ × ℕ) × ℕ)
 items_on true found next = Some ([], 1)
 items_on false None next = None

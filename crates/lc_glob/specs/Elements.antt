@@ -7,19 +7,19 @@ module _ {A : Type 0} (tokens_in : List A → List TokenModel) (separates : A �
   abbrev pub parts_in : List A → List (List TokenModel)
   parts_in elements = map tokens_in (slice_split separates elements)
 
-  -- an element that is this literal by itself, whatever stands before or after it, and separates no parts
+  -- the element is this literal by itself, whatever is before or after it, and it separates no parts
   abbrev pub IsLiteral : A → ℕ → Type 0
   IsLiteral e b = (separates e ≡ false) × ((xs : List A) → tokens_in (xs ++ e ∷ []) ≡ tokens_in xs ++ literal b ∷ [])
       × ((xs : List A) → tokens_in (e ∷ xs) ≡ literal b ∷ tokens_in xs)
 
-  -- elements end with such a literal, and begin with it
+  -- the elements end with an element that is this literal by itself, and begin with one
   abbrev pub EndsWithLiteral : List A → ℕ → Type 0
   EndsWithLiteral elements b = (front : List A) × (e : A) × (elements ≡ front ++ e ∷ []) × IsLiteral e b
 
   abbrev pub BeginsWithLiteral : List A → ℕ → Type 0
   BeginsWithLiteral elements b = (e : A) × (others : List A) × (elements ≡ e ∷ others) × IsLiteral e b
 
-  -- the segments of those parts in an anchored pattern
+  -- the segments of the parts that separators cut elements into, in an anchored pattern
   abbrev pub segments_in : List A → List SegmentModel
   segments_in elements = map (λ part. segment_from true (tokens_in part)) (slice_split separates elements)
 

@@ -3,7 +3,7 @@ use Rattle.std.specs.Prelude.{ℕ, Bool, true, false, not, ◌&&◌, ◌||◌, �
 use Rattle.lc_glob.specs.Tokens.{TokenModel, literal, any_byte, star, class, takes}
 use Rattle.lc_glob.specs.{Patterns.{SegmentModel, plain, double_star, PatternModel}, Path.segments_of, Matches.Matches}
 
--- whether the rest after some cut passes the test
+-- whether the rest of a list passes the test after some cut, also a cut at an end of the list
 abbrev pub some_rest : {A : Type 0} → (List A → Bool) → List A → Bool
 some_rest test [] = test []
 some_rest test (x ∷ xs) = test (x ∷ xs) || some_rest test xs
@@ -20,7 +20,7 @@ fits (any_byte ∷ us) (b ∷ bs) = takes any_byte b && fits us bs
 fits (class n rs ∷ us) [] = false
 fits (class n rs ∷ us) (b ∷ bs) = takes (class n rs) b && fits us bs
 
--- whether the segments match the path's
+-- whether the segments of an anchored pattern match the segments of a path
 abbrev pub matches_path : List SegmentModel → List (List ℕ) → Bool
 matches_path [] [] = true
 matches_path [] (n ∷ ns) = false
@@ -36,14 +36,14 @@ fits_last_name us [] = false
 fits_last_name us (n ∷ []) = fits us n
 fits_last_name us (n ∷ m ∷ ns) = fits_last_name us (m ∷ ns)
 
--- whether the one segment fits the last of the path's
+-- whether the one segment of a pattern fits the last segment of a path
 abbrev pub fits_last : List SegmentModel → List (List ℕ) → Bool
 fits_last [] path = false
 fits_last (plain us ∷ []) path = fits_last_name us path
 fits_last (plain us ∷ s ∷ r) path = false
 fits_last (double_star ∷ r) path = false
 
--- whether the segments of a pattern, anchored or not, match the path's
+-- whether the segments of a pattern, anchored or not, match the segments of a path
 abbrev pub segments_match : Bool → List SegmentModel → List (List ℕ) → Bool
 segments_match false segments path = fits_last segments path
 segments_match true segments path = matches_path segments path

@@ -1,4 +1,4 @@
--- What is said of any list.
+-- Definitions for any list.
 use Rattle.std.specs.Prelude.{Bool, true, false, List, [], ◌∷◌}
 
 -- whether a list is empty

@@ -2,8 +2,8 @@
 use Rattle.std.specs.Prelude.{ℕ, Bool, ◌≡◌, List, [], ◌∷◌, ◌++◌, IsTrue}
 use Rattle.lc_glob.specs.{Fits.Fits, Patterns.{SegmentModel, plain, double_star, PatternModel}, Path.segments_of}
 
--- the segments of an anchored pattern match a path's: a plain one gives one name that it fits, a double star any run of
--- names, none included, but the last segment of a pattern at least one
+-- the segments of an anchored pattern match a path's: a plain segment matches one name that it fits; a double star matches any run of
+-- names, also an empty one, but at least one name if it is the last segment
 abbrev pub MatchesPath : List SegmentModel → List (List ℕ) → Type 0
 MatchesPath [] [] = Unit {0}
 MatchesPath [] (n ∷ ns) = ⊥
@@ -13,7 +13,7 @@ MatchesPath (double_star ∷ []) [] = ⊥
 MatchesPath (double_star ∷ []) (n ∷ ns) = Unit {0}
 MatchesPath (double_star ∷ s ∷ r) path = (a b : List (List ℕ)) × (path ≡ a ++ b) × MatchesPath (s ∷ r) b
 
--- the one segment of a pattern that isn't anchored fits the last of a path's
+-- the one segment of a pattern that isn't anchored fits the last segment of a path
 abbrev pub FitsLast : List SegmentModel → List (List ℕ) → Type 0
 FitsLast [] path = ⊥
 FitsLast (plain us ∷ []) path = (above : List (List ℕ)) × (name : List ℕ) × (path ≡ above ++ name ∷ []) × Fits us name

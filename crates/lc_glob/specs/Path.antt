@@ -7,7 +7,7 @@ use Rattle.lc_glob.specs.{Bytes.{slash, dot, nul}, Pieces.{pieces_of, pieces_lef
 abbrev pub segments_of : List ℕ → List (List ℕ)
 segments_of path = pieces_of slash path
 
--- none, or the segments of what is left
+-- the segments of the bytes that are left of a path, or no segments
 abbrev pub segments_left : Option (Bor (List ℕ)) → List (List ℕ)
 segments_left rest = pieces_left slash rest
 
@@ -18,7 +18,7 @@ is_no_name (b ∷ []) = b == dot
 is_no_name (b ∷ c ∷ []) = (b == dot) && (c == dot)
 is_no_name (b ∷ c ∷ d ∷ ds) = false
 
--- whether a directory can have an entry of this name: none of those, and without a slash and a NUL byte
+-- whether a directory can have an entry of this name: it is not empty, `.` or `..`, and it has no slash and no NUL byte
 abbrev pub is_good_name : List ℕ → Bool
 is_good_name name = not (is_no_name name) && not (list_any (λ b. b == slash) name) && not (list_any (λ b. b == nul) name)
 

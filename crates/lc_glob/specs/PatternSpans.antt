@@ -1,9 +1,9 @@
--- Patterns that are kept side by side.
+-- Patterns that are stored side by side.
 use Rattle.std.specs.Prelude.{ℕ, ◌+◌, ◌≤◌, List, take, drop}
 use Rattle.lc_glob.specs.{Patterns.PatternModel, Views.{form_model, token_pattern_model}, declared.token.Token.Token}
 use Rattle.lc_glob.specs.declared.pattern_set.{PatternForm.{PatternForm, TheVariants.{Simple, Tokens}}, PatternSpan.PatternSpan}
 
--- a pattern of a form, from so many of the bytes or of the tokens
+-- the pattern of a form, and of `len` bytes or tokens of a set from `start` on
 abbrev pub pattern_from : List ℕ → List Token → PatternForm → ℕ → ℕ → PatternModel
 pattern_from bytes tokens (Simple form) start len = form_model form (take len (drop start bytes))
 pattern_from bytes tokens (Tokens scope) start len = token_pattern_model scope (take len (drop start tokens))
@@ -12,7 +12,7 @@ pattern_from bytes tokens (Tokens scope) start len = token_pattern_model scope (
 abbrev pub pattern_in : List ℕ → List Token → PatternSpan → PatternModel
 pattern_in bytes tokens span = pattern_from bytes tokens span.form span.start span.len
 
--- they are there, among so many bytes and tokens
+-- a set with this many bytes and tokens has those of a pattern: `len` of them from `start` on
 abbrev pub IsThere : ℕ → ℕ → PatternForm → ℕ → ℕ → Type 0
 IsThere bytes tokens (Simple form) start len = start + len ≤ bytes
 IsThere bytes tokens (Tokens scope) start len = start + len ≤ tokens

@@ -7,7 +7,7 @@ pub data SegmentModel : Type 0 where
   plain : List TokenModel → SegmentModel
   double_star : SegmentModel
 
--- a pattern: a dead one matches nothing, one for directories only those, and one that isn't anchored at any depth
+-- a pattern: a dead one matches nothing, one for directories only matches no other entry, and one that isn't anchored matches at any depth
 pub record PatternModel : Type 0 where
   pub is_dead : Bool
   pub is_dir_only : Bool

@@ -1,23 +1,23 @@
--- What is kept of what a pattern's bytes are read as, and what is pushed for it.
+-- The stored tokens of what a pattern's bytes are read as.
 use Rattle.std.specs.Prelude.{ℕ, ◌≡◌, List, [], ◌∷◌, ◌++◌, Option, Some, None}
 use Rattle.lc_glob.specs.{TokenLists.range_tokens, Reading.{LexemeModel, separator, one}}
 use Rattle.lc_glob.specs.{Tokens.{TokenModel, literal, any_byte, star, class}, declared.token.Token.Token}
 use Rattle.lc_glob.specs.declared.token.Token.TheVariants.{Literal, AnyByte, Star, Open, Separator}
 
--- what a token of a segment is kept as
+-- the stored tokens of one token of a segment
 abbrev pub kept_tokens : TokenModel → List Token
 kept_tokens (literal c) = Literal c ∷ []
 kept_tokens any_byte = AnyByte ∷ []
 kept_tokens star = Star ∷ []
 kept_tokens (class negated ranges) = Open negated ∷ range_tokens ranges
 
--- and a separator, or such a token
+-- the stored tokens of a separator, or of one token of a segment
 abbrev pub lexeme_tokens : LexemeModel → List Token
 lexeme_tokens separator = Separator ∷ []
 lexeme_tokens (one token) = kept_tokens token
 
 module _ {A : Type 0} (tokens_of : A → List Token) where
-  -- what is pushed for what was found, and how many bytes that takes
+  -- the stored tokens of what was found are pushed, and k is the number of its bytes; None if nothing was found
   abbrev pub Pushes : Option (A × ℕ) → List Token → List Token → Option ℕ → Type 0
   Pushes found old new None = found ≡ None
   Pushes found old new (Some k) = (x : A) × (found ≡ Some (x, k)) × (new ≡ old ++ tokens_of x)

@@ -10,41 +10,41 @@ pub data LexemeModel : Type 0 where
   separator : LexemeModel
   one : TokenModel → LexemeModel
 
--- a byte that means itself; a slash separates, quoted or not
+-- the lexeme of a byte that means itself; a slash separates, quoted or not
 abbrev pub literal_lexeme : ℕ → LexemeModel
 literal_lexeme b = if b == slash then separator else one (literal b)
 
--- the byte after a backslash, which must be there
+-- the lexeme of the byte after a backslash, and the number 1 of its bytes; None if no byte follows
 abbrev pub quoted : List ℕ → Option (LexemeModel × ℕ)
 quoted [] = None
 quoted (c ∷ cs) = Some (literal_lexeme c, 1)
 
--- a bracket that was found is a token
+-- the lexeme of a bracket that was found, and the number of its bytes
 abbrev pub as_lexeme : Option (TokenModel × ℕ) → Option (LexemeModel × ℕ)
 as_lexeme None = None
 as_lexeme (Some u) = Some (one u.0, u.1)
 
--- a byte that neither quotes nor opens a bracket
+-- the lexeme of a byte that neither quotes nor opens a bracket
 abbrev pub byte_lexeme : ℕ → LexemeModel
 byte_lexeme b = if b == asterisk then one star else if b == question_mark then one any_byte else literal_lexeme b
 
--- what begins with the byte b, and how many of the bytes after b it takes
+-- the lexeme that begins with the byte b, and how many of the bytes after b it takes
 abbrev pub lexeme : ℕ → List ℕ → Option (LexemeModel × ℕ)
 lexeme b bs = if b == backslash then quoted bs else if b == opening then as_lexeme (bracket bs) else Some (byte_lexeme b, 0)
 
--- a lexeme before parts: a separator begins one, and a token goes to the first
+-- the parts with one more lexeme in front: a separator begins a new part, and a token becomes the first of the first part
 abbrev pub put : LexemeModel → Option (List (List TokenModel)) → Option (List (List TokenModel))
 put t None = None
 put t (Some []) = None
 put separator (Some (p ∷ ps)) = Some ([] ∷ p ∷ ps)
 put (one u) (Some (p ∷ ps)) = Some ((u ∷ p) ∷ ps)
 
--- the lexeme that was found, before the parts of what it leaves
+-- the parts with the lexeme that was found in front of the parts of the bytes after it
 abbrev pub put_on : Option (LexemeModel × ℕ) → (ℕ → Option (List (List TokenModel))) → Option (List (List TokenModel))
 put_on None next = None
 put_on (Some t) next = put t.0 (next t.1)
 
--- the tokens of the parts that separators cut; None where the pattern is dead; the first k bytes are passed over
+-- the tokens of the parts that separators cut the bytes into, without the first k bytes; None where the pattern is dead
 abbrev pub parts : ℕ → List ℕ → Option (List (List TokenModel))
 parts k [] = Some ([] ∷ [])
 parts (suc k) (b ∷ bs) = parts k bs
@@ -57,7 +57,7 @@ ends_empty (p ∷ []) = false
 ends_empty (p ∷ q ∷ []) = is_empty q
 ends_empty (p ∷ q ∷ r ∷ ps) = ends_empty (q ∷ r ∷ ps)
 
--- the parts without the last, so without that separator
+-- the parts without the last one, and so without the separator in front of it
 abbrev pub without_last : List (List TokenModel) → List (List TokenModel)
 without_last [] = []
 without_last (p ∷ []) = []
@@ -69,7 +69,7 @@ begins_empty [] = false
 begins_empty (p ∷ []) = false
 begins_empty (p ∷ q ∷ ps) = is_empty p
 
--- the parts without the first, so without that separator
+-- the parts without the first one, and so without the separator after it
 abbrev pub without_first : List (List TokenModel) → List (List TokenModel)
 without_first [] = []
 without_first (p ∷ ps) = ps

@@ -1,9 +1,9 @@
--- Tokens as they are kept: the ranges of a bracket follow the token that opens it.
+-- Tokens as they are stored: the ranges of a bracket follow the token that opens it.
 use Rattle.std.specs.Prelude.{ℕ, Bool, true, false, List, [], ◌∷◌, map}
 use Rattle.lc_glob.specs.{Tokens.{TokenModel, literal, any_byte, star, class}, declared.token.Token.Token}
 use Rattle.lc_glob.specs.declared.token.Token.TheVariants.{Literal, AnyByte, Star, Open, Range, Separator}
 
--- the ranges that come first
+-- the ranges at the beginning of the tokens
 abbrev pub ranges_first : List Token → List (ℕ × ℕ)
 ranges_first [] = []
 ranges_first (Range first last ∷ ts) = (first, last) ∷ ranges_first ts
@@ -24,14 +24,14 @@ abbrev pub is_separator : Token → Bool
 is_separator Separator = true
 is_separator _ = false
 
--- whether it stands for one byte
+-- whether a token stands for one byte
 abbrev pub is_for_byte : Token → Bool
 is_for_byte Star = false
 is_for_byte (Range first last) = false
 is_for_byte Separator = false
 is_for_byte _ = true
 
--- these literals, as tokens, and these ranges
+-- literals as tokens, and ranges as tokens
 abbrev pub literal_tokens : List ℕ → List Token
 literal_tokens bytes = map Literal bytes
 

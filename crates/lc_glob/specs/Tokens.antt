@@ -2,7 +2,7 @@
 use Rattle.std.specs.{Prelude.{ℕ, Bool, true, false, not, ◌&&◌, ◌==◌, nat_le, List}, List.list_any}
 use Rattle.lc_glob.specs.Bytes.{slash}
 
--- a literal byte, `?`, `*`, or a bracket: one byte of its ranges, or of none of them where it is negated
+-- a literal byte, `?`, `*`, or a bracket; a bracket stands for one byte in its ranges or, if it is negated, for one byte in none of them
 pub data TokenModel : Type 0 where
   literal : ℕ → TokenModel
   any_byte : TokenModel
@@ -13,7 +13,7 @@ pub data TokenModel : Type 0 where
 abbrev pub in_ranges : List (ℕ × ℕ) → ℕ → Bool
 in_ranges ranges b = list_any (λ r. nat_le r.0 b && nat_le b r.1) ranges
 
--- the same, or the contrary where the bracket is negated
+-- whether a bracket has a byte, by whether the bracket is negated, and whether the byte is in its ranges
 abbrev pub in_set : Bool → Bool → Bool
 in_set false member = member
 in_set true member = not member

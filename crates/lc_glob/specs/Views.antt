@@ -1,4 +1,4 @@
--- What the code's values stand for.
+-- The tokens, segments and patterns that the code's values stand for.
 use Rattle.std.specs.Prelude.{ℕ, Bool, true, false, List, [], ◌∷◌, map}
 use Rattle.lc_glob.specs.{Tokens.{TokenModel, literal, any_byte, star, class}, Patterns.{SegmentModel, plain, double_star, PatternModel}}
 use Rattle.lc_glob.specs.declared.{byte_set.ByteSet.ByteSet, scope.Scope.Scope, token.{Token.Token, TokenRef.TokenRef}}
@@ -17,11 +17,11 @@ use Rattle.lc_glob.specs.declared.simple_pattern.OtherKind.TheVariants as other
 use Rattle.lc_glob.specs.declared.pattern_view.KindRef.TheVariants as kind_ref
 use Rattle.lc_glob.specs.declared.pattern_ref.PatternRef.TheVariants as pattern_ref
 
--- a bracket, whose ranges come first among the tokens
+-- the bracket of a byte set, whose ranges come first among the set's tokens
 abbrev pub set_model : ByteSet → TokenModel
 set_model s = class s.negated (ranges_first s.tokens.now)
 
--- tokens and segments as they are matched
+-- the tokens and segments that those in the code stand for
 abbrev pub token_ref_model : TokenRef → TokenModel
 token_ref_model (ref.Literal c) = literal c
 token_ref_model ref.AnyByte = any_byte
@@ -44,7 +44,7 @@ segments_ref_model (segments_ref.Ends left) = map ends_segment (segments_left le
 segments_ref_model (segments_ref.Exact left) = map exact_segment (segments_left left.rest)
 segments_ref_model (segments_ref.Tokens left) = map (λ part. segment_from true (tokens_model part)) (cuts_left is_separator left.rest)
 
--- a dead pattern, and one for directories only or not, anchored or not, with its segments
+-- a dead pattern, and a pattern that is not dead: for directories only or not, anchored or not, with its segments
 abbrev pub dead_model : Bool → PatternModel
 dead_model is_dir_only = record { is_dead = true; is_dir_only = is_dir_only; is_anchored = false; segments = [] }
 
@@ -52,7 +52,7 @@ abbrev pub live_model : Bool → Bool → List SegmentModel → PatternModel
 live_model is_dir_only is_anchored segments =
     record { is_dead = false; is_dir_only = is_dir_only; is_anchored = is_anchored; segments = segments }
 
--- the bytes of a simple pattern by their kind, without the separators at its ends and, of a suffix, without the star
+-- the pattern of a simple pattern's kind and bytes; the bytes have no separators at their ends and, for a suffix, no star
 abbrev pub simple_model : Bool → SimpleKind → List ℕ → PatternModel
 simple_model is_dir_only (simple.Suffix is_whole) bytes = live_model is_dir_only false (plain (end_tokens is_whole bytes) ∷ [])
 simple_model is_dir_only (simple.Other other.Dead) bytes = dead_model is_dir_only
@@ -61,25 +61,25 @@ simple_model is_dir_only (simple.Other other.Exact) bytes = live_model is_dir_on
 simple_model is_dir_only (simple.Other other.Ends) bytes = live_model is_dir_only true (map ends_segment (segments_of bytes))
 simple_model is_dir_only (simple.Other other.WholePath) bytes = live_model is_dir_only true (map bytes_segment (segments_of bytes))
 
--- a simple pattern, by its form and its bytes
+-- the pattern of a simple pattern's form and bytes
 abbrev pub form_model : SimpleForm → List ℕ → PatternModel
 form_model form bytes = simple_model form.is_dir_only form.kind bytes
 
--- the tokens of a pattern that was read, without separators at its ends
+-- the pattern of a scope and of stored tokens, which have no separators at their ends
 abbrev pub token_pattern_model : Scope → List Token → PatternModel
 token_pattern_model scope tokens = trimmed_model tokens_model is_separator scope.is_dir_only scope.is_anchored tokens
 
--- a pattern, by its kind
+-- the pattern of a `PatternKind`
 abbrev pub pattern_kind_model : PatternKind → PatternModel
 pattern_kind_model (Simple form bytes) = form_model form bytes.items
 pattern_kind_model (Tokens scope tokens) = token_pattern_model scope tokens.items
 
--- one that is lent
+-- the pattern of a borrowed pattern
 abbrev pub pattern_ref_model : PatternRef → PatternModel
 pattern_ref_model (pattern_ref.Simple p) = form_model p.form p.bytes.now
 pattern_ref_model (pattern_ref.Tokens p) = token_pattern_model p.scope p.tokens.now
 
--- and as it is matched
+-- the pattern of a view, by whether it is for directories only, and by its kind
 abbrev pub pattern_view_model : Bool → KindRef → PatternModel
 pattern_view_model is_dir_only kind_ref.Dead = dead_model is_dir_only
 pattern_view_model is_dir_only (kind_ref.LastSegment tokens) = live_model is_dir_only false (plain (tokens_ref_model tokens) ∷ [])

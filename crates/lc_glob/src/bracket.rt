@@ -1,4 +1,4 @@
-//! What is between brackets, read from its bytes into the tokens of a pattern.
+//! Reading a bracket of a pattern, such as `[a-z]`, as tokens. The items of a bracket are bytes, ranges and classes.
 
 ghost use Rattle.std.specs.Prelude.{◌≡◌, ◌<◌, ◌≤◌, ◌+◌, ◌++◌, length, [], ◌∷◌, MatchOption, IfOk, IfSome, Some, None, true, not, ◌&&◌};
 ghost use Rattle.std.specs.Prelude.{◌==◌};
@@ -10,7 +10,7 @@ use crate::token::Token;
 use memchr::memchr;
 use std::alloc::AllocError;
 
-/// Returns an element that begins with the byte `b`, and how many of the bytes after it belong to it.
+/// Returns the byte that `b` stands for in a bracket, and how many bytes of `rest` it read. A backslash stands for the byte after it.
 fn element_at(b: u8, rest: &[u8]) -> Option<(u8, usize)>
     ensures is { result ≡ element b rest.now }
     ensures within { IfSome result (λ r. (r.1 ≤ length rest.now) × (r.1 ≤ 1)) }
@@ -22,7 +22,8 @@ fn element_at(b: u8, rest: &[u8]) -> Option<(u8, usize)>
     Some((*c, 1))
 }
 
-/// Returns the element `x`, after which `taken` bytes are used, and perhaps a range from it.
+/// Returns the range that begins with the byte `x`, such as `a-z`, or the range of `x` alone. It also returns `taken` plus the number of
+/// bytes of `rest` that it read.
 fn range_at(x: u8, taken: usize, rest: &[u8]) -> Option<((u8, u8), usize)>
     requires { taken ≤ 1 }
     ensures is { MatchOption result (range_from x taken rest.now ≡ None) (λ r. range_from x taken rest.now ≡ Some (r.0 ∷ [], r.1)) }
@@ -41,7 +42,7 @@ fn range_at(x: u8, taken: usize, rest: &[u8]) -> Option<((u8, u8), usize)>
     Some(((x, x.max(y)), taken + 2 + more))
 }
 
-/// Returns the ranges of a class with more than letters and digits, in ASCII.
+/// Returns the ASCII ranges of a class with more than letters and digits, by its name, such as `punct` of `[:punct:]`.
 fn other_class_at(name: &[u8]) -> Option<&'static [(u8, u8)]>
     ensures { MatchOption result (other_class_of name.now ≡ None) (λ r. other_class_of name.now ≡ Some r.now) }
 {
@@ -62,7 +63,7 @@ fn other_class_at(name: &[u8]) -> Option<&'static [(u8, u8)]>
     }
 }
 
-/// Returns the ranges of a class, in ASCII.
+/// Returns the ASCII ranges of a class by its name, such as `alpha` of `[:alpha:]`.
 fn class_at(name: &[u8]) -> Option<&'static [(u8, u8)]>
     ensures { MatchOption result (class_of name.now ≡ None) (λ r. class_of name.now ≡ Some r.now) }
 {
@@ -83,17 +84,17 @@ fn class_at(name: &[u8]) -> Option<&'static [(u8, u8)]>
     }
 }
 
-/// What begins with a `[:`.
+/// What the two bytes `[:` begin in a bracket.
 enum Colon {
-    /// A class: its ranges, and how many bytes it takes after the `[`.
+    /// A class, such as `[:alpha:]`: its ranges, and how many bytes it has after its first `[`.
     Class(&'static [(u8, u8)], usize),
-    /// A name that no class has, so the pattern is dead.
+    /// A class with an unknown name, which makes the pattern dead.
     Unknown,
-    /// No class, so the `[` is an ordinary byte.
+    /// Not a class, so the `[` is an ordinary byte.
     Ordinary,
 }
 
-/// Returns what begins with a `[:`, by the bytes after these two, whose first close is at `close`.
+/// Returns what `[:` begins in a bracket. `after_colon` has the bytes after it, with the first `]` at the index `close`.
 fn colon_at(after_colon: &[u8], close: usize) -> Colon
     requires { close < length after_colon.now }
     ensures { ColonIs result after_colon.now close }
@@ -107,7 +108,8 @@ fn colon_at(after_colon: &[u8], close: usize) -> Colon
     Colon::Class(ranges, close + 2)
 }
 
-/// Pushes the range of an item that is an element or a range, and returns how many bytes after `b` belong to it.
+/// Pushes the range of a bracket's item that is one byte or a range. It returns how many bytes after the item's first byte `b` belong to
+/// the item.
 fn push_plain(b: u8, rest: &[u8], tokens: &mut Vec<Token>) -> Result<Option<usize>, AllocError>
     ensures is { IfOk result (λ r. Pushes range_tokens (plain_item b rest.now) tokens.old.items tokens.new.items r) }
     ensures within { IfOk result (λ r. IfSome r (λ k. k ≤ length rest.now)) }
@@ -131,7 +133,7 @@ fn push_ranges(ranges: &[(u8, u8)], tokens: &mut Vec<Token>) -> Result<(), Alloc
     Ok(())
 }
 
-/// Returns the place of the first close, or the length.
+/// Returns the index of the first `]`, or the length if there is none.
 fn first_close(bytes: &[u8]) -> usize
     ensures is { result ≡ first_close bytes.now }
     ensures within { result ≤ length bytes.now }
@@ -142,7 +144,7 @@ fn first_close(bytes: &[u8]) -> usize
     }
 }
 
-/// Pushes the ranges of an item that begins with `[:`, and returns how many bytes after the `[` belong to it.
+/// Pushes the ranges of a bracket's item that begins with `[:`, and returns how many bytes after this `[` belong to the item.
 fn push_colon(
     after_bracket: &[u8],
     after_colon: &[u8],
@@ -166,8 +168,8 @@ fn push_colon(
     }
 }
 
-/// Pushes the ranges of the item that begins with `b`, and returns how many bytes after it belong to it. It returns `None` if the item
-/// makes the pattern dead.
+/// Pushes the ranges of a bracket's item that begins with `b`, and returns how many bytes after `b` belong to the item. It returns `None`
+/// if the item makes the pattern dead.
 fn push_item(b: u8, rest: &[u8], tokens: &mut Vec<Token>) -> Result<Option<usize>, AllocError>
     ensures is { IfOk result (λ r. Pushes range_tokens (item b rest.now) tokens.old.items tokens.new.items r) }
     ensures within { IfOk result (λ r. IfSome r (λ k. k ≤ length rest.now)) }
@@ -182,14 +184,14 @@ fn push_item(b: u8, rest: &[u8], tokens: &mut Vec<Token>) -> Result<Option<usize
     }
 }
 
-/// Returns whether the byte is the close, which the first item can't be.
+/// Returns whether a byte closes the bracket: it is a `]`, and not the first item.
 fn closes(b: u8, first: bool) -> bool
     ensures { result ≡ (b == closing && not first) }
 {
     b == b']' && !first
 }
 
-/// Pushes the ranges of the items up to the close, and returns how many bytes were read, the close included.
+/// Pushes the ranges of a bracket's items up to the closing `]`, and returns how many bytes it read, the `]` included.
 fn push_items(bytes: &[u8], tokens: &mut Vec<Token>) -> Result<Option<usize>, AllocError>
     ensures is { IfOk result (λ r. Pushes range_tokens (items true 0 bytes.now) tokens.old.items tokens.new.items r) }
     ensures within { IfOk result (λ r. IfSome r (λ k. k ≤ length bytes.now)) }
@@ -211,8 +213,8 @@ fn push_items(bytes: &[u8], tokens: &mut Vec<Token>) -> Result<Option<usize>, Al
     }
 }
 
-/// Pushes the bracket that opened before these bytes, and returns how many of them belong to it. It returns `None` if the bracket makes the
-/// pattern dead.
+/// Pushes the tokens of the bracket whose `[` comes before these bytes, and returns how many of the bytes belong to the bracket. It returns
+/// `None` if the bracket makes the pattern dead.
 pub(crate) fn push_bracket(
     bytes: &[u8],
     tokens: &mut Vec<Token>,

@@ -5,11 +5,11 @@ ghost use Rattle.lc_glob.specs.{TokenLists.ranges_first, Tokens.{class, in_range
 
 use crate::token::Token;
 
-/// The bytes of some ranges, or all but those and the slash.
+/// A set of bytes: those of some ranges or, if it is negated, all bytes but those and the slash.
 #[derive(Clone, Copy)]
 pub(crate) struct ByteSet<'p> {
     pub(crate) negated: bool,
-    /// The tokens after the bracket's own. The ranges at their beginning are those of the bracket.
+    /// The tokens after the token that opens the bracket. The ranges at their beginning are the bracket's.
     pub(crate) tokens: &'p [Token],
 }
 
@@ -26,7 +26,7 @@ impl<'p> ByteSet<'p> {
         b != b'/' && self.negated != self.has(b)
     }
 
-    /// Returns whether the byte is in one of the ranges.
+    /// Returns whether the byte is in one of the bracket's ranges.
     fn has(self, b: u8) -> bool
         ensures { result ≡ in_ranges (ranges_first self.entry.tokens.now) b }
     {

@@ -7,15 +7,17 @@ use crate::lengths::Lengths;
 use crate::path_segment::{ByteTests, PathLeft, PathSegment};
 use std::marker::Model;
 
-/// The least number of bytes of a path that is measured. For a shorter path, comparing each segment costs less.
+/// The least number of bytes of a path whose segments are measured. For a shorter path, comparing the segments costs less than measuring
+/// them.
 const LONG_PATH: usize = 256;
 
-/// The least number of patterns for which a path is measured. Fewer cost less than to measure it.
+/// The least number of patterns for which the segments of a path are measured. Matching fewer patterns costs less than measuring.
 const MANY_PATTERNS: usize = 64;
 
 /// A path that is matched with many patterns. The beginning of its last segment is searched once.
 ///
-/// Making one costs a search for a slash from the end of the path, one pass over a path that is measured, and no memory.
+/// Making a candidate searches for a slash from the end of the path, and passes once over a path whose segments are measured. It allocates
+/// nothing.
 ///
 /// ```
 /// let candidate = Candidate::new(b"src/main.c");
@@ -27,7 +29,7 @@ pub struct Candidate<'a> {
     whole: PathSegment<'a>,
     pub(crate) above: PathLeft<'a>,
     pub(crate) last: PathSegment<'a>,
-    /// The lengths of the segments above the last.
+    /// The shortest and the longest length of the segments above the last one.
     pub(crate) lengths: Lengths,
 }
 
@@ -51,8 +53,9 @@ impl<'a> Candidate<'a> {
         Self::measured_from(path, usize::MAX)
     }
 
-    /// Makes the candidate of a path for this many patterns. For many patterns a long path is measured. A pattern with a segment that is
-    /// shorter or longer than each of the path's is then rejected without a byte test.
+    /// Makes the candidate of a path that is matched with this many patterns. For many patterns, the lengths of a long path's segments are
+    /// measured. They can reject a pattern without comparing bytes, if one of its segments is too long or too short for all segments of the
+    /// path.
     pub fn for_patterns(path: &'a [u8], patterns: usize) -> Self
         ensures { result ≡ path.now }
     {
@@ -63,14 +66,14 @@ impl<'a> Candidate<'a> {
         }
     }
 
-    /// Makes the candidate of a path, which is measured where it is long.
+    /// Makes the candidate of a path. The lengths of the segments are measured if the path has at least `LONG_PATH` bytes.
     pub(crate) fn measured(path: &'a [u8]) -> Self
         ensures { result ≡ path.now }
     {
         Self::measured_from(path, LONG_PATH)
     }
 
-    /// Makes the candidate of a path, which is measured where it has at least `long` bytes.
+    /// Makes the candidate of a path. The lengths of the segments are measured if the path has at least `long` bytes.
     fn measured_from(path: &'a [u8], long: usize) -> Self
         ensures { result ≡ path.now }
     {
@@ -97,7 +100,7 @@ impl<'a> Candidate<'a> {
         self.whole
     }
 
-    /// Returns whether the path is these bytes. If the path has as many bytes, it makes a byte test for each.
+    /// Returns whether the path equals these bytes. If both have the same length, it counts a byte test for each byte.
     #[inline]
     pub(crate) fn is(&self, bytes: &[u8], tests: &mut ByteTests) -> bool
         ensures same { result ≡ bytes_eq self.now bytes.now }

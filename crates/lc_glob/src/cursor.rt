@@ -1,22 +1,22 @@
-//! How far the match of a segment has come, for tokens of any form.
+//! How far the match of a segment has come: the tokens and the bytes that are still to be compared.
 
 ghost use Rattle.lc_glob.specs.Steps.{RetryIs};
 
 use crate::element::Element;
 use crate::path_segment::PathSegment;
 
-/// Tokens, and the segment or the rest of it that they are compared with.
+/// A place in a match: the tokens of a pattern's segment, and the rest of a path's segment that is still to be compared with them.
 #[derive(Clone, Copy)]
 pub(crate) struct Cursor<'p, 'n, E> {
     pub(crate) tokens: &'p [E],
     pub(crate) segment: PathSegment<'n>,
 }
 
-/// What the last of the tokens does with the end of the segment.
+/// The result of comparing the last token with the last byte of the segment.
 pub(crate) enum EndStep<'p, 'n, E> {
-    /// It is a star.
+    /// The last token is a star.
     Star,
-    /// The token matches the last byte, and this cursor has what is before both.
+    /// The last token matches the last byte, and this cursor has what is before both.
     Taken(Cursor<'p, 'n, E>),
     /// The tokens fit the segment: no token and no byte is left, or the only token left is a star.
     Fitted,
@@ -24,11 +24,11 @@ pub(crate) enum EndStep<'p, 'n, E> {
     Stuck,
 }
 
-/// What the first of the tokens does with the front of the segment.
+/// The result of comparing the first token with the first byte of the segment.
 pub(crate) enum FrontStep<'p, 'n, E> {
-    /// It is a star, and these tokens are after it.
+    /// The first token is a star, and these tokens are after it.
     Star(&'p [E]),
-    /// The token matches the first byte, and this cursor has what is after both.
+    /// The first token matches the first byte, and this cursor has what is after both.
     Taken(Cursor<'p, 'n, E>),
     /// The tokens fit the segment from here: no token and no byte is left, or the only token left is a star.
     Fitted,
@@ -37,7 +37,7 @@ pub(crate) enum FrontStep<'p, 'n, E> {
 }
 
 impl<'p, 'n, E: Element> Cursor<'p, 'n, E> {
-    /// Goes back to these tokens, with one more byte for the star before them, if there is one.
+    /// Returns a cursor that gives one more byte to the star before the tokens, if a byte is left.
     pub(crate) fn retry(self) -> Option<Self>
         ensures { RetryIs self.entry result }
     {

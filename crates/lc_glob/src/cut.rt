@@ -5,9 +5,9 @@ ghost use Rattle.lc_glob.specs.Pieces.{is_byte, pieces_of, pieces_left};
 
 use memchr::memchr;
 
-/// Splits bytes at the first `byte`: those before it, and those after it. Without that byte it returns all bytes and `None`.
+/// Splits bytes at the first `byte`: the bytes before it, and those after it. Without that byte it returns all bytes and `None`.
 ///
-/// It reads once the bytes before the cut, and allocates nothing.
+/// It reads the bytes before the cut once, and allocates nothing.
 ///
 /// ```
 /// let (name, value) = cut_at_first(b'=', b"eol=lf=");

@@ -1,4 +1,4 @@
-//! What patterns are made of: the bytes of a simple pattern, or tokens that were read.
+//! The elements of a pattern: the bytes of a simple pattern, or the tokens that another pattern was read as.
 
 ghost use Rattle.std.specs.Prelude.{◌≡◌, ◌∷◌, ◌++◌, [], not, ◌==◌, Bool, List, map, count_by, MatchOption, IfSome, IsTrue};
 ghost use Rattle.std.specs.List.{list_any, slice_split};
@@ -10,7 +10,7 @@ use crate::cut::cut_at_first;
 use crate::token::{Token, TokenRef};
 use memchr::memrchr;
 
-/// A byte, or a token that was read.
+/// An element of a pattern: a byte of a simple pattern, or a token that was read.
 pub(crate) trait Element: Copy {
     /// The tokens that elements between two separators mean.
     ghost tokens_in: { List Self → List TokenModel };
@@ -18,21 +18,21 @@ pub(crate) trait Element: Copy {
     /// Whether an element separates segments.
     ghost separates: { Self → Bool };
 
-    /// Returns the first token, and the elements of the others.
+    /// Returns the first token of the elements, and the elements of the other tokens.
     fn split_first_token<'p>(elements: &'p [Self]) -> Option<(TokenRef<'p>, &'p [Self])>
         ensures { MatchOption result (tokens_in elements.now ≡ [])
             (λ p. tokens_in elements.now ≡ token_ref_model p.0 ∷ tokens_in p.1.now) };
 
-    /// Returns the last token, and the elements of the others.
+    /// Returns the last token of the elements, and the elements of the other tokens.
     fn split_last_token<'p>(elements: &'p [Self]) -> Option<(TokenRef<'p>, &'p [Self])>
         ensures { MatchOption result (tokens_in elements.now ≡ [])
             (λ p. tokens_in elements.now ≡ tokens_in p.1.now ++ token_ref_model p.0 ∷ []) };
 
-    /// Returns the literal that the last element is, whatever precedes it.
+    /// Returns the byte of the last element, if this element is a literal, whatever precedes it.
     fn last_literal(elements: &[Self]) -> Option<u8>
         ensures { IfSome result (λ b. EndsWithLiteral tokens_in separates elements.now b) };
 
-    /// Returns the literal that the first element is, whatever follows it.
+    /// Returns the byte of the first element, if this element is a literal, whatever follows it.
     fn first_literal(elements: &[Self]) -> Option<u8>
         ensures { IfSome result (λ b. BeginsWithLiteral tokens_in separates elements.now b) };
 
@@ -40,11 +40,13 @@ pub(crate) trait Element: Copy {
     fn least_bytes(elements: &[Self]) -> usize
         ensures { result ≡ least_bytes (tokens_in elements.now) };
 
-    /// Splits elements at the first separator: those before it, and those after it.
+    /// Splits elements at the first separator: the elements before it, and those after it. Without a separator it returns all elements and
+    /// `None`.
     fn cut_at_first_separator<'p>(elements: &'p [Self]) -> (&'p [Self], Option<&'p [Self]>)
         ensures { slice_split separates elements.now ≡ result.0.now ∷ cuts_left separates result.1 };
 
-    /// Splits elements at the last separator: those before it, and those after it.
+    /// Splits elements at the last separator: the elements before it, and those after it. Without a separator it returns `None` and all
+    /// elements.
     fn cut_at_last_separator<'p>(elements: &'p [Self]) -> (Option<&'p [Self]>, &'p [Self])
         ensures { slice_split separates elements.now ≡ cuts_left separates result.0 ++ result.1.now ∷ [] };
 }
@@ -158,7 +160,7 @@ impl Element for Token {
     }
 }
 
-/// Returns a byte of a simple pattern that is a literal, and separates no segments.
+/// Returns the byte of a simple pattern, if this byte is a literal and separates no segments.
 fn segment_literal(b: u8) -> Option<u8>
     ensures { IfSome result (λ c. (c ≡ b) × IsTrue (is_segment_literal b)) }
 {
@@ -169,7 +171,7 @@ fn segment_literal(b: u8) -> Option<u8>
     }
 }
 
-/// Returns how many bytes of a simple pattern are no star.
+/// Returns how many bytes of a simple pattern are not stars.
 fn count_bytes(bytes: &[u8]) -> usize
     ensures { result ≡ count_by (λ b. not (is_star (byte_token b))) bytes.now }
 {
@@ -179,21 +181,21 @@ fn count_bytes(bytes: &[u8]) -> usize
         .count()
 }
 
-/// Returns how many tokens match one byte.
+/// Returns how many of the tokens match one byte each.
 fn count_tokens(tokens: &[Token]) -> usize
     ensures { result ≡ count_by is_for_byte tokens.now }
 {
     tokens.iter().filter(|token| token.is_for_byte()).count()
 }
 
-/// Returns whether elements mean no token.
+/// Returns whether the elements stand for no token.
 pub(crate) fn has_no_token<E: Element>(elements: &[E]) -> bool
     ensures { result ≡ is_empty (E.tokens_in elements.now) }
 {
     E::split_first_token(elements).is_none()
 }
 
-/// Returns whether elements mean two stars and nothing else.
+/// Returns whether the elements stand for two stars and nothing else.
 pub(crate) fn are_two_stars<E: Element>(elements: &[E]) -> bool
     ensures { result ≡ is_double_star (E.tokens_in elements.now) }
 {
@@ -209,7 +211,7 @@ pub(crate) fn are_two_stars<E: Element>(elements: &[E]) -> bool
     second.is_star() && has_no_token(rest)
 }
 
-/// Returns whether a star is among the tokens.
+/// Returns whether a star is among the tokens of the elements.
 pub(crate) fn has_star<E: Element>(elements: &[E]) -> bool
     ensures { result ≡ list_any is_star (E.tokens_in elements.now) }
 {

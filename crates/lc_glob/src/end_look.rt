@@ -8,8 +8,8 @@ use crate::element::Element;
 use crate::path_segment::{ByteTests, PathSegment};
 use crate::token::TokenRef;
 
-/// Returns whether an end of a path agrees with the elements, by one byte test: `last` if the last element is a literal, and otherwise
-/// `first` if the first element is one.
+/// Returns whether an end of a path agrees with the elements of a pattern, by at most one byte test. If the last element is a literal, it
+/// tests the last byte of `last`. Otherwise, if the first element is a literal, it tests the first byte of `first`.
 #[inline]
 pub(crate) fn agrees_at_end<E: Element>(
     elements: &[E],

@@ -1,4 +1,5 @@
-//! The lengths of the segments of a path. They reject a pattern with a segment that none of them can fit.
+//! The shortest and the longest length of a path's segments. They can reject a pattern that has a segment too long or too short for all of
+//! these.
 
 ghost use Rattle.std.specs.{Prelude.{◌≡◌, ◌≤◌, ℕ, List, IsTrue, length}, List.All};
 ghost use Rattle.lc_glob.specs.{Leads.Leads, Lengths.{AreBetween, FitsSome}, Path.segments_left, Patterns.plain};
@@ -8,7 +9,7 @@ use crate::element::{Element, has_star};
 use crate::path_segment::PathLeft;
 use crate::segment_ref::{SegmentRef, SegmentsRef, TokensRef};
 
-/// The least and the greatest number of bytes of a path's segments, as far as they are known.
+/// Two bounds between which the lengths of a path's segments are, in bytes. For a path that was not measured, any length is between them.
 #[derive(Clone, Copy)]
 pub(crate) struct Lengths {
     shortest: usize,
@@ -16,7 +17,7 @@ pub(crate) struct Lengths {
 }
 
 impl Lengths {
-    /// Returns the lengths of a path that was not measured. The length of any segment is between them.
+    /// Returns the bounds for a path that was not measured, which allow any length.
     pub(crate) fn unknown() -> Self
         ensures { (names : List (List ℕ)) → All (λ name. length name ≤ usize.MAX) names → AreBetween result names }
     {
@@ -26,7 +27,7 @@ impl Lengths {
         }
     }
 
-    /// Measures segments, in one pass over them.
+    /// Measures the segments of a path, in one pass over them.
     pub(crate) fn of(path: PathLeft) -> Self
         ensures { AreBetween result (segments_left path.entry.rest) }
     {
@@ -41,8 +42,8 @@ impl Lengths {
         Lengths { shortest, longest }
     }
 
-    /// Returns whether a pattern's segments may lead to the end of names with such lengths. It reads no byte of a name and, if no length is
-    /// known, looks at no segment.
+    /// Returns false only if the pattern's segments match no path whose segments have lengths within these bounds. It reads no byte of a
+    /// path, and it tests no segment if the path was not measured.
     #[inline]
     pub(crate) fn allow(self, segments: SegmentsRef) -> bool
         ensures { (names : List (List ℕ)) → AreBetween self names → Leads (segments_ref_model segments.entry) names → IsTrue result }
@@ -50,7 +51,7 @@ impl Lengths {
         self.longest == usize::MAX || self.allow_each(segments)
     }
 
-    /// Like `allow`, but compares each segment.
+    /// Like `allow`, but tests the pattern's segments even if the path was not measured.
     #[inline(never)]
     fn allow_each(self, segments: SegmentsRef) -> bool
         ensures { (names : List (List ℕ)) → AreBetween self names → Leads (segments_ref_model segments.entry) names → IsTrue result }
@@ -65,7 +66,7 @@ impl Lengths {
         true
     }
 
-    /// Returns whether a segment may fit a name of such a length.
+    /// Returns false only if the pattern's segment fits no name with a length within these bounds.
     fn allow_segment(self, segment: SegmentRef) -> bool
         ensures { FitsSome self (segment_ref_model segment.entry) → IsTrue result }
     {
@@ -75,7 +76,7 @@ impl Lengths {
         }
     }
 
-    /// Returns whether tokens may fit a name of such a length.
+    /// Returns false only if the tokens fit no name with a length within these bounds.
     fn allow_tokens(self, tokens: TokensRef) -> bool
         ensures { FitsSome self (plain (tokens_ref_model tokens.entry)) → IsTrue result }
     {
@@ -87,7 +88,7 @@ impl Lengths {
         }
     }
 
-    /// Returns whether tokens of any kind may fit a name of such a length.
+    /// Returns false only if the tokens of these elements fit no name with a length within these bounds.
     fn allow_elements<E: Element>(self, elements: &[E]) -> bool
         ensures { FitsSome self (plain (E.tokens_in elements.now)) → IsTrue result }
     {
@@ -99,7 +100,7 @@ impl Lengths {
         }
     }
 
-    /// Returns whether a name may have this length.
+    /// Returns whether a length is within these bounds.
     fn has(self, length: usize) -> bool
         ensures { self.shortest ≤ length → length ≤ self.longest → IsTrue result }
     {

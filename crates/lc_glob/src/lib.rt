@@ -6,24 +6,24 @@
 //!
 //! | In a pattern | Matches |
 //! |---|---|
-//! | `*` | any bytes but a slash, none included |
-//! | `?` | one byte but a slash |
-//! | `[a-z]`, `[!a-z]`, `[[:digit:]]` | one byte of the set, or one that is neither in it nor a slash |
+//! | `*` | any bytes but slashes, also no byte |
+//! | `?` | one byte, but not a slash |
+//! | `[a-z]`, `[!a-z]`, `[[:digit:]]` | one byte of a set; after `!`, one byte that is neither in the set nor a slash |
 //! | `\` and a byte | that byte |
-//! | `/` | the end of a segment; at the end the pattern is for directories only, and elsewhere it is anchored |
-//! | `**` between separators | any run of segments, and as the last segment one or more |
+//! | `/` | the end of a segment; one at the end makes the pattern match directories only, and any other one whole paths only |
+//! | `**` between separators | any run of segments, also an empty one; as the last segment, one segment or more |
 //!
-//! A pattern that can't be read is dead and matches nothing. Such a pattern ends in a single backslash, has a bracket without its close or
-//! with an unknown class, or has an empty segment.
+//! A pattern that can't be read is dead and matches nothing. Such a pattern ends in a single backslash, has a bracket without its closing
+//! `]` or with an unknown class, or has an empty segment.
 //!
 //! A line of an ignore file may have more than a pattern, such as negation, a comment or trailing spaces. These are no part of the pattern.
 //!
 //! Reading allocates memory, and matching allocates none. `matches_counted` and `match_directories_counted` return the number of byte
-//! tests: at most `(p + 1) * (q + 1)` for a pattern of `p` bytes and a path of `q`. The other calls match in the same way, but no contract
-//! bounds their tests.
+//! tests, each of one byte of a path. This number is at most `(p + 1) * (q + 1)` for a pattern of `p` bytes and a path of `q` bytes.
+//! The other calls match in the same way, but no contract bounds their tests.
 //!
-//! One byte test at an end rejects most paths that a pattern does not match (`end_look`). The segments of a long path are measured once
-//! (`lengths`). This rejects a pattern with a segment that none of them can fit, without a byte test.
+//! One byte test at an end of a path rejects most paths that a pattern does not match (`end_look`). The lengths of a long path's segments
+//! are measured once (`lengths`). A pattern with a segment that fits none of these lengths can be rejected without a byte test.
 //!
 //! - `pattern`, `pattern_set`, `candidate`: a pattern; many patterns in order; a path that is matched with many patterns
 //! - `reading`, `bracket`, `byte_set`, `token`, `scope`: bytes read as a pattern, and what the slashes in it mean

@@ -1,7 +1,7 @@
-//! Which of the directories above a path a pattern matches, found in one pass over the pattern's segments.
+//! Finds which of the directories above a path a pattern matches, in one pass over the pattern's segments.
 //!
-//! Each name on the way down has a flag. It shows whether the segments so far match the path above the name. So no segment is tried twice
-//! at a name, whatever number of double stars precede it.
+//! Each name on the way down to the path has a flag. After each segment of the pattern, a flag shows whether the segments so far match the
+//! path above its name. So no segment is compared twice with a name, however many double stars precede the segment.
 
 ghost use Rattle.std.specs.Prelude.{◌≡◌, ◌↔◌, ◌≤◌, ◌+◌, ◌*◌, IsTrue, false, length, take, slice_index_or, []};
 ghost use Rattle.lc_glob.specs.{Above.{names_of, IsSet, AreSet, Before, UpTo, has_nested_after}, Costs.{bytes_with_ends, full_cost}};
@@ -11,7 +11,7 @@ use crate::match_segment::fits;
 use crate::path_segment::{ByteTests, PathNames, PathSegment};
 use crate::segment_ref::{SegmentRef, SegmentsRef, TokensRef};
 
-/// Flags the names of the directories that the segments match.
+/// Sets the flag of each name to whether the segments match the directory whose path ends with this name.
 pub(crate) fn match_above(
     segments: SegmentsRef,
     names: PathNames,
@@ -35,7 +35,7 @@ pub(crate) fn match_above(
     }
 }
 
-/// Sets the flags of the names above which the segments match the path.
+/// Sets the flag of each name to whether the segments match the path above this name. A last double star may here match no segment.
 fn lead_above(segments: SegmentsRef, names: PathNames, flags: &mut [bool], tests: &mut ByteTests)
     requires { length names.names.now ≡ length flags.old }
     ensures len { length flags.new ≡ length flags.old }
@@ -56,7 +56,7 @@ fn lead_above(segments: SegmentsRef, names: PathNames, flags: &mut [bool], tests
     }
 }
 
-/// Flags the first name alone.
+/// Sets the flag of the first name, and clears all others.
 fn flag_first(flags: &mut [bool])
     ensures len { length flags.new ≡ length flags.old }
     ensures set { AreSet flags.new (λ k. k ≡ 0) }
@@ -67,7 +67,7 @@ fn flag_first(flags: &mut [bool])
     }
 }
 
-/// Keeps only the flags of the names that the tokens fit. Each name is compared at most once.
+/// Clears the flag of each name that the tokens do not fit. It compares each name at most once.
 pub(crate) fn keep(flags: &mut [bool], names: PathNames, tokens: TokensRef, tests: &mut ByteTests)
     requires { length names.names.now ≡ length flags.old }
     ensures len { length flags.new ≡ length flags.old }
@@ -81,7 +81,7 @@ pub(crate) fn keep(flags: &mut [bool], names: PathNames, tokens: TokensRef, test
     }
 }
 
-/// Returns whether a flag is kept: it is set, and the tokens fit the name.
+/// Returns whether the flag of a name stays set: it was set, and the tokens fit the name.
 #[inline]
 fn keeps(is_set: bool, tokens: TokensRef, name: PathSegment, tests: &mut ByteTests) -> bool
     ensures kept { IsTrue result ↔ (IsTrue is_set × Fits (tokens_ref_model tokens.entry) name.entry.bytes.now) }
@@ -90,7 +90,7 @@ fn keeps(is_set: bool, tokens: TokensRef, name: PathSegment, tests: &mut ByteTes
     is_set && fits(tokens, name, tests)
 }
 
-/// Moves each flag to the next name; the last is lost.
+/// Moves each flag to the next name. The first flag becomes false, and the last flag is lost.
 fn shift(flags: &mut [bool])
     ensures len { length flags.new ≡ length flags.old }
     ensures set { AreSet flags.new (Before (IsSet flags.old)) }
@@ -103,7 +103,7 @@ fn shift(flags: &mut [bool])
     }
 }
 
-/// Flags all names from the first that is flagged on.
+/// Sets all flags after the first one that is set.
 fn spread(flags: &mut [bool])
     ensures len { length flags.new ≡ length flags.old }
     ensures set { AreSet flags.new (UpTo (IsSet flags.old)) }
@@ -115,7 +115,7 @@ fn spread(flags: &mut [bool])
     }
 }
 
-/// Returns whether a double star comes after another one or after a segment with a star.
+/// Returns whether a double star comes after another double star, or after a segment with a star.
 pub(crate) fn has_nested_wildcards(segments: SegmentsRef) -> bool
     ensures { result ≡ has_nested_after false (segments_ref_model segments.entry) }
 {

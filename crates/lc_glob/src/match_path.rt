@@ -1,8 +1,8 @@
 //! Matching a pattern's segments with those of a path.
 //!
-//! The segments after the last double star are compared from the end of the path, so they cost no more than the pattern is long. The
-//! segments before it are searched from the front. A shortest match of what precedes a double star leaves the most for the rest, so the
-//! search goes back only to the last double star that was passed.
+//! The segments after the last double star are compared from the end of the path, each with one segment. The segments before it are
+//! searched from the front. A shortest match of what precedes a double star leaves the most for the rest. So the search goes back only to
+//! the last double star that was passed.
 
 ghost use Rattle.std.specs.Prelude.{◌↔◌, ◌≤◌, ◌+◌, ◌-◌, IsTrue};
 ghost use Rattle.lc_glob.specs.{Matches.MatchesPath, Path.{segments_of, segments_left}};
@@ -14,8 +14,8 @@ use crate::match_segment::fits;
 use crate::path_segment::{ByteTests, PathLeft};
 use crate::segment_ref::{SegmentRef, SegmentsRef};
 
-/// Returns whether the segments match the path's. It is inlined, so that each kind of segments has its own code. To test the kind, and to
-/// pass the segments on in memory, would cost more than to compare the last segment, which rejects most paths.
+/// Returns whether the pattern's segments match the path. It is inlined, so that each kind of segments has its own code. To test the kind,
+/// and to pass the segments on in memory, would cost more than to compare the last segment, which rejects most paths.
 #[inline(always)]
 pub(crate) fn matches_path(segments: SegmentsRef, path: &Candidate, tests: &mut ByteTests) -> bool
     ensures matches_path { IsTrue result ↔ MatchesPath (segments_ref_model segments.entry) (segments_of path.now) }
@@ -43,39 +43,39 @@ pub(crate) fn matches_path(segments: SegmentsRef, path: &Candidate, tests: &mut 
     lengths.allow(front) && before.leads_from_end(tests)
 }
 
-/// Segments of a pattern, and the path's segments, or the rest of them, that they are compared with.
+/// A place in a match: the segments of a pattern and the segments of a path that are still to be compared.
 #[derive(Clone, Copy)]
 struct PathCursor<'p, 'n> {
     segments: SegmentsRef<'p>,
     left: PathLeft<'n>,
 }
 
-/// What the last of a pattern's segments does with the last of a path's.
+/// The result of comparing the last segment of a pattern with the last segment of a path.
 enum PathEndStep<'p, 'n> {
-    /// It is a double star.
+    /// The pattern's last segment is a double star.
     DoubleStar,
-    /// The pattern's segment fits the path's, and this cursor has what is before both.
+    /// The pattern's last segment fits the path's last segment, and this cursor has the segments before both.
     Taken(PathCursor<'p, 'n>),
-    /// The pattern's segments lead to the end of the path: there are neither, or a double star alone.
+    /// The pattern's segments match what is left of the path: neither has a segment left, or only a double star is left of the pattern.
     Arrived,
-    /// They don't.
+    /// The pattern's segments don't match what is left of the path.
     Stuck,
 }
 
-/// What the first of a pattern's segments does with a path's.
+/// The result of comparing the first segment of a pattern with the first segment of a path.
 enum PathFrontStep<'p, 'n> {
-    /// It is a double star, and these segments are after it.
+    /// The pattern's first segment is a double star, and these segments are after it.
     DoubleStar(SegmentsRef<'p>),
-    /// The pattern's segment fits the path's first, and this cursor has what is after both.
+    /// The pattern's first segment fits the path's first segment, and this cursor has the segments after both.
     Taken(PathCursor<'p, 'n>),
-    /// The pattern's segments lead to the end of the path from here: there are neither, or a double star alone.
+    /// The pattern's segments match what is left of the path: neither has a segment left, or only a double star is left of the pattern.
     Arrived,
-    /// They don't.
+    /// The pattern's segments don't match what is left of the path.
     Stuck,
 }
 
 impl<'p, 'n> PathCursor<'p, 'n> {
-    /// Compares the last segments of both.
+    /// Compares the last segment of the pattern with the last segment of the path.
     fn step_end(self, tests: &mut ByteTests) -> PathEndStep<'p, 'n>
         ensures is { PathEndStepIs result (segments_ref_model self.entry.segments) (segments_left self.entry.left.rest) }
         ensures cost { tests.new.made + cost_after result (cost_at self.entry) ≤ tests.old.made + cost_at self.entry }
@@ -104,7 +104,7 @@ impl<'p, 'n> PathCursor<'p, 'n> {
         }
     }
 
-    /// Compares the first segments of both.
+    /// Compares the first segment of the pattern with the first segment of the path.
     fn step_front(self, tests: &mut ByteTests) -> PathFrontStep<'p, 'n>
         ensures is { PathFrontStepIs result (segments_ref_model self.entry.segments) (segments_left self.entry.left.rest) }
         ensures cost { tests.new.made ≤ tests.old.made + front_cost_at self.entry }
@@ -133,7 +133,7 @@ impl<'p, 'n> PathCursor<'p, 'n> {
         }
     }
 
-    /// Goes back to these segments, with one more of the path's for the double star before them, if there is one.
+    /// Returns a cursor that gives one more segment of the path to the double star before the pattern's segments, if one is left.
     fn retry(self) -> Option<Self>
         ensures { PathRetryIs self.entry result }
     {
@@ -144,7 +144,8 @@ impl<'p, 'n> PathCursor<'p, 'n> {
         })
     }
 
-    /// Returns whether the segments lead to the end of the path, from the last of both on.
+    /// Returns whether the pattern's segments match what is left of the path. It compares from the end. A last double star may here match
+    /// no segment.
     #[inline(never)]
     fn leads_from_end(self, tests: &mut ByteTests) -> bool
         ensures leads { IsTrue result ↔ LeadsAt self.entry }
@@ -161,7 +162,8 @@ impl<'p, 'n> PathCursor<'p, 'n> {
         }
     }
 
-    /// Returns whether the segments lead to the end of the path, from the first of both on.
+    /// Returns whether the pattern's segments match what is left of the path. It compares from the front. A last double star may here match
+    /// no segment.
     #[inline(never)]
     fn leads_from_front(self, tests: &mut ByteTests) -> bool
         ensures leads { IsTrue result ↔ LeadsAt self.entry }

@@ -22,7 +22,8 @@ pub(crate) fn fits(tokens: TokensRef, segment: PathSegment, tests: &mut ByteTest
     }
 }
 
-/// Returns whether literals fit the segment, alone or after a star. One function for both costs less than a jump to either.
+/// Returns whether literals fit the segment: alone if `is_whole`, and otherwise after a star. One function for both costs less than a jump
+/// to one of two.
 #[inline]
 pub(crate) fn fits_end(
     literals: &[u8],

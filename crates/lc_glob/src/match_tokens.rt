@@ -11,7 +11,7 @@ use crate::element::{Element, has_no_token};
 use crate::path_segment::ByteTests;
 
 impl<'p, 'n, E: Element> Cursor<'p, 'n, E> {
-    /// Compares the last token with the last byte, by one byte test at most.
+    /// Compares the last token with the last byte of the segment, by one byte test at most.
     fn step_end(self, tests: &mut ByteTests) -> EndStep<'p, 'n, E>
         ensures is { EndStepIs E.tokens_in result (E.tokens_in self.entry.tokens.now) self.entry.segment.bytes.now }
         ensures cost { tests.new.made + cost_after E.tokens_in result (cost_at E.tokens_in self.entry)
@@ -37,7 +37,7 @@ impl<'p, 'n, E: Element> Cursor<'p, 'n, E> {
         }
     }
 
-    /// Compares the first token with the first byte, by one byte test at most.
+    /// Compares the first token with the first byte of the segment, by one byte test at most.
     fn step_front(self, tests: &mut ByteTests) -> FrontStep<'p, 'n, E>
         ensures is { FrontStepIs E.tokens_in result (E.tokens_in self.entry.tokens.now) self.entry.segment.bytes.now }
         ensures cost { tests.new.made ≤ tests.old.made + 1 }
@@ -63,7 +63,7 @@ impl<'p, 'n, E: Element> Cursor<'p, 'n, E> {
         }
     }
 
-    /// Returns whether the tokens fit the segment, from the last of both on.
+    /// Returns whether the tokens fit the segment. It compares from the end.
     pub(crate) fn fits(self, tests: &mut ByteTests) -> bool
         ensures fits { IsTrue result ↔ FitsAt E.tokens_in self.entry }
         ensures cost { tests.new.made ≤ tests.old.made + cost_at E.tokens_in self.entry }
@@ -79,7 +79,7 @@ impl<'p, 'n, E: Element> Cursor<'p, 'n, E> {
         }
     }
 
-    /// Returns whether the tokens fit the segment, from the first of both on.
+    /// Returns whether the tokens fit the segment. It compares from the front.
     #[inline(never)]
     fn fits_from_front(self, tests: &mut ByteTests) -> bool
         ensures fits { IsTrue result ↔ FitsAt E.tokens_in self.entry }

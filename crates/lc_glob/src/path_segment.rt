@@ -11,7 +11,7 @@ ghost use Rattle.lc_glob.specs.{Path.{segments_of, segments_left}, Views.token_r
 use crate::element::Element;
 use crate::token::TokenRef;
 
-/// The number of byte tests. It stops at the greatest `u64`.
+/// The number of byte tests: how often a token of a pattern was compared with one byte of a path. It stops at the greatest `u64`.
 #[derive(Drop)]
 pub(crate) struct ByteTests {
     made: u64,
@@ -30,7 +30,7 @@ impl ByteTests {
         self.made = self.made.saturating_add(count as u64);
     }
 
-    /// Adds tests that were counted separately, so that the count of a loop needn't be kept in memory.
+    /// Adds tests that another `ByteTests` counted. A loop with its own `ByteTests` need not keep its count in memory.
     pub(crate) fn add_all(&mut self, more: ByteTests)
         ensures { self.new.made ≡ tests_after self.old.made more.made }
     {
@@ -77,7 +77,7 @@ impl<'a> PathSegment<'a> {
         Some(PathSegment { bytes })
     }
 
-    /// Returns the segment without its first byte, if a token that is no star matches that byte.
+    /// Returns the segment without its first byte, if the token is not a star and matches that byte.
     pub(crate) fn strip_first(self, token: TokenRef, tests: &mut ByteTests) -> Option<Self>
         ensures strips { StripsFirst (token_ref_model token.entry) self.entry.bytes.now result }
         ensures counted { tests.new.made ≡ tests_if (nat_lt 0 (length self.entry.bytes.now)) tests.old.made 1 }
@@ -91,7 +91,7 @@ impl<'a> PathSegment<'a> {
         }
     }
 
-    /// Returns the segment without its last byte, if a token that is no star matches that byte.
+    /// Returns the segment without its last byte, if the token is not a star and matches that byte.
     pub(crate) fn strip_last(self, token: TokenRef, tests: &mut ByteTests) -> Option<Self>
         ensures strips { StripsLast (token_ref_model token.entry) self.entry.bytes.now result }
         ensures counted { tests.new.made ≡ tests_if (nat_lt 0 (length self.entry.bytes.now)) tests.old.made 1 }
@@ -105,7 +105,7 @@ impl<'a> PathSegment<'a> {
         }
     }
 
-    /// Returns whether the segment is these literals. If it has as many bytes, it makes a byte test for each.
+    /// Returns whether the segment equals these literals. If both have the same length, it counts a byte test for each literal.
     #[inline]
     pub(crate) fn is(self, literals: &[u8], tests: &mut ByteTests) -> bool
         ensures same { result ≡ bytes_eq self.entry.bytes.now literals.now }
@@ -125,7 +125,7 @@ impl<'a> PathSegment<'a> {
         self.bytes == literals
     }
 
-    /// Returns whether the segment ends with these literals. If it has enough bytes, it makes a byte test for each.
+    /// Returns whether the segment ends with these literals. If the segment is long enough, it counts a byte test for each literal.
     #[inline]
     pub(crate) fn ends_with(self, literals: &[u8], tests: &mut ByteTests) -> bool
         ensures ends { result ≡ ends_with nat_eq self.entry.bytes.now literals.now }
@@ -146,15 +146,15 @@ impl<'a> PathSegment<'a> {
     }
 }
 
-/// The segments of a path that are still to be matched: none, or those of the bytes that are left. They are found one by one from
-/// either end.
+/// The segments of a path that are still to be matched: none, or the segments of the bytes in `rest`. They are found one by one from either
+/// end.
 #[derive(Clone, Copy)]
 pub(crate) struct PathLeft<'a> {
     rest: Option<&'a [u8]>,
 }
 
 impl<'a> PathLeft<'a> {
-    /// Returns the segments above the last of a path, and the last.
+    /// Splits a path into the segments above its last segment, and the last segment.
     pub(crate) fn split_path(path: PathSegment<'a>) -> (Self, PathSegment<'a>)
         ensures { segments_of path.entry.bytes.now ≡ segments_left result.0.rest ++ result.1.bytes.now ∷ [] }
     {
@@ -181,7 +181,7 @@ impl<'a> PathLeft<'a> {
         Some((PathSegment { bytes: first }, PathLeft { rest }))
     }
 
-    /// Returns the segments before the last, and the last.
+    /// Returns all segments but the last, and the last segment.
     pub(crate) fn split_last(self) -> Option<(Self, PathSegment<'a>)>
         ensures { MatchOption result (segments_left self.entry.rest ≡ [])
             (λ p. segments_left self.entry.rest ≡ segments_left p.0.rest ++ p.1.bytes.now ∷ []) }
@@ -191,7 +191,7 @@ impl<'a> PathLeft<'a> {
     }
 }
 
-/// The names on the way down to a directory, one segment each.
+/// The names in the path of a directory, from the top down. Each name is one segment.
 #[derive(Clone, Copy)]
 pub(crate) struct PathNames<'a> {
     names: &'a [&'a [u8]],
@@ -204,7 +204,7 @@ impl<'a> PathNames<'a> {
         PathNames { names }
     }
 
-    /// Returns the name at a place.
+    /// Returns the name at an index, as a segment.
     pub(crate) fn at(self, place: usize) -> PathSegment<'a>
         requires { place < length self.names.now }
         ensures { result.bytes.now ≡ slice_index_or (names_of self.entry.names.now) place [] }

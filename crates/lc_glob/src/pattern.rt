@@ -46,7 +46,7 @@ impl Model for Pattern {
 }
 
 impl Pattern {
-    /// Reads bytes as a pattern. Any bytes make one; bytes that are no valid pattern make a dead one.
+    /// Reads bytes as a pattern. Any bytes make a pattern; bytes that are no valid pattern make a dead one, which matches nothing.
     ///
     /// The bytes are the pattern alone, without the `!` of a negated line and without its trailing spaces. The only error
     /// is a failed allocation.
@@ -129,8 +129,8 @@ impl Pattern {
         (found, tests.made())
     }
 
-    /// Finds which of the directories above a path the pattern matches, in one pass for all of them. The flag at a name is for the
-    /// directory whose path ends with that name. It allocates nothing.
+    /// Finds in one pass which of the directories above a path the pattern matches. It sets `flags[k]` to whether the pattern matches the
+    /// directory whose path has the names up to `names[k]`. It allocates nothing.
     ///
     /// ```
     /// let mut flags = [false; 3];
@@ -146,8 +146,8 @@ impl Pattern {
             .match_directories(PathNames::new(names), flags);
     }
 
-    /// Like `match_directories`, but also counts byte tests. For all directories together the bound is that of one match with the whole
-    /// path.
+    /// Like `match_directories`, but also counts byte tests. For all directories together, the number has the same bound as one match with
+    /// the whole path.
     ///
     /// ```
     /// let mut flags = [false; 2];
@@ -167,8 +167,9 @@ impl Pattern {
         tests.made()
     }
 
-    /// Returns whether matching one directory after another repeats work: a double star comes after another one or after a segment with a
-    /// star, as in `**/a/**`. Such a pattern is better matched with all directories above a path in one pass, by `match_directories`.
+    /// Returns whether matching one directory after another repeats work: a double star comes after another double star or after a segment
+    /// with a star, as in `**/a/**`. Such a pattern is better matched with all directories above a path in one pass, by
+    /// `match_directories`.
     pub fn has_nested_wildcards(&self) -> bool
         ensures { result ≡ has_nested_wildcards self.now }
     {

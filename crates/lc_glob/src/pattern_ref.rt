@@ -10,7 +10,7 @@ use crate::pattern_view::PatternView;
 use crate::simple_pattern::SimplePattern;
 use crate::token_pattern::TokenPattern;
 
-/// A pattern that a `Pattern` or a `PatternSet` lends, by what it is matched from.
+/// A pattern that is borrowed from a `Pattern` or a `PatternSet`, in the form in which it is stored.
 #[derive(Clone, Copy)]
 pub(crate) enum PatternRef<'p> {
     Simple(SimplePattern<'p>),

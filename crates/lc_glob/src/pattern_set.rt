@@ -1,4 +1,4 @@
-//! Many patterns in order, stored side by side.
+//! Sets of many patterns in order, which are stored side by side.
 
 ghost use Rattle.std.specs.{Prelude.{◌≡◌, ◌↔◌, ◌<◌, ◌≤◌, ◌++◌, ◌∷◌, [], length, IfOk, IfSome, IsTrue, OnErr, OnOk}, List.list_any};
 ghost use Rattle.lc_glob.specs.{Above.{names_of, TellMatches, has_nested_wildcards}, PatternSets.{last_match_below, pattern_at}};
@@ -15,20 +15,20 @@ use crate::token_pattern::TokenPattern;
 use std::alloc::{AllocError, Global};
 use std::marker::Model;
 
-/// What is known of a pattern besides the bytes or the tokens that it is matched from.
+/// What is stored of a pattern besides the bytes or the tokens that it is matched from.
 #[derive(Clone, Copy)]
 pub(crate) enum PatternForm {
     Simple(SimpleForm),
     Tokens(Scope),
 }
 
-/// A pattern of a set, in 12 bytes.
+/// The form of one pattern of a set, and where the set has the pattern's bytes or tokens. It takes 12 bytes.
 #[derive(Clone, Copy)]
 pub(crate) struct PatternSpan {
     form: PatternForm,
-    /// The index at which its bytes or tokens begin.
+    /// The index in the set's bytes or tokens at which those of the pattern begin.
     start: u32,
-    /// How many it has.
+    /// The number of the pattern's bytes or tokens.
     len: u32,
 }
 
@@ -84,7 +84,8 @@ impl PatternSet {
         }
     }
 
-    /// Adds a copy of a pattern at the end. If an allocation fails, or with more than 4 GiB of bytes or of tokens, the set stays as it was.
+    /// Adds a copy of a pattern at the end. If an allocation fails, or if the copy's start or length exceeds `u32::MAX`, the set stays as
+    /// it was.
     pub fn push(&mut self, pattern: &Pattern) -> Result<(), AllocError>
         ensures ok { OnOk result (self.new ≡ self.old ++ pattern.now ∷ []) }
         ensures err { OnErr result (self.new ≡ self.old) }
@@ -162,7 +163,7 @@ impl PatternSet {
         }
     }
 
-    /// Finds the last pattern that matches a path, as `Pattern::matches` says, among those before the index `below`.
+    /// Returns the index of the last pattern that matches a path, as `Pattern::matches` says, among the patterns before the index `below`.
     ///
     /// ```
     /// let mut below = set.len();
@@ -220,7 +221,7 @@ impl PatternSet {
     }
 }
 
-/// Returns a number of bytes or of tokens in four bytes.
+/// Returns a number of bytes or tokens as a `u32`, or an error if the number is too great.
 fn to_u32(count: usize) -> Result<u32, AllocError>
     ensures { IfOk result (λ number. number ≡ count) }
 {

@@ -1,4 +1,4 @@
-//! Views of a pattern, by the part of a path that it is matched with.
+//! Views of patterns. A view shows with which part of a path a pattern is matched: the last segment alone, or all segments.
 
 ghost use Rattle.std.specs.Prelude.{◌≡◌, ◌≤◌, ◌+◌, Bool, length};
 ghost use Rattle.lc_glob.specs.{Above.{names_of, TellMatches, has_nested_wildcards}, Costs.full_cost};
@@ -11,14 +11,14 @@ use crate::segments_left::SegmentsLeft;
 use crate::simple_pattern::{OtherKind, SimpleKind};
 use std::marker::Model;
 
-/// A pattern, by the part of a path that it is matched with.
+/// A view of a pattern, simple or not: whether it is for directories only, and what part of a path it is matched with.
 #[derive(Drop)]
 pub(crate) struct PatternView<'p> {
     pub(crate) is_dir_only: bool,
     pub(crate) kind: KindRef<'p>,
 }
 
-/// The part of a path that a pattern is matched with.
+/// The part of a path that a pattern is matched with, and the tokens or segments that this part must match.
 #[derive(Clone, Copy)]
 pub(crate) enum KindRef<'p> {
     /// Nothing, since the pattern is dead.

@@ -13,7 +13,7 @@ use crate::token::Token;
 use smallvec::SmallVec;
 use std::alloc::{AllocError, Global};
 
-/// Returns the token of a byte that means itself: a slash separates, quoted or not.
+/// Returns the token of a byte that has no special meaning, or that a backslash quotes. A slash separates segments, also after a backslash.
 fn own_token(b: u8) -> Token
     ensures { lexeme_tokens (literal_lexeme b) ≡ result ∷ [] }
 {
@@ -24,7 +24,7 @@ fn own_token(b: u8) -> Token
     }
 }
 
-/// Returns the token of a byte that neither quotes nor opens a bracket.
+/// Returns the token of a byte that is neither a backslash nor a `[`.
 fn byte_token(b: u8) -> Token
     ensures { lexeme_tokens (byte_lexeme b) ≡ result ∷ [] }
 {
@@ -35,7 +35,8 @@ fn byte_token(b: u8) -> Token
     }
 }
 
-/// Pushes the byte after a backslash, and returns how many bytes it read. It returns `None` if there is none, so that the pattern is dead.
+/// Pushes the token of the byte after a backslash, and returns how many bytes it read. It returns `None` if no byte follows, which makes
+/// the pattern dead.
 fn push_quoted(rest: &[u8], tokens: &mut Vec<Token>) -> Result<Option<usize>, AllocError>
     ensures is { IfOk result (λ r. Pushes lexeme_tokens (quoted rest.now) tokens.old.items tokens.new.items r) }
     ensures within { IfOk result (λ r. IfSome r (λ k. k ≤ length rest.now)) }
@@ -47,8 +48,8 @@ fn push_quoted(rest: &[u8], tokens: &mut Vec<Token>) -> Result<Option<usize>, Al
     Ok(Some(1))
 }
 
-/// Pushes the token that begins with the byte `b`, and returns how many of the bytes after it were read. It returns `None` if they make the
-/// pattern dead.
+/// Pushes the token that begins with the byte `b`, or the tokens of a bracket, and returns how many bytes of `rest` it read. It returns
+/// `None` if these bytes make the pattern dead.
 fn push_lexeme(b: u8, rest: &[u8], tokens: &mut Vec<Token>) -> Result<Option<usize>, AllocError>
     ensures is { IfOk result (λ r. Pushes lexeme_tokens (lexeme b rest.now) tokens.old.items tokens.new.items r) }
     ensures within { IfOk result (λ r. IfSome r (λ k. k ≤ length rest.now)) }
@@ -63,7 +64,7 @@ fn push_lexeme(b: u8, rest: &[u8], tokens: &mut Vec<Token>) -> Result<Option<usi
     Ok(Some(0))
 }
 
-/// Returns the tokens of the bytes, or `None` where the pattern is dead.
+/// Reads the bytes of a pattern as tokens. It returns `None` if a backslash or a bracket in them makes the pattern dead.
 fn read_tokens(alloc: Global, bytes: &[u8]) -> Result<Option<Vec<Token>>, AllocError>
     ensures { IfOk result (λ r. MatchOption r (parts 0 bytes.now ≡ None)
         (λ tokens. parts 0 bytes.now ≡ Some (parts_in tokens_model is_separator tokens.items))) }
@@ -79,7 +80,7 @@ fn read_tokens(alloc: Global, bytes: &[u8]) -> Result<Option<Vec<Token>>, AllocE
     Ok(Some(tokens))
 }
 
-/// Reads bytes as a pattern. Any bytes are a pattern, perhaps a dead one.
+/// Reads bytes as a pattern. Any bytes are a pattern, perhaps a dead one, which matches nothing.
 pub(crate) fn read_pattern(alloc: Global, bytes: &[u8]) -> Result<Pattern, AllocError>
     ensures { IfOk result (λ p. p ≡ pattern_of bytes.now) }
 {
@@ -98,7 +99,7 @@ pub(crate) fn read_pattern(alloc: Global, bytes: &[u8]) -> Result<Pattern, Alloc
     keep_last(alloc, scope.is_dir_only, tokens)
 }
 
-/// Returns the pattern with bytes of its own.
+/// Returns a pattern with its own copy of a simple pattern's bytes.
 fn keep_simple(alloc: Global, simple: SimplePattern) -> Result<Pattern, AllocError>
     ensures { IfOk result (λ p. p ≡ form_model simple.entry.form simple.entry.bytes.now) }
 {
@@ -108,7 +109,7 @@ fn keep_simple(alloc: Global, simple: SimplePattern) -> Result<Pattern, AllocErr
     })
 }
 
-/// Returns the pattern with tokens of its own.
+/// Returns a pattern with its own copy of the tokens.
 fn keep_tokens(alloc: Global, scope: Scope, tokens: &[Token]) -> Result<Pattern, AllocError>
     ensures { IfOk result (λ p. p ≡ token_pattern_model scope tokens.now) }
 {
@@ -117,8 +118,8 @@ fn keep_tokens(alloc: Global, scope: Scope, tokens: &[Token]) -> Result<Pattern,
     })
 }
 
-/// Returns the pattern of one segment. If it has only literals, such as `\\#a`, or a star and then literals, such as `*\\ `, their bytes
-/// are kept.
+/// Returns the pattern that has these tokens as its one segment. It stores literals alone, such as `\\#a`, and literals after a star, such
+/// as `*\\ `, as their bytes.
 fn keep_last(alloc: Global, is_dir_only: bool, tokens: &[Token]) -> Result<Pattern, AllocError>
     ensures { IfOk result (λ p. p ≡ live_model is_dir_only false (plain (tokens_model tokens.now) ∷ [])) }
 {
@@ -150,7 +151,7 @@ fn of_literals(is_dir_only: bool, kind: SimpleKind, literals: SmallVec<u8, 16>) 
     }
 }
 
-/// Returns the literals, if the tokens are literals alone.
+/// Returns the bytes of the tokens, if all tokens are literals.
 fn literals_of(alloc: Global, tokens: &[Token]) -> Result<Option<SmallVec<u8, 16>>, AllocError>
     ensures { IfOk result (λ r. IfSome r (λ literals. tokens.now ≡ literal_tokens literals.items)) }
 {

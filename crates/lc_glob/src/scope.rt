@@ -7,17 +7,17 @@ ghost use Rattle.lc_glob.specs.Reading.{begins_empty, ends_empty, pattern_from, 
 use crate::element::{Element, has_no_token};
 use crate::segments_left::SegmentsLeft;
 
-/// Which paths a pattern may match, by the slashes in it.
+/// How the slashes in a pattern restrict the paths that it matches.
 #[derive(Clone, Copy)]
 pub(crate) struct Scope {
-    /// Directories only, such as `build/`.
+    /// Whether the pattern matches directories only, such as `build/`.
     pub(crate) is_dir_only: bool,
-    /// Whole paths, such as `/a` and `a/b`, and not the last segment alone, such as `a`.
+    /// Whether the pattern is matched with a whole path, such as `/a` and `a/b`, and not with a path's last segment alone, such as `a`.
     pub(crate) is_anchored: bool,
 }
 
-/// Removes the separators at the ends of a pattern's elements. It returns `None` for a dead pattern, which has an empty
-/// segment, as in `a//b`.
+/// Removes a separator from each end of a pattern's elements, if one is there. It returns the pattern's scope and the elements that are
+/// left. It returns `None` if a segment is empty, as in `a//b`, which makes the pattern dead.
 pub(crate) fn trim<'p, E: Element>(elements: &'p [E]) -> Option<(Scope, &'p [E])>
     ensures { MatchOption result (pattern_from (Some (parts_in E.tokens_in E.separates elements.now)) ≡ dead)
         (λ r. pattern_from (Some (parts_in E.tokens_in E.separates elements.now))
@@ -36,7 +36,7 @@ pub(crate) fn trim<'p, E: Element>(elements: &'p [E]) -> Option<(Scope, &'p [E])
     Some((scope, segments))
 }
 
-/// Returns the elements without the separator that is last, and whether it was there.
+/// Returns the elements without a separator at their end, and whether they ended in one.
 fn without_last_separator<'p, E: Element>(elements: &'p [E]) -> (&'p [E], bool)
     ensures ends { result.1 ≡ ends_empty (parts_in E.tokens_in E.separates elements.now) }
     ensures parts { parts_in E.tokens_in E.separates result.0.now
@@ -54,7 +54,7 @@ fn without_last_separator<'p, E: Element>(elements: &'p [E]) -> (&'p [E], bool)
     }
 }
 
-/// Returns the elements without the separator that is first, and whether it was there.
+/// Returns the elements without a separator at their beginning, and whether they began with one.
 fn without_first_separator<'p, E: Element>(elements: &'p [E]) -> (&'p [E], bool)
     ensures begins { result.1 ≡ begins_empty (parts_in E.tokens_in E.separates elements.now) }
     ensures parts { parts_in E.tokens_in E.separates result.0.now
@@ -72,7 +72,7 @@ fn without_first_separator<'p, E: Element>(elements: &'p [E]) -> (&'p [E], bool)
     }
 }
 
-/// Returns whether a segment is empty, which makes the pattern dead.
+/// Returns whether some segment of the elements is empty, which makes the pattern dead.
 fn has_empty<E: Element>(elements: &[E]) -> bool
     ensures { result ≡ some_empty (parts_in E.tokens_in E.separates elements.now) }
 {

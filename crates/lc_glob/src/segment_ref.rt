@@ -1,4 +1,4 @@
-//! The segments of a pattern, as they are matched.
+//! Borrowed segments of a pattern, in the forms in which they are matched.
 
 ghost use Rattle.std.specs.{Prelude.{◌≡◌, ◌∷◌, ◌++◌, [], MatchOption, true, ◌↔◌, IsTrue}, List.list_any};
 ghost use Rattle.lc_glob.specs.{Above.{is_double, is_wide}, TokenLists.tokens_model, Reading.segment_from};
@@ -9,7 +9,7 @@ use crate::element::{are_two_stars, has_star};
 use crate::segments_left::SegmentsLeft;
 use crate::token::Token;
 
-/// The tokens of a pattern's segment, as they are matched.
+/// The tokens of a pattern's segment, in the form in which they are matched.
 #[derive(Clone, Copy)]
 pub(crate) enum TokensRef<'p> {
     /// Literals alone.
@@ -70,7 +70,7 @@ impl<'p> SegmentRef<'p> {
         }
     }
 
-    /// Returns the segment of bytes that are a double star, or literals, alone or after a star.
+    /// Returns the segment of bytes that are a double star, or that are literals, either alone or after a star.
     #[inline(always)]
     fn of_end(bytes: &'p [u8]) -> Self
         ensures { segment_ref_model result ≡ ends_segment bytes.now }

@@ -5,7 +5,7 @@ ghost use Rattle.lc_glob.specs.Pieces.{cuts_left};
 
 use crate::element::Element;
 
-/// The segments of a pattern that are still to be matched: none, or those of the elements.
+/// The segments of a pattern that are still to be matched: none, or the segments of the elements in `rest`.
 #[derive(Clone, Copy)]
 pub(crate) struct SegmentsLeft<'a, E> {
     pub(crate) rest: Option<&'a [E]>,
@@ -40,7 +40,7 @@ impl<'a, E: Element> SegmentsLeft<'a, E> {
         Some((first, SegmentsLeft { rest }))
     }
 
-    /// Returns the segments before the last, and the last.
+    /// Returns all segments but the last, and the last segment.
     pub(crate) fn split_last(self) -> Option<(SegmentsLeft<'a, E>, &'a [E])>
         ensures { MatchOption result (cuts_left E.separates self.entry.rest ≡ [])
             (λ p. cuts_left E.separates self.entry.rest ≡ cuts_left E.separates p.0.rest ++ p.1.now ∷ []) }

@@ -1,4 +1,4 @@
-//! Simple patterns, which are matched from their bytes: each byte is a token or a separator, since none is quoted and none opens a
+//! Simple patterns, which are matched from their bytes. Each byte is a token or a separator, since no byte is quoted and no byte opens a
 //! bracket. Most patterns are simple.
 
 ghost use Rattle.std.specs.Prelude.{◌≡◌, true, length, map, false, Bool, MatchOption, [], ◌∷◌, ◌≤◌, ◌<◌, ◌+◌, ◌-◌, ◌↔◌, IsTrue};
@@ -22,38 +22,39 @@ use crate::segments_left::SegmentsLeft;
 /// How a simple pattern is matched.
 #[derive(Clone, Copy)]
 pub(crate) enum SimpleKind {
-    /// By literals alone, with the last segment of a path: with the whole of it, such as `Makefile`, or after a star with its
-    /// end, such as `*.o`.
+    /// Literals alone, such as `Makefile`, are compared with the whole last segment of a path. Literals after a star, such as `*.o`, are
+    /// compared with the end of this segment.
     Suffix { is_whole: bool },
-    /// In another way. These are in an enum of their own, since one test for the most usual kind costs less than a choice among
-    /// all kinds.
+    /// The pattern is matched in another way. The other kinds have an enum of their own, since one test for the most usual kind costs less
+    /// than a choice among all kinds.
     Other(OtherKind),
 }
 
 /// How a simple pattern that is not a suffix is matched.
 #[derive(Clone, Copy)]
 pub(crate) enum OtherKind {
-    /// With nothing: it is dead, since a segment of it is empty, as in `a//b`.
+    /// The pattern matches nothing: it is dead, such as `a//b`, which has an empty segment.
     Dead,
-    /// With the last segment, by any tokens, such as `core.*`.
+    /// Tokens of any kind, such as those of `core.*`, are matched with the last segment of a path.
     LastSegment,
-    /// With all segments, by literals alone, such as `/build` and `docs/out`.
+    /// Literals alone, such as those of `/build` and `docs/out`, are compared with all segments of a path.
     Exact,
-    /// With all segments, by double stars and by literals alone or after a star, such as `a/**/b` and `src/*.o`.
+    /// All segments of a path are matched. Each segment of the pattern is a double star, or has literals, either alone or after a star, as
+    /// in `a/**/b` and `src/*.o`.
     Ends,
-    /// With all segments, by any tokens, such as `src/core.*`.
+    /// Tokens of any kind, such as those of `src/core.*`, are matched with all segments of a path.
     WholePath,
 }
 
-/// What is known of a simple pattern besides its bytes, in three bytes.
+/// What is stored of a simple pattern besides its bytes. It takes three bytes.
 #[derive(Clone, Copy)]
 pub(crate) struct SimpleForm {
     pub(crate) is_dir_only: bool,
     pub(crate) kind: SimpleKind,
 }
 
-/// A simple pattern: its form, and the bytes that it is matched from. The bytes have no separators at their ends, and those of a suffix
-/// have no star.
+/// A simple pattern: its form, and the bytes that it is matched from. The bytes have no separators at their ends. The bytes of a `Suffix`
+/// do not include the star.
 #[derive(Clone, Copy)]
 pub(crate) struct SimplePattern<'p> {
     pub(crate) form: SimpleForm,
@@ -100,8 +101,8 @@ impl<'p> SimplePattern<'p> {
         PatternView::of_simple(self.form.is_dir_only, self.form.kind, self.bytes)
     }
 
-    /// Returns whether the pattern matches. The most usual kind is matched inline, so that most patterns aren't passed on in memory, and no
-    /// view is made of it: either would cost more than most matches.
+    /// Returns whether the pattern matches the path. The most usual kind is matched inline. To pass a pattern on in memory, or to make a
+    /// view of it, would cost more than most matches.
     #[inline]
     pub(crate) fn matched(self, path: &Candidate, is_dir: bool, tests: &mut ByteTests) -> bool
         ensures meaning { IsTrue result ↔ Matches (form_model self.entry.form self.entry.bytes.now) path.now is_dir }
@@ -118,7 +119,7 @@ impl<'p> SimplePattern<'p> {
         }
     }
 
-    /// Returns whether the path agrees with the pattern at an end. That rejects most paths that it does not match.
+    /// Returns whether one byte at an end of the path agrees with the pattern. This rejects most paths that the pattern does not match.
     #[inline]
     fn agrees(self, other: OtherKind, path: &Candidate, tests: &mut ByteTests) -> bool
         ensures told { Matches (simple_model false (Other other) self.entry.bytes.now) path.now false → IsTrue result }
@@ -134,7 +135,7 @@ impl<'p> SimplePattern<'p> {
         }
     }
 
-    /// Returns whether the pattern matches a path. If the pattern is for directories, the path must be that of one.
+    /// Returns whether a pattern of this kind matches the path. The caller tests whether the pattern is for directories only.
     #[inline(never)]
     fn matched_by(self, other: OtherKind, path: &Candidate, tests: &mut ByteTests) -> bool
         ensures meaning { IsTrue result ↔ Matches (simple_model false (Other other) self.entry.bytes.now) path.now false }
@@ -156,7 +157,7 @@ impl<'p> SimplePattern<'p> {
     }
 }
 
-/// Returns whether segments of literals alone match a path, which then has the same bytes.
+/// Returns whether a pattern of literals alone matches the path: whether the path has the same bytes.
 #[inline]
 fn matches_exactly(bytes: &[u8], path: &Candidate, tests: &mut ByteTests) -> bool
     ensures same { IsTrue result ↔ MatchesPath (map exact_segment (segments_of bytes.now)) (segments_of path.now) }
@@ -178,7 +179,7 @@ fn is_simple(b: u8) -> bool
     b != b'\\' && b != b'['
 }
 
-/// Returns whether each segment is a double star, or literals, alone or after a star.
+/// Returns whether each segment of a pattern is a double star, or has literals, either alone or after a star.
 fn has_ends(bytes: &[u8]) -> bool
     ensures { result ≡ list_all is_ends_segment (segments_of bytes.now) }
 {
@@ -202,7 +203,7 @@ fn is_end(bytes: &[u8]) -> bool
     }
 }
 
-/// How the bytes of a pattern's segments are matched with a whole path.
+/// Returns how the bytes of a pattern's segments are matched with a whole path.
 fn path_kind(bytes: &[u8]) -> SimpleKind
     ensures { (is_dir_only : Bool) → simple_model is_dir_only result bytes.now
         ≡ live_model is_dir_only true (map bytes_segment (segments_of bytes.now)) }
@@ -216,7 +217,7 @@ fn path_kind(bytes: &[u8]) -> SimpleKind
     }
 }
 
-/// How the bytes of a pattern's one segment are matched with a last segment, and the bytes that are needed for it.
+/// Returns how the bytes of a pattern's one segment are matched with the last segment of a path, and which of the bytes this needs.
 fn name_kind<'p>(bytes: &'p [u8]) -> (SimpleKind, &'p [u8])
     ensures { (is_dir_only : Bool) → simple_model is_dir_only result.0 result.1.now
         ≡ live_model is_dir_only false (plain (map byte_token bytes.now) ∷ []) }

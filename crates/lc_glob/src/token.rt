@@ -1,4 +1,4 @@
-//! The tokens of a segment.
+//! The tokens of a pattern: as they are stored, and as they are matched.
 
 ghost use Rattle.std.specs.Prelude.{◌≡◌, ◌∷◌, MatchOption};
 ghost use Rattle.lc_glob.specs.{TokenLists.{is_for_byte, is_separator, tokens_model}, Simple.byte_token, Tokens.{takes, is_star}};
@@ -6,7 +6,7 @@ ghost use Rattle.lc_glob.specs.Views.{token_ref_model};
 
 use crate::byte_set::ByteSet;
 
-/// One token of a pattern that isn't simple, as it is kept, in three bytes.
+/// A token of a pattern that isn't simple, as it is stored. It takes three bytes.
 #[derive(Clone, Copy)]
 pub(crate) enum Token {
     /// This byte.
@@ -15,7 +15,7 @@ pub(crate) enum Token {
     AnyByte,
     /// `*`: any bytes, but no slash.
     Star,
-    /// A bracket, perhaps a negated one: one byte of a set, whose ranges follow.
+    /// The beginning of a bracket, and whether the bracket is negated. The ranges of its bytes follow as tokens.
     Open(bool),
     /// The first and the last byte of a bracket's range.
     Range(u8, u8),
@@ -40,7 +40,7 @@ impl Token {
     }
 }
 
-/// A token, as it is matched.
+/// A token, as it is matched. A bracket is the set of its bytes.
 #[derive(Clone, Copy)]
 pub(crate) enum TokenRef<'p> {
     Literal(u8),
@@ -61,8 +61,8 @@ impl<'p> TokenRef<'p> {
         }
     }
 
-    /// Returns the token that was read, as it is matched. A bracket takes its ranges from the tokens after it. A range or a separator has
-    /// no such token.
+    /// Returns a stored token, as it is matched. A bracket takes its ranges from the tokens in `after`. The result is `None` for a range
+    /// and for a separator.
     pub(crate) fn of_token(token: Token, after: &'p [Token]) -> Option<Self>
         ensures { MatchOption result (tokens_model (token ∷ after.now) ≡ tokens_model after.now)
             (λ found. tokens_model (token ∷ after.now) ≡ token_ref_model found ∷ tokens_model after.now) }
@@ -82,7 +82,7 @@ impl<'p> TokenRef<'p> {
         matches!(self, TokenRef::Star)
     }
 
-    /// Returns whether a token that is no star matches this byte.
+    /// Returns whether the token is not a star and matches this byte.
     pub(crate) fn takes(self, b: u8) -> bool
         ensures { result ≡ takes (token_ref_model self.entry) b }
     {

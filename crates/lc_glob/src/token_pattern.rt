@@ -36,7 +36,7 @@ impl<'p> TokenPattern<'p> {
         }
     }
 
-    /// Returns whether the pattern matches. It is not inlined, so that the code that matches a simple pattern stays short.
+    /// Returns whether the pattern matches the path. It is not inlined, so that the code that matches a simple pattern stays short.
     #[inline(never)]
     pub(crate) fn matched(self, path: &Candidate, is_dir: bool, tests: &mut ByteTests) -> bool
         ensures meaning { IsTrue result ↔ Matches (token_pattern_model self.entry.scope self.entry.tokens.now) path.now is_dir }
