@@ -1,4 +1,4 @@
-//! What no contract shows by itself: worked examples, and that calls with ample memory answer.
+//! Tests of what no contract shows by itself: worked examples, and calls that succeed where there is enough memory.
 
 mod above;
 mod cost;

@@ -1,9 +1,9 @@
-//! The directories above a path that patterns match, found in one call.
+//! Tests of finding, in one call, the directories above a path that a pattern matches.
 
 use lc_glob::Pattern;
 use std::test::Fail;
 
-/// A pattern, the names on the way down, and whether it matches the directory at each of them.
+/// A pattern, the names on the way down, and for each name whether the pattern matches the directory whose path ends with this name.
 type Case = (&'static [u8], &'static [&'static [u8]], &'static [bool]);
 
 const ABAB: &[&'static [u8]] = &[b"a", b"b", b"a", b"b"];
@@ -42,7 +42,8 @@ fn directories_are_asked_at_once(rt: HostRuntime) -> Result<(), Fail> {
     Ok(())
 }
 
-/// A pattern, and its byte tests at a hundred directories of one byte: one at most for each segment and name.
+/// A pattern, and its number of byte tests for a hundred nested directories with names of one byte. This is at most one test for each
+/// segment and name.
 const COUNTED: &[(&'static [u8], u64)] = &[
     (b"b", 100),
     (b"/b/**", 1),

@@ -1,11 +1,11 @@
-//! How many bytes the matcher tests for hostile patterns.
+//! Tests of the number of byte tests that patterns take, also hostile patterns.
 
 use lc_glob::{Candidate, Pattern};
 use std::alloc::{AllocError, Global};
 use std::process::Abort;
 use std::test::Fail;
 
-/// Asserts that a pattern gives this answer for a path, with at most so many tests.
+/// Asserts that a pattern matches a path exactly if `answer` is true, and that this takes at most `limit` byte tests.
 fn check(
     rt: &impl Abort,
     alloc: Global,
@@ -21,7 +21,7 @@ fn check(
     Ok(())
 }
 
-/// Patterns for one path, and whether they match it.
+/// Patterns that are matched with one path, and whether each of them matches.
 const PATTERNS: &[(&'static [u8], bool)] = &[
     (b"*.o", true),
     (b"/src/**/a.o", true),
@@ -38,7 +38,7 @@ fn a_path_is_asked_of_several_patterns(rt: HostRuntime) -> Result<(), Fail> {
     Ok(())
 }
 
-/// A pattern, a path, whether it matches, and the byte tests: none where the lengths differ.
+/// A pattern, a path, whether they match, and the number of byte tests. The number is 0 if the lengths alone show that they don't match.
 const COUNTED: &[(&'static [u8], &'static [u8], (bool, u64))] = &[
     (b"*.o", b"src/main.o", (true, 2)),
     (b"*.o", b"src/main.c", (false, 2)),
@@ -57,7 +57,7 @@ fn literals_are_compared_as_bytes(rt: HostRuntime) -> Result<(), Fail> {
     Ok(())
 }
 
-/// A pattern, and a path that it doesn't match, which one byte at an end shows.
+/// A pattern, and a path that the pattern doesn't match. One byte at an end of the path shows this.
 const OTHER_ENDS: &[(&'static [u8], &'static [u8])] = &[
     (b"src/*.o", b"src/main.c"),
     (b"a/**/b", b"a/x/y"),
@@ -79,10 +79,10 @@ fn another_byte_at_an_end_is_told_by_one_look(rt: HostRuntime) -> Result<(), Fai
     Ok(())
 }
 
-/// The beginning, a part that is repeated, how many times, and the end.
+/// A pattern or a path in parts: the beginning, a part that is repeated, how many times, and the end.
 type Repeated = (&'static [u8], &'static [u8], usize, &'static [u8]);
 
-/// A pattern, a path, whether it matches, and the most byte tests.
+/// A pattern, a path, whether they match, and the greatest allowed number of byte tests.
 type Hostile = (Repeated, Repeated, (bool, u64));
 
 const NAME: Repeated = (b"", b"a", 4096, b"");
@@ -127,8 +127,8 @@ fn hostile_patterns_cost_no_more_than_the_bound(rt: HostRuntime) -> Result<(), F
     Ok(())
 }
 
-/// A pattern, a path over 256 bytes long, whether it matches, and the most byte tests: none for what no name above the last
-/// is short or long enough for.
+/// A pattern, a path over 256 bytes long, whether they match, and the greatest allowed number of byte tests. The names above the last need
+/// no test if none of them is short or long enough for some segment of the pattern.
 const LONG_NAMES: &[(&'static [u8], Repeated, (bool, u64))] = &[
     (
         b"**/?/**",

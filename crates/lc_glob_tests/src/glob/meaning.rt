@@ -9,7 +9,7 @@ const FILE: bool = false;
 
 const DIR: bool = true;
 
-/// A pattern, a path and its kind, and whether they match.
+/// A pattern, a path, whether the path is a directory's, and whether they match.
 type Case = (&'static [u8], &'static [u8], bool, bool);
 
 /// Whether a pattern is dead, for directories only, and anchored.
@@ -36,7 +36,7 @@ const STAR: &[Case] = &[
     (b"f*o", b"f/o", FILE, false),
 ];
 
-/// A last double star matches what is below.
+/// A double star at the end of a pattern matches what is inside a directory, and not the directory itself.
 const LAST_DOUBLE_STAR: &[Case] = &[
     (b"abc/**", b"abc/x", FILE, true),
     (b"abc/**", b"abc/x/y", FILE, true),
@@ -45,7 +45,7 @@ const LAST_DOUBLE_STAR: &[Case] = &[
     (b"abc/**", b"abc", DIR, false),
 ];
 
-/// A double star matches any depth.
+/// A double star matches any number of directories, also none.
 const DOUBLE_STAR: &[Case] = &[
     (b"a/**/b", b"a/b", FILE, true),
     (b"a/**/b", b"a/x/b", FILE, true),
@@ -61,7 +61,7 @@ const DOUBLE_STAR: &[Case] = &[
     (b"a/**/b/**/c", b"a/x/y/c", FILE, false),
 ];
 
-/// Other runs of stars are one star.
+/// Runs of stars that are no double star match like one star.
 const OTHER_STARS: &[Case] = &[
     (b"x**/b", b"x/b", FILE, true),
     (b"x**/b", b"xyz/b", FILE, true),
@@ -74,7 +74,7 @@ const OTHER_STARS: &[Case] = &[
     (b"***/b", b"q/r/b", FILE, false),
 ];
 
-/// A separator at the end makes a pattern for directories.
+/// A slash at the end of a pattern makes it match directories only.
 const LAST_SEPARATOR: &[Case] = &[
     (b"doc/frotz/", b"doc/frotz", DIR, true),
     (b"frotz/", b"frotz", DIR, true),
@@ -103,7 +103,7 @@ const MEMBERS: &[Case] = &[
     (b"[\\]]", b"]", FILE, true),
 ];
 
-/// A bracket matches no other byte.
+/// A bracket matches no byte but its members.
 const OTHER_BYTES: &[Case] = &[
     (b"[]a]", b"b", FILE, false),
     (b"[!a-c]", b"b", FILE, false),
@@ -114,7 +114,7 @@ const OTHER_BYTES: &[Case] = &[
     (b"a[!b]c", b"a/c", FILE, false),
 ];
 
-/// Classes are of ASCII.
+/// Classes such as `[:alpha:]` have ASCII bytes only.
 const CLASSES: &[Case] = &[
     (b"[[:alpha:]]", b"Z", FILE, true),
     (b"[[:lower:]]", b"z", FILE, true),
@@ -133,7 +133,7 @@ const CLASSES: &[Case] = &[
     (b"[[:alpha:]]", b"\xe4", FILE, false),
 ];
 
-/// A backslash quotes.
+/// A backslash quotes the byte after it.
 const QUOTED: &[Case] = &[
     (b"\\#a", b"#a", FILE, true),
     (b"\\!b", b"!b", FILE, true),

@@ -1,10 +1,10 @@
-//! What a path and its names are, and how bytes are cut.
+//! Tests of paths and their names, and of cutting bytes.
 
 use lc_glob::cut_at_first;
 use lc_glob::path::{depth_of, is_good_name, is_good_path, is_too_deep, is_too_long, push_name};
 use std::test::Fail;
 
-/// Bytes, whether a directory can have an entry of this name, and whether a tree can have one at this path.
+/// Bytes, whether a directory can have an entry with this name, and whether a tree can have an entry with this path.
 const GOOD: &[(&'static [u8], bool, bool)] = &[
     (b"a", true, true),
     (b"...", true, true),
@@ -60,7 +60,7 @@ fn name_is_pushed_after_a_slash(rt: HostRuntime) -> Result<(), Fail> {
     Ok(())
 }
 
-/// A byte, what is cut at its first place, and the two parts.
+/// A byte, the bytes that are cut at its first occurrence, and the two parts.
 const CUTS: &[(u8, &'static [u8], (&'static [u8], Option<&'static [u8]>))] = &[
     (b'=', b"eol=lf=", (b"eol", Some(b"lf="))),
     (b'=', b"eol", (b"eol", None)),

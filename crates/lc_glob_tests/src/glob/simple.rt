@@ -1,9 +1,9 @@
-//! Patterns of each kind, kept in a set.
+//! Tests of sets that have patterns of each kind.
 
 use lc_glob::{Candidate, Pattern, PatternSet};
 use std::test::Fail;
 
-/// A pattern, the path of a directory, and whether it matches that directory.
+/// A pattern, the path of a directory, and whether the pattern matches this directory.
 type Case = (&'static [u8], &'static [u8], bool);
 
 const CASES: &[Case] = &[
@@ -49,7 +49,7 @@ fn a_set_matches_as_its_patterns_do(rt: HostRuntime) -> Result<(), Fail> {
     Ok(())
 }
 
-/// The last of the first `count` patterns, or of all, that matches a path.
+/// Returns the index of the last pattern that matches a path, among the first `count` patterns of a set, or all if it has fewer.
 fn last_of(set: &PatternSet, path: &Candidate, is_dir: bool, count: usize) -> Option<usize> {
     set.last_match(path, is_dir, count.min(set.len()))
 }
