@@ -6,7 +6,7 @@ use Rattle.lc_io.specs.Writes.{Writes, StopsWriting}
 use Rattle.lc_io.specs.declared.printing.PrintFault.{PrintFault}
 use Rattle.lc_io.specs.declared.printing.PrintFault.TheVariants.{Write, Memory}
 
--- the bytes from which on a block is full
+-- the number of bytes from which on a block is full
 abbrev pub block_size : ℕ
 block_size = 65536
 
@@ -17,7 +17,8 @@ module _ {S : Type 0} (may_take : S → List ℕ → Result ℕ Failed → S →
       ((block_size ≤ length block) × Writes may_take old block new × (left ≡ []))
       ⊎ ((length block < block_size) × (new ≡ old) × (left ≡ block))
 
-  -- and what is answered; where a write stops it, the block is as it was
+  -- what `print_if_full` answers: a full block was emptied, or nothing was done; or a write of a full block failed, and the block is as it
+  -- was
   abbrev pub AnswersBlock : S → List ℕ → Result (Unit {0}) PrintFault → S → List ℕ → Type 0
   AnswersBlock old block (Ok _) new left = EmptiesFull old block new left
   AnswersBlock old block (Err Write) new left = (block_size ≤ length block) × StopsWriting may_take old block new × (left ≡ block)

@@ -18,7 +18,7 @@ pub data Stop : Type 0 where
   at_failure : Stop
   at_neither : Stop
 
--- how long the buffers of the reads were: of any length, or all of this one
+-- how long the buffers of the reads were: of any length, or all of one length
 abbrev pub AnyRoom : ℕ → Type 0
 AnyRoom room = Unit {0}
 
@@ -37,19 +37,19 @@ module _ {S : Type 0} (may_give : S → ℕ → Answer → S → Type 0) (IsRoom
   Stops old at_failure new = MayRead old failed new
   Stops old at_neither new = old ≡ new
 
-  -- the reads gave these pieces in turn, none of them empty, and then stopped so
+  -- the reads gave these pieces in turn, none of them empty, and then stopped in this way
   abbrev pub Reads : S → List (List ℕ) → Stop → S → Type 0
   Reads old [] stop new = Stops old stop new
   Reads old (piece ∷ pieces) stop new =
       (middle : S) × (piece ≢ []) × MayRead old (gave piece) middle × Reads middle pieces stop new
 
-  -- the reads gave these bytes, in whatever pieces, and then stopped so
+  -- the reads gave these bytes, in whatever pieces, and then stopped in this way
   pub record GivesBytes (old : S) (bytes : List ℕ) (stop : Stop) (new : S) : Type 0 where
     pub pieces : List (List ℕ)
     pub reads : Reads old pieces stop new
     pub joined : concat pieces ≡ bytes
 
--- how many reads gave these pieces and stopped so: the end and a failure each took one more
+-- how many reads gave these pieces and stopped in this way: the end and a failure each took one more read
 abbrev pub read_count : List (List ℕ) → Stop → ℕ
 read_count pieces at_end = length pieces + 1
 read_count pieces at_failure = length pieces + 1

@@ -5,7 +5,7 @@ use Rattle.lc_io.specs.declared.source.Failed.{Failed}
 use Rattle.lc_io.specs.declared.printing.PrintFault.{PrintFault}
 use Rattle.lc_io.specs.declared.printing.PrintFault.TheVariants.{Write, Memory}
 
--- a vector takes all bytes, or none where its growth is refused
+-- a vector takes all bytes, or no byte if an allocation fails
 abbrev pub AppendsAll : Vec ℕ Global → List ℕ → Result ℕ Failed → Vec ℕ Global → Type 0
 AppendsAll old bytes (Ok n) new = (n ≡ length bytes) × (new.items ≡ old.items ++ bytes)
 AppendsAll old bytes (Err _) new = new.items ≡ old.items

@@ -12,9 +12,9 @@ use std::alloc::Global;
 /// The number of bytes at which a block is full: 64 KiB.
 pub const BLOCK_SIZE: usize = 65_536;
 
-/// The end of a text that is not written yet. Lines are appended to it, and it is written as soon as it is full.
+/// The last part of a text, which is not written yet. The caller appends lines to it, and `print_if_full` writes it when it is full.
 ///
-/// It may grow past [`BLOCK_SIZE`] by one line. Its memory is kept from one write to the next.
+/// A block may grow past [`BLOCK_SIZE`] by one line. It keeps its memory from one write to the next.
 ///
 /// ```
 /// let mut block = Block::new(alloc);
@@ -53,7 +53,7 @@ impl Block {
         Ok(())
     }
 
-    /// Writes the rest of the block, at the end of the text.
+    /// Writes what is left in the block, after the end of the text was appended.
     pub fn print_rest<O: Sink>(self, out: &mut O) -> Result<(), PrintFault>
         ensures answers { AnswersPrint O.may_take out.old self.text.items result out.new }
         ensures no_memory { result ≢ Err Memory }

@@ -24,7 +24,7 @@ pub fn a_vector_takes_the_text()
         → new.items ≡ old.items ++ text }
 {}
 
-/// The law that the constant is the length that the definitions name.
+/// The law that the constant `BUFFER_LEN` is the length `buffer_len` of the definitions.
 pub fn the_buffer_has_this_length()
     ensures { BUFFER_LEN ≡ buffer_len }
 {}

@@ -1,8 +1,8 @@
 //! Readers and writers of bytes.
 //!
-//! - `source`, `std_source`: the trait of readers, and readers of std
+//! - `source`, `std_source`: the trait of readers, and readers of std that implement it
 //! - `buffer`: a buffer for reads; `whole`: the bytes of a reader, up to a limit
-//! - `sink`: the trait of writers; `printing`: writing a text whole; `blocks`: writing a text while it is made
+//! - `sink`: the trait of writers; `printing`: writing a whole text; `blocks`: writing a text while it is made
 //! - `laws`: what is true of the definitions that the contracts cite
 #![tactic(auto)]
 

@@ -1,4 +1,4 @@
-//! Writing a text whole.
+//! Writing a whole text.
 
 ghost use Rattle.std.specs.Prelude.{◌≡◌, ◌≢◌};
 ghost use Rattle.lc_io.specs.declared.printing.PrintFault.TheVariants.{Write, Memory};
@@ -12,10 +12,10 @@ use thiserror::Error;
 /// Why a text was not written, or not whole.
 #[derive(Debug, Clone, Copy, PartialEq, Eq, Error)]
 pub enum PrintFault {
-    /// A write failed, or took nothing. What was written is a prefix of the text.
+    /// A write failed, or accepted no byte. What was written is a prefix of the text.
     #[error("cannot write")]
     Write,
-    /// An allocation failed. Nothing was written, or a prefix of a text that is written as it is made.
+    /// An allocation failed. Nothing was written or, if the text is written while it is made, a prefix of it.
     #[error("out of memory")]
     Memory,
 }
@@ -36,7 +36,7 @@ impl From<Failed> for PrintFault {
     }
 }
 
-/// Writes a text whole. A write that accepts no byte is an error too, unless no byte is left.
+/// Writes a whole text, in one write or several. A write that accepts no byte is an error too. An empty text needs no write.
 pub fn print<O: Sink>(out: &mut O, text: &[u8]) -> Result<(), PrintFault>
     ensures answers { AnswersPrint O.may_take out.old text.now result out.new }
     ensures no_memory { result ≢ Err PrintFault.Memory }

@@ -13,18 +13,18 @@ use std::io::{self, Error, ErrorKind, Write};
 
 /// A writer of bytes.
 ///
-/// Each type states what its writes may return, so that a contract can speak of the writes of a call.
+/// Each type states in `may_take` what its writes may return, so that a contract can state what a call wrote.
 pub trait Sink {
     /// Whether a write of these bytes may give this answer and leave the sink in this state.
     ghost may_take: { Self → List ℕ → Result ℕ Failed → Self → Type 0 };
 
-    /// Writes some bytes from the front, and returns how many.
+    /// Writes some bytes from the front of `bytes`, and returns how many it wrote.
     fn write(&mut self, bytes: &[u8]) -> Result<usize, Failed>
         ensures within { IfOk result (λ n. n ≤ length bytes.now) }
         ensures taken { may_take self.old bytes.now result self.new };
 }
 
-/// A vector takes all bytes in one write, and fails only if an allocation fails.
+/// A vector as a writer. One write appends all bytes, and fails only if an allocation fails.
 impl Sink for Vec<u8> {
     ghost may_take = { AppendsAll };
 
@@ -39,7 +39,7 @@ impl Sink for Vec<u8> {
 /// A sink over a writer of std, such as a file or standard output.
 ///
 /// A `write` that a signal interrupts has written nothing, and is tried again, up to `MAX_TRIES` times in all. Every other error of the
-/// writer is a failure. If it is known which bytes the writer holds, such as for a vector, those grow by what is written.
+/// writer is a failure. If the bytes that the writer holds are known, as for a vector, each write appends the written bytes to them.
 #[derive(Drop)]
 pub struct StdSink<W>(pub W);
 
@@ -54,7 +54,7 @@ impl<W: Write> Sink for StdSink<W> {
     }
 }
 
-/// Writes, and tries again where a signal interrupts the write.
+/// Writes some bytes, and tries again if a signal interrupts the write, up to `MAX_TRIES` times in all.
 #[tactic(auto, using(crate::proofs::KnownWrites::keeps_and_keeps, crate::proofs::KnownWrites::keeps_and_appends))]
 fn write_again<W: Write>(writer: &mut W, bytes: &[u8]) -> io::Result<usize>
     ensures bound { WritesAtMost result bytes.now }

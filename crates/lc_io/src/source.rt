@@ -2,28 +2,27 @@
 ghost use Rattle.std.specs.Prelude.{◌≡◌, ℕ, ◌≤◌, length, take, drop, IfOk};
 ghost use Rattle.lc_io.specs.Reads.{Answer, gave, answer_of};
 
-/// A read failed, for any cause.
+/// The error of a read or a write that failed, for any cause.
 #[derive(Clone, Copy, Debug, Drop, PartialEq, Eq)]
 pub struct Failed;
 
 /// A reader of bytes.
 ///
-/// Each type states by `may_give` what its reads may return. From `may_give`, `specs/Reads.antt` defines what the reads of a whole call
+/// Each type states in `may_give` what its reads may return. `specs/Reads.antt` derives from this what all reads of one call together
 /// returned.
 pub trait Source {
     // A read of this reader, into a buffer of this length, may give this answer and leave this reader.
     ghost may_give: { Self → ℕ → Answer → Self → Type 0 };
 
-    /// Reads the next bytes to the front of the buffer, and returns how many there are.
+    /// Reads the next bytes into the front of the buffer, and returns how many it read.
     ///
-    /// No byte into a buffer that is not empty means that the reader is at its end. After a failure nothing is known
-    /// of the buffer's bytes.
+    /// If the buffer is not empty, 0 means that the reader is at its end. After a failure, the buffer may have any bytes.
     fn read(&mut self, buffer: &mut [u8]) -> Result<usize, Failed>
         ensures within { IfOk result (λ count. count ≤ length buffer.old) }
         ensures given { may_give self.old (length buffer.old) (answer_of result buffer.new) self.new };
 }
 
-/// A slice returns its bytes from the first on, as many a read as the buffer holds. It never fails and allocates nothing.
+/// A slice as a reader. Each read returns the next bytes of the slice, as many as the buffer holds. It never fails and allocates nothing.
 impl Source for &[u8] {
     ghost may_give = { λ old room answer new. (answer ≡ gave (take room old.now)) × (new.now ≡ drop room old.now) };
 

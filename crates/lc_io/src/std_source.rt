@@ -12,10 +12,10 @@ use std::io::{Error, ErrorKind, Read};
 /// How many times one system call is tried, if a signal interrupts it each time.
 pub const MAX_TRIES: u32 = 65_536;
 
-/// A reader of std, such as a file or standard input.
+/// A source over a reader of std, such as a file or standard input.
 ///
-/// A `read` that a signal interrupts is tried again, up to `MAX_TRIES` times in all. Every other error of the reader is a failure. If
-/// the remaining bytes of the reader are known, as those of a slice are, the reads return these bytes.
+/// A `read` that a signal interrupts is tried again, up to `MAX_TRIES` times in all. Every other error of the reader is a failure. If the
+/// remaining bytes of the reader are known, as for a slice, the reads return these bytes.
 ///
 /// ```
 /// let mut reader = StdSource(fs::open(rt, "notes.txt")?);

@@ -1,4 +1,4 @@
-//! Reading a reader whole, up to a limit.
+//! Reading all bytes of a reader, up to a limit.
 ghost use Rattle.std.specs.Prelude.{◌+◌, ◌^◌, ◌<◌, length};
 ghost use Rattle.lc_io.specs.Whole.{AnswersWhole};
 
@@ -7,18 +7,18 @@ use crate::source::Source;
 /// Why a reader was not read whole.
 #[derive(Clone, Copy, Debug, Drop, PartialEq, Eq)]
 pub enum WholeFault {
-    /// A read failed, whatever the kind of its error. It was the last.
+    /// A read failed, with an error of any kind. No read was made after it.
     Read,
-    /// The reader has more bytes than the limit. One byte past it was read, and no more.
+    /// The reader has more bytes than the limit. It was read up to the first byte past the limit, and no further.
     TooLong,
     /// There is no memory for the bytes.
     Memory,
 }
 
-/// Reads to the reader's end, or up to the first byte past the limit.
+/// Reads all bytes of a reader into a vector, or all up to the first byte past the limit.
 ///
-/// The caller lends the buffer and the vector; a worker lends the same two for all its files. The vector is cleared first. After an error
-/// it has the bytes that were read before.
+/// The caller lends the buffer and the vector. A worker of a walk lends the same two for all its files. The vector is cleared first. After
+/// an error, it has the bytes that were read before the error.
 ///
 /// ```
 /// let mut buffer = new_buffer(alloc)?;
