@@ -18,6 +18,6 @@ is_space byte = byte == 32 || byte == 9
 abbrev pub is_nul : ℕ → Bool
 is_nul byte = byte == 0
 
--- one where it is true
+-- 1 if b is true, and 0 otherwise
 abbrev pub one_if : Bool → ℕ
 one_if b = cond b 1 0

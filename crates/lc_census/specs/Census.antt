@@ -7,25 +7,25 @@ use Rattle.lc_census.specs.declared.line_count.Count.{Count}
 use Rattle.lc_census.specs.declared.line_count.Eol.{Eol}
 use Rattle.lc_census.specs.declared.line_count.Eol.TheVariants.{NoEnd, Lf, CrLf, Cr, Mixed, Nul}
 
--- only spaces and tabs, or nothing
+-- whether a text has only spaces and tabs, or nothing
 abbrev pub is_blank_text : List ℕ → Bool
 is_blank_text text = list_all is_space text
 
--- the lines, and one more where a rest stands after the last end
+-- the number of lines, and one more if a rest comes after the last end
 abbrev pub line_count : Cutting → ℕ
 line_count cutting = length cutting.lines + one_if (not (is_empty cutting.rest))
 
--- those of them that are blank
+-- the number of blank lines, with a blank rest after the last end
 abbrev pub blank_count : Cutting → ℕ
 blank_count cutting =
     count_by (λ line. is_blank_text line.text) cutting.lines
     + one_if (not (is_empty cutting.rest) && is_blank_text cutting.rest)
 
--- some line ends so
+-- whether some line ends in this way
 abbrev pub has_end : End → List Line → Bool
 has_end end lines = list_any (λ line. same_end end line.end) lines
 
--- the class, by whether there is a NUL, an end LF, an end CR LF and an end CR
+-- the kind of the line ends, by whether there is a NUL, an end LF, an end CR LF and an end CR
 abbrev pub class_of : Bool → Bool → Bool → Bool → Eol
 class_of true _ _ _ = Nul
 class_of false false false false = NoEnd

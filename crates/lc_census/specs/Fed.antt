@@ -9,12 +9,12 @@ pub record CensusModel : Type 0 where
   pub bytes : ℕ
   pub has_rest : Bool
 
--- whether a rest stands after the last end of these bytes, where b says it before them
+-- whether a rest comes after the last line end, once these bytes are fed; b is whether one came before them
 abbrev pub rest_after : Bool → List ℕ → Bool
 rest_after b [] = b
 rest_after b (x ∷ xs) = rest_after (not (is_end x)) xs
 
--- the bytes lead to what is kept
+-- the census has this state once these bytes are fed
 abbrev pub LeadTo : List ℕ → CensusModel → Type 0
 LeadTo bytes fed =
     fed ≡ record { scan = after_all start bytes; bytes = length bytes; has_rest = rest_after false bytes }

@@ -7,11 +7,11 @@ use Rattle.lc_census.specs.Bytes.{is_cr, is_end, is_space, one_if}
 unfoldable pub test : ℕ → ℕ → Bool
 test x i = bit_at x i == 1
 
--- the bits of the word are these of the lanes
+-- each of the 64 bits of the word is set if p holds of its index, and only then
 abbrev pub Bits : ℕ → (ℕ → Bool) → Type 0
 Bits x p = (i : ℕ) → i < 64 → test x i ≡ p i
 
--- the bits of the word tell which bytes of v pass
+-- the bits of the word show which bytes of v pass
 abbrev pub Marks : ℕ → (ℕ → Bool) → List ℕ → Type 0
 Marks x p v = Bits x (λ i. p (get_or v i 0))
 

@@ -3,11 +3,11 @@ use Rattle.std.specs.Prelude.{ℕ, true, false, ◌+◌, ◌<◌, ◌^◌, List,
 use Rattle.lc_census.specs.Bytes.{is_lf, is_cr, is_end, is_space, is_nul, one_if}
 use Rattle.lc_census.specs.declared.scan.Scan.{Scan}
 
--- before the first byte
+-- the state of a scan before the first byte
 abbrev pub start : Scan
 start = record { lf = 0; cr = 0; crlf = 0; blank = 0; nul = 0; after_cr = false; is_blank = true }
 
--- the scan after one more byte
+-- the state of a scan after one more byte
 abbrev pub after : Scan → ℕ → Scan
 after s x = record s {
   lf = s.lf + one_if (is_lf x);
@@ -19,12 +19,12 @@ after s x = record s {
   is_blank = is_end x || (s.is_blank && is_space x);
 }
 
--- the scan after these bytes
+-- the state of a scan after these bytes
 abbrev pub after_all : Scan → List ℕ → Scan
 after_all s [] = s
 after_all s (x ∷ xs) = after_all (after s x) xs
 
--- so many more bytes can be counted
+-- n more bytes can be counted without an overflow
 abbrev pub HasRoom : Scan → ℕ → Type 0
 HasRoom s n =
     (s.lf + n < 2 ^ 64) × (s.cr + n < 2 ^ 64) × (s.crlf + n < 2 ^ 64) × (s.blank + n < 2 ^ 64) × (s.nul + n < 2 ^ 64)

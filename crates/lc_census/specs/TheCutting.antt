@@ -9,13 +9,13 @@ line t e = record { text = t; end = e }
 abbrev pub cutting : List Line → List ℕ → Cutting
 cutting ls r = record { lines = ls; rest = r }
 
--- a CR before these lines: the end of an empty line, or joined to an LF that stands alone
+-- the lines after a CR in front of them: the CR is the end of an empty line, or part of an end CR LF with the LF that comes first
 abbrev pub with_cr : Bool → List Line → List Line
 with_cr true [] = []
 with_cr true (l ∷ ls) = line [] cr_lf ∷ ls
 with_cr false ls = line [] cr ∷ ls
 
--- a byte of a text before this cutting
+-- the cutting with one more byte of a text in front of it
 abbrev pub with_text : ℕ → List Line → List ℕ → Cutting
 with_text x [] r = cutting [] (x ∷ r)
 with_text x (l ∷ ls) r = cutting (line (x ∷ l.text) l.end ∷ ls) r

@@ -1,4 +1,4 @@
-//! A census that reads its bytes piece by piece.
+//! The census of bytes that come piece by piece: the counts of lines, blank lines and bytes, and the kind of the line ends.
 ghost use Rattle.std.specs.Prelude.{◌≡◌, ℕ, ◌+◌, ◌≤◌, ◌^◌, List, [], ◌++◌, length};
 ghost use Rattle.lc_census.specs.Bytes.{is_end};
 ghost use Rattle.lc_census.specs.Census.{IsCensus, class_of};
@@ -9,7 +9,7 @@ use crate::scan::Scan;
 use crate::simd::scan_simd;
 use std::marker::Model;
 
-/// The census of the bytes so far.
+/// The census of the bytes that were fed so far.
 ///
 /// The bytes may be cut into pieces anywhere, also between a CR and its LF, and a piece may be empty. Nothing is allocated.
 ///
@@ -49,7 +49,7 @@ impl Census {
         }
     }
 
-    /// Adds the next piece of the bytes. All pieces together may have 2^48 bytes.
+    /// Adds the next piece of the bytes. All pieces together may have at most 2^48 bytes.
     pub fn feed(&mut self, piece: &[u8])
         requires { self.old.bytes + length piece.now ≤ 2 ^ 48 }
         ensures bytes { self.new.bytes ≡ self.old.bytes + length piece.now }
@@ -62,7 +62,7 @@ impl Census {
         }
     }
 
-    /// Returns the census of all the bytes that were fed.
+    /// Returns the counts of all the bytes that were fed.
     pub fn finish(self) -> Count
         ensures { (bytes : List ℕ) → LeadTo bytes self → IsCensus bytes result }
     {

@@ -10,12 +10,12 @@ use crate::line_count::Count;
 use lc_io::{Source, new_buffer};
 use std::alloc::{AllocError, Global};
 
-/// Why there is no count. The reader has then advanced past the bytes that were read.
+/// Why a reader's bytes were not counted. The reader has advanced past the bytes that were read.
 #[derive(Clone, Copy, Debug, Drop, PartialEq, Eq)]
 pub enum CensusFault {
-    /// A read failed, whatever the kind of its error. It was the last.
+    /// A read failed, with an error of any kind. No read was made after it.
     Read,
-    /// All turns are used, and none of the reads met the end.
+    /// All allowed reads were made, and none of them reached the reader's end.
     Endless,
     /// There is no memory for the buffer. No read was made.
     Memory,
@@ -29,12 +29,12 @@ impl From<AllocError> for CensusFault {
     }
 }
 
-/// The limit of reads of `count`, and the greatest limit of `count_within` and `count_source`: 2^32.
+/// The greatest number of reads of `count`, and the greatest limit that `count_within` and `count_source` accept: 2^32.
 pub const MAX_TURNS: u64 = 4_294_967_296;
 
-/// Counts a reader's bytes up to its end, in at most `turns` reads into the caller's buffer.
+/// Counts the lines and bytes of a reader up to its end, in at most `turns` reads into the caller's buffer.
 ///
-/// A worker lends one buffer for all its files. Nothing is allocated, so the error is never `Memory`.
+/// A worker of a walk lends one buffer for all its files. Nothing is allocated, so the error is never `Memory`.
 ///
 /// ```
 /// let mut buffer = new_buffer(alloc)?;
@@ -65,7 +65,7 @@ pub fn count_source<S: Source>(
     Err(CensusFault::Endless)
 }
 
-/// Counts a reader's bytes up to its end, in at most `turns` reads of up to 65,536 bytes.
+/// Counts the lines and bytes of a reader up to its end, in at most `turns` reads of up to 65,536 bytes.
 ///
 /// The buffer is allocated before the first read.
 ///
@@ -85,7 +85,7 @@ pub fn count_within<S: Source>(
     count_source(&mut buffer, reader, turns)
 }
 
-/// Counts a reader's bytes up to its end, in at most 2^32 reads of up to 65,536 bytes.
+/// Counts the lines and bytes of a reader up to its end, in at most 2^32 reads of up to 65,536 bytes.
 ///
 /// ```
 /// let mut reader = b"one\n\ntwo".as_slice();

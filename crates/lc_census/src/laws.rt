@@ -10,7 +10,7 @@ pub fn bytes_have_one_cutting()
     ensures { (bytes : List ℕ) → HasOneCutting bytes }
 {}
 
-/// The law that the constant is the limit that the definitions name.
+/// The law that the constant `MAX_TURNS` is the limit `max_turns` of the definitions.
 pub fn the_limit_is_this_number()
     ensures { MAX_TURNS ≡ max_turns }
 {}

@@ -1,10 +1,10 @@
 //! Counting the lines, blank lines, bytes and line ends of a reader's bytes, in whatever pieces they come.
 //!
-//! - `line_count`: what a census counts
-//! - `census`: the census of bytes, piece by piece
+//! - `line_count`: what a census counts: lines, blank lines, bytes and the kind of the line ends
+//! - `census`: the census of bytes that come piece by piece
 //! - `counting`: the census of all of a reader's bytes
-//! - `scan`, `scalar`, `simd`: the two bodies of the census, by bytes and by vectors, under one contract; they are public for benchmarks
-//!   alone
+//! - `scan`, `scalar`, `simd`: the state of a census between two bytes, and two functions that advance it under one contract, by bytes and
+//!   by vectors; they are public for benchmarks alone
 //! - `laws`: what is true of the definitions that the contracts cite
 #![tactic(auto)]
 

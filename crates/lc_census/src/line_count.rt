@@ -1,9 +1,9 @@
-//! The counts of a census. A module may not have the name of a function in the same place, and `count` is one, so this is `line_count`.
+//! The counts of a census. This module is not named `count`, since a module may not have the name of a function in the same place.
 
 ghost use Rattle.std.specs.Prelude.{◌≡◌};
 ghost use Rattle.lc_census.specs.EolWords.{eol_word};
 
-/// How lines end.
+/// How the lines of some bytes end.
 #[derive(Clone, Copy, Debug, Drop, PartialEq, Eq)]
 pub enum Eol {
     /// There is no line end.
@@ -21,7 +21,7 @@ pub enum Eol {
 }
 
 impl Eol {
-    /// Returns the word by which reports name the kind, such as `crlf`.
+    /// Returns the word for this kind of line ends in reports, such as `crlf`.
     pub fn as_str(self) -> &'static str
         ensures { result.now ≡ eol_word self }
     {
@@ -36,7 +36,7 @@ impl Eol {
     }
 }
 
-/// The census of some bytes.
+/// The counts of some bytes: of lines, blank lines and bytes, and how the lines end.
 ///
 /// A line ends at LF, at CR LF, or at a CR that no LF follows; bytes after the last end are one more line.
 #[derive(Clone, Copy, Debug, Drop, PartialEq, Eq)]

@@ -43,7 +43,7 @@ fn scan_byte(scan: Scan, byte: u8) -> Scan
     next
 }
 
-/// Returns the scan after these bytes, which are read one at a time.
+/// Returns the state of the scan after these bytes. It reads them one at a time.
 pub fn scan_scalar(scan: Scan, bytes: &[u8]) -> Scan
     requires { HasRoom scan (length bytes.now) }
     ensures { result ≡ after_all scan bytes.now }

@@ -1,23 +1,23 @@
-//! The scan of bytes for their lines.
+//! The state of a scan, which counts line ends and blank lines.
 ghost use Rattle.std.specs.Prelude.{◌≡◌};
 
-/// The line ends so far, and the position of the next byte in its line.
+/// The state of a scan: the counts so far, and what the scan must know of the bytes before the next one.
 ///
-/// A line is counted at its LF or its CR. An LF right after a CR belongs to that CR's end and adds to `crlf` alone, so
-/// no byte waits for the next one, and a piece may end anywhere.
+/// A line is counted at its LF or its CR. An LF right after a CR belongs to that CR's line end, and adds to `lf` and `crlf` but to no other
+/// count. So no byte waits for the next one, and a piece may end anywhere.
 #[derive(Clone, Copy, Debug, Drop, PartialEq, Eq)]
 pub struct Scan {
-    /// Line feeds, those after a CR too.
+    /// The number of line feeds, also of those after a CR.
     pub lf: u64,
-    /// Carriage returns, those before an LF too.
+    /// The number of carriage returns, also of those before an LF.
     pub cr: u64,
-    /// Line feeds right after a CR.
+    /// The number of line feeds right after a CR.
     pub crlf: u64,
-    /// Lines that ended and hold only spaces and tabs, or nothing.
+    /// The number of lines that ended and hold only spaces and tabs, or nothing.
     pub blank: u64,
-    /// NUL bytes.
+    /// The number of NUL bytes.
     pub nul: u64,
-    /// Whether the last byte is a CR.
+    /// Whether the last byte so far is a CR.
     pub after_cr: bool,
     /// Whether the line so far holds only spaces and tabs, or nothing.
     pub is_blank: bool,
@@ -26,7 +26,7 @@ pub struct Scan {
 impl Scan {
     ghost use Rattle.lc_census.specs.Scan.{start};
 
-    /// Returns the scan before the first byte.
+    /// Returns the state of a scan before the first byte.
     pub fn new() -> Self
         ensures { result ≡ start }
     {
