@@ -1,4 +1,4 @@
-//! What no clause says: worked cases, that calls succeed where there is memory, and readers that misbehave.
+//! Tests of what no contract shows: worked cases, calls that succeed where there is memory, and readers that misbehave.
 
 mod bodies;
 mod pieces;

@@ -1,4 +1,4 @@
-//! The tests of readers and of what they count.
+//! The tests of counting lines, and of the readers that are counted.
 #![tactic(auto)]
 
 #[cfg(test)]

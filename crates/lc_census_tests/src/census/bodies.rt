@@ -5,10 +5,10 @@ use lc_census::{Scan, scan_scalar, scan_simd};
 /// The bytes that a scan distinguishes, and `x` for all others.
 const LETTERS: [u8; 6] = [b'\n', b'\r', 0, b' ', b'\t', b'x'];
 
-/// How many words of six letters there are.
+/// The number of words of six bytes of `LETTERS`.
 const WORDS: u32 = 46_656;
 
-/// A word of six letters between two `x`.
+/// Returns the word with this number, of six bytes of `LETTERS`, between two `x`.
 fn parted_word(number: u32) -> [u8; 8] {
     let mut parted = [b'x'; 8];
     let mut left = number;
@@ -19,7 +19,7 @@ fn parted_word(number: u32) -> [u8; 8] {
     parted
 }
 
-/// The scan by vectors of this word at a place, with `x` all round.
+/// Returns the scan by vectors of this word at a place of a vector, with `x` in all other places.
 fn scan_at(place: usize, parted: &[u8; 8]) -> Scan
     requires { place < 64 }
 {
@@ -29,8 +29,8 @@ fn scan_at(place: usize, parted: &[u8; 8]) -> Scan
     scan_simd(Scan::new(), &bytes[..end])
 }
 
-/// The plain scan of a word between two `x`, or at the start with one after it, is what the vectors must give with `x` all round, so it
-/// is made once a word. A shorter word is one of six letters that ends in `x`.
+/// Returns whether both scans agree on a word at each place of a vector. The scan by bytes is made once for all places after the first,
+/// since a further `x` changes nothing. A shorter word is one of six bytes that ends in `x`.
 fn bodies_agree(parted: &[u8; 8]) -> bool {
     if scan_at(0, parted) != scan_scalar(Scan::new(), &parted[1..]) {
         return false;

@@ -22,14 +22,14 @@ fn counted_by_bytes(bytes: &[u8]) -> Count
     census.finish()
 }
 
-/// Through a reader with a short buffer.
+/// Counts the bytes through a reader, with a buffer of 3 bytes.
 fn counted_by_reads(bytes: &[u8]) -> Result<Count, CensusFault> {
     let mut buffer = [0u8; 3];
     let mut rest = bytes;
     count_source(&mut buffer, &mut rest, 1_000)
 }
 
-/// What is shown, the bytes, their lines, how many of them are blank, and their class.
+/// The name of a case, its bytes, how many lines they have, how many of these are blank, and how the lines end.
 type Case = (&'static str, &'static [u8], u64, u64, Eol);
 
 // Cut at every place, the whole among them, a byte at a time, and read.

@@ -6,7 +6,7 @@ use std::alloc::{AllocError, Global};
 use std::io::{Error, ErrorKind, Read, Result as IoResult};
 use std::test::Fail;
 
-/// The answer of a count.
+/// The result of counting a reader.
 type Outcome = Result<Count, CensusFault>;
 
 const ENDLESS: Outcome = Err(CensusFault::Endless);
@@ -27,11 +27,11 @@ const TWO_LINES: Outcome = Ok(Count {
     eol: Eol::Mixed,
 });
 
-/// How many turns a count has, its answer, and its reads.
+/// The name of a case, the greatest number of reads, the expected result, and the expected number of reads.
 type Case = (&'static str, u64, Outcome, u64);
 
-/// Returns whether a count of this reader, in reads of 65,536 bytes, has this answer after this many reads. A failed allocation is passed
-/// up; no read was made before it.
+/// Returns whether a count of this reader, in reads of 65,536 bytes, has the case's result after the case's number of reads. The only error
+/// is a failed allocation, before which no read was made.
 fn answers<S: Source + Drop>(alloc: Global, source: S, case: &Case) -> Result<bool, AllocError> {
     let (_, turns, want, reads) = *case;
     let mut reader = Counted::new(source);
@@ -47,7 +47,7 @@ fn answers<S: Source + Drop>(alloc: Global, source: S, case: &Case) -> Result<bo
     Ok(found == want && reader.reads == reads && reader.longest == longest)
 }
 
-/// Whether a count of this reader into a short buffer answers so by so many reads.
+/// Returns whether a count of this reader, into a buffer of 16 bytes, has the case's result after the case's number of reads.
 fn answers_in<S: Source + Drop>(source: S, case: &Case) -> bool {
     let (_, _, want, reads) = *case;
     let mut buffer = [0u8; 16];
@@ -63,7 +63,7 @@ const TURNS: &[Case] = &[
     ("none", 0, ENDLESS, 0),
 ];
 
-/// The end of a slice takes a read.
+/// Counts of a slice, whose end is found by a further read.
 const SLICE_TURNS: &[Case] = &[("one turn", 1, ENDLESS, 1), ("two turns", 2, AB, 2)];
 
 const NEVER_ENDING: Case = ("an endless reader", 1_000, ENDLESS, 1_000);
@@ -81,7 +81,7 @@ fn reads_up_to_the_end_within_its_turns(rt: HostRuntime) -> Result<(), Fail> {
     Ok(())
 }
 
-/// Bytes after which a read fails, and which read that is.
+/// The bytes that a reader has before a read fails, and the case for this reader.
 const FAILURES: &[(&[u8], Case)] = &[
     (b"", ("the first", MAX_TURNS, FAILED, 1)),
     (b"a", ("the second", MAX_TURNS, FAILED, 2)),
@@ -102,7 +102,7 @@ fn a_failed_read_is_the_last(rt: HostRuntime) -> Result<(), Fail> {
     Ok(())
 }
 
-/// Returns whether a count finds the two lines. A failed allocation is passed up.
+/// Returns whether a count of this reader is `TWO_LINES`. The only error is a failed allocation.
 fn has_two_lines<S: Source>(alloc: Global, reader: &mut S) -> Result<bool, AllocError> {
     match count(alloc, reader) {
         Err(CensusFault::Memory) => Err(AllocError),
@@ -119,7 +119,7 @@ fn counts_a_slice_and_a_reader_of_std(rt: HostRuntime) -> Result<(), Fail> {
     Ok(())
 }
 
-/// A reader of std that gives its bytes one a read, and errors of one kind at all reads but each so many-th.
+/// A reader of std whose reads fail with errors of `kind`, except each `period`-th read, which returns the next byte.
 #[derive(Drop)]
 struct Failings<'a> {
     left: &'a [u8],
@@ -153,7 +153,7 @@ const WHOLE: Outcome = Ok(Count {
     eol: Eol::CrLf,
 });
 
-/// The kind of all errors, each how many-th read has none, the answer, and the reads.
+/// The name of a case, the `kind` and the `period` of its `Failings`, the expected result, and the expected number of reads.
 const ERRORS: &[(&str, ErrorKind, u64, Outcome, u64)] = &[
     ("never interrupted", ErrorKind::Interrupted, 1, WHOLE, 5),
     ("once a byte", ErrorKind::Interrupted, 2, WHOLE, 10),

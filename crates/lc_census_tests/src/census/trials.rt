@@ -1,9 +1,9 @@
-//! What the readers for tests give, read by read.
+//! Tests of the readers that other tests use: what each of their reads returns.
 
 use lc_census::{Failed, Source};
 use lc_tests::readers::{Bytewise, Counted, Endless, Failing};
 
-/// The room of a read, at most 8 bytes, and what it gives.
+/// The length of a read's buffer, at most 8 bytes, and what the read must return.
 type Read = (usize, Result<&'static [u8], Failed>);
 
 fn gives<S: Source>(reader: &mut S, reads: &[Read]) -> bool {

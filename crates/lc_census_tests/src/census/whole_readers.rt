@@ -6,7 +6,7 @@ use lc_tests::readers::{Bytewise, Endless, Failing};
 use std::alloc::AllocError;
 use std::test::Fail;
 
-/// How a reader gives its bytes: one a read, and then its end or a failure; as many as there is room for; or without an end.
+/// How a reader returns its bytes: one for each read, and then its end or a failure; as many as the buffer holds; or without an end.
 #[derive(Clone, Copy)]
 enum Reader {
     ByByte,
@@ -15,7 +15,7 @@ enum Reader {
     NoEnd,
 }
 
-/// What is shown, the reader and its bytes, the limit, the answer, and the bytes that are left.
+/// The name of a case, a reader and its bytes, the limit, the expected result, and the bytes that the vector then has.
 type Case = (
     &'static str,
     Reader,
@@ -49,7 +49,8 @@ const CASES: &[Case] = &[
 
 const BY_A_NEW_BUFFER: Case = ("a new buffer", AtOnce, b"*.o\n", 4, Ok(()), b"*.o\n");
 
-/// Whether this is read of a reader, by a buffer that others used before.
+/// Returns whether `read_whole` has the case's result for this reader, and leaves the case's bytes. The buffer and the vector may have been
+/// used before.
 fn is_read_of<S: Source + Drop>(
     buffer: &mut [u8],
     bytes: &mut Vec<u8>,
@@ -68,7 +69,7 @@ fn is_read_of<S: Source + Drop>(
     Ok(found == want && bytes.as_slice() == left)
 }
 
-/// The same of the case's reader.
+/// Like `is_read_of`, for the reader that the case names.
 fn is_read(buffer: &mut [u8], bytes: &mut Vec<u8>, case: &Case) -> Result<bool, AllocError>
     requires { 0 < length buffer.old }
     ensures { length buffer.new ≡ length buffer.old }
