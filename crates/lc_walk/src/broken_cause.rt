@@ -5,7 +5,7 @@
 pub enum BrokenCause {
     /// An allocation failed.
     Memory,
-    /// No number is left for a directory.
+    /// The board has no number left for a child directory.
     TooManyDirs,
     /// An entry's path has more than 4,096 bytes, or a directory's path more than 256 segments.
     TooDeep,

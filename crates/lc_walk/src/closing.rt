@@ -1,4 +1,4 @@
-//! The end of a walk over any shared board: closing the board, and assembling its rows.
+//! The end of a walk over any shared board: closing the board, and making the report from its rows.
 ghost use Rattle.std.specs.Prelude.{◌≡◌, [], map};
 ghost use Rattle.lc_walk.specs.Passes.{HaveWorked, IsClosable, asked};
 ghost use Rattle.lc_level.specs.Filters.{FiltersModel};
@@ -32,7 +32,7 @@ impl From<CloseFault> for WalkFault {
     }
 }
 
-/// Closes a board that all its workers have found over, and assembles the report of its rows.
+/// Closes a board after all its workers have stopped because no directory was left, and makes the report from its rows.
 pub fn finish<B: Shared<Job, Row>, T: Tree>(
     alloc: Global,
     board: B,

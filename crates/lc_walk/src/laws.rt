@@ -23,27 +23,29 @@ pub fn a_tally_has_no_order()
         → IsPermutation files moved → StandsFor tally files → StandsFor tally moved }
 {}
 
-/// The law that the rows of a closed walk are what the recursive walk of their tree finds, under any scheduling of the workers.
+/// The law that the rows of a closed board hold exactly what one recursive walk finds, under any scheduling of the workers. The recursive
+/// walk visits the tree that the rows make, in which each directory's number occurs once.
 pub fn rows_are_the_walk_of_their_tree()
     ensures found { CoreLaw }
     ensures numbers { NumbersLaw }
 {}
 
-/// The law that rows are what the recursive walk of a tree finds, if each row's level is that of the tree.
+/// The law that the rows of a closed board hold exactly what the recursive walk of a tree finds, if each row has what its directory
+/// contributes in this tree.
 pub fn rows_are_the_walk_of_one_tree()
     ensures { OneAnswerLaw }
 {}
 
-/// The law that the report of a walk is that of the recursive walk over some answers that its tree may give: a listing for each directory
-/// to which names lead.
+/// The law that the report of a walk is that of the recursive walk over some answers that the tree may give. These answers have a listing
+/// for each directory that the recursive walk reaches.
 pub fn reports_are_by_given_answers<T: Tree>(tree: &T)
     ensures { ByAnswersLaw (T.lists tree.now) (T.gives tree.now) }
 {
     let _tree = tree;
 }
 
-/// The law that the report of a walk of an in-memory tree, whose files each have less than 2^47 bytes, is that of the recursive walk of the
-/// tree of its node.
+/// The law that a walk of an in-memory tree makes the report of the recursive walk of the tree that its node describes. Each file must have
+/// less than 2^47 bytes.
 pub fn reports_of_memory_are_those_of_its_node()
     ensures one_answer { NodeOneAnswerLaw }
     ensures report { NodeReportLaw }
@@ -51,20 +53,21 @@ pub fn reports_of_memory_are_those_of_its_node()
     a_node_is_one_tree();
 }
 
-/// The law that a row that is lawful in a worker's part is lawful in the whole history.
+/// The law that a row that is lawful by the events of its worker is lawful in the history of all workers. A lawful row is true of its
+/// directory and of the child directories that were posted.
 pub fn lawful_in_part_is_lawful()
     ensures { PartLaw }
 {}
 
-/// The law of what the recursive walk of a tree finds. Names lead to each directory that the walk finds: each directory above it was listed
-/// without an error, and has the next one as an entry to descend into. Each directory contributes itself, its counted files, its errors and
-/// its skipped entries, as the fate of each entry decides.
+/// The law that the recursive walk of a tree finds what the directories that it reaches contribute, and nothing else. It reaches a
+/// directory if each directory above was listed without an error, and has the next one as an entry to descend into. A directory
+/// contributes itself, its counted files, its errors and its skipped entries.
 pub fn all_that_is_found_is_given()
     ensures { FoundLaw }
 {}
 
-/// The law that all entries that take part in the listed directories are counted files, errors other than `absent`, directories or skipped
-/// entries, if the report lists the skipped entries. Of all these, only the top is no entry. Each error `absent` is about a requested path.
+/// The law that each entry that a report counts is a counted file, an error other than `absent`, a listed directory or a skipped entry. The
+/// report must list its skipped entries. Of all these, only the top is not an entry. Each error `absent` is about a requested path.
 pub fn entries_are_accounted_for<T: Tree>(tree: &T)
     ensures { EntriesLaw (T.lists tree.now) (T.gives tree.now) }
 {
@@ -80,14 +83,15 @@ pub fn totals_of_a_report_add_up<T: Tree>(tree: &T)
 }
 
 /// The law that a walk of some paths finds a part of what the walk of the whole tree finds: what is at or below one of the paths, the
-/// directories above them, and the errors on the way. It also finds the paths that are absent. The same is true of two walks if each
-/// directory that both walks read gave both the same answers.
+/// directories above them, and the errors on the way. It also reports the paths that are absent. The same is true of two walks of a tree
+/// that changes, if each directory that both walks read gave both the same answers.
 pub fn a_part_is_the_whole_filtered()
     ensures two_walks { TwoWalksLaw }
     ensures one_tree { PartOfWalkLaw }
 {}
 
-/// The law that a walk of included files counts exactly those files of a whole walk that are included, and lists the same directories.
+/// The law that a walk with `include` patterns counts exactly the files that the walk without these patterns counts and that a pattern
+/// includes. Both walks list the same directories.
 pub fn included_files_are_the_whole_filtered()
     ensures { IncludeLaw }
 {}
@@ -104,12 +108,12 @@ pub fn paths_stand_once()
     ensures { PathsOnceLaw }
 {}
 
-/// The law that a report does not depend on the order in which things were found.
+/// The law that a report does not depend on the order in which files, errors, directories and skipped entries were found.
 pub fn a_report_has_no_order()
     ensures { ReportLaw }
 {}
 
-/// The law that the definitions of a level give the expected results on a small directory.
+/// The law that the definitions of what a directory contributes give the expected results on a small directory.
 pub fn walk_examples_hold()
     ensures { WalkExamplesHold }
 {}

@@ -1,10 +1,12 @@
-//! The walk over a tree: its workers, their rows and tallies, and its report.
+//! The walk over a directory tree: its workers, what each worker finds, and the report of all. The workers share a board of `lc_board`, on
+//! which each directory has a number: they claim directories from the board, and post child directories to it.
 //!
-//! - `row`: the row that a worker returns for a directory, with `served_job`; `broken_cause`: why a worker stopped work on a directory
-//! - `tally`: the sums over the counted files, a row for each key
+//! - `row`: the row that a worker returns for a directory; `served_job`: what a row keeps of the directory's job; `broken_cause`: why a
+//!   worker stopped work on a directory
+//! - `tally`: the sums over the counted files, with a row for each extension, text state and class of line ends
 //! - `report`: the report of a walk, made from the rows of a closed board
-//! - `worker`, with the modules below it: one worker; `workers`: all workers at the same time
-//! - `closing`: the end of a walk; `walking`: the whole walk; `walk_fault`: why there is no report
+//! - `worker`, with the modules below it: one worker; `workers`: running all workers at the same time
+//! - `closing`: the end of a walk; `walking`: the whole walk; `walk_fault`: why a walk returns no report
 //! - `options`: the options of a walk
 //! - `laws`: laws of the definitions that the contracts cite
 #![tactic(auto)]

@@ -3,12 +3,12 @@ ghost use Rattle.lc_walk.specs.WalkOptions.{HasNoLists};
 
 use lc_level::{Filters, NamedAttributes};
 
-/// The lists of a report, besides its rows and its errors.
+/// Which optional lists a report has. A report always has its rows and its errors.
 #[derive(Clone, Copy, Debug, Drop, PartialEq, Eq)]
 pub struct ReportLists {
-    /// Whether to have a line for each counted file.
+    /// Whether the report has a line for each counted file.
     pub files: bool,
-    /// Whether to have a line for each skipped entry. Entries below a skipped one are neither read nor listed.
+    /// Whether the report has a line for each skipped entry. Entries below a skipped directory are neither read nor listed.
     pub left_out: bool,
 }
 
@@ -24,16 +24,16 @@ pub struct Options<'o> {
     pub threads: u32,
     /// The greatest number of directories to visit, the top included: 1 to 1,048,576.
     pub max_dirs: u32,
-    /// The lists of the report.
+    /// Which optional lists the report has.
     pub lists: ReportLists,
-    /// What decides, besides the tree's own rules, which entries take part.
+    /// The filters, which decide besides the tree's own rules which entries are skipped.
     pub filters: &'o Filters<'o>,
-    /// Where to note which attributes the attribute files of the tree name. Noting them changes no report.
+    /// If present, the walk notes here which of the contained attributes the tree's attribute files name. The notes do not change the report.
     pub named: Option<&'o NamedAttributes>,
 }
 
 impl<'o> Options<'o> {
-    /// Returns the options of a walk with this many threads, at most this many directories, these filters and no lists.
+    /// Returns the options of a walk with this many threads, at most this many directories, these filters and no optional lists.
     pub fn new(threads: u32, max_dirs: u32, filters: &'o Filters<'o>) -> Options<'o>
         ensures { HasNoLists threads max_dirs filters.entry.now result }
     {

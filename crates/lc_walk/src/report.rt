@@ -1,7 +1,7 @@
 //! The report of a walk.
 //!
-//! - `findings`: what a walk found besides the sums
-//! - `assembly`, with `row_lines` and `tree_check`: making the report of the rows of a closed board
+//! - `findings`: what a walk found besides the sums over its files
+//! - `assembly`, with `row_lines` and `tree_check`: making the report from the rows of a closed board
 ghost use Rattle.std.specs.Prelude.{map};
 ghost use Rattle.std.specs.List.Sorted.{IsPermutation, IsSortedByKey};
 ghost use Rattle.lc_walk.specs.Report.{IsReport};
@@ -22,15 +22,16 @@ pub use lc_level::{FaultLine, FileLine, SkippedLine};
 /// The report of a walk.
 #[derive(Debug, Drop)]
 pub struct Report {
-    /// The sums over the counted files, in a row for each key of some file, in the order of keys.
+    /// The sums over the counted files: a row for each extension, text state and class of line ends that some file has. The rows are in the
+    /// order of their keys.
     pub rows: Vec<TallyRow>,
     /// The sums over all counted files.
     pub totals: Sums,
     /// The number of directories whose listing and rule files were read, the top included.
     pub directories: u64,
-    /// The number of these directories' entries that take part.
+    /// The number of entries of these directories, skipped ones included. With `--only`, only the entries that its paths select count.
     pub entries: u64,
-    /// Which lists the report has.
+    /// Which optional lists the report has.
     pub lists: ReportLists,
     /// The counted files in order of their paths' bytes, if the report lists them.
     pub files: Vec<FileLine>,
@@ -41,8 +42,8 @@ pub struct Report {
 }
 
 impl Report {
-    /// Makes a report. It sorts the rows of the tally by their keys and each list of the findings by its paths, in place, without
-    /// allocating memory.
+    /// Makes a report from a tally and findings. It sorts the tally's rows by their keys, and each list of the findings by its paths. It
+    /// sorts in place and allocates nothing.
     ///
     /// ```
     /// let report = Report::new(tally, lists, findings);

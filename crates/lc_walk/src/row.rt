@@ -8,7 +8,7 @@ use lc_level::{FaultLine, FaultSite, FaultWord, FileLine, SkippedLine};
 use std::alloc::Global;
 use std::marker::Model;
 
-/// A child directory that was posted: its name and its number.
+/// A child directory that a worker posted to the board: its name, and its number on the board.
 #[derive(Drop)]
 pub struct Child {
     pub name: Vec<u8>,
@@ -28,11 +28,11 @@ impl Model for Child {
 pub struct ListedParts {
     /// The directory that was listed.
     pub job: ServedJob,
-    /// The number of the directory's entries that take part.
+    /// The number of entries of the directory, skipped ones included. With `--only`, only the entries that its paths select count.
     pub entries: u32,
     /// The counted files, in the order of their names, if the report lists them.
     pub files: Vec<FileLine>,
-    /// The requested paths that are absent, then the files that were not counted, in the order of their names.
+    /// The errors: the requested paths that are absent, then the files that could not be counted, in the order of their names.
     pub faults: Vec<FaultLine>,
     /// The skipped entries, in the order of their names, if the report lists them.
     pub skipped: Vec<SkippedLine>,
@@ -55,7 +55,7 @@ impl Model for ListedParts {
     } };
 }
 
-/// The stored parts of a listed directory. Most directories have no file, error, entry or child to store, and take no room for them.
+/// The stored parts of a listed directory's row. Most rows have no file, error, skipped entry or child to store, and take no room for them.
 #[derive(Drop)]
 enum RowParts {
     Bare { job: ServedJob, entries: u32 },
@@ -63,7 +63,7 @@ enum RowParts {
 }
 
 impl RowParts {
-    /// Stores these parts. If an allocation fails, the error returns the job.
+    /// Stores these parts. If an allocation fails, returns the directory's job as the error.
     fn new(alloc: Global, parts: ListedParts) -> Result<RowParts, ServedJob>
         ensures kept { IfOk result (λ k. listed_in k ≡ parts) }
         ensures job { IfErr result (λ j. j ≡ parts.job) }
@@ -92,7 +92,7 @@ impl RowParts {
     }
 }
 
-/// A directory that was listed. It is one word long, so that a board takes little room for a row.
+/// The row of a directory that was listed. The row is one word long, so that it takes little room on a board.
 #[derive(Drop)]
 pub struct ListedRow {
     parts: Box<RowParts, Global>,
@@ -109,7 +109,7 @@ impl Model for ListedRow {
 }
 
 impl ListedRow {
-    /// Makes the row of these parts. If an allocation fails, the error returns the job.
+    /// Makes the row of these parts. If an allocation fails, returns the directory's job as the error.
     pub fn new(alloc: Global, parts: ListedParts) -> Result<ListedRow, ServedJob>
         ensures row { IfOk result (λ r. r ≡ parts) }
         ensures job { IfErr result (λ j. j ≡ parts.job) }
@@ -131,7 +131,7 @@ impl ListedRow {
         }
     }
 
-    /// Returns the number of the directory's entries that take part in the walk, as the filters decide.
+    /// Returns the number of entries of the directory, skipped ones included. With `--only`, only the entries that its paths select count.
     pub fn entries(&self) -> u32
         ensures { result ≡ self.now.entries }
     {
@@ -151,7 +151,7 @@ impl ListedRow {
         }
     }
 
-    /// Returns the requested paths that are absent, then the files that were not counted, in the order of their names.
+    /// Returns the errors: the requested paths that are absent, then the files that could not be counted, in the order of their names.
     pub fn faults(&self) -> &[FaultLine]
         ensures { result.now ≡ self.now.faults }
     {
@@ -182,7 +182,7 @@ impl ListedRow {
     }
 }
 
-/// A directory whose listing or rule files could not be read.
+/// The row of a directory whose listing or rule files could not be read.
 #[derive(Drop)]
 pub struct FaultedRow {
     pub job: ServedJob,
@@ -190,14 +190,14 @@ pub struct FaultedRow {
     pub word: FaultWord,
 }
 
-/// A directory whose work a worker stopped.
+/// The row of a directory on which a worker stopped work before the end.
 #[derive(Drop)]
 pub struct BrokenRow {
     pub job: ServedJob,
     pub cause: BrokenCause,
 }
 
-/// The row that a worker returns for a directory.
+/// The row that a worker returns for a directory: what the worker found there.
 #[derive(Drop)]
 pub enum Row {
     Listed(ListedRow),

@@ -1,4 +1,4 @@
-//! The job of a directory that was served.
+//! What a row keeps of its directory's job.
 ghost use Rattle.std.specs.Prelude.{◌≡◌};
 
 use lc_level::Job;
@@ -6,8 +6,8 @@ use std::alloc::Global;
 use std::marker::Model;
 use std::snapshot::Snapshot;
 
-/// The job of a directory that was served. Only its path is kept, so its chains are dropped unless another job shares them. Contracts still
-/// see the whole job.
+/// What a row keeps of its directory's job: the path. The job's chains of rule files are dropped, unless another job shares them. Contracts
+/// still see the whole job.
 ///
 /// ```
 /// let served = ServedJob::of(job); // served.path() is what job.path() was
@@ -30,7 +30,7 @@ impl Model for ServedJob {
 }
 
 impl ServedJob {
-    /// Stores the path of a job, and drops the rest.
+    /// Stores the path of a job, and drops the rest of the job.
     pub fn of(job: Job) -> ServedJob
         ensures { result ≡ job }
     {

@@ -1,9 +1,10 @@
-//! The tally of counted files: the sums over the files of each key, and over all.
+//! The tally of counted files: the sums over the files of each key, and over all files. A key is an extension, a text state and a class of
+//! line ends.
 //!
 //! - `extensions`: the extension of a file's name
-//! - `key`, `sums`, `tally_row`: a row for each key, with its sums
-//! - `keyed_rows`: the rows by their keys; `row_hints`: the last known place of a key's row; `row_sums`: the sums over rows of several
-//!   tallies
+//! - `key`, `sums`, `tally_row`: a row of a tally, which has a key and the sums over the files with this key
+//! - `keyed_rows`: the rows of a tally, found by their keys; `row_hints`: the last known place of a key's row; `row_sums`: the sums over
+//!   rows of several tallies
 ghost use Rattle.std.specs.Prelude.{◌≡◌, ◌+◌, ◌<◌, ◌≤◌, ◌^◌, List, [], ◌∷◌, ◌++◌, option_map, IfOk, IsOk, IsTrue, OnOk, OnErr};
 ghost use Rattle.lc_walk.specs.TallyRows.{AddsUp, has_row};
 ghost use Rattle.lc_walk.specs.Sums.{IsModest};
@@ -28,17 +29,17 @@ use std::marker::Model;
 pub use sums::Sums;
 pub use tally_row::TallyRow;
 
-/// The greatest number of files of a tally. A walk has fewer than 2^40, so no tally is ever full: workers compare with it instead of adding
-/// up all rows.
+/// The greatest number of files in a tally. A walk counts fewer than 2^40 files, so no tally is ever full. Workers compare the number of
+/// files with this limit, so that they need not add up all rows to see that no sum overflows.
 pub(crate) const MAX_FILES: u64 = 1 << 63;
 
 /// The tally of the files counted so far.
 ///
-/// A tally represents a list of files: `new` the empty list, `add` one more file, and `merge` the files of both. The order of the files
-/// does not matter (`a_tally_has_no_order`). The time of an add grows with the logarithm of the number of keys.
+/// A tally represents a list of files. `new` makes the tally of no files, `add` adds one file, and `merge` joins the files of two tallies.
+/// The order of the files does not matter (`a_tally_has_no_order`). The time of an add grows with the logarithm of the number of keys.
 ///
-/// The order of keys: first no extension, then extensions by their bytes; then the text state in the order set, unset, auto, other,
-/// unspecified; then the class of line ends in the order none, LF, CR LF, CR, mixed, NUL.
+/// Keys are in the order of their extensions: no extension first, then extensions by their bytes. Keys with one extension are in the order
+/// of their text states: set, unset, auto, other, unspecified. Then the line ends decide: none, LF, CR LF, CR, mixed, NUL.
 ///
 /// ```
 /// let mut tally = Tally::new(alloc);
@@ -102,7 +103,7 @@ impl Tally {
         self.grow(&key, Sums::one(count))
     }
 
-    /// Returns the tally of the files of both. If an allocation fails, both are dropped.
+    /// Returns the tally of the files of both tallies. If an allocation fails, both tallies are dropped.
     pub fn merge(self, other: Tally) -> Result<Tally, AllocError>
         requires { self.totals.files + other.totals.files ≤ 2 ^ 63 }
         ensures { IfOk result (λ t. (fs gs : List CountedFile)
@@ -138,8 +139,8 @@ impl Tally {
         rows.into_sorted()
     }
 
-    /// Adds some files of one key by their sums. It fails if an allocation fails, and for sums that no walk's files have: more than 2^63
-    /// files in all, or more than 2^64 - 1 lines, blank lines or bytes a file.
+    /// Adds the sums of some files that have one key. It fails if an allocation fails, and for sums that the files of no walk have: more
+    /// than 2^63 files in the tally, or an average of more than 2^64 - 1 lines, blank lines or bytes for each added file.
     pub fn add_sums(&mut self, key: &KeyRef<'_>, more: Sums) -> Result<(), AllocError>
         ensures grows { OnOk result (Grows self.old self.new key.now more) }
         ensures unchanged { OnErr result (self.new ≡ self.old) }

@@ -1,4 +1,4 @@
-//! The walk over a tree.
+//! The whole walk over a tree: starting a board, running the workers, and making the report.
 ghost use Rattle.std.specs.Prelude.{◌≤◌};
 ghost use Rattle.lc_level.specs.TreeAnswers.{MayAnswer};
 ghost use Rattle.lc_walk.specs.BoardAnswers.{WalkAnswers};
@@ -18,7 +18,7 @@ use std::alloc::Global;
 use std::sync::Wait;
 use std::thread::Threads;
 
-/// Walks a tree over a board of this type, with this many workers.
+/// Walks a tree with this many workers, which share a board of the type `B`.
 fn walk_by<B: Shared<Job, Row>, T: Tree, R: Threads + Wait + Sync>(
     rt: &R,
     alloc: Global,
@@ -47,11 +47,12 @@ fn walk_by<B: Shared<Job, Row>, T: Tree, R: Threads + Wait + Sync>(
     finish::<B, T>(alloc, board, passes, options.lists, tally)
 }
 
-/// The bytes that are kept from several workers for a single worker after them. The C library keeps up to 40 MB of stacks of threads that
-/// ended. Once a block of up to 32 MB is freed, the library maps no later block of that size by itself, and copies a vector that grows.
+/// The bytes that are reserved while several workers run, for a single worker that may have to walk after them. The C library keeps up to
+/// 40 MB of stacks of threads that ended. Once a block of up to 32 MB is freed, the library does not map later blocks of that size
+/// separately, and copies a vector that grows.
 const RESERVE: usize = 64 << 20;
 
-/// Walks a tree over a board of this type, with as many workers as the options say. The reserve is free again after their walk.
+/// Walks a tree with `options.threads` workers, which share a board of the type `B`. Keeps `RESERVE` bytes allocated during the walk.
 fn walk_by_all<B: Shared<Job, Row>, T: Tree, R: Threads + Wait + Sync>(
     rt: &R,
     alloc: Global,
@@ -70,8 +71,8 @@ fn walk_by_all<B: Shared<Job, Row>, T: Tree, R: Threads + Wait + Sync>(
     answer
 }
 
-/// Walks a tree over a board of this type, with a thread for each worker. If the workers run out of memory, or if no memory can be kept
-/// back from them, one worker walks alone, since the stacks of many threads use memory that one walk may need.
+/// Walks a tree with `options.threads` workers, which share a board of the type `B`. If an allocation fails, one worker alone walks the
+/// tree again, since the stacks of many threads use memory that this walk may need.
 pub fn walk_on<B: Shared<Job, Row>, T: Tree, R: Threads + Wait + Sync>(
     rt: &R,
     alloc: Global,
@@ -91,7 +92,8 @@ pub fn walk_on<B: Shared<Job, Row>, T: Tree, R: Threads + Wait + Sync>(
     walk_by::<B, T, R>(rt, alloc, tree, options, 1)
 }
 
-/// Walks a tree. The report is that of the recursive walk over answers that the tree may give.
+/// Walks a tree with up to `options.threads` threads. The report is the one that a recursive walk makes from some answers that the tree may
+/// give.
 ///
 /// ```
 /// let report = walk(&rt, rt.alloc(), &tree, &options)?;

@@ -1,7 +1,7 @@
 //! A worker of a walk.
 //!
-//! - `serving`: serving a directory that the worker has claimed
-//! - `posting`: posting the child directories; `adding`: adding the counted files to the worker's tally
+//! - `serving`: the work on a directory that the worker has claimed, up to the directory's row
+//! - `posting`: posting the child directories to the board; `adding`: adding the counted files to the worker's tally
 //! - `backoff`: waiting while there is nothing to claim
 ghost use Rattle.std.specs.Prelude.{◌≡◌};
 ghost use Rattle.lc_level.specs.TreeAnswers.{MayAnswer};
@@ -29,9 +29,9 @@ use std::thread::Threads;
 /// Why a worker has stopped.
 #[derive(Clone, Copy, Debug, Drop, PartialEq, Eq)]
 pub enum StopReason {
-    /// It found the board over.
+    /// The worker found the board over: no directory waited on the board, and no worker had claimed one.
     Over,
-    /// An allocation failed in a claim.
+    /// An allocation failed while the worker tried to claim a directory.
     Memory,
 }
 
@@ -40,11 +40,11 @@ pub enum StopReason {
 pub struct WorkerResult<P> {
     pub pass: P,
     pub end: StopReason,
-    /// The tally of the files of the directories that the worker listed, or none if an allocation failed.
+    /// The tally of the files in the directories that the worker listed, or `None` if an allocation failed.
     pub tally: Option<Tally>,
 }
 
-/// A worker, with all that it borrows for its directories.
+/// A worker of a walk. It claims directories from the board, and lists and counts each.
 ///
 /// ```
 /// let options = Options::new(1, 65_536, &filters);
@@ -65,7 +65,8 @@ pub struct Worker<'w, 'o, B, T, W> {
 }
 
 impl<'w, 'o, B, T, W> Worker<'w, 'o, B, T, W> {
-    /// Makes a worker. `idle` counts the worker as idle from its start, and knows all workers that help one with a large directory.
+    /// Makes a worker. `idle` is the count of idle workers, which all workers share, and already counts this worker. Idle workers help
+    /// another one with a large directory.
     pub fn new(
         rt: &'w W,
         alloc: Global,
@@ -103,7 +104,7 @@ impl<'w, 'o, B, T, W> Worker<'w, 'o, B, T, W> {
 }
 
 impl<B: Shared<Job, Row>, T: Tree, W: Threads + Wait + Sync> Worker<'_, '_, B, T, W> {
-    /// Claims directories and serves each, until there are no more.
+    /// Claims directories and works on each, until no directory is left or a claim runs out of memory.
     pub fn run(&self, pass: B::Pass) -> WorkerResult<B::Pass>
         requires { IsPassOf B.owns B.Pass.view self.now.board.now IsFree pass }
         ensures pass { IsPassOf B.owns B.Pass.view self.now.board.now IsFree result.pass }

@@ -1,4 +1,4 @@
-//! All workers of a walk: they run at the same time, and their tallies become one.
+//! All workers of a walk: running them at the same time, and merging their tallies.
 ghost use Rattle.std.specs.Prelude.{◌≡◌, ◌++◌, ◌∷◌, [], List, IfOk, IfSome, map, vec_len};
 ghost use Rattle.lc_level.specs.TreeAnswers.{MayAnswer};
 ghost use Rattle.lc_walk.specs.BoardPasses.{IsFree, IsPassOf};
@@ -20,7 +20,7 @@ use std::sync::Wait;
 use std::thread;
 use std::thread::Threads;
 
-/// The passes of all workers, and the tally of their files.
+/// The passes of all workers, and the tally of all files that the workers counted.
 #[derive(Drop)]
 pub(crate) struct Gathered<P> {
     pub(crate) passes: Vec<P>,
@@ -51,7 +51,7 @@ pub(crate) fn run_all<B: Shared<Job, Row>, T: Tree, R: Threads + Wait + Sync>(
     thread::map_vec(rt, passes, &run)
 }
 
-/// Returns the tally of the files of both, if memory suffices.
+/// Returns the tally of the files of both tallies, or `None` if an allocation fails or there are more than `MAX_FILES` files.
 fn merge(first: Tally, second: Tally) -> Option<Tally>
     ensures { IfSome result (λ t. (fs gs : List CountedFile) → StandsFor first fs → StandsFor second gs → StandsFor t (fs ++ gs)) }
 {
@@ -62,7 +62,7 @@ fn merge(first: Tally, second: Tally) -> Option<Tally>
     first.merge(second).ok()
 }
 
-/// Adds the pass and the tally of one more worker.
+/// Adds the pass and the tally of one more worker. Returns `None` if that worker ran out of memory, or if an allocation fails here.
 fn join<P: Drop>(gathered: Gathered<P>, worked: WorkerResult<P>) -> Option<Gathered<P>>
     ensures over { IfSome result (λ r. worked.end ≡ Over) }
     ensures pass { IfSome result (λ r. r.passes.items ≡ gathered.passes.items ++ worked.pass ∷ []) }
@@ -91,7 +91,7 @@ fn join<P: Drop>(gathered: Gathered<P>, worked: WorkerResult<P>) -> Option<Gathe
     }
 }
 
-/// Gathers the results of all workers. It returns nothing if one of them ran out of memory, or if an allocation fails here.
+/// Gathers the passes and the tallies of all workers. Returns `None` if a worker ran out of memory, or if an allocation fails here.
 pub(crate) fn gather<P: Drop>(alloc: Global, workers: Vec<WorkerResult<P>>) -> Option<Gathered<P>>
     ensures over { IfSome result (λ r. AllOver workers.items) }
     ensures passes { IfSome result (λ r. r.passes.items ≡ map (λ w. w.pass) workers.items) }

@@ -1,4 +1,4 @@
-//! Assembling the report of a closed walk.
+//! Assembling the report of a walk from the rows of its closed board.
 ghost use Rattle.std.specs.Prelude.{◌≡◌, ℕ, ◌<◌, ◌≤◌, ◌^◌, true, false, slice_get, Some, vec_len};
 ghost use Rattle.lc_walk.specs.Rows.{row_of};
 ghost use Rattle.lc_walk.specs.Assembled.{IsBrokenBy, SomeBroken, Assembles};
@@ -17,7 +17,7 @@ use crate::walk_fault::WalkFault;
 use lc_board::{Closed, Ended};
 use std::alloc::Global;
 
-/// Returns whether the row is Broken for this cause.
+/// Returns whether the row is `Row::Broken` with this cause.
 fn is_broken_by(row: &Row, cause: BrokenCause) -> bool
     ensures broken { result ≡ true → IsBrokenBy cause row.now }
     ensures other { result ≡ false → IsBrokenBy cause row.now → ⊥ }
@@ -29,7 +29,7 @@ fn is_broken_by(row: &Row, cause: BrokenCause) -> bool
     }
 }
 
-/// Returns whether some row is Broken for this cause.
+/// Returns whether some row of a board is `Row::Broken` with this cause.
 fn some_broken(rows: &[Ended<Row>], cause: BrokenCause) -> bool
     ensures some { result ≡ true → SomeBroken cause rows.now }
     ensures none { result ≡ false → (i : ℕ) (e : Ended Row) → slice_get rows.now i ≡ Some e → IsBrokenBy cause (row_of e) → ⊥ }
@@ -51,7 +51,7 @@ fn fault_of_tree(fault: TreeFault) -> WalkFault
     }
 }
 
-/// Makes the report of a closed board and of the tally of all its counted files. If it fails, the rows and the tally are dropped.
+/// Makes the report of a walk from the rows of its closed board and the tally of all its counted files. On an error, both are dropped.
 pub fn assemble(
     alloc: Global,
     closed: Closed<Row>,

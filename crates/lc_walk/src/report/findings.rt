@@ -1,4 +1,4 @@
-//! What a walk found besides the sums.
+//! What a walk found besides the sums over its files.
 
 use crate::report::{FaultLine, FileLine, SkippedLine};
 
@@ -7,11 +7,11 @@ use crate::report::{FaultLine, FileLine, SkippedLine};
 pub struct Findings {
     /// The number of directories that were listed.
     pub directories: u64,
-    /// The number of these directories' entries that take part.
+    /// The number of entries of these directories, skipped ones included. With `--only`, only the entries that its paths select count.
     pub entries: u64,
     /// The counted files, if the report lists them.
     pub files: Vec<FileLine>,
-    /// The files and directories that were not counted.
+    /// The errors: a line for each file or directory that was not counted.
     pub faults: Vec<FaultLine>,
     /// The skipped entries, if the report lists them.
     pub skipped: Vec<SkippedLine>,

@@ -1,4 +1,4 @@
-//! The lines of a report, made from the rows of a board.
+//! Making the lines of a report from the rows of a closed board.
 ghost use Rattle.std.specs.Prelude.{◌≡◌, ℕ, ◌+◌, ◌≤◌, ◌<◌, ◌^◌, List, ◌++◌, map, length, IfOk, OnOk};
 ghost use Rattle.lc_walk.specs.Rows.{row_of};
 ghost use Rattle.lc_walk.specs.Assembled.{directories_by_row, entries_by_row, files_by_row, faults_by_row, skipped_by_row};
@@ -10,7 +10,7 @@ use lc_board::Ended;
 use lc_level::Line;
 use std::alloc::{AllocError, Global};
 
-/// Returns the row with which a number ended.
+/// Returns the row of a directory, whether its worker returned the row or reported an error with it.
 pub fn row_of(ended: &Ended<Row>) -> &Row
     ensures { result.now ≡ row_of ended.now }
 {
@@ -20,7 +20,8 @@ pub fn row_of(ended: &Ended<Row>) -> &Row
     }
 }
 
-/// Adds lines with paths relative to a directory, and makes their paths relative to the top.
+/// Appends the lines that were found in a directory. Their paths are relative to the directory; those of the appended lines are relative to
+/// the top.
 fn push_below<L: Line + Drop>(
     alloc: Global,
     directory: &[u8],
@@ -37,7 +38,7 @@ fn push_below<L: Line + Drop>(
     Ok(())
 }
 
-/// Adds the lines and the numbers of one row.
+/// Adds the lines and the numbers of one directory's row to the findings.
 pub fn push_row(alloc: Global, row: &Row, found: &mut Findings) -> Result<(), AllocError>
     requires directories { found.old.directories ≤ 2 ^ 62 }
     requires entries { found.old.entries + 2 ^ 32 ≤ 2 ^ 64 }
@@ -68,7 +69,7 @@ pub fn push_row(alloc: Global, row: &Row, found: &mut Findings) -> Result<(), Al
     Ok(())
 }
 
-/// Collects the lines and the numbers of all rows.
+/// Collects the lines and the numbers of all rows of a board.
 pub fn findings_of(alloc: Global, rows: &[Ended<Row>]) -> Result<Findings, AllocError>
     requires { length rows.now ≤ 2 ^ 32 }
     ensures { IfOk result (AreFindings rows.now) }

@@ -1,4 +1,4 @@
-//! Checking that rows make a tree.
+//! Checking that the rows of a closed board make one tree of directories.
 ghost use Rattle.std.specs.Prelude.{◌≡◌, ◌≢◌, ℕ, ◌+◌, ◌<◌, ◌≤◌, ◌^◌, List, true, false, length, slice_get, slice_set, replicate, Some};
 ghost use Rattle.std.specs.Prelude.{IfOk, IfErr, OnOk, OnErr};
 ghost use Rattle.lc_walk.specs.Rows.{row_of, job_of, children_in};
@@ -12,16 +12,16 @@ use lc_board::Ended;
 use lc_level::relative_to;
 use std::alloc::{AllocError, Global};
 
-/// Why a check of rows failed: they make no tree, or there was no memory to find out.
+/// Why the check of a board's rows failed.
 #[derive(Clone, Copy, PartialEq, Eq, Debug, Drop)]
 pub enum TreeFault {
     /// An allocation failed.
     Memory,
-    /// The rows make no tree at this number.
+    /// The rows make no tree: the directory with this number has a wrong path, or not exactly one parent with a lower number.
     Torn(u32),
 }
 
-/// Returns the path of a row's directory.
+/// Returns the path of the directory that a row is about.
 pub fn path_of(row: &Row) -> &[u8]
     ensures { result.now ≡ (job_of row.now).path }
 {
@@ -32,7 +32,7 @@ pub fn path_of(row: &Row) -> &[u8]
     }
 }
 
-/// Returns the child directories that a row names.
+/// Returns the child directories that a directory's row names.
 pub fn children_of(row: &Row) -> &[Child]
     ensures { result.now ≡ children_in row.now }
 {
@@ -43,7 +43,7 @@ pub fn children_of(row: &Row) -> &[Child]
     }
 }
 
-/// Returns whether the path of a child is the path of its directory followed by its name.
+/// Returns whether `path` is the path of the directory followed by the child's name.
 fn is_child_path(directory: &[u8], child: &Child, path: &[u8]) -> bool
     ensures is { result ≡ true → path.now ≡ path_in directory.now child.now.name }
     ensures other { result ≡ false → path.now ≢ path_in directory.now child.now.name }
@@ -75,7 +75,7 @@ fn mark(linked: &mut [bool], at: usize)
     linked[at] = true;
 }
 
-/// Returns the path of the directory with a number.
+/// Returns the path of the directory with the number `at`.
 fn path_at(rows: &[Ended<Row>], at: usize) -> &[u8]
     requires { at < length rows.now }
     ensures { IsPathAt rows.now at result.now }
@@ -83,7 +83,7 @@ fn path_at(rows: &[Ended<Row>], at: usize) -> &[u8]
     path_of(row_of(&rows[at]))
 }
 
-/// Marks the number of the next child of a row.
+/// Marks the number of a child directory in `linked`. The child is at `place` in the row of the directory with the number `at`.
 fn link(
     rows: &[Ended<Row>],
     at: usize,
@@ -119,7 +119,7 @@ fn link(
     Ok(())
 }
 
-/// Marks the numbers of all children of a row.
+/// Marks the numbers of all child directories of the directory with the number `at`.
 fn link_row(rows: &[Ended<Row>], at: usize, linked: &mut [bool]) -> Result<(), TreeFault>
     requires at { at < length rows.now }
     requires few { length rows.now ≤ 2 ^ 32 }
@@ -140,7 +140,7 @@ fn no_marks(alloc: Global, count: usize) -> Result<Vec<bool>, AllocError>
     Ok(vec![in alloc; false; count]?)
 }
 
-/// Marks the numbers of all children of all rows.
+/// Returns a mark for each number, which says whether some row names the directory with this number as a child.
 fn link_all(alloc: Global, rows: &[Ended<Row>]) -> Result<Vec<bool>, TreeFault>
     requires few { length rows.now ≤ 2 ^ 32 }
     ensures marks { IfOk result (λ linked. AreLinked rows.now (length rows.now) 0 linked.items) }
@@ -155,7 +155,8 @@ fn link_all(alloc: Global, rows: &[Ended<Row>]) -> Result<Vec<bool>, TreeFault>
     Ok(linked)
 }
 
-/// Checks that the rows make a tree. The error `Torn` has a number at which they make no tree.
+/// Checks that the rows make a tree: the top's path is empty, and each other directory is the child of exactly one directory, which has a
+/// lower number and the parent path. The error `Torn` has the number of a directory for which this is false.
 pub fn check_tree(alloc: Global, rows: &[Ended<Row>]) -> Result<(), TreeFault>
     requires few { length rows.now ≤ 2 ^ 32 }
     ensures placed { IfOk result (λ _. (k : ℕ) → IsPlaced rows.now k) }

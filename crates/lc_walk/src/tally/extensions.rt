@@ -2,8 +2,8 @@
 ghost use Rattle.std.specs.Prelude.{◌≡◌, option_map};
 ghost use Rattle.lc_walk.specs.Extension.{extension_of};
 
-/// Returns the bytes of a name after its last dot. A name without a dot has no extension, nor has one whose last dot is its first or its
-/// last byte. The time is linear in the name's length, and no memory is allocated.
+/// Returns the bytes of a name after its last dot. It returns `None` for a name without a dot, and for a name whose last dot is its first
+/// or its last byte. The time is linear in the name's length, and no memory is allocated.
 ///
 /// ```
 /// assert_eq!(extension(b"a.tar.gz"), Some(b"gz"));

@@ -6,7 +6,7 @@ use lc_census::Eol;
 use lc_rules::TextState;
 use std::marker::Model;
 
-/// The key of a row, with a borrowed extension.
+/// The key of a tally's row, with a borrowed extension. The row has the sums over the files with this key.
 #[derive(Drop)]
 pub struct KeyRef<'a> {
     /// The extension of the files' names, or none.

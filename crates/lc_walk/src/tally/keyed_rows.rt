@@ -17,10 +17,11 @@ use std::marker::Model;
 // Up to this number of rows, a sort is not worth its cost.
 const FEW: usize = 64;
 
-/// Rows that are found by their keys. Adding files costs on average what one row of a sort costs.
+/// The rows of a tally, which are found by their keys. Adding a file costs on average as much as a sort costs for one row.
 ///
-/// A search tries the key's hint first, and then the sorted rows in front. If neither has the key, a row is pushed, so several of the
-/// unsorted rows may have one key. Once more than half of the rows are unsorted, all are sorted, and the rows of each key become one.
+/// A search tries the row of the key's hint first, and then the sorted rows in front. If none of them has the key, a row is pushed, so
+/// several of the unsorted rows may have one key. Once more than half of the rows are unsorted, all are sorted, and the rows of each key
+/// become one.
 #[derive(Drop)]
 pub(crate) struct KeyedRows {
     rows: Vec<TallyRow>,
@@ -51,7 +52,7 @@ impl KeyedRows {
         }
     }
 
-    /// Adds some files of one key. If an allocation fails, it looks for the key in all rows.
+    /// Adds the sums of some files that have one key. If no memory is left for a new row, it searches all rows for the key.
     pub(crate) fn gain(&mut self, key: &KeyRef<'_>, more: Sums) -> Result<(), AllocError>
         requires room { IsInRange (plus (sums_of_rows self.old) more) }
         ensures gains { OnOk result (Gains self.old self.new key.now more) }
@@ -73,7 +74,7 @@ impl KeyedRows {
         }
     }
 
-    /// Adds the rows of another tally. Their extensions keep their memory.
+    /// Appends the rows of another tally. Their extensions are moved, not copied.
     pub(crate) fn append(&mut self, other: KeyedRows) -> Result<(), AllocError>
         requires { IsInRange (sums_of_rows (self.old ++ other)) }
         ensures { OnOk result (HasSumsOf (self.old ++ other) self.new) }

@@ -1,9 +1,9 @@
-//! The last known places of the rows of some keys. A hint may be stale, so it is always checked.
+//! Hints where a tally has the rows of some keys. A hint may be stale, so a search always checks it.
 ghost use Rattle.std.specs.Prelude.{◌<◌};
 
 use crate::tally::key::{KeyRef, eol_rank, text_rank};
 
-/// An index of a row for each slot. Keys with the same slot share it, and the index noted last is kept.
+/// The index of a row for each slot; a slot is a hash of a key. Keys with the same slot share an index, the one that was noted last.
 #[derive(Drop)]
 pub(crate) struct RowHints {
     rows: [u16; 512],
@@ -27,7 +27,7 @@ impl RowHints {
     }
 }
 
-/// Returns the slot of a key, as a hash: it multiplies the parts of the key by a constant, and takes the upper bits.
+/// Returns the slot of a key in `RowHints`. It is a hash: the parts of the key, multiplied by a constant, of which the upper bits are kept.
 pub(crate) fn slot_of(key: &KeyRef<'_>) -> usize
     ensures { result < 512 }
 {

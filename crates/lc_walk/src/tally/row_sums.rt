@@ -7,7 +7,7 @@ use crate::tally::keyed_rows::add_up;
 use crate::tally::sums::Sums;
 use crate::tally::tally_row::TallyRow;
 
-/// Returns the sums over all rows, if each fits its type.
+/// Returns the sums over all rows, or `None` if a sum does not fit its type.
 fn sums_of_rows(rows: &[TallyRow]) -> Option<Sums>
     ensures { MatchOption result (IsInRange (sums_of_rows rows.now) → ⊥) (λ sums. sums ≡ sums_of_rows rows.now) }
 {
@@ -20,7 +20,8 @@ fn sums_of_rows(rows: &[TallyRow]) -> Option<Sums>
     Some(sums)
 }
 
-/// Joins the rows of each key into one, in the order of keys, if the sums over all rows fit their types. It allocates nothing.
+/// Joins the rows of each key into one row, and sorts the rows by their keys. Returns `None` if a sum over all rows does not fit its type.
+/// It allocates nothing.
 ///
 /// ```
 /// let rows = added_up(rows)?;

@@ -9,11 +9,11 @@ use lc_census::Count;
 pub struct Sums {
     /// The number of files.
     pub files: u64,
-    /// The sum of their lines.
+    /// The sum of the files' lines.
     pub lines: u128,
-    /// The sum of their blank lines.
+    /// The sum of the files' blank lines.
     pub blank: u128,
-    /// The sum of their bytes.
+    /// The sum of the files' bytes.
     pub bytes: u128,
 }
 
@@ -42,7 +42,7 @@ impl Sums {
         }
     }
 
-    /// Returns whether at most 2^63 files can have these sums, if each has fewer than 2^64 bytes.
+    /// Returns whether there are at most 2^63 files, with at most 2^64 - 1 lines, blank lines and bytes for each file on average.
     pub(crate) fn is_modest(&self) -> bool
         ensures { result ≡ true → IsModest self.now }
     {
@@ -50,7 +50,7 @@ impl Sums {
         self.files <= 1 << 63 && self.lines <= most && self.blank <= most && self.bytes <= most
     }
 
-    /// Returns the sums over the files of both, if each fits its type.
+    /// Returns these sums with `more` added, or `None` if a sum does not fit its type.
     ///
     /// ```
     /// let both = one.checked_add(other)?;
@@ -66,7 +66,7 @@ impl Sums {
         })
     }
 
-    /// Returns the sums over the files of both, which must fit their types.
+    /// Returns these sums with `more` added. Each sum must fit its type.
     pub(crate) fn add(self, more: Sums) -> Sums
         requires { IsInRange (plus self more) }
         ensures { result ≡ plus self more }

@@ -26,11 +26,11 @@ pub struct TallyRow {
     pub eol: Eol,
     /// The number of files.
     pub files: u64,
-    /// The sum of their lines.
+    /// The sum of the files' lines.
     pub lines: u128,
-    /// The sum of their blank lines.
+    /// The sum of the files' blank lines.
     pub blank: u128,
-    /// The sum of their bytes.
+    /// The sum of the files' bytes.
     pub bytes: u128,
 }
 
@@ -91,7 +91,7 @@ impl TallyRow {
         TallyRow::new(alloc, &self.key(), self.sums())
     }
 
-    /// Compares the row's key with another, in the order of keys.
+    /// Compares the row's key with another key, in the order of keys that `Tally` describes.
     #[tactic(auto, unfolding(crate::specs::Key::key_cmp))]
     pub fn compare(&self, key: &KeyRef<'_>) -> Ordering
         ensures { result ≡ key_cmp self.now.key key.now }
@@ -101,7 +101,7 @@ impl TallyRow {
             .then(eol_rank(self.eol).cmp(&eol_rank(key.eol)))
     }
 
-    /// Adds to the row's sums. The sums of a tally are never too large to be added.
+    /// Adds these sums to the row's sums. The sums of a tally are never too large to be added.
     pub(crate) fn absorb(&mut self, more: Sums)
         ensures key { self.new.key ≡ self.old.key }
         ensures sums { IsInRange (plus self.old.sums more) → self.new.sums ≡ plus self.old.sums more }
@@ -112,7 +112,7 @@ impl TallyRow {
         self.bytes = self.bytes.saturating_add(more.bytes);
     }
 
-    /// Adds the sums of another row if it has the same key, and returns whether it has.
+    /// Adds the sums of another row if that row has the same key. Returns whether it has.
     pub(crate) fn absorb_row(&mut self, row: &TallyRow) -> bool
         ensures { IsAbsorbed row.now self.old result row.now self.new }
     {

@@ -17,7 +17,7 @@ fn add_file(tally: &mut Tally, file: &FileLine) -> Result<(), AllocError>
     tally.add(extension(&file.path), file.text, file.count)
 }
 
-/// Adds files to the tally. If an allocation fails, the tally represents nothing.
+/// Adds files to the tally. After an error, the tally may lack some of the files.
 pub(crate) fn add_files(tally: &mut Tally, files: &[FileLine]) -> Result<(), AllocError>
     ensures { AddsFiles (map tallied files.now) tally.old tally.new result }
 {

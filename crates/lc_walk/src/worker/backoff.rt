@@ -6,13 +6,13 @@ use std::thread;
 use std::thread::Parker;
 use std::time::Duration;
 
-/// How often a worker lets other threads run before its first sleep: about 20 microseconds in all.
+/// How many times a worker yields to other threads before its first sleep: about 20 microseconds in all.
 const YIELDS: u32 = 64;
 
-/// The first sleep, in microseconds. Each next one is twice as long, up to the longest.
+/// The length of a worker's first sleep, in microseconds. Each later sleep is twice as long, up to `LONGEST_SLEEP`.
 const FIRST_SLEEP: u64 = 10;
 
-/// The longest sleep, in microseconds. A worker may see a posted directory, or the end of the walk, this late.
+/// The length of a worker's longest sleep, in microseconds. A worker may see a posted directory, or the end of the walk, this late.
 const LONGEST_SLEEP: u64 = 1000;
 
 /// The waits of a worker that finds nothing to claim, none shorter than the one before.
@@ -34,7 +34,7 @@ pub(crate) struct Backoff<'w> {
 }
 
 impl<'w> Backoff<'w> {
-    /// Makes the waits of a worker that was counted as idle when `threads` was made.
+    /// Makes the waits of a worker that `threads` already counts as idle.
     pub(crate) fn new(threads: &'w IdleThreads) -> Backoff<'w> {
         Backoff {
             threads,
@@ -45,7 +45,7 @@ impl<'w> Backoff<'w> {
         }
     }
 
-    /// Waits once.
+    /// Waits once, by a yield or a sleep. The worker counts as idle until `reset`.
     pub(crate) fn wait<W: Wait>(&mut self, rt: &W) {
         if !self.counted {
             self.threads.begin();
@@ -61,8 +61,7 @@ impl<'w> Backoff<'w> {
         self.sleep = LONGEST_SLEEP.min(self.sleep.saturating_mul(2));
     }
 
-    /// Begins again with the first wait, once there is something to claim, or there will be nothing more. The worker no longer counts as
-    /// idle.
+    /// Makes the next wait the first one again, and counts the worker as busy. The worker calls this after each claim, and when it stops.
     pub(crate) fn reset(&mut self) {
         if self.counted {
             self.threads.end();

@@ -1,4 +1,4 @@
-//! Posting the child directories of a directory.
+//! Posting the child directories of a directory to the board.
 ghost use Rattle.std.specs.Prelude.{◌∷◌, []};
 ghost use Rattle.lc_walk.specs.BoardPasses.{HoldsClaim, IsPassOf};
 ghost use Rattle.lc_walk.specs.Posting.{PostsMore, PostsChildren};
@@ -13,7 +13,7 @@ use std::sync::Wait;
 use std::thread::Threads;
 
 impl<B: Shared<Job, Row>, T: Tree, W: Threads + Wait + Sync> Worker<'_, '_, B, T, W> {
-    /// Posts one child directory, and notes its number.
+    /// Posts one child directory to the board, and appends its name and its number to `children`.
     fn post_child(
         &self,
         pass: &mut B::Pass,
@@ -36,7 +36,7 @@ impl<B: Shared<Job, Row>, T: Tree, W: Threads + Wait + Sync> Worker<'_, '_, B, T
         }
     }
 
-    /// Posts the child directories, in order, under the claim of the pass.
+    /// Posts the child directories of the claimed directory to the board, in order. Returns their names and numbers.
     pub(crate) fn post_children(
         &self,
         pass: &mut B::Pass,

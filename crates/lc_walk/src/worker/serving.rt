@@ -1,4 +1,4 @@
-//! Serving a directory that a worker has claimed.
+//! The work on a directory that a worker has claimed, up to the directory's row.
 ghost use Rattle.std.specs.Prelude.{◌≡◌, [], if◌then◌else◌};
 ghost use Rattle.lc_board.specs.Pass.{after_give};
 ghost use Rattle.lc_level.specs.Opens.{IsOpened};
@@ -22,7 +22,7 @@ use std::sync::Wait;
 use std::thread::Threads;
 
 impl<B: Shared<Job, Row>, T: Tree, W: Threads + Wait + Sync> Worker<'_, '_, B, T, W> {
-    /// Ends the claim of a directory with a Broken row. It returns `Err` if the cause is memory.
+    /// Ends the worker's claim of a directory with the row `Row::Broken`. Returns `Err` if the cause is `BrokenCause::Memory`.
     fn break_off(
         &self,
         pass: &mut B::Pass,
@@ -43,7 +43,7 @@ impl<B: Shared<Job, Row>, T: Tree, W: Threads + Wait + Sync> Worker<'_, '_, B, T
         }
     }
 
-    /// Returns the counted files of a directory if the report lists them, and none otherwise.
+    /// Returns the counted files of a directory if the report lists files, and an empty list otherwise.
     fn if_asked(&self, files: Vec<FileLine>) -> Vec<FileLine>
         ensures { result.items ≡ (if self.now.options.now.lists.files then files.items else []) }
     {
@@ -53,8 +53,8 @@ impl<B: Shared<Job, Row>, T: Tree, W: Threads + Wait + Sync> Worker<'_, '_, B, T
         Vec::new(self.alloc)
     }
 
-    /// Serves the claim of a directory that was opened. It posts the child directories before it counts the files, so that other workers
-    /// need not wait for the count.
+    /// Works on a claimed directory that was opened, and ends the claim with a row. It posts the child directories before it counts the
+    /// files, so that other workers need not wait for the count.
     fn serve_opened(
         &self,
         pass: &mut B::Pass,
@@ -111,7 +111,7 @@ impl<B: Shared<Job, Row>, T: Tree, W: Threads + Wait + Sync> Worker<'_, '_, B, T
         }
     }
 
-    /// Serves the claim of a directory, up to its end. It returns `Err` if an allocation failed, which the row says too.
+    /// Opens a claimed directory, works on it, and ends the claim with a row. Returns `Err` if an allocation failed. The row says so too.
     fn serve(
         &self,
         pass: &mut B::Pass,
@@ -144,8 +144,8 @@ impl<B: Shared<Job, Row>, T: Tree, W: Threads + Wait + Sync> Worker<'_, '_, B, T
         }
     }
 
-    /// Serves the claim of a directory. Once an allocation has failed there is no tally, and every further directory ends with a Broken
-    /// row, as there is no report without memory.
+    /// Works on a claimed directory, and ends the claim with a row. If an allocation fails, the tally becomes `None`. Without a tally or
+    /// scratch buffers, the directory's row is `Row::Broken`, since the walk will make no report.
     pub(crate) fn serve_or_break_off(
         &self,
         pass: &mut B::Pass,
