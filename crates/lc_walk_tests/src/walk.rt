@@ -1,4 +1,5 @@
-//! What extensions, tallies and reports say of values from outside, and that each call can succeed.
+//! Worked cases of extensions, tallies and walks, which also show that each call can succeed. The modules `walked`, `told` and `drawn` have
+//! what the others share: running walks, reports as text, and trees made from a seed.
 
 mod drawn;
 mod failures;

@@ -1,4 +1,4 @@
-//! Trees of memory that are drawn from a seed, with what is known of them while they are made.
+//! In-memory trees that are made at random from a seed, each with the sums that a walk must find.
 ghost use Rattle.std.specs.Prelude.{◌<◌};
 
 use crate::walk::walked::{Board, ONLY_FILES, report_of, walk_options};
@@ -12,7 +12,7 @@ use std::thread::Threads;
 
 type Entries = Vec<(Vec<u8>, Node)>;
 
-/// A tree, with the sums over its files that are not ignored.
+/// A tree made from a seed, with the sums over its files that are not ignored.
 #[derive(Drop)]
 pub(super) struct Drawn {
     pub(super) top: Node,
@@ -20,14 +20,14 @@ pub(super) struct Drawn {
     sums: Sums,
 }
 
-/// Numbers drawn by xorshift.
+/// A generator of random numbers by xorshift.
 #[derive(Drop)]
 struct Draws {
     state: u64,
 }
 
 impl Draws {
-    /// The next number below a bound.
+    /// Returns the next random number below a bound.
     fn below(&mut self, bound: usize) -> usize
         requires { 0 < bound }
         ensures { result < bound }
@@ -41,15 +41,15 @@ impl Draws {
     }
 }
 
-/// The names of files, in the order in which directories have them.
+/// The names of a directory's files, in the order of its entries.
 const NAMES: [&[u8]; 3] = [b"a.c", IGNORED, b"c"];
 
 const IGNORED: &[u8] = b"b.log";
 
-/// Rules for one directory alone.
+/// The text of a rule file, whose rule ignores `b.log` only in the rule file's own directory.
 const RULES: &[u8] = b"/b.log\n";
 
-/// Up to 40 bytes, some of them line ends.
+/// Returns up to 40 random bytes, some of which are line ends.
 fn draw_text(alloc: Global, draws: &mut Draws) -> Result<Vec<u8>, AllocError> {
     let mut bytes = Vec::new(alloc);
     for _ in 0..draws.below(41) {
@@ -59,7 +59,7 @@ fn draw_text(alloc: Global, draws: &mut Draws) -> Result<Vec<u8>, AllocError> {
     Ok(bytes)
 }
 
-/// The sums with a file of these bytes more.
+/// Returns the sums with one more file, which has these bytes.
 fn with_file(sums: Sums, bytes: &[u8]) -> Sums {
     let mut sums = sums;
     sums.files = sums.files.wrapping_add(1);
@@ -73,7 +73,7 @@ fn with_file(sums: Sums, bytes: &[u8]) -> Sums {
     sums
 }
 
-/// One to three files, and a rule file where it is asked for.
+/// Returns the files of one directory: one to three, and a rule file if `ruled`. Adds the files that are not ignored to the sums.
 fn draw_files(
     alloc: Global,
     draws: &mut Draws,
@@ -98,7 +98,7 @@ fn draw_files(
     Ok(entries)
 }
 
-/// Hangs each directory that is left under one of those before it, or under the top.
+/// Puts each directory into one that comes before it in the list, or into the top, at random. Returns the top.
 fn hang_all(
     alloc: Global,
     draws: &mut Draws,
@@ -122,7 +122,7 @@ fn hang_all(
     Ok(Node::Dir(top))
 }
 
-/// A tree of so many directories, one at least, with a rule file in every tenth.
+/// Makes a tree of this many directories, but at least one. The top and every tenth directory have a rule file.
 pub(super) fn draw_tree(alloc: Global, seed: u64, directories: u32) -> Result<Drawn, AllocError> {
     let mut draws = Draws { state: seed };
     let mut sums = Sums::none();
@@ -139,7 +139,7 @@ pub(super) fn draw_tree(alloc: Global, seed: u64, directories: u32) -> Result<Dr
 }
 
 impl Drawn {
-    /// What is known of the tree, and no fault.
+    /// Returns whether a report has the sums and numbers of this tree, and no error.
     fn is_told(&self, report: &Report) -> bool {
         report.totals == self.sums
             && report.directories == u64::from(self.directories)

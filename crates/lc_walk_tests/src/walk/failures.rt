@@ -1,4 +1,4 @@
-//! Trees of which one call fails: what that call was for has an error, and all else is found.
+//! Tests of walks in which one call on the tree fails: the walk reports an error where that call was needed, and finds all the rest.
 ghost use Rattle.std.specs.Prelude.{◌<◌, IfOk, IfSome};
 
 use crate::walk::walked::{Board, ONLY_FILES, report_of, walk_options};
@@ -19,7 +19,8 @@ const TREE: &str = "
     a=1;2;
     d/{ .gitattributes=b_text; b=22;; c.log c.o e/{ c } }";
 
-/// What may be at fault, how many directories are then read, and how the paths of the files begin that are not counted.
+/// The possible outcomes of a failed call: the path of the error, the number of directories that are then read, and the prefix of the paths
+/// of the files that are then not counted.
 const OUTCOMES: [(&[u8], u64, &[u8]); 14] = [
     (b"", 0, b""),
     (b".git", 0, b""),
@@ -37,7 +38,7 @@ const OUTCOMES: [(&[u8], u64, &[u8]); 14] = [
     (b"d/e/c", 3, b"d/e/c"),
 ];
 
-/// The walk of a tree whose call at a place fails.
+/// Walks a tree, with this call on the tree failing, over this board and with this number of threads.
 fn walk_failing<R: Threads + Wait + Sync + Abort>(
     rt: &R,
     alloc: Global,
@@ -55,7 +56,7 @@ fn is_same_file(file: &FileLine, other: &FileLine) -> bool {
     file.path == other.path && file.text == other.text && file.count == other.count
 }
 
-/// The lines are those of the whole walk but for the paths that begin so, and the totals are theirs.
+/// Returns whether the report lists and totals exactly the files of the whole walk whose paths do not begin with `lost`.
 fn has_all_but(report: &Report, whole: &[FileLine], lost: &[u8]) -> bool {
     let mut files = report.files.iter();
     let mut bytes: u128 = 0;
@@ -76,7 +77,7 @@ fn has_all_but(report: &Report, whole: &[FileLine], lost: &[u8]) -> bool {
         && report.totals.bytes == bytes
 }
 
-/// Which of the outcomes a walk has one call of which failed.
+/// Returns the index in `OUTCOMES` that fits the report of a walk with one failed call.
 fn outcome_of(report: &Report, whole: &[FileLine]) -> Option<usize>
     ensures { IfSome result (λ n. n < 14) }
 {
@@ -92,15 +93,15 @@ fn outcome_of(report: &Report, whole: &[FileLine]) -> Option<usize>
     None
 }
 
-/// The lines of a walk of which no call fails, and how many calls it makes.
+/// The files of a walk in which no call fails, and the number of calls that this walk makes.
 #[derive(Clone, Copy)]
 struct Whole<'w> {
     files: &'w [FileLine],
     calls: u64,
 }
 
-/// The walk whose call at this place fails has one of the outcomes. It answers which. A walk that makes more calls than there are
-/// began again, since several workers were refused memory.
+/// Checks that the walk whose call at this place fails has one of the outcomes, and returns the outcome's index. If the walk made more
+/// calls than `whole`, it began again because several workers ran out of memory; this is returned as an error.
 fn check_call<R: Threads + Wait + Sync + Abort>(
     rt: &R,
     alloc: Global,
@@ -121,7 +122,7 @@ fn check_call<R: Threads + Wait + Sync + Abort>(
     Ok(outcome.unwrap_or(0))
 }
 
-/// Each call of the walk fails once. Where one worker makes them in their order, each outcome comes.
+/// Lets each call of the walk fail once, and checks the outcome. With one worker, each of the outcomes must occur.
 fn check_calls<R: Threads + Wait + Sync + Abort>(
     rt: &R,
     alloc: Global,
@@ -147,7 +148,7 @@ fn check_calls<R: Threads + Wait + Sync + Abort>(
     Ok(())
 }
 
-/// By one worker, and by four.
+/// The boards and the numbers of workers to test with: one worker, and four.
 const RUNS: &[(Board, u32)] = &[
     (Board::Words, 1),
     (Board::Words, 4),

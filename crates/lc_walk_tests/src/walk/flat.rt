@@ -1,4 +1,4 @@
-//! A directory with many files, which the other workers help to count.
+//! Tests of a directory with many files, which idle workers help to count.
 
 use crate::walk::told::report_text;
 use crate::walk::walked::{BOARDS, Board, ONLY_FILES, report_of, walk_options};
@@ -13,7 +13,7 @@ use std::thread::Threads;
 
 const FILES: u32 = 3000;
 
-/// What its files that don't fail add up to.
+/// The sums over the files that can be read to their ends.
 const SUMS: Sums = Sums {
     files: 2970,
     bytes: 14_850,
@@ -21,7 +21,7 @@ const SUMS: Sums = Sums {
     blank: 0,
 };
 
-/// So many files of one line, their names' five bytes. Every hundredth fails in place of its end.
+/// Makes a directory of `FILES` files, each of one line: the five bytes of the file's name. Every hundredth file fails instead of ending.
 fn flat(alloc: Global) -> Result<Node, AllocError> {
     let mut entries = Vec::new(alloc);
     for number in 0..FILES {
@@ -37,7 +37,7 @@ fn flat(alloc: Global) -> Result<Node, AllocError> {
     Ok(Node::Dir(entries))
 }
 
-/// What so many workers find, with a line for each file.
+/// Walks the directory with this many workers, and returns a report that lists the files.
 fn walk_flat<R: Threads + Wait + Sync + Abort>(
     rt: &R,
     alloc: Global,
@@ -50,7 +50,7 @@ fn walk_flat<R: Threads + Wait + Sync + Abort>(
     report_of(rt, board.walk(rt, alloc, &MemTree::new(tree), &options))
 }
 
-/// Each number of workers finds what one does.
+/// Checks that 2 and 16 workers make the report that one worker makes.
 fn check<R: Threads + Wait + Sync + Abort>(
     rt: &R,
     alloc: Global,

@@ -1,4 +1,4 @@
-//! Several workers list directories at the same time.
+//! Tests that several workers list directories at the same time.
 
 use crate::walk::told::report_text;
 use crate::walk::walked::{Board, NO_LISTS, report_of, walk_options};
@@ -13,7 +13,7 @@ use std::test::Fail;
 use std::thread;
 use std::thread::Threads;
 
-/// A tree that lists a directory below the top only once the listing of each other was begun.
+/// A tree that lists a directory below the top only once listings of all these directories have begun.
 #[derive(Drop)]
 struct Gate<'a> {
     tree: MemTree<'a>,
@@ -22,7 +22,7 @@ struct Gate<'a> {
 }
 
 impl Gate<'_> {
-    /// Waits for the others, but not for ever.
+    /// Waits until listings of all directories have begun, but not for ever. Returns whether they have.
     fn opens(&self) -> bool {
         self.begun.fetch_add(1, Ordering::SeqCst);
         for _ in 0..200_000 {
@@ -80,11 +80,12 @@ const WITHOUT_A: &str = "- - lf 1 1 0 2, directories 2 entries 3, fault read a";
 
 const WITHOUT_B: &str = "- - lf 1 1 0 2, directories 2 entries 3, fault read b";
 
-/// A tree, how many directories it has below the top, over which board and by how many workers it is walked, and what they find.
+/// The sketch of a tree, the number of its directories below the top, the board and the number of workers of the walk, and the expected
+/// report.
 type Case = (&'static str, usize, Board, u32, &'static str);
 
-/// As many workers as there are directories list them at the same time. One worker alone finds the gate of the directory shut that it
-/// claims before the other.
+/// If there are as many workers as directories, the listings begin at the same time, and all succeed. One worker alone can't list the
+/// directory that it claims first, since nobody begins the other listing.
 const CASES: &[Case] = &[
     (TWO, 2, Board::Words, 2, OF_TWO),
     (SIXTEEN, 16, Board::Words, 16, OF_SIXTEEN),
@@ -94,7 +95,7 @@ const CASES: &[Case] = &[
     (TWO, 2, Board::Locked, 1, WITHOUT_A),
 ];
 
-/// The walk of a tree behind its gate.
+/// Checks the report of one case, in which `Gate` holds the listings back.
 fn check<R: Threads + Wait + Sync + Abort>(
     rt: &R,
     alloc: Global,

@@ -1,4 +1,4 @@
-//! What a walk skips by attributes, rules and kinds, and for which reason.
+//! Tests of what a walk skips by attributes, rules and kinds of entries, and of the reasons that it reports.
 
 use crate::walk::walked::{Part, check_parts};
 use std::test::Fail;
@@ -16,7 +16,7 @@ const ARCHIVE: &str =
 
 const WITH_EXPORTS: &[Part] = &[("an archive", "--without=export-ignore", ARCHIVE)];
 
-/// Attributes of files and directories: Set, Unset, a value, and Set by a macro.
+/// A tree with attributes on files and directories: Set, Unset, with a value, and Set by a macro.
 const MARKED: &str = "
     .gitattributes=[attr]made_generated;lib/_vendored;*.y_made;x.y_-generated;*.v_vendored=1;
     a.y
@@ -38,7 +38,7 @@ fn attributes_leave_out_what_they_are_set_for(rt: HostRuntime) -> Result<(), Fai
     Ok(())
 }
 
-/// A tree that has an entry for each reason, and below what is left out more that would be.
+/// A tree with a skipped entry for each reason. Below skipped directories, the tree has more entries that would be skipped.
 const REASONED: &str = "
     .git/{ info/{ exclude=#;notes.txt; } }
     .gitattributes=docs/_export-ignore;
@@ -53,8 +53,8 @@ const REASONED: &str = "
     x.bak
     z.log@/";
 
-/// In order of the paths, each line has the reason that comes first; nothing stands below an entry that is left out. The exclude file
-/// has a rule on its last line.
+/// Reports with a line for each skipped entry, in the order of their paths, with the first reason that holds. No entry below a skipped
+/// directory has a line. Both exclude files have their only rule on the last line.
 const WITH_REASONS: &[Part] = &[
     (
         "reasons of an archive",

@@ -1,4 +1,4 @@
-//! The limits of a walk: directories, segments and bytes of a path, bytes of a rule file.
+//! Tests of the limits of a walk: directories, segments and bytes of a path, bytes of a rule file.
 
 use crate::walk::drawn::draw_tree;
 use crate::walk::walked::{BOARDS, Case, check, check_node};
@@ -34,14 +34,14 @@ fn few_directories(rt: HostRuntime) -> Result<(), Fail> {
     Ok(())
 }
 
-/// As many directories as `lc count` takes where it is asked for no other number.
+/// The greatest number of directories that `lc count` visits by default.
 const MOST: u32 = 65_536;
 
 const OF_THE_MOST: &str = "--max-dirs=65536";
 
 const SEED: u64 = 12_345;
 
-/// The walks of a tree of the most directories, by four workers.
+/// Walks a tree of `MOST` directories with four workers, over each board.
 fn check_most<R: Threads + Wait + Sync + Abort>(rt: &R, alloc: Global) -> Result<(), AllocError> {
     let drawn = draw_tree(alloc, SEED, MOST)?;
     for board in BOARDS {
@@ -60,8 +60,8 @@ fn as_many_directories_as_are_taken(rt: HostRuntime) -> Result<(), Fail> {
     Ok(())
 }
 
-/// Directories of one name, one in the other: how many, the bytes of the name, those of the name of the last's entry and what stands
-/// behind that, what the top has beside, and what is found.
+/// Nested directories that all have one name, and the expected report. The parts: the number of directories; the length of the name; the
+/// length of the name of the innermost entry, and what follows this name in the sketch; what else the top has; the report.
 type Nest = (u32, u32, (u32, &'static str), &'static str, &'static str);
 
 const NESTS: &[Nest] = &[
@@ -88,7 +88,7 @@ fn push_many(text: &mut String, count: u32, part: &str) -> Result<(), AllocError
     Ok(())
 }
 
-/// The sketch of the tree.
+/// Returns the sketch of the tree of nested directories.
 fn sketch_of(
     alloc: Global,
     (count, bytes, (last, kind), beside, _): &Nest,
@@ -113,7 +113,7 @@ fn deep_directories_and_long_paths(rt: HostRuntime) -> Result<(), Fail> {
     Ok(())
 }
 
-/// A directory of one entry.
+/// Returns a directory that has only this entry.
 fn with_entry(alloc: Global, name: &[u8], node: Node) -> Result<Node, AllocError> {
     let mut entries = Vec::with_capacity(alloc, 1)?;
     entries.push((name.to_vec(alloc)?, node))?;

@@ -1,4 +1,4 @@
-//! Which attributes a walk notes that the attribute files of its tree name.
+//! Tests that a walk notes which attributes the attribute files of its tree name.
 
 ghost use Rattle.lc_walk.specs.WalkOptions.{AreWithinLimits};
 
@@ -12,7 +12,7 @@ use std::test::Fail;
 
 const WORDS: &[&str] = &["generated", "vendored=true"];
 
-/// A walk that notes what the attribute files of its tree name.
+/// Returns the options of a walk that notes in `named` which attributes the attribute files of its tree name.
 fn noting<'o>(rt: &impl Abort, filters: &'o Filters<'_>, named: &'o NamedAttributes) -> Options<'o>
     ensures { AreWithinLimits result }
 {

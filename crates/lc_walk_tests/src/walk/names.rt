@@ -1,4 +1,4 @@
-//! The extensions of names.
+//! Tests of the extensions of file names.
 
 use lc_walk::extension;
 use std::test::Fail;

@@ -1,9 +1,9 @@
-//! Walks of some paths of a tree alone: what they find, and how often they ask the tree.
+//! Tests of walks of only some paths of a tree: what such a walk finds, and how many calls it makes on the tree.
 
 use crate::walk::walked::{Part, check_parts};
 use std::test::Fail;
 
-/// A tree with directories and a file that can't be read beside the rest.
+/// A tree in which two directories and a file can't be read.
 const TREE: &str = "
     .gitattributes=*.c_text;
     .gitignore=*.log;
@@ -18,7 +18,7 @@ const TREE: &str = "
         more/!
     }";
 
-/// All of the tree.
+/// The report of the walk of the whole of `TREE`, and the number of its calls.
 const WHOLE: &str = "
     - - lf 3 3 0 20
     .c set lf 3 3 0 6
@@ -103,7 +103,7 @@ const PARTS: &[Part] = &[
     ),
 ];
 
-/// A tree with names that begin alike, whose bytes come before and after the slash: those beside `a` can't be read.
+/// A tree with names that begin alike, followed by bytes that sort before or after the slash. The directories next to `a` can't be read.
 const ALIKE: &str = "a/{ b/{ c.c d.c } b.c!x; b0/! x.c } a-b/! a.b/! a0/!";
 
 const PARTS_OF_ALIKE: &[Part] = &[(

@@ -1,4 +1,4 @@
-//! The rows that one worker gives, over both shared boards.
+//! Tests of the rows that a single worker returns, over both shared boards.
 ghost use Rattle.std.specs.Prelude.{◌≡◌, None, IfOk, OnOk};
 ghost use Rattle.lc_board.specs.Pass.{holding, new_pass};
 
@@ -17,8 +17,8 @@ use std::sync::Wait;
 use std::test::Fail;
 use std::thread::Threads;
 
-/// What a row says, but for names: how many files and child directories it has, or why it has none. It is amiss where it was given as no
-/// such row is.
+/// Returns a row as text without names: how many files and child directories the row has, or why it has none. The text is `amiss` for a row
+/// that the worker returned where it should have reported an error, or the reverse.
 fn words_of(alloc: Global, row: &Ended<Row>) -> Result<String, AllocError> {
     match row {
         Ended::Returned(Row::Listed(row)) => {
@@ -31,8 +31,9 @@ fn words_of(alloc: Global, row: &Ended<Row>) -> Result<String, AllocError> {
     }
 }
 
-/// A tree whose top one worker serves, or was given up after a post of its child `d`; what the rows say, by their numbers; the order
-/// in which the worker claims them over `Words` and over `Locked`; and the files, entries and lines of what is left out of the report.
+/// A tree that one worker walks, and what is expected of the walk. If `is_broken`, the top already has a `Row::Broken`, after a post of its
+/// child `d`. `rows` has the text of each row, by the directory's number. `words` and `locked` have the numbers in the order in which the
+/// worker claims them over each board. `report` has the numbers of files, entries and skipped entries, or why there is no report.
 struct Case<'a> {
     tree: &'a str,
     is_broken: bool,
@@ -42,7 +43,7 @@ struct Case<'a> {
     report: &'a str,
 }
 
-/// A board of four numbers for one worker, and its pass.
+/// Starts a board for one worker and at most four directories. Returns the board and the worker's pass.
 fn start_one<B: Shared<Job, Row>>(alloc: Global) -> Result<(B, B::Pass), AllocError>
     ensures workers { IfOk result (λ b. B.workers_of b.0 ≡ 1) }
     ensures pass { IfOk result (λ b. B.owns b.0 b.1 × (B.Pass.view b.1 ≡ new_pass 0)) }
@@ -52,7 +53,7 @@ fn start_one<B: Shared<Job, Row>>(alloc: Global) -> Result<(B, B::Pass), AllocEr
     Ok((board, pass))
 }
 
-/// Closes the board of one worker.
+/// Closes a board that has only one worker, and returns its rows.
 fn close_one<B: Shared<Job, Row>>(
     rt: &impl Abort,
     alloc: Global,
@@ -73,7 +74,7 @@ fn close_one<B: Shared<Job, Row>>(
     }
 }
 
-/// Posts the child `d` of the top, and then gives the top up as where memory is refused, if it is to be broken.
+/// If `is_broken`, claims the top, posts its child `d`, and ends the claim with a `Row::Broken`, as after a failed allocation.
 fn begin<B: Shared<Job, Row>, W: Wait>(
     rt: &W,
     alloc: Global,
@@ -102,16 +103,16 @@ fn begin<B: Shared<Job, Row>, W: Wait>(
     Ok(())
 }
 
-/// What one worker leaves: its rows, and its tally where memory was not refused.
+/// The result of one worker: the closed board with its rows, and the worker's tally if no allocation failed.
 type Skipped = (Closed<Row>, Option<Tally>);
 
-/// Both lists.
+/// The lists of the reports: the counted files and the skipped entries.
 const LISTS: ReportLists = ReportLists {
     files: true,
     left_out: true,
 };
 
-/// What one worker leaves of a tree on a board of this type.
+/// Runs one worker on the tree of a case, over a board of the type `B`. Returns the rows and the tally.
 fn work<B: Shared<Job, Row>, R: Threads + Wait + Sync + Abort>(
     rt: &R,
     alloc: Global,
@@ -179,10 +180,10 @@ const CASES: &[Case] = &[
     },
 ];
 
-/// What the row of a worker says that was refused memory.
+/// The text of a row that ended because an allocation failed.
 const GIVEN_UP: &str = "broken Memory";
 
-/// The tree of a sketch in which `LONG` is a name of 4,097 bytes.
+/// Returns the tree of a sketch, with a name of 4,097 bytes in place of `LONG`.
 fn node_of(alloc: Global, sketch: &str) -> Result<Node, AllocError> {
     let Some((before, after)) = sketch.split_once("LONG") else {
         return tree(alloc, sketch);
@@ -194,8 +195,8 @@ fn node_of(alloc: Global, sketch: &str) -> Result<Node, AllocError> {
     tree(alloc, &format!(in alloc; "{before}{long}{after}")?)
 }
 
-/// In this order of claims the rows of one worker say this up to the first that was refused memory, and all after it were given up for
-/// that. It answers whether one was.
+/// Checks the rows in the order of `claims`: each has the text in `wanted` until an allocation fails, and from then on the text `GIVEN_UP`.
+/// Returns whether an allocation failed.
 fn some_refused(
     rt: &impl Abort,
     alloc: Global,
@@ -217,7 +218,7 @@ fn some_refused(
     Ok(refused)
 }
 
-/// There is such a report of the rows and of their tally, and none where memory was refused.
+/// Checks that the report of the rows and the tally is the expected one, and that no report is made if an allocation failed.
 fn check_report(
     rt: &impl Abort,
     alloc: Global,
@@ -249,7 +250,8 @@ fn check_report(
     Ok(())
 }
 
-/// Wherever memory is refused to a worker, each number that it posted has ended, so that the board closes; then there is no report.
+/// Checks the rows and the report of one case. If an allocation of the worker fails, each posted directory still gets a row, so the board
+/// closes, but there is no report.
 fn check<R: Threads + Wait + Sync + Abort>(
     rt: &R,
     alloc: Global,

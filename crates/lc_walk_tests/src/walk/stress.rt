@@ -1,4 +1,4 @@
-//! Sixteen workers over a large tree.
+//! Tests of sixteen workers over a large tree.
 
 use crate::walk::drawn::draw_tree;
 use crate::walk::told::report_text;
@@ -13,7 +13,7 @@ const DIRECTORIES: u32 = 20_000;
 
 const RUNS: u32 = 20;
 
-/// Each run of sixteen workers finds what one does.
+/// Checks that each of several walks with sixteen workers makes the report that one worker makes.
 fn check_runs<R: Threads + Wait + Sync + Abort>(
     rt: &R,
     alloc: Global,

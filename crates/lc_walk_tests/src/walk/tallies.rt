@@ -1,4 +1,4 @@
-//! The rows of tallies: their keys, their order and their sums.
+//! Tests of the rows of tallies: their keys, their order and their sums.
 
 use crate::walk::told::push_row;
 use lc_census::Count;
@@ -8,7 +8,7 @@ use std::alloc::{AllocError, Global};
 use std::process::Abort;
 use std::test::Fail;
 
-/// Adds the file of a row: its extension, text state and line ends, one, its lines, blank lines and bytes.
+/// Adds one file to the tally. The text has the file's extension, text state and line ends, a 1, and its lines, blank lines and bytes.
 fn add_row(rt: &impl Abort, tally: &mut Tally, row: &str) -> Result<(), AllocError> {
     let mut words = row.split_ascii_whitespace();
     let ext = words.next().unwrap_or("-");
@@ -26,7 +26,7 @@ fn add_row(rt: &impl Abort, tally: &mut Tally, row: &str) -> Result<(), AllocErr
     tally.add(ext.strip_prefix('.').map(|ext| ext.as_bytes()), text, count)
 }
 
-/// The tally of files, each written as a row of it alone, which are added from the last to the first.
+/// Makes a tally of files, each of which is written as the row that it would have alone. Adds the files from the last to the first.
 fn tally_of(rt: &impl Abort, alloc: Global, rows: &[&str]) -> Result<Tally, AllocError> {
     let mut tally = Tally::new(alloc);
     for row in rows.iter().rev() {
@@ -35,7 +35,7 @@ fn tally_of(rt: &impl Abort, alloc: Global, rows: &[&str]) -> Result<Tally, Allo
     Ok(tally)
 }
 
-/// The files of a tally, those of one that is merged with it, its rows, and its totals.
+/// The files of a tally, the files of a second tally that is merged into the first, the expected rows, and the expected totals.
 type Case = (
     &'static [&'static str],
     &'static [&'static str],
@@ -43,7 +43,7 @@ type Case = (
     &'static str,
 );
 
-/// No extension comes before extensions by their bytes.
+/// Rows in the order of their extensions: no extension first, then extensions by their bytes.
 const EXTENSIONS: &[&str] = &[
     "- - nul 1 1 0 1",
     ".b - nul 1 1 0 1",

@@ -1,10 +1,10 @@
-//! What a report tells, in the lines of `lc count`.
+//! Reports as text, in lines such as those of `lc count`.
 
 use lc_tests::{eol_word, push_kind, push_name, push_reason, text_word};
 use lc_walk::{FileLine, Report, TallyRow};
 use std::alloc::{AllocError, Global};
 
-/// Adds the row's extension, text state and line ends, and its files, lines, blank lines and bytes.
+/// Appends a line with the row's extension, text state and line ends, and its numbers of files, lines, blank lines and bytes.
 pub(super) fn push_row(text: &mut String, row: &TallyRow) -> Result<(), AllocError> {
     match &row.ext {
         Some(ext) => {
@@ -42,7 +42,7 @@ fn push_skipped(text: &mut String, report: &Report) -> Result<(), AllocError> {
     Ok(())
 }
 
-/// Adds the faults of a report.
+/// Appends a line for each error of a report.
 fn push_faults(text: &mut String, report: &Report) -> Result<(), AllocError> {
     for fault in &report.faults {
         let word = fault.word.as_str();
@@ -53,8 +53,8 @@ fn push_faults(text: &mut String, report: &Report) -> Result<(), AllocError> {
     Ok(())
 }
 
-/// The rows of a report, its directories and entries, its lists and its faults; before them the number of all files, where that isn't
-/// the sum of the rows'.
+/// Returns the report as text: its rows, its numbers of directories and entries, its lists and its errors. If the total of files is not the
+/// sum over the rows, the total comes after the rows.
 pub(super) fn report_text(alloc: Global, report: &Report) -> Result<String, AllocError> {
     let mut text = String::new(alloc);
     let mut files: u64 = 0;

@@ -1,4 +1,4 @@
-//! Walks of trees of memory, over both shared boards, with 1, 2 and 16 workers.
+//! Walks of in-memory trees, over both shared boards, with 1, 2 and 16 workers.
 ghost use Rattle.lc_walk.specs.WalkOptions.{AreWithinLimits};
 
 use crate::walk::told::report_text;
@@ -13,26 +13,26 @@ use std::process::Abort;
 use std::sync::Wait;
 use std::thread::Threads;
 
-/// Neither list.
+/// A report without optional lists.
 pub(super) const NO_LISTS: ReportLists = ReportLists {
     files: false,
     left_out: false,
 };
 
-/// The files alone.
+/// A report with the list of counted files, but not of skipped entries.
 pub(super) const ONLY_FILES: ReportLists = ReportLists {
     files: true,
     left_out: false,
 };
 
-/// A name, the sketch of a tree, what is asked as on a command line, and what a walk finds, or why it finds nothing.
+/// The name of a case, the sketch of a tree, arguments as on the command line, and the expected report, or why the walk makes none.
 pub(super) type Case<'a> = (&'a str, &'a str, &'a str, &'a str);
 
-/// A name, arguments, and what a walk finds with these. It may end with the number of calls on the tree: a listing is one call; a file is
-/// opened, read, and read to its end.
+/// The name of a case, arguments as on the command line, and the expected report. The report may end with the number of calls on the tree:
+/// a listing is one call; a file is opened, read, and read to its end.
 pub(super) type Part<'a> = (&'a str, &'a str, &'a str);
 
-/// A walk by so many workers, with these lists and by these filters.
+/// Returns the options of a walk with these numbers of threads and directories. The test fails if a number is outside the limits.
 pub(super) fn walk_options<'o>(
     rt: &impl Abort,
     threads: u32,
@@ -50,7 +50,7 @@ pub(super) fn walk_options<'o>(
     }
 }
 
-/// A board over which walks are tried.
+/// A type of board over which the tests walk.
 #[derive(Clone, Copy, Debug)]
 pub(super) enum Board {
     Words,
@@ -58,7 +58,7 @@ pub(super) enum Board {
 }
 
 impl Board {
-    /// The walk of a tree over it.
+    /// Walks a tree over a board of this type.
     pub(super) fn walk<T: Tree, R: Threads + Wait + Sync>(
         self,
         rt: &R,
@@ -77,7 +77,7 @@ impl Board {
 
 pub(super) const BOARDS: &[Board] = &[Board::Words, Board::Locked];
 
-/// Over each board, by each number of workers.
+/// The boards and numbers of workers with which each case is walked.
 const RUNS: &[(Board, u32)] = &[
     (Board::Words, 1),
     (Board::Locked, 1),
@@ -101,7 +101,7 @@ pub(super) fn report_of(
     }
 }
 
-/// What a walk found, or why it found nothing.
+/// Returns as text what a walk found, or why it made no report.
 fn answer_text(alloc: Global, answer: &Result<Report, WalkFault>) -> Result<String, AllocError> {
     match answer {
         Ok(report) => report_text(alloc, report),
@@ -110,7 +110,7 @@ fn answer_text(alloc: Global, answer: &Result<Report, WalkFault>) -> Result<Stri
     }
 }
 
-/// What is wanted but for the number of calls, and that number, if it is there.
+/// Splits an expected report into the report without its number of calls, and that number if it is there.
 fn without_calls(wanted: &str) -> (&str, Option<u64>) {
     match wanted.split_once("calls ") {
         Some((wanted, calls)) => (wanted, calls.parse::<u64>().ok()),
@@ -118,8 +118,8 @@ fn without_calls(wanted: &str) -> (&str, Option<u64>) {
     }
 }
 
-/// A walk that asked its tree so often answers as is wanted. One that asked more often began again, since several workers were refused
-/// memory.
+/// Checks the report of a walk and the number of its calls on the tree. If the walk made more calls than expected, it began again because
+/// several workers ran out of memory; this is returned as an error.
 fn check_answer(
     rt: &impl Abort,
     alloc: Global,
@@ -140,7 +140,7 @@ fn check_answer(
     Ok(())
 }
 
-/// The walk of this tree finds what is wanted, over this board.
+/// Checks that the walk of this tree over this board makes the expected report.
 fn check_run<R: Threads + Wait + Sync + Abort>(
     rt: &R,
     alloc: Global,
@@ -182,7 +182,7 @@ pub(super) fn check_node<R: Threads + Wait + Sync + Abort>(
     Ok(())
 }
 
-/// Walks of one tree.
+/// Checks several walks of one tree, each with its arguments.
 pub(super) fn check_parts<R: Threads + Wait + Sync + Abort>(
     rt: &R,
     alloc: Global,
@@ -196,7 +196,7 @@ pub(super) fn check_parts<R: Threads + Wait + Sync + Abort>(
     Ok(())
 }
 
-/// A walk of each tree.
+/// Checks one walk of each case's tree.
 pub(super) fn check<R: Threads + Wait + Sync + Abort>(
     rt: &R,
     alloc: Global,

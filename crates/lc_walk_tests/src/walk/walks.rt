@@ -1,4 +1,4 @@
-//! What walks find.
+//! Tests of what walks find: rules, attributes, listed files and errors.
 
 use crate::walk::walked::{Case, check};
 use std::test::Fail;
@@ -13,7 +13,7 @@ const IGNORING: &str = "
 
 const TEXTS: &str = ".gitattributes=*.c_text;*.b_binary; x.c=a;b; y.b=\0; z.c=a^;^;";
 
-/// Rules of the tree are applied, attributes say which files are text, and files that are asked for stand in order.
+/// Cases in which the tree's rules are applied, attributes say which files are text, and the requested list of files is in order.
 const RULED: &[Case] = &[
     (
         "rules of the tree",
