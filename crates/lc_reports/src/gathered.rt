@@ -9,7 +9,7 @@ ghost use Rattle.lc_walk.specs.TallyRows.{sums_of_rows};
 use lc_walk::{FaultLine, FileLine, Report, ReportLists, SkippedLine, Sums, TallyRow};
 use std::alloc::{AllocError, Global};
 
-/// Returns these sums with the sums over some rows added, if each fits its type.
+/// Returns these sums with the sums over some rows added, or `None` if a sum does not fit its type.
 fn with_rows(sums: Sums, rows: &[TallyRow]) -> Option<Sums>
     ensures { MatchOption result (IsInRange (plus sums (sums_of_rows rows.now)) → ⊥) (λ all. all ≡ plus sums (sums_of_rows rows.now)) }
 {
@@ -22,7 +22,7 @@ fn with_rows(sums: Sums, rows: &[TallyRow]) -> Option<Sums>
     Some(all)
 }
 
-/// The sums of the numbers of several reports.
+/// The numbers of several reports, added up.
 #[derive(Drop)]
 pub(crate) struct Numbers {
     // Tested with the other sums before anything is allocated, so that a join fails for lack of memory only if no sum is too large.
@@ -44,7 +44,7 @@ impl Numbers {
         }
     }
 
-    /// Returns these numbers with those of a report added, if each sum fits its type.
+    /// Returns these numbers with the numbers of a report added, or `None` if a sum does not fit its type.
     #[tactic(auto, using(crate::proofs::NumbersInTurn::same_numbers))]
     fn with(self, report: &Report) -> Option<Numbers>
         ensures { MatchOption result (NumbersFit (numbers_with self report.now) → ⊥) (λ n. n ≡ numbers_with self report.now) }
@@ -57,7 +57,7 @@ impl Numbers {
         })
     }
 
-    /// Returns the sums over all of these reports, if each fits its type.
+    /// Returns the numbers of these reports, added up, or `None` if a sum does not fit its type.
     pub(crate) fn of(reports: &[Report]) -> Option<Numbers>
         ensures { MatchOption result (NumbersFit (numbers_of reports.now) → ⊥) (λ n. n ≡ numbers_of reports.now) }
     {
@@ -83,7 +83,7 @@ fn have_left_out(reports: &[Report]) -> bool
     reports.iter().all(|report| report.lists.left_out)
 }
 
-/// Returns the lists that each of these reports has.
+/// Returns the optional lists that all of these reports have.
 pub(crate) fn shared_lists(reports: &[Report]) -> ReportLists
     ensures { result ≡ shared_lists reports.now }
 {
@@ -103,7 +103,7 @@ pub(crate) struct Gathered {
 }
 
 impl Gathered {
-    /// Gathers the rows of reports, and these lists of each.
+    /// Gathers the rows and errors of these reports, and the files and skipped entries if `lists` has them.
     pub(crate) fn of(
         alloc: Global,
         reports: Vec<Report>,
@@ -123,7 +123,7 @@ impl Gathered {
         Ok(gathered)
     }
 
-    /// Adds the rows of a report, and these lists.
+    /// Appends the rows and errors of a report, and its files and skipped entries if `lists` has them.
     fn add(&mut self, report: Report, lists: ReportLists) -> Result<(), AllocError>
         ensures { OnOk result (Adds lists self.old report self.new) }
     {

@@ -8,7 +8,7 @@ use crate::line_order::{compare_faults, compare_skipped};
 use lc_walk::{FaultLine, Report, SkippedLine, added_up, sort_lines};
 use std::alloc::Global;
 
-/// Sorts errors, and keeps each once.
+/// Sorts errors, and keeps only one of those with the same path and word.
 fn unite_faults(faults: &mut Vec<FaultLine>)
     ensures { IsUnited fault_cmp faults.old.items faults.new.items }
 {
@@ -16,7 +16,7 @@ fn unite_faults(faults: &mut Vec<FaultLine>)
     faults.dedup_by(|a, b| compare_faults(a, b).is_eq());
 }
 
-/// Sorts skipped entries, and keeps each once.
+/// Sorts skipped entries, and keeps only one of those with the same path, reason and kind.
 fn unite_skipped(skipped: &mut Vec<SkippedLine>)
     ensures { IsUnited skipped_cmp skipped.old.items skipped.new.items }
 {
@@ -24,11 +24,11 @@ fn unite_skipped(skipped: &mut Vec<SkippedLine>)
     skipped.dedup_by(|a, b| compare_skipped(a, b).is_eq());
 }
 
-/// Joins reports. It adds up their rows and their numbers. The joined report has the lists that each of them has. An error or a skipped
-/// entry appears once if several reports have it with the same fields.
+/// Joins several reports into one. It adds up the reports' rows and numbers. The joined report has an optional list only if each report has
+/// this list. An error or a skipped entry appears once if several reports have it with the same fields.
 ///
-/// The time is that of a sort of all lines. It allocates memory for the lists, but not for paths. Before that, it finds out whether a sum
-/// is too large.
+/// The time is that of a sort of all lines. The call allocates memory for the lists, but not for paths. Before any allocation, it finds out
+/// whether a sum is too large.
 ///
 /// ```
 /// let both = joined(alloc, reports)?;

@@ -1,8 +1,8 @@
-//! Reports of several trees, or of parts of one: a report with a name in front of its paths, and the sum of reports.
+//! Reports of several trees, or of parts of one tree: putting a name in front of a report's paths, and joining several reports into one.
 //!
-//! - `naming`: a name in front of the paths of a report
-//! - `joining`: joining several reports, with `gathered`: their numbers and lines together, and `line_order`: the order of lines that may
-//!   have one path
+//! - `naming`: putting a name in front of the paths of a report
+//! - `joining`: joining several reports; `gathered`: the numbers and lines of several reports together; `line_order`: the order of errors
+//!   and skipped entries, of which several may have one path
 //! - `join_fault`: why several reports can't be joined
 //! - `laws`: laws of the definitions that the contracts cite
 #![tactic(auto)]

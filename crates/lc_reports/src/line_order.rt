@@ -1,4 +1,4 @@
-//! The order of lines that may have one path.
+//! The order of a report's errors, and the order of its skipped entries, also among lines that have one path.
 ghost use Rattle.std.specs.Prelude.{◌≡◌};
 ghost use Rattle.lc_level.specs.Reasons.{reason_model};
 ghost use Rattle.lc_reports.specs.LineOrder.{attribute_word, fault_cmp, kind_place, reason_cmp, rule_depth, rule_line, rule_place};
@@ -11,7 +11,7 @@ use lc_tree::{Kind, OtherKind};
 use lc_walk::{FaultLine, SkippedLine};
 use std::cmp::Ordering;
 
-/// Compares errors by their paths, then by their words.
+/// Compares errors by their paths, then by their words, such as `read`.
 #[tactic(auto, unfolding(crate::specs::LineOrder::fault_cmp))]
 pub(crate) fn compare_faults(a: &FaultLine, b: &FaultLine) -> Ordering
     ensures { result ≡ fault_cmp a.now b.now }
@@ -20,7 +20,7 @@ pub(crate) fn compare_faults(a: &FaultLine, b: &FaultLine) -> Ordering
     by_path.then(a.word.as_str().cmp(b.word.as_str()))
 }
 
-/// Returns the place of a rule's file among the rule files of one directory.
+/// Returns the place of a rule's file in the order of the rule files of one directory.
 fn source_rank(source: RuleSource) -> u32
     ensures { result ≡ source_place source }
 {
@@ -89,7 +89,8 @@ fn kind_rank(kind: Kind) -> u32
     }
 }
 
-/// Compares reasons by their words, then by the rule's file, from the top down, and the rule's line, and then by the attribute.
+/// Compares reasons by their words, such as `rule`; then by the depth and the place of the rule's file; then by the rule's line; and last by
+/// the attribute.
 #[tactic(auto, unfolding(crate::specs::LineOrder::reason_cmp))]
 fn compare_reasons(a: &Reason, b: &Reason) -> Ordering
     ensures { result ≡ reason_cmp (reason_model a.now) (reason_model b.now) }
@@ -103,7 +104,7 @@ fn compare_reasons(a: &Reason, b: &Reason) -> Ordering
     by_word.then(by_rule)
 }
 
-/// Compares skipped entries by their paths, then by their reasons, then by their kinds.
+/// Compares skipped entries by their paths, then by the reasons why they were skipped, then by their kinds.
 #[tactic(auto, unfolding(crate::specs::LineOrder::skipped_cmp))]
 pub(crate) fn compare_skipped(a: &SkippedLine, b: &SkippedLine) -> Ordering
     ensures { result ≡ skipped_cmp a.now b.now }

@@ -10,11 +10,11 @@ use lc_rules::RuleSource;
 use lc_walk::{FaultLine, FileLine, Report, SkippedLine};
 use std::alloc::{AllocError, Global};
 
-/// A line of a report, whose path can get a name in front.
+/// A line of a report. A name can be put in front of the line's path.
 trait PathLine: Sized {
     ghost named_of: { List ℕ → Self → Self };
 
-    /// Makes the line of the same entry below the name.
+    /// Returns this line with the name in front of its path.
     fn with_name(self, alloc: Global, name: &[u8]) -> Result<Self, AllocError>
         ensures { IfOk result (λ line. line ≡ named_of name.now self) };
 }
@@ -54,7 +54,7 @@ impl PathLine for SkippedLine {
     }
 }
 
-/// Makes a path with a name and a slash in front.
+/// Returns a path with a name and a slash in front. The empty path becomes the name, or `/` if the name is empty.
 fn named_path(alloc: Global, name: &[u8], path: &[u8]) -> Result<Vec<u8>, AllocError>
     ensures { IfOk result (λ named. named.items ≡ named_path name.now path.now) }
 {
@@ -66,7 +66,7 @@ fn named_path(alloc: Global, name: &[u8], path: &[u8]) -> Result<Vec<u8>, AllocE
     Ok(named)
 }
 
-/// Returns the number of segments that a name adds to a path. It fails for a name of 2^32 segments or more.
+/// Returns the number of segments that a name in front adds to a path. It fails for a name of 2^32 segments or more.
 fn named_depth(name: &[u8]) -> Result<u32, AllocError>
     ensures { IfOk result (λ depth. depth ≡ named_depth name.now) }
 {
@@ -75,7 +75,7 @@ fn named_depth(name: &[u8]) -> Result<u32, AllocError>
     u32::try_from(depth).map_err(|_| AllocError)
 }
 
-/// Returns the depth of a directory below a name.
+/// Returns the depth of a directory after the name was put in front of its path. It fails if the depth does not fit its type.
 fn deeper(name: &[u8], depth: u32) -> Result<u32, AllocError>
     ensures { IfOk result (λ sum. sum ≡ named_depth name.now + depth) }
 {
@@ -108,7 +108,7 @@ fn named_reason(name: &[u8], reason: Reason) -> Result<Reason, AllocError>
     }
 }
 
-/// Makes the lines of the same entries below a name, in the same order.
+/// Returns these lines in the same order, each with the name in front of its path.
 fn named_lines<L: PathLine + Drop>(
     alloc: Global,
     name: &[u8],
@@ -123,11 +123,11 @@ fn named_lines<L: PathLine + Drop>(
     Ok(named)
 }
 
-/// Moves a report below a name. Each path gets the name and a slash at its beginning, and so does the file of a rule, unless the rule comes
-/// from `--exclude` or `--exclude-from`. The empty path becomes the name. Numbers stay.
+/// Puts a name and a slash in front of each path of a report. The files of rules get them too, unless the rule comes from `--exclude` or
+/// `--exclude-from`. The empty path becomes the name. Numbers stay.
 ///
-/// The name of `/` is empty, so its paths begin with a slash, and the empty path becomes `/`. A name of 2^32 segments or more is refused
-/// like a failed allocation.
+/// The directory `/` has the empty name: the paths of its report begin with a slash, and the empty path becomes `/`. For a name of 2^32
+/// segments or more, the call returns the error of a failed allocation.
 ///
 /// ```
 /// let report = named(alloc, b"../lib", report)?; // x.c is ../lib/x.c
