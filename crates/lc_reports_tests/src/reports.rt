@@ -1,4 +1,5 @@
-//! What no clause says: worked cases, and that calls succeed where there is memory. A report is written as lines, which `reading` lists.
+//! Worked cases of named and joined reports, which also show that the calls succeed if there is memory. The tests write a report as lines
+//! of text, whose forms `reading` lists.
 
 mod joins;
 mod large;

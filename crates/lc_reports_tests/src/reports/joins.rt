@@ -1,4 +1,4 @@
-//! Reports of several: what is added up, which lists there are, and what is kept once.
+//! Tests of joined reports: the sums, the optional lists, and the lines that are kept only once.
 
 use crate::reports::reading::reports_of;
 use crate::reports::telling::report_text;
@@ -8,7 +8,7 @@ use std::alloc::Global;
 use std::process::Abort;
 use std::test::Fail;
 
-/// What is shown, the lines of each report, and those of the report of all.
+/// The name of a case, the lines of each report, and the lines of the joined report.
 type Case = (&'static str, &'static [&'static str], &'static str);
 
 const A: &str = "

@@ -1,4 +1,4 @@
-//! Sums that just fit their types, and sums that do not.
+//! Tests of joined reports whose sums just fit their types, and of sums that do not fit.
 
 use crate::reports::reading::reports_of;
 use crate::reports::telling::report_text;
@@ -8,7 +8,7 @@ use std::alloc::Global;
 use std::process::Abort;
 use std::test::Fail;
 
-/// What is too large, and the lines of each report.
+/// The name of the sum that is too large, and the lines of each report to join.
 type Case = (&'static str, &'static [&'static str]);
 
 const TOO_LARGE: &[Case] = &[

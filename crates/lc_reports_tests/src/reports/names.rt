@@ -1,4 +1,4 @@
-//! Reports below names: the paths that a person opens, and the files of rules.
+//! Tests of reports with a name in front of their paths, and in front of the files of rules.
 
 use crate::reports::reading::report_of;
 use crate::reports::telling::report_text;
@@ -8,7 +8,7 @@ use std::alloc::{AllocError, Global};
 use std::process::Abort;
 use std::test::Fail;
 
-/// A name, the lines of a report, and those of the report below the name.
+/// A name, the lines of a report, and the lines of the report with the name in front of its paths.
 type Case = (&'static str, &'static str, &'static str);
 
 const PATHS: &[Case] = &[
@@ -107,7 +107,7 @@ const RULES: &[Case] = &[
     ),
 ];
 
-/// What is no path stays, and so does the order of the lines.
+/// A case in which only the paths change: the numbers, the set of lists and the order of the lines stay.
 const WHOLE: Case = (
     "b",
     "row - - lf 1 4 1 9

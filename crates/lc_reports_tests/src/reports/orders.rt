@@ -1,4 +1,4 @@
-//! The order of lines of joined reports: each field decides among lines that agree in those before it.
+//! Tests of the order of lines in joined reports: each field decides among lines with equal earlier fields.
 
 use crate::reports::reading::report_of;
 use crate::reports::telling::report_text;
@@ -8,7 +8,7 @@ use std::alloc::{AllocError, Global};
 use std::process::Abort;
 use std::test::Fail;
 
-/// What decides, and lines in their order.
+/// The field that decides the order, and lines in the expected order.
 type Case = (&'static str, &'static [&'static str]);
 
 const CASES: &[Case] = &[
@@ -97,7 +97,7 @@ const CASES: &[Case] = &[
     ),
 ];
 
-/// The lines of the report that is joined of a report for each of these lines, from the last to the first.
+/// Makes a report of each of these lines, joins the reports from the last to the first, and returns the lines of the joined report.
 fn sorted(alloc: Global, lines: &[&str]) -> Result<String, Fail> {
     let mut reports = Vec::new(alloc);
     for line in lines.iter().rev() {

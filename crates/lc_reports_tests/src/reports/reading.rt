@@ -1,4 +1,4 @@
-//! Reports that are read of their lines.
+//! Making reports from lines of text.
 
 use lc_census::Count;
 use lc_level::{FaultWord, Reason};
@@ -30,7 +30,7 @@ fn number(words: &mut SplitAsciiWhitespace<'_>) -> u128 {
     next(words).parse::<u128>().unwrap_or(0)
 }
 
-/// The path of a word. That of the top is written as a dot.
+/// Returns the path that a word stands for. A dot stands for the empty path of the top.
 fn path_of(alloc: Global, word: &str) -> Result<Vec<u8>, AllocError> {
     let path = if word == "." { "" } else { word };
     path.as_bytes().to_vec(alloc)
@@ -85,7 +85,7 @@ fn fault(alloc: Global, words: &mut SplitAsciiWhitespace<'_>) -> Result<FaultLin
     Ok(FaultLine { path, word })
 }
 
-/// How many directories a path names before its last segment.
+/// Returns the number of slashes in a path: the depth of the directory that has the path's last segment.
 fn depth_of(path: &str) -> u32 {
     let slashes = path.bytes().filter(|byte| *byte == b'/').count();
     u32::try_from(slashes).unwrap_or(0)
@@ -104,7 +104,7 @@ fn source_of(file: &str) -> RuleSource {
     }
 }
 
-/// The rule at a place, such as `src/.gitignore:3`.
+/// Returns the reason of an entry that is skipped by the rule at this place, such as `src/.gitignore:3`.
 fn rule_at(place: &str) -> Reason {
     let (file, line) = place.rsplit_once(':').unwrap_or((place, "0"));
     Reason::Rule {
@@ -124,7 +124,7 @@ fn reason(alloc: Global, words: &mut SplitAsciiWhitespace<'_>) -> Result<Reason,
     }
 }
 
-/// The path and the kind that a word names by its end.
+/// Splits a word into a path and the kind of the entry, which the end of the word shows: `@/`, `@`, `/`, or none of these for a file.
 fn path_and_kind(word: &str) -> (&str, Kind) {
     if let Some(path) = word.strip_suffix("@/") {
         return (path, Kind::Other(OtherKind::Mounted));
@@ -145,7 +145,7 @@ fn skipped(alloc: Global, words: &mut SplitAsciiWhitespace<'_>) -> Result<Skippe
     Ok(SkippedLine { path, kind, reason })
 }
 
-/// A report of nothing, which has both lists.
+/// Returns an empty report that has both optional lists.
 fn nothing(alloc: Global) -> Report {
     Report {
         rows: Vec::new(alloc),
@@ -199,7 +199,7 @@ pub(super) fn report_of(alloc: Global, lines: &str) -> Result<Report, AllocError
     Ok(report)
 }
 
-/// The reports of these lines, a text for each.
+/// Returns the reports of these texts. Each text has the lines of one report.
 pub(super) fn reports_of(alloc: Global, texts: &[&str]) -> Result<Vec<Report>, AllocError> {
     let mut reports = Vec::new(alloc);
     for text in texts {

@@ -1,4 +1,4 @@
-//! The report of several directories: each below its name, then joined.
+//! A test of the report of several directories: each report gets its directory's name, and the reports are joined.
 
 use crate::reports::reading::report_of;
 use crate::reports::telling::report_text;
@@ -27,7 +27,7 @@ const LIB: &str = "
     left git .git/
     left rule .git/info/exclude:2 notes.txt";
 
-/// A directory that could not be read.
+/// The report of a directory that could not be read.
 const ROOT: &str = "fault read .";
 
 const TOGETHER: &str = "

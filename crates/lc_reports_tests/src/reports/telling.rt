@@ -1,4 +1,4 @@
-//! Reports as lines, as `reading` reads them.
+//! Writing reports as lines of text, in the form that `reading` reads.
 
 use lc_level::Reason;
 use lc_tests::{eol_word, push_kind, push_name, text_word};
@@ -56,7 +56,7 @@ fn push_file(text: &mut String, file: &FileLine) -> Result<(), AllocError> {
     text.push_str("\n")
 }
 
-/// Adds what a person reads behind the word of a reason: the place of the rule, or the attribute.
+/// Appends the detail that follows the word of an entry's reason: the place of the rule, or the attribute.
 fn push_detail(text: &mut String, entry: &SkippedLine) -> Result<(), AllocError> {
     match &entry.reason {
         Reason::Rule { source, line } => {
@@ -110,7 +110,7 @@ fn push_left(text: &mut String, report: &Report) -> Result<(), AllocError> {
     Ok(())
 }
 
-/// The lines of a report: rows, numbers that are not 0, files, skipped entries, faults.
+/// Returns the lines of a report: rows, numbers that are not 0, files, skipped entries, errors.
 pub(super) fn report_text(alloc: Global, report: &Report) -> Result<String, AllocError> {
     let mut text = String::new(alloc);
     for row in &report.rows {
