@@ -1,4 +1,4 @@
--- What becomes of the entries of all listed directories, by the report of a walk.
+-- What becomes of the entries of all listed directories, as the report of a walk shows it.
 use Rattle.std.specs.Prelude.{◌≡◌, ◌≢◌, ℕ, ◌+◌, true, false, List, ◌++◌, length, map, Ok}
 use Rattle.std.specs.List.{Contains, AllByRecursion}
 use Rattle.std.specs.List.Sorted.{IsPermutation}
@@ -24,13 +24,13 @@ use Rattle.lc_walk.specs.declared.options.ReportLists.{ReportLists}
 use Rattle.lc_walk.specs.declared.options.Options.{Options}
 use Rattle.lc_walk.specs.declared.report.Report.{Report}
 
--- the fault of a path that is asked for and absent
+-- the line of the error of a requested path that is absent
 abbrev pub absent_line : List ℕ → FaultLineModel
 absent_line path = record { path = path; word = Absent }
 
--- the faults are those of paths that were asked for and are absent, and others, none of which has their word; all entries that take part
--- are counted files, such other faults, listed directories or entries left out; the top alone is no entry. An other fault stands for a
--- file or for a directory, whichever of its files it is at
+-- each error is about a requested path that is absent, or has another word than `absent`. Each counted entry is a counted file, an error
+-- with another word, a listed directory or a skipped entry; only the top is not an entry. An error with another word is about one file or
+-- one directory, even if its path is that of a rule file
 pub record IsAccounted (only : List (List ℕ)) (r : Report) : Type 0 where
   pub absent : List (List ℕ)
   pub asked : AllByRecursion (Contains only) absent
@@ -39,13 +39,13 @@ pub record IsAccounted (only : List (List ℕ)) (r : Report) : Type 0 where
   pub faults : IsPermutation (map absent_line absent ++ others) r.faults.items
   pub all : r.entries + 1 ≡ r.totals.files + length others + r.directories + length r.skipped.items
 
--- so is the report of each walk that was asked for entries left out
+-- the report of each walk that lists its skipped entries accounts for all entries
 abbrev pub EntriesLaw : (List ℕ → Listings) → (List ℕ → Contents) → Type 0
 EntriesLaw lists gives =
     (o : Options) (r : Report) → Walks lists gives o (Ok r) → o.lists.left_out ≡ true → IsAccounted (asked_by o).filters.only r
 
--- an entry at this path stands in a directory to which names lead, and the last rule that matches it among those that hold there
--- ignores it, and stands in a file of this source, on the line with this number
+-- the entry at this path is in a directory that the walk reaches. Of the rules that apply there, the last that matches the entry ignores
+-- it. This rule is on this line of the file of this source
 pub record IsIgnoredBy (filters : FiltersModel) (top : JobModel) (t : Tree) (path : List ℕ) (source : RuleSource) (line : ℕ)
     : Type 0 where
   pub place : List (List ℕ)
@@ -62,7 +62,7 @@ pub record IsIgnoredBy (filters : FiltersModel) (top : JobModel) (t : Tree) (pat
   pub ignores : rule.is_negated ≡ false
   pub decides : IsLastMatch (rules_in inside.ignore) path (is_dir (entry_of item).kind) (source, rule)
 
--- so is each entry that a report has as left out by a rule
+-- each entry that a report shows as skipped by a rule is ignored by that rule
 abbrev pub RuleLaw : Type 0
 RuleLaw =
     (lists : ReportLists) (filters : FiltersModel) (depth : ℕ) (top : JobModel) (t : Tree) (r : Report) →

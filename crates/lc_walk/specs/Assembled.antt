@@ -1,4 +1,4 @@
--- What is made of the rows of a closed board.
+-- What report is made from the rows of a closed board.
 use Rattle.std.specs.Prelude.{◌≡◌, ℕ, zero, suc, ◌<◌, List, [], ◌∷◌, length, map, flat_map, sum_by, slice_get, Some, Result, Ok, Err}
 use Rattle.lc_board.specs.declared.answers.Ended.{Ended}
 use Rattle.lc_walk.specs.Tally.{TallyModel}
@@ -47,7 +47,7 @@ entries_by_row (Listed r) = r.entries
 entries_by_row (Faulted r) = 0
 entries_by_row (Broken r) = 0
 
--- the listed directories, the number of their entries, the stored lines of files, the lines of faults, those of entries left out
+-- in all rows: the listed directories, the number of their entries, the stored lines of files, and the lines of errors and skipped entries
 abbrev pub directories_in_rows : List (Ended Row) → List (List ℕ)
 directories_in_rows rows = flat_map (λ e. directories_by_row (row_of e)) rows
 
@@ -63,7 +63,7 @@ faults_in_rows rows = flat_map (λ e. faults_by_row (row_of e)) rows
 abbrev pub skipped_in_rows : List (Ended Row) → List SkippedLineModel
 skipped_in_rows rows = flat_map (λ e. skipped_by_row (row_of e)) rows
 
--- findings that are what the rows say
+-- the findings have exactly the numbers and lines of the rows
 pub record AreFindings (rows : List (Ended Row)) (found : Findings) : Type 0 where
   pub directories : found.directories ≡ length (directories_in_rows rows)
   pub entries : found.entries ≡ entries_in_rows rows
@@ -81,7 +81,8 @@ pub record IsEdge (rows : List (Ended Row)) (parent at k : ℕ) : Type 0 where
   pub here : slice_get (children_in (row_of above)) at ≡ Some child
   pub number : child.number ≡ k
 
--- the number is named once, by a lower number, and its path is its parent's with the child's name
+-- exactly one row names the number as a child, once; that row's number is lower. The path at the number is the parent's path with the
+-- child's name
 pub record IsLinkedOnce (rows : List (Ended Row)) (k : ℕ) (row : Row) : Type 0 where
   pub parent : ℕ
   pub at : ℕ
@@ -90,12 +91,12 @@ pub record IsLinkedOnce (rows : List (Ended Row)) (k : ℕ) (row : Row) : Type 0
   pub path : (job_of row).path ≡ path_in (job_of (row_of edge.above)).path edge.child.name
   pub only : (p i : ℕ) → IsEdge rows p i k → (p ≡ parent) × (i ≡ at)
 
--- the top has the empty path, and each other number is linked so
+-- the top's path is empty, and each other number is linked once
 abbrev pub IsPlaced : List (Ended Row) → ℕ → Type 0
 IsPlaced rows zero = (e : Ended Row) × (slice_get rows 0 ≡ Some e) × ((job_of (row_of e)).path ≡ [])
 IsPlaced rows (suc k) = (e : Ended Row) → slice_get rows (suc k) ≡ Some e → IsLinkedOnce rows (suc k) (row_of e)
 
--- ---- what `assemble` answers
+-- ---- what each result of `assemble` means
 
 -- the rows make a tree, none is Broken, and the report is that of the tally and of the rows
 pub record IsAssembled (lists : ReportLists) (tally : TallyModel) (rows : List (Ended Row)) (r : Report) : Type 0 where
@@ -114,7 +115,7 @@ IsBrokenBy cause (Broken r) = r.cause ≡ cause
 abbrev pub SomeBroken : BrokenCause → List (Ended Row) → Type 0
 SomeBroken cause rows = (i : ℕ) × ((e : Ended Row) × (slice_get rows i ≡ Some e) × IsBrokenBy cause (row_of e))
 
--- a Broken row's cause, Memory first; else the number at which they make no tree; or Memory
+-- why there is no report: the cause of a Broken row, Memory before others; or else a number at which the rows make no tree; or Memory
 abbrev pub RefusesRows : List (Ended Row) → WalkFault → Type 0
 RefusesRows rows fault.Memory = Unit {0}
 RefusesRows rows fault.TooManyDirs = SomeBroken TooManyDirs rows × ¬ SomeBroken Memory rows

@@ -1,4 +1,4 @@
--- What a walk answers, over any shared board.
+-- What each result of a walk over any shared board means.
 use Rattle.std.specs.Prelude.{◌≡◌, ℕ, ◌<◌, ◌≤◌, ◌++◌, Bool, true, false, List, length, slice_get, Some, Result, Ok, Err}
 use Rattle.lc_board.specs.ClosedBoard.{Promises}
 use Rattle.lc_board.specs.LegalHistory.{posts_under}
@@ -25,17 +25,17 @@ use Rattle.lc_walk.specs.declared.row.Row.{Row}
 use Rattle.lc_walk.specs.declared.walk_fault.WalkFault.{WalkFault}
 use Rattle.lc_walk.specs.declared.walk_fault.WalkFault.TheVariants.{Memory, TooManyDirs, TooDeep, Torn, Mismatch}
 
--- a tree that answers as one tree does, as far as a level tells, for each directory that names lead to in that one: nothing is asked of
--- what stands below a directory that is left out or can't be listed
+-- for each directory of `t` that a walk reaches, all answers that the tree may give there contribute what `t` contributes. Nothing is
+-- required below a directory that is skipped or can't be listed
 abbrev pub IsOneAnswer : FiltersModel → (List ℕ → Answers → Type 0) → JobModel → Tree → Type 0
 IsOneAnswer filters MayAnswer top t =
     (place : List (List ℕ)) (j : JobModel) → LeadsTo filters top t place j → (a : Answers) → MayAnswer j.path a →
     level filters j a ≡ level filters j (t (names_of_path j.path))
 
--- over a board of these promises
+-- for a board with these promises
 module _ (MayAnswer : List ℕ → Answers → Type 0) (ask : Asked) (capacity workers : ℕ) (top : JobModel) (promises : Promises) where
-  -- lawful rows in place for a legal history that is over, with the top job at 0, whose answers the tree may give; a post was answered
-  -- Full only where they fill all numbers, if the board promises that
+  -- rows of a legal history that is over, the top's at number 0. Each row is lawful with answers that the tree may give. If the board
+  -- promises it, a post was answered Full only where the rows fill all numbers
   pub record SomeRows : Type 0 where
     pub full : Bool
     pub history : List (Event JobModel Row)
@@ -45,8 +45,8 @@ module _ (MayAnswer : List ℕ → Answers → Type 0) (ask : Asked) (capacity w
     pub walked : Walked ask full capacity workers top history rows answers
     pub may : (i : ℕ) (e : Ended Row) → slice_get rows i ≡ Some e → MayAnswer (job_of (row_of e)).path (answers i)
 
-  -- the report is that of the recursive walk of the tree of such rows, none of them Broken; no path stands twice in a list, or in two
-  -- lists; and where the tree is a one-answer tree it is the report of the recursive walk of that tree
+  -- the report is that of the recursive walk of the tree that such rows make, none of which is Broken. No path is twice in a list, or in
+  -- two lists. If the tree has only one answer to each question, the report is that of the recursive walk of this tree
   pub record IsWalkReport (r : Report) : Type 0 where
     pub found : SomeRows
     pub whole : AreWhole found.rows
@@ -59,7 +59,7 @@ module _ (MayAnswer : List ℕ → Answers → Type 0) (ask : Asked) (capacity w
     pub one_answer : (t : Tree) → IsOneAnswer ask.filters MayAnswer top t →
         (depth : ℕ) → capacity ≤ depth → IsReportOf ask.lists (walk_of ask.filters depth top t) r
 
-  -- such rows, Broken ones allowed, of which one's listing has an entry that is too deep
+  -- rows as in `SomeRows`, of which some may be Broken: in the listing of one row's directory, an entry is too deep
   pub record IsTooDeepSomewhere : Type 0 where
     pub found : SomeRows
     pub number : ℕ
@@ -67,7 +67,8 @@ module _ (MayAnswer : List ℕ → Answers → Type 0) (ask : Asked) (capacity w
     pub is : slice_get found.rows number ≡ Some row
     pub deep : has_too_deep ask.filters (job_of (row_of row)) (found.answers number) ≡ true
 
-  -- such rows, Broken ones allowed, that fill all numbers, and of which one's directory has more child directories than were posted
+  -- rows as in `SomeRows`, of which some may be Broken: the rows fill all numbers, and the directory of one row has more child
+  -- directories than were posted
   pub record FillsAll : Type 0 where
     pub found : SomeRows
     pub filled : length found.rows ≡ capacity
@@ -77,7 +78,7 @@ module _ (MayAnswer : List ℕ → Answers → Type 0) (ask : Asked) (capacity w
     pub more : length (posts_under number found.history)
         < length (children_at ask.filters (job_of (row_of row)) (found.answers number))
 
-  -- what a walk answers
+  -- what each result of the walk means
   abbrev pub WalkAnswers : Result Report WalkFault → Type 0
   WalkAnswers (Ok r) = promises.keeps ≡ true → IsWalkReport r
   WalkAnswers (Err Memory) = Unit {0}

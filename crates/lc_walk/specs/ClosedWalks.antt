@@ -1,4 +1,4 @@
--- A closed walk.
+-- A walk whose board is closed.
 use Rattle.std.specs.Prelude.{◌≡◌, ℕ, ◌≤◌, Bool, List, [], length, slice_get, Option, Some, None, flat_map}
 use Rattle.lc_board.specs.LegalHistory.{IsLegal, IsOver}
 use Rattle.lc_board.specs.Numbers.{HasNumbers}
@@ -13,7 +13,7 @@ use Rattle.lc_walk.specs.Lawful.{Asked, IsLawful}
 use Rattle.lc_walk.specs.TreeOfRows.{numbers_below}
 use Rattle.lc_walk.specs.declared.row.Row.{Row}
 
--- a legal history that is over, with rows in place that are lawful with these answers
+-- the history is legal and over, and each number has its row, which is lawful with the number's answers
 pub record Walked (ask : Asked) (full : Bool) (capacity workers : ℕ) (top : JobModel)
     (h : List (Event JobModel Row)) (rows : List (Ended Row)) (answers : ℕ → Answers) : Type 0 where
   pub room : 1 ≤ capacity
@@ -23,15 +23,15 @@ pub record Walked (ask : Asked) (full : Bool) (capacity workers : ℕ) (top : Jo
   pub in_place : InPlace top h rows
   pub lawful : (i : ℕ) (e : Ended Row) → slice_get rows i ≡ Some e → IsLawful ask full h i e (answers i)
 
--- none is Broken
+-- no row is Broken
 abbrev pub AreWhole : List (Ended Row) → Type 0
 AreWhole rows = (i : ℕ) (e : Ended Row) → slice_get rows i ≡ Some e → IsWhole (row_of e)
 
--- what the row of a number found, by the answers with which it is lawful
+-- what the row of a number found, by the answers with which the row is lawful
 abbrev pub row_found : Asked → Option (Ended Row) → Answers → List Found
 row_found ask None a = []
 row_found ask (Some e) a = found_at ask.filters (job_of (row_of e)) a
 
--- what the rows found, by number
+-- what all rows found, in the order of their numbers
 abbrev pub rows_found : Asked → List (Ended Row) → (ℕ → Answers) → List Found
 rows_found ask rows answers = flat_map (λ i. row_found ask (slice_get rows i) (answers i)) (numbers_below (length rows))

@@ -1,4 +1,4 @@
--- The definitions of a level, computed on a small directory.
+-- The definitions of what a directory contributes, computed for a small directory.
 use Rattle.std.specs.Prelude.{◌≡◌, [], ◌∷◌, Ok, None, map, codes}
 use Rattle.lc_census.specs.declared.line_count.Count.{Count}
 use Rattle.lc_census.specs.declared.line_count.Eol.TheVariants.{Lf}
@@ -10,7 +10,7 @@ use Rattle.lc_level.specs.Job.{JobModel}
 use Rattle.lc_level.specs.Filters.{no_filters}
 use Rattle.lc_walk.specs.Lawful.{files_at}
 
--- the census of an empty file with one line
+-- the census of a file with one empty line
 abbrev pub one_line : Count
 one_line = record { lines = 1; blank = 1; bytes = 1; eol = Lf }
 
@@ -30,7 +30,7 @@ small_directory = record {
   info = Ok (file_item (codes "exclude") (Ok one_line) (Ok (codes "!k.o\nb/")) ∷ []);
 }
 
--- the rules of the directory's own file go before those of `.git/info`, and nothing of `.git` is counted
+-- the rules of the directory's own file override those of `.git/info`, and nothing in `.git` is counted
 pub record WalkExamplesHold : Type 0 where
   pub counted : map (λ f. f.path) (files_at no_filters example_top small_directory) ≡ codes ".gitignore" ∷ codes "c" ∷ []
   pub below : map (λ c. c.0) (children_at no_filters example_top small_directory) ≡ codes "d" ∷ []

@@ -6,13 +6,13 @@ abbrev pub after_last_dot : List ℕ → Option (List ℕ)
 after_last_dot [] = None
 after_last_dot (b ∷ bs) = elim (after_last_dot bs) [ Some e ↦ Some e | None ↦ cond (b == 46) (Some bs) None ]
 
--- nothing where there is nothing
+-- these bytes, if there is at least one
 abbrev pub if_some_bytes : Option (List ℕ) → Option (List ℕ)
 if_some_bytes None = None
 if_some_bytes (Some []) = None
 if_some_bytes (Some (b ∷ bs)) = Some (b ∷ bs)
 
--- what follows the last dot, where that dot is not the first byte and something follows it
+-- the bytes after the last dot of a name, if this dot is not the first byte and not the last
 abbrev pub extension_of : List ℕ → Option (List ℕ)
 extension_of [] = None
 extension_of (b ∷ bs) = if_some_bytes (after_last_dot bs)

@@ -1,4 +1,4 @@
--- What a walk finds, said without the walk: gitignore(5), PATTERN FORMAT, on files below a directory that is ignored.
+-- What a walk finds, stated without the walk: gitignore(5), PATTERN FORMAT, on files below a directory that is ignored.
 use Rattle.std.specs.Prelude.{◌≡◌, ◌⊎◌, ℕ, ◌<◌, true, List, [], ◌∷◌, length, Ok}
 use Rattle.std.specs.List.{Contains}
 use Rattle.lc_glob.specs.Path.{path_in}
@@ -12,7 +12,8 @@ use Rattle.lc_level.specs.declared.fault_word.FaultWord.TheVariants.{Absent}
 use Rattle.lc_walk.specs.Found.{Found, found_file, found_fault, found_directory, found_skipped}
 use Rattle.lc_walk.specs.RecursiveWalk.{walk_of}
 
--- the directory of a job is listed without a fault, and so are its rule files read: its items, and its job with these files
+-- the directory of a job is listed, and its rule files are read, without an error. `items` is the listing, and `inside` is the job with
+-- these rule files
 pub record IsListed (j : JobModel) (a : Answers) (items : List Item) (inside : JobModel) : Type 0 where
   pub here : a.here ≡ Ok items
   pub bytes : RuleBytes
@@ -20,28 +21,28 @@ pub record IsListed (j : JobModel) (a : Answers) (items : List Item) (inside : J
   pub is : inside ≡ extended j bytes
 
 module _ (filters : FiltersModel) where
-  -- so many of its entries take part
+  -- the directory is listed, and this many of its entries are selected by the requested paths
   pub record HasEntries (j : JobModel) (a : Answers) (entries : ℕ) : Type 0 where
     pub items : List Item
     pub inside : JobModel
     pub listed : IsListed j a items inside
     pub many : entries ≡ length (part_of filters.only j.path items)
 
-  -- it has a directory of this name that takes part, which is not `.git`, which the last rule that matches it does not ignore, and
-  -- which the filters does not leave out
+  -- the directory has a child directory of this name that the requested paths select, that is not `.git`, that the last matching rule
+  -- does not ignore, and that the filters do not skip
   pub record WalksInto (j : JobModel) (a : Answers) (name : List ℕ) (inside : JobModel) : Type 0 where
     pub items : List Item
     pub listed : IsListed j a items inside
     pub has : Contains (part_of filters.only j.path items) (directory_item name)
     pub taken : is_taken filters inside name true ≡ true
 
-  -- each directory down these names leaves in the next; the job of the last
+  -- the walk descends from the directory of `j` along these names, each the name of a child directory; `k` is the job of the last
   abbrev pub LeadsTo : JobModel → Tree → List (List ℕ) → JobModel → Type 0
   LeadsTo j t [] k = j ≡ k
   LeadsTo j t (name ∷ place) k =
       (inside : JobModel) × WalksInto j (t []) name inside × LeadsTo (child_job inside name) (λ p. t (name ∷ p)) place k
 
-  -- it has an entry of this name that takes part, whose fate is this under its rule files and the filters
+  -- the directory has an entry of this name that the requested paths select. By its rule files and the filters, the entry has this fate
   pub record HasEntry (j : JobModel) (a : Answers) (name : List ℕ) (fate : Fate) : Type 0 where
     pub items : List Item
     pub inside : JobModel
@@ -51,15 +52,15 @@ module _ (filters : FiltersModel) where
     pub named : name_of item ≡ name
     pub fate_is : fate_of filters inside item ≡ fate
 
-  -- a path is asked for that stands below it, seen from it, and none of its entries leads there
+  -- a path below the directory is requested, but none of its entries leads there; `rest` is that path relative to the directory
   pub record HasAbsent (j : JobModel) (a : Answers) (rest : List ℕ) : Type 0 where
     pub items : List Item
     pub inside : JobModel
     pub listed : IsListed j a items inside
     pub absent : Contains (absent_from filters.only j.path items) rest
 
-  -- what a directory gives: itself with the number of its entries that take part; its counted files; the faults of its files, of itself,
-  -- or of what is absent; what is left out of it
+  -- what a directory contributes: itself, with the number of its selected entries; its counted files; the errors of its files, of itself,
+  -- or of absent paths; its skipped entries
   abbrev pub Gives : JobModel → Answers → Found → Type 0
   Gives j a (found_directory path entries) = (path ≡ j.path) × HasEntries j a entries
   Gives j a (found_file directory f) = (directory ≡ j.path) × HasEntry j a f.path (counted f)
@@ -69,7 +70,7 @@ module _ (filters : FiltersModel) where
       ⊎ ((rest : List ℕ) × (path ≡ path_in j.path rest) × (word ≡ Absent) × HasAbsent j a rest)
   Gives j a (found_skipped directory l) = (directory ≡ j.path) × HasEntry j a l.path (skipped l.kind l.reason)
 
-  -- a directory that such names lead to gives it
+  -- a directory that the walk reaches contributes `x`; this directory is fewer than `depth` levels below the top
   pub record IsFoundIn (depth : ℕ) (top : JobModel) (t : Tree) (x : Found) : Type 0 where
     pub place : List (List ℕ)
     pub shallow : length place < depth
@@ -77,7 +78,7 @@ module _ (filters : FiltersModel) where
     pub leads : LeadsTo top t place job
     pub gives : Gives job (t place) x
 
--- what the recursive walk of a tree finds is this, and nothing else
+-- the recursive walk of a tree finds what the directories that it reaches contribute, and nothing else
 abbrev pub FoundLaw : Type 0
 FoundLaw =
     (filters : FiltersModel) (depth : ℕ) (top : JobModel) (t : Tree) (x : Found) →

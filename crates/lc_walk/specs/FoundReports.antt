@@ -50,8 +50,8 @@ entries_in (found_fault path word) = 0
 entries_in (found_directory path entries) = entries
 entries_in (found_skipped directory l) = 0
 
--- the files as the tally needs them, the lines of files, faults and entries left out, the listed directories, the number of
--- their entries
+-- of all that was found: the files as the tally needs them; the lines of files, errors and skipped entries; the listed directories and
+-- the number of their entries
 abbrev pub tallied_of : List Found → List CountedFile
 tallied_of xs = flat_map tallied_in xs
 
@@ -70,8 +70,8 @@ skipped_lines_of xs = flat_map skipped_lines_in xs
 abbrev pub entry_count : List Found → ℕ
 entry_count xs = sum_by entries_in xs
 
--- its tally, totals, number of listed directories and of their entries, files and entries left out if asked for, and faults, each
--- list in order of paths' bytes
+-- the report of what was found has its tally and totals, the numbers of listed directories and of their entries, its errors, and the lists
+-- of files and of skipped entries if they are requested. Each list is in the order of the bytes of the paths
 pub record IsReportOf (lists : ReportLists) (xs : List Found) (r : Report) : Type 0 where
   pub lists_are : r.lists ≡ lists
   pub tally : IsTally (tallied_of xs) r.rows.items
@@ -85,6 +85,6 @@ pub record IsReportOf (lists : ReportLists) (xs : List Found) (r : Report) : Typ
   pub skipped_are : IsPermutation (if lists.left_out then skipped_lines_of xs else []) r.skipped.items
   pub skipped_order : IsSortedByKey (λ (l : SkippedLineModel). l.path) bytes_cmp r.skipped.items
 
--- it tells nothing of the order in which things were found
+-- a report of what was found is also a report of this in any other order
 abbrev pub ReportLaw : Type 0
 ReportLaw = (lists : ReportLists) (xs ys : List Found) (r : Report) → IsPermutation xs ys → IsReportOf lists xs r → IsReportOf lists ys r

@@ -1,4 +1,4 @@
--- What a walk of included files finds, by what the walk of all files finds.
+-- What a walk with `include` patterns finds, compared with the walk without these patterns.
 use Rattle.std.specs.Prelude.{◌≡◌, ℕ, Bool, List, [], ◌∷◌, filter, Option, None, option_map}
 use Rattle.std.specs.List.{flat_map}
 use Rattle.lc_glob.specs.Path.{path_in}
@@ -21,16 +21,16 @@ counted_in (found_skipped directory l) = []
 abbrev pub counted_of : List Found → List (List ℕ × FileLineModel)
 counted_of xs = flat_map counted_in xs
 
--- whether patterns include one of them
+-- whether the patterns include this counted file
 abbrev pub includes : Option (List RuleModel) → List ℕ × FileLineModel → Bool
 includes patterns file = is_included (patterns_for patterns file.0) (path_in file.0 file.1.path)
 
--- of the counted files of all those that are included, in the same order, and the same directories
+-- `part` has the counted files of `all` that the patterns include, in the same order, and the same directories as `all`
 pub record IsIncludedPart (patterns : Option (List RuleModel)) (all part : List Found) : Type 0 where
   pub files : counted_of part ≡ filter (includes patterns) (counted_of all)
   pub directories : directories_of part ≡ directories_of all
 
--- so it is of each walk
+-- each walk with `include` patterns finds the included part of what the walk without them finds
 abbrev pub IncludeLaw : Type 0
 IncludeLaw =
     (filters : FiltersModel) (patterns : Option (List ℕ)) (depth : ℕ) (top : JobModel) (t : Tree)

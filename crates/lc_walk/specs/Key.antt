@@ -9,7 +9,7 @@ use Rattle.lc_census.specs.declared.line_count.Eol.TheVariants.{NoEnd, Lf, CrLf,
 use Rattle.lc_rules.specs.declared.states.TextState.{TextState}
 use Rattle.lc_rules.specs.declared.states.TextState.TheVariants.{Set, Unset, Auto, Other, Unspecified}
 
--- what the files of one row have in common
+-- what the files of one row of a tally have in common
 pub record Key : Type 0 where
   pub extension : Option (List ℕ)
   pub text : TextState
@@ -32,19 +32,19 @@ eol_place Cr = 3
 eol_place Mixed = 4
 eol_place Nul = 5
 
--- no extension comes first, then extensions by their bytes
+-- compares keys by extension: no extension comes first, then extensions by their bytes
 abbrev pub by_extension : Key → Key → Ordering
 by_extension = on (λ (k : Key). k.extension) (option_cmp (slice_cmp nat_cmp))
 
--- by the text state
+-- compares keys by text state
 abbrev pub by_text : Key → Key → Ordering
 by_text = on (λ (k : Key). text_place k.text) nat_cmp
 
--- by the class of line ends
+-- compares keys by class of line ends
 abbrev pub by_eol : Key → Key → Ordering
 by_eol = on (λ (k : Key). eol_place k.eol) nat_cmp
 
--- the order of keys: by extension, then by text state, then by class
+-- the order of keys: by extension, then by text state, then by class of line ends
 unfoldable pub key_cmp : Key → Key → Ordering
 key_cmp = then_cmp by_extension (then_cmp by_text by_eol)
 

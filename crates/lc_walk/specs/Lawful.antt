@@ -1,4 +1,4 @@
--- When a row says the truth of its directory.
+-- When a row is true of its directory.
 use Rattle.std.specs.Prelude.{◌≡◌, ℕ, ◌<◌, Bool, true, false, if◌then◌else◌, List, [], ◌∷◌, ◌++◌, length, map, take, Some}
 use Rattle.lc_board.specs.LegalHistory.{posts_under}
 use Rattle.lc_board.specs.RowsInPlace.{job_got}
@@ -24,7 +24,7 @@ use Rattle.lc_walk.specs.declared.row.BrokenRow.{BrokenRow}
 use Rattle.lc_walk.specs.declared.row.Row.{Row}
 use Rattle.lc_walk.specs.declared.row.Row.TheVariants.{Listed, Faulted, Broken}
 
--- what was asked of a walk: the lists of its report, and what decides beside the rules which entries are left out
+-- what was requested of a walk: the lists of its report, and the filters that decide besides the rules which entries are skipped
 pub record Asked : Type 0 where
   pub lists : ReportLists
   pub filters : FiltersModel
@@ -33,7 +33,7 @@ abbrev pub counted_files : Level → List FileLineModel
 counted_files (faulted_level path word) = []
 counted_files (listed_level fates absent) = counted_in fates
 
--- the counted files of a directory of these answers
+-- the counted files of a directory with these answers
 abbrev pub files_at : FiltersModel → JobModel → Answers → List FileLineModel
 files_at filters j a = counted_files (level filters j a)
 
@@ -47,8 +47,8 @@ named [] posts = []
 named (c ∷ cs) [] = []
 named (c ∷ cs) (p ∷ ps) = record { name = c.0; number = p.0 } ∷ named cs ps
 
--- a directory that was listed: all that its row has is by the fates of its entries that take part, of which none is too deep, and by
--- what is absent
+-- the row of a listed directory is true: it has what the fates of the directory's selected entries say, and the requested paths that are
+-- absent. No entry is too deep
 pub record SaysListed (ask : Asked) (r : ListedRowModel) (a : Answers) (posts : List (ℕ × JobModel)) : Type 0 where
   pub fates : List (List ℕ × Fate)
   pub absent : List (List ℕ)
@@ -61,24 +61,25 @@ pub record SaysListed (ask : Asked) (r : ListedRowModel) (a : Answers) (posts : 
   pub children_are : r.children ≡ named (walked_in fates) posts
   pub shallow : has_too_deep ask.filters r.job a ≡ false
 
--- a directory at fault: nothing was posted
+-- the row of a directory that could not be read is true: it has the error, and no child directory was posted
 pub record SaysFaulted (ask : Asked) (r : FaultedRow) (a : Answers) (posts : List (ℕ × JobModel)) : Type 0 where
   pub level_is : level ask.filters r.job a ≡ faulted_level (site_path r.job.path r.site) r.word
   pub posts_are : posts ≡ []
 
--- why a directory was broken off, by what was posted; `full` says whether a post of the row's pass was answered Full
+-- the cause why a worker stopped work on a directory is true, given what was posted; `full` says whether some post of the row's pass was
+-- answered Full
 abbrev pub IsCause : Asked → Bool → JobModel → Answers → List (ℕ × JobModel) → BrokenCause → Type 0
 IsCause ask full j a posts Memory = Unit {0}
 IsCause ask full j a posts TooManyDirs = (full ≡ true) × (length posts < length (children_at ask.filters j a))
 IsCause ask full j a posts TooDeep = has_too_deep ask.filters j a ≡ true
 
--- a directory that was broken off: the first of its children were posted
+-- the row of a directory on which a worker stopped work is true: its cause is true, and the first of the child directories were posted
 pub record SaysBroken (ask : Asked) (full : Bool) (r : BrokenRow) (a : Answers) (posts : List (ℕ × JobModel)) : Type 0 where
   pub posted : ℕ
   pub posts_are : jobs_of posts ≡ take posted (jobs_of (children_at ask.filters r.job a))
   pub cause_is : IsCause ask full r.job a posts r.cause
 
--- a Faulted row is given by Fault, the others by Return
+-- a row is true, and ended its number in the right way: a Faulted row by the event Fault, other rows by the event Return
 abbrev pub Says : Asked → Bool → Ended Row → Answers → List (ℕ × JobModel) → Type 0
 Says ask full (ended.Returned (Listed r)) a posts = SaysListed ask r a posts
 Says ask full (ended.Returned (Faulted r)) a posts = ⊥
@@ -87,7 +88,7 @@ Says ask full (ended.Faulted (Listed r)) a posts = ⊥
 Says ask full (ended.Faulted (Faulted r)) a posts = SaysFaulted ask r a posts
 Says ask full (ended.Faulted (Broken r)) a posts = ⊥
 
--- the row of a number is lawful with these answers in a history, which may be one pass's own list
+-- the row of a number is lawful with these answers: it is true of them and of the history, which may be the events of one pass
 pub record IsLawful (ask : Asked) (full : Bool) (h : List (Event JobModel Row)) (i : ℕ) (e : Ended Row) (a : Answers) : Type 0 where
   pub job_is : job_got h i ≡ Some (job_of (row_of e))
   pub well_formed : IsWellFormed a

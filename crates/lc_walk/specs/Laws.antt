@@ -20,7 +20,7 @@ use Rattle.lc_walk.specs.TreeOfRows.{tree_from, children_by_rows, tree_of_rows, 
 use Rattle.lc_walk.specs.ClosedWalks.{Walked, AreWhole, rows_found}
 use Rattle.lc_walk.specs.declared.row.Row.{Row}
 
--- what a walk of the tree of rows finds is what the rows found, for every depth that the capacity allows
+-- the recursive walk of the tree that the rows make finds what the rows found, for every depth that is at least the capacity
 abbrev pub CoreLaw : Type 0
 CoreLaw =
     (ask : Asked) (full : Bool) (capacity workers : ℕ) (top : JobModel)
@@ -28,13 +28,13 @@ CoreLaw =
     Walked ask full capacity workers top h rows answers → AreWhole rows → (depth : ℕ) → capacity ≤ depth →
     IsPermutation (walk_of ask.filters depth top (tree_of_rows rows answers)) (rows_found ask rows answers)
 
--- a walk of that tree that notes each directory's number
+-- what the recursive walk of the tree of rows finds if it notes only each directory's number
 abbrev pub walk_numbers : Asked → ℕ → JobModel → List (Ended Row) → (ℕ → Answers) → List ℕ
 walk_numbers ask depth top rows answers =
     walk_by (λ j (a : ℕ × Answers). a.0 ∷ []) (λ j (a : ℕ × Answers). children_at ask.filters j a.1) depth top
     (tree_from (0, no_answers) (λ i. (i, answers i)) (children_by_rows rows) 0)
 
--- each number stands once in the tree of rows
+-- each number occurs once in the tree of rows
 abbrev pub NumbersLaw : Type 0
 NumbersLaw =
     (ask : Asked) (full : Bool) (capacity workers : ℕ) (top : JobModel)
@@ -42,8 +42,8 @@ NumbersLaw =
     Walked ask full capacity workers top h rows answers → AreWhole rows → (depth : ℕ) → capacity ≤ depth →
     IsPermutation (walk_numbers ask depth top rows answers) (numbers_below (length rows))
 
--- where each row's level is that of one tree's answers at its path, a walk of that tree finds what the rows found. The answers
--- may differ in what a level does not read, as in a file that is ignored
+-- if each row's level is what one tree's answers at the row's path make, the recursive walk of this tree finds what the rows found. The
+-- answers may differ in what a level does not read, such as a file that is ignored
 abbrev pub OneAnswerLaw : Type 0
 OneAnswerLaw =
     (t : Tree) (ask : Asked) (full : Bool) (capacity workers : ℕ) (top : JobModel)
@@ -55,13 +55,13 @@ OneAnswerLaw =
     (depth : ℕ) → capacity ≤ depth →
     IsPermutation (walk_of ask.filters depth top t) (rows_found ask rows answers)
 
--- a row that is lawful in a worker's part is lawful in the whole history
+-- a row that is lawful in the events of one worker is lawful in the history of all workers
 abbrev pub PartLaw : Type 0
 PartLaw =
     (ask : Asked) (full : Bool) (capacity workers w i : ℕ) (h : List (Event JobModel Row)) (e : Ended Row) (a : Answers) →
     IsLegal capacity workers h → IsLawful ask full (part w h) i e a → IsLawful ask full h i e a
 
--- no path stands twice in what a walk of a tree with well-formed listings finds: files, faults, directories and entries left out
+-- no path occurs twice in what a walk finds of a tree with well-formed listings: files, errors, directories and skipped entries
 abbrev pub PathsOnceLaw : Type 0
 PathsOnceLaw =
     (filters : FiltersModel) (depth : ℕ) (j : JobModel) (t : Tree) → ((place : List (List ℕ)) → IsWellFormed (t place)) →

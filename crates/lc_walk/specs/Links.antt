@@ -1,4 +1,4 @@
--- Which numbers were found to be linked, while the rows' children are gone through in order.
+-- Which numbers are known to be linked after a part of the rows' children was checked, in order.
 use Rattle.std.specs.Prelude.{◌≡◌, ℕ, ◌<◌, ◌≤◌, Bool, true, false, ◌⊎◌, List, length, slice_get, Some}
 use Rattle.lc_board.specs.declared.answers.Ended.{Ended}
 use Rattle.lc_glob.specs.Path.{path_in}
@@ -15,7 +15,7 @@ use Rattle.lc_walk.specs.declared.report.tree_check.TreeFault.TheVariants.{Memor
 abbrev pub Seen : ℕ → ℕ → ℕ → ℕ → Type 0
 Seen at j p i = (p < at) ⊎ ((p ≡ at) × (i < j))
 
--- the number is linked, as far as was seen
+-- one of the children seen so far has this number, with the right path, and no other child seen so far has it
 pub record IsLinkedSoFar (rows : List (Ended Row)) (at j k : ℕ) : Type 0 where
   pub row : Ended Row
   pub its : slice_get rows k ≡ Some row
@@ -27,25 +27,25 @@ pub record IsLinkedSoFar (rows : List (Ended Row)) (at j k : ℕ) : Type 0 where
   pub path : (job_of (row_of row)).path ≡ path_in (job_of (row_of edge.above)).path edge.child.name
   pub only : (p i : ℕ) → Seen at j p i → IsEdge rows p i k → (p ≡ parent) × (i ≡ place)
 
--- a number is marked exactly where it is linked so; where it is not marked no row named it
+-- each marked number is linked by the children seen so far; a number that is not marked is that of none of these children
 pub record AreLinked (rows : List (Ended Row)) (at j : ℕ) (linked : List Bool) : Type 0 where
   pub long : length linked ≡ length rows
   pub unnamed : (k : ℕ) → 1 ≤ k → slice_get linked k ≡ Some false → (p i : ℕ) → Seen at j p i → IsEdge rows p i k → ⊥
   pub links : (k : ℕ) → 1 ≤ k → slice_get linked k ≡ Some true → IsLinkedSoFar rows at j k
 
--- the child is that at the place j of the row `at`
+-- this is the child at the place j of the row `at`
 pub record IsNext (rows : List (Ended Row)) (at j : ℕ) (child : ChildModel) : Type 0 where
   pub above : Ended Row
   pub is : slice_get rows at ≡ Some above
   pub here : slice_get (children_in (row_of above)) j ≡ Some child
 
--- the path of a number's directory
+-- the directory with this number has this path
 pub record IsPathAt (rows : List (Ended Row)) (k : ℕ) (path : List ℕ) : Type 0 where
   pub row : Ended Row
   pub is : slice_get rows k ≡ Some row
   pub path_is : (job_of (row_of row)).path ≡ path
 
--- why rows are refused
+-- why the check of the rows fails
 abbrev pub RefusesTree : List (Ended Row) → TreeFault → Type 0
 RefusesTree rows Memory = Unit {0}
 RefusesTree rows (Torn n) = IsPlaced rows n → ⊥

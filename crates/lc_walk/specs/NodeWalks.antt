@@ -1,4 +1,4 @@
--- A walk of a tree of memory.
+-- A walk of an in-memory tree.
 use Rattle.std.specs.Prelude.{◌≡◌, ℕ, ◌≤◌, true, Ok}
 use Rattle.lc_board.specs.ClosedBoard.{Promises}
 use Rattle.lc_level.specs.Job.{JobModel}
@@ -14,13 +14,13 @@ use Rattle.lc_walk.specs.BoardAnswers.{IsOneAnswer, WalkAnswers}
 use Rattle.lc_walk.specs.FoundReports.{IsReportOf}
 use Rattle.lc_walk.specs.declared.report.Report.{Report}
 
--- a tree of memory answers as the one tree that its node stands for
+-- an in-memory tree always answers as the tree that its node describes
 abbrev pub NodeOneAnswerLaw : Type 0
 NodeOneAnswerLaw =
     (top : Node) → FitsMemory top → (filters : FiltersModel) (job : JobModel) →
     IsOneAnswer filters (MayAnswer (mem_lists top) (mem_gives top)) job (tree_of_node top)
 
--- the report of its walk, for which it may have answered in any way that it may, is that of the recursive walk of that one tree
+-- each report of a walk of an in-memory tree is that of the recursive walk of the tree that its node describes
 abbrev pub NodeReportLaw : Type 0
 NodeReportLaw =
     (top : Node) → FitsMemory top → (ask : Asked) (capacity workers : ℕ) (job : JobModel) (promises : Promises) (r : Report) →

@@ -17,40 +17,40 @@ use Rattle.lc_walk.specs.FoundAt.{LeadsTo}
 use Rattle.lc_walk.specs.GivenAnswers.{HasListings}
 use Rattle.lc_walk.specs.RecursiveWalk.{walk_of}
 
--- a path stands below another
+-- a path is below another
 abbrev pub IsBelow : List ℕ → List ℕ → Type 0
 IsBelow path other = (rest : List ℕ) × (path ≡ other ++ slash ∷ rest)
 
 module _ (only : List (List ℕ)) where
-  -- it stands at or below one of those that are asked for
+  -- the path is one of the requested paths or below one
   abbrev pub IsWithin : List ℕ → Type 0
   IsWithin path = (asked : List ℕ) × Contains only asked × ((path ≡ asked) ⊎ IsBelow path asked)
 
-  -- one of them stands below it
+  -- a requested path is below this path
   abbrev pub IsAbove : List ℕ → Type 0
   IsAbove path = (asked : List ℕ) × Contains only asked × IsBelow asked path
 
-  -- what of all entries takes part: those within, and the directories above
+  -- the requested paths select this entry: it is at or below one of them, or is a directory above one
   abbrev pub EntryTakesPart : Kind → List ℕ → Type 0
   EntryTakesPart kind path = IsWithin path ⊎ ((is_dir kind ≡ true) × IsAbove path)
 
-  -- what of all directories is listed: the top, those within, and those above
+  -- a directory at this path is listed: the path is the top's, or is at, below or above a requested path
   abbrev pub IsOnWay : List ℕ → Type 0
   IsOnWay path = (path ≡ []) ⊎ (IsWithin path ⊎ IsAbove path)
 
--- a directory at a path is listed
+-- the walk that found `xs` listed the directory at this path
 abbrev pub ListsPath : List Found → List ℕ → Type 0
 ListsPath xs path = (entries : ℕ) × Contains xs (found_directory path entries)
 
 module _ (filters : FiltersModel) (only : List (List ℕ)) (depth : ℕ) (top : JobModel) (t : Tree) where
-  -- what is found in the whole tree, and of these paths
+  -- what the walk of the whole tree finds, and what the walk of only these paths finds
   abbrev pub whole_walk : List Found
   whole_walk = walk_of (narrowed filters []) depth top t
 
   abbrev pub part_walk : List Found
   part_walk = walk_of (narrowed filters only) depth top t
 
-  -- a directory that is on the way is at fault, or one of its rule files is
+  -- this error is about a directory on the way to the requested paths, or about one of its rule files
   pub record IsFaultOnWay (path : List ℕ) (word : FaultWord) : Type 0 where
     pub place : List (List ℕ)
     pub shallow : length place < depth
@@ -59,8 +59,9 @@ module _ (filters : FiltersModel) (only : List (List ℕ)) (depth : ℕ) (top : 
     pub on_way : IsOnWay only job.path
     pub fault : level (narrowed filters []) job (t place) ≡ faulted_level path word
 
-  -- of the whole the part has the counted files that stand within, the entries left out that take part, the directories on the way, and
-  -- the faults within or of directories on the way, and all of these; each other fault is of a path that is asked for and absent
+  -- of what the walk of the whole tree finds, the part has exactly these: the counted files at or below the requested paths, the skipped
+  -- entries that the paths select, the directories on the way, and the errors at or below the paths or about directories on the way. Each
+  -- other error of the part is about a requested path that is absent
   pub record IsPartOfWalk (part : List Found) : Type 0 where
     pub file : (directory : List ℕ) (f : FileLineModel) → Contains part (found_file directory f) →
         Contains whole_walk (found_file directory f) × IsWithin only (path_in directory f.path)
@@ -78,22 +79,22 @@ module _ (filters : FiltersModel) (only : List (List ℕ)) (depth : ℕ) (top : 
     pub has_fault : (path : List ℕ) (word : FaultWord) → Contains whole_walk (found_fault path word) →
         IsWithin only path ⊎ IsFaultOnWay path word → Contains part (found_fault path word)
 
-  -- where a walk of the whole tree with these answers and one of these paths with others ask the same directory, both answers give the
-  -- latter one level: they may differ in what it doesn't read, as in a file that is left out
+  -- wherever the walk of the whole tree `t` and the walk of these paths in the tree `u` read the same directory, both trees' answers make
+  -- one level for the walk of these paths. The answers may differ in what this walk doesn't read, such as a skipped file
   abbrev pub AnswerAlike : Tree → Type 0
   AnswerAlike u =
       (place : List (List ℕ)) (k : JobModel) → LeadsTo (narrowed filters []) top t place k
       → LeadsTo (narrowed filters only) top u place k
       → level (narrowed filters only) k (u place) ≡ level (narrowed filters only) k (t place)
 
--- so it is of two such walks, for some paths that entries can have
+-- the walk of some paths in `u` finds its part of what the walk of the whole tree `t` finds, if their answers are alike
 abbrev pub TwoWalksLaw : Type 0
 TwoWalksLaw =
     (filters : FiltersModel) (only : List (List ℕ)) → only ≢ [] → AllByRecursion (λ path. is_good_path path ≡ true) only →
     (depth : ℕ) (top : JobModel) (t u : Tree) → top.path ≡ [] → HasListings (narrowed filters []) top t →
     AnswerAlike filters only depth top t u → IsPartOfWalk filters only depth top t (part_walk filters only depth top u)
 
--- and of each tree with well-formed listings
+-- the walk of some paths finds its part of what the walk of the whole tree finds, in each tree with well-formed listings
 abbrev pub PartOfWalkLaw : Type 0
 PartOfWalkLaw =
     (filters : FiltersModel) (only : List (List ℕ)) → only ≢ [] → AllByRecursion (λ path. is_good_path path ≡ true) only →

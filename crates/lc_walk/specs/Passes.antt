@@ -1,4 +1,4 @@
--- A board that is closed: what must be so of it, and what its passes have done by then.
+-- Closing a board: what the call requires, and what the workers of its passes have done before.
 use Rattle.std.specs.Prelude.{◌≡◌, ℕ, ◌≤◌, List, [], length, slice_get, Some}
 use Rattle.lc_board.specs.Limits.{capacity_limit}
 use Rattle.lc_board.specs.Pass.{Pass}
@@ -11,8 +11,8 @@ use Rattle.lc_walk.specs.WorkerResults.{AreLawful, FoundOver, files_of_passes}
 use Rattle.lc_walk.specs.declared.options.ReportLists.{ReportLists}
 use Rattle.lc_walk.specs.declared.row.Row.{Row}
 
--- a board of this capacity and number of workers may be closed with these passes: it has room, workers and the top of a tree, and they are
--- its own, one for each worker, in order
+-- a board of this capacity and number of workers may be closed with these passes. The board has room, workers and the top of a tree. The
+-- passes are the board's own, one for each worker, in order
 pub record IsClosable {P : Type 0} (capacity count : ℕ) (IsRoot : JobModel → Type 0) (Owns : P → Type 0)
     (view : P → Pass JobModel Row) (passes : List P) : Type 0 where
   pub room : (1 ≤ capacity) × (capacity ≤ capacity_limit)
@@ -21,7 +21,7 @@ pub record IsClosable {P : Type 0} (capacity count : ℕ) (IsRoot : JobModel →
   pub all : length passes ≡ count
   pub each : (w : ℕ) (p : P) → slice_get passes w ≡ Some p → Owns p × ((view p).worker ≡ w)
 
--- each pass gave lawful rows and has found the board over, and the tally is that of the files of all rows returned as Listed
+-- the worker of each pass has added lawful rows and has found the board over. The tally is that of the files of all Listed rows
 pub record HaveWorked (ask : Asked) (MayAnswer : List ℕ → Answers → Type 0)
     (passes : List (Pass JobModel Row)) (tally : TallyModel) : Type 0 where
   pub given : ℕ → List Answers

@@ -1,4 +1,4 @@
--- What posting child directories leaves of a pass.
+-- How posting child directories changes a worker's pass.
 use Rattle.std.specs.Prelude.{◌≡◌, ℕ, ◌<◌, true, List, ◌++◌, length, take, Vec, Result, Ok, Err}
 use Rattle.std.specs.Global.{Global}
 use Rattle.std.specs.List.{AllByRecursion}
@@ -20,7 +20,7 @@ IsPost (Return w i r) = ⊥
 IsPost (Fault w i r) = ⊥
 IsPost (Over w) = ⊥
 
--- from one pass to a later one nothing was done but to post these jobs, in order
+-- between the old state of a pass and the new one, the worker only posted these jobs, in order
 pub record HasPosted (old new : Pass JobModel Row) (jobs : List JobModel) : Type 0 where
   pub worker : new.worker ≡ old.worker
   pub fuller : old.full ≡ true → new.full ≡ true
@@ -29,20 +29,20 @@ pub record HasPosted (old new : Pass JobModel Row) (jobs : List JobModel) : Type
   pub only : AllByRecursion IsPost since
   pub jobs_are : jobs_of (posts_held since) ≡ jobs
 
--- why not all were posted, but the first of them: fewer than all, where a post was refused
+-- why only the first of the jobs were posted. With the cause TooManyDirs, they are fewer than all
 abbrev pub RefusesPost : List JobModel → Pass JobModel Row → Pass JobModel Row → BrokenCause → Type 0
 RefusesPost jobs old new Memory = (n : ℕ) × HasPosted old new (take n jobs)
 RefusesPost jobs old new TooManyDirs = (n : ℕ) × HasPosted old new (take n jobs) × (new.full ≡ true) × (n < length jobs)
 RefusesPost jobs old new TooDeep = ⊥
 
--- what posting child directories after others answers: their names with the numbers of the posts come to those of the others
+-- what each result of posting further child directories means: their names and numbers are appended to those posted before
 abbrev pub PostsMore : List (List ℕ × JobModel) → Pass JobModel Row → Pass JobModel Row →
     List ChildModel → List ChildModel → Result (Unit {0}) BrokenCause → Type 0
 PostsMore children old new before after (Ok _) =
     (p : HasPosted old new (jobs_of children)) × (after ≡ before ++ named children (posts_held p.since))
 PostsMore children old new before after (Err cause) = RefusesPost (jobs_of children) old new cause
 
--- what posting child directories answers: their names with the numbers of the posts
+-- what each result of posting child directories means: the names of the directories with the numbers of their posts
 abbrev pub PostsChildren : List (List ℕ × JobModel) → Pass JobModel Row → Pass JobModel Row
     → Result (Vec ChildModel Global) BrokenCause → Type 0
 PostsChildren children old new (Ok posted) =

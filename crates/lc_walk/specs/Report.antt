@@ -11,8 +11,8 @@ use Rattle.lc_walk.specs.declared.report.Report.{Report}
 use Rattle.lc_walk.specs.declared.report.findings.Findings.{Findings}
 use Rattle.lc_level.specs.Level.{SkippedLineModel, FileLineModel}
 
--- the report of a tally and of findings, by the lists that were asked for: each list of lines in order of their paths' bytes,
--- strictly where no path stands twice in it
+-- the report made from a tally and findings, with the requested lists. Each list is in the order of the bytes of the paths, strictly if no
+-- path is in it twice
 pub record IsReport (t : TallyModel) (lists : ReportLists) (found : Findings) (r : Report) : Type 0 where
   pub lists_are : r.lists ≡ lists
   pub tally : (fs : List CountedFile) → StandsFor t fs → IsTally fs r.rows.items

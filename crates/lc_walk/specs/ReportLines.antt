@@ -7,10 +7,10 @@ use Rattle.lc_level.specs.Level.{FileLineModel, SkippedLineModel}
 abbrev pub file_paths : List FileLineModel → List (List ℕ)
 file_paths fs = map (λ f. f.path) fs
 
--- the paths of faults, in order
+-- the paths of errors, in order
 abbrev pub fault_paths : List FaultLineModel → List (List ℕ)
 fault_paths fs = map (λ f. f.path) fs
 
--- the paths of entries left out, in order
+-- the paths of skipped entries, in order
 abbrev pub skipped_paths : List SkippedLineModel → List (List ℕ)
 skipped_paths ls = map (λ l. l.path) ls

@@ -16,12 +16,13 @@ use Rattle.lc_walk.specs.declared.report.Report.{Report}
 abbrev pub counted_line : FileLineModel → CountedFile
 counted_line f = counted (extension_of (after_last (is_byte slash) f.path)) f.text f.count
 
--- the totals are the sums over the rows; where the report lists its files, they are the sums over these, and the rows are their tally
+-- the totals are the sums over the rows. If the report lists its files, the totals are also the sums over the files, and the rows are the
+-- files' tally
 pub record TotalsAddUp (r : Report) : Type 0 where
   pub rows : r.totals ≡ sums_of_rows r.rows.items
   pub files : r.lists.files ≡ true → r.totals ≡ sums_of_files (map counted_line r.files.items)
   pub tally : r.lists.files ≡ true → IsTally (map counted_line r.files.items) r.rows.items
 
--- so it is with each report of a walk
+-- the totals of each report of a walk add up
 abbrev pub ReportTotalsLaw : (List ℕ → Listings) → (List ℕ → Contents) → Type 0
 ReportTotalsLaw lists gives = (o : Options) (r : Report) → Walks lists gives o (Ok r) → TotalsAddUp r

@@ -1,4 +1,4 @@
--- What is kept of a listed directory, and what it says: one that has nothing to list keeps no lists.
+-- What is stored of a listed directory, and the row that it stands for: without anything to list, no lists are stored.
 use Rattle.std.specs.Prelude.{[]}
 use Rattle.std.specs.Box.{box_value}
 use Rattle.lc_walk.specs.RowViews.{ListedRowModel}

@@ -1,16 +1,16 @@
--- The parts of a row that was listed, as contracts see them.
+-- The parts of the row of a listed directory, as contracts see them.
 use Rattle.std.specs.Prelude.{ℕ, List}
 use Rattle.lc_level.specs.Job.{JobModel}
 use Rattle.lc_level.specs.Level.{FileLineModel, SkippedLineModel}
 use Rattle.lc_level.specs.FaultLines.{FaultLineModel}
 
--- a child directory: its name, and the number of its post
+-- a child directory that was posted: its name, and its number on the board
 pub record ChildModel : Type 0 where
   pub name : List ℕ
   pub number : ℕ
 
--- a directory that was listed, with the number of its entries; its counted files and the entries left out are stored only where
--- the report is to have them
+-- a directory that was listed, with the number of its entries. Its counted files and skipped entries are stored only if the report lists
+-- them
 pub record ListedRowModel : Type 0 where
   pub job : JobModel
   pub entries : ℕ

@@ -1,4 +1,4 @@
--- Rows: what a worker gives for a directory.
+-- Rows: what a worker finds in a directory.
 use Rattle.std.specs.Prelude.{List, []}
 use Rattle.lc_board.specs.declared.answers.Ended.{Ended}
 use Rattle.lc_board.specs.declared.answers.Ended.TheVariants as ended
@@ -16,7 +16,7 @@ job_of (Listed r) = r.job
 job_of (Faulted r) = r.job
 job_of (Broken r) = r.job
 
--- the posted child directories
+-- the posted child directories of the row's directory
 abbrev pub children_in : Row → List ChildModel
 children_in (Listed r) = r.children
 children_in (Faulted r) = []

@@ -14,7 +14,7 @@ use Rattle.lc_walk.specs.declared.row.Row.{Row}
 use Rattle.lc_walk.specs.declared.worker.StopReason.{StopReason}
 use Rattle.lc_walk.specs.declared.worker.StopReason.TheVariants.{Over, Memory as NoMemory}
 
--- a claim is held that was got with this job, and nothing was posted under it
+-- the worker holds a claim, got this job with it, and has posted nothing under it
 pub record HoldsJob (j : JobModel) (p : Pass JobModel Row) : Type 0 where
   pub number : ℕ
   pub holds : holding p ≡ Some number
@@ -22,7 +22,7 @@ pub record HoldsJob (j : JobModel) (p : Pass JobModel Row) : Type 0 where
   pub none : posts_held p.mine ≡ []
   pub nothing : posted p ≡ 0
 
--- what breaking off a directory for a cause answers: whether it was for want of memory
+-- the result of stopping work on a directory for a cause: an error exactly for the cause Memory
 abbrev pub BreaksOff : BrokenCause → Result (Unit {0}) AllocError → Type 0
 BreaksOff Memory (Ok _) = ⊥
 BreaksOff Memory (Err _) = Unit {0}
@@ -31,24 +31,24 @@ BreaksOff TooManyDirs (Err _) = ⊥
 BreaksOff TooDeep (Ok _) = Unit {0}
 BreaksOff TooDeep (Err _) = ⊥
 
--- what adding files to a tally answers; after a refusal the tally stands for nothing
+-- what each result of adding files to a tally means; after an error, nothing is known of the tally
 abbrev pub AddsFiles : List CountedFile → TallyModel → TallyModel → Result (Unit {0}) AllocError → Type 0
 AddsFiles more old new (Ok _) = (files : List CountedFile) → StandsFor old files → StandsFor new (files ++ more)
 AddsFiles more old new (Err _) = Unit {0}
 
--- what the worker had done since any earlier pass, with its tally, goes on
+-- if the worker had worked from any earlier state of its pass up to `old`, it has now worked up to `new`, with the tally `after`
 abbrev pub WorksOn : Asked → (List ℕ → Answers → Type 0) →
     Pass JobModel Row → Pass JobModel Row → Option TallyModel → Option TallyModel → Type 0
 WorksOn ask MayAnswer old new before after =
     (first : Pass JobModel Row) → HasWorked ask MayAnswer first old before → HasWorked ask MayAnswer first new after
 
--- what serving a claim answers; where memory was refused there is no tally any more
+-- what each result of the work on a claimed directory means; after a failed allocation, there is no tally
 abbrev pub Serves : Asked → (List ℕ → Answers → Type 0) →
     Pass JobModel Row → Pass JobModel Row → TallyModel → TallyModel → Result (Unit {0}) AllocError → Type 0
 Serves ask MayAnswer old new before after (Ok _) = WorksOn ask MayAnswer old new (Some before) (Some after)
 Serves ask MayAnswer old new before after (Err _) = WorksOn ask MayAnswer old new (Some before) None
 
--- how a worker has come to its end
+-- what the pass of a worker shows if the worker stopped for this reason
 abbrev pub EndsAs : StopReason → Pass JobModel Row → Type 0
 EndsAs Over p = FoundOver p
 EndsAs NoMemory p = p.refused ≡ true

@@ -11,7 +11,7 @@ no_files = record { files = 0; lines = 0; blank = 0; bytes = 0 }
 abbrev pub one_file : Count → Sums
 one_file c = record { files = 1; lines = c.lines; blank = c.blank; bytes = c.bytes }
 
--- the sums over both
+-- both sums added up
 abbrev pub plus : Sums → Sums → Sums
 plus a b = record {
   files = a.files + b.files;
@@ -27,7 +27,7 @@ pub record IsInRange (s : Sums) : Type 0 where
   pub blank : s.blank < 2 ^ 128
   pub bytes : s.bytes < 2 ^ 128
 
--- at most 2^63 files, each of fewer than 2^64 lines, blank lines and bytes
+-- at most 2^63 files, with fewer than 2^64 lines, blank lines and bytes for each file on average
 pub record IsModest (s : Sums) : Type 0 where
   pub files : s.files ≤ 2 ^ 63
   pub lines : s.lines ≤ s.files * (2 ^ 64 - 1)

@@ -14,7 +14,7 @@ pub record CountedFile : Type 0 where
   pub text : TextState
   pub count : Count
 
--- the file of an extension, a text state and a census
+-- the counted file with this extension, text state and census
 abbrev pub counted : Option (List ℕ) → TextState → Count → CountedFile
 counted e t c = record { extension = e; text = t; count = c }
 
@@ -31,22 +31,23 @@ sums_of_files fs = record {
   bytes = sum_by (λ f. f.count.bytes) fs;
 }
 
--- the files of a key
+-- the files that have this key
 abbrev pub files_with : Key → List CountedFile → List CountedFile
 files_with k fs = filter (λ f. same_key k (key_of f)) fs
 
--- a row for each key that some file has, with the sums over the files of this key, in order of keys
+-- the rows are one for each key that some file has, with the sums over the files of this key, in the order of keys
 pub record IsTally (fs : List CountedFile) (rs : List TallyRowModel) : Type 0 where
   pub sums : (k : Key) → sums_of_rows (rows_with k rs) ≡ sums_of_files (files_with k fs)
   pub filled : All (λ r. 0 < r.sums.files) rs
   pub order : IsInOrder rs
 
--- what a tally holds: rows in any order, of which several may have one key, and the sums over all files
+-- what a tally consists of: rows in any order, of which several may have one key, and the sums over all files
 pub record TallyModel : Type 0 where
   pub rows : List TallyRowModel
   pub totals : Sums
 
--- the rows of each key have the sums over the files of this key, each row has a file, and the totals are those of these files
+-- the tally represents these files: the rows of each key have the sums over the files of this key, each row has a file, and the totals are
+-- the sums over all files
 pub record StandsFor (t : TallyModel) (fs : List CountedFile) : Type 0 where
   pub sums : (k : Key) → sums_of_rows (rows_with k t.rows) ≡ sums_of_files (files_with k fs)
   pub filled : All (λ r. 0 < r.sums.files) t.rows
@@ -57,7 +58,7 @@ pub record TallyHolds (t : TallyModel) : Type 0 where
   pub totals : t.totals ≡ sums_of_rows t.rows
   pub modest : IsModest t.totals
 
--- from a tally to the next, the sums of one key, and of all, gain s
+-- from the old tally to the new one, the sums of one key and the totals gain s
 pub record Grows (old new : TallyModel) (k : Key) (s : Sums) : Type 0 where
   pub rows : Gains old.rows new.rows k s
   pub totals : new.totals ≡ plus old.totals s

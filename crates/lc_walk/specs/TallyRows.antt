@@ -24,7 +24,7 @@ sums_of_rows rs = record {
   bytes = sum_by (λ r. r.sums.bytes) rs;
 }
 
--- the rows of a key: one or none, where the keys rise
+-- the rows that have this key: one or none if the rows are in the strict order of their keys
 abbrev pub rows_with : Key → List TallyRowModel → List TallyRowModel
 rows_with k rs = filter (λ r. same_key k r.key) rs
 
@@ -32,25 +32,25 @@ rows_with k rs = filter (λ r. same_key k r.key) rs
 abbrev pub has_row : Key → List TallyRowModel → Bool
 has_row k rs = list_any (λ r. same_key k r.key) rs
 
--- the keys rise
+-- the rows are in the strict order of their keys
 abbrev pub IsInOrder : List TallyRowModel → Type 0
 IsInOrder rs = IsStrictlySortedBy key_cmp (map (λ r. r.key) rs)
 
--- the sums over the rows of each key are the same; and each new row has a file, if each old one has
+-- for each key, old and new rows have the same sums; and each new row has a file if each old one has
 pub record HasSumsOf (old new : List TallyRowModel) : Type 0 where
   pub sums : (k : Key) → sums_of_rows (rows_with k new) ≡ sums_of_rows (rows_with k old)
   pub filled : All (λ r. 0 < r.sums.files) old → All (λ r. 0 < r.sums.files) new
 
--- from some rows to the next, the sums of one key gain s
+-- from the old rows to the new ones, the sums of one key gain s
 abbrev pub Gains : List TallyRowModel → List TallyRowModel → Key → Sums → Type 0
 Gains old new k s = HasSumsOf (old ++ row_with k s ∷ []) new
 
--- a row for each key that some row has, with the sums over the rows of this key, in order of keys
+-- `added` has one row for each key that some row of `rs` has, with the sums over the rows of this key, in the order of keys
 pub record AddsUp (rs added : List TallyRowModel) : Type 0 where
   pub same : HasSumsOf rs added
   pub order : IsInOrder added
 
--- where two rows have one key, the last one's sums gain the row's
+-- if two rows have one key, the sums of the row `last` gain those of the row `row`
 pub record IsAbsorbed (row last : TallyRowModel) (absorbed : Bool) (row_after last_after : TallyRowModel) : Type 0 where
   pub test : absorbed ≡ same_key row.key last.key
   pub lent : row_after ≡ row

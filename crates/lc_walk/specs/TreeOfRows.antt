@@ -6,12 +6,12 @@ use Rattle.lc_walk.specs.RowViews.{ChildModel}
 use Rattle.lc_walk.specs.Rows.{row_of, children_in}
 use Rattle.lc_walk.specs.declared.row.Row.{Row}
 
--- the number of the child of a name
+-- the number of the child with this name
 abbrev pub child_number : List ℕ → List ChildModel → Option ℕ
 child_number name [] = None
 child_number name (c ∷ cs) = cond (bytes_eq name c.name) (Some c.number) (child_number name cs)
 
--- the tree at a number: the answers of the number, and under each child's name the tree at its number; `blank` elsewhere
+-- the tree at a number: the answers at the number, and under each child's name the tree at the child's number; `blank` elsewhere
 abbrev pub tree_from : {A : Type 0} → A → (ℕ → A) → (ℕ → List ChildModel) → ℕ → List (List ℕ) → A
 tree_from blank answers children i [] = answers i
 tree_from blank answers children i (name ∷ place) =
@@ -28,7 +28,7 @@ children_by_rows rows i = children_at_row (slice_get rows i)
 abbrev pub tree_of_rows : List (Ended Row) → (ℕ → Answers) → Tree
 tree_of_rows rows answers = tree_from no_answers answers (children_by_rows rows) 0
 
--- 0, 1 and so on, so many
+-- the numbers from 0 up to one less than this
 abbrev pub numbers_below : ℕ → List ℕ
 numbers_below zero = []
 numbers_below (suc n) = numbers_below n ++ n ∷ []

@@ -1,4 +1,4 @@
--- What a walk answers.
+-- What each result of `walk` means.
 use Rattle.std.specs.Prelude.{ℕ, List, Result, Ok, Err}
 use Rattle.lc_board.specs.WordClose.{words_promises}
 use Rattle.lc_level.specs.TreeAnswers.{MayAnswer}
@@ -10,8 +10,8 @@ use Rattle.lc_walk.specs.declared.report.Report.{Report}
 use Rattle.lc_walk.specs.declared.walk_fault.WalkFault.{WalkFault}
 use Rattle.lc_walk.specs.declared.walk_fault.WalkFault.TheVariants.{Memory, TooManyDirs, TooDeep, Torn, Mismatch}
 
--- what a walk by these options, over words, answers of a tree whose listings and files may be these: its report, or why there is none. No
--- number is ever torn, and no worker's pass mismatches
+-- what each result of a walk by these options means, over a board of words: a report, or why there is none. `lists` and `gives` are the
+-- listings and the file contents that the tree may give. The errors Torn and Mismatch never occur
 abbrev pub Walks : (List ℕ → Listings) → (List ℕ → Contents) → Options → Result Report WalkFault → Type 0
 Walks lists gives o (Ok r) = IsWalkReport (MayAnswer lists gives) (asked_by o) o.max_dirs o.threads (top_of o) words_promises r
 Walks lists gives o (Err Memory) = Unit {0}

@@ -1,4 +1,4 @@
--- What a worker leaves.
+-- What is true of the rows and the tally of a worker.
 use Rattle.std.specs.Prelude.{◌⊎◌, ◌≡◌, ℕ, Bool, List, [], ◌∷◌, ◌++◌, Option, Some, None, map, flat_map, length, slice_get}
 use Rattle.lc_board.specs.Holding.{job_held, posts_held}
 use Rattle.lc_board.specs.Pass.{Pass}
@@ -26,8 +26,8 @@ returned_files ask (Listed r) a = map tallied (files_at ask.filters r.job a)
 returned_files ask (Faulted r) a = []
 returned_files ask (Broken r) a = []
 
--- a row is lawful with these answers for the claim that it ends, by the job and the posts of that claim, and the tree may give them for
--- the row's directory
+-- the row is true of these answers and of the claim that it ends, which got this job and has these posts. The tree may give these answers
+-- for the row's directory
 pub record IsLawfulEnd (ask : Asked) (full : Bool) (MayAnswer : List ℕ → Answers → Type 0)
     (got : Option JobModel) (posts : List (ℕ × JobModel)) (e : Ended Row) (a : Answers) : Type 0 where
   pub job_is : got ≡ Some (job_of (row_of e))
@@ -35,12 +35,12 @@ pub record IsLawfulEnd (ask : Asked) (full : Bool) (MayAnswer : List ℕ → Ans
   pub says : Says ask full e a posts
   pub may : MayAnswer (job_of (row_of e)).path a
 
--- each row that some events gave is lawful with its answers: one for each row, the newest first. It speaks of each claim alone: until
--- the board is closed nothing says that no number is got twice
+-- each row in these events is lawful with its answers, which are listed for each row, the newest first. This is about each claim alone:
+-- until the board is closed, no clause excludes that a number is claimed twice
 abbrev pub AreLawful : Asked → Bool → (List ℕ → Answers → Type 0) → List (Event JobModel Row) → List Answers → Type 0
 AreLawful ask full MayAnswer m given = EachEnd (λ got posts e a. IsLawfulEnd ask full MayAnswer got posts e a) m given
 
--- the same of the rows that some events gave after others, which may have begun their claims
+-- like `AreLawful`, for the rows in events that came after the events `old`, in which their claims may have begun
 module _ (ask : Asked) (full : Bool) (MayAnswer : List ℕ → Answers → Type 0) (old : List (Event JobModel Row)) where
   abbrev pub AreLawfulSince : List (Event JobModel Row) → List Answers → Type 0
   AreLawfulSince [] [] = Unit {0}
@@ -55,7 +55,7 @@ module _ (ask : Asked) (full : Bool) (MayAnswer : List ℕ → Answers → Type 
       IsLawfulEnd ask full MayAnswer (job_held (m ++ old)) (posts_held (m ++ old)) (ended.Faulted r) a × AreLawfulSince m given
   AreLawfulSince (Over w ∷ m) given = AreLawfulSince m given
 
--- the counted files of the rows that were returned as Listed, by these answers
+-- the counted files of the Listed rows in these events, by the rows' answers
 abbrev pub files_given : Asked → List (Event JobModel Row) → List Answers → List CountedFile
 files_given ask [] given = []
 files_given ask (Post w p i j ∷ m) given = files_given ask m given
@@ -66,12 +66,12 @@ files_given ask (Fault w i r ∷ m) [] = []
 files_given ask (Fault w i r ∷ m) (a ∷ given) = files_given ask m given
 files_given ask (Over w ∷ m) given = files_given ask m given
 
--- a tally, where there is one, is that of these files
+-- the tally, if there is one, is that of these files
 abbrev pub TalliesFor : Option TallyModel → List CountedFile → Type 0
 TalliesFor None fs = Unit {0}
 TalliesFor (Some t) fs = StandsFor t fs
 
--- some row was broken off for want of memory
+-- some row in these events is Broken with the cause Memory
 abbrev pub RanOutOfMemory : List (Event JobModel Row) → Type 0
 RanOutOfMemory [] = ⊥
 RanOutOfMemory (Post w p i j ∷ m) = RanOutOfMemory m
@@ -80,8 +80,8 @@ RanOutOfMemory (Return w i r ∷ m) = IsBrokenBy Memory r ⊎ RanOutOfMemory m
 RanOutOfMemory (Fault w i r ∷ m) = RanOutOfMemory m
 RanOutOfMemory (Over w ∷ m) = RanOutOfMemory m
 
--- from one pass to a later one of the same worker: what the worker has done since, each row of it lawful with some answers that the
--- tree may give, and its tally, where it has one, which is that of the files of these rows
+-- what a worker has done between the old state of its pass and the new one: each row since is lawful with some answers that the tree may
+-- give, and the tally, if there is one, is that of the files of these rows
 pub record HasWorked (ask : Asked) (MayAnswer : List ℕ → Answers → Type 0)
     (old new : Pass JobModel Row) (tally : Option TallyModel) : Type 0 where
   pub worker : new.worker ≡ old.worker
@@ -92,11 +92,11 @@ pub record HasWorked (ask : Asked) (MayAnswer : List ℕ → Answers → Type 0)
   pub tallied : TalliesFor tally (files_given ask since answers)
   pub untallied : tally ≡ None → RanOutOfMemory since
 
--- the pass has found that the board is over
+-- the worker of the pass has found the board over, as its last event
 abbrev pub FoundOver : Pass JobModel Row → Type 0
 FoundOver p = (m : List (Event JobModel Row)) × (p.mine ≡ Over p.worker ∷ m)
 
--- the counted files of the rows that all passes returned, by their answers, pass by pass
+-- the counted files of the rows in one pass, and in all passes, by the rows' answers
 abbrev pub files_of_pass : Asked → List Answers → Option (Pass JobModel Row) → List CountedFile
 files_of_pass ask answers None = []
 files_of_pass ask answers (Some p) = files_given ask p.mine answers

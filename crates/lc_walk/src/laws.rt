@@ -36,8 +36,8 @@ pub fn rows_are_the_walk_of_one_tree()
     ensures { OneAnswerLaw }
 {}
 
-/// The law that the report of a walk is that of the recursive walk over some answers that the tree may give. These answers have a listing
-/// for each directory that the recursive walk reaches.
+/// The law that the report of a walk is that of the recursive walk over some answers that the tree may give: listings and file contents.
+/// These answers have a listing for each directory that the recursive walk reaches.
 pub fn reports_are_by_given_answers<T: Tree>(tree: &T)
     ensures { ByAnswersLaw (T.lists tree.now) (T.gives tree.now) }
 {

@@ -121,7 +121,7 @@ impl Tally {
         })
     }
 
-    /// Returns copies of the rows in the order of their keys, one for each key.
+    /// Returns copies of the rows in the order of their keys, one row for each key.
     pub fn rows(&self) -> Result<Vec<TallyRow>, AllocError>
         ensures added_up { IfOk result (λ v. AddsUp self.now.rows v.items) }
         ensures tally { IfOk result (λ v. (fs : List CountedFile) → StandsFor self.now fs → IsTally fs v.items) }
@@ -130,7 +130,7 @@ impl Tally {
         Ok(rows)
     }
 
-    /// Returns the rows in the order of their keys, one for each key. It sorts them in place and allocates nothing.
+    /// Returns the rows in the order of their keys, one row for each key. It sorts the rows in place and allocates nothing.
     pub fn into_rows(self) -> Vec<TallyRow>
         ensures added_up { AddsUp self.rows result.items }
         ensures tally { (fs : List CountedFile) → StandsFor self fs → IsTally fs result.items }

@@ -93,7 +93,7 @@ pub fn walk_on<B: Shared<Job, Row>, T: Tree, R: Threads + Wait + Sync>(
 }
 
 /// Walks a tree with up to `options.threads` threads. The report is the one that a recursive walk makes from some answers that the tree may
-/// give.
+/// give: listings, metadata and file contents.
 ///
 /// ```
 /// let report = walk(&rt, rt.alloc(), &tree, &options)?;

@@ -52,7 +52,7 @@ impl KeyedRows {
         }
     }
 
-    /// Adds the sums of some files that have one key. If no memory is left for a new row, it searches all rows for the key.
+    /// Adds the sums of some files that have one key. If a new row can't be allocated, it searches all rows for the key.
     pub(crate) fn gain(&mut self, key: &KeyRef<'_>, more: Sums) -> Result<(), AllocError>
         requires room { IsInRange (plus (sums_of_rows self.old) more) }
         ensures gains { OnOk result (Gains self.old self.new key.now more) }

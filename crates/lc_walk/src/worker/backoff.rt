@@ -15,13 +15,13 @@ const FIRST_SLEEP: u64 = 10;
 /// The length of a worker's longest sleep, in microseconds. A worker may see a posted directory, or the end of the walk, this late.
 const LONGEST_SLEEP: u64 = 1000;
 
-/// The waits of a worker that finds nothing to claim, none shorter than the one before.
+/// The waits of a worker that finds no directory to claim. No wait is shorter than the one before.
 ///
-/// The worker first lets other threads run 64 times, about 20 microseconds in all. Then it sleeps for 10 microseconds, and each time twice
-/// as long, up to 1 millisecond. So other threads have the processors while one of them reads a large file, and the worker never sleeps
-/// much longer than it has waited already. After each directory that it claims, it begins again with the first wait.
+/// The worker first lets other threads run 64 times, about 20 microseconds in all. Then it sleeps for 10 microseconds, and each later sleep
+/// is twice as long, up to 1 millisecond. So other threads have the processors while one of them reads a large file, and the worker never
+/// sleeps much longer than it has waited already. After each directory that the worker claims, it begins again with the first wait.
 ///
-/// From its start to its first claim, and from its first wait after a claim to the next claim, the worker counts as idle.
+/// The worker counts as idle from its start to its first claim, and from its first wait after a claim to the next claim.
 #[derive(Drop)]
 pub(crate) struct Backoff<'w> {
     threads: &'w IdleThreads,
