@@ -1,4 +1,4 @@
--- What is gathered of several reports before they are joined.
+-- What is gathered from several reports before they are joined.
 use Rattle.std.specs.Prelude.{◌≡◌, ◌+◌, ◌<◌, ◌^◌, List, ◌++◌}
 use Rattle.lc_reports.specs.Joined.{all_rows, all_files, all_faults, all_skipped, all_totals, all_directories, all_entries, if_wanted}
 use Rattle.lc_reports.specs.declared.gathered.Gathered.{Gathered}
@@ -13,7 +13,7 @@ use Rattle.lc_walk.specs.declared.report.Report.{Report}
 abbrev pub no_numbers : Numbers
 no_numbers = record { rows = no_files; totals = no_files; directories = 0; entries = 0 }
 
--- the sums of these numbers and those of a report
+-- these numbers with the numbers of a report added
 abbrev pub numbers_with : Numbers → Report → Numbers
 numbers_with n r = record {
   rows = plus n.rows (sums_of_rows r.rows.items);
@@ -30,7 +30,7 @@ numbers_of rs = record {
   entries = all_entries rs;
 }
 
--- each fits its type
+-- each number fits its type
 pub record NumbersFit (n : Numbers) : Type 0 where
   pub rows : IsInRange n.rows
   pub totals : IsInRange n.totals
@@ -39,14 +39,14 @@ pub record NumbersFit (n : Numbers) : Type 0 where
 
 -- ---- lines
 
--- one report more, with these lists
+-- `new` has what `old` has and then the rows and errors of the report, and its other lists if they are wanted
 pub record Adds (lists : ReportLists) (old : Gathered) (r : Report) (new : Gathered) : Type 0 where
   pub rows : new.rows.items ≡ old.rows.items ++ r.rows.items
   pub files : new.files.items ≡ old.files.items ++ if_wanted lists.files r.files.items
   pub faults : new.faults.items ≡ old.faults.items ++ r.faults.items
   pub skipped : new.skipped.items ≡ old.skipped.items ++ if_wanted lists.left_out r.skipped.items
 
--- the rows and lines of all of these, with these lists
+-- the rows and errors of all these reports, and their other lists if they are wanted
 pub record IsGathered (lists : ReportLists) (rs : List Report) (g : Gathered) : Type 0 where
   pub rows : g.rows.items ≡ all_rows rs
   pub files : g.files.items ≡ if_wanted lists.files (all_files rs)

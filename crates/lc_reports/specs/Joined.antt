@@ -1,4 +1,4 @@
--- The report of several: what they have together.
+-- The report that several reports make when they are joined.
 use Rattle.std.specs.Prelude.{◌≡◌, ℕ, ◌<◌, ◌^◌, Bool, List, cond, [], flat_map, sum_by, Result, MatchResult}
 use Rattle.std.specs.List.{Contains, list_all}
 use Rattle.std.specs.List.Sorted.{IsPermutation, IsSortedByKey, IsStrictlySortedBy}
@@ -43,27 +43,27 @@ all_directories rs = sum_by (λ (r : Report). r.directories) rs
 abbrev pub all_entries : List Report → ℕ
 all_entries rs = sum_by (λ (r : Report). r.entries) rs
 
--- the lists that each of them has
+-- the optional lists that each of these reports has
 abbrev pub shared_lists : List Report → ReportLists
 shared_lists rs = record {
   files = list_all (λ (r : Report). r.lists.files) rs;
   left_out = list_all (λ (r : Report). r.lists.left_out) rs;
 }
 
--- a list that is wanted, or none
+-- this list if it is wanted, or else the empty list
 abbrev pub if_wanted : {X : Type 0} → Bool → List X → List X
 if_wanted wanted xs = cond wanted xs []
 
--- ---- their report
+-- ---- the joined report
 
--- each of these lines once, in order
+-- `united` has each of these lines once, in order
 pub record IsUnited {X : Type 0} (cmp : X → X → Ordering) (xs united : List X) : Type 0 where
   pub kept : (x : X) → Contains xs x → Contains united x
   pub given : (x : X) → Contains united x → Contains xs x
   pub order : IsStrictlySortedBy cmp united
 
--- a row for each key, with the sums over the rows of all that have it; the sums of all numbers; and the lists that each of them has: all
--- files, in order of their paths, and each fault and each skipped entry once, in order
+-- the joined report has a row for each key, with the sums over all rows that have the key; the sums of all numbers; and the optional lists
+-- that each report has: all files, in the order of their paths, and each error and each skipped entry once, in order
 pub record IsJoined (rs : List Report) (r : Report) : Type 0 where
   pub rows : AddsUp (all_rows rs) r.rows.items
   pub totals : r.totals ≡ all_totals rs
@@ -82,7 +82,7 @@ pub record Fits (rs : List Report) : Type 0 where
   pub directories : all_directories rs < 2 ^ 64
   pub entries : all_entries rs < 2 ^ 64
 
--- why there is none: some sum does not fit, or each does and memory is refused
+-- why there is no joined report: some sum does not fit its type, or each fits and an allocation failed
 abbrev pub IsUnjoined : List Report → JoinFault → Type 0
 IsUnjoined rs Memory = Fits rs
 IsUnjoined rs TooLarge = Fits rs → ⊥

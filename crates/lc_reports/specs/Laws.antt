@@ -1,4 +1,4 @@
--- What is true of named and of joined reports.
+-- The laws of reports with a name in front of their paths, and of joined reports.
 use Rattle.std.specs.Prelude.{◌≡◌, ℕ, ◌<◌, List, ◌∷◌, ◌++◌, length}
 use Rattle.std.specs.List.{All}
 use Rattle.std.specs.List.Sorted.{IsPermutation}
@@ -13,11 +13,11 @@ use Rattle.lc_walk.specs.ReportTotals.{TotalsAddUp}
 use Rattle.lc_walk.specs.TallyRows.{TallyRowModel}
 use Rattle.lc_walk.specs.declared.report.Report.{Report}
 
--- the report of several is that of the same in any order
+-- a report that joins some reports also joins the same reports in any other order
 abbrev pub JoinOrderLaw : Type 0
 JoinOrderLaw = (rs moved : List Report) (r : Report) → IsPermutation rs moved → IsJoined rs r → IsJoined moved r
 
--- and where one of them is the report of some, it is the report of these and of the others
+-- if `one` joins the reports of `part`, a report that joins `one` and others also joins the reports of `part` and the others
 abbrev pub JoinGroupLaw : Type 0
 JoinGroupLaw = (part others : List Report) (one r : Report) → IsJoined part one → IsJoined (one ∷ others) r → IsJoined (part ++ others) r
 
@@ -25,7 +25,7 @@ JoinGroupLaw = (part others : List Report) (one r : Report) → IsJoined part on
 abbrev pub HasFile : TallyRowModel → Type 0
 HasFile row = 0 < row.sums.files
 
--- the same report, but for the order of files that have the same path: in both, files are in order of their paths
+-- both reports are the same, except for the order of files with the same path: in both, the files are in the order of their paths
 pub record IsSame (r s : Report) : Type 0 where
   pub rows : r.rows.items ≡ s.rows.items
   pub totals : r.totals ≡ s.totals
@@ -36,11 +36,11 @@ pub record IsSame (r s : Report) : Type 0 where
   pub faults : r.faults.items ≡ s.faults.items
   pub skipped : r.skipped.items ≡ s.skipped.items
 
--- reports whose rows all have a file have one joined report
+-- reports have only one joined report if each of their rows has a file
 abbrev pub JoinOnceLaw : Type 0
 JoinOnceLaw = (rs : List Report) (r s : Report) → All HasFile (all_rows rs) → IsJoined rs r → IsJoined rs s → IsSame r s
 
--- where the totals of each add up, so do theirs
+-- if the totals of each report add up, the totals of the joined report do
 abbrev pub JoinTotalsLaw : Type 0
 JoinTotalsLaw = (rs : List Report) (r : Report) → All TotalsAddUp rs → IsJoined rs r → TotalsAddUp r
 
@@ -52,7 +52,7 @@ abbrev pub NameTotalsLaw : Type 0
 NameTotalsLaw =
     (name : List ℕ) (r named : Report) → All HasPath r.files.items → TotalsAddUp r → IsNamed name r named → TotalsAddUp named
 
--- the directory of the file of a rule is below the name with the entry that the rule decides
+-- the name is put in front of the directory of a rule's file as well as of the entry that the rule decides
 abbrev pub IsNamedWith : List ℕ → List ℕ → RuleSource → Type 0
 IsNamedWith name path source =
     source_directory (named_path name path) (named_source name source) ≡ name ++ slash ∷ source_directory path source

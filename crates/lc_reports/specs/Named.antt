@@ -1,4 +1,4 @@
--- A report below a name: what stands at a path stands below the name at that path.
+-- A report with a name in front of its paths.
 use Rattle.std.specs.Prelude.{◌≡◌, ℕ, ◌+◌, List, [], ◌∷◌, ◌++◌, length, map}
 use Rattle.lc_glob.specs.Bytes.{slash}
 use Rattle.lc_glob.specs.Path.{segments_of}
@@ -8,21 +8,21 @@ use Rattle.lc_rules.specs.declared.rule_source.RuleSource.{RuleSource}
 use Rattle.lc_rules.specs.declared.rule_source.RuleSource.TheVariants.{ExcludeFrom, InfoExclude, Gitignore, CommandLine}
 use Rattle.lc_walk.specs.declared.report.Report.{Report}
 
--- what has the name itself: the empty name, which the directory `/` has without its slash, is a slash there
+-- the path of the named directory itself: the name, or a slash for the empty name, which stands for the directory `/`
 abbrev pub named_top : List ℕ → List ℕ
 named_top [] = slash ∷ []
 named_top (b ∷ bs) = b ∷ bs
 
--- a path below a name: the name, a slash, and the path. The empty path is that of what has the name itself
+-- a path with a name in front: the name, a slash and the path. The empty path is that of the named directory itself
 abbrev pub named_path : List ℕ → List ℕ → List ℕ
 named_path name [] = named_top name
 named_path name (b ∷ bs) = name ++ slash ∷ b ∷ bs
 
--- how many segments of such a path are before the path
+-- how many segments a name in front adds to a path
 abbrev pub named_depth : List ℕ → ℕ
 named_depth name = length (segments_of name)
 
--- the file of a rule: a file of a directory goes below the name with it
+-- the source of a rule after a name was put in front of the paths: a file in a directory gets deeper by the segments of the name
 abbrev pub named_source : List ℕ → RuleSource → RuleSource
 named_source name ExcludeFrom = ExcludeFrom
 named_source name (InfoExclude depth) = InfoExclude (named_depth name + depth)
@@ -47,7 +47,8 @@ named_fault name f = record { path = named_path name f.path; word = f.word }
 abbrev pub named_skipped : List ℕ → SkippedLineModel → SkippedLineModel
 named_skipped name l = record { path = named_path name l.path; kind = l.kind; reason = named_reason name l.reason }
 
--- the report below a name: its lines are those of the report below the name, in the same order, and its numbers are the same
+-- `named` is the report with the name in front of its paths: it has the same lines in the same order, with these paths, and the same
+-- numbers
 pub record IsNamed (name : List ℕ) (r named : Report) : Type 0 where
   pub rows : named.rows.items ≡ r.rows.items
   pub totals : named.totals ≡ r.totals

@@ -1,4 +1,4 @@
-//! The numbers and the lines of several reports together.
+//! Gathering the numbers and the lines of several reports.
 ghost use Rattle.std.specs.Prelude.{◌≡◌, IfOk, MatchOption, OnOk};
 ghost use Rattle.std.specs.List.{list_all};
 ghost use Rattle.lc_reports.specs.Gathered.{Adds, IsGathered, NumbersFit, no_numbers, numbers_of, numbers_with};

@@ -1,7 +1,7 @@
 //! Reports of several trees, or of parts of one tree: putting a name in front of a report's paths, and joining several reports into one.
 //!
 //! - `naming`: putting a name in front of the paths of a report
-//! - `joining`: joining several reports; `gathered`: the numbers and lines of several reports together; `line_order`: the order of errors
+//! - `joining`: joining several reports; `gathered`: gathering the numbers and lines of several reports; `line_order`: the order of errors
 //!   and skipped entries, of which several may have one path
 //! - `join_fault`: why several reports can't be joined
 //! - `laws`: laws of the definitions that the contracts cite

@@ -89,8 +89,8 @@ fn kind_rank(kind: Kind) -> u32
     }
 }
 
-/// Compares reasons by their words, such as `rule`; then by the depth and the place of the rule's file; then by the rule's line; and last by
-/// the attribute.
+/// Compares reasons by their words, such as `rule`; then by the depth and the place of the rule's file; then by the rule's line; and last
+/// by the attribute.
 #[tactic(auto, unfolding(crate::specs::LineOrder::reason_cmp))]
 fn compare_reasons(a: &Reason, b: &Reason) -> Ordering
     ensures { result ≡ reason_cmp (reason_model a.now) (reason_model b.now) }
