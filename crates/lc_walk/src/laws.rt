@@ -30,7 +30,7 @@ pub fn rows_are_the_walk_of_their_tree()
     ensures numbers { NumbersLaw }
 {}
 
-/// The law that the rows of a closed board hold exactly what the recursive walk of a tree finds, if each row has what its directory
+/// The law that the rows of a closed board hold exactly what the recursive walk of a tree finds. Each row must have what its directory
 /// contributes in this tree.
 pub fn rows_are_the_walk_of_one_tree()
     ensures { OneAnswerLaw }
@@ -82,9 +82,9 @@ pub fn totals_of_a_report_add_up<T: Tree>(tree: &T)
     let _tree = tree;
 }
 
-/// The law that a walk of some paths finds a part of what the walk of the whole tree finds: what is at or below one of the paths, the
-/// directories above them, and the errors on the way. It also reports the paths that are absent. The same is true of two walks of a tree
-/// that changes, if each directory that both walks read gave both the same answers.
+/// The law that a walk of some paths finds a part of what the walk of the whole tree finds. The part is what is at or below these paths,
+/// the directories above them, and the errors on the way. The walk also reports the paths that are absent. The same is true of two walks of
+/// a tree that changes, if each directory that both walks read gave both the same answers.
 pub fn a_part_is_the_whole_filtered()
     ensures two_walks { TwoWalksLaw }
     ensures one_tree { PartOfWalkLaw }

@@ -139,8 +139,8 @@ impl Tally {
         rows.into_sorted()
     }
 
-    /// Adds the sums of some files that have one key. It fails if an allocation fails, and for sums that the files of no walk have: more
-    /// than 2^63 files in the tally, or an average of more than 2^64 - 1 lines, blank lines or bytes for each added file.
+    /// Adds the sums of some files that have one key. It fails if an allocation fails, and for sums that the files of no walk have. These
+    /// are more than 2^63 files in the tally, or an average of more than 2^64 - 1 lines, blank lines or bytes for each added file.
     pub fn add_sums(&mut self, key: &KeyRef<'_>, more: Sums) -> Result<(), AllocError>
         ensures grows { OnOk result (Grows self.old self.new key.now more) }
         ensures unchanged { OnErr result (self.new ≡ self.old) }
