@@ -19,8 +19,8 @@ const TREE: &str = "
     a=1;2;
     d/{ .gitattributes=b_text; b=22;; c.log c.o e/{ c } }";
 
-/// The possible outcomes of a failed call: the path of the error, the number of directories that are then read, and the prefix of the paths
-/// of the files that are then not counted.
+/// The possible outcomes of a walk with one failed call: the path of the error, the number of directories that are read, and the prefix of
+/// the paths of the files that are not counted.
 const OUTCOMES: [(&[u8], u64, &[u8]); 14] = [
     (b"", 0, b""),
     (b".git", 0, b""),

@@ -60,8 +60,8 @@ fn as_many_directories_as_are_taken(rt: HostRuntime) -> Result<(), Fail> {
     Ok(())
 }
 
-/// Nested directories that all have one name, and the expected report. The parts: the number of directories; the length of the name; the
-/// length of the name of the innermost entry, and what follows this name in the sketch; what else the top has; the report.
+/// Nested directories that all have one name, and the expected report. The parts are the number of directories; the length of their name;
+/// the length of the innermost entry's name, and what follows this name in the sketch; the other entries of the top; and the report.
 type Nest = (u32, u32, (u32, &'static str), &'static str, &'static str);
 
 const NESTS: &[Nest] = &[
