@@ -6,8 +6,7 @@ pub fn a_joined_report_has_no_order()
     ensures { JoinOrderLaw }
 {}
 
-/// The law that reports may be joined in any groups: in a join, a report that is itself joined may be replaced by the reports that it was
-/// joined from.
+/// The law that reports may be joined in any groups. A report that is itself joined may be replaced by the reports that it was joined from.
 pub fn a_joined_report_has_no_grouping()
     ensures { JoinGroupLaw }
 {}
@@ -24,14 +23,14 @@ pub fn totals_of_a_joined_report_add_up()
     ensures { JoinTotalsLaw }
 {}
 
-/// The law that a report still adds up after `named` has put a name in front of its paths: its totals are the sums over its rows, and over
-/// its files if it lists files. The report must add up before, and each of its files must be below the top.
+/// The law that a report still adds up after `named` has put a name in front of its paths. A report adds up if its totals are the sums over
+/// its rows, and over its files if it lists files. The report must add up before, and each of its files must be below the top.
 pub fn names_change_no_number()
     ensures { NameTotalsLaw }
 {}
 
-/// The law that `named` puts the name in front of a rule's file as well as of the entry that the rule skips, unless the rule comes from
-/// `--exclude` or `--exclude-from`.
+/// The law that `named` puts the name in front of a rule's file as well as of the entry that the rule skips. The law is about the rules of
+/// files in the tree, not about those of `--exclude` and `--exclude-from`.
 pub fn rules_of_a_named_report_are_in_named_files()
     ensures { NamedRulesLaw }
 {}

@@ -123,8 +123,8 @@ fn named_lines<L: PathLine + Drop>(
     Ok(named)
 }
 
-/// Puts a name and a slash in front of each path of a report, and of the file of each rule, unless the rule comes from `--exclude` or
-/// `--exclude-from`. The empty path becomes the name. Numbers stay.
+/// Puts a name and a slash in front of each path of a report, and in front of the file of each rule. The empty path becomes the name. Rules
+/// of `--exclude` and `--exclude-from` stay as they are, and so do all numbers.
 ///
 /// The directory `/` has the empty name, so the paths of its report begin with a slash, and the empty path becomes `/`. For a name of 2^32
 /// segments or more, the call returns the error of a failed allocation.
