@@ -124,7 +124,7 @@ fn reason(alloc: Global, words: &mut SplitAsciiWhitespace<'_>) -> Result<Reason,
     }
 }
 
-/// Splits a word into a path and the kind of the entry, which the end of the word shows: `@/`, `@`, `/`, or none of these for a file.
+/// Splits a word into a path and the kind of the entry. The end of the word shows the kind: `@/`, `@`, `/`, or none of these for a file.
 fn path_and_kind(word: &str) -> (&str, Kind) {
     if let Some(path) = word.strip_suffix("@/") {
         return (path, Kind::Other(OtherKind::Mounted));
