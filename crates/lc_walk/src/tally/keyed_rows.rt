@@ -20,8 +20,8 @@ const FEW: usize = 64;
 /// The rows of a tally, which are found by their keys. Adding a file costs on average as much as a sort costs for one row.
 ///
 /// A search tries the row of the key's hint first, and then the sorted rows in front. If none of them has the key, a row is pushed, so
-/// several of the unsorted rows may have one key. Once more than half of the rows are unsorted, all are sorted, and the rows of each key
-/// become one.
+/// several of the unsorted rows may have one key. Once more than half of the rows are unsorted, and there are more than 64 rows, all are
+/// sorted, and the rows of each key become one.
 #[derive(Drop)]
 pub(crate) struct KeyedRows {
     rows: Vec<TallyRow>,
@@ -52,7 +52,8 @@ impl KeyedRows {
         }
     }
 
-    /// Adds the sums of some files that have one key. If a new row can't be allocated, it searches all rows for the key.
+    /// Adds the sums of some files that have one key. If a new row can't be allocated, it searches all rows for the key, and fails only if
+    /// none has it.
     pub(crate) fn gain(&mut self, key: &KeyRef<'_>, more: Sums) -> Result<(), AllocError>
         requires room { IsInRange (plus (sums_of_rows self.old) more) }
         ensures gains { OnOk result (Gains self.old self.new key.now more) }
