@@ -1,4 +1,4 @@
--- An event without its job or row. Which events are allowed rests on the workers and the numbers alone.
+-- An event without its job or row. Whether an event is allowed depends only on its worker and its numbers.
 use Rattle.lc_board.specs.declared.event.Event.{Event, TheVariants.{Post, Claim, Return, Fault, Over}}
 
 abbrev pub BareEvent : Type 0

@@ -1,10 +1,10 @@
--- The ends of a history: which numbers ended, by which rows and by whom, and what is said of each end.
+-- The ends of claims in a history: which numbers ended, with which rows and by which workers, and statements about each end.
 use Rattle.std.specs.Prelude.{◌≡◌, ℕ, ◌<◌, ◌==◌, cond, List, [], ◌∷◌, map, slice_get, Option, Some}
 use Rattle.lc_board.specs.{Part.part, LegalHistory.posts_under, Holding.{job_held, posts_held}, RowsInPlace.{job_got, row_given}, Pass.Pass}
 use Rattle.lc_board.specs.declared.{event.Event.{Event, TheVariants.{Return, Fault}}, answers.Ended.Ended}
 use Rattle.lc_board.specs.declared.answers.Ended.TheVariants as ended
 
--- what is said of an end, by its worker: of the job and the posts of its claim, its row, and a witness
+-- a statement about the end of a claim: about its worker, the job and the posts of the claim, its row, and a witness
 abbrev pub Saying : Type 0 → Type 0 → Type 0 → Type 1
 Saying J R A = ℕ → Option J → List (ℕ × J) → Ended R → A → Type 0
 
@@ -16,14 +16,14 @@ module _ {J R : Type 0} where
   ends (Fault w i r ∷ h) = (i, ended.Faulted r) ∷ ends h
   ends (_ ∷ h) = ends h
 
-  -- who ended a number
+  -- the worker that ended a number
   abbrev pub ender : List (Event J R) → ℕ → ℕ
   ender [] k = 0
   ender (Return w i r ∷ h) k = cond (k == i) w (ender h k)
   ender (Fault w i r ∷ h) k = cond (k == i) w (ender h k)
   ender (_ ∷ h) k = ender h k
 
-  -- each end among a worker's events is as P says of the claim that it ends, with one witness for each, the newest first
+  -- P holds for each end among a worker's events: for the job and the posts of the claim, its row, and one witness; the newest end is first
   abbrev pub EachEnd : {A : Type 0}
       → (Option J → List (ℕ × J) → Ended R → A → Type 0) → List (Event J R) → List A → Type 0
   EachEnd P [] [] = Unit {0}
@@ -34,14 +34,15 @@ module _ {J R : Type 0} where
   EachEnd P (Fault w i r ∷ m) (a ∷ given) = P (job_held m) (posts_held m) (ended.Faulted r) a × EachEnd P m given
   EachEnd P (_ ∷ m) given = EachEnd P m given
 
-  -- each number that ended is as P says of it in the whole history, with the witness that stands for its number; each worker's
-  -- witnesses are those of the numbers that it ended
+  -- P holds for each number that ended, by what the whole history says about the number, and with the number's witness; a worker's
+  -- witnesses are the witnesses of the numbers that the worker ended
   pub record EndsHold {A : Type 0} (P : Saying J R A) (workers : ℕ) (h : List (Event J R)) (given : ℕ → List A) : Type 0 where
     pub by : ℕ → A
     pub holds : (i : ℕ) (e : Ended R) → row_given h i ≡ Some e → P (ender h i) (job_got h i) (posts_under i h) e (by i)
     pub given_by : (w : ℕ) → w < workers → given w ≡ map (λ x. by x.0) (ends (part w h))
 
-  -- the same of the rows of a closed board: each row is as P says, and each pass's witnesses are those of the numbers that it ended
+  -- like `EndsHold`, for the rows of a closed board: P holds for each row, and the witnesses of a pass are the witnesses of the numbers
+  -- that its worker ended
   pub record RowsHold {A : Type 0} (P : Saying J R A) (workers : ℕ) (h : List (Event J R))
       (passes : List (Pass J R)) (rows : List (Ended R)) (given : ℕ → List A) : Type 0 where
     pub by : ℕ → A

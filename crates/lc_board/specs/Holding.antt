@@ -3,7 +3,7 @@ use Rattle.std.specs.Prelude.{ℕ, ◌+◌, List, [], ◌∷◌, ◌++◌, Optio
 use Rattle.lc_board.specs.declared.event.Event.{Event, TheVariants.{Post, Claim, Return, Fault, Over}}
 
 module _ {J R : Type 0} where
-  -- the number that is claimed and not ended
+  -- the number that the worker has claimed and not ended
   abbrev pub holding : List (Event J R) → Option ℕ
   holding [] = None
   holding (Post w p i j ∷ m) = holding m
@@ -12,14 +12,14 @@ module _ {J R : Type 0} where
   holding (Fault w i r ∷ m) = None
   holding (Over w ∷ m) = holding m
 
-  -- how much was posted since that claim
+  -- how many jobs the worker has posted since that claim
   abbrev pub posted : List (Event J R) → ℕ
   posted [] = 0
   posted (Post w p i j ∷ m) = posted m + 1
   posted (Over w ∷ m) = posted m
   posted (_ ∷ m) = 0
 
-  -- the job got with that claim
+  -- the job of the present claim
   abbrev pub job_held : List (Event J R) → Option J
   job_held [] = None
   job_held (Post w p i j ∷ m) = job_held m
@@ -28,7 +28,7 @@ module _ {J R : Type 0} where
   job_held (Fault w i r ∷ m) = None
   job_held (Over w ∷ m) = job_held m
 
-  -- the posts since that claim, the oldest first
+  -- the posts under the present claim, the oldest first: each posted number with its job
   abbrev pub posts_held : List (Event J R) → List (ℕ × J)
   posts_held [] = []
   posts_held (Post w p i j ∷ m) = posts_held m ++ (i, j) ∷ []

@@ -25,7 +25,7 @@ module _ {J R : Type 0} where
   abbrev pub IsOver : List (Event J R) → Type 0
   IsOver h = (k : ℕ) → (status h k ≢ Open) × ((w : ℕ) → status h k ≢ Claimed w)
 
-  -- the table above
+  -- which events are allowed after a history: the table above
   abbrev pub IsAllowed : ℕ → List (Event J R) → Event J R → Type 0
   IsAllowed capacity h (Post w p i j) = (status h p ≡ Claimed w) × (status h i ≡ Absent) × (i < capacity) × (p < i)
   IsAllowed capacity h (Claim w i j) = (status h i ≡ Open) × IsIdle w h
@@ -33,7 +33,7 @@ module _ {J R : Type 0} where
   IsAllowed capacity h (Fault w i r) = (status h i ≡ Claimed w) × (posts_under i h ≡ [])
   IsAllowed capacity h (Over w) = IsOver h
 
-  -- each event is by one of the workers, and allowed after those before it
+  -- each event is by one of the workers, and is allowed after the events before it
   abbrev pub IsLegal : ℕ → ℕ → List (Event J R) → Type 0
   IsLegal capacity workers [] = Unit {0}
   IsLegal capacity workers (e ∷ h) = IsLegal capacity workers h × (worker_of e < workers) × IsAllowed capacity h e

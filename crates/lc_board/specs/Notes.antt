@@ -3,7 +3,7 @@ use Rattle.std.specs.{Prelude.{List, map}, declared.snapshot.Snapshot.Snapshot}
 use Rattle.lc_board.specs.{NewestFirst.newest_first, declared.event.Event.{Event, TheVariants.{Post, Claim, Return, Fault, Over}}}
 
 module _ {J R : Type 0} where
-  -- the event whose job or row the snapshot remembers
+  -- the event with the job or the row that its snapshot remembers
   abbrev pub valued : Event (Snapshot J) (Snapshot R) → Event J R
   valued (Post w p i j) = Post w p i j.value
   valued (Claim w i j) = Claim w i j.value

@@ -3,7 +3,7 @@ use Rattle.std.specs.Prelude.{◌≡◌, ℕ, ◌≤◌, ◌+◌, ◌==◌, cond
 use Rattle.lc_board.specs.{State.{Absent, status}, declared.event.Event.{Event, TheVariants.{Post, Claim, Return, Fault}}}
 
 module _ {J R : Type 0} where
-  -- they are 0, 1 and so on, without a gap, and there are so many
+  -- the history uses the numbers from 0 to n - 1, and no others
   abbrev pub HasNumbers : ℕ → List (Event J R) → Type 0
   HasNumbers n h = (k : ℕ) → (status h k ≡ Absent) ↔ (n ≤ k)
 

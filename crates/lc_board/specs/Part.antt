@@ -3,7 +3,7 @@ use Rattle.std.specs.Prelude.{ℕ, ◌==◌, cond, List, [], ◌∷◌}
 use Rattle.lc_board.specs.declared.event.Event.{Event, TheVariants.{Post, Claim, Return, Fault, Over}}
 
 module _ {J R : Type 0} where
-  -- who made the event
+  -- the worker that made the event
   abbrev pub worker_of : Event J R → ℕ
   worker_of (Post w p i j) = w
   worker_of (Claim w i j) = w

@@ -6,14 +6,14 @@ use Rattle.lc_board.specs.declared.event.Event.TheVariants as event
 use Rattle.lc_board.specs.declared.answers.Claim.TheVariants as answer
 use Rattle.lc_board.specs.declared.answers.PostFault.TheVariants as refusal
 
--- its worker, the events that it made, newest first, and whether a post was answered Full, a claim Memory
+-- a pass: its worker, the worker's events with the newest first, whether a post returned Full, and whether a claim returned Memory
 pub record Pass (J R : Type 0) : Type 0 where
   pub worker : ℕ
   pub mine : List (Event J R)
   pub full : Bool
   pub refused : Bool
 
--- 0 in place of no number
+-- the number, or 0 if there is none
 abbrev pub number_or_0 : Option ℕ → ℕ
 number_or_0 None = 0
 number_or_0 (Some i) = i
@@ -23,11 +23,11 @@ job_back (refusal.Full j) = j
 job_back (refusal.Memory j) = j
 
 module _ {J R : Type 0} where
-  -- the number that is claimed and not ended
+  -- the number that the worker has claimed and not ended
   abbrev pub holding : Pass J R → Option ℕ
   holding p = events.holding p.mine
 
-  -- how much was posted under it
+  -- how many jobs the worker has posted under its present claim
   abbrev pub posted : Pass J R → ℕ
   posted p = events.posted p.mine
 
@@ -47,14 +47,14 @@ module _ {J R : Type 0} where
   abbrev pub refusing : Pass J R → Pass J R
   refusing p = record { worker = p.worker; mine = p.mine; full = p.full; refused = true }
 
-  -- the pass after a claim: Got and Over are events, the others are none
+  -- the pass after a claim: Got and Over add an event, Later and Memory add none
   abbrev pub after_claim : Pass J R → Claim J → Pass J R
   after_claim p (answer.Got i j) = adding p (event.Claim p.worker i j)
   after_claim p answer.Later = p
   after_claim p answer.Over = adding p (event.Over p.worker)
   after_claim p answer.Memory = refusing p
 
-  -- the pass after a post: a number is an event, a refusal is none
+  -- the pass after a post: a number adds an event, Full and Memory add none
   abbrev pub after_post : Pass J R → J → Result ℕ (PostFault J) → Pass J R
   after_post p j (Ok i) = adding p (event.Post p.worker (held_number p) i j)
   after_post p j (Err (refusal.Full k)) = filled p

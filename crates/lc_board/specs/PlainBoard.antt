@@ -1,11 +1,11 @@
--- What contracts see of the board of one thread, and which histories it is the state of.
+-- What contracts see of a single-threaded board, and after which histories the board has a state.
 use Rattle.std.specs.Prelude.{◌≡◌, ℕ, List, [], ◌∷◌, length, slice_get, slice_index_or, replicate, Option, Some, None}
 use Rattle.lc_board.specs.{State.{Status, Absent, Open, Claimed, Returned, Faulted, status}, LegalHistory.{posts_under, IsLegal}}
 use Rattle.lc_board.specs.{RowsInPlace.{job_posted, job_got, row_given}, declared.{event.Event.Event, plain.cell.Cell.Cell}}
 use Rattle.lc_board.specs.declared.{plain.cell.Cell.TheVariants.{Waiting, Held, Done}, answers.Ended.Ended}
 use Rattle.lc_board.specs.declared.answers.Ended.TheVariants as ended
 
--- the board: for each worker the number that it has claimed, and for each number its cell
+-- the board: its capacity, for each worker the number that the worker has claimed, and for each number its cell
 pub record Board (J R : Type 0) : Type 0 where
   pub capacity : ℕ
   pub held : List (Option ℕ)
@@ -38,11 +38,11 @@ module _ {J R : Type 0} where
   posts_at b None = 0
   posts_at b (Some i) = posts_in (cell_at b i)
 
-  -- how much a worker has posted under its present claim
+  -- how many jobs a worker has posted under its present claim
   abbrev pub posts_by : Board J R → ℕ → ℕ
   posts_by b w = posts_at b (held_by b w)
 
-  -- the cell of a number is what the history made of it
+  -- the cell of a number agrees with the history about the number's status, posts, job and row
   abbrev pub IsCellOf : J → List (Event J R) → ℕ → Option (Cell J R) → Type 0
   IsCellOf root h k None = (status h k ≡ Absent) × (posts_under k h ≡ []) × (row_given h k ≡ None)
   IsCellOf root h k (Some (Waiting j)) = (status h k ≡ Open) × (posts_under k h ≡ []) × (row_given h k ≡ None)
@@ -51,12 +51,13 @@ module _ {J R : Type 0} where
       × (job_got h k ≡ job_posted root h k)
   IsCellOf root h k (Some (Done e)) = (status h k ≡ status_ended e) × (row_given h k ≡ Some e) × (job_got h k ≡ job_posted root h k)
 
-  -- the board is the state after the history
+  -- the board has the state after the history, which is legal
   pub record IsAfter (root : J) (h : List (Event J R)) (b : Board J R) : Type 0 where
     pub legal : IsLegal b.capacity (workers_of b) h
     pub fits : (k : ℕ) → IsCellOf root h k (cell_at b k)
 
-  -- one event more: whatever the history was, it goes on with this event
+  -- the event leads from the old board to the new one: after any history that led to the old board, the history with this event leads to
+  -- the new board
   pub record Adds (old : Board J R) (e : Event J R) (new : Board J R) : Type 0 where
     pub capacity : new.capacity ≡ old.capacity
     pub workers : length new.held ≡ length old.held

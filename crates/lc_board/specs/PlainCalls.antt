@@ -1,4 +1,4 @@
--- What the calls of the board of one thread answer.
+-- What the calls of a single-threaded board return.
 use Rattle.std.specs.Prelude.{◌≡◌, ℕ, ◌<◌, length, slice_set, Option, Some, Result, Ok, Err, IfSome}
 use Rattle.lc_board.specs.{PlainBoard.{Board, held_by, cell_at, Adds}, declared.plain.cell.Cell.{Cell, TheVariants.{Waiting, Held, Done}}}
 use Rattle.lc_board.specs.declared.answers.{Ended.Ended, Claim.Claim, CloseFault.CloseFault, PostFault.PostFault}
@@ -19,7 +19,7 @@ module _ {J R : Type 0} where
   IsHeld (Some (Held w n)) = Unit {0}
   IsHeld _ = ⊥
 
-  -- neither returned nor faulted
+  -- the number is open or claimed
   abbrev pub IsLeft : Option (Cell J R) → Type 0
   IsLeft (Some (Waiting j)) = Unit {0}
   IsLeft (Some (Held w n)) = Unit {0}
@@ -39,11 +39,11 @@ module _ {J R : Type 0} where
     pub here : cell_at b i ≡ Some (Waiting j)
     pub least : (k : ℕ) → k < i → ¬ IsOpen (cell_at b k)
 
-  -- the least number that is neither returned nor faulted
+  -- the least number that is open or claimed
   abbrev pub IsLeftLeast : Board J R → ℕ → Type 0
   IsLeftLeast b n = IsLeft (cell_at b n) × ((k : ℕ) → k < n → ¬ IsLeft (cell_at b k))
 
-  -- what a claim of a worker answers: the least open number, or Later where some are claimed, or Over
+  -- what a claim of a worker returns: the least open number; or Later if no number is open and some number is claimed; or Over
   abbrev pub AnswersClaim : ℕ → Board J R → Claim J → Board J R → Type 0
   AnswersClaim w old (answer.Got i j) new = IsLeastOpen old i j × Adds old (event.Claim w i j) new
       × (new.held ≡ slice_set old.held w (Some i))
@@ -51,14 +51,14 @@ module _ {J R : Type 0} where
   AnswersClaim w old answer.Over new = NoneOpen old × NoneHeld old × Adds old (event.Over w) new × (new ≡ old)
   AnswersClaim w old answer.Memory new = ⊥
 
-  -- what a post of a worker answers: the least unused number; where it is refused the job comes back and nothing changes
+  -- what a post of a worker returns: the least unused number; or a refusal, which returns the job and changes nothing
   abbrev pub AnswersPost : ℕ → Board J R → J → Result ℕ (PostFault J) → Board J R → Type 0
   AnswersPost w old j (Ok i) new = (i ≡ length old.cells) × IfSome (held_by old w) (λ p. Adds old (event.Post w p i j) new)
       × (new.held ≡ old.held)
   AnswersPost w old j (Err (refusal.Full k)) new = (k ≡ j) × (length old.cells ≡ old.capacity) × (new ≡ old)
   AnswersPost w old j (Err (refusal.Memory k)) new = (k ≡ j) × (length old.cells < old.capacity) × (new ≡ old)
 
-  -- why the rows are refused
+  -- why the board returns no rows
   abbrev pub RefusesRows : Board J R → CloseFault → Type 0
   RefusesRows b (close.Unfinished n) = IsLeftLeast b n
   RefusesRows b (close.Mismatch w) = ⊥

@@ -1,4 +1,4 @@
--- What the fields of a board of one thread keep.
+-- The invariant of the fields of a single-threaded board.
 use Rattle.std.specs.Prelude.{◌≡◌, ℕ, ◌<◌, ◌≤◌, length, Option, Some}
 use Rattle.lc_board.specs.{PlainBoard.{Board, held_by, cell_at}, PlainCalls.IsOpen, declared.plain.cell.Cell.{Cell, TheVariants.Held}}
 use Rattle.lc_board.specs.Limits.{capacity_limit}
@@ -8,7 +8,8 @@ module _ {J R : Type 0} where
   IsHeldBy w (Some (Held v n)) = v ≡ w
   IsHeldBy w _ = ⊥
 
-  -- the numbers below the next one are claimed or ended, those from it on are open; a claimed number is its worker's
+  -- numbers below `next` are claimed or ended, and used numbers from `next` on are open; a claimed number is the claim of the worker in its
+  -- cell
   pub record IsSound (next : ℕ) (b : Board J R) : Type 0 where
     pub small : b.capacity ≤ capacity_limit
     pub fits : length b.cells ≤ b.capacity

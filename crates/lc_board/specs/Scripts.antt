@@ -1,4 +1,4 @@
--- Two short histories, on which the definitions are computed.
+-- Short histories, on which the definitions are computed.
 use Rattle.std.specs.Prelude.{◌≡◌, ℕ, List, [], ◌∷◌, Some}
 use Rattle.lc_board.specs.{LegalHistory.{IsLegal, IsOver, posts_under}, Part.part, Holding.{holding, posted, job_held, posts_held}}
 use Rattle.lc_board.specs.{RowsInPlace.InPlace, Numbers.HasNumbers, declared.event.Event.Event}
@@ -17,7 +17,7 @@ two_workers = Over 1 ∷ Over 0 ∷ Return 1 1 11 ∷ Return 0 0 10 ∷ Claim 1 
 abbrev pub own_post : Script
 own_post = Claim 0 1 9 ∷ Return 0 0 10 ∷ Post 0 0 1 9 ∷ Claim 0 0 7 ∷ []
 
--- One worker that ends the root by a fault.
+-- One worker that ends its claim of the root by the row of an error.
 abbrev pub one_fault : Script
 one_fault = Over 0 ∷ Fault 0 0 10 ∷ Claim 0 0 7 ∷ []
 
@@ -25,8 +25,8 @@ one_fault = Over 0 ∷ Fault 0 0 10 ∷ Claim 0 0 7 ∷ []
 abbrev pub posting : Script
 posting = Post 0 0 2 8 ∷ Post 0 0 1 9 ∷ Claim 0 0 7 ∷ []
 
--- Three that are not legal: the root is claimed twice, a claim under which something was posted is ended by a fault, a board of one
--- number has another.
+-- Three histories that are not legal: the root is claimed twice; a claim under which something was posted is ended by an error; a board of
+-- one number has another.
 abbrev pub second_claim : Script
 second_claim = Claim 1 0 7 ∷ Claim 0 0 7 ∷ []
 
@@ -54,7 +54,7 @@ posts_of_first = (1, 9) ∷ []
 abbrev pub posts_of_posting : List (ℕ × ℕ)
 posts_of_posting = (1, 9) ∷ (2, 8) ∷ []
 
--- what the definitions say of them
+-- what the definitions say about these histories
 pub record ScriptsAreLegal : Type 0 where
   pub two_legal : IsLegal 2 2 two_workers
   pub two_over : IsOver two_workers

@@ -2,7 +2,7 @@
 use Rattle.std.specs.Prelude.{ℕ, ◌==◌, cond, List, [], ◌∷◌}
 use Rattle.lc_board.specs.declared.event.Event.{Event, TheVariants.{Post, Claim, Return, Fault, Over}}
 
--- what a number is; one that is absent is not in the state
+-- the status of a number; an absent number is not in use
 pub data Status : Type 0 where
   Absent : Status
   Open : Status
@@ -10,7 +10,7 @@ pub data Status : Type 0 where
   Returned : Status
   Faulted : Status
 
--- what a number is after a history; at the start 0 is open, and no other is there
+-- the status of a number after a history; at the start number 0 is open, and all other numbers are absent
 abbrev pub status : {J R : Type 0} → List (Event J R) → ℕ → Status
 status [] k = cond (k == 0) Open Absent
 status (Post w p i j ∷ h) k = cond (k == i) Open (status h k)

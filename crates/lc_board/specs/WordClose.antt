@@ -1,4 +1,4 @@
--- What the closed row of words says, and what is taken out of it.
+-- What the words of a closed board say, and which rows are taken out of its slots.
 use Rattle.std.specs.Prelude.{◌≡◌, ◌≢◌, ℕ, ◌<◌, ◌≤◌, ◌⊎◌, true, false, List, length, slice_get, slice_index, Option, Some, None, Result, Ok}
 use Rattle.std.specs.Prelude.{Err}
 use mathlib.Core.Option.{some}
@@ -10,7 +10,8 @@ use Rattle.lc_board.specs.{Pass.Pass, ClosedBoard.{Promises, HasParts}}
 use Rattle.lc_board.specs.declared.words.coding.Word.TheVariants as word
 use Rattle.lc_board.specs.declared.answers.Ended.TheVariants as ended
 
--- closing a board of words compares nothing; its rows are in place, and a post is answered Full only where all numbers are used
+-- a board of words compares nothing when it is closed; each row is at the index of its number, and a post returns Full only if all numbers
+-- are used
 abbrev pub words_promises : Promises
 words_promises = record { keeps = true; compares = false; fills = true }
 
@@ -22,7 +23,8 @@ word_at codes k = word_of (slice_index codes k)
 abbrev pub EndedBelow : ℕ → List ℕ → Type 0
 EndedBelow n codes = (k : ℕ) → k < n → has_ended (word_at codes k) ≡ true
 
--- what counting the numbers that have ended answers: how many there are, where all others are absent; or the least that has not ended
+-- what counting the ended numbers returns: how many there are, if all other numbers are absent; or the least number that is used and has
+-- not ended
 abbrev pub TellsEnded : ℕ → List ℕ → Result ℕ ℕ → Type 0
 TellsEnded capacity codes (Ok n) = EndedBelow n codes × (n ≤ capacity) × ((n ≡ capacity) ⊎ (is_absent (word_at codes n) ≡ true))
 TellsEnded capacity codes (Err n) = EndedBelow n codes × (n < capacity)
@@ -39,21 +41,21 @@ module _ {J R : Type 0} where
   abbrev pub HasRows : ℕ → List (Slot J R) → Type 0
   HasRows n xs = (k : ℕ) → k < n → (r : R) × (get_elem? xs k ≡ some (Row r))
 
-  -- the row in each slot below n is taken out, and is what its word says
+  -- each row below n is the row in the slot of its number, returned or faulted as the number's word says
   abbrev pub TakesRows : ℕ → List ℕ → List (Slot J R) → List (Ended R) → Type 0
   TakesRows n codes xs rows = (k : ℕ) (r : R) → k < n → get_elem? xs k ≡ some (Row r)
       → slice_get rows k ≡ ended_as (shown (word_at codes k)) r
 
-  -- the pass v has the events m of the worker w: they are its own, or it took them in
+  -- the pass v has the events m of the worker w: w is the pass's own worker, or w's pass was merged into the pass v
   abbrev pub Tells : View J R → ℕ → List (Event J R) → Type 0
   Tells v w m = ((w ≡ v.worker) × (v.mine ≡ m)) ⊎ ((n : ℕ) × (get_elem? v.joined n ≡ some (w, m)))
 
-  -- the pass v has the events of each worker from n on
+  -- the pass v has the events of each worker from n on, and its front is the end of the board if the pass of such a worker was full
   abbrev pub HasTaken : ℕ → List (Pass J R) → ℕ → View J R → Type 0
   HasTaken slots passes n v = (w : ℕ) (p : Pass J R) → n ≤ w → slice_get passes w ≡ Some p
       → Tells v w p.mine × (p.full ≡ true → slots ≤ v.front)
 
-  -- the row that ended a number lies in its slot
+  -- the row that ended a number is in the number's slot
   abbrev pub IsPlaced : List (Event J R) → List (Slot J R) → ℕ → Type 0
   IsPlaced h xs k = (r : R) × (get_elem? xs k ≡ some (Row r)) × (row_given h k ≡ ended_as (status h k) r)
 

@@ -5,7 +5,7 @@ use Rattle.lc_board.specs.declared.words.coding.Word.TheVariants.{Absent, Open, 
 use Rattle.lc_board.specs.State as state
 use Rattle.lc_board.specs.declared.answers.Ended.TheVariants as ended
 
--- what the number is; one that is drawn is not in the state yet
+-- the status that a word shows; a number that is drawn is still absent
 abbrev pub shown : Word → Status
 shown Absent = state.Absent
 shown Open = state.Open
@@ -14,7 +14,7 @@ shown Faulted = state.Faulted
 shown (Drawn w) = state.Absent
 shown (Claimed w) = state.Claimed w
 
--- the code: from 4 on an even one is of a number that is drawn, an odd one of a number that is claimed
+-- the code of a word: from 4 on, an even code is of a number that is drawn, an odd code of a number that is claimed
 abbrev pub code : Word → ℕ
 code Absent = 0
 code Open = 1
@@ -44,18 +44,18 @@ has_ended Returned = true
 has_ended Faulted = true
 has_ended _ = false
 
--- the word of a number that has ended so
+-- the word of a number that has ended with this row
 abbrev pub end_word : {R : Type 0} → Ended R → Word
 end_word (ended.Returned r) = Returned
 end_word (ended.Faulted r) = Faulted
 
--- some worker is about to open it, or has claimed it
+-- a worker is about to open the number, or has claimed it
 abbrev pub is_busy : Word → Bool
 is_busy (Drawn w) = true
 is_busy (Claimed w) = true
 is_busy _ = false
 
--- it has ended or is claimed, and so will never be open again
+-- the number has ended or is claimed, and so will never be open again
 abbrev pub is_taken : Word → Bool
 is_taken Returned = true
 is_taken Faulted = true

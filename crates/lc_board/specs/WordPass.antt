@@ -1,20 +1,20 @@
--- What a pass of a board of words has stored is what it knows and holds.
+-- How the fields of a pass of a board of words agree with what the pass knows and which slots it holds.
 use Rattle.std.specs.Prelude.{◌≡◌, ℕ, ◌<◌, ◌≤◌, true, List, [], ◌∷◌, map, Option, Some, None}
 use Rattle.lc_board.specs.{Holding.{holding, posted}, State.status, Growth.IsTaken, WordRow.Seated, declared.event.Event.Event}
 use Rattle.lc_board.specs.declared.words.view.Slot.{Slot, TheVariants.{Empty, Job, Row}}
 
--- which kind of slot it is, as a number: of slots themselves it is not known that they are equal in one way only
+-- the kind of a slot, as a number: two numbers are equal in one way only, which is not known of slots
 abbrev pub kind : {J R : Type 0} → Slot J R → ℕ
 kind Empty = 0
 kind (Job j) = 1
 kind (Row r) = 2
 
--- the slots that go with a claim: its own, which is empty
+-- the slots that a pass holds with a claim: only the slot of the claimed number, which is empty
 abbrev pub carried_as : {J R : Type 0} → Option ℕ → List (ℕ × Slot J R)
 carried_as None = []
 carried_as (Some i) = (i, Empty) ∷ []
 
--- the same, with the kinds of the slots
+-- like `carried_as`, with the kind of each slot
 abbrev pub tags_as : Option ℕ → List (ℕ × ℕ)
 tags_as None = []
 tags_as (Some i) = (i, 0) ∷ []
@@ -26,7 +26,7 @@ tag x = (x.0, kind x.1)
 abbrev pub AreTaken : {J R : Type 0} → ℕ → List (Event J R) → Type 0
 AreTaken n h = (k : ℕ) → k < n → IsTaken (status h k)
 
--- what a pass has stored, and what it knows and holds
+-- the fields of a pass agree with what the pass knows and which slots it holds
 pub record IsTied {J R : Type 0} (slots worker : ℕ) (claim : Option ℕ) (posts front low : ℕ) (m : Seated J R) : Type 0 where
   pub live : m.0.live ≡ true
   pub idle : m.0.drawn ≡ 0

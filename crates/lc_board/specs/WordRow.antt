@@ -1,4 +1,4 @@
--- The row of words, and what each pass knows of it.
+-- The words of a board, and what each pass knows of the board.
 use Rattle.std.specs.Prelude.{◌≡◌, ◌≢◌, ℕ, ◌+◌, ◌<◌, ◌≤◌, true, List, [], length, Option, Some, None, slice_index}
 use mathlib.Core.Option.{some, none}
 use mathlib.Core.Option as maybe
@@ -10,7 +10,7 @@ use Rattle.lc_board.specs.{declared.words.view.{Slot.{Slot, TheVariants.{Empty, 
 use Rattle.lc_board.specs.declared.answers.Ended.TheVariants as ended
 use Rattle.lc_board.specs.declared.words.coding.Word.TheVariants as word
 
--- the slots that are at home, and what a pass knows with the slots that it holds
+-- `Homes`: the slots that no pass holds. `Seated`: what a pass knows, and the slots that it holds
 abbrev pub Homes : Type 0 → Type 0 → Type 0
 Homes J R = List (maybe.Option (Slot J R))
 
@@ -18,7 +18,7 @@ abbrev pub Seated : Type 0 → Type 0 → Type 0
 Seated J R = Me (Slot J R) (View J R)
 
 module _ {J R : Type 0} where
-  -- what the slot of a number holds
+  -- what the slot of a number contains, by the number's word
   abbrev pub SlotHolds : Option J → List (Event J R) → Homes J R → ℕ → Word → Type 0
   SlotHolds root h hs i (word.Drawn w) = Unit {0}
   SlotHolds root h hs i word.Absent = get_elem? hs i ≡ some (some Empty)
@@ -27,7 +27,7 @@ module _ {J R : Type 0} where
   SlotHolds root h hs i word.Returned = (r : R) × (get_elem? hs i ≡ some (some (Row r))) × (row_given h i ≡ Some (ended.Returned r))
   SlotHolds root h hs i word.Faulted = (r : R) × (get_elem? hs i ≡ some (some (Row r))) × (row_given h i ≡ Some (ended.Faulted r))
 
-  -- what a worker that a pass took in has left: its events, and no word that it holds
+  -- what is known of a worker u whose pass was merged into the pass at the seat j: its events are m, and it has drawn no number
   pub record HasJoined (h : List (Event J R)) (faces : ℕ → Word) (owner : ℕ → Option ℕ)
       (j worker u : ℕ) (m : List (Event J R)) : Type 0 where
     pub owned : owner u ≡ Some j
@@ -52,7 +52,7 @@ module _ {J R : Type 0} where
     pub deals : 0 < v.made → (j ≡ 0) × ((u : ℕ) → v.made ≤ u → owner u ≡ None)
     pub joins : (n u : ℕ) (m : List (Event J R)) → get_elem? v.joined n ≡ some (u, m) → HasJoined h faces owner j v.worker u m
 
-  -- the words show the state after a legal history, in which each job that is got is the one posted there; the absent numbers come last
+  -- the words show the state after a legal history, in which each claim got the job that was posted at its number; absent numbers come last
   pub record ShowsState (root : Option J) (workers size : ℕ) (codes : List ℕ) (history : List (Event J R)) (faces : ℕ → Word) : Type 0 where
     pub legal : IsLegal size workers history
     pub matched : IsMatched root history
@@ -61,7 +61,7 @@ module _ {J R : Type 0} where
     pub beyond : (k : ℕ) → size ≤ k → faces k ≡ word.Absent
     pub together : (k l : ℕ) → k ≤ l → faces k ≡ word.Absent → faces l ≡ word.Absent
 
-  -- the words show the state of one legal history, of which each pass has seen a beginning and has its worker's part
+  -- the words show the state after one legal history; each pass has seen a beginning of it, and has all events of its worker
   pub record IsRow (root : Option J) (workers : ℕ) (s : State (Slot J R) (View J R)) : Type 0 where
     pub history : List (Event J R)
     pub faces : ℕ → Word

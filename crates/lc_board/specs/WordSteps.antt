@@ -1,4 +1,4 @@
--- What each step on a word tells its pass.
+-- What a pass learns from each step on a word.
 use Rattle.std.specs.Prelude.{◌≡◌, ◌≢◌, ℕ, ◌+◌, ◌<◌, ◌≤◌, ◌==◌, Bool, true, false, cond, ltb, ◌&&◌, ◌||◌, MatchBool, IsSome, List, [], ◌∷◌}
 use Rattle.std.specs.Prelude.{◌++◌, Option, Some, None}
 use Rattle.atomic_table.specs.Table.{Step, rest}
@@ -30,17 +30,18 @@ abbrev pub larger : ℕ → ℕ → ℕ
 larger a b = cond (ltb a b) b a
 
 module _ {J R : Type 0} where
-  -- what a pass keeps over each of its steps
+  -- the parts of what a pass knows that no step changes
   abbrev pub Same : View J R → View J R → Type 0
   Same v w = (w.live ≡ v.live) × (w.root ≡ v.root) × (w.workers ≡ v.workers) × (w.worker ≡ v.worker)
       × (w.made ≡ v.made) × (w.joined ≡ v.joined)
 
-  -- what another pass is told when it takes this one in
+  -- the parts of what a pass knows that another pass gets when the two passes are merged
   abbrev pub IsSameTold : View J R → View J R → Type 0
   IsSameTold v w = (w.live ≡ v.live) × (w.worker ≡ v.worker) × (w.mine ≡ v.mine) × (w.front ≡ v.front)
       × (w.drawn ≡ v.drawn) × (w.joined ≡ v.joined)
 
-  -- the history seen is legal, each job got in it is the one posted there, and its part of the worker is the worker's own
+  -- the history that was seen is legal, each claim in it got the job that was posted at its number, and the worker's part of it is the
+  -- worker's own events
   abbrev pub IsFair : ℕ → View J R → Type 0
   IsFair cap w = IsLegal cap w.workers w.seen × IsMatched w.root w.seen × (part w.worker w.seen ≡ w.mine)
 
@@ -48,11 +49,11 @@ module _ {J R : Type 0} where
   abbrev pub Extends : View J R → View J R → Type 0
   Extends v w = GoesOn w.seen v.seen × (w.mine ≡ v.mine)
 
-  -- the same, and what was seen is fair
+  -- like `Extends`, and what was seen satisfies `IsFair`
   abbrev pub ExtendsFairly : ℕ → View J R → View J R → Type 0
   ExtendsFairly cap v w = GoesOn w.seen v.seen × (w.mine ≡ v.mine) × IsFair cap w
 
-  -- the history goes on from what was seen, and ends with the event, which is one more of the worker's
+  -- the history goes on from what was seen and ends with this event, which is added to the worker's events
   abbrev pub AddsEvent : ℕ → View J R → Event J R → View J R → Type 0
   AddsEvent cap v e w = ((h : List (Event J R)) × GoesOn h v.seen × (w.seen ≡ e ∷ h)) × (w.mine ≡ e ∷ v.mine) × IsFair cap w
 
@@ -73,11 +74,11 @@ module _ {J R : Type 0} where
   abbrev pub EndsAt : ℕ → View J R → Type 0
   EndsAt cap w = (k : ℕ) → cap ≤ k → status w.seen k ≡ Absent
 
-  -- some worker has a claim; another one does, where this one has none
+  -- some worker has a claim; if the pass's own worker has none, another worker has one
   abbrev pub SomeHolds : View J R → Type 0
   SomeHolds w = (p u : ℕ) × (status w.seen p ≡ Claimed u) × (holding w.mine ≡ None → u ≢ w.worker)
 
-  -- the word found says what the number i is in the history then seen; where i is absent, so are all after it
+  -- the word x shows the status of the number i in the history then seen; if i is absent, all numbers after it are absent too
   abbrev pub Finds : ℕ → Word → View J R → Type 0
   Finds i word.Absent w = (k : ℕ) → i ≤ k → status w.seen k ≡ Absent
   Finds i word.Open w = status w.seen i ≡ Open
@@ -86,13 +87,13 @@ module _ {J R : Type 0} where
   Finds i (word.Drawn u) w = (status w.seen i ≡ Absent) × SomeHolds w
   Finds i (word.Claimed u) w = (status w.seen i ≡ Claimed u) × SomeHolds w
 
-  -- a look at the number i, whose word is x. It is the event Over where no number is left to look at
+  -- a look at the number i, whose word is x; if no number is left to look at, the look adds the event Over
   abbrev pub HasLooked : ℕ → ℕ → Word → View J R → View J R → Type 0
   HasLooked cap i x v w = Same v w × (w.drawn ≡ v.drawn) × (w.front ≡ v.front) × (w.low ≡ low_after cap i v.low x)
       × EndedTo w.low w × EndsAt cap w
       × Finds i x w × MatchBool (last_look cap i v.low x) (AddsEvent cap v (Over v.worker) w) (ExtendsFairly cap v w)
 
-  -- a look
+  -- the step that looks at a word
   abbrev pub looked : Step (Slot J R) → Seated J R → ℕ → Seated J R → Type 0
   looked st m r m' = (m'.1 ≡ m.1) × HasLooked st.slots st.word (word_of r) m.0 m'.0
 
@@ -101,62 +102,62 @@ module _ {J R : Type 0} where
   TakesJob st m m' = (j : J) × Same m.0 m'.0 × (m'.0.drawn ≡ m.0.drawn) × (m'.0.front ≡ m.0.front) × (m'.0.low ≡ m.0.low)
       × (m'.1 ≡ (st.word, Job j) ∷ m.1) × AddsEvent st.slots m.0 (Claim m.0.worker st.word j) m'.0
 
-  -- an exchange of the word, which claims the number where that is open, and else is a look
+  -- the step that tries to claim a number: if the number is open, its job is taken; otherwise the step is a look
   abbrev pub claimed : Step (Slot J R) → Seated J R → ℕ → Seated J R → Type 0
   claimed st m r m' = MatchBool (is_open (word_of r)) (TakesJob st m m') (looked st m r m')
 
-  -- the number is drawn, which is above that of the claim, and its empty slot is taken
+  -- the number i, which is above the claimed number, is drawn, and its empty slot is taken
   abbrev pub TakesEmpty : ℕ → Seated J R → Seated J R → Type 0
   TakesEmpty i m m' = (m'.1 ≡ (i, Empty) ∷ m.1) × (m'.0.drawn ≡ i + 1) × ((p : ℕ) → holding m.0.mine ≡ Some p → p < i)
 
-  -- who has a claim and has drawn nothing may draw the number at its front
+  -- a pass that has a claim and has drawn nothing may draw the number at its front
   abbrev pub MayDraw : ℕ → ℕ → View J R → Type 0
   MayDraw i worker v = (v.live ≡ true) × (v.worker ≡ worker) × (v.drawn ≡ 0) × (v.front ≡ i) × IsSome (holding v.mine)
 
-  -- a try to draw the number, which is drawn where it was free; the front goes on
+  -- a try to draw the number i, which is drawn if it was free; in both cases the front moves past i
   abbrev pub TriesDraw : ℕ → ℕ → Bool → Seated J R → Seated J R → Type 0
   TriesDraw cap i free m m' = Same m.0 m'.0 × (m'.0.low ≡ m.0.low) × (m'.0.front ≡ i + 1) × ExtendsFairly cap m.0 m'.0
       × MatchBool free (TakesEmpty i m m') ((m'.1 ≡ m.1) × (m'.0.drawn ≡ m.0.drawn))
 
-  -- an exchange of the word, which draws the number where that is absent
+  -- the step that tries to draw a number, which is drawn if it is absent
   abbrev pub drew : Step (Slot J R) → Seated J R → ℕ → Seated J R → Type 0
   drew st m r m' = TriesDraw st.slots st.word (is_absent (word_of r)) m m'
 
-  -- a look at the front: where that number is used, the front goes on
+  -- the step that looks at the number at the front; if that number is used, the front moves past it
   abbrev pub stepped_over : Step (Slot J R) → Seated J R → ℕ → Seated J R → Type 0
   stepped_over st m r m' = (m'.1 ≡ m.1) × Same m.0 m'.0 × (m'.0.drawn ≡ m.0.drawn) × (m'.0.low ≡ m.0.low)
       × (m'.0.front ≡ cond (is_absent (word_of r)) m.0.front (st.word + 1)) × ExtendsFairly st.slots m.0 m'.0
 
-  -- a slot goes home
+  -- the pass returns the slot that it took last to the board
   abbrev pub Leaves : Seated J R → Seated J R → Type 0
   Leaves m m' = Same m.0 m'.0 × (m'.0.drawn ≡ 0) × (m'.0.low ≡ m.0.low) × (m'.0.front ≡ m.0.front) × (m'.1 ≡ rest m.1)
 
-  -- who has drawn the number, above that of its claim, may open it with the job in its slot
+  -- a pass that has drawn the number i, above its claimed number, may open i with the job in the slot
   abbrev pub MayOpen : ℕ → Seated J R → Type 0
   MayOpen i m = (m.0.live ≡ true) × (m.0.drawn ≡ i + 1) × ((p : ℕ) × (holding m.0.mine ≡ Some p) × (p < i))
       × ((j : J) × (m.1 ≡ (i, Job j) ∷ rest m.1))
 
-  -- the number that was drawn is opened with the job in its slot, under the claim that is held
+  -- the number i that was drawn is opened with the job in its slot, under the pass's claim
   abbrev pub OpensDrawn : ℕ → ℕ → Seated J R → Seated J R → Type 0
   OpensDrawn cap i m m' = Leaves m m'
       × ((p : ℕ) × (j : J) × (holding m.0.mine ≡ Some p) × (m.1 ≡ (i, Job j) ∷ rest m.1)
       × AddsEvent cap m.0 (Post m.0.worker p i j) m'.0)
 
-  -- an exchange of the word, which opens the number
+  -- the step that opens a number that was drawn
   abbrev pub opened : Step (Slot J R) → Seated J R → ℕ → Seated J R → Type 0
   opened st m r m' = OpensDrawn st.slots st.word m m'
 
-  -- the claim is ended by the row in its slot, in the way that the code says
+  -- the step that ends the claim by the row in its slot, returned or faulted as the code says
   abbrev pub ended : Step (Slot J R) → Seated J R → ℕ → Seated J R → Type 0
   ended st m r m' = Leaves m m'
       × ((e : Ended R) × (st.first ≡ code (end_word e)) × (m.1 ≡ (st.word, Row (row_in e)) ∷ rest m.1)
       × AddsEvent st.slots m.0 (end_event m.0.worker st.word e) m'.0)
 
-  -- a claim that is not ended stays, but its slot goes home: the board is about to be closed
+  -- the step of a pass that has a claim when the board is about to be closed: the claim stays, and its slot is returned to the board
   abbrev pub put_down : Step (Slot J R) → Seated J R → ℕ → Seated J R → Type 0
   put_down st m r m' = Leaves m m' × Extends m.0 m'.0
 
-  -- the first pass, which makes the others
+  -- what the first pass knows at the start; this pass makes the other passes
   abbrev pub view_before_split : Option J → ℕ → View J R
   view_before_split root workers = record {
     live = true;
@@ -172,11 +173,11 @@ module _ {J R : Type 0} where
     joined = [];
   }
 
-  -- a pass that has made one more
+  -- what a pass knows after it has made one more pass
   abbrev pub left_of_split : View J R → View J R
   left_of_split v = record v { made = v.made + 1 }
 
-  -- the pass that it made
+  -- what the pass that was made knows
   abbrev pub right_of_split : View J R → View J R
   right_of_split v = record {
     live = true;
@@ -192,11 +193,11 @@ module _ {J R : Type 0} where
     joined = [];
   }
 
-  -- a pass that has taken in another
+  -- what a pass knows after another pass was merged into it
   abbrev pub merged : View J R → View J R → View J R
   merged v w = record v { joined = v.joined ++ (w.worker, w.mine) ∷ w.joined; front = larger v.front w.front }
 
--- a pass that was taken in
+-- what a pass knows after it was merged into another pass: nothing
 abbrev pub spent : {J R : Type 0} → View J R
 spent = record {
   live = false;

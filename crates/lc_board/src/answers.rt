@@ -1,41 +1,41 @@
-//! The answers of a board's calls.
+//! What the calls of a board return.
 ghost use Rattle.std.specs.Prelude.{◌≡◌};
 ghost use Rattle.lc_board.specs.Ending.{row_in};
 
-/// The answer of a claim.
+/// What a call of `claim` returns.
 #[derive(PartialEq, Eq, Debug, Drop)]
 pub enum Claim<J> {
-    /// The number that was claimed, with its job.
+    /// The directory's number that was claimed, and its job.
     Got(u32, J),
-    /// No number that this worker has seen posted is open, but another worker may still post one: claim again.
+    /// No directory's number that this worker has seen posted is open. Another worker may still post a number, so claim again later.
     Later,
-    /// No number is open or claimed, so none will be.
+    /// No directory's number is open or claimed, and no number ever will be: the work is done.
     Over,
-    /// There was no memory to claim with: nothing changed.
+    /// An allocation failed, and the board did not change.
     Memory,
 }
 
 /// Why a job was not posted. The error returns the job.
 #[derive(PartialEq, Eq, Debug, Drop)]
 pub enum PostFault<J> {
-    /// All numbers of the board are used.
+    /// The board has used all numbers that it has for directories.
     Full(J),
-    /// There was no memory for one more number. Nothing changed.
+    /// An allocation failed. The board and the pass did not change.
     Memory(J),
 }
 
-/// Why a board was not closed. The first of these that holds is reported.
+/// Why a board was not closed. If several variants apply, the first of them is returned.
 #[derive(Clone, Copy, PartialEq, Eq, Debug, Drop)]
 pub enum CloseFault {
-    /// The least number that is neither returned nor faulted.
+    /// Some directory's number was neither returned nor faulted. The field is the least such number.
     Unfinished(u32),
-    /// The worker whose events the board and the pass remember differently.
+    /// The board and the pass of this worker have stored different events.
     Mismatch(u32),
-    /// There was no memory for the rows.
+    /// An allocation for the rows failed.
     Memory,
 }
 
-/// The row by which a number ended.
+/// The row that a worker added when it ended its claim of a directory's number. `Faulted` has the row of an error.
 #[derive(PartialEq, Eq, Debug, Drop)]
 pub enum Ended<R> {
     Returned(R),
@@ -53,7 +53,7 @@ impl<R> Ended<R> {
     }
 }
 
-/// The rows of a closed board, each at the place of its number.
+/// The rows of a closed board, one for each directory's number. The index of a row is the number.
 #[derive(PartialEq, Eq, Debug, Drop)]
 pub struct Closed<R> {
     pub rows: Vec<Ended<R>>,

@@ -1,34 +1,34 @@
-//! The events of a board: what workers do.
+//! The events of a board: what workers do with its numbers.
 
-/// One event of a board, with the job or the row that it moves.
+/// One event of a board: what a worker did with a directory's number. Most events carry the job or the row of that number.
 #[derive(PartialEq, Eq, Debug, Drop)]
 pub enum Event<J, R> {
-    /// The worker, which has claimed the parent, opened the number with this job.
+    /// The worker opened a new directory's number with this job, under its claim of the number `parent`.
     Post {
         worker: u32,
         parent: u32,
         number: u32,
         job: J,
     },
-    /// The worker took the number, with its job.
+    /// The worker claimed the number and got its job.
     Claim {
         worker: u32,
         number: u32,
         job: J,
     },
-    /// The worker ended its claim of the number by a row.
+    /// The worker ended its claim of the number and added this row.
     Return {
         worker: u32,
         number: u32,
         row: R,
     },
-    /// The worker ended its claim of the number by the row of a fault.
+    /// The worker ended its claim of the number and added the row of an error.
     Fault {
         worker: u32,
         number: u32,
         row: R,
     },
-    /// The worker found that no number is open or claimed.
+    /// The worker found that no number of the board is open or claimed.
     Over {
         worker: u32,
     },

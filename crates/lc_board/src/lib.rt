@@ -1,13 +1,15 @@
-//! The board that workers share: a number for each directory, which is open, claimed by a worker, or ended by a row.
+//! The board that the worker threads of a walk share. It has a number for each directory.
 //!
-//! The root has number 0. A worker that has claimed a number may post further numbers under it, each with a job, and ends the claim by a
-//! row. A board is over once no number is open or claimed. Closing it returns the row of each number.
+//! The root directory has number 0. A worker claims an open number and gets its job: what the worker needs to visit the directory. Under
+//! that claim the worker may post further numbers, each with the job of a child directory; these numbers are then open. The worker ends its
+//! claim by a row: what it found in the directory. A board is over once no number is open or claimed. Closing the board returns the row of
+//! each number.
 //!
-//! - `shared`: the trait of boards that threads share; `event`, `answers`: the events and the answers of its calls; `limits`: the limits of
-//!   a board
-//! - `words`: the board of the program, which has a word of a table for each number
-//! - `locked`: a board with a lock, which tests compare with `words`; `plain`: the board of one thread under that lock
-//! - `laws`: what legal histories have in common
+//! - `shared`: the trait of boards that threads share; `event`: the events that its calls add to the history; `answers`: what its calls
+//!   return; `limits`: the limits of a board
+//! - `words`: the board of the program, which stores the state of each number in one atomic word
+//! - `locked`: a board under a lock, which tests compare with `words`; `plain`: the single-threaded board under that lock
+//! - `laws`: theorems about all legal histories of a board; a history is the list of the events of all workers
 #![tactic(auto)]
 
 mod answers;

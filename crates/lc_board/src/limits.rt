@@ -1,7 +1,7 @@
 //! The limits of a board.
 
-/// The greatest number of numbers of a board.
+/// The maximum capacity of a board: how many numbers it can have, one for each directory.
 pub const MAX_CAPACITY: u32 = 1_048_576;
 
-/// The greatest number of workers that share a board.
+/// The maximum number of workers that share a board.
 pub const MAX_WORKERS: u32 = 16;

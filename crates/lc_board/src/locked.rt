@@ -1,6 +1,7 @@
-//! The board that workers share under one lock.
+//! A board that workers share under one lock.
 //!
-//! A lock promises of its value only what the value's type states. So closing the board compares its history with the passes.
+//! After a lock is taken, contracts know of the value under it only what the value's type states. So `close` compares the board's history
+//! with the events that each pass has stored.
 ghost use Rattle.std.specs.Prelude.{◌≡◌, ◌≢◌, ℕ, ◌≤◌, Some, IfOk, IfErr, map, slice_get, vec_len};
 ghost use Rattle.lc_board.specs.{ClosedBoard.{Settled, RefusesClose}, LockedBoard.told, RecordedCalls.locked_promises};
 ghost use Rattle.lc_board.specs.Limits.{capacity_limit, workers_limit};
@@ -18,7 +19,7 @@ mod recorded;
 use pass::LockedPass;
 use recorded::Recorded;
 
-/// A board under one lock. It doesn't promise that the rows that it returns are at the places of their numbers.
+/// A board under one lock. Its contracts do not promise that each returned row is at the index of its number.
 #[derive(Drop)]
 pub struct Locked<J, R> {
     alloc: Global,

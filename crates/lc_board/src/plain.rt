@@ -1,4 +1,4 @@
-//! The board of one thread. Each call names the worker for which it acts.
+//! A single-threaded board. Each call names the worker for which it acts.
 ghost use Rattle.std.specs.Prelude.{◌≡◌, ◌≢◌, ℕ, ◌<◌, ◌≤◌, ◌^◌, [], None, map, slice_set, true, false, IfOk, IfErr, IfSome, IfNone};
 ghost use Rattle.std.specs.Prelude.{MatchBool};
 ghost use Rattle.lc_board.specs.{Ending.{MayEnd, end_event}, LegalHistory.IsOver, RowsInPlace.InPlace};
@@ -17,14 +17,15 @@ mod scans;
 use cell::Cell;
 use scans::{all_ended, first_left, is_any_held};
 
-/// A board of one thread. Contracts see it as its capacity, what each worker has claimed, and the cells of its numbers.
+/// A single-threaded board, which has a number for each directory. In contracts its value is the capacity, the number that each worker has
+/// claimed, and the cell of each number.
 #[derive(Drop)]
 pub struct Plain<J, R> {
     capacity: u32,
-    /// For each worker the number that it has claimed.
+    /// The number that each worker has claimed, at the worker's index.
     held: Vec<Option<u32>>,
     cells: Vec<Cell<J, R>>,
-    /// The least number that is open; where none is, the least that is not used.
+    /// The least open number. If no number is open, the least unused number.
     next: u32,
 }
 
@@ -41,7 +42,7 @@ impl<J, R> Model for Plain<J, R> {
 }
 
 impl<J: Drop, R: Drop> Plain<J, R> {
-    /// Makes a board on which number 0 is open with the job of the root. If an allocation fails, the root is dropped.
+    /// Makes a board on which number 0 is open with the root's job. If an allocation fails, the root's job is dropped.
     pub fn start(
         alloc: Global,
         capacity: u32,
@@ -66,7 +67,8 @@ impl<J: Drop, R: Drop> Plain<J, R> {
         })
     }
 
-    /// Claims the least open number for a worker that has claimed none. It allocates nothing and never answers Memory.
+    /// Claims the least directory's number that is open, for a worker that has no claim. Allocates nothing, and never returns
+    /// `Claim::Memory`.
     pub fn claim(&mut self, worker: u32) -> Claim<J>
         requires worker { worker < workers_of self.old }
         requires free { held_by self.old worker ≡ None }
@@ -85,7 +87,7 @@ impl<J: Drop, R: Drop> Plain<J, R> {
         Claim::Over
     }
 
-    /// Posts a job at the least unused number, under the claim of the worker.
+    /// Posts the job under the worker's claim: opens the least unused number with this job, and returns the number.
     pub fn post(&mut self, worker: u32, job: J) -> Result<u32, PostFault<J>>
         requires worker { worker < workers_of self.old }
         requires holds { held_by self.old worker ≢ None }
@@ -106,7 +108,7 @@ impl<J: Drop, R: Drop> Plain<J, R> {
         Ok(number as u32)
     }
 
-    /// Ends the claim of the worker by a row. It allocates nothing.
+    /// Ends the worker's claim by adding this row. Allocates nothing.
     pub fn give(&mut self, worker: u32, row: R)
         requires worker { worker < workers_of self.old }
         requires holds { held_by self.old worker ≢ None }
@@ -116,7 +118,7 @@ impl<J: Drop, R: Drop> Plain<J, R> {
         self.end(worker, Ended::Returned(row));
     }
 
-    /// Ends the claim of the worker by the row of an error. The worker has posted nothing under it. It allocates nothing.
+    /// Ends the worker's claim by adding the row of an error. The worker must have posted nothing under the claim. Allocates nothing.
     pub fn fault(&mut self, worker: u32, row: R)
         requires worker { worker < workers_of self.old }
         requires holds { held_by self.old worker ≢ None }
@@ -127,7 +129,7 @@ impl<J: Drop, R: Drop> Plain<J, R> {
         self.end(worker, Ended::Faulted(row));
     }
 
-    /// Ends the claim of the worker. It allocates nothing.
+    /// Ends the worker's claim by adding a row, which says whether the claim ended with an error. Allocates nothing.
     pub(crate) fn end(&mut self, worker: u32, ended: Ended<R>)
         requires worker { worker < workers_of self.old }
         requires holds { held_by self.old worker ≢ None }
@@ -142,7 +144,7 @@ impl<J: Drop, R: Drop> Plain<J, R> {
         self.held[worker as usize] = None;
     }
 
-    /// Returns whether no number is open or claimed.
+    /// Returns whether no directory's number is open or claimed.
     pub fn is_over(&self) -> bool
         ensures over { result ≡ true → NoneOpen self.now × NoneHeld self.now }
         ensures left { result ≡ false → (k : ℕ) × IsLeft (cell_at self.now k) }
@@ -176,7 +178,7 @@ impl<J: Drop, R: Drop> Plain<J, R> {
         self.held.len() as u32
     }
 
-    /// Returns whether all numbers are used.
+    /// Returns whether all numbers are used that the board's capacity allows.
     pub(crate) fn is_full(&self) -> bool
         ensures { MatchBool result (IsFull self.now) (¬ IsFull self.now) }
     {
@@ -189,7 +191,7 @@ impl<J: Drop, R: Drop> Plain<J, R> {
         self.capacity
     }
 
-    /// Returns the number that a worker has claimed.
+    /// Returns the directory's number that a worker has claimed.
     pub(crate) fn held_by(&self, worker: u32) -> Option<u32>
         requires { worker < workers_of self.now }
         ensures { result ≡ held_by self.now worker }
@@ -197,7 +199,7 @@ impl<J: Drop, R: Drop> Plain<J, R> {
         self.held[worker as usize]
     }
 
-    /// Returns the posts under the claim of a worker.
+    /// Returns how many jobs a worker has posted under its present claim.
     pub(crate) fn posts_by(&self, worker: u32) -> u32
         requires worker { worker < workers_of self.now }
         requires holds { held_by self.now worker ≢ None }
@@ -209,7 +211,7 @@ impl<J: Drop, R: Drop> Plain<J, R> {
         self.cells[number as usize].posts()
     }
 
-    /// Returns the least number that has not ended.
+    /// Returns the least number that is open or claimed.
     pub(crate) fn first_left(&self) -> Option<u32>
         ensures some { IfSome result (IsLeftLeast self.now) }
         ensures none { IfNone result (NoneLeft self.now) }

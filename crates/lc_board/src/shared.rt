@@ -1,7 +1,8 @@
 //! The trait of boards that threads share.
 //!
-//! Each worker has a pass. With it the worker claims a number, posts further jobs under that claim, and ends it by a row. The calls of all
-//! workers form one legal history, and each pass has the events of its worker. The clauses of `close` state this for all passes together.
+//! Each worker has a pass, which gives it access to the board. With the pass the worker claims a number, posts further jobs under that
+//! claim, and ends the claim by a row. The calls of all workers form one legal history: each call was allowed when it came. Each pass has
+//! the events of its worker. The clauses of `close` state this for all passes together.
 ghost use Rattle.std.specs.Prelude.{◌≡◌, ◌≢◌, ℕ, ◌≤◌, Some, None, IfOk, IfErr, slice_get, vec_len, map};
 ghost use Rattle.lc_board.specs.Pass.{Pass, holding, posted, new_pass, after_claim, after_post, after_give, after_fault, job_back};
 ghost use Rattle.lc_board.specs.{ClosedBoard.{Promises, Settled, RefusesClose}, Limits.{capacity_limit, workers_limit}};
@@ -10,46 +11,46 @@ use crate::answers::{Claim, CloseFault, Closed, PostFault};
 use std::alloc::{AllocError, Global};
 use std::sync::Wait;
 
-/// The pass of one worker.
+/// The pass of one worker, which gives the worker access to a board.
 pub trait Token<J, R> {
-    /// What contracts see of a pass: its worker, its events, and whether the board was full or memory ran out.
+    /// The value of a pass in contracts: its worker, its events, and whether the board was full or memory ran out.
     ghost view: { Self → Pass J R };
 
-    /// Returns the worker's number, from 0.
+    /// Returns the index of the pass's worker, from 0.
     fn worker(&self) -> u32
         ensures { result ≡ (view self.now).worker };
 
-    /// The number that is claimed and not ended.
+    /// Returns the directory's number that the worker has claimed and not yet ended.
     fn holding(&self) -> Option<u32>
         ensures { result ≡ holding (view self.now) };
 
-    /// Returns the number of posts under the present claim.
+    /// Returns how many jobs the worker has posted under its present claim.
     fn posted(&self) -> u32
         ensures { result ≡ posted (view self.now) };
 }
 
-/// A board that workers share. The clauses of a call that may wait hold only if it returns. The trait includes what every caller needs to
-/// move the board between threads and to drop it, so a worker's bound is `B: Shared<J, R>` alone.
+/// A board that workers share. The clauses of a call that may wait for another thread hold only if the call returns. The trait includes
+/// what every caller needs to share the board between threads and to drop it. So the bound `B: Shared<J, R>` is enough for a worker.
 pub trait Shared<J, R>: Sized + Sync + Drop {
     type Pass: Token<J, R> + Send + Drop;
 
-    /// The capacity of the board.
+    /// The capacity of the board: how many numbers it can have.
     ghost capacity_of: { Self → ℕ };
 
     /// The number of workers that share the board.
     ghost workers_of: { Self → ℕ };
 
-    /// The job of number 0, as far as the board states it.
+    /// States that this is the job of the root, number 0. A board that promises nothing about that job states this of each job.
     ghost is_root: { Self → J → Type 0 };
 
-    /// The pass is this board's.
+    /// States that the pass belongs to this board.
     ghost owns: { Self → Self.Pass → Type 0 };
 
-    /// What closing such a board promises.
+    /// What `close` promises for a board of this type.
     ghost promises: { Promises };
 
-    /// Starts a board on which number 0 is open with the job of the root. It returns the board and the passes of its workers, in order.
-    /// If an allocation fails, the root is dropped.
+    /// Makes a board on which number 0, the root directory, is open with its job. Returns the board, and a pass for each worker in the
+    /// workers' order. If an allocation fails, the job is dropped.
     fn start(
         alloc: Global,
         capacity: u32,
@@ -63,14 +64,14 @@ pub trait Shared<J, R>: Sized + Sync + Drop {
         ensures passes { IfOk result (λ b. (w : ℕ) (p : Self.Pass) → slice_get b.1.items w ≡ Some p
             → owns b.0 p × (Self.Pass.view p ≡ new_pass w)) };
 
-    /// Claims an open number for a worker that has claimed none.
+    /// Claims an open directory's number for the worker of the pass, which must have no claim.
     fn claim<W: Wait>(&self, rt: &W, pass: &mut Self::Pass) -> Claim<J>
         requires pass { owns self.now pass.old }
         requires free { holding (Self.Pass.view pass.old) ≡ None }
         ensures pass { owns self.now pass.new }
         ensures mine { Self.Pass.view pass.new ≡ after_claim (Self.Pass.view pass.old) result };
 
-    /// Makes one more number open with this job, under the claim of the pass.
+    /// Posts the job under the claim of the pass: opens one more number with this job, and returns the number.
     fn post<W: Wait>(&self, rt: &W, pass: &mut Self::Pass, job: J) -> Result<u32, PostFault<J>>
         requires pass { owns self.now pass.old }
         requires holds { holding (Self.Pass.view pass.old) ≢ None }
@@ -78,14 +79,14 @@ pub trait Shared<J, R>: Sized + Sync + Drop {
         ensures mine { Self.Pass.view pass.new ≡ after_post (Self.Pass.view pass.old) job result }
         ensures back { IfErr result (λ f. job_back f ≡ job) };
 
-    /// Ends the claim of the pass by a row.
+    /// Ends the claim of the pass by adding this row.
     fn give<W: Wait>(&self, rt: &W, pass: &mut Self::Pass, row: R)
         requires pass { owns self.now pass.old }
         requires holds { holding (Self.Pass.view pass.old) ≢ None }
         ensures pass { owns self.now pass.new }
         ensures mine { Self.Pass.view pass.new ≡ after_give (Self.Pass.view pass.old) row };
 
-    /// Ends the claim of the pass by the row of an error. Nothing was posted under the claim.
+    /// Ends the claim of the pass by adding the row of an error. The worker must have posted nothing under the claim.
     fn fault<W: Wait>(&self, rt: &W, pass: &mut Self::Pass, row: R)
         requires pass { owns self.now pass.old }
         requires holds { holding (Self.Pass.view pass.old) ≢ None }
@@ -93,8 +94,8 @@ pub trait Shared<J, R>: Sized + Sync + Drop {
         ensures pass { owns self.now pass.new }
         ensures mine { Self.Pass.view pass.new ≡ after_fault (Self.Pass.view pass.old) row };
 
-    /// Returns the rows, once each number has ended. It takes all passes of the board, in their workers' order. On an error the rows are
-    /// dropped.
+    /// Closes the board and returns the row of each number. Fails if some number is still open or claimed. The passes must be all passes of
+    /// the board, in their workers' order. On an error the rows are dropped.
     fn close(self, passes: Vec<Self::Pass>) -> Result<Closed<R>, CloseFault>
         requires all { vec_len passes ≡ Self.workers_of self }
         requires each { (w : ℕ) (p : Self.Pass) → slice_get passes.items w ≡ Some p → owns self p × ((Self.Pass.view p).worker ≡ w) }

@@ -1,7 +1,8 @@
-//! The board of words: a word for each number, which workers change by one exchange at a time.
+//! The board of words: each number has an atomic word with its state, and a slot with its job and later its row.
 //!
-//! Its own calls `claim`, `post`, `give` and `fault` wait for no thread and allocate nothing. A slot has the job of its number, later its
-//! row. The thread that changed the word moves both. So jobs and rows that are boxes make slots of 16 bytes.
+//! Workers change a word only by atomic exchanges. The methods `claim`, `post`, `give` and `fault` of `Words` wait for no thread and
+//! allocate nothing. The worker that has claimed a number takes the job out of its slot, and later puts the row in. If jobs and rows are
+//! boxes, a slot takes 16 bytes.
 ghost use Rattle.std.specs.Prelude.{◌≡◌, ◌≤◌};
 ghost use Rattle.lc_board.specs.Limits.{capacity_limit, workers_limit};
 
@@ -23,7 +24,8 @@ mod start;
 mod steps;
 pub mod view;
 
-/// A board of words. The rows that it returns are at the places of their numbers.
+/// A board with one atomic word for each directory's number. After the board is closed, the row of each number is at the index of that
+/// number.
 #[derive(Drop)]
 pub struct Words<J, R> {
     pub(crate) table: Table<Slot<J, R>, View<J, R>, BoardSetup<J>, OneHistory, Global>,

@@ -1,4 +1,4 @@
-//! Comparing the stored history of a locked board with the events that its passes have stored.
+//! Comparisons of the stored history of a locked board with the events that its passes have stored.
 ghost use Rattle.std.specs.Prelude.{◌≡◌, ◌≢◌, ℕ, ◌≤◌, length, true, false, IfSome, IfNone, Some, slice_get};
 ghost use Rattle.lc_board.specs.{Part.worker_of, Bare.bare, Notes.valued, ComparedPass.IsSame, Limits.workers_limit};
 
@@ -18,7 +18,7 @@ fn worker_in(event: &BareEvent) -> u32
     }
 }
 
-/// Returns the event of a note, without its job or row.
+/// Returns the event that a pass has stored, without its job or row.
 fn event_in<J, R>(note: &Event<Snapshot<J>, Snapshot<R>>) -> BareEvent
     ensures { result ≡ bare (valued note.now) }
 {
@@ -60,7 +60,7 @@ fn is_same_event(a: &BareEvent, b: &BareEvent) -> bool
     *a == *b
 }
 
-/// The history has of this worker just what is noted.
+/// Returns whether the events of this worker in the history are the events in `notes`, which the worker's pass has stored.
 fn matches<J, R>(
     history: &[BareEvent],
     notes: &[Event<Snapshot<J>, Snapshot<R>>],
@@ -86,7 +86,7 @@ fn matches<J, R>(
     own.is_empty()
 }
 
-/// Returns the first worker whose events in the history differ from those of its pass.
+/// Returns the first worker whose events in the history differ from the events that its pass has stored.
 pub fn first_mismatch<J, R>(history: &[BareEvent], passes: &[LockedPass<J, R>]) -> Option<u32>
     requires { length passes.now ≤ workers_limit }
     ensures some { IfSome result (λ w. (p : _) × (slice_get passes.now w ≡ Some p) × (¬ IsSame w history.now p.notes.items)) }

@@ -1,4 +1,4 @@
-//! A worker's pass of a locked board.
+//! The pass that gives a worker access to a locked board.
 ghost use Rattle.std.specs.Prelude.{◌≡◌, ◌≢◌, ◌<◌, None, vec_len, vec_capacity};
 ghost use Rattle.lc_board.specs.Holding as events;
 ghost use Rattle.lc_board.specs.Notes.{mine_of};
@@ -9,7 +9,7 @@ use std::snapshot::Snapshot;
 
 mod noting;
 
-/// A pass that stores the events of its worker, but not their jobs and rows. Only contracts speak of those.
+/// A worker's pass for a locked board. It stores the worker's events, but not their jobs and rows, which only contracts mention.
 #[derive(Drop)]
 pub struct LockedPass<J, R> {
     worker: u32,

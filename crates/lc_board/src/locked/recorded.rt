@@ -1,4 +1,4 @@
-//! The value under the lock: a board of one thread, and the history of its events.
+//! The value under the lock of a locked board: a single-threaded board, and the history of its events.
 ghost use Rattle.std.specs.Prelude.{◌≡◌, ℕ, ◌≤◌, [], IfOk, IfErr, MatchBool, map, length};
 ghost use Rattle.lc_board.specs.{LockedBoard.told, Bare.bare, Ending.{MayEnd, end_event}, PlainBoard.{first_board, posts_by, IsFull}};
 ghost use Rattle.lc_board.specs.RecordedCalls.{Holds, MayFault, Records, RefusesRecorded, locked_promises, RecordsClaim, RecordsPost};
@@ -14,7 +14,7 @@ use crate::shared::Token;
 use std::alloc::{AllocError, Global};
 use std::marker::Model;
 
-/// A board with its history. Contracts see the board, and the history newest first.
+/// A single-threaded board with its history, that is, the list of its events. In contracts the newest event is the first of the list.
 #[derive(Drop)]
 pub struct Recorded<J, R> {
     plain: Plain<J, R>,
@@ -33,7 +33,7 @@ impl<J, R> Model for Recorded<J, R> {
 }
 
 impl<J: Drop, R: Drop> Recorded<J, R> {
-    /// Returns the board before the first event.
+    /// Makes a board on which number 0 is open with the root's job, and an empty history.
     pub fn start(
         alloc: Global,
         capacity: u32,
@@ -51,7 +51,7 @@ impl<J: Drop, R: Drop> Recorded<J, R> {
         })
     }
 
-    /// Claims a number for a worker. First it makes room for this event, and for the end of each claim.
+    /// Claims a number for a worker. First reserves memory in the history for this event, and for the event that ends each worker's claim.
     pub fn claim(&mut self, worker: u32) -> Claim<J>
         ensures { RecordsClaim worker self.old result self.new }
     {
@@ -76,15 +76,15 @@ impl<J: Drop, R: Drop> Recorded<J, R> {
         answer
     }
 
-    /// Returns whether all numbers are used.
+    /// Returns whether all numbers are used that the board's capacity allows.
     pub(crate) fn is_full(&self) -> bool
         ensures { MatchBool result (IsFull self.now.board) (¬ IsFull self.now.board) }
     {
         self.plain.is_full()
     }
 
-    /// Posts a job under the worker's claim of the parent, and keeps the room for the ends. If no number is left, the error is Full, even
-    /// if there is no memory either.
+    /// Posts the job under the worker's claim of the parent. Keeps memory reserved for the event that ends each worker's claim. If all
+    /// numbers are used, the error is `PostFault::Full`, even if memory has also run out.
     pub fn post(&mut self, worker: u32, parent: u32, job: J) -> Result<u32, PostFault<J>>
         ensures { RecordsPost worker parent self.old job result self.new }
     {
@@ -109,7 +109,7 @@ impl<J: Drop, R: Drop> Recorded<J, R> {
         }
     }
 
-    /// Ends the claim of the number by a row. It returns false if the worker has not claimed the number.
+    /// Ends the worker's claim of the number by adding this row. Returns false if the worker has not claimed the number.
     pub fn give(&mut self, worker: u32, number: u32, row: R) -> bool
         ensures { RecordsEnd (Holds worker number self.old.board) self.old (Return worker number row) result self.new }
     {
@@ -120,8 +120,8 @@ impl<J: Drop, R: Drop> Recorded<J, R> {
         true
     }
 
-    /// Ends the claim of the number by the row of an error. It returns false if the worker has not claimed the number, or has posted under
-    /// it.
+    /// Ends the worker's claim of the number by adding the row of an error. Returns false if the worker has not claimed the number, or has
+    /// posted under the claim.
     pub fn fault(&mut self, worker: u32, number: u32, row: R) -> bool
         ensures { RecordsEnd (MayFault worker number self.old.board) self.old (Fault worker number row) result self.new }
     {
@@ -132,7 +132,7 @@ impl<J: Drop, R: Drop> Recorded<J, R> {
         true
     }
 
-    /// Returns the event by which the worker ends its claim, without the row.
+    /// Returns the event that ends the worker's claim of the number, without the row.
     fn event_of_end(worker: u32, number: u32, ended: &Ended<R>) -> BareEvent
         ensures { result ≡ bare {J = J} {R = R} (end_event worker number ended.now) }
     {
@@ -150,7 +150,7 @@ impl<J: Drop, R: Drop> Recorded<J, R> {
         }
     }
 
-    /// Ends the claim that the worker has of the number.
+    /// Ends the worker's claim of the number by adding the row, and adds the event to the history.
     fn end(&mut self, worker: u32, number: u32, ended: Ended<R>)
         requires holds { Holds worker number self.old.board }
         requires may { MayEnd (posts_by self.old.board worker) ended }
@@ -161,14 +161,15 @@ impl<J: Drop, R: Drop> Recorded<J, R> {
         self.history.push_reserved(event);
     }
 
-    /// The worker is one of the board's, and has claimed this number.
+    /// Returns whether the worker is one of the board's workers and has claimed this number.
     fn holds(&self, worker: u32, number: u32) -> bool
         ensures { MatchBool result (Holds worker number self.now.board) (¬ Holds worker number self.now.board) }
     {
         worker < self.plain.workers() && self.plain.held_by(worker) == Some(number)
     }
 
-    /// Closes the board. It returns the row of each number, if each has one and the history has exactly the events of each pass.
+    /// Closes the board and returns the row of each number. Fails if some number has not ended, or if the history and a pass have different
+    /// events of the pass's worker.
     pub fn close(
         self,
         alloc: Global,

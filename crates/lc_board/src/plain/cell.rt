@@ -1,4 +1,4 @@
-//! One directory of a board of one thread.
+//! What a single-threaded board stores for one directory's number.
 ghost use Rattle.std.specs.Prelude.{◌≡◌, ℕ, ◌+◌, ◌<◌, Some, MatchBool};
 ghost use Rattle.lc_board.specs.{PlainBoard.posts_in, PlainCalls.{IsOpen, IsHeld, IsLeft, cell_of}};
 ghost use Rattle.lc_board.specs.{declared.plain.cell.Cell.TheVariants.{Waiting, Held}, Limits.capacity_limit};
@@ -6,19 +6,19 @@ ghost use Rattle.lc_board.specs.{declared.plain.cell.Cell.TheVariants.{Waiting, 
 use crate::answers::Ended;
 use std::mem;
 
-/// What a board stores for a number.
+/// What a single-threaded board stores for one directory's number: its state, with the job or the row.
 #[derive(Drop)]
 pub enum Cell<J, R> {
-    /// Open, with its job.
+    /// The directory's number is open, with this job.
     Waiting(J),
-    /// Claimed by this worker, which has posted this many numbers under it.
+    /// The directory's number is claimed by this worker, which has posted this many numbers under the claim.
     Held { worker: u32, posts: u32 },
-    /// Ended, by this row.
+    /// The directory's number has ended, with this row.
     Done(Ended<R>),
 }
 
 impl<J: Drop, R: Drop> Cell<J, R> {
-    /// Claims an open number, and returns its job.
+    /// Claims this open number for the worker, and returns the number's job.
     pub(crate) fn take_job(&mut self, worker: u32) -> J
         requires { IsOpen (Some self.old) }
         ensures here { self.old ≡ Waiting result }
@@ -31,7 +31,7 @@ impl<J: Drop, R: Drop> Cell<J, R> {
         }
     }
 
-    /// Counts a post under a claim.
+    /// Adds 1 to the count of posts under the claim of this number.
     pub(crate) fn count_post(&mut self)
         requires held { IsHeld (Some self.old) }
         requires few { posts_in (Some self.old) < capacity_limit }
@@ -44,7 +44,7 @@ impl<J: Drop, R: Drop> Cell<J, R> {
         }
     }
 
-    /// Returns the row of a number that has ended.
+    /// Returns the row of this number, which must have ended.
     pub(crate) fn into_row(self) -> Ended<R>
         requires { ¬ IsLeft (Some self) }
         ensures { cell_of result ≡ self }
@@ -58,7 +58,7 @@ impl<J: Drop, R: Drop> Cell<J, R> {
 }
 
 impl<J, R> Cell<J, R> {
-    /// Returns the posts under a claim.
+    /// Returns how many posts there were under the claim of this number.
     pub(crate) fn posts(&self) -> u32
         requires { IsHeld (Some self.now) }
         ensures { result ≡ posts_in (Some self.now) }
@@ -70,7 +70,7 @@ impl<J, R> Cell<J, R> {
         }
     }
 
-    /// Returns whether the number has not ended.
+    /// Returns whether the number is open or claimed.
     pub(crate) fn is_left(&self) -> bool
         ensures { MatchBool result (IsLeft (Some self.now)) (¬ IsLeft (Some self.now)) }
     {

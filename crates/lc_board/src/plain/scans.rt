@@ -1,4 +1,4 @@
-//! Searching all cells of a board of one thread, and what its workers have claimed.
+//! Searches through all cells of a single-threaded board, and through the claims of its workers.
 ghost use Rattle.std.specs.Prelude.{◌≡◌, ◌≢◌, ℕ, ◌<◌, ◌≤◌, false, true, Some, IfOk, IfSome, IfNone, length, map, slice_get};
 ghost use Rattle.lc_board.specs.{PlainCalls.{IsLeft, cell_of}, Limits.capacity_limit};
 
@@ -19,7 +19,7 @@ pub fn is_any_held(held: &[Option<u32>]) -> bool
     false
 }
 
-/// Returns the least number that has not ended.
+/// Returns the least number that is open or claimed. The index of a cell is its number.
 pub fn first_left<J, R>(cells: &[Cell<J, R>]) -> Option<u32>
     requires { length cells.now ≤ capacity_limit }
     ensures some { IfSome result (λ n. IsLeft (slice_get cells.now n) × ((k : ℕ) → k < n → ¬ IsLeft (slice_get cells.now k))) }
@@ -33,7 +33,7 @@ pub fn first_left<J, R>(cells: &[Cell<J, R>]) -> Option<u32>
     None
 }
 
-/// Returns the rows of cells that have all ended.
+/// Returns the row of each cell. All cells must have ended.
 pub fn all_ended<J: Drop, R: Drop>(
     alloc: Global,
     cells: Vec<Cell<J, R>>,

@@ -1,8 +1,10 @@
-//! Claims. A claim tries the number that its pass posted last, by one exchange. Then it goes up over the words once.
+//! Claims on a board of words. A claim first tries the number that its pass posted last, by one atomic exchange. If that fails, the claim
+//! reads the words of the numbers once, in ascending order.
 //!
-//! It begins at the low mark and goes up over the numbers that have ended. If it meets a busy number, it jumps to the mark of the taken
-//! numbers, and goes up from there to the first number that is open or absent. So it takes at most two steps on a word: a number that it
-//! tried in vain is never open again, and its word is read once more.
+//! The reading begins at the pass's low mark, below which all numbers have ended, and continues over numbers that have ended. If it meets a
+//! busy number, which a worker has claimed or is about to open, it jumps to the mark of the taken numbers. Each number below that mark has
+//! ended or is claimed. From there the claim reads up to the first number that is open or unused. So a claim takes at most two steps on
+//! each word. A number that it tried in vain is never open again, and its word is read only once more.
 ghost use Rattle.std.specs.Prelude.{◌≡◌, ◌+◌, ◌<◌, None, IfSome, IfNone, cond};
 ghost use Rattle.lc_board.specs.{Limits.capacity_limit, WordSteps.{Extends, is_last_word, larger}};
 ghost use Rattle.lc_board.specs.WordsBoard.{AnswersWordsClaim, IsPassOf, IsSamePass, TriesClaim, known};
@@ -12,7 +14,7 @@ use crate::words::Words;
 use crate::words::coding::Word;
 use crate::words::pass::WordsPass;
 
-/// No number after this one is used.
+/// Returns whether no number after this one is used: this number is unused, or has ended and is the last of the board.
 fn is_last(capacity: u32, number: u32, found: Word) -> bool
     requires { number < capacity }
     ensures { result ≡ is_last_word capacity number found }
@@ -20,7 +22,8 @@ fn is_last(capacity: u32, number: u32, found: Word) -> bool
     found.is_absent() || (found.has_ended() && number + 1 == capacity)
 }
 
-/// Returns the number that a claim visits after this one: the next, or the mark of the taken numbers if it has met a busy number.
+/// Returns the number that a claim reads after this one, usually the next. A claim that has met a busy number jumps to the mark of the
+/// taken numbers, if the mark is higher.
 fn number_after(number: u32, taken: u32, busy: bool) -> u32
     requires { number < capacity_limit }
     ensures { result ≡ cond busy (larger (number + 1) taken) (number + 1) }
@@ -33,7 +36,7 @@ fn number_after(number: u32, taken: u32, busy: bool) -> u32
 }
 
 impl<J, R> Words<J, R> {
-    /// Looks at the number, and claims it if it is open. Returns its job, or else the word that was found.
+    /// Reads the word of the number, and tries to claim the number if it is open. Returns its job, or otherwise the word that was found.
     fn visit(&self, pass: &mut WordsPass<J, R>, number: u32) -> Result<J, Word>
         requires board { IsPassOf self.now pass.old }
         requires free { pass.old.holding ≡ None }
@@ -48,8 +51,8 @@ impl<J, R> Words<J, R> {
         self.try_claim(pass, number)
     }
 
-    /// Claims the highest number that the pass posted last, if it is open. If it is not, others have come to these numbers, and they are
-    /// dropped.
+    /// Claims the highest number in the pass's list of newest numbers, if that number is open. If it is not open, other workers have begun
+    /// to claim these numbers, and the list is emptied.
     fn claim_newest(&self, pass: &mut WordsPass<J, R>) -> Option<Claim<J>>
         requires board { IsPassOf self.now pass.old }
         requires free { pass.old.holding ≡ None }
@@ -71,7 +74,7 @@ impl<J, R> Words<J, R> {
         }
     }
 
-    /// Claims the first open number on the way up.
+    /// Claims the first open number that is found by reading the words of the board from the pass's low mark up.
     fn claim_lowest(&self, pass: &mut WordsPass<J, R>) -> Claim<J>
         requires board { IsPassOf self.now pass.old }
         requires free { pass.old.holding ≡ None }
@@ -97,8 +100,8 @@ impl<J, R> Words<J, R> {
         Claim::Later
     }
 
-    /// Claims an open number, with its job. It takes at most two steps on a word, waits for no thread, allocates nothing and never answers
-    /// Memory.
+    /// Claims an open directory's number, and returns it with its job. Takes at most two steps on each word, waits for no thread, allocates
+    /// nothing and never returns `Claim::Memory`.
     pub fn claim(&self, pass: &mut WordsPass<J, R>) -> Claim<J>
         requires board { IsPassOf self.now pass.old }
         requires free { pass.old.holding ≡ None }

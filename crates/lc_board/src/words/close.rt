@@ -1,4 +1,4 @@
-//! Closing a board of words: one pass takes in the others, and the rows are taken out.
+//! Functions that close a board of words: all passes are merged into one, and the rows are taken out of the slots.
 ghost use Rattle.std.specs.Prelude.{◌≡◌, ℕ, ◌<◌, ◌≤◌, true, false, slice_index_or, slice_get, [], Some, IfOk, map, vec_len};
 ghost use Rattle.std.specs.Mem.Slots.{slots_items, slots_filled, slots_len, IsFull, Ownership.Filled};
 ghost use Rattle.lc_board.specs.{WordSteps.{IsSameTold, merged}, WordsBoard.{IsPassOf, IsSamePass, known, told}};
@@ -14,7 +14,7 @@ use crate::words::view::{Slot, View};
 use atomic_table::{Closed, Seat};
 use std::alloc::{AllocError, Global};
 
-/// Drops what is left in the slots.
+/// Drops what is in the slots of a closed board from the index `from` on, and frees the board.
 pub(crate) fn drain<S: Drop>(mut closed: Closed<S, Global>, from: usize)
     requires within { from ≤ slots_len closed.slots }
     requires filled { Filled (slots_filled closed.slots) from (slots_len closed.slots) }
@@ -28,7 +28,7 @@ pub(crate) fn drain<S: Drop>(mut closed: Closed<S, Global>, from: usize)
     closed.free();
 }
 
-/// Returns how many numbers there are if all have ended, or else the least number that has not ended.
+/// Returns how many numbers are used, if all of them have ended. Otherwise the error is the least number that has not ended.
 pub(crate) fn count_ended<S>(closed: &Closed<S, Global>, capacity: u32) -> Result<u32, u32>
     requires words { slots_len closed.now.words ≡ capacity }
     requires full { IsFull closed.now.words }
@@ -46,7 +46,7 @@ pub(crate) fn count_ended<S>(closed: &Closed<S, Global>, capacity: u32) -> Resul
     Ok(capacity)
 }
 
-/// Returns the row of a number that has ended, by its word.
+/// Returns the row as returned or faulted, as the word of its number says. The number must have ended.
 fn ended_row<R>(word: Word, row: R) -> Ended<R>
     requires { has_ended word ≡ true }
     ensures { ended_as (shown word) row ≡ Some result }
@@ -58,7 +58,7 @@ fn ended_row<R>(word: Word, row: R) -> Ended<R>
     }
 }
 
-/// Takes the rows of the first numbers out of the slots, and drops what is left.
+/// Takes the rows of the first `count` numbers out of their slots, and drops what is in the other slots.
 pub(crate) fn take_rows<J: Drop, R: Drop>(
     alloc: Global,
     mut closed: Closed<Slot<J, R>, Global>,
@@ -90,7 +90,8 @@ pub(crate) fn take_rows<J: Drop, R: Drop>(
 }
 
 impl<J, R> Words<J, R> {
-    /// Returns the seat of a pass that another pass is about to take in. If it has a claim, the slot of that number goes back to the board.
+    /// Returns the seat of a pass, which is about to be merged into another pass. If the pass has a claim, the slot of its number goes back
+    /// to the board.
     fn emptied(&self, pass: WordsPass<J, R>) -> Seat<Slot<J, R>, View<J, R>>
         requires board { IsPassOf self.now pass }
         ensures board { result.table_id ≡ self.now.table.shared.table_id }
@@ -111,7 +112,7 @@ impl<J, R> Words<J, R> {
         seat
     }
 
-    /// The pass takes in another, which may still hold a claim.
+    /// Merges the other pass, which may still have a claim, into this pass.
     fn take_in(&self, pass: &mut WordsPass<J, R>, other: WordsPass<J, R>)
         requires board { IsPassOf self.now pass.old × IsPassOf self.now other }
         ensures same { IsSamePass pass.old pass.new × (pass.new.holding ≡ pass.old.holding) }
@@ -125,7 +126,7 @@ impl<J, R> Words<J, R> {
         }
     }
 
-    /// Makes one pass take in all others, and returns the words and the slots.
+    /// Merges all passes into one, closes the board with it, and returns the board's words and slots.
     pub(crate) fn gather(self, mut passes: Vec<WordsPass<J, R>>) -> Closed<Slot<J, R>, Global>
         requires all { vec_len passes ≡ self.workers }
         requires some { 0 < self.workers }

@@ -1,57 +1,58 @@
-//! The words of a board, and the codes under which they are stored.
+//! The states of a directory's number on a board of words, and the codes that store them in a word.
 ghost use Rattle.std.specs.Prelude.{◌≡◌};
 ghost use Rattle.lc_board.specs.WordCode.{code, word_of, end_word, is_absent, is_open, has_ended, is_busy, is_taken};
 ghost use Rattle.lc_board.specs.declared.words.coding.Word.TheVariants.{Drawn, Claimed};
 
 use crate::answers::Ended;
 
-/// The state of a number, as its word stores it. A worker's number has the type that is stored in a word.
+/// The state of a directory's number, as its word stores it. A worker's index is a `u64` here, because a word stores it.
 #[derive(Clone, Copy, Drop)]
 pub enum Word {
-    /// Not used yet.
+    /// The directory's number is not used yet.
     Absent,
-    /// Open, with its job in the slot.
+    /// The directory's number is open, and its slot has the job.
     Open,
-    /// Returned, with its row in the slot.
+    /// The claim of the directory's number was ended by a row, which is in the slot.
     Returned,
-    /// Faulted, with its row in the slot.
+    /// The claim of the directory's number was ended by the row of an error, which is in the slot.
     Faulted,
-    /// In the middle of a post: this worker is about to open it.
+    /// This worker has reserved the directory's number for a post, and is about to open it.
     Drawn(u64),
-    /// This worker has claimed it.
+    /// This worker has claimed the directory's number.
     Claimed(u64),
 }
 
-/// The code of a number that is absent.
+/// The code of `Word::Absent`: the number is not used yet.
 pub const ABSENT: u64 = 0;
 
-/// The code of a number that is open.
+/// The code of `Word::Open`.
 pub const OPEN: u64 = 1;
 
-/// The code of a number that is returned.
+/// The code of `Word::Returned`.
 pub const RETURNED: u64 = 2;
 
-/// The code of a number that is faulted.
+/// The code of `Word::Faulted`.
 pub const FAULTED: u64 = 3;
 
-/// From here on a code names a worker: an even one has drawn the number, an odd one has claimed it.
+/// The least code that names a worker. An even code says that the worker is about to open the number, an odd code that the worker has
+/// claimed it.
 const BUSY: u64 = 4;
 
-/// Returns the code of a number that the worker has drawn.
+/// Returns the code of a directory's number that the worker has drawn, that is, reserved for a post.
 pub fn drawn_by(worker: u32) -> u64
     ensures { result ≡ code (Drawn worker) }
 {
     BUSY + 2 * worker as u64
 }
 
-/// Returns the code of a number that the worker has claimed.
+/// Returns the code of a directory's number that the worker has claimed.
 pub fn claimed_by(worker: u32) -> u64
     ensures { result ≡ code (Claimed worker) }
 {
     BUSY + 1 + 2 * worker as u64
 }
 
-/// Returns the code of a number that ended by this row.
+/// Returns the code of a directory's number that has ended with this row.
 pub fn ended_by<R>(ended: &Ended<R>) -> u64
     ensures { result ≡ code (end_word ended.now) }
 {
@@ -62,7 +63,7 @@ pub fn ended_by<R>(ended: &Ended<R>) -> u64
 }
 
 impl Word {
-    /// Returns the word of a code.
+    /// Returns the word that a code stands for.
     pub fn of(code: u64) -> Word
         ensures { result ≡ word_of code }
     {
@@ -109,7 +110,7 @@ impl Word {
         }
     }
 
-    /// Returns whether the number is drawn or claimed.
+    /// Returns whether a worker is about to open the number, or has claimed it.
     pub fn is_busy(self) -> bool
         ensures { result ≡ is_busy self }
     {

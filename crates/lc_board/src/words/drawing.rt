@@ -1,4 +1,5 @@
-//! The steps of a post on the seat of a pass: it draws a number, fills its slot, and opens the number.
+//! The three steps of a post. A post draws a number, that is, reserves it. Then the post fills the number's slot with the job, and opens
+//! the number.
 ghost use Rattle.std.specs.Prelude.{◌≡◌, ◌<◌, ◌∷◌};
 ghost use Rattle.atomic_table.specs.Table.{rest};
 ghost use Rattle.lc_board.specs.{WordSteps.{MayDraw, TriesDraw, MayOpen, OpensDrawn}, declared.words.view.Slot.TheVariants.Empty};
@@ -10,7 +11,7 @@ use crate::words::view::{Slot, View};
 use atomic_table::Seat;
 
 impl<J, R> Words<J, R> {
-    /// Draws the number for the worker of the seat, if it is absent.
+    /// Draws the number for the worker, that is, reserves it for a post. Returns false if the number is already used.
     pub(crate) fn draw(
         &self,
         seat: &mut Seat<Slot<J, R>, View<J, R>>,
@@ -29,7 +30,7 @@ impl<J, R> Words<J, R> {
         Word::of(old).is_absent()
     }
 
-    /// Fills the number's slot, which is empty and which the seat holds.
+    /// Fills the number's slot with this content. The slot must be empty, and the seat must hold it.
     pub(crate) fn fill(
         &self,
         seat: &mut Seat<Slot<J, R>, View<J, R>>,
@@ -47,7 +48,7 @@ impl<J, R> Words<J, R> {
         }
     }
 
-    /// Opens the number that was drawn, with the job in its slot.
+    /// Opens the number, which the worker has drawn and whose slot has the job.
     pub(crate) fn open_drawn(&self, seat: &mut Seat<Slot<J, R>, View<J, R>>, number: u32)
         requires board { seat.old.table_id ≡ self.now.table.shared.table_id }
         requires near { number < self.now.capacity }

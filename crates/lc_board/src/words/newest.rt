@@ -1,9 +1,9 @@
-//! The numbers that a pass posted last, which its next claims try first. They are hints without a promise: only the word of a number shows
-//! whether it is open.
+//! The numbers that a worker posted last, which its next claims try first. They are only hints: the word of a number shows whether the
+//! number is open.
 ghost use Rattle.std.specs.Prelude.{◌<◌};
 ghost use Rattle.lc_board.specs.Limits.{capacity_limit};
 
-/// The numbers from `start` up to `end`, without `end`.
+/// The directories' numbers that a worker posted last: from `start` up to `end`, without `end`.
 #[derive(Clone, Copy, Drop)]
 pub struct Newest {
     start: u32,

@@ -1,4 +1,4 @@
-//! A worker's pass of a board of words.
+//! The pass that gives a worker access to a board of words.
 ghost use Rattle.std.specs.Prelude.{◌≡◌, false, true};
 ghost use Rattle.std.proofs.Props.{props};
 ghost use Rattle.lc_board.specs.WordPass.{AreTaken, IsTied};
@@ -8,20 +8,20 @@ use crate::words::newest::Newest;
 use crate::words::view::{Slot, View};
 use atomic_table::Seat;
 
-/// A pass of a board of words, which changes the words for its worker.
+/// A worker's pass for a board of words, through which the worker reads and changes the words.
 #[derive(Drop)]
 pub struct WordsPass<J, R> {
     pub(crate) seat: Seat<Slot<J, R>, View<J, R>>,
     pub(crate) worker: u32,
     pub(crate) holding: Option<u32>,
     pub(crate) posted: u32,
-    /// No word below the front is absent.
+    /// The front, where posts begin: each directory's number below it is used.
     pub(crate) front: u32,
-    /// Each word below the low mark has ended.
+    /// The low mark, from which claims search upward: each directory's number below it has ended.
     pub(crate) low: u32,
-    /// Each word below the mark of the taken numbers has ended or is claimed.
+    /// The mark of the taken numbers: each directory's number below it has ended or is claimed.
     pub(crate) taken: u32,
-    /// What its claims try first.
+    /// The numbers that the worker posted last, which its next claims try first.
     pub(crate) newest: Newest,
     pub(crate) full: bool,
     ghost ties: { IsTied seat.table_id.slots worker holding posted front low seat.me } by { Prim.hlevel props },

@@ -1,4 +1,4 @@
-//! Posting a job at the front of a pass, or beyond it.
+//! Posts on a board of words. A post tries numbers from the front of its pass up; each number below the front is used.
 ghost use Rattle.std.specs.Prelude.{◌≡◌, ◌+◌, ◌<◌, MatchBool, IsSome};
 ghost use Rattle.lc_board.specs.{WordSteps.ExtendsFairly, WordsBoard.{AnswersWordsPost, IsPassOf, IsSamePass, TriesPost, known}};
 
@@ -10,7 +10,7 @@ use crate::words::rule::StepOver;
 use crate::words::view::Slot;
 
 impl<J, R> Words<J, R> {
-    /// Looks at the number at the front of the pass, which goes on where that number is used.
+    /// Reads the word of the number at the pass's front. If that number is used, moves the front to the next number and returns true.
     fn step_over(&self, pass: &mut WordsPass<J, R>) -> bool
         requires board { IsPassOf self.now pass.old }
         requires holds { IsSome pass.old.holding }
@@ -29,7 +29,8 @@ impl<J, R> Words<J, R> {
         true
     }
 
-    /// Draws the number at the front of the pass, and opens it with the job. If another worker draws it first, the job is returned.
+    /// Draws the number at the pass's front, that is, reserves it for this post, and opens it with the job. If another worker draws the
+    /// number first, the error returns the job.
     fn draw_and_open(&self, pass: &mut WordsPass<J, R>, job: J) -> Result<u32, J>
         requires board { IsPassOf self.now pass.old }
         requires holds { IsSome pass.old.holding }
@@ -50,8 +51,8 @@ impl<J, R> Words<J, R> {
         Ok(number)
     }
 
-    /// Tries to post the job at the front of the pass. Or else gives it back. It looks first: an exchange takes the word from the other
-    /// cores even where it fails.
+    /// Tries to post the job with the number at the pass's front. If that number is used, the error returns the job. The word is read
+    /// first, because even a failed exchange takes the word's cache line from the other cores.
     fn try_post(&self, pass: &mut WordsPass<J, R>, job: J) -> Result<u32, J>
         requires board { IsPassOf self.now pass.old }
         requires holds { IsSome pass.old.holding }
@@ -68,8 +69,8 @@ impl<J, R> Words<J, R> {
         }
     }
 
-    /// Posts the job at the least unused number at or above the front of the pass. If all numbers are used, it returns the job. It waits
-    /// for no thread, allocates nothing and never answers Memory.
+    /// Posts the job with the least unused number at or above the pass's front. If all numbers are used, the error returns the job. Waits
+    /// for no thread, allocates nothing and never returns `PostFault::Memory`.
     pub fn post(&self, pass: &mut WordsPass<J, R>, mut job: J) -> Result<u32, PostFault<J>>
         requires board { IsPassOf self.now pass.old }
         requires holds { IsSome pass.old.holding }

@@ -1,4 +1,4 @@
-//! The invariant of a board's words, and what each step on a word shows.
+//! The invariant of the words of a board, and the steps on a word: what a pass learns from each step.
 ghost use Rattle.std.specs.Prelude.{Some};
 ghost use Rattle.lc_board.specs.WordRow.{IsRow};
 ghost use Rattle.lc_board.specs.WordSteps.{looked, stepped_over, drew, opened, claimed, ended, put_down};
@@ -8,14 +8,14 @@ use crate::words::view::{Slot, View};
 use atomic_table::{Join, Play, Split, TableRule};
 use std::snapshot::Snapshot;
 
-/// What a board was started with.
+/// What a board of words was started with: the root's job, and the number of workers.
 #[derive(Drop)]
 pub struct BoardSetup<J> {
     pub root: Snapshot<J>,
     pub workers: u32,
 }
 
-/// The invariant that the words show the state of one legal history.
+/// The invariant that the words of a board show the state of one legal history of events.
 pub struct OneHistory;
 
 impl<J, R> TableRule<Slot<J, R>, View<J, R>, BoardSetup<J>> for OneHistory {
@@ -30,7 +30,7 @@ impl<J, R> Play<Slot<J, R>, View<J, R>> for Look {
     ghost then = { looked };
 }
 
-/// The step that reads a word on the way to a free number, and goes on.
+/// The step of a post that reads the word of a number, and goes on to the next number if this one is used.
 pub struct StepOver;
 
 impl<J, R> Play<Slot<J, R>, View<J, R>> for StepOver {
@@ -61,14 +61,14 @@ impl<J, R> Play<Slot<J, R>, View<J, R>> for End {
     ghost then = { λ s m r n. ended s m r n };
 }
 
-/// The step that reads the word of the pass's own claim and returns its slot to the board.
+/// The step that reads the word of the number that a pass has claimed, and returns the number's slot to the board.
 pub struct PutDown;
 
 impl<J, R> Play<Slot<J, R>, View<J, R>> for PutDown {
     ghost then = { λ s m r n. put_down s m r n };
 }
 
-/// The steps by which one pass makes another, and takes it in.
+/// The two steps that change the set of passes: one pass is split into two, and two passes are merged into one.
 pub struct Deal;
 
 impl<J, R> Split<View<J, R>> for Deal {

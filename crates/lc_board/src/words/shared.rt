@@ -1,4 +1,4 @@
-//! A board of words as a board that threads share.
+//! The implementation of `Shared` for a board of words.
 ghost use Rattle.std.specs.Prelude.{◌≡◌, ◌≢◌, ◌≤◌, ℕ, [], None, Some, IfOk, IfErr, map, slice_get, vec_len};
 ghost use Rattle.lc_board.specs.{ClosedBoard.{Settled, RefusesClose}, WordClose.words_promises};
 ghost use Rattle.lc_board.specs.Pass.{holding, posted, new_pass, after_claim, after_post, after_give, after_fault, job_back};
@@ -53,7 +53,7 @@ impl<J: Drop + Send, R: Drop + Send> Shared<J, R> for Words<J, R> {
         Ok((board, passes))
     }
 
-    /// Claims as `Words::claim` does.
+    /// Claims a number, like `Words::claim`.
     fn claim<W: Wait>(&self, _rt: &W, pass: &mut WordsPass<J, R>) -> Claim<J>
         requires pass { Owns self.now pass.old }
         requires free { holding (told pass.old) ≡ None }
@@ -69,7 +69,7 @@ impl<J: Drop + Send, R: Drop + Send> Shared<J, R> for Words<J, R> {
         }
     }
 
-    /// Posts as `Words::post` does.
+    /// Posts a job, like `Words::post`.
     fn post<W: Wait>(
         &self,
         _rt: &W,

@@ -1,4 +1,4 @@
-//! Making a board of words and its passes.
+//! Functions that make a board of words and the passes of its workers.
 ghost use Rattle.std.specs.Prelude.{◌≡◌, ◌<◌, ◌≤◌, ◌∷◌, replicate, IfOk, Some};
 ghost use Rattle.lc_board.specs.declared.words.{coding.Word.TheVariants.{Absent, Open}, view.Slot.TheVariants.{Empty, Job}};
 ghost use Rattle.lc_board.specs.{WordCode.code, WordSteps.{view_before_split, left_of_split, right_of_split}};
@@ -41,7 +41,7 @@ fn slot_row<J: Drop, R: Drop>(
 }
 
 impl<J: Drop, R: Drop> Words<J, R> {
-    /// Returns a board with the root at number 0, and the pass of worker 0.
+    /// Makes a board on which number 0 is open with the root's job, and the pass of worker 0.
     pub(crate) fn open(
         alloc: Global,
         capacity: u32,
@@ -89,7 +89,7 @@ impl<J: Drop, R: Drop> Words<J, R> {
 }
 
 impl<J, R> Words<J, R> {
-    /// Makes one more pass, for the next worker.
+    /// Makes the pass of the next worker, by splitting the seat of the pass of worker 0.
     pub(crate) fn another(&self, pass: &mut WordsPass<J, R>, worker: u32) -> WordsPass<J, R>
         requires board { IsPassOf self.now pass.old }
         requires next { (0 < worker) × (worker < self.now.workers)

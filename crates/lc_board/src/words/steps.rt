@@ -1,4 +1,4 @@
-//! The steps on one number: reading, claiming and ending it.
+//! The steps of a worker on one number of a board of words: reading its word, claiming it, and ending the claim.
 ghost use Rattle.std.specs.Prelude.{◌≡◌, ◌<◌, IsSome, None};
 ghost use Rattle.lc_board.specs.WordSteps.{HasLooked, low_after, taken_after};
 ghost use Rattle.lc_board.specs.{WordsBoard.{EndsClaim, IsPassOf, IsSamePass, TriesClaim, known}, Ending.MayEnd};
@@ -11,7 +11,7 @@ use crate::words::pass::WordsPass;
 use crate::words::rule::{End, Look, Take};
 use crate::words::view::Slot;
 
-/// Returns the low mark after the word of this number was read.
+/// Returns the pass's low mark, below which each number has ended, after the word of this number was read.
 fn next_low(capacity: u32, number: u32, low: u32, found: Word) -> u32
     requires { number < capacity }
     ensures { result ≡ low_after capacity number low found }
@@ -23,7 +23,7 @@ fn next_low(capacity: u32, number: u32, low: u32, found: Word) -> u32
     }
 }
 
-/// Returns the mark of the taken numbers after the word of this number was read.
+/// Returns the mark of the taken numbers, below which each number has ended or is claimed, after the word of this number was read.
 fn next_taken(number: u32, taken: u32, found: Word) -> u32
     requires { number < capacity_limit }
     ensures { result ≡ taken_after number taken found }
@@ -36,7 +36,7 @@ fn next_taken(number: u32, taken: u32, found: Word) -> u32
 }
 
 impl<J, R> Words<J, R> {
-    /// Reads the word of a number, and returns it.
+    /// Reads and returns the word of a directory's number.
     pub(crate) fn look(&self, pass: &mut WordsPass<J, R>, number: u32) -> Word
         requires board { IsPassOf self.now pass.old }
         requires near { number < self.now.capacity }
@@ -50,7 +50,7 @@ impl<J, R> Words<J, R> {
         found
     }
 
-    /// Tries to claim an open number. It returns the number's job, or the word that it found instead.
+    /// Tries to claim the number, if it is open. Returns the number's job, or otherwise the word that was found.
     pub(crate) fn try_claim(&self, pass: &mut WordsPass<J, R>, number: u32) -> Result<J, Word>
         requires board { IsPassOf self.now pass.old }
         requires free { pass.old.holding ≡ None }
@@ -79,7 +79,7 @@ impl<J, R> Words<J, R> {
         }
     }
 
-    /// Ends the claim of the pass by a row. It waits for no thread, allocates nothing and never fails.
+    /// Ends the claim of the pass by adding this row. Waits for no thread, allocates nothing and never fails.
     pub fn give(&self, pass: &mut WordsPass<J, R>, row: R)
         requires board { IsPassOf self.now pass.old }
         requires holds { IsSome pass.old.holding }
@@ -89,7 +89,7 @@ impl<J, R> Words<J, R> {
         self.end(pass, Ended::Returned(row));
     }
 
-    /// Ends the claim of the pass by the row of an error, like `give`. The pass has posted nothing under the claim.
+    /// Ends the claim of the pass by adding the row of an error. Like `give`, but the pass must have posted nothing under the claim.
     pub fn fault(&self, pass: &mut WordsPass<J, R>, row: R)
         requires board { IsPassOf self.now pass.old }
         requires holds { IsSome pass.old.holding × (pass.old.posted ≡ 0) }
@@ -99,7 +99,7 @@ impl<J, R> Words<J, R> {
         self.end(pass, Ended::Faulted(row));
     }
 
-    /// Ends the claim of the pass.
+    /// Ends the claim of the pass by adding a row, which says whether the claim ended with an error.
     fn end(&self, pass: &mut WordsPass<J, R>, ended: Ended<R>)
         requires board { IsPassOf self.now pass.old }
         requires holds { IsSome pass.old.holding }

@@ -1,9 +1,9 @@
-//! The contents of the slots of a board of words, and the knowledge of its passes.
+//! What a slot of a board of words contains, and what a pass knows of the board.
 use crate::event::Event;
 use std::collections::LinkedList;
 use std::mem::size_of;
 
-/// The content of a number's slot.
+/// What the slot of a directory's number contains.
 #[derive(Drop)]
 pub enum Slot<J, R> {
     Empty,
@@ -14,26 +14,26 @@ pub enum Slot<J, R> {
 // what a number takes besides its word, if jobs and rows are boxes
 const _: () = prove!(size_of::<Slot<Box<[u64; 100]>, Box<[u64; 50]>>>() == 16);
 
-/// What a pass knows, with the newest events first. It exists in contracts alone.
+/// What a worker's pass knows of its board. In each list the newest event is first. The struct exists only in contracts.
 pub struct View<J, R> {
-    /// Whether no other pass has taken this pass in.
+    /// Whether this pass has not been merged into another pass.
     pub live: bool,
     pub root: Option<J>,
     /// How many workers share the board.
     pub workers: u32,
     pub worker: u32,
-    /// A history of the board, as the pass has seen it.
+    /// The events of all workers, as far as the pass has seen them.
     pub seen: LinkedList<Event<J, R>>,
-    /// The events of the worker.
+    /// The events of the pass's own worker.
     pub mine: LinkedList<Event<J, R>>,
-    /// 0, or 1 more than the number that the pass has drawn.
+    /// While the worker has reserved a directory's number for a post and has not opened it yet: that number plus 1. Otherwise 0.
     pub drawn: u64,
-    /// The low mark: each number below it has ended.
+    /// The low mark: each directory's number below it has ended.
     pub low: u64,
-    /// The front: no number below it is absent.
+    /// The front, where posts begin: each directory's number below it is used.
     pub front: u64,
-    /// The number of passes, if this pass makes the others; otherwise 0.
+    /// How many passes have been made, if this pass makes the other passes. Otherwise 0.
     pub made: u64,
-    /// The workers of the passes that it took in, with their events.
+    /// The workers whose passes were merged into this pass, with the events of each worker.
     pub joined: LinkedList<(u32, LinkedList<Event<J, R>>)>,
 }

@@ -1,4 +1,4 @@
-//! Storing the event of each call in a pass of a locked board.
+//! Methods that store the events of a worker's calls in its pass of a locked board.
 ghost use Rattle.std.specs.Prelude.{◌≡◌, ◌≢◌, ℕ, ◌<◌, ◌≤◌, ◌+◌, None, OnOk, Ok, vec_len, vec_capacity};
 ghost use Rattle.lc_board.specs.Pass.{holding, new_pass, filled, refusing, after_claim, after_post, after_give, after_fault};
 ghost use Rattle.lc_board.specs.{LockedBoard.told, Limits.capacity_limit};
@@ -10,7 +10,7 @@ use std::alloc::{AllocError, Global};
 use std::snapshot::Snapshot;
 
 impl<J, R> LockedPass<J, R> {
-    /// Makes a pass that has done nothing.
+    /// Makes the pass of a worker that has done nothing yet.
     pub(crate) fn new(alloc: Global, worker: u32) -> LockedPass<J, R>
         ensures { told result ≡ new_pass worker }
     {
@@ -30,7 +30,7 @@ impl<J, R> LockedPass<J, R> {
         self.notes.as_slice()
     }
 
-    /// Makes room for one note, and for that of the end of the claim.
+    /// Reserves memory for two events: the event of the next call, and the event that later ends the claim.
     pub(crate) fn make_room(&mut self) -> Result<(), AllocError>
         ensures same { told self.new ≡ told self.old }
         ensures posts { self.new.posts ≡ self.old.posts }
@@ -39,21 +39,21 @@ impl<J, R> LockedPass<J, R> {
         self.notes.reserve(2)
     }
 
-    /// Notes that a claim was answered Memory.
+    /// Records that a claim returned `Claim::Memory`.
     pub(crate) fn refuse(&mut self)
         ensures { told self.new ≡ refusing (told self.old) }
     {
         self.refused = true;
     }
 
-    /// Notes that a post was answered Full.
+    /// Records that a post returned `PostFault::Full`.
     pub(crate) fn fill(&mut self)
         ensures { told self.new ≡ filled (told self.old) }
     {
         self.full = true;
     }
 
-    /// Notes a claim that was got.
+    /// Records the event of a claim that got this number with this job.
     #[tactic(auto, using(crate::proofs::NewestFirst::mine_push))]
     pub(crate) fn note_claim(&mut self, number: u32, job: &J)
         requires { vec_len self.old.notes + 2 ≤ vec_capacity self.old.notes }
@@ -68,7 +68,7 @@ impl<J, R> LockedPass<J, R> {
         self.posts = 0;
     }
 
-    /// Notes that the board is over.
+    /// Records the event of a claim that returned `Claim::Over`.
     #[tactic(auto, using(crate::proofs::NewestFirst::mine_push))]
     pub(crate) fn note_over(&mut self)
         requires room { vec_len self.old.notes + 2 ≤ vec_capacity self.old.notes }
@@ -80,7 +80,7 @@ impl<J, R> LockedPass<J, R> {
         });
     }
 
-    /// Notes a post.
+    /// Records the event of a post that opened this number with this job.
     #[tactic(auto, using(crate::proofs::NewestFirst::mine_push))]
     pub(crate) fn note_post(&mut self, number: u32, job: Snapshot<J>)
         requires room { vec_len self.old.notes + 2 ≤ vec_capacity self.old.notes }
@@ -100,7 +100,7 @@ impl<J, R> LockedPass<J, R> {
         self.posts += 1;
     }
 
-    /// Notes the end of the claim.
+    /// Records the event that ends the claim by adding this row.
     #[tactic(auto, using(crate::proofs::NewestFirst::mine_push))]
     pub(crate) fn note_give(&mut self, row: &R)
         requires held { holding (told self.old) ≢ None }
@@ -118,7 +118,7 @@ impl<J, R> LockedPass<J, R> {
         self.posts = 0;
     }
 
-    /// Notes a fault that ends the claim.
+    /// Records the event that ends the claim by adding the row of an error.
     #[tactic(auto, using(crate::proofs::NewestFirst::mine_push))]
     pub(crate) fn note_fault(&mut self, row: &R)
         requires held { holding (told self.old) ≢ None }
