@@ -1,4 +1,4 @@
-//! What calls on the boards answer whatever the order of the workers, and that each call can succeed.
+//! Tests of what the calls of a board return, in any order of the workers, and of whether each call can succeed.
 
 mod fill;
 mod limits;

@@ -1,4 +1,4 @@
-//! Workers on threads, who fill a board with jobs that share what lies behind two `Arc`s.
+//! Tests in which worker threads fill a board with jobs. All jobs share two values, each behind an `Arc`.
 ghost use Rattle.std.specs.Prelude.{◌≡◌, ◌≢◌, ◌≤◌, ◌<◌, ℕ, None, IfOk, slice_index_or, vec_len};
 ghost use Rattle.lc_board.specs.Pass.{holding};
 ghost use Rattle.lc_board.specs.Limits.{capacity_limit, workers_limit};
@@ -11,13 +11,14 @@ use std::test::Fail;
 use std::thread;
 use std::thread::Threads;
 
-/// How many jobs a worker posts under a claim, as long as there are numbers.
+/// How many jobs a worker posts under a claim, as long as the board has unused numbers.
 const CHILDREN: u8 = 3;
 
-/// How many names a path has at most. A worker goes down first, and its paths would grow with the board.
+/// The maximum number of names in a path. Workers may visit their newest children first; without this limit, paths would then grow with the
+/// board.
 const DEPTH: usize = 16;
 
-/// What all directories share.
+/// A value that the jobs of all directories share.
 #[derive(Drop)]
 struct Rules {
     lines: Vec<u8>,
@@ -31,7 +32,7 @@ struct Job {
     attributes: Arc<Rules>,
 }
 
-/// A directory that was read, under its number.
+/// A directory that was read: its number on the board, and its job.
 #[derive(Drop)]
 struct Row {
     number: u32,
@@ -59,7 +60,7 @@ impl Job {
         })
     }
 
-    /// The job of the child of this name.
+    /// Returns the job of the child directory with this name.
     fn child(&self, name: u8) -> Result<Job, AllocError> {
         let mut path = self.path.clone()?;
         path.push(name)?;
@@ -71,7 +72,7 @@ impl Job {
     }
 }
 
-/// Posts the child of this name until there is memory for it, or no number is left.
+/// Posts the child with this name. If memory runs out, tries again, until the child is posted or the board is full.
 fn post_child<B: Shared<Job, Row>, W: Wait>(
     rt: &W,
     board: &B,
@@ -96,7 +97,7 @@ fn post_child<B: Shared<Job, Row>, W: Wait>(
     }
 }
 
-/// Posts under the claim of the pass.
+/// Posts the children of the directory that the pass has claimed, unless its path already has `DEPTH` names.
 fn post_children<B: Shared<Job, Row>, W: Wait>(rt: &W, board: &B, pass: &mut B::Pass, job: &Job)
     requires pass { B.owns board.now pass.old }
     requires holds { holding (B.Pass.view pass.old) ≢ None }
@@ -112,7 +113,8 @@ fn post_children<B: Shared<Job, Row>, W: Wait>(rt: &W, board: &B, pass: &mut B::
     }
 }
 
-/// One worker: it posts under each number that it gets, and returns the number with its job as its row.
+/// Does the work of one worker: claims numbers, posts children under each, and ends each claim with the number and its job as the row.
+/// Returns the pass once the board is over.
 fn work<B: Shared<Job, Row>, W: Wait>(rt: &W, board: &B, pass: B::Pass) -> B::Pass
     requires pass { B.owns board.now pass }
     requires free { holding (B.Pass.view pass) ≡ None }
@@ -134,7 +136,7 @@ fn work<B: Shared<Job, Row>, W: Wait>(rt: &W, board: &B, pass: B::Pass) -> B::Pa
     pass
 }
 
-/// A thread for each pass.
+/// Starts a thread for each pass, and returns the passes after all threads have ended.
 fn work_all<B: Shared<Job, Row>, R: Threads + Wait + Sync>(
     rt: &R,
     board: &B,
@@ -154,7 +156,7 @@ fn work_all<B: Shared<Job, Row>, R: Threads + Wait + Sync>(
     thread::map_vec(rt, passes, &run)
 }
 
-/// Each number ended with its own row, and the root alone has no path.
+/// Checks that each number has its own row, and that only the root's path is empty.
 fn are_own<R: Abort>(rt: &R, capacity: u32, rows: &[Ended<Row>]) {
     assert!(rt; rows.len() == capacity as usize);
     for (number, row) in rows.iter().enumerate() {
@@ -168,7 +170,7 @@ fn are_own<R: Abort>(rt: &R, capacity: u32, rows: &[Ended<Row>]) {
     }
 }
 
-/// Fills a board by so many workers.
+/// Fills a board with this many worker threads, closes it, and checks its rows.
 fn fill<B: Shared<Job, Row>, R: Threads + Wait + Abort + Sync>(
     rt: &R,
     alloc: Global,

@@ -1,4 +1,4 @@
-//! How large a board may be.
+//! A test of the limits of a board: how many numbers and how many workers it can have.
 use lc_board::limits::{MAX_CAPACITY, MAX_WORKERS};
 
 #[test]

@@ -1,4 +1,4 @@
-//! A locked board that is closed with the passes of another.
+//! A test that closes a locked board with the passes of another board.
 use crate::board::script::{Call, ROOT, Told};
 use crate::board::shared_scripts::expect;
 use lc_board::{CloseFault, Locked, Shared};

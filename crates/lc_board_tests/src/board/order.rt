@@ -1,4 +1,4 @@
-//! Which open number a claim of `Words` takes. No promise speaks of it.
+//! Tests of which open number a claim on a `Words` board takes. No contract states this.
 ghost use Rattle.std.specs.Prelude.{◌≤◌};
 ghost use Rattle.lc_board.specs.Limits.{capacity_limit};
 
@@ -10,7 +10,7 @@ use std::process::Abort;
 use std::sync::Wait;
 use std::test::Fail;
 
-/// A worker claims what it posted last, and one that has posted nothing the lowest open number.
+/// Calls in which a worker claims the number that it posted last. A worker that has posted nothing claims the lowest open number.
 const LAST_POSTED_FIRST: &[(Call, Told)] = &[
     (Call::Claim(0), Told::Got(0, ROOT)),
     (Call::Post(0, 1), Told::Posted(1)),
@@ -33,7 +33,8 @@ const LAST_POSTED_FIRST: &[(Call, Told)] = &[
     (Call::Claim(1), Told::Over),
 ];
 
-/// A number that the other worker has claimed is tried in vain, and those below it are left to the way up.
+/// Calls in which worker 0 first tries to claim the number that it posted last. Worker 1 has already claimed that number, and no other
+/// number is open.
 const TAKEN_BY_THE_OTHER: &[(Call, Told)] = &[
     (Call::Claim(0), Told::Got(0, ROOT)),
     (Call::Post(0, 1), Told::Posted(1)),
@@ -48,7 +49,7 @@ const TAKEN_BY_THE_OTHER: &[(Call, Told)] = &[
     (Call::Claim(1), Told::Over),
 ];
 
-/// Each number's row is the number.
+/// Returns rows in which each number's row is the number itself.
 fn own_rows(alloc: Global, capacity: u32) -> Result<Vec<Ended<u32>>, AllocError> {
     let mut rows = Vec::with_capacity(alloc, capacity as usize)?;
     for number in 0..capacity {
@@ -57,7 +58,7 @@ fn own_rows(alloc: Global, capacity: u32) -> Result<Vec<Ended<u32>>, AllocError>
     Ok(rows)
 }
 
-/// Two workers make these calls on a board that they use up, and each number's row is the number.
+/// Makes the script's calls on a `Words` board with two workers, and checks that each number's row is the number itself.
 fn claims_so<R: Wait + Abort>(
     rt: &R,
     alloc: Global,
@@ -77,17 +78,18 @@ fn what_was_posted_last_is_claimed_first(rt: HostRuntime) -> Result<(), Fail> {
     Ok(())
 }
 
-/// A number of numbers for which claims that look at all taken numbers would need minutes.
+/// A capacity so large that the test would take minutes if each claim read the words of all claimed and ended numbers.
 const CROWD: u32 = 1 << 19;
 
-/// How the root ends once all below it have ended.
+/// The last calls of the script: worker 0 ends the root after all other numbers have ended.
 const AFTER_CROWD: &[(Call, Told)] = &[
     (Call::Claim(1), Told::Later),
     (Call::Give(0, 0), Told::Done),
     (Call::Claim(1), Told::Over),
 ];
 
-/// One worker posts all numbers under the root, and the other claims and ends one after the other meanwhile.
+/// Makes a script in which worker 0 posts all numbers under the root. Before the root ends, worker 1 claims and ends these numbers one by
+/// one.
 fn claimed_in_turn(alloc: Global) -> Result<Vec<(Call, Told)>, AllocError> {
     let mut script = Vec::with_capacity(alloc, 3 * CROWD as usize + 1)?;
     script.push((Call::Claim(0), Told::Got(0, ROOT)))?;

@@ -1,4 +1,4 @@
-//! The scripts on a board of one thread. What each worker has claimed is remembered from the board's answers.
+//! Tests that run the scripts on a single-threaded board. They keep track of each worker's claim by what the board's calls return.
 ghost use Rattle.std.specs.Prelude.{◌≡◌, ◌≤◌};
 ghost use Rattle.lc_board.specs.Limits.{capacity_limit, workers_limit};
 
@@ -9,7 +9,7 @@ use std::alloc::{AllocError, Global};
 use std::process::Abort;
 use std::test::Fail;
 
-/// Makes a call, if it is the worker's turn.
+/// Makes the call, if the worker may make it now. Otherwise, and for `Call::Fault`, returns `Told::OutOfTurn`.
 fn tell(board: &mut Plain<u32, u32>, held: &mut Vec<Option<u32>>, call: Call) -> Told
     requires held { board.old.held ≡ held.old.items }
     ensures held { board.new.held ≡ held.new.items }
@@ -36,7 +36,7 @@ fn tell(board: &mut Plain<u32, u32>, held: &mut Vec<Option<u32>>, call: Call) ->
     }
 }
 
-/// Makes the calls on a new board, compares the answers, and takes the rows.
+/// Makes the script's calls on a new board, checks what each call returns, and returns the board's rows.
 fn run<R: Abort>(
     rt: &R,
     alloc: Global,
@@ -57,7 +57,7 @@ fn run<R: Abort>(
     Ok(board.into_rows(alloc))
 }
 
-/// The script goes through, and its board is closed as it says.
+/// Runs a script, and checks that each call and the closing of the board have the results that the script expects.
 fn check<R: Abort>(rt: &R, alloc: Global, script: &Script) -> Result<(), AllocError> {
     let capacity = script.capacity;
     let workers = script.workers;

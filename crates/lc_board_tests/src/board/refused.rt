@@ -1,4 +1,5 @@
-//! A locked board whose allocations fail: nothing changes, and the same call succeeds once there is memory.
+//! A test of a locked board when allocations fail: a call that fails changes nothing, and succeeds when it is made again with enough
+//! memory.
 use crate::board::script::{Call, ROOT, Told, says};
 use crate::board::shared_scripts::tell;
 use lc_board::{Locked, LockedPass, Shared, Token};
@@ -21,7 +22,7 @@ fn stands<R: Abort>(
     );
 }
 
-/// Returns the answer of a call whose allocation fails.
+/// Returns what a call returns if its allocation fails. `None` means that the call does not allocate.
 fn refusal(call: Call) -> Option<Told> {
     match call {
         Call::Claim(_) => Some(Told::NoClaim),
@@ -30,7 +31,7 @@ fn refusal(call: Call) -> Option<Told> {
     }
 }
 
-/// Makes a call, and makes it again where it was refused memory, which changes nothing.
+/// Makes a call. If its allocation fails, checks that the pass has not changed, and makes the call again.
 fn tell_again<R: Wait + Abort>(
     rt: &R,
     board: &Locked<u32, u32>,
@@ -47,7 +48,7 @@ fn tell_again<R: Wait + Abort>(
     tell(rt, board, pass, call)
 }
 
-/// Makes a call, which answers so and leaves the pass with this claim and so many posts.
+/// Makes a call, and checks what it returns. Also checks which claim and how many posts the pass has afterwards.
 fn leaves<R: Wait + Abort>(
     rt: &R,
     board: &Locked<u32, u32>,

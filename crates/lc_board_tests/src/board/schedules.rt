@@ -1,4 +1,5 @@
-//! Two workers on a board of three numbers, whose calls are made in every order that the bits of a number can name.
+//! Tests in which two workers make calls on a board with three numbers. The bits of a number, the schedule, say in which order the workers
+//! make their first calls. All schedules are tried.
 ghost use Rattle.std.specs.Prelude.{◌≡◌, ◌<◌};
 
 use crate::board::script::{Call, ROOT, Told};
@@ -9,19 +10,19 @@ use std::process::Abort;
 use std::sync::Wait;
 use std::test::Fail;
 
-/// How many calls of each schedule are made in an order of its own. The rest are made in turns.
+/// How many calls are made in the order that the bits of the schedule say. After these calls the two workers take turns.
 const NAMED: u32 = 14;
 
 const CALLS: u32 = 36;
 
-/// The rows where the third number is posted under the root.
+/// The expected rows if the third number is posted under the root.
 const BY_ROOT: &[Ended<u32>] = &[
     Ended::Returned(ROOT),
     Ended::Returned(0),
     Ended::Returned(0),
 ];
 
-/// The rows where it is posted under the second number.
+/// The expected rows if the third number is posted under the second number.
 const BY_OTHER: &[Ended<u32>] = &[
     Ended::Returned(ROOT),
     Ended::Returned(0),
@@ -31,9 +32,9 @@ const BY_OTHER: &[Ended<u32>] = &[
 /// What a worker remembers between two calls.
 #[derive(Clone, Copy, Drop)]
 struct Memory {
-    /// The job that it got last.
+    /// The job that the worker got with its last claim.
     job: u32,
-    /// How often it tried to post under its claim.
+    /// How many jobs the worker has tried to post under its present claim.
     tried: u32,
 }
 
@@ -57,12 +58,12 @@ fn claim<B: Shared<u32, u32>, W: Wait>(
     Ok(())
 }
 
-/// Returns how many jobs are to be posted under a number: together one more than there is room for.
+/// Returns how many jobs a worker tries to post under a number. In total the workers try more posts than the board has room for.
 fn wanted(number: u32) -> u32 {
     if number == 0 { 2 } else { 1 }
 }
 
-/// Posts, returns the job that was got as the row, or claims.
+/// Makes the next call of a worker: claims, posts under the claim, or ends the claim with the job as the row.
 fn step<B: Shared<u32, u32>, W: Wait>(
     rt: &W,
     board: &B,
@@ -89,7 +90,7 @@ fn step<B: Shared<u32, u32>, W: Wait>(
     Ok(())
 }
 
-/// Who makes the call of this turn.
+/// Returns the index of the worker that makes the call of this turn.
 fn worker_at(schedule: u32, turn: u32) -> usize
     ensures { result < 2 }
 {
@@ -104,7 +105,7 @@ fn is_either(rows: &[Ended<u32>]) -> bool {
     rows == BY_ROOT || rows == BY_OTHER
 }
 
-/// The board was closed with the root's job, a job posted under the root, and one posted under either of these.
+/// Checks that the board was closed with the rows `BY_ROOT` or `BY_OTHER`, if there was memory for the rows.
 fn has_either<R: Abort>(
     rt: &R,
     schedule: u32,
@@ -118,7 +119,7 @@ fn has_either<R: Abort>(
     Ok(())
 }
 
-/// Makes the calls in the order of the schedule.
+/// Makes the calls of two workers on a new board in the order of the schedule, closes the board, and checks its rows.
 fn follow<B: Shared<u32, u32>, R: Wait + Abort>(
     rt: &R,
     alloc: Global,
@@ -133,7 +134,7 @@ fn follow<B: Shared<u32, u32>, R: Wait + Abort>(
     has_either(rt, schedule, board.close(passes))
 }
 
-/// Every schedule.
+/// Follows every schedule, each on a new board of this type.
 fn follow_all<B: Shared<u32, u32>, R: Wait + Abort>(
     rt: &R,
     alloc: Global,

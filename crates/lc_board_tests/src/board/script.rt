@@ -1,4 +1,4 @@
-//! Scripts: who calls what on a board, and what each call is to answer.
+//! Scripts for the tests of boards: which worker makes which call, and what each call must return.
 use lc_board::{Claim, CloseFault, Closed, Ended, PostFault};
 use std::alloc::{AllocError, Global};
 use std::process::Abort;
@@ -6,7 +6,7 @@ use std::process::Abort;
 /// The job of the root.
 pub const ROOT: u32 = 7;
 
-/// One call, by the worker that is named first.
+/// One call on a board. The first field is the worker; a second field is the job or the row.
 #[derive(Clone, Copy, Debug, Drop)]
 pub enum Call {
     Claim(u32),
@@ -26,7 +26,7 @@ impl Call {
     }
 }
 
-/// What a call answered.
+/// What a call on a board returned.
 #[derive(Clone, Copy, PartialEq, Eq, Debug, Drop)]
 pub enum Told {
     Got(u32, u32),
@@ -35,11 +35,11 @@ pub enum Told {
     Posted(u32),
     Full(u32),
     Done,
-    /// There was no memory to claim with.
+    /// The claim returned `Claim::Memory`.
     NoClaim,
-    /// There was no memory to post this job with.
+    /// The post returned `PostFault::Memory` with this job.
     NoPost(u32),
-    /// There is no such worker, or it has a claim where the call needs none, or it has none where the call needs one.
+    /// The call was not made. The worker does not exist, has a claim where the call needs none, or has none where the call needs a claim.
     OutOfTurn,
 }
 
@@ -64,12 +64,12 @@ impl From<Result<u32, PostFault<u32>>> for Told {
     }
 }
 
-/// Checks that a call has this answer.
+/// Checks that `answer`, the result of the call, is the expected result `told`.
 pub fn says<R: Abort>(rt: &R, call: Call, answer: Told, told: Told) {
     assert!(rt; answer == told, "{call:?}");
 }
 
-/// Checks that a call answered as it should, if there was memory for it.
+/// Checks that `answer`, the result of the call, is the expected result `told`. If memory ran out, returns an error instead.
 pub fn answers<R: Abort>(rt: &R, call: Call, answer: Told, told: Told) -> Result<(), AllocError> {
     match answer {
         Told::NoClaim => return Err(AllocError),
@@ -79,7 +79,7 @@ pub fn answers<R: Abort>(rt: &R, call: Call, answer: Told, told: Told) -> Result
     Ok(())
 }
 
-/// Checks that a board was closed with these rows, if there was memory for them.
+/// Checks that a board was closed with these rows. If memory for the rows ran out, returns an error instead.
 pub fn has_rows<R: Abort>(
     rt: &R,
     closed: Result<Closed<u32>, CloseFault>,
@@ -93,7 +93,7 @@ pub fn has_rows<R: Abort>(
     Ok(())
 }
 
-/// Checks that closing a board ended like this, if there was memory for its rows.
+/// Checks that closing a board had this result. If memory for the rows ran out, returns an error instead.
 pub fn ends_so<R: Abort>(
     rt: &R,
     closed: Result<Closed<u32>, CloseFault>,
@@ -108,16 +108,16 @@ pub fn ends_so<R: Abort>(
     }
 }
 
-/// The rows of `TWO_WORKERS`.
+/// The expected rows of the script `TWO_WORKERS`.
 const TWO_ROWS: &[Ended<u32>] = &[Ended::Returned(10), Ended::Returned(11)];
 
-/// The row of `FULL`.
+/// The expected row of the script `FULL`.
 const RETURNED: &[Ended<u32>] = &[Ended::Returned(10)];
 
-/// The row of `FAULT`.
+/// The expected row of the script `FAULT`.
 pub const FAULTED: &[Ended<u32>] = &[Ended::Faulted(10)];
 
-/// Two workers on a board of two numbers: the second waits for the first to post, and both find the end.
+/// A script of two workers on a board with two numbers. Worker 1 waits until worker 0 posts, and both workers find that the board is over.
 const TWO_WORKERS: &[(Call, Told)] = &[
     (Call::Claim(0), Told::Got(0, ROOT)),
     (Call::Claim(1), Told::Later),
@@ -130,7 +130,7 @@ const TWO_WORKERS: &[(Call, Told)] = &[
     (Call::Claim(1), Told::Over),
 ];
 
-/// One worker reads back what it posted.
+/// A script in which a worker posts a number and claims the same number later.
 const OWN_POST: &[(Call, Told)] = &[
     (Call::Claim(0), Told::Got(0, ROOT)),
     (Call::Post(0, 9), Told::Posted(1)),
@@ -138,7 +138,7 @@ const OWN_POST: &[(Call, Told)] = &[
     (Call::Claim(0), Told::Got(1, 9)),
 ];
 
-/// On a board of one number nothing can be posted.
+/// A script on a board with room for only the root, where a post fails because no number is unused.
 const FULL: &[(Call, Told)] = &[
     (Call::Claim(0), Told::Got(0, ROOT)),
     (Call::Post(0, 9), Told::Full(9)),
@@ -146,14 +146,15 @@ const FULL: &[(Call, Told)] = &[
     (Call::Claim(0), Told::Over),
 ];
 
-/// A fault ends the root.
+/// A script in which a worker ends its claim of the root with the row of an error.
 pub const FAULT: &[(Call, Told)] = &[
     (Call::Claim(0), Told::Got(0, ROOT)),
     (Call::Fault(0, 10), Told::Done),
     (Call::Claim(0), Told::Over),
 ];
 
-/// The last number is posted while another worker holds a claim: that one may post no more, and may end its claim.
+/// A script in which one worker posts the last unused number while another worker has a claim. The other worker's post then fails, but that
+/// worker can still end its claim.
 const LAST_NUMBER: &[(Call, Told)] = &[
     (Call::Claim(0), Told::Got(0, ROOT)),
     (Call::Post(0, 8), Told::Posted(1)),
@@ -167,14 +168,14 @@ const LAST_NUMBER: &[(Call, Told)] = &[
     (Call::Claim(1), Told::Over),
 ];
 
-/// The rows of `LAST_NUMBER`.
+/// The expected rows of the script `LAST_NUMBER`.
 const THREE_ROWS: &[Ended<u32>] = &[
     Ended::Returned(10),
     Ended::Returned(11),
     Ended::Returned(12),
 ];
 
-/// The size of a board, calls on it with their expected answers, and the expected result of closing it.
+/// The size of a board, the calls on it with what each must return, and the expected result of closing it.
 pub struct Script {
     pub capacity: u32,
     pub workers: u32,
@@ -182,7 +183,7 @@ pub struct Script {
     pub end: Result<&'static [Ended<u32>], CloseFault>,
 }
 
-/// The scripts for any board.
+/// The scripts that run on each type of board.
 pub const SCRIPTS: &[Script] = &[
     Script {
         capacity: 2,
@@ -210,7 +211,7 @@ pub const SCRIPTS: &[Script] = &[
     },
 ];
 
-/// More numbers than 16 bits have.
+/// A capacity that does not fit in 16 bits.
 pub const MANY: u32 = 65_537;
 
 /// Makes a script in which one worker posts a directory for each unused number and then one more, and ends only the first directory.

@@ -1,4 +1,4 @@
-//! The scripts on a board that workers share.
+//! Tests that run the scripts on boards that workers share.
 ghost use Rattle.std.specs.Prelude.{◌≡◌, ◌≤◌, ◌<◌, Some};
 ghost use Rattle.lc_board.specs.Limits.{capacity_limit, workers_limit};
 
@@ -12,7 +12,7 @@ use std::process::Abort;
 use std::sync::Wait;
 use std::test::Fail;
 
-/// Makes a call, if it is the pass's turn.
+/// Makes the call, if the worker of the pass may make it now. Otherwise returns `Told::OutOfTurn`.
 pub fn tell<B: Shared<u32, u32>, W: Wait>(rt: &W, board: &B, pass: &mut B::Pass, call: Call) -> Told
     requires { B.owns board.now pass.old }
     ensures pass { B.owns board.now pass.new }
@@ -34,7 +34,7 @@ pub fn tell<B: Shared<u32, u32>, W: Wait>(rt: &W, board: &B, pass: &mut B::Pass,
     }
 }
 
-/// Makes a call, and checks that it answers like this if there is memory for it.
+/// Makes a call, and checks that it returns `told`. If memory runs out, returns an error instead.
 pub fn expect<B: Shared<u32, u32>, R: Wait + Abort>(
     rt: &R,
     board: &B,
@@ -49,7 +49,7 @@ pub fn expect<B: Shared<u32, u32>, R: Wait + Abort>(
     answers(rt, call, tell(rt, board, pass, call), told)
 }
 
-/// Makes the calls on a new board, compares the answers, and closes the board.
+/// Makes the script's calls on a new board, checks what each call returns, and closes the board.
 pub fn run<B: Shared<u32, u32>, R: Wait + Abort>(
     rt: &R,
     alloc: Global,
@@ -69,7 +69,7 @@ pub fn run<B: Shared<u32, u32>, R: Wait + Abort>(
     Ok(board.close(passes))
 }
 
-/// The script goes through on a board of this type, which is closed as the script says.
+/// Runs a script on a board of this type. Checks that each call and the closing of the board have the results that the script expects.
 fn check<B: Shared<u32, u32>, R: Wait + Abort>(
     rt: &R,
     alloc: Global,
@@ -84,7 +84,7 @@ fn check<B: Shared<u32, u32>, R: Wait + Abort>(
     ends_so(rt, closed, &script.end)
 }
 
-/// The scripts, on a board of this type.
+/// Runs each script on a new board of this type.
 fn scripts_on<B: Shared<u32, u32>, R: Wait + Abort>(
     rt: &R,
     alloc: Global,
