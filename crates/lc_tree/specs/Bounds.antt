@@ -1,4 +1,4 @@
--- Where a tree of the system ends.
+-- Which directories a tree of the system enters.
 use Rattle.std.specs.Prelude.{Bool, true, false}
 use Rattle.lc_tree.specs.declared.file_systems.Bounds.{Bounds}
 use Rattle.lc_tree.specs.declared.file_systems.Bounds.TheVariants.{Everywhere, Device, TopAlone}
@@ -11,7 +11,7 @@ stays Everywhere = false
 stays (Device number) = true
 stays TopAlone = true
 
--- whether it is to stay on one
+-- whether a tree that enters these file systems stays on one file system
 abbrev pub is_one : FileSystems → Bool
 is_one All = false
 is_one One = true

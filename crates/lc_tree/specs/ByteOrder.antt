@@ -9,10 +9,10 @@ use Rattle.std.specs.Cmp.Lexicographic.{slice_cmp}
 abbrev pub bytes_cmp : List ℕ → List ℕ → Ordering
 bytes_cmp = slice_cmp nat_cmp
 
--- none stands twice
+-- no name or path is in the list twice
 abbrev pub AreApart : List (List ℕ) → Type 0
 AreApart = IsDistinct (eq_by_cmp bytes_cmp)
 
--- each is below those after it
+-- each name or path is less than the ones after it, in the order of their bytes
 abbrev pub AreInOrder : List (List ℕ) → Type 0
 AreInOrder = IsStrictlySortedBy bytes_cmp

@@ -1,4 +1,4 @@
--- What stands under a name.
+-- What an entry of a directory is.
 use Rattle.std.specs.Prelude.{Bool, true, false}
 use Rattle.lc_tree.specs.declared.entry.Kind.{Kind}
 use Rattle.lc_tree.specs.declared.entry.Kind.TheVariants.{File, Dir, Other}

@@ -1,4 +1,4 @@
--- The listing of given entries, as a value.
+-- The listing of given entries, computed as a value.
 use Rattle.std.specs.Prelude.{ℕ, Bool, false, not, ◌||◌, nat_lt, cond, List, [], ◌∷◌, length, map, Result, Ok, Err, bytes_eq}
 use Rattle.std.specs.List.{list_any}
 use Rattle.std.specs.Ordering.{is_lt}
@@ -7,12 +7,12 @@ use Rattle.lc_tree.specs.Listing.{EntryModel, names, have_good_names, max_entrie
 use Rattle.lc_tree.specs.declared.read_fault.ReadFault.{ReadFault}
 use Rattle.lc_tree.specs.declared.read_fault.ReadFault.TheVariants.{BadName, Twice, TooMany}
 
--- whether some name stands twice
+-- whether some name is in the list twice
 abbrev pub has_twice : List (List ℕ) → Bool
 has_twice [] = false
 has_twice (name ∷ names) = list_any (bytes_eq name) names || has_twice names
 
--- things with names, in order of these names' bytes: each goes before the first one whose name is above its own
+-- a list of things with names, sorted by the bytes of the names: `insert` puts a thing before the first one whose name is greater
 abbrev pub insert : {X : Type 0} → (X → List ℕ) → X → List X → List X
 insert name x [] = x ∷ []
 insert name x (y ∷ ys) = cond (is_lt (bytes_cmp (name x) (name y))) (x ∷ y ∷ ys) (y ∷ insert name x ys)
@@ -21,7 +21,7 @@ abbrev pub sorted : {X : Type 0} → (X → List ℕ) → List X → List X
 sorted name [] = []
 sorted name (x ∷ xs) = insert name x (sorted name xs)
 
--- the listing of these entries, or why they make none
+-- the listing of these entries, or the error for which they make no listing
 abbrev pub listed : {X : Type 0} → (X → EntryModel) → List X → Result (List X) ReadFault
 listed entry xs =
     cond (not (have_good_names (map entry xs))) (Err BadName)

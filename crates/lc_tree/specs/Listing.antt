@@ -12,16 +12,16 @@ use Rattle.lc_tree.specs.declared.listing.ListingFault.TheVariants.{BadName, Twi
 use Rattle.lc_tree.specs.declared.read_fault.ReadFault.{ReadFault}
 use Rattle.lc_tree.specs.declared.read_fault.ReadFault.TheVariants as fault
 
--- an entry: its name, and what stands under it
+-- an entry: its name, and what the entry is
 pub record EntryModel : Type 0 where
   pub name : List ℕ
   pub kind : Kind
 
--- the names, in order
+-- the names of entries, in the order of the entries
 abbrev pub names : List EntryModel → List (List ℕ)
 names es = map (λ e. e.name) es
 
--- entries by their names
+-- the order of entries by their names
 abbrev pub by_name : EntryModel → EntryModel → Ordering
 by_name = on (λ (e : EntryModel). e.name) bytes_cmp
 
@@ -29,33 +29,33 @@ by_name = on (λ (e : EntryModel). e.name) bytes_cmp
 abbrev pub have_good_names : List EntryModel → Bool
 have_good_names es = list_all (λ e. is_good_name e.name) es
 
--- no name stands twice
+-- no two entries have the same name
 abbrev pub HaveDistinctNames : List EntryModel → Type 0
 HaveDistinctNames es = AreApart (names es)
 
--- the most entries of a listing
+-- the maximum number of entries of a listing
 abbrev pub max_entries : ℕ
 max_entries = 1048576
 
--- a listing: good names, each below those after it, and not too many
+-- a listing: all names are good, each name is less than the names after it, and there are not too many entries
 pub record IsListing (es : List EntryModel) : Type 0 where
   pub good : IsTrue (have_good_names es)
   pub order : AreInOrder (names es)
   pub few : length es ≤ max_entries
 
--- the listing of given entries
+-- `listed` is the listing of the entries `es`
 pub record IsListingOf (es listed : List EntryModel) : Type 0 where
   pub entries : IsPermutation es listed
   pub listing : IsListing listed
 
--- why entries make no listing: each fault where those before it don't hold; none is a failed allocation
+-- why entries make no listing: each error only if the errors before it do not apply; a failed allocation is never the reason
 abbrev pub IsRefusedBy : List EntryModel → ListingFault → Type 0
 IsRefusedBy es BadName = IsFalse (have_good_names es)
 IsRefusedBy es Twice = IsTrue (have_good_names es) × (HaveDistinctNames es → ⊥)
 IsRefusedBy es TooMany = IsTrue (have_good_names es) × HaveDistinctNames es × (max_entries < length es)
 IsRefusedBy es Memory = ⊥
 
--- the listing of these entries, or why they make none
+-- the result for these entries: their listing, or the error for which they make no listing
 abbrev pub IsAnswerFor : List EntryModel → Result (List EntryModel) ReadFault → Type 0
 IsAnswerFor entries (Ok listed) = IsListingOf entries listed
 IsAnswerFor entries (Err fault.BadName) = IsRefusedBy entries BadName

@@ -1,4 +1,4 @@
--- The listings of a tree of memory: the proof of the law of a tree, which is read from here.
+-- The listings of a tree in memory: the proof of the law of a tree, which is read from here.
 use Rattle.std.proofs.Common.{List, map, Result, Ok, Err, Option, Some, None, refl}
 use Rattle.lc_tree.specs.Listed.{listed}
 use Rattle.lc_tree.specs.Listing.{EntryModel, IsAnswerFor}
@@ -36,7 +36,7 @@ some_within (Node-F.File bytes) = (unread, tt, refl)
 some_within (Node-F.Failing bytes) = (unread, tt, refl)
 some_within (Node-F.Other what) = (unread, tt, refl)
 
--- what stands at a path may be listed in some way
+-- what is at a path, if anything, may be listed in some way
 pub tells_some : (node : Option Node) → TellsSome (ListsNode node)
 tells_some None = (unread, tt, refl)
 tells_some (Some node) = some_within (out-Node node)

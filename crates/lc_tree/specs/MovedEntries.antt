@@ -1,4 +1,4 @@
--- What entries keep when they are moved about: proofs for the law of a tree, which reads them from here.
+-- What stays true of entries when their order changes: proofs for the law of a tree, which reads them from here.
 use Rattle.std.proofs.Common.{◌≡◌, List, true}
 use Rattle.std.specs.Prelude.{IsTrue}
 use Rattle.std.specs.List.Sorted.{IsPermutation, IsStrictlySortedBy}
@@ -22,7 +22,7 @@ distinct_names_moved es fs moved =
     IsDistinct-IsPermutation _ ((eq_by_cmp_equiv nat_list_cmp_total).symm) (names es) (names fs)
     (IsPermutation-map (λ (e : EntryModel). e.name) es fs moved)
 
--- entries whose names rise once they are sorted have distinct names
+-- if the names of entries are strictly increasing once the entries are sorted, no two names are the same
 pub distinct_from_sorted : (es fs : List EntryModel) → IsPermutation es fs → IsStrictlySortedBy bytes_cmp (names fs) → HaveDistinctNames es
 distinct_from_sorted es fs moved rising =
     distinct_names_moved fs es (IsPermutation-sym es fs moved) (IsDistinct-from_sorted bytes_cmp (names fs) rising)

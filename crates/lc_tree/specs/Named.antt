@@ -1,4 +1,4 @@
--- Listing a directory by its names: which names it has, what a look at each shows, and what listing is made of them.
+-- Listing a directory by its names: which names the directory has, what a look at each name shows, and which listing follows.
 use Rattle.std.specs.Prelude.{◌≡◌, ◌⊎◌, ℕ, List, [], ◌∷◌, ◌++◌, map, Vec, Option, Some, None, Result, Ok, Err}
 use Rattle.std.specs.Global.{Global}
 use Rattle.lc_tree.specs.Listing.{EntryModel, IsAnswerFor}
@@ -7,30 +7,30 @@ use Rattle.lc_tree.specs.declared.entry.Kind.{Kind}
 use Rattle.lc_tree.specs.declared.read_fault.ReadFault.{ReadFault}
 use Rattle.lc_tree.specs.declared.read_fault.ReadFault.TheVariants as fault
 
--- which names a directory may give, but for a failed allocation, or which fault
+-- which names, or which error, a directory may return, apart from a failed allocation
 abbrev pub Names : Type 1
 Names = Result (List (List ℕ)) ReadFault → Type 0
 
--- what a look at a name of a directory may show: the kind of what is there, that nothing is there, or a fault
+-- what a look at a name of a directory may show: the kind of the entry, that there is no entry, or an error
 abbrev pub Looks : Type 1
 Looks = List ℕ → Result (Option Kind) ReadFault → Type 0
 
--- whatever is one of some answers to a listing is one of the others
+-- each result in `some` is also in `others`
 abbrev pub AreAmong : Listings → Listings → Type 0
 AreAmong some others = (answer : Result (List EntryModel) ReadFault) → some answer → others answer
 
--- a tree that gives no names
+-- the names and looks of a tree that returns no names
 abbrev pub NoNames : Names
 NoNames answer = ⊥
 
 abbrev pub NoLooks : Looks
 NoLooks name shown = ⊥
 
--- the bytes of names
+-- the bytes of each name
 abbrev pub bytes_of : List (Vec ℕ Global) → List (List ℕ)
 bytes_of names = map (λ (n : Vec ℕ Global). n.items) names
 
--- the names that were asked for: not given, or these; or a fault or a failed allocation
+-- the result of asking for names: none, names that the directory may have, an error that it may return, or a failed allocation
 abbrev pub GivesNames : Names → Result (Option (Vec (Vec ℕ Global) Global)) ReadFault → Type 0
 GivesNames may (Ok None) = Unit {0}
 GivesNames may (Ok (Some names)) = may (Ok (bytes_of names.items))
@@ -41,36 +41,37 @@ GivesNames may (Err fault.Twice) = may (Err fault.Twice)
 GivesNames may (Err fault.TooMany) = may (Err fault.TooMany)
 GivesNames may (Err fault.Memory) = Unit {0}
 
--- the entry of a name, or none
+-- the entry of a name as a list, which is empty if there is no entry
 abbrev pub entry_of : List ℕ → Option Kind → List EntryModel
 entry_of name None = []
 entry_of name (Some kind) = record { name = name; kind = kind } ∷ []
 
 module _ (shows : Looks) where
-  -- the entries of those of these names under which something is, in the order of the names
+  -- the entries of the names that exist, in the order of the names
   abbrev pub AreEntriesOf : List (List ℕ) → List EntryModel → Type 0
   AreEntriesOf [] entries = entries ≡ []
   AreEntriesOf (name ∷ names) entries = (kind : Option Kind) × (rest : List EntryModel)
       × shows name (Ok kind) × AreEntriesOf names rest × (entries ≡ entry_of name kind ++ rest)
 
-  -- the fault of the first name that has one; before any, an allocation may fail
+  -- the error of the first name that has one; before that name, an allocation may fail
   abbrev pub IsFirstFault : List (List ℕ) → ReadFault → Type 0
   IsFirstFault [] found = found ≡ fault.Memory
   IsFirstFault (name ∷ names) found =
       (found ≡ fault.Memory) ⊎ (shows name (Err found) ⊎ (((kind : Option Kind) × shows name (Ok kind)) × IsFirstFault names found))
 
-  -- what looks at these names gave: their entries, or the first fault
+  -- what looks at these names return: their entries, or the first error
   abbrev pub LooksAt : List (List ℕ) → Result (Vec EntryModel Global) ReadFault → Type 0
   LooksAt names (Ok entries) = AreEntriesOf names entries.items
   LooksAt names (Err found) = IsFirstFault names found
 
-  -- the answer for these names: their entries listed, or why these make no listing; or the first fault of a name
+  -- what listing these names may return: the listing of their entries, the error for which these make no listing, or the first error of a
+  -- name
   abbrev pub ListsThese : List (List ℕ) → Listings
   ListsThese names (Ok listed) = (found : List EntryModel) × AreEntriesOf names found × IsAnswerFor found (Ok listed)
   ListsThese names (Err refused) =
       IsFirstFault names refused ⊎ ((found : List EntryModel) × AreEntriesOf names found × IsAnswerFor found (Err refused))
 
--- the answer for some names that the directory may give, or the fault in place of names
+-- what listing a directory may return: the result for names that the directory may have, or the error in place of names
 abbrev pub ListsNamed : Names → Looks → Listings
 ListsNamed may shows answer =
     ((names : List (List ℕ)) × may (Ok names) × ListsThese shows names answer)

@@ -1,4 +1,4 @@
--- The parts of a tree of memory, and which of them stands at a path.
+-- The nodes of a tree in memory, and the node at a path.
 use Rattle.std.specs.Prelude.{ℕ, List, [], ◌∷◌, Option, Some, None, Vec, find, option_map, option_and_then, bytes_eq}
 use Rattle.std.specs.declared.alloc.Global.{Global}
 use Rattle.lc_tree.specs.Listing.{EntryModel}
@@ -23,15 +23,15 @@ kind_of node = kind_within (out-Node node)
 abbrev pub Child : Type 0
 Child = Vec ℕ Global × Node
 
--- an entry as a listing has it
+-- the entry of a child in a listing
 abbrev pub entry_of_child : Child → EntryModel
 entry_of_child child = record { name = child.0.items; kind = kind_of child.1 }
 
--- the node of the first entry of a name
+-- the node of the first child with this name
 abbrev pub child_among : List ℕ → List Child → Option Node
 child_among name children = option_map (λ (c : Child). c.1) (find (λ (c : Child). bytes_eq c.0.items name) children)
 
--- the node under a name of a directory; any other node has none
+-- the node of this name in a directory; any other node has none
 abbrev pub child_within : List ℕ → Node-F Node → Option Node
 child_within name (Node-F.Dir entries) = child_among name entries.items
 child_within name Node-F.Closed = None

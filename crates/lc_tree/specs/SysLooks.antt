@@ -1,4 +1,4 @@
--- What looks at the entries of a directory of the system tell of them.
+-- What looks at the entries of a directory of the system may show.
 use Rattle.std.specs.Prelude.{◌≡◌, ◌≢◌, ◌⊎◌, ℕ, Bool, nat_lt, List, ◌++◌, length}
 use Rattle.std.specs.Prelude.{IsTrue, IsFalse, Option, Some, None, Result, Ok, Err}
 use Rattle.std.specs.Fs.{file_type, IsFile, IsDir}
@@ -15,23 +15,23 @@ use Rattle.lc_tree.specs.declared.read_fault.ReadFault.{ReadFault}
 use Rattle.lc_tree.specs.declared.read_fault.ReadFault.TheVariants as fault
 use Rattle.lc_tree.specs.declared.sys_looks.Looked.{Looked}
 
--- what a look at a path may answer: what is known of what is there, or an error
+-- what a look at a path may return: what is known of the path, or an error
 abbrev pub Answers : Type 1
 Answers = Result Looked Error → Type 0
 
--- anything but that a signal interrupted the look, or that a tree which does not stay on one file system is left
+-- any result, except that a signal interrupted the look, or that a path is outside a tree that does not stay on one file system
 abbrev pub AnyLook : Bool → Answers
 AnyLook stays (Ok found) = IsTrue found.is_outside → IsTrue stays
 AnyLook stays (Err error) = error_kind error ≢ Interrupted
 
--- the kind of what a look found; a link is neither a regular file nor a directory
+-- the kind of an entry by what a look returned; a symbolic link is neither a regular file nor a directory
 abbrev pub IsKindOf : Looked → Kind → Type 0
 IsKindOf found File = IsFile (file_type found.metadata)
 IsKindOf found Dir = IsDir (file_type found.metadata) × IsFalse found.is_outside
 IsKindOf found (Other Mounted) = IsDir (file_type found.metadata) × IsTrue found.is_outside
 IsKindOf found (Other Special) = (IsFile (file_type found.metadata) → ⊥) × (IsDir (file_type found.metadata) → ⊥)
 
--- what such an answer tells: the kind of what is there, that nothing is, or that it can't be told
+-- what the result of a look tells: the kind of the entry, that there is no entry, or that the kind is unknown
 abbrev pub Tells : Answers → Result (Option Kind) ReadFault → Type 0
 Tells may (Ok (Some kind)) = (found : Looked) × may (Ok found) × IsKindOf found kind
 Tells may (Ok None) = (error : Error) × may (Err error) × (error_kind error ≡ NotFound)
@@ -46,14 +46,15 @@ Tells may (Err fault.Memory) = Unit {0}
 abbrev pub is_beyond : List ℕ → List ℕ → Bool
 is_beyond directory name = nat_lt max_path (length (path_in directory name))
 
--- what a look may answer at a path of the system; a directory's path in the tree, and its path in the system with a slash
+-- `may` says what a look at a path of the system may return; `directory` is a directory's path in the tree, and `text` its path in the
+-- system with a slash
 module _ (may : List ℕ → Answers) (directory text : List ℕ) where
-  -- what is told of a name that is UTF-8: where its path is too long that it is something else, without a look
+  -- what is told of a name that is UTF-8; if its path is too long, it is `Special`, without a look
   abbrev pub TellsOf : List ℕ → Result (Option Kind) ReadFault → Type 0
   TellsOf name told = (IsTrue (is_beyond directory name) × (told ≡ Ok (Some (Other Special))))
       ⊎ (IsFalse (is_beyond directory name) × Tells (may (text ++ name)) told)
 
-  -- what a look at a name shows: a name that is not UTF-8 is a fault
+  -- what a look at a name shows; a name that is not UTF-8 is an error
   abbrev pub ShowsIn : Looks
   ShowsIn name (Ok kind) = IsUtf8 name × TellsOf name (Ok kind)
   ShowsIn name (Err fault.Unnamed) = IsUtf8 name → ⊥

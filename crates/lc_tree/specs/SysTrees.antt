@@ -1,4 +1,4 @@
--- What a directory of the system may answer.
+-- What the calls of a tree of the system may return.
 use Rattle.std.specs.Prelude.{◌≡◌, ◌⊎◌, ℕ, Bool, List, [], ◌∷◌, ◌++◌}
 use Rattle.std.specs.Str.{IsUtf8}
 use Rattle.lc_glob.specs.Bytes.{slash}
@@ -12,11 +12,11 @@ use Rattle.lc_tree.specs.declared.read_fault.ReadFault.TheVariants.{Failed, Memo
 abbrev pub AnyContents : Contents
 AnyContents rooms pieces stop = Unit {0}
 
--- nothing but what may refuse a file
+-- `Failed` or `Memory`, the errors of opening a file
 abbrev pub IsFaultOfOpening : ReadFault → Type 0
 IsFaultOfOpening fault = IsOpenFault AnyContents fault
 
--- the text before the paths of a tree's entries: the path of its top and a slash; the empty path is none
+-- the text before the paths of a tree's entries: the path of its top and a slash; an empty path of the top stays empty
 abbrev pub top_text : List ℕ → List ℕ
 top_text [] = []
 top_text (b ∷ bs) = b ∷ bs ++ slash ∷ []
@@ -34,6 +34,6 @@ sys_top directory entered = record { text = top_text directory; stays = is_one e
 abbrev pub HasNoPath : SysTop → List ℕ → Type 0
 HasNoPath top path = (top.text ≡ []) ⊎ (IsUtf8 path → ⊥)
 
--- why the path in the system is not made
+-- why the system's path of a path of the tree was not made: an allocation failed, or the path has none
 abbrev pub IsFaultOfPath : SysTop → List ℕ → ReadFault → Type 0
 IsFaultOfPath top path fault = (fault ≡ Memory) ⊎ (HasNoPath top path × (fault ≡ Failed))

@@ -1,4 +1,4 @@
--- What the calls of a tree answer.
+-- What the calls of a tree may return.
 use Rattle.std.specs.Prelude.{◌≡◌, ◌≢◌, ℕ, Bool, List, [], ◌∷◌, ◌++◌, length, Result, Ok, Err, Option, None, Some, MatchResult}
 use Rattle.std.specs.Prelude.{IsTrue, IsFalse}
 use Rattle.std.specs.List.{concat, AllByRecursion}
@@ -7,11 +7,11 @@ use Rattle.lc_tree.specs.Listing.{EntryModel, IsListing}
 use Rattle.lc_tree.specs.declared.read_fault.ReadFault.{ReadFault}
 use Rattle.lc_tree.specs.declared.read_fault.ReadFault.TheVariants as fault
 
--- what listing a path may answer, but for a failed allocation: entries, or a fault
+-- what listing a path may return, apart from a failed allocation: entries, or an error
 abbrev pub Listings : Type 1
 Listings = Result (List EntryModel) ReadFault → Type 0
 
--- how long the buffers of some reads are: of any lengths, or all of this one
+-- the lengths of the buffers of some reads: any lengths, or this length for all
 abbrev pub Rooms : Type 0
 Rooms = Option ℕ
 
@@ -19,11 +19,11 @@ abbrev pub IsRoom : Rooms → ℕ → Type 0
 IsRoom None = AnyRoom
 IsRoom (Some size) = RoomOf size
 
--- what the reads of an opened file into such buffers may give: pieces in turn, and how they stop
+-- what the reads of an opened file into such buffers may return: pieces, one after another, and how the reads stop
 abbrev pub Contents : Type 1
 Contents = Rooms → List (List ℕ) → Stop → Type 0
 
--- the answer to a listing is one of these, or an allocation failed
+-- the result of a listing is one of these, or an allocation failed
 abbrev pub Lists : Listings → Result (List EntryModel) ReadFault → Type 0
 Lists may (Ok entries) = may (Ok entries)
 Lists may (Err fault.Failed) = may (Err fault.Failed)
@@ -33,7 +33,7 @@ Lists may (Err fault.Twice) = may (Err fault.Twice)
 Lists may (Err fault.TooMany) = may (Err fault.TooMany)
 Lists may (Err fault.Memory) = Unit {0}
 
--- an answer to a listing is no failed allocation, and its entries are a listing
+-- the result of a listing is no failed allocation, and its entries make a listing
 abbrev pub IsTold : Result (List EntryModel) ReadFault → Type 0
 IsTold (Ok entries) = IsListing entries
 IsTold (Err fault.Failed) = Unit {0}
@@ -43,20 +43,20 @@ IsTold (Err fault.Twice) = Unit {0}
 IsTold (Err fault.TooMany) = Unit {0}
 IsTold (Err fault.Memory) = ⊥
 
--- some such answer may come
+-- listing may have some result that satisfies `IsTold`
 abbrev pub TellsSome : Listings → Type 0
 TellsSome may = (answer : Result (List EntryModel) ReadFault) × IsTold answer × may answer
 
--- the answer of a directory that can't be read
+-- the result of listing a directory that can't be read
 abbrev pub unread : Result (List EntryModel) ReadFault
 unread = Err fault.Failed
 
--- whatever reads of a file give is one of these
+-- everything that reads of a file return is one of these contents
 abbrev pub GivesOnly : {F : Type 0} → (F → ℕ → Answer → F → Type 0) → Contents → F → Type 0
 GivesOnly {F} may_give gives file = (rooms : Rooms) (pieces : List (List ℕ)) (stop : Stop) (left : F)
     → Reads may_give (IsRoom rooms) file pieces stop left → gives rooms pieces stop
 
--- a file that can't be opened is one whose first read fails; no other fault comes but a failed allocation
+-- the error of a file that can't be opened: `Failed` only if the contents allow that the first read fails; any other is a failed allocation
 abbrev pub IsOpenFault : Contents → ReadFault → Type 0
 IsOpenFault gives fault.Failed = (rooms : Rooms) → gives rooms [] at_failure
 IsOpenFault gives fault.Unnamed = ⊥
@@ -65,7 +65,7 @@ IsOpenFault gives fault.Twice = ⊥
 IsOpenFault gives fault.TooMany = ⊥
 IsOpenFault gives fault.Memory = Unit {0}
 
--- the answer to an opening
+-- the result of opening a file: a file whose reads return only these contents, or an error
 abbrev pub Opens : {F : Type 0} → (F → ℕ → Answer → F → Type 0) → Contents → Result F ReadFault → Type 0
 Opens may_give gives answer = MatchResult answer (GivesOnly may_give gives) (IsOpenFault gives)
 
@@ -84,7 +84,8 @@ FillRooms rooms [] = Unit {0}
 FillRooms rooms (piece ∷ []) = Unit {0}
 FillRooms rooms (piece ∷ next ∷ pieces) = IsRoom rooms (length piece) × FillRooms rooms (next ∷ pieces)
 
--- what reads give of these bytes: all of them in pieces, none empty, as much as the buffers hold, and then how they stop; or a part
+-- what reads may return of this content: all its bytes in pieces, none empty, as much as the buffers hold, and how they stop; or only a
+-- part of the bytes
 abbrev pub GivesContent : Content → Contents
 GivesContent content rooms pieces at_end =
     AreSome pieces × (concat pieces ≡ content.bytes) × IsFalse content.fails × FillRooms rooms pieces
@@ -93,7 +94,7 @@ GivesContent content rooms pieces at_failure =
 GivesContent content rooms pieces at_neither =
     AreSome pieces × ((rest : List ℕ) × (concat pieces ++ rest ≡ content.bytes)) × FillRooms rooms pieces
 
--- a file may have this content: its reads may give what is given of it
+-- a file may have this content: its reads may return whatever reads may return of this content
 abbrev pub MayHold : Contents → Content → Type 0
 MayHold gives content =
     (rooms : Rooms) (pieces : List (List ℕ)) (stop : Stop) → GivesContent content rooms pieces stop → gives rooms pieces stop

@@ -1,4 +1,4 @@
-//! The entries of a directory.
+//! An entry of a directory: its name, and whether it is a file, a directory or something else.
 ghost use Rattle.std.specs.Prelude.{◌≡◌};
 ghost use Rattle.lc_tree.specs.Kinds.{is_file, is_dir};
 
@@ -7,13 +7,13 @@ use std::marker::Model;
 /// Why an entry is neither a file that is read nor a directory that is entered.
 #[derive(Clone, Copy, Debug, Drop, PartialEq, Eq)]
 pub enum OtherKind {
-    /// It is neither a regular file nor a directory: a symbolic link, for instance.
+    /// The entry is neither a regular file nor a directory: a symbolic link, for instance.
     Special,
-    /// It is a directory on another file system than the top of its tree, and the tree stays on one file system.
+    /// The entry is a directory on another file system than the top of its tree, and the tree stays on the top's file system.
     Mounted,
 }
 
-/// The kind of a directory's entry.
+/// What an entry of a directory is: a regular file, a directory or something else.
 #[derive(Clone, Copy, Debug, Drop, PartialEq, Eq)]
 pub enum Kind {
     /// A regular file.
@@ -25,14 +25,14 @@ pub enum Kind {
 }
 
 impl Kind {
-    /// Returns whether it is a regular file.
+    /// Returns whether the entry is a regular file.
     pub fn is_file(self) -> bool
         ensures { result ≡ is_file self }
     {
         matches!(self, Kind::File)
     }
 
-    /// Returns whether it is a directory.
+    /// Returns whether the entry is a directory, other than an `OtherKind::Mounted` one.
     pub fn is_dir(self) -> bool
         ensures { result ≡ is_dir self }
     {

@@ -1,4 +1,4 @@
-//! The file systems whose directories a tree of the system enters.
+//! The file systems whose directories a tree of the system enters, and how a tree decides whether to enter a directory.
 ghost use Rattle.std.specs.Prelude.{◌≡◌, IsTrue};
 ghost use Rattle.lc_tree.specs.Bounds.{is_one, stays};
 
@@ -8,28 +8,28 @@ use std::io;
 use std::os::unix::fs::MetadataExt;
 use std::rt::Files;
 
-/// The file systems whose directories a tree of the system enters.
+/// Says which directories a `SysTree` enters, by the file systems that they are on.
 #[derive(Clone, Copy, Debug, Drop, PartialEq, Eq)]
 pub enum FileSystems {
-    /// All.
+    /// Directories on all file systems.
     All,
-    /// The file system of the tree's top alone.
+    /// Only directories on the file system of the tree's top.
     One,
 }
 
-/// The bounds of a tree of the system.
+/// Says which directories a `SysTree` enters, by the devices that they are on.
 #[derive(Clone, Copy, Debug)]
 pub(crate) enum Bounds {
-    /// It enters all directories.
+    /// The tree enters all directories.
     Everywhere,
-    /// It enters the directories on the device of this number.
+    /// The tree enters only directories on the device of this number.
     Device(u64),
-    /// It enters its top alone, since the top's device is unknown.
+    /// The tree enters only its top, because the device of the top could not be read.
     TopAlone,
 }
 
 impl Bounds {
-    /// Returns the bounds of the tree whose top has this path in the system.
+    /// Returns the bounds of a `SysTree` whose top is at this path of the system, by the file systems that the tree enters.
     pub(crate) fn of<R: Files>(files: &R, top: &str, entered: FileSystems) -> Bounds
         ensures { stays result ≡ is_one entered }
     {

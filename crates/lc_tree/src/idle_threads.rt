@@ -1,22 +1,25 @@
-//! Counting the threads that have nothing to do.
+//! A count of the threads that have nothing to do.
 ghost use Rattle.std.specs.Prelude.{◌≡◌, ◌-◌, ◌≤◌};
 
 use std::marker::Model;
 use std::sync::atomic::{AtomicU32, Ordering};
 
-/// The number of threads that have nothing to do. Threads share it, so that one with much work can split it.
+/// Counts the threads that have nothing to do. Threads share the count, so that a thread with much work can split the work among idle
+/// threads.
 ///
-/// It is a hint, and may be out of date when it is used. So it decides only how much is done side by side, never what the answer is.
+/// The count is a hint, and may be out of date when it is used. So it decides only how much work is done in parallel, never what the result
+/// is.
 ///
-/// It stores two numbers, neither of them below 0:
+/// The count consists of two numbers, neither of them below 0:
 ///
 /// - idle: how many threads have called `begin` and not yet `end`
-/// - lent: how many of the idle threads that `take` returned were not given back
+/// - lent: how many of the threads that `take` returned were not given back
 ///
-/// `take` returns at most idle less lent, or nothing if more are lent than idle. So two callers never get the same idle thread. A thread
-/// that finds work while it is lent only lowers that number. The count is right again once the lent threads are given back.
+/// `take` returns at most idle minus lent threads, or none if lent is greater than idle. So two callers never get the same idle thread. If
+/// a lent thread finds work of its own, this difference is too small by 1 until the lent threads are given back.
 ///
-/// Contracts see how many threads there are. A caller of `take` has work itself, so it gets fewer than that, whatever the count is.
+/// In contracts the value is the total number of threads. The thread that calls `take` has work itself, so it always gets fewer threads
+/// than this total.
 ///
 /// ```
 /// let idle = IdleThreads::new(2);
@@ -41,7 +44,8 @@ impl Model for IdleThreads {
     ghost view = { λ t. t.threads };
 }
 
-/// Idle threads that `IdleThreads::take` returned. They can't be dropped, only given back to `IdleThreads::give_back`.
+/// Idle threads that `IdleThreads::take` returned to a thread with work. They can't be dropped, only given back by
+/// `IdleThreads::give_back`.
 pub struct Helpers {
     count: u32,
 }
@@ -55,7 +59,7 @@ impl Model for Helpers {
 }
 
 impl Helpers {
-    /// Returns the number of threads.
+    /// Returns how many threads these are.
     pub fn count(&self) -> u32
         ensures { result ≡ self.now }
     {
@@ -94,12 +98,12 @@ impl IdleThreads {
             .fetch_update(Ordering::SeqCst, Ordering::SeqCst, more);
     }
 
-    /// Counts the calling thread as busy again, even if it is lent. If none is idle, nothing changes.
+    /// Counts the calling thread as busy again, even if it is lent to another thread. If no thread is counted as idle, nothing changes.
     pub fn end(&self) {
         lower(&self.idle, 1);
     }
 
-    /// Takes up to `most` idle threads, but always fewer than there are threads.
+    /// Takes up to `most` idle threads as helpers, but always fewer than the total number of threads.
     pub fn take(&self, most: u32) -> Helpers
         ensures most { result ≤ most }
         ensures others { result ≤ self.now - 1 }

@@ -1,14 +1,14 @@
-//! Trees of directories and files, of the system and in memory.
+//! Trees of directories and files: directories of the system, and trees in memory.
 //!
 //! - `tree`: the trait `Tree`
 //! - `entry`, `listing`: the entries of one directory, in the order of their names
-//! - `read_fault`: why a tree did not answer
+//! - `read_fault`: why a directory was not listed, or a file was not opened
 //! - `file_systems`: the file systems whose directories a tree of the system enters
 //! - `sys_tree`, `sys_names`, `sys_entries`, `sys_looks`: a directory of the system as a tree
 //! - `system_call`: repeating system calls that a signal interrupts
-//! - `list_parts`: the listing of a large directory, with the help of idle threads; `idle_threads`: how many there are
+//! - `list_parts`: the listing of a large directory, with the help of idle threads; `idle_threads`: how many threads are idle
 //! - `node`, `mem_tree`, `mem_file`: a tree in memory
-//! - `laws`: what is true of the definitions that the contracts cite
+//! - `laws`: theorems about the definitions that contracts cite
 #![tactic(auto)]
 
 mod entry;

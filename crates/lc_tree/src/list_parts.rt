@@ -10,16 +10,17 @@ use std::alloc::{AllocError, Global};
 use std::thread;
 use std::thread::Threads;
 
-/// The fewest names that are worth a part of their own: looks at them take several times as long as a thread takes to start.
+/// The minimum number of names in a part. Reading the metadata of this many names takes several times as long as starting a thread.
 const NAMES_OF_A_PART: usize = 512;
 
-/// The most parts of a directory.
+/// The maximum number of parts into which the names of a directory are cut.
 const MAX_PARTS: usize = 16;
 
 /// Lists the directory at a path of a tree, as `Tree::list` does, with the help of idle threads.
 ///
-/// If the tree gives at least 1,024 names and threads are idle, up to 15 of these threads help. Each reads the metadata of a part of the
-/// entries. They are given back before the listing is returned. The entries and the error are those of reading one entry after another.
+/// If `Tree::names` returns at least 1,024 names and threads are idle, up to 15 of these threads help. Each helper reads the metadata of a
+/// part of the entries. All helpers are given back before the listing is returned. The entries, or the error, are as if one thread had read
+/// one entry after another.
 ///
 /// ```
 /// let idle = IdleThreads::new(4);
@@ -127,7 +128,7 @@ fn look_at_runs<T: Tree, R: Threads + Sync>(
     thread::map_vec(rt, runs, &look)
 }
 
-/// Cuts names into parts of nearly equal length, in order: one for each helper, and one more.
+/// Cuts a list of names into parts of nearly equal length, in order: one part for each helper, and one part more.
 pub fn cut_names(
     alloc: Global,
     names: Vec<Vec<u8>>,

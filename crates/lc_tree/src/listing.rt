@@ -13,16 +13,16 @@ use lc_glob::path::is_good_name;
 use std::marker::Model;
 use thiserror::Error;
 
-/// The greatest number of entries of a listing.
+/// The maximum number of entries of a listing.
 pub const MAX_ENTRIES: usize = 1_048_576;
 
-/// Why entries make no listing: the first of these that holds.
+/// Why a list of entries makes no listing. If several variants apply, the first of them is returned.
 #[derive(Clone, Copy, Debug, Drop, PartialEq, Eq, Error)]
 pub enum ListingFault {
     /// A name is empty, `.` or `..`, or has a slash or a NUL byte.
     #[error("a bad name")]
     BadName,
-    /// Two names are equal.
+    /// Two entries have the same name.
     #[error("a name stands twice")]
     Twice,
     /// There are over `MAX_ENTRIES` entries.
@@ -35,8 +35,8 @@ pub enum ListingFault {
 
 /// The entries of a directory, in the order of their names' bytes.
 ///
-/// Each name is good: it is neither empty nor `.` nor `..`, and has neither a slash nor a NUL byte. No name is there twice, and there are
-/// at most `MAX_ENTRIES` of them.
+/// Each name is good: it is neither empty nor `.` nor `..`, and has neither a slash nor a NUL byte. No two entries have the same name, and
+/// there are at most `MAX_ENTRIES` entries.
 #[derive(Debug, Drop)]
 pub struct Listing {
     entries: Vec<Entry>,
@@ -54,8 +54,8 @@ impl Model for Listing {
 }
 
 impl Listing {
-    /// Sorts the entries in place, in `O(n log n)` comparisons of names. It allocates nothing, so it never answers `ListingFault::Memory`.
-    /// On an error the entries are dropped.
+    /// Makes the listing of these entries, which are sorted in place in `O(n log n)` comparisons of names. Allocates nothing, so the error
+    /// is never `ListingFault::Memory`. On an error the entries are dropped.
     ///
     /// ```
     /// let listing = Listing::new(entries)?; // of `b` and `a`
@@ -96,7 +96,7 @@ impl Listing {
     }
 }
 
-/// Returns the listing of these entries, or why a directory that has them is not listed.
+/// Returns the listing of these entries, or the error of listing a directory that has these entries.
 pub(crate) fn listed(entries: Vec<Entry>) -> Result<Listing, ReadFault>
     ensures { Lists (IsAnswerFor entries.items) result }
 {

@@ -6,7 +6,8 @@ use crate::Node;
 use lc_io::{Failed, Source};
 use std::marker::Model;
 
-/// The rest of a file of a tree in memory. A read returns bytes from the front, as many as the buffer holds, and allocates nothing.
+/// An open file of a tree in memory: the bytes that were not read yet. A read returns bytes from the front, as many as the buffer holds,
+/// and allocates nothing.
 #[derive(Debug, Drop)]
 pub struct MemFile<'a> {
     bytes: &'a [u8],

@@ -9,10 +9,11 @@ use crate::{Entry, Listing, Node, ReadFault, Tree};
 use std::alloc::{AllocError, Global};
 use std::marker::Model;
 
-/// A tree in memory, which has one answer for each path, unless an allocation fails.
+/// A tree in memory. Each path always has the same listing or the same contents, unless an allocation fails.
 ///
-/// A path that does not exist, or is of another kind, can't be read. If the entries of a directory make no listing, its answer is that
-/// error. If a name is there twice, the first entry counts.
+/// If a path does not exist, or is not a directory to list or a file to open, the error is `ReadFault::Failed`. If `Listing::new` refuses
+/// the entries of a directory, listing the directory returns the corresponding `ReadFault`. If two entries have the same name, a path with
+/// this name means the first entry.
 #[derive(Debug, Drop)]
 pub struct MemTree<'a> {
     top: &'a Node,
@@ -31,7 +32,7 @@ impl<'a> Model for MemTree<'a> {
 }
 
 impl<'a> MemTree<'a> {
-    /// Makes the tree of this node. It allocates nothing.
+    /// Makes the tree whose top is this node. Allocates nothing.
     ///
     /// ```
     /// let tree = MemTree::new(&top);
@@ -77,7 +78,7 @@ impl<'a> Tree for MemTree<'a> {
         Ok(Listing::new(entries)?)
     }
 
-    /// Takes no memory.
+    /// Opens the file at a path. Allocates nothing, so the error is never `ReadFault::Memory`.
     fn open_file(&self, _alloc: Global, path: &[u8]) -> Result<MemFile<'a>, ReadFault>
         ensures given { Opens ReadsContent (mem_gives self.now path.now) result }
         ensures no_memory { result ≢ Err ReadFault.Memory }

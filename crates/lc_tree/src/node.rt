@@ -16,9 +16,9 @@ pub enum Node {
     Closed,
     /// A file of these bytes.
     File(Vec<u8>),
-    /// A file that gives these bytes and then fails in place of its end.
+    /// A file whose reads return these bytes, and then an error in place of the file's end.
     Failing(Vec<u8>),
-    /// Neither a file nor a directory that is entered.
+    /// An entry that is neither a file nor a directory that is entered.
     Other(OtherKind),
 }
 

@@ -1,4 +1,4 @@
-//! Why a tree did not answer.
+//! Why a tree did not list a directory, or did not open a file.
 use crate::ListingFault;
 use std::alloc::{AllocError, AllocFailed};
 use thiserror::Error;
@@ -6,19 +6,19 @@ use thiserror::Error;
 /// Why a directory was not listed, or a file not opened. For a file the error is `Failed` or `Memory`.
 #[derive(Clone, Copy, Debug, Drop, PartialEq, Eq, Error)]
 pub enum ReadFault {
-    /// The system reported an error, or nothing of this kind is there.
+    /// The system reported an error, or the path names no directory to list, or no file to open.
     #[error("cannot be read")]
     Failed,
     /// A name of the directory is not UTF-8.
     #[error("a name is no text")]
     Unnamed,
-    /// A name is empty, `.` or `..`, or has a slash or a NUL byte.
+    /// A name in the directory is empty, `.` or `..`, or has a slash or a NUL byte.
     #[error("a bad name")]
     BadName,
-    /// A name is there twice.
+    /// Two entries of the directory have the same name.
     #[error("a name stands twice")]
     Twice,
-    /// There are too many entries.
+    /// The directory has over `MAX_ENTRIES` entries.
     #[error("too many entries")]
     TooMany,
     /// An allocation failed.

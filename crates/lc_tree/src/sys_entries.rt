@@ -11,8 +11,8 @@ use crate::{Entry, Kind, OtherKind, ReadFault};
 use lc_glob::path::MAX_PATH;
 use std::alloc::Global;
 
-/// Returns the entries of those names that still exist in a directory. `directory` is its path in the tree, and `path` its path in the
-/// system. The metadata are read one name after another, up to the first error.
+/// Returns the entries of the names that still exist in a directory. `directory` is the directory's path in the tree, and `path` is its
+/// path in the system. The metadata are read one name after another, up to the first error.
 pub(crate) fn look_in<L: Look>(
     looks: &L,
     alloc: Global,

@@ -11,26 +11,26 @@ use std::io;
 use std::io::ErrorKind;
 use std::rt::Files;
 
-/// The metadata of a path, and whether it is on another file system.
+/// The metadata of a path, and whether the path is on a file system that the tree does not enter.
 #[derive(Drop)]
 pub(crate) struct Looked {
     pub(crate) metadata: Metadata,
-    /// Whether it is on a file system that the tree does not enter.
+    /// Whether the path is on a file system that the tree does not enter.
     pub(crate) is_outside: bool,
 }
 
-/// Looks at paths of the system. A symbolic link is not followed.
+/// Reads the metadata of paths of the system. A symbolic link is not followed.
 pub(crate) trait Look {
     // What reading the metadata of a path may answer.
     ghost may_answer: { Self → List ℕ → Answers };
 
-    /// Looks at a path.
+    /// Reads the metadata of a path.
     fn look(&self, path: &str) -> io::Result<Looked>
         ensures { may_answer self.now path.now result };
 }
 
-/// The looks of the system itself, which are tried again if a signal interrupts them. Their answers are unknown: std's contract of
-/// `symlink_metadata` says nothing of them.
+/// Reads metadata by calls of the system itself, and repeats a call that a signal interrupts. Contracts do not say what these calls return,
+/// since std's contract of `symlink_metadata` does not.
 #[derive(Drop)]
 pub(crate) struct SysLook<'a, R> {
     pub(crate) files: &'a R,
@@ -54,7 +54,7 @@ impl<R: Files> Look for SysLook<'_, R> {
     }
 }
 
-/// Returns the kind of the entry at a path, if there is one.
+/// Returns what the entry at a path is, or `None` if nothing exists at the path.
 pub(crate) fn kind_at<L: Look>(looks: &L, path: &str) -> Result<Option<Kind>, ReadFault>
     ensures { Tells (L.may_answer looks.now path.now) result }
 {

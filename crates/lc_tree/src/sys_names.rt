@@ -12,10 +12,10 @@ use lc_io::{Failed, Source, StdSource};
 use std::alloc::{AllocError, Global};
 use std::rt::Files;
 
-/// The length of the buffer of one read of a directory, which has room for the names of a few hundred entries.
+/// The length in bytes of the buffer for one read of a directory, which has room for the names of a few hundred entries.
 const NAMES_LEN: usize = 8_192;
 
-/// Opens the directory at a path of the system. Its reads return the names in it, each with a NUL byte after it.
+/// Opens the directory at a path of the system. Reads of the result return the names in the directory, each with a NUL byte after it.
 pub(crate) fn open_dir<R: Files>(files: &R, path: &str) -> Result<StdSource<R::Dir>, ReadFault>
     ensures { MatchResult result (λ _. Unit {0}) IsFaultOfOpening }
 {
@@ -25,7 +25,7 @@ pub(crate) fn open_dir<R: Files>(files: &R, path: &str) -> Result<StdSource<R::D
     }
 }
 
-/// Returns all names that the reads of a directory return up to its end, but for `.` and `..`.
+/// Returns all names that the reads of a directory return up to the directory's end, except `.` and `..`.
 pub(crate) fn read_names<S: Source>(alloc: Global, dir: &mut S) -> Result<Vec<Vec<u8>>, ReadFault>
     ensures { MatchResult result (λ names. AreNamesRead S.may_give dir.old (bytes_of names.items) dir.new) IsFaultOfOpening }
 {

@@ -17,22 +17,22 @@ use std::fs::OpenOptions;
 use std::marker::Model;
 use std::rt::Files;
 
-/// Room after the path of a directory for a slash and the name of an entry.
+/// The number of bytes that are reserved after the path of a directory, for a slash and the name of an entry.
 const NAME_ROOM: usize = 256;
 
-/// A directory of the system, with everything under it.
+/// A directory of the system as a tree, with everything under it.
 ///
-/// Symbolic links in it, and all that is neither a regular file nor a directory, are `Kind::Other`. So are directories on other file
-/// systems, if the tree stays on the file system of its top. An error of the system is `ReadFault::Failed`, and a name that is not UTF-8
-/// makes its directory `ReadFault::Unnamed`. An entry that is removed while its directory is listed is no entry. A call that a signal
-/// interrupts is tried again, up to `MAX_TRIES` times in all.
+/// Symbolic links in the directory, and everything else that is neither a regular file nor a directory, are `Kind::Other`. Directories on
+/// other file systems are `Kind::Other` too, if the tree stays on the file system of its top. If the system reports an error, the error is
+/// `ReadFault::Failed`. If a name is not UTF-8, listing its directory returns `ReadFault::Unnamed`. An entry that is removed while its
+/// directory is listed is not in the listing. A call that a signal interrupts is tried again, up to `MAX_TRIES` times in all.
 ///
-/// An entry whose path has over `MAX_PATH` bytes is `Kind::Other`, and its metadata are not read: the system would refuse the path, and a
-/// walk stops at the entry whatever it is. A shorter path that has over 4,095 bytes with the path of the top before it makes its directory
-/// `ReadFault::Failed`.
+/// An entry whose path in the tree has over `MAX_PATH` bytes is `Kind::Other`, and its metadata are not read. The system would refuse the
+/// path, and a walk stops at the entry in any case. A shorter path may have over 4,095 bytes with the path of the top before it. Listing
+/// the directory of such an entry returns `ReadFault::Failed`.
 ///
-/// A file may be replaced after its metadata were read and before it is opened. Then whatever is there is opened, also through a symbolic
-/// link, and a named pipe waits for its writer.
+/// A file may be replaced after its metadata were read and before it is opened. `open_file` then opens what replaced the file, even through
+/// a symbolic link. If that is a named pipe, `open_file` waits for the pipe's writer.
 #[derive(Drop)]
 pub struct SysTree<'a, R> {
     files: &'a R,
@@ -52,8 +52,8 @@ impl<'a, R> Model for SysTree<'a, R> {
 }
 
 impl<'a, R: Files> SysTree<'a, R> {
-    /// Makes the tree of the directory at a path, or of the one that a symbolic link there leads to. It lists nothing yet: if no directory
-    /// is there, the tree's top can't be listed. To stay on one file system, it reads which one the top is on.
+    /// Makes the tree of the directory at a path. A symbolic link at the path is followed. Nothing is listed yet: if the path is no
+    /// directory, listing the tree's top fails later. For `FileSystems::One`, `new` reads which file system the top is on.
     ///
     /// ```
     /// let tree = SysTree::new(&rt, rt.alloc(), "src", FileSystems::All)?;

@@ -6,7 +6,7 @@ use lc_io::MAX_TRIES;
 use std::io;
 use std::io::{Error, ErrorKind};
 
-/// Makes a call, and makes it again where a signal interrupts it.
+/// Makes a system call, and repeats it if a signal interrupts it. After `MAX_TRIES` interrupted calls the error is `TimedOut`.
 pub(crate) fn uninterrupted<T, C: Fn() -> io::Result<T>>(call: C) -> io::Result<T>
     requires { C.IsAlwaysCallable call }
     ensures answered { IfOk result (λ found. C.post call (Ok found)) }

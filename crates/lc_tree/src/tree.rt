@@ -10,8 +10,9 @@ use std::alloc::Global;
 /// A tree of directories and files, which several workers read at the same time.
 ///
 /// The path of a directory or a file is relative to the tree's top: names joined by single slashes, and the empty path for the top itself.
-/// A tree states by `lists` and `gives` which answers may come; two openings of one file may differ. By `has_names` and `shows` it states
-/// how a directory is listed by its names.
+/// In contracts, `lists` states which listings the directory at a path may have, and `gives` which contents a file may have. Two openings
+/// of one file may have different contents. `has_names` states which names a directory may have, and `shows` which metadata each name may
+/// have.
 pub trait Tree: Sync {
     /// An opened file.
     type File: Source + Send + Drop;
@@ -36,17 +37,17 @@ pub trait Tree: Sync {
     fn open_file(&self, alloc: Global, path: &[u8]) -> Result<Self::File, ReadFault>
         ensures { Opens Self.File.may_give (gives self.now path.now) result };
 
-    /// Returns the names in the directory at a path, for `look`. It returns `None` if the tree only lists a directory as a whole.
+    /// Returns the names in the directory at a path, for `look`. Returns `None` if the tree lists a directory only as a whole.
     fn names(&self, _alloc: Global, path: &[u8]) -> Result<Option<Vec<Vec<u8>>>, ReadFault>
         ensures { GivesNames (has_names self.now path.now) result }
     {
         Ok(None)
     }
 
-    /// Reads the metadata of those names in the directory at a path, one after another up to the first error. Returns the entries of those
-    /// that are still there, in the order of the names.
+    /// Reads the metadata of these names in the directory at a path, one after another up to the first error. Returns an entry for each
+    /// name that still exists, in the order of `names`.
     ///
-    /// The default, for a tree that gives no names, is `ReadFault::Memory`.
+    /// The default implementation is for a tree whose `names` returns `None`, and always returns `ReadFault::Memory`.
     fn look(
         &self,
         _alloc: Global,
