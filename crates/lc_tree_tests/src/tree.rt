@@ -1,5 +1,5 @@
-//! Tests of listings of values from outside, of folders of the system and of trees in memory, also with the help of idle threads. Each call
-//! is shown to succeed.
+//! Tests of listings, of trees of the system and of trees in memory, also with the help of idle threads. They show that each call can
+//! succeed.
 
 mod checks;
 mod idle_threads;

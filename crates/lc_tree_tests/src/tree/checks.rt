@@ -1,17 +1,17 @@
-//! The answers of a tree, compared with what is expected.
+//! Functions that compare what the calls of a tree return with what is expected.
 
 use lc_io::{Source, WholeFault, read_whole};
 use lc_tree::{Kind, Listing, ReadFault, Tree};
 use std::alloc::Global;
 use std::process::Abort;
 
-/// Names with their kinds.
+/// The names of the expected entries, with their kinds.
 pub(super) type Entries<'a> = &'a [(&'a [u8], Kind)];
 
-/// The entries of a listing, or its fault.
+/// The expected result of listing a directory: its entries, or an error.
 pub(super) type Listed<'a> = Result<Entries<'a>, ReadFault>;
 
-/// The bytes that a file gives and how its reads stop, or why it is not opened.
+/// The expected bytes of a file and how its reads stop, or the error of opening the file.
 pub(super) type Given<'a> = Result<(&'a [u8], Result<(), WholeFault>), ReadFault>;
 
 pub(super) fn are_entries(listing: &Listing, wanted: Entries) -> bool {
@@ -27,7 +27,7 @@ pub(super) fn are_entries(listing: &Listing, wanted: Entries) -> bool {
     true
 }
 
-/// Checks that the directory at each path is listed like this.
+/// Checks that listing the directory at each path has the expected result.
 pub(super) fn check_listings<T: Tree>(
     rt: &impl Abort,
     alloc: Global,
@@ -46,7 +46,7 @@ pub(super) fn check_listings<T: Tree>(
     Ok(())
 }
 
-/// The bytes of an opened file, and how its reads stop.
+/// Returns whether the reads of an open file return these bytes, and stop like this.
 fn is_given<F: Source + Drop>(
     alloc: Global,
     file: F,
@@ -61,7 +61,7 @@ fn is_given<F: Source + Drop>(
     }
 }
 
-/// Checks that the file at each path gives these bytes.
+/// Checks that opening and reading the file at each path have the expected results.
 pub(super) fn check_files<T: Tree>(
     rt: &impl Abort,
     alloc: Global,

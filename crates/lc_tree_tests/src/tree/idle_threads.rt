@@ -1,8 +1,8 @@
-//! How many threads may be taken of those that are idle.
+//! Tests of how many idle threads `IdleThreads::take` returns.
 
 use lc_tree::IdleThreads;
 
-/// How many threads may be taken, up to this many. They are given back.
+/// Returns how many idle threads can be taken, up to `most`. All of them are given back.
 fn free(idle: &IdleThreads, most: u32) -> u32 {
     let helpers = idle.take(most);
     let count = helpers.count();

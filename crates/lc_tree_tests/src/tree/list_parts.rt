@@ -1,4 +1,4 @@
-//! Large directories, whose listing in parts is the same as the listing by one thread.
+//! Tests that list large directories in parts, and compare each listing with the listing by one thread.
 
 use crate::tree::system::{Reads, Signals, System};
 use lc_tests::Sketch;
@@ -18,7 +18,7 @@ const FOLDER: &str = "lc_tree_large_folder";
 /// How many files the folder has.
 const FILES: u32 = 3_000;
 
-/// A folder with many files, a directory and a link to it.
+/// Makes a folder with many files, a directory, and a symbolic link to the directory.
 fn make_folder(rt: &HostRuntime) -> io::Result<()> {
     let _ = fs::remove_dir_all(rt, FOLDER);
     fs::create_dir_all(rt, "lc_tree_large_folder/1b")?;
@@ -43,7 +43,8 @@ fn are_same(listing: &Listing, wanted: &Listing) -> bool {
     true
 }
 
-/// The top's listing with the help of so many idle threads is that of one thread, and all are given back. Returns how many entries it has.
+/// Lists the tree's top with the help of this many idle threads. Checks that the result is the same as by one thread, and that all idle
+/// threads are given back. Returns how many entries the listing has.
 fn check_listing<T: Tree, R: Threads + Abort + Sync>(
     rt: &R,
     alloc: Global,
@@ -87,7 +88,7 @@ fn trees_without_names_are_listed(rt: HostRuntime) -> Result<(), Fail> {
     Ok(())
 }
 
-/// Files of one name.
+/// A read of a directory that returns the same name many times.
 const F: Option<&[u8]> = Some(
     b"f\0f\0f\0f\0f\0f\0f\0f\0f\0f\0f\0f\0f\0f\0f\0f\0f\0f\0f\0f\0f\0f\0f\0f\0f\0f\0f\0f\0f\0f\0f\0f\0f\0f\0f\0f\0f\0f\0f\0f\0f\0f\0",
 );
@@ -96,7 +97,7 @@ const UNNAMED: Option<&[u8]> = Some(b"f\xFF\0");
 
 const DENIED: Option<&[u8]> = Some(b"x\0");
 
-/// Over 1,024 names, and the fault of the directory.
+/// Reads of a directory that return over 1,024 names, and the expected error of listing the directory.
 const FAULTS: [(Reads, ReadFault); 4] = [
     (
         &[

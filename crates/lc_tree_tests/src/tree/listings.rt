@@ -1,4 +1,4 @@
-//! Which entries make no listing, and the order of those that do.
+//! Tests of which entries `Listing::new` refuses, and of the order of the entries of a listing.
 
 use crate::tree::checks::{Entries, are_entries};
 use lc_tree::{Entry, Kind, Listing, ListingFault, OtherKind};
@@ -14,7 +14,7 @@ fn listing(alloc: Global, given: Entries) -> Result<Result<Listing, ListingFault
     Ok(Listing::new(entries))
 }
 
-/// The entries as they are given, and in order, or why they make no listing.
+/// The entries that a test passes to `Listing::new`, and the expected result: the entries in the order of the listing, or an error.
 type Case = (Entries<'static>, Result<Entries<'static>, ListingFault>);
 
 const BAD_NAME: Result<Entries<'static>, ListingFault> = Err(ListingFault::BadName);

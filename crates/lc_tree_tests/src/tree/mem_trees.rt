@@ -1,4 +1,4 @@
-//! The answers of trees in memory.
+//! Tests of what the calls of trees in memory return.
 
 use crate::tree::checks::{Entries, Given, Listed, check_files, check_listings};
 use lc_io::WholeFault;
@@ -8,7 +8,7 @@ use std::alloc::Global;
 use std::process::Abort;
 use std::test::Fail;
 
-/// A directory with a node of each kind, one with a name twice, and one with a bad name twice.
+/// A tree with three directories: one with a node of each kind, one with a name twice, and one with a bad name twice.
 const NODES: Sketch = Sketch::Dir(&[
     (
         b"twice",
@@ -79,7 +79,7 @@ const NOT_LISTED: &[(&[u8], Listed)] = &[(b"", Err(ReadFault::Failed))];
 
 const TOP_FILE: &[(&[u8], Given)] = &[(b"", Ok((b"top", Ok(()))))];
 
-/// A tree, what directories of it give, and what files.
+/// A tree, the expected results of listing directories of the tree, and of opening and reading files.
 type Case = (
     Sketch<'static>,
     &'static [(&'static [u8], Listed<'static>)],

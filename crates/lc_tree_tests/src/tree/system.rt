@@ -1,4 +1,4 @@
-//! A system whose calls are interrupted, and whose directories may give other names.
+//! A system for tests, whose calls are interrupted, and whose directory may have names that a test chooses.
 ghost use Rattle.std.specs.Io.{ReadsAtMost};
 
 use std::alloc::Allocator;
@@ -7,7 +7,7 @@ use std::io::{Error, ErrorKind, Read, Result as IoResult};
 use std::rt::Files;
 use std::sync::atomic::{AtomicU64, Ordering};
 
-/// The answers of the reads of a directory, in turn: names, or a failure.
+/// What the reads of a directory return, one after another: the bytes of names, or `None` for an error.
 pub(super) type Reads = &'static [Option<&'static [u8]>];
 
 /// Interrupts all calls except every `period`-th call.
@@ -28,8 +28,8 @@ impl Signals {
     }
 }
 
-/// The files of the host. If reads are given, its one directory is `top/`. The first byte of a name there shows its kind: `f`, `d` and `l`
-/// are a file, a directory and a symbolic link, a name with `g` is gone, and others are unknown.
+/// The files of the host. If `given` is set, the only directory is `top/`, and the first byte of a name in `top/` decides what the name is.
+/// `f`, `d` and `l` are a file, a directory and a symbolic link. A name with `g` does not exist, and any other name gives an error.
 #[derive(Drop)]
 pub(super) struct System<'a> {
     pub host: &'a HostRuntime,
@@ -37,7 +37,7 @@ pub(super) struct System<'a> {
     pub signals: &'a Signals,
 }
 
-/// The names of a directory: the host's, or those that are given.
+/// Where the names of a directory come from: a directory of the host, or reads that a test chooses.
 #[derive(Drop)]
 pub(super) enum Source {
     Host(<HostRuntime as Files>::Dir),
@@ -51,7 +51,7 @@ pub(super) struct Names<'a> {
     signals: &'a Signals,
 }
 
-/// What the read at this place gives, of those that are given.
+/// Returns what the read at this index returns, in the list of reads.
 fn read_given(reads: Reads, at: usize, buffer: &mut [u8]) -> IoResult<usize>
     ensures { ReadsAtMost result buffer.new }
 {
@@ -82,7 +82,7 @@ fn unsupported<T>() -> IoResult<T> {
     Err(Error::from(ErrorKind::Unsupported))
 }
 
-/// Returns the metadata of a path in the directory whose names are given.
+/// Returns the metadata of a path in `top/`, by the first byte of the name.
 fn told_of(path: &str) -> IoResult<Metadata> {
     match path.as_bytes() {
         [b't', b'o', b'p', b'/', b'f', ..] => Ok(Metadata::of_file(1)),

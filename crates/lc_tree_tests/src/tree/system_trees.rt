@@ -1,4 +1,4 @@
-//! What trees of a system give: of folders of the host, also where signals interrupt its calls, and of names that it may give.
+//! Tests of `SysTree`: on a folder of the host, also when signals interrupt its calls, and on a directory whose names the tests choose.
 
 use crate::tree::checks::{Entries, Given, Listed, check_files, check_listings};
 use crate::tree::system::{Reads, Signals, System};
@@ -12,7 +12,8 @@ use std::{fs, io};
 
 const FOLDER: &str = "lc_tree_folder";
 
-/// A folder with files, of which two have names that begin with dots, a directory with a file, a link to each kind, and one to nothing.
+/// Makes a folder with files, a directory with a file, and symbolic links: to a file, to a directory and to nothing. The names of two files
+/// begin with dots.
 fn make_folder(rt: &HostRuntime) -> io::Result<()> {
     let _ = fs::remove_dir_all(rt, FOLDER);
     fs::create_dir_all(rt, "lc_tree_folder/b")?;
@@ -25,7 +26,8 @@ fn make_folder(rt: &HostRuntime) -> io::Result<()> {
     symlink(rt, "missing", "lc_tree_folder/to_nothing")
 }
 
-/// A top, the answers of its reads where they are given, each how many-th call is not interrupted, and what directories and files give.
+/// The path of a tree's top, and the expected results for directories and files of the tree. `reads` are what reads of the top return, or
+/// `None` for the host's own reads. All calls except every `period`-th call are interrupted.
 #[derive(Clone, Copy)]
 struct Case {
     top: &'static str,
@@ -47,7 +49,7 @@ const TOP: Entries = &[
 
 const C_ALONE: Entries = &[(b"c", Kind::File)];
 
-/// The folder where no call is interrupted.
+/// The folder of the host, if no call is interrupted.
 const IN_FOLDER: Case = Case {
     top: FOLDER,
     reads: None,
@@ -71,7 +73,7 @@ const IN_FOLDER: Case = Case {
 
 const NOT_LISTED: &[(&[u8], Listed)] = &[(b"", Err(ReadFault::Failed))];
 
-/// A top that can't be listed.
+/// A tree whose top can't be listed.
 const NO_TOP: Case = Case {
     top: "",
     directories: NOT_LISTED,
@@ -79,14 +81,14 @@ const NO_TOP: Case = Case {
     ..IN_FOLDER
 };
 
-/// The folder's listing and its file, where tries of interrupted calls end well.
+/// The listing of the folder and one file of it, if interrupted calls are tried again and succeed.
 const INTERRUPTED: Case = Case {
     directories: &[(b"", Ok(TOP))],
     files: &[(b"a", Ok((b"one\n", Ok(()))))],
     ..IN_FOLDER
 };
 
-/// A directory of no name.
+/// A directory that has no names.
 const GIVEN: Case = Case {
     top: "top",
     reads: Some(&[]),
@@ -216,7 +218,7 @@ fn folders_are_listed_and_files_opened(rt: HostRuntime) -> Result<(), Fail> {
     Ok(())
 }
 
-/// The kind of `/proc` in a tree of the whole system that enters these file systems.
+/// Returns the kind of `/proc` in a tree of the whole system that enters these file systems.
 fn kind_of_proc(rt: &HostRuntime, entered: FileSystems) -> Result<Option<Kind>, ReadFault> {
     let tree = SysTree::new(rt, rt.alloc(), "/", entered)?;
     let mut names = Vec::with_capacity(rt.alloc(), 1)?;

@@ -1,4 +1,4 @@
-//! Which call of a failing tree fails, and what a read of one byte gives.
+//! Tests of two kinds of trees that other tests use: in one of them one call fails, in the other each read returns one byte.
 
 use lc_io::Source;
 use lc_tests::Sketch;
@@ -9,7 +9,8 @@ use std::test::Fail;
 
 const TOP: Sketch = Sketch::Dir(&[(b"f", Sketch::File(b"one"))]);
 
-/// How many entries the top has, whether its file is opened, and how many bytes two reads of it give.
+/// The results of four calls, with `None` for an error. They are the number of entries of the top, 0 for opening its file, and the lengths
+/// of two reads of the file.
 type Answered = [Option<usize>; 4];
 
 fn answers<T: Tree>(alloc: Global, tree: &T, wanted: &Answered) -> Result<bool, ReadFault> {
@@ -27,7 +28,7 @@ fn answers<T: Tree>(alloc: Global, tree: &T, wanted: &Answered) -> Result<bool, 
     Ok(*wanted == [listed, Some(0), first, second])
 }
 
-/// The place of the call that fails, what is answered, and how many calls are begun.
+/// Cases: the index of the call that fails, the expected results, and how many calls are begun.
 const FAILING: [(u64, Answered, u64); 5] = [
     (0, [None, Some(0), Some(2), Some(1)], 4),
     (1, [Some(1), None, None, None], 2),
