@@ -1,4 +1,4 @@
-//! The boxes of a tree of directories and files. Each box is inside the box of the directory above it.
+//! The boxes of a tree of directories and files, as HTML. Each box is inside the box of the directory above it.
 
 ghost use Rattle.std.specs.Prelude.{◌≡◌, ◌+◌, ◌-◌, ◌==◌, if◌then◌else◌, ◌++◌, IfOk, OnOk, min};
 ghost use Rattle.lc_rows.specs.ShownRows.{number_in};
@@ -17,10 +17,10 @@ use lc_sheet::Number;
 use lc_walk::Sums;
 use std::alloc::AllocError;
 
-/// The number of levels whose boxes are open at first, so that one level more is seen.
+/// The number of levels of directories whose boxes are open when the page is loaded. The boxes of the next level are folded, but also seen.
 const OPEN_LEVELS: usize = 7;
 
-/// Returns a number without the number of the next box, if that box is right in a box of this depth, and otherwise the number itself.
+/// Returns `left` without the number of the box `next` if this box is right in a box of depth `depth`, and `left` itself otherwise.
 fn left_after(by: Number, depth: usize, left: u128, next: &DrawnBox<'_>) -> u128
     ensures { result ≡ (if next.now.depth == depth + 1 then left - number_in by next.now.sums else left) }
 {
@@ -31,7 +31,8 @@ fn left_after(by: Number, depth: usize, left: u128, next: &DrawnBox<'_>) -> u128
     }
 }
 
-/// Returns what is left of a number without the boxes right in one of this depth. The boxes after that one are `after`.
+/// Returns `number` without the numbers `by` of the boxes right in a box of depth `depth`. `after` has the boxes that follow that box,
+/// depth first.
 fn left_beside<'a>(by: Number, depth: usize, number: u128, after: &[DrawnBox<'a>]) -> u128
     ensures { result ≡ left_beside by depth number after.now }
 {
@@ -45,8 +46,8 @@ fn left_beside<'a>(by: Number, depth: usize, number: u128, after: &[DrawnBox<'a>
     left
 }
 
-/// Returns the number of the other files right in a directory: what the directory has besides its small directories and the boxes right in
-/// it. The boxes after it are `after`.
+/// Returns the number `by`, such as lines, of the files right in a directory that have no boxes. This is what the directory has besides its
+/// small directories and the boxes right in it. `after` has the boxes that follow the directory's box.
 fn others_in<'a>(by: Number, drawn: &DrawnBox<'a>, after: &[DrawnBox<'a>]) -> u128
     ensures { result ≡ others_in by drawn.now after.now }
 {
@@ -54,7 +55,7 @@ fn others_in<'a>(by: Number, drawn: &DrawnBox<'a>, after: &[DrawnBox<'a>]) -> u1
     left_beside(by, drawn.depth, number, after)
 }
 
-/// Returns the end of the tag of a box, and the beginning of its title.
+/// Returns the end of the opening tag of a box, which is open or folded at first, and the beginning of its title.
 fn tag_end(is_open: bool) -> &'static [u8]
     ensures { result.now ≡ piece_text (tag_end is_open) }
 {
@@ -82,7 +83,7 @@ fn push_tag(
     Ok(())
 }
 
-/// Appends the text that the browser shows at the pointer: the path, the sums, and the share of the drawn number.
+/// Appends the title of a box, which the browser shows at the pointer: the path, the sums, and the share of the total.
 fn push_title(
     text: &mut Vec<u8>,
     scale: Scale,
@@ -98,7 +99,7 @@ fn push_title(
     push_share(text, scale, number_in(scale.by, sums))
 }
 
-/// Appends the drawn number, and its share.
+/// Appends the number that a box shows, with its share of the total, such as `lines 7 (38.9%)`, and the tags after it.
 fn push_drawn_number(
     text: &mut Vec<u8>,
     scale: Scale,
@@ -130,7 +131,7 @@ fn push_label(
     push_drawn_number(text, scale, n, made)
 }
 
-/// Begins a box.
+/// Appends the beginning of a box: its tag, its title, its label, and its parts for small directories and other files.
 fn push_opening(
     text: &mut Vec<u8>,
     scale: Scale,
@@ -153,7 +154,7 @@ fn push_opening(
     Ok(())
 }
 
-/// Closes this many boxes.
+/// Appends the closing tags of `count` boxes.
 fn push_closings(text: &mut Vec<u8>, count: usize) -> Result<(), AllocError>
     ensures { OnOk result (text.new.items ≡ text.old.items ++ text_of (closings count)) }
 {
@@ -165,7 +166,8 @@ fn push_closings(text: &mut Vec<u8>, count: usize) -> Result<(), AllocError>
     Ok(())
 }
 
-/// Closes the open boxes that do not hold the next one, and begins the next one. It returns how many boxes are open then.
+/// Appends the closing tags of the open boxes that do not hold the next box, and the beginning of the next box. Returns how many boxes are
+/// open afterwards.
 fn push_box<'a>(
     text: &mut Vec<u8>,
     scale: Scale,
@@ -184,7 +186,7 @@ fn push_box<'a>(
     Ok(next)
 }
 
-/// Appends the boxes of directories and files, which come depth first.
+/// Appends the boxes of directories and files, each inside the box of the directory above it. The list of boxes is depth first.
 pub(crate) fn push_boxes<'a>(
     text: &mut Vec<u8>,
     scale: Scale,

@@ -1,4 +1,4 @@
-//! The cells of a line of the chart.
+//! The cells of a line of the bar chart, in HTML.
 
 ghost use Rattle.std.specs.Prelude.{◌≡◌, ◌++◌, OnOk};
 ghost use Rattle.lc_sheet.specs.Sheets.{line_of};
@@ -15,7 +15,7 @@ use lc_sheet::{Column, Form, Lines, Value};
 use lc_text::Name;
 use std::alloc::AllocError;
 
-/// Appends a text as the first cell of its line.
+/// Appends a text as the first cell of a line of the chart.
 fn push_word_cell(text: &mut Vec<u8>, word: &[u8]) -> Result<(), AllocError>
     ensures { OnOk result (text.new.items ≡ text.old.items ++ text_of (name_cell word.now)) }
 {
@@ -67,7 +67,7 @@ fn push_empty_cell(text: &mut Vec<u8>) -> Result<(), AllocError>
     text.extend_from_slice(b"<td></td>")
 }
 
-/// Appends a bar, and the space next to it. The browser divides the space by the numbers.
+/// Appends a cell with a bar and the space next to the bar. The browser divides the width of the cell by their numbers.
 fn push_bar_cell(text: &mut Vec<u8>, part: u128, whole: u128) -> Result<(), AllocError>
     ensures { OnOk result (text.new.items ≡ text.old.items ++ text_of (bar_cell part whole)) }
 {
@@ -94,7 +94,7 @@ fn push_value(text: &mut Vec<u8>, value: Value<'_>, made: &mut String) -> Result
     }
 }
 
-/// Appends the cell of a line in a column.
+/// Appends the cell that a line of the chart has in a column.
 fn push_cell<L: Lines>(
     text: &mut Vec<u8>,
     line: &L::Line,
@@ -124,7 +124,7 @@ fn push_cells_in<L: Lines>(
     Ok(())
 }
 
-/// Appends the cell of a line in each column, and ends the line.
+/// Appends the cells that a line of the chart has in these columns, and ends the line.
 pub(crate) fn push_cells<L: Lines>(
     text: &mut Vec<u8>,
     line: &L::Line,

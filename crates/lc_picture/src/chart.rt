@@ -11,7 +11,7 @@ use crate::sums::push_number;
 use lc_sheet::{Column, Form, Lines, Section, Sheet};
 use std::alloc::AllocError;
 
-/// Begins a line with the colour for its place.
+/// Appends the beginning of a line of the chart, in the colour for its place.
 fn push_coloured(text: &mut Vec<u8>, place: usize) -> Result<(), AllocError>
     ensures { OnOk result (text.new.items ≡ text.old.items ++ text_of (coloured place)) }
 {
@@ -36,7 +36,7 @@ fn push_coloured_line<L: Lines>(
     push_cells::<L>(text, line, form, columns, made)
 }
 
-/// Appends the lines of a section, each with the colour for its place.
+/// Appends the lines of a section of a sheet, each in the colour for its place.
 fn push_coloured_lines<L: Lines>(
     text: &mut Vec<u8>,
     section: &Section<'_, L>,
@@ -64,7 +64,7 @@ fn push_plain_line<L: Lines>(
     push_cells::<L>(text, line, form, columns, made)
 }
 
-/// Appends the lines of a section without a colour.
+/// Appends the lines of a section of a sheet, without colours.
 fn push_plain_lines<L: Lines>(
     text: &mut Vec<u8>,
     section: &Section<'_, L>,
@@ -81,7 +81,7 @@ fn push_plain_lines<L: Lines>(
     Ok(())
 }
 
-/// Appends the rows of a sheet, each with its bar, and the sums over the rows that do not fit.
+/// Appends the rows of a sheet, each with its bar, and the sums over the other rows, for which the sheet has no place.
 pub(crate) fn push_chart<R: Lines, T: Lines, F: Lines, S: Lines, E: Lines>(
     text: &mut Vec<u8>,
     sheet: &Sheet<'_, R, T, F, S, E>,

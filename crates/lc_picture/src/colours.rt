@@ -6,10 +6,10 @@ ghost use Rattle.lc_picture.specs.Colours.{colour_of, main_colour, path_of, plac
 use lc_rows::{ShownRow, number_in};
 use lc_sheet::Number;
 
-/// The colour that all extensions but the first of the chart share.
+/// The colour that all extensions share that are not among the first eight of the chart.
 pub(crate) const SHARED_COLOUR: usize = 8;
 
-/// Returns the directory of a row.
+/// Returns the path of a row's directory, or the empty path if the row has no directory.
 pub(crate) fn path_of<'a>(row: &ShownRow<'a>) -> &'a [u8]
     ensures { result.now ≡ path_of row.now }
 {
@@ -38,14 +38,14 @@ fn place_of(extension: Option<&[u8]>, rows: &[ShownRow<'_>]) -> usize
     rows.len()
 }
 
-/// Returns the colour of an extension: its place in the chart, if it is one of the first.
+/// Returns the colour of an extension: its index in the chart, or `SHARED_COLOUR` if it is not among the first eight.
 pub(crate) fn colour_of(chart: &[ShownRow<'_>], extension: Option<&[u8]>) -> usize
     ensures { result ≡ colour_of chart.now (option_map (λ s. s.now) extension.entry) }
 {
     place_of(extension, chart).min(SHARED_COLOUR)
 }
 
-/// Returns the place of the first row of a directory, at or after a place.
+/// Returns the index of the first row of a directory at or after `start`, or the number of rows if no such row follows.
 pub(crate) fn next_place(directory: &[u8], kinds: &[ShownRow<'_>], start: usize) -> usize
     ensures { drop result kinds.now ≡ rows_from directory.now (drop start kinds.now) }
 {
@@ -57,7 +57,8 @@ pub(crate) fn next_place(directory: &[u8], kinds: &[ShownRow<'_>], start: usize)
     kinds.len()
 }
 
-/// Returns the colour of the extension with the largest number in a directory. The rows of the directory come first.
+/// Returns the colour of the extension with the largest number, such as lines, in a directory. The rows of this directory must come first
+/// in `kinds`.
 pub(crate) fn main_colour(
     chart: &[ShownRow<'_>],
     by: Number,

@@ -1,4 +1,4 @@
-//! The boxes of directories.
+//! The boxes of directories: which directories have one, and its colour.
 
 ghost use Rattle.std.specs.Prelude.{◌≡◌, [], ◌∷◌, ◌++◌, IfOk, OnOk, drop};
 ghost use Rattle.lc_rows.specs.ShownRows.{number_in};
@@ -12,7 +12,7 @@ use lc_rows::{ShownRow, level_of, number_in, own_part};
 use lc_sheet::Number;
 use std::alloc::{AllocError, Global};
 
-/// Returns the least number that is drawn: a thousandth of the total, rounded up, and at least 1.
+/// Returns the least number for which a directory or a file has a box of its own: a thousandth of the total, rounded up, and at least 1.
 pub(crate) fn least_drawn(total: u128) -> u128
     ensures { result ≡ least_drawn total }
 {
@@ -41,7 +41,8 @@ fn box_of<'a>(row: &ShownRow<'a>, small: SmallDirectories) -> DrawnBox<'a>
     }
 }
 
-/// Appends the box of a directory in its colour, and returns the place of its first row among those by directory and extension.
+/// Appends the box of a directory in its colour. Returns the index of the directory's first row in `kinds`, the rows by directory and
+/// extension.
 fn push_drawn<'a>(
     boxes: &mut Vec<DrawnBox<'a>>,
     by: Number,
@@ -61,9 +62,10 @@ fn push_drawn<'a>(
     Ok(place)
 }
 
-/// Returns the directories that are drawn, which are those with a number of at least `least`, each with the small ones right in it.
+/// Returns the boxes of the directories whose number `by`, such as lines, is at least `least`. A box also has the sum of the smaller
+/// directories right in its directory.
 ///
-/// Their colours come from the rows of `kinds`, by directory and extension, which are in the same order.
+/// The colours of the boxes come from the rows of `kinds`, by directory and extension, which have the directories in the same order.
 pub(crate) fn drawn_boxes<'a>(
     alloc: Global,
     by: Number,

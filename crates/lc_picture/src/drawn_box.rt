@@ -1,4 +1,4 @@
-//! A box of the picture: a directory or a file.
+//! A box of the picture, which shows a directory or a file.
 
 ghost use Rattle.std.specs.Prelude.{◌≡◌};
 ghost use Rattle.lc_picture.specs.Boxes.{coloured};
@@ -7,22 +7,23 @@ use crate::small_directories::SmallDirectories;
 use lc_walk::Sums;
 use std::marker::Model;
 
-/// A directory or a file that is drawn.
+/// A directory or a file that the picture shows as a box.
 #[derive(Drop)]
 pub(crate) struct DrawnBox<'a> {
-    /// The path. The path of the top is empty.
+    /// The path of the directory or the file. The path of the top is empty.
     pub(crate) path: &'a [u8],
-    /// The part of the path that follows the parent directory, which is the last name in most trees. The top has an empty one.
+    /// The part of the path that follows the parent directory. In most trees this is the last name. For the top it is empty.
     pub(crate) own_name: &'a [u8],
     /// The number of directories above the directory or the file.
     pub(crate) depth: usize,
-    /// The colour of the extension with the largest number in the directory, or of the file's own.
+    /// The colour of the file's extension, or of the extension with the largest number in the directory. Colours are numbers (see
+    /// `colours`).
     pub(crate) colour: usize,
     /// The sums over the files in the directory and below it, or over the file alone.
     pub(crate) sums: Sums,
-    /// The small directories right in the directory. A file has none.
+    /// How many directories right in this directory are too small for boxes of their own, and their sum. A file has none.
     pub(crate) small: SmallDirectories,
-    /// Whether it is a file.
+    /// Whether the box shows a file.
     pub(crate) is_file: bool,
 }
 

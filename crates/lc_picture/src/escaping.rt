@@ -1,4 +1,4 @@
-//! Texts in HTML.
+//! Texts, names and paths, escaped for HTML.
 
 ghost use Rattle.std.specs.Prelude.{◌≡◌, ◌++◌, OnOk, string_bytes};
 ghost use Rattle.lc_picture.specs.Escaping.{escaped_byte, html, is_markup};
@@ -44,7 +44,7 @@ fn make_name(made: &mut String, name: Name<'_>) -> Result<(), AllocError>
     push_visible_name(made, name)
 }
 
-/// Appends a name, with its bytes as a terminal shows them.
+/// Appends a name as a terminal shows it, escaped for HTML.
 pub(crate) fn push_name(
     text: &mut Vec<u8>,
     name: Name<'_>,
@@ -63,7 +63,7 @@ fn make_path(made: &mut String, path: &[u8]) -> Result<(), AllocError>
     push_visible_path(made, path)
 }
 
-/// Appends a path, or the last name of a path. The empty path of the top becomes a dot.
+/// Appends a path, or the last name of a path, as a terminal shows it, escaped for HTML. The empty path of the top becomes a dot.
 pub(crate) fn push_path(
     text: &mut Vec<u8>,
     path: &[u8],

@@ -46,7 +46,7 @@ fn push_more_line(text: &mut Vec<u8>, n: usize, made: &mut String) -> Result<(),
     Ok(())
 }
 
-/// Appends how many errors are not listed, if there are any.
+/// Appends how many errors the page does not list, if it does not list all of them.
 fn push_more(
     text: &mut Vec<u8>,
     listed: usize,
@@ -85,7 +85,7 @@ fn push_faults_end(text: &mut Vec<u8>, all: usize, made: &mut String) -> Result<
     Ok(())
 }
 
-/// Appends the number of errors, and the first of them. It appends nothing if there are no errors.
+/// Appends how many errors a report has, and a list of the first of them. Appends nothing if there are no errors.
 pub(crate) fn push_faults(
     text: &mut Vec<u8>,
     faults: &[FaultLine],

@@ -17,7 +17,7 @@ use std::marker::Model;
 /// A file with a box of its own.
 #[derive(Drop)]
 pub(crate) struct FileBox<'a> {
-    /// The directory that holds the file, cut after some of its names.
+    /// The path of the directory whose box holds the box of the file: the file's directory, cut if it is too deep for a box.
     parent: &'a [u8],
     drawn: DrawnBox<'a>,
 }
@@ -77,7 +77,8 @@ fn file_box<'a>(
     })
 }
 
-/// Returns the boxes of the files with a number of at least `least`. Their directories are cut after `depth` names.
+/// Returns the boxes of the files whose number `by`, such as lines, is at least `least`. The paths of their directories are cut after
+/// `depth` names.
 pub(crate) fn large_files<'a>(
     alloc: Global,
     depth: u32,
@@ -114,9 +115,9 @@ fn push_files<'a>(
     Ok(())
 }
 
-/// Returns the boxes of directories, which come depth first, each with the boxes of the files right in it after it.
+/// Returns the boxes of directories, depth first. After the box of each directory come the boxes of the files right in it.
 ///
-/// A directory is compared with each of the files, of which there are at most a thousand.
+/// Each directory is compared with each file that has a box. At most a thousand files have one.
 pub(crate) fn with_files<'a>(
     alloc: Global,
     files: &[FileBox<'a>],

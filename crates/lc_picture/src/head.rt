@@ -1,4 +1,4 @@
-//! The head of a page: what was counted, the drawn number, and the numbers of all files.
+//! The head of a page: what was counted, which number is drawn, and the sums over all files.
 
 ghost use Rattle.std.specs.Prelude.{◌≡◌, ◌++◌, OnOk};
 ghost use Rattle.lc_rows.specs.SheetLaws.{first_number, is_number, number_at, number_of, same_number};
@@ -43,7 +43,7 @@ fn number_of(value: Value<'_>) -> u128
     }
 }
 
-/// Returns the number of a line in a column.
+/// Returns the value of a line in the column of a number, such as lines, or 0 if no column is of this number.
 fn number_at<L: Lines>(number: Number, form: Form, columns: &[Column], line: &L::Line) -> u128
     ensures { result ≡ number_at number columns.now (line_of (L.value_in form) columns.now line.now) }
 {
@@ -57,7 +57,8 @@ fn number_at<L: Lines>(number: Number, form: Form, columns: &[Column], line: &L:
     0
 }
 
-/// Returns the number of the first line of a section in a column.
+/// Returns the value of a section's first line in the column of a number, such as lines, or 0 if the section has no line or no column of
+/// this number.
 fn first_number<L: Lines>(number: Number, section: &Section<'_, L>) -> u128
     ensures { result ≡ first_number number section.now }
 {
@@ -86,7 +87,7 @@ fn push_page_top(
     Ok(())
 }
 
-/// Appends what was counted, and the drawn number.
+/// Appends the heading of a page: what was counted, and which number is drawn, such as `lines by directory`.
 fn push_heading(
     text: &mut Vec<u8>,
     counted: &[u8],
@@ -102,7 +103,7 @@ fn push_heading(
     text.extend_from_slice(b" by directory</p>\n<dl>\n")
 }
 
-/// Appends a number and its word.
+/// Appends one of the sums over all files, with the words that name it.
 fn push_figure(
     text: &mut Vec<u8>,
     number: Number,
@@ -135,7 +136,7 @@ fn push_figures(
     Ok(())
 }
 
-/// Appends the numbers of the first line of the totals, each with its word.
+/// Appends the four numbers in the first line of a sheet's totals, each with the words that name it.
 fn push_figures_of<L: Lines>(
     text: &mut Vec<u8>,
     totals: &Section<'_, L>,
@@ -154,7 +155,7 @@ fn push_figures_of<L: Lines>(
     Ok(())
 }
 
-/// Appends the head of a page, with the numbers of the first line of the totals.
+/// Appends the head of a page. Its sums over all files are the numbers in the first line of a sheet's totals.
 pub(crate) fn push_head_part<L: Lines>(
     text: &mut Vec<u8>,
     counted: &[u8],

@@ -11,7 +11,7 @@ use lc_sheet::Number;
 use std::alloc::{AllocError, Global};
 use std::marker::Model;
 
-/// A box, with its place and those of the directories above it.
+/// A box, with its place and the places of the directories above it. The page has the boxes in the order of these places.
 #[derive(Drop)]
 struct PlacedBox<'a> {
     branch: Vec<Place<'a>>,

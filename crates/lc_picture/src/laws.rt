@@ -12,9 +12,9 @@ pub fn names_are_never_markup()
     ensures reads_back { UnescapedLaw }
 {}
 
-/// The law that a page shows the numbers of all files, the names and numbers of its sheet's rows and of the sums over the others, and each
-/// drawn directory and file with its sums. It shows each once, and no other numbers or names. In a report the rows are its extensions. The
-/// drawn directories are those with enough lines, or with enough of the number that is requested.
+/// The law that a page shows what was counted, the sums over all files, the errors, the rows of its sheet, the sums over the other rows,
+/// and each drawn directory and file with its sums. Each of these is shown once, and no other names or numbers are. In a report the rows
+/// are its extensions. The drawn directories are those with enough lines, or with enough of the number that is requested.
 pub fn a_page_shows_each_directory_once()
     ensures shown { ShownLaw }
     ensures report { ReportLaw }
@@ -48,7 +48,7 @@ pub fn larger_boxes_come_first()
     ensures { FallingLaw }
 {}
 
-/// The law that the boxes are the same for any names, apart from the names themselves.
+/// The law that no name adds a tag to the boxes or takes one away. Apart from the names themselves, the boxes are the same for any names.
 pub fn names_change_no_tag()
     ensures { OutlineLaw }
 {}

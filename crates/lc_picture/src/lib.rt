@@ -1,15 +1,15 @@
 //! The picture of a tree: a page of HTML with the sums of a report, a bar chart of its extensions, and boxes of directories and files.
 //!
-//! - `escaping`: texts in HTML; `style`: the fixed parts of a page
+//! - `escaping`: texts, escaped for HTML; `style`: the fixed parts of a page
 //! - `boxes`, `drawn_box`: the boxes of directories and files, each inside the box of the directory above it; `directory_box`, `file_box`:
 //!   which directories and files have boxes; `small_directories`, `space`: the directories that are too small for boxes of their own, and
-//!   the space of what has no box
+//!   what a box shows for directories and files that have none
 //! - `largest_first`, `places`: the order of boxes
 //! - `colours`: the colours of extensions and of directories
 //! - `faults`: the errors at the top of a page
-//! - `head`: the numbers of all files; `chart`, `cells`: the bar chart of a sheet, and the cells of its lines
-//! - `sums`: numbers, each with a word for what it counts; `percents`: shares; `scale`: the number that is drawn, and its sum over all
-//!   files
+//! - `head`: what was counted, and the sums over all files; `chart`, `cells`: the bar chart of a sheet, and the cells of its lines
+//! - `sums`: sums as text, such as `lines 7, files 1`; `percents`: shares; `scale`: which number a picture draws, such as lines, and the
+//!   sum of that number over all files
 //! - `report_page`: the page of a report
 //! - `laws`: laws of the definitions that the contracts cite
 #![tactic(auto)]

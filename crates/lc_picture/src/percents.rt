@@ -1,4 +1,4 @@
-//! Shares in per cent.
+//! Shares in per cent, as text.
 
 ghost use Rattle.std.specs.Prelude.{◌≡◌, ◌++◌, IfOk, OnOk};
 ghost use Rattle.lc_formats.specs.Shares.{rounded_parts, share_word};
@@ -8,7 +8,7 @@ use std::alloc::AllocError;
 
 /// Returns how many tenths of a per cent a part is of a whole, rounded half up.
 ///
-/// It stops with an error only if the divisor or the dividend overflows, which needs numbers of 2^111 or more.
+/// An error means that the divisor or the dividend overflows, which needs numbers of 2^111 or more.
 fn tenths_of(part: u128, whole: u128) -> Result<u128, AllocError>
     ensures { IfOk result (λ tenths. tenths ≡ rounded_parts 1000 part whole) }
 {

@@ -1,4 +1,4 @@
-//! The places of directories and files. Of those right in the same directory, the largest comes first.
+//! The places of directories and files in the picture. Of those right in the same directory, the largest comes first.
 
 ghost use Rattle.std.specs.Prelude.{◌≡◌};
 ghost use Rattle.std.specs.Cmp.Lexicographic.{slice_cmp};
@@ -10,7 +10,7 @@ use lc_sheet::Number;
 use std::cmp::Ordering;
 use std::marker::Model;
 
-/// The place of a directory or a file among those right in the same directory.
+/// The place of a directory or a file among those right in the same directory: largest number first, equal numbers by name.
 #[derive(Drop)]
 pub(crate) struct Place<'a> {
     number: u128,
@@ -58,7 +58,7 @@ impl<'a> Place<'a> {
     }
 }
 
-/// Compares the places of two boxes and of the directories above them, from the top down.
+/// Compares the places of two boxes. Each argument has the places of a box and of the directories above it, from the top down.
 pub(crate) fn compare_branches(a: &[Place<'_>], b: &[Place<'_>]) -> Ordering
     ensures { result ≡ slice_cmp place_cmp a.now b.now }
 {

@@ -1,4 +1,4 @@
-//! The page of a report.
+//! The HTML page of a report: its head, its errors, its bar chart, and its boxes.
 
 ghost use Rattle.std.specs.Prelude.{◌≡◌, ◌++◌, IfOk, OnOk, Some};
 ghost use Rattle.lc_rows.specs.Views.{first_of};
@@ -22,7 +22,7 @@ use lc_sheet::{Columns, Format, Lines, Number, Section, Sheet, TableOptions};
 use lc_walk::{FaultLine, FileLine, Report, Sums};
 use std::alloc::{AllocError, Global};
 
-/// The columns of the chart.
+/// The columns by which the rows of the chart are grouped: the extension alone.
 const CHART_COLUMNS: Columns = Columns {
     dir: None,
     ext: true,
@@ -33,10 +33,11 @@ const CHART_COLUMNS: Columns = Columns {
 /// The greatest number of extensions that have a bar.
 const CHART_ROWS: u32 = 20;
 
-/// The number of names after which the directories of boxes are cut. A browser nests at most 512 elements, and a box in a box takes two.
+/// The number of names after which the paths of directories are cut, so that boxes are not nested deeper. A browser nests at most 512
+/// elements, and a box in a box takes two.
 const TREE_DEPTH: u32 = 250;
 
-/// The columns of the boxes.
+/// The columns of the rows from which boxes of directories are made: the directory alone.
 const TREE_COLUMNS: Columns = Columns {
     dir: Some(1),
     ext: false,
@@ -44,7 +45,7 @@ const TREE_COLUMNS: Columns = Columns {
     eol: false,
 };
 
-/// The columns of the colours of the boxes.
+/// The columns of the rows that decide the colours of boxes: the directory and the extension.
 const KIND_COLUMNS: Columns = Columns {
     ext: true,
     ..TREE_COLUMNS
@@ -97,7 +98,7 @@ fn page_text<R: Lines, T: Lines, F: Lines, S: Lines, E: Lines>(
     Ok(text)
 }
 
-/// Returns the scale of a page for the sums over all files.
+/// Returns the number that a page draws, such as lines, with its sum over all files.
 fn scale_of(by: Number, totals: Sums) -> Scale
     ensures { result ≡ scale_of by totals }
 {
@@ -107,7 +108,7 @@ fn scale_of(by: Number, totals: Sums) -> Scale
     }
 }
 
-/// Returns the options of the sheet of a page.
+/// Returns the options of the table that the chart shows: the largest extensions, with their shares.
 fn chart_options(by: Number) -> TableOptions
     ensures { result ≡ chart_options by }
 {
@@ -121,14 +122,14 @@ fn chart_options(by: Number) -> TableOptions
     }
 }
 
-/// Returns the rows that have a bar.
+/// Returns the rows that have a bar in the chart: the first 20.
 fn first_rows<'a, 'b>(rows: &'b [ShownRow<'a>]) -> &'b [ShownRow<'a>]
     ensures { result.now ≡ first_of (Some chart_rows) rows.entry.now }
 {
     &rows[..rows.len().min(CHART_ROWS as usize)]
 }
 
-/// Returns the boxes of some files and of their directories.
+/// Returns the boxes of the directories and files that are large enough, the largest first, from the list of all files.
 fn boxes_of<'a>(
     alloc: Global,
     by: Number,
@@ -173,13 +174,13 @@ fn page_by(
 
 /// Makes the page of a report: one file of HTML with no script, no font and no address.
 ///
-/// It has what was counted (`counted`, as terminals show it), the sums over all files, a bar for each of the first extensions, and a box
-/// for each directory and each file with at least a thousandth of the total. Each box is inside the box of the directory above it, and the
-/// largest come first. If the report has errors, the page says how many, and lists the first hundred. The number `sort`, or lines without
-/// it, determines the bars and the boxes, and the browser divides the space by these numbers. The smaller directories right in a directory
-/// are drawn together, and so are its smaller files. A reader can fold a box to leave its space to others.
+/// The page has what was counted (`counted`, as terminals show it), the sums over all files, a bar for each of the first extensions, and a
+/// box for each directory and each file with at least a thousandth of the total. Each box is inside the box of the directory above it, and
+/// the largest come first. If the report has errors, the page says how many, and lists the first hundred. The bars and the boxes show the
+/// number `sort`, or lines if `sort` is `None`, and the browser divides the space by these numbers. The smaller directories right in a
+/// directory share one box, and its smaller files another. A reader can fold a box to leave its space to other boxes.
 ///
-/// The report must have its files. An error means that an allocation failed or that sums overflow. The sums of a walk never overflow.
+/// The report must list its files. An error means that an allocation failed or that sums overflow. The sums of a walk never overflow.
 pub fn page(
     alloc: Global,
     counted: &[u8],

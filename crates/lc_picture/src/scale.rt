@@ -1,8 +1,8 @@
-//! The number that a picture draws, and its sum over all files.
+//! Which number a picture draws, such as lines, and the sum of that number over all files.
 
 use lc_sheet::Number;
 
-/// The number that a picture draws, and its sum over all files.
+/// Which number a picture draws, such as lines, and the sum of that number over all files.
 #[derive(Clone, Copy)]
 pub(crate) struct Scale {
     pub(crate) by: Number,

@@ -1,4 +1,4 @@
-//! Directories that are too small for boxes of their own. Those right in the same directory are drawn together.
+//! Directories that are too small for boxes of their own. One box shows all of them that are right in the same directory.
 
 ghost use Rattle.std.specs.Prelude.{◌≡◌, ◌+◌, ◌==◌, ◌&&◌, ℕ, nat_le, nat_lt, if◌then◌else◌, length, IfOk, OnOk, ◌∷◌, List};
 ghost use Rattle.std.specs.Option.{IfSome};
@@ -11,7 +11,7 @@ use lc_rows::{ShownRow, level_of, number_in};
 use lc_sheet::Number;
 use std::alloc::{AllocError, Global};
 
-/// Some small directories: how many they are, and the sum of their numbers.
+/// Directories that are too small for boxes of their own: how many they are, and the sum of their numbers, such as lines.
 #[derive(Clone, Copy)]
 pub(crate) struct SmallDirectories {
     pub(crate) count: usize,
@@ -28,7 +28,7 @@ impl SmallDirectories {
         }
     }
 
-    /// Returns these directories and one more, if the sum of their numbers fits its type.
+    /// Returns these directories with one more, which has this number, or `None` if the sum of the numbers does not fit its type.
     fn with(self, number: u128) -> Option<SmallDirectories>
         ensures { IfSome result (λ more. more ≡ one_more number self) }
     {
@@ -38,7 +38,7 @@ impl SmallDirectories {
     }
 }
 
-/// Returns the directories at a place in a list, or none if the list is shorter.
+/// Returns the small directories at the index `place` of a list, or no directories if the list is shorter.
 pub(crate) fn small_at(smalls: &[SmallDirectories], place: usize) -> SmallDirectories
     ensures { result ≡ slice_index_or smalls.now place no_directories }
 {
@@ -48,7 +48,7 @@ pub(crate) fn small_at(smalls: &[SmallDirectories], place: usize) -> SmallDirect
         .unwrap_or(SmallDirectories::none())
 }
 
-/// Makes a list as long as a level, and keeps what it has above that level.
+/// Cuts or extends a list to the length `level`. New elements have no directories.
 fn cut_to(pending: &mut Vec<SmallDirectories>, level: usize) -> Result<(), AllocError>
     ensures each { OnOk result ((depth : ℕ) → slice_index_or pending.new.items depth no_directories
         ≡ (if nat_le level depth then no_directories else slice_index_or pending.old.items depth no_directories)) }
@@ -61,7 +61,7 @@ fn cut_to(pending: &mut Vec<SmallDirectories>, level: usize) -> Result<(), Alloc
     Ok(())
 }
 
-/// Adds a directory to the last in a list, if its number is less than the least that is drawn.
+/// Adds a directory to the last element of a list, if the directory's number is less than the least for which a directory has a box.
 fn add_to_last(
     pending: &mut Vec<SmallDirectories>,
     least: u128,
@@ -83,9 +83,10 @@ fn add_to_last(
     Ok(())
 }
 
-/// Returns the small directories right in a directory, and adds the directory to those right in its parent if it is small.
+/// Returns the small directories right in the directory of `row`. If this directory is small itself, it is added to those right in its
+/// parent.
 ///
-/// `pending` has the small directories for each depth, of those that come after this one.
+/// `pending` has an element for each depth: the small directories after `row` whose parent has that depth and is not after `row`.
 fn next_small(
     pending: &mut Vec<SmallDirectories>,
     by: Number,
@@ -104,7 +105,8 @@ fn next_small(
     Ok(small)
 }
 
-/// Returns the small directories right in each directory. The rows are depth first, and are gone over once, from the last to the first.
+/// Returns, for each directory of `rows`, the small directories right in it. The rows are depth first, and are read once, from the last to
+/// the first.
 pub(crate) fn smalls_of(
     alloc: Global,
     by: Number,

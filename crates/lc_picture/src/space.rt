@@ -1,4 +1,4 @@
-//! The space of what is right in a directory and has no box of its own.
+//! What the box of a directory shows for small directories and files that have no boxes of their own.
 
 ghost use Rattle.std.specs.Prelude.{◌≡◌, ◌++◌, OnOk};
 ghost use Rattle.lc_picture.specs.Boxes.{others_space, small_box, small_number, small_space, small_word, space};
@@ -10,7 +10,7 @@ use crate::small_directories::SmallDirectories;
 use crate::sums::{number_word, push_count, push_number};
 use std::alloc::AllocError;
 
-/// Returns the word after a number of small directories.
+/// Returns the words that follow a number of small directories, in the singular or the plural.
 fn small_word(count: usize) -> &'static [u8]
     ensures { result.now ≡ small_word count }
 {
@@ -21,7 +21,7 @@ fn small_word(count: usize) -> &'static [u8]
     }
 }
 
-/// Appends the drawn number of small directories, and its share.
+/// Appends the number of small directories that the picture draws, such as their lines, and its share of the total.
 fn push_small_number(
     text: &mut Vec<u8>,
     scale: Scale,
@@ -38,7 +38,7 @@ fn push_small_number(
     text.extend_from_slice(b")</em></i>")
 }
 
-/// Appends the box of small directories: how many they are, their number, and its share.
+/// Appends the box of small directories, with a text such as `2 small directories: lines 10 (0.1%)`.
 fn push_small_box(
     text: &mut Vec<u8>,
     scale: Scale,
@@ -56,7 +56,7 @@ fn push_small_box(
     Ok(())
 }
 
-/// Appends the box of small directories, if there are some.
+/// Appends the box of a directory's small directories, if the directory has some.
 fn push_small_space(
     text: &mut Vec<u8>,
     scale: Scale,
@@ -82,7 +82,7 @@ fn push_others_space(text: &mut Vec<u8>, left: u128, made: &mut String) -> Resul
     Ok(())
 }
 
-/// Appends the boxes of small directories and of the other files. A file has none.
+/// Appends, inside the box of a directory, the boxes of its small directories and of its other files. Appends nothing for a file.
 pub(crate) fn push_space(
     text: &mut Vec<u8>,
     scale: Scale,

@@ -1,4 +1,4 @@
-//! The fixed parts of a page.
+//! The parts of a page that are the same for every report.
 
 ghost use Rattle.std.specs.Prelude.{◌≡◌};
 ghost use Rattle.lc_picture.specs.Page.{boxes_begin, chart_begin, tree_begin};
@@ -12,7 +12,7 @@ pub(crate) fn page_begin() -> &'static [u8]
       <meta name=\"viewport\" content=\"width=device-width\">\n<title>"
 }
 
-/// The style of a page's parts: a box is next to its parent, space is divided by shares, and a label that does not fit is hidden.
+/// Returns the style of a page's parts: a box is next to its parent, space is divided by shares, and a label that does not fit is hidden.
 #[tactic(auto, unfolding(crate::specs::Style::style))]
 pub(crate) fn style() -> &'static [u8]
     ensures { result.now ≡ style }
@@ -60,21 +60,21 @@ pub(crate) fn style() -> &'static [u8]
       @media print{.tree{height:24cm;overflow:hidden;break-inside:avoid;font-size:7pt}}\n"
 }
 
-/// Returns the part between the title and the style.
+/// Returns the part of a page between its title and its style.
 pub(crate) fn style_begin() -> &'static [u8]
     ensures { result.now ≡ style_begin }
 {
     b" by directory</title>\n<style>\n"
 }
 
-/// Returns the part between the style and the name of what was counted.
+/// Returns the part of a page between its style and the name of what was counted.
 pub(crate) fn body_begin() -> &'static [u8]
     ensures { result.now ≡ body_begin }
 {
     b"</style>\n</head>\n<body>\n<h1>"
 }
 
-/// Returns the part between the figures and the rows of the chart.
+/// Returns the part of a page between the sums over all files and the rows of the chart.
 pub(crate) fn chart_begin() -> &'static [u8]
     ensures { result.now ≡ chart_begin }
 {
@@ -82,14 +82,14 @@ pub(crate) fn chart_begin() -> &'static [u8]
       <th>share</th><td></td></tr>\n"
 }
 
-/// Returns the part between the chart and the name of the boxes' number.
+/// Returns the part of a page after the chart, up to the name of the number that the boxes show.
 pub(crate) fn tree_begin() -> &'static [u8]
     ensures { result.now ≡ tree_begin }
 {
     b"</table>\n<h2>By directory</h2>\n<p>Each box is as tall as its share of the "
 }
 
-/// Returns the part between the name of the boxes' number and the boxes.
+/// Returns the part of a page after the name of the number that the boxes show, up to the boxes.
 pub(crate) fn boxes_begin() -> &'static [u8]
     ensures { result.now ≡ boxes_begin }
 {

@@ -1,4 +1,4 @@
-//! Sums in words, and their numbers.
+//! Numbers and sums as text, such as `lines 7, files 1`.
 
 ghost use Rattle.std.specs.Prelude.{◌≡◌, ◌++◌, OnOk, decimal, string_bytes};
 ghost use Rattle.lc_formats.specs.CellWords.{with_commas};
@@ -10,7 +10,7 @@ use lc_sheet::Number;
 use lc_walk::Sums;
 use std::alloc::AllocError;
 
-/// Returns the name of a number.
+/// Returns the words that name a number of a report, such as `blank lines`.
 pub(crate) fn number_word(by: Number) -> &'static [u8]
     ensures { result.now ≡ number_word by }
 {
@@ -22,7 +22,7 @@ pub(crate) fn number_word(by: Number) -> &'static [u8]
     }
 }
 
-/// Appends a number in digits.
+/// Appends a number in decimal digits, without commas.
 pub(crate) fn push_number(text: &mut Vec<u8>, n: u128) -> Result<(), AllocError>
     ensures { OnOk result (text.new.items ≡ text.old.items ++ decimal n) }
 {
@@ -45,7 +45,7 @@ pub(crate) fn push_count(text: &mut Vec<u8>, n: u128, made: &mut String) -> Resu
     text.extend_from_slice(made.as_bytes())
 }
 
-/// Appends numbers, each with its word.
+/// Appends four numbers, each after its word, such as `lines 7, files 1, blank 0, bytes 50`.
 pub(crate) fn push_numbers(
     text: &mut Vec<u8>,
     lines: u128,
@@ -66,7 +66,7 @@ pub(crate) fn push_numbers(
     push_count(text, bytes, made)
 }
 
-/// Appends sums, each with its word.
+/// Appends sums over files, each after its word, such as `lines 7, files 1, blank 0, bytes 50`.
 pub(crate) fn push_sums(text: &mut Vec<u8>, sums: Sums, made: &mut String) -> Result<(), AllocError>
     ensures { OnOk result (text.new.items ≡ text.old.items ++ text_of (sums_pieces sums)) }
 {
@@ -80,7 +80,7 @@ pub(crate) fn push_sums(text: &mut Vec<u8>, sums: Sums, made: &mut String) -> Re
     )
 }
 
-/// Appends the share of a number in the whole, and what the whole is.
+/// Appends the share that a number has in the sum over all files, such as `, 38.9% of all lines`.
 pub(crate) fn push_share(text: &mut Vec<u8>, scale: Scale, n: u128) -> Result<(), AllocError>
     ensures { OnOk result (text.new.items ≡ text.old.items ++ text_of (share_pieces scale n)) }
 {
