@@ -1,4 +1,4 @@
-//! What no clause says: worked cases, and that calls succeed if there is memory.
+//! Tests of what no contract states: the pages of worked examples, and that calls succeed if there is memory.
 
 mod faults;
 mod pages;

@@ -1,4 +1,4 @@
-//! What could not be read, at the top of a page.
+//! Tests of the list, at the top of a page, of what could not be read.
 
 use crate::picture::reports::{BETWEEN, report_of};
 use lc_level::FaultWord;
@@ -14,7 +14,7 @@ fn fault(alloc: Global, path: &[u8], word: FaultWord) -> Result<FaultLine, Alloc
     })
 }
 
-/// The end of the page of a report without files, from its faults on.
+/// Returns the end of the page of a report without files, from the end of its head on. `faults` is the HTML of its errors.
 fn end_with_faults(alloc: Global, faults: &[u8]) -> Result<Vec<u8>, AllocError> {
     let mut end = b"</dl>\n<p>What could not be read is not in the picture. Errors: ".to_vec(
         alloc,

@@ -1,4 +1,4 @@
-//! Pages of reports.
+//! Tests of whole pages: reports, and the parts that their pages must have.
 
 use crate::picture::reports::{BETWEEN, File, Row, report_of};
 use lc_picture::page;
@@ -6,7 +6,7 @@ use lc_sheet::Number;
 use std::alloc::{AllocError, Global};
 use std::test::Fail;
 
-/// A report, and the parts of its page: the sums, the rows of the chart, the word for the number that is drawn, and the boxes.
+/// A report, and the parts that its page must have: the sums, the rows of the chart, the word for the number that is drawn, and the boxes.
 struct Case {
     name: &'static str,
     sort: Option<Number>,
@@ -208,7 +208,7 @@ const CASES: &[Case] = &[
     },
 ];
 
-/// The directories right in `a` and in the top have less than a thousandth of the lines, and so has `c/d`, which is in one of them.
+/// Files with 10,000 lines. The directories `a/s`, `b`, `c` and `c/d` have less than a thousandth of these lines each.
 const SMALL: &[File] = &[
     (b"a/s/q.c", [4, 0, 4]),
     (b"a/x.c", [9_984, 0, 9_984]),
@@ -218,7 +218,7 @@ const SMALL: &[File] = &[
     (b"m.c", [2, 0, 2]),
 ];
 
-/// Extensions, of which the chart has no place for the last two.
+/// The rows of 22 extensions. The chart has no place for the last two.
 const MANY: &[Row] = &[
     (Some(b"a"), [1, 40, 0, 0]),
     (Some(b"b"), [1, 39, 1, 2]),
@@ -244,7 +244,7 @@ const MANY: &[Row] = &[
     (Some(b"v"), [1, 19, 21, 42]),
 ];
 
-/// Whether the page of a report ends with these parts, from its name on.
+/// Returns whether the page of a case's report ends with the case's parts, from the heading on.
 fn has_parts(alloc: Global, case: &Case) -> Result<bool, AllocError> {
     let report = report_of(alloc, case.rows, case.totals, case.files)?;
     let mut body = b"</style>\n</head>\n<body>\n<h1>a&#60;b</h1>\n<p class=\"by\">".to_vec(alloc)?;

@@ -1,17 +1,17 @@
-//! Reports, as cases write them, and the fixed parts of their pages.
+//! Reports, made from short lists of rows and files, and the fixed parts of their pages.
 
 use lc_census::{Count, Eol};
 use lc_rules::TextState;
 use lc_walk::{FileLine, Report, ReportLists, Sums, TallyRow};
 use std::alloc::{AllocError, Global};
 
-/// A path, and the lines, blank lines and bytes.
+/// A file: its path, and its lines, blank lines and bytes.
 pub(super) type File = (&'static [u8], [u64; 3]);
 
-/// An extension, and the files, lines, blank lines and bytes.
+/// A row of a report: its extension, and its files, lines, blank lines and bytes.
 pub(super) type Row = (Option<&'static [u8]>, [u64; 4]);
 
-/// The parts before the rows of the chart, before the word for the number and before the boxes, and the part after the boxes.
+/// Four fixed parts of a page: before the rows of the chart, before the word for the drawn number, before the boxes, and after the boxes.
 pub(super) const BETWEEN: [&[u8]; 4] = [
     b"<h2>By extension</h2>\n<table>\n\
       <tr><th>extension</th><th>files</th><th>lines</th><th>blank</th><th>bytes</th><th>share</th><td></td></tr>\n",
