@@ -10,13 +10,13 @@ use lc_walk::{FaultLine, Report};
 /// The answer that was written for a request.
 #[derive(Drop)]
 pub(crate) enum Answered {
-    /// A check of paths, whose answer has no errors.
+    /// A check of paths. Its answer never has errors.
     Checked,
-    /// An explanation of paths.
+    /// An explanation of paths, and whether it has errors.
     Explained(Outcome),
     /// A count: the report that was printed, and lines about attributes that no attribute file names.
     Counted(Report, String),
-    /// A sum: the report that was printed.
+    /// A sum of reports: the report that was printed.
     Summed(Report),
     /// A comparison: what was compared, and lines about attributes that no attribute file names.
     Compared(Comparison, String),

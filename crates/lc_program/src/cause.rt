@@ -19,13 +19,13 @@ use std::borrow::CowStr;
 pub enum Cause {
     /// An allocation failed.
     Memory,
-    /// There are more directories than the limit.
+    /// A walk found more directories than its limit.
     TooManyDirs,
     /// A counted directory has an entry that is too deep.
     TooDeep,
-    /// The board has no row of this directory. No count ends with this error.
+    /// The workers' rows make no tree at the directory with this number. No count ends with this error.
     Torn(u32),
-    /// The board and this worker differ. No count ends with this error.
+    /// The worker with this number and the board that all workers share have different records. No count ends with this error.
     Mismatch(u32),
     /// The rule file that the command line names could not be read.
     UnreadRules,
@@ -35,19 +35,20 @@ pub enum Cause {
     UnreadPaths(Option<UnreadReason>),
     /// The list of paths has too many bytes.
     PathsTooLong,
-    /// The list of paths is empty, or has one that no entry can have. The line says which.
+    /// The list of paths is empty, or has a path that no entry can have. The text is the line for standard error, which names the list, and
+    /// the path if there is one.
     BadPaths(String),
     /// Standard input could not be read.
     UnreadInput,
     /// Standard input has too many bytes.
     InputTooLong,
-    /// One directory of a count is the same as another, or is inside it. The line says which.
+    /// One directory of a count is the same as another, or is inside it. The text is the line for standard error, which names both.
     Nested(String),
-    /// The walk of one of several directories ended without a report. The line says which.
+    /// The walk of one of several directories ended without a report. The text is the line for standard error, which names the directory.
     InDirectory(String),
-    /// A report can't be read, is refused, or can't be added to others. The line says which, and why.
+    /// A report, or a directory of a comparison, can't be read or used. The text is the line for standard error, which says which and why.
     InReport(String),
-    /// No column is in each of several reports.
+    /// Several reports have no column in common.
     NoSharedColumn,
     /// A sum over several reports does not fit its type.
     SumsTooLarge,
@@ -71,7 +72,7 @@ fn unread_paths_line(why: Option<UnreadReason>) -> &'static str
 }
 
 impl Cause {
-    /// Makes the line, with its line feed. A line with a number allocates memory.
+    /// Makes the line for standard error, with its line feed. Only a line with a number allocates memory.
     pub(crate) fn line(&self, alloc: Global) -> Result<CowStr<'_>, AllocError>
         ensures line { IfOk result (λ line. cow_str_bytes line ≡ cause_line self.now) }
         ensures refused { IsErr result → HasNumber self.now }

@@ -1,4 +1,4 @@
-//! Answers `lc check`: checks paths.
+//! Answers `lc check`, and `lc` without arguments: checks paths by the rules of a file or of the input.
 
 ghost use Rattle.std.specs.Prelude.{◌≡◌, true, false};
 ghost use Rattle.lc_program.specs.Requests.{AnswersFile, AnswersJoined};
@@ -25,7 +25,7 @@ pub(crate) fn path_end(null: bool) -> PathEnd
     }
 }
 
-/// Checks the paths of the input by the rules of a file. It reads the rules first.
+/// Checks the paths of the input by the rules of a file. The rules are read first.
 fn check_plainly<Y: System, S: Source, O: Sink>(
     alloc: Global,
     system: &Y,
@@ -42,7 +42,7 @@ fn check_plainly<Y: System, S: Source, O: Sink>(
     Ok(Answered::Checked)
 }
 
-/// Checks the paths of the input by the rules of a file, and shows the rule that decides each path. It reads the rules first.
+/// Checks the paths of the input by the rules of a file, and shows the rule that decides each path. The rules are read first.
 fn check_explaining<Y: System, S: Source, O: Sink>(
     alloc: Global,
     system: &Y,

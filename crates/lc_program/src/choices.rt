@@ -40,7 +40,7 @@ fn first_choice(walk: &WalkRequest<'_>) -> Option<&'static str>
     }
 }
 
-/// Adds that both sides are reports.
+/// Appends the words that say that both sides are reports.
 fn push_reports(line: &mut String, old: &str, new: &str) -> Result<(), AllocError>
     ensures { OnOk result (string_bytes line.new ≡ string_bytes line.old ++ are_reports old.now new.now) }
 {
@@ -50,7 +50,7 @@ fn push_reports(line: &mut String, old: &str, new: &str) -> Result<(), AllocErro
     line.push_str(" are reports\n")
 }
 
-/// Makes the line about an option that chooses files.
+/// Makes the line that says that an option chooses files of a directory, but both sides are reports.
 fn choice_line(alloc: Global, option: &str, old: &str, new: &str) -> Result<String, AllocError>
     ensures { IfOk result (λ line. string_bytes line ≡ choice_line option.now old.now new.now) }
 {
@@ -70,7 +70,7 @@ fn choice_cause(alloc: Global, option: &str, old: &str, new: &str) -> Cause
     }
 }
 
-/// Refuses an option that chooses files, if both sides are reports. It queries the system about the sides.
+/// Returns an error if an option chooses files of a directory, but both sides are reports. The system says whether a side is a directory.
 pub(crate) fn refuse_choices<Y: System>(
     alloc: Global,
     system: &Y,

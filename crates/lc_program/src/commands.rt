@@ -7,7 +7,7 @@ use lc_text::{push_quoted, push_visible};
 use std::alloc::{AllocError, Global};
 use std::path::Path;
 
-/// Returns whether a path can be typed as a terminal shows it, and is not read as an option then.
+/// Returns whether a path can be typed as a terminal shows it, and would then not be read as an option.
 pub(crate) fn is_typed(alloc: Global, path: &str) -> Result<bool, AllocError>
     ensures { IfOk result (λ typed. typed ≡ is_typed path.now) }
 {
@@ -49,14 +49,15 @@ pub(crate) fn push_count(
     push_quoted(text, directory)
 }
 
-/// Returns a directory, or a dot for the directory that the program runs in.
+/// Returns the path of a directory, or a dot if the path is empty, which is the directory that the program runs in.
 fn or_here(directory: &str) -> &str
     ensures { result.now ≡ or_here directory.now }
 {
     if directory.is_empty() { "." } else { directory }
 }
 
-/// Makes the command that counts the file with this name in this directory. It is empty if the command can't be typed as it is shown.
+/// Makes the words that show how to count the file with this name in this directory. The text is empty if the command can't be typed as it
+/// is shown.
 fn count_of_file(alloc: Global, name: &str, directory: &str) -> Result<String, AllocError>
     ensures { IfOk result (λ text. string_bytes text ≡ count_of_file name.now directory.now) }
 {
@@ -69,8 +70,8 @@ fn count_of_file(alloc: Global, name: &str, directory: &str) -> Result<String, A
     Ok(text)
 }
 
-/// Makes the command that counts the file at a path, to follow the reason why the path can't be read as a directory. It is empty if the
-/// command can't be typed as it is shown.
+/// Makes the words that show how to count the file at a path, to follow the reason why the path can't be read as a directory. The text is
+/// empty if the command can't be typed as it is shown.
 pub(crate) fn file_count(alloc: Global, path: &str) -> Result<String, AllocError>
     ensures { IfOk result (λ text. string_bytes text ≡ file_count path.now) }
 {

@@ -33,7 +33,7 @@ use std::alloc::{AllocError, Global};
 use std::sync::Wait;
 use std::thread::Threads;
 
-/// The columns of rows if the command line names none.
+/// The columns by which rows are grouped if the command line names none: the extension alone.
 const BY_EXTENSION: Columns = Columns {
     dir: None,
     ext: true,
@@ -59,7 +59,7 @@ fn sort_number(format: Format, table: TableRequest) -> Option<Number>
     }
 }
 
-/// Returns the options of a comparison, with this format unless the command line names one.
+/// Returns the options of a comparison. `other` is the format if the command line names none.
 fn change_options(asked: &DiffRequest<'_>, other: Format) -> ChangeOptions
     ensures { result ≡ change_options other asked.now }
 {
@@ -75,7 +75,7 @@ fn change_options(asked: &DiffRequest<'_>, other: Format) -> ChangeOptions
     }
 }
 
-/// Returns what is needed of each side.
+/// Returns which columns and lists the report of each side must have.
 fn compared_needs(asked: &DiffRequest<'_>) -> Needs
     ensures { result ≡ compared_needs asked.now }
 {
@@ -83,7 +83,7 @@ fn compared_needs(asked: &DiffRequest<'_>) -> Needs
     Needs::of(Some(by), &asked.conditions, asked.table.files, false)
 }
 
-/// Returns the lists of a side that is counted.
+/// Returns which lists the report of a counted directory must have.
 fn compared_lists(asked: &DiffRequest<'_>) -> ReportLists
     ensures { result ≡ compared_lists asked.now }
 {
@@ -105,7 +105,7 @@ fn text_in(alloc: Global, format: Format, sheet: &ChangeSheet<'_>) -> Result<Vec
     }
 }
 
-/// Makes the text of the changes from one report to another, and finds out whether there are some.
+/// Makes the text of the changes from one report to another. Also returns whether there are changes.
 fn changes_text(
     alloc: Global,
     options: &ChangeOptions,
@@ -122,7 +122,7 @@ fn changes_text(
     Ok((text, shown.some_differ()))
 }
 
-/// Prints the changes from one report to another. It returns whether there are some.
+/// Prints the changes from one report to another, and returns whether there are changes.
 fn print_changes<O: Sink>(
     alloc: Global,
     options: &ChangeOptions,
@@ -139,7 +139,7 @@ fn print_changes<O: Sink>(
     Ok(differ)
 }
 
-/// Keeps what meets the conditions of two reports, and prints the changes from one to the other.
+/// Drops from two reports what does not meet the conditions, and prints the changes from one report to the other.
 fn print_kept<O: Sink>(
     alloc: Global,
     asked: &DiffRequest<'_>,
@@ -161,7 +161,7 @@ fn print_kept<O: Sink>(
     Ok(Comparison { old, new, differ })
 }
 
-/// Counts or reads both sides, and prints the changes from one to the other.
+/// Counts or reads both sides of a comparison, and prints the changes from one side to the other.
 fn compare_sides<R: Threads + Wait + Sync + AllocGlobal, Y: System, S: Source, O: Sink>(
     rt: &R,
     system: &Y,
@@ -198,7 +198,7 @@ fn compare_sides<R: Threads + Wait + Sync + AllocGlobal, Y: System, S: Source, O
     Ok(Answered::Compared(compared, unnamed))
 }
 
-/// Compares two directories or reports, and prints the changes, in this format unless the command line names one.
+/// Compares two directories or reports, and prints the changes. `format` is the format of the output if the command line names none.
 pub(crate) fn compare<R: Threads + Wait + Sync + AllocGlobal, Y: System, S: Source, O: Sink>(
     rt: &R,
     system: &Y,

@@ -35,14 +35,14 @@ use std::thread::Threads;
 // The command line allows as many threads and directories as a walk can have.
 const _: () = prove!(MAX_THREADS == MAX_WORKERS && MAX_DIRS == MAX_CAPACITY);
 
-/// Returns whether a named format is a picture.
+/// Returns whether the command line names HTML, the format of a picture.
 pub(crate) fn is_picture(format: Option<Format>) -> bool
     ensures { result ≡ is_picture format }
 {
     matches!(format, Some(Format::Html))
 }
 
-/// Returns the lists that a count asks for. Rows by directory, pictures and conditions on numbers need the files.
+/// Returns which lists the report of a count must have. Rows by directory, pictures and conditions on numbers need the list of files.
 fn lists_of(asked: &CountRequest<'_>) -> ReportLists
     ensures { result ≡ lists_of asked.now }
 {
@@ -73,7 +73,7 @@ pub(crate) fn options_of<'o>(
     }
 }
 
-/// Adds names, each after a space.
+/// Appends names, each after a space.
 fn push_after_spaces(text: &mut Vec<u8>, names: &[&str]) -> Result<(), AllocError>
     ensures { OnOk result (text.new.items ≡ text.old.items ++ after_spaces (map (λ name. name.now) names.now)) }
 {
@@ -96,7 +96,7 @@ fn one_text(alloc: Global, names: &[&str]) -> Result<Vec<u8>, AllocError>
     Ok(text)
 }
 
-/// Counts the directories that the command line names, and prints the table of what meets its conditions.
+/// Counts the directories that the command line names, and prints the table of what meets the conditions.
 fn print_found<R: Threads + Wait + Sync + AllocGlobal, Y: System, O: Sink>(
     rt: &R,
     system: &Y,
@@ -154,7 +154,7 @@ fn count_apart<R: Threads + Wait + Sync + AllocGlobal, Y: System, S: Source, O: 
     Ok(Answered::Counted(report, unnamed))
 }
 
-/// Counts directories and prints the table, in this format unless the command line names one.
+/// Counts directories and prints the table. `format` is the format of the table if the command line names none.
 pub(crate) fn count<R: Threads + Wait + Sync + AllocGlobal, Y: System, S: Source, O: Sink>(
     rt: &R,
     system: &Y,

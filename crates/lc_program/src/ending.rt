@@ -8,20 +8,20 @@ use crate::cause::Cause;
 /// How a run of the program ends.
 #[derive(Drop)]
 pub enum Ending {
-    /// It carried out the request.
+    /// The program carried out the request, or showed help or the version.
     Done,
-    /// It wrote the answer, which has errors.
+    /// The program wrote the answer, which has errors.
     SomeFaults,
-    /// It wrote the answer, which counts a file, and `--fail-if-any` makes that a failure.
+    /// The program wrote the answer, which counts a file or shows a difference, and `--fail-if-any` makes this a failure.
     AnyFile,
-    /// It refused the arguments.
+    /// The program refused the arguments.
     Misused,
-    /// It stopped with an error.
+    /// The program stopped with an error.
     GaveUp(Cause),
 }
 
 impl Ending {
-    /// Returns the exit status.
+    /// Returns the exit status of the program.
     pub fn status(&self) -> u8
         ensures { result ≡ status_of self.now }
     {

@@ -1,4 +1,4 @@
-//! Answers `lc explain`: explains paths.
+//! Answers `lc explain`: shows which rule decides each path.
 
 ghost use Rattle.std.specs.Prelude.{◌≡◌};
 ghost use Rattle.lc_program.specs.Requests.{AnswersExplanation, AnswersPaths};
@@ -17,7 +17,7 @@ use lc_text::{PathStyle, Sink};
 use lc_tree::{FileSystems, Tree};
 use std::alloc::Global;
 
-/// Explains the paths of the command line, or the paths of the input if the command line has none.
+/// Shows which rule decides each path of the command line, or each path of the input if the command line has no paths.
 fn explain_paths<T: Tree, S: Source, O: Sink>(
     alloc: Global,
     tree: &T,
@@ -46,7 +46,7 @@ fn options_of<'o>(filters: &'o Filters<'_>, style: PathStyle) -> ExplainOptions<
     ExplainOptions { filters, style }
 }
 
-/// Explains paths of a directory by its rules and the rules of the command line.
+/// Shows which rule decides each path, by the rules of a directory and of the command line.
 pub(crate) fn explain_asked<Y: System, S: Source, O: Sink>(
     alloc: Global,
     system: &Y,

@@ -1,4 +1,4 @@
-//! The lines on standard error about errors of a count.
+//! The lines on standard error about what a count or a sum could not read.
 
 ghost use Rattle.std.specs.Prelude.{◌≡◌, ◌++◌, map, string_bytes, IfOk, OnOk};
 ghost use Rattle.lc_level.specs.FaultLines.{FaultLineModel};
@@ -23,7 +23,7 @@ fn push_unread(text: &mut String, path: &[u8]) -> Result<(), AllocError>
     text.push_str("\n")
 }
 
-/// Returns a path, or a dot for the empty path of a directory itself.
+/// Returns a path, or a dot if the path is empty, which is the path of the counted directory itself.
 pub(crate) fn or_here(path: &[u8]) -> &[u8]
     ensures { result.now ≡ or_here path.now }
 {
@@ -61,7 +61,7 @@ fn number_line(alloc: Global, place: &str, count: usize) -> Result<String, Alloc
     Ok(text)
 }
 
-/// Returns the text that names the lines of a table about this many paths.
+/// Returns the words that name the lines in which a table lists this many paths that could not be read.
 fn fault_rows(count: usize) -> &'static str
     ensures { result.now ≡ fault_rows count }
 {
@@ -95,7 +95,7 @@ fn lines_if(alloc: Global, format: Format, faults: &[&FaultLine]) -> Result<Stri
     }
 }
 
-/// Returns the path at which a report has the error of a counted directory itself: an empty path if it is the only directory, and otherwise
+/// Returns the path that a report has for an error of a counted directory itself: an empty path if it is the only directory, and otherwise
 /// its name.
 fn top_path<'w>(directories: &[&str], directory: &'w str) -> &'w [u8]
     ensures { result.now ≡ top_path (map (λ d. d.now) directories.now) directory.now }
@@ -113,7 +113,7 @@ pub(crate) fn has_path(path: &[u8], faults: &[FaultLine]) -> bool
     faults.iter().any(|fault| fault.path.as_slice() == path)
 }
 
-/// Returns whether an error is about a path in the directories, and not about one of the directories itself.
+/// Returns whether an error is about a path inside the counted directories, and not about one of these directories itself.
 fn is_inside(directories: &[&str], fault: &FaultLine) -> bool
     ensures { result ≡ is_inside (map (λ d. d.now) directories.now) fault.now }
 {
@@ -125,7 +125,7 @@ fn is_inside(directories: &[&str], fault: &FaultLine) -> bool
     true
 }
 
-/// Collects the errors about paths in the directories.
+/// Collects the errors about paths inside the counted directories, without errors about these directories themselves.
 fn inside<'f>(
     alloc: Global,
     directories: &[&str],
@@ -142,7 +142,8 @@ fn inside<'f>(
     Ok(kept)
 }
 
-/// Makes the line about a counted directory, if the directory itself could not be listed. It queries the system for the reason.
+/// Makes the line that says that a counted directory itself could not be listed, and why if the system gives a reason. The line is empty if
+/// the directory was listed.
 fn top_line<Y: System>(
     alloc: Global,
     system: &Y,
@@ -178,7 +179,7 @@ fn top_lines<Y: System>(
     Ok(text)
 }
 
-/// Makes the lines about what a count could not read.
+/// Makes the lines about what a count or a sum could not read.
 fn fault_lines<Y: System>(
     alloc: Global,
     system: &Y,
@@ -196,7 +197,8 @@ fn fault_lines<Y: System>(
     Ok(text)
 }
 
-/// Writes that a part of the counted directories could not be read. Every format but CSV and HTML already lists the errors.
+/// Writes to standard error what a count or a sum could not read. Each counted directory that could not be listed has a line. For CSV and
+/// HTML each other path has a line too; for any other format one line says where the output lists these paths.
 pub(crate) fn tell_faults<Y: System, E: Sink>(
     alloc: Global,
     system: &Y,

@@ -1,4 +1,4 @@
-//! The filters of a command line.
+//! The filters of a command line: what decides, besides the tree's own rules, which entries are skipped.
 
 ghost use Rattle.std.specs.Prelude.{◌≡◌, ◌++◌, map, IfOk};
 ghost use Rattle.lc_level.specs.Filters.{narrowed};
@@ -53,8 +53,8 @@ fn push_words(alloc: Global, words: &mut Vec<Vec<u8>>, without: &[&str]) -> Resu
     Ok(())
 }
 
-/// Makes the list of attributes for which entries are skipped. `--archive` adds `export-ignore` at its beginning, which `git archive`
-/// skips.
+/// Makes the list of attributes for which entries are skipped. With `--archive` the list begins with `export-ignore`: `git archive` skips
+/// entries with this attribute.
 fn words_of(alloc: Global, archive: bool, without: &[&str]) -> Result<Vec<Vec<u8>>, AllocError>
     ensures { IfOk result (λ words. map (λ word. word.items) words.items ≡ words_of archive (map (λ word. word.now) without.now)) }
 {
@@ -66,7 +66,7 @@ fn words_of(alloc: Global, archive: bool, without: &[&str]) -> Result<Vec<Vec<u8
     Ok(words)
 }
 
-/// Returns the filters with these paths, sorted, instead of their own. Without any paths, the whole tree takes part.
+/// Returns the filters with these paths, sorted, as the paths to count. If there are no paths, the whole tree is counted.
 pub(crate) fn narrowed<'p>(
     alloc: Global,
     filters: Filters<'_>,
@@ -85,7 +85,7 @@ pub(crate) fn narrowed<'p>(
     })
 }
 
-/// Reads the filters of a command line, as yet without any paths.
+/// Reads the filters of a command line, except the paths of `--only` and `--only-from`.
 pub(crate) fn read_filters<'p, Y: System>(
     alloc: Global,
     system: &Y,

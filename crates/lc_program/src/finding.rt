@@ -1,4 +1,4 @@
-//! The report of a count: the report of its directory, or the sum of the reports of several.
+//! The report of a count: the report of its directory, or the sum of the reports of several directories.
 
 ghost use Rattle.std.specs.Prelude.{◌≡◌, ◌⊎◌, true, map, string_bytes, IfErr, IfOk};
 ghost use Rattle.std.specs.List.{AllZip};
@@ -21,7 +21,7 @@ use std::alloc::{AllocError, Global};
 use std::sync::Wait;
 use std::thread::Threads;
 
-/// Walks the directory with this name.
+/// Walks the directory with this name, and returns the report.
 pub(crate) fn walk_of<R: Threads + Wait + Sync + AllocGlobal, Y: System>(
     rt: &R,
     system: &Y,
@@ -39,7 +39,7 @@ pub(crate) fn walk_of<R: Threads + Wait + Sync + AllocGlobal, Y: System>(
     walk(rt, rt.alloc(), &tree, options)
 }
 
-/// Makes the line that says why the walk of one of several directories ended, with its name.
+/// Makes the line that names one of several directories, and says why its walk ended without a report.
 fn line_in(alloc: Global, directory: &str, why: &str) -> Result<String, AllocError>
     ensures { IfOk result (λ line. string_bytes line ≡ line_in directory.now why.now) }
 {
@@ -60,7 +60,7 @@ fn named_cause(alloc: Global, directory: &str, why: &str) -> Cause
     }
 }
 
-/// Makes the cause that says why the walk of one of several directories ended.
+/// Makes the cause that says why the walk of one of several directories ended without a report.
 pub(crate) fn cause_in(alloc: Global, directory: &str, fault: WalkFault) -> Cause
     ensures { IsCauseIn directory.now fault result }
 {
@@ -71,7 +71,7 @@ pub(crate) fn cause_in(alloc: Global, directory: &str, fault: WalkFault) -> Caus
     }
 }
 
-/// Walks one of several directories, and moves its report below its name.
+/// Walks one of several directories, and puts the directory's name in front of the paths of its report.
 fn walk_below<R: Threads + Wait + Sync + AllocGlobal, Y: System>(
     rt: &R,
     system: &Y,
@@ -94,7 +94,7 @@ fn walk_below<R: Threads + Wait + Sync + AllocGlobal, Y: System>(
     }
 }
 
-/// Walks several directories, one after another, and moves each report below its directory's name.
+/// Walks several directories, one after another, and puts each directory's name in front of the paths of its report.
 fn walks_below<R: Threads + Wait + Sync + AllocGlobal, Y: System>(
     rt: &R,
     system: &Y,
@@ -128,7 +128,7 @@ pub(crate) fn entered_by(asked: &WalkRequest<'_>) -> FileSystems
     }
 }
 
-/// Counts several directories. It moves each report below its directory's name, and joins the reports.
+/// Counts several directories. Each directory's name is put in front of the paths of its report, and the reports are added up.
 fn found_in_all<R: Threads + Wait + Sync + AllocGlobal, Y: System>(
     rt: &R,
     system: &Y,
@@ -150,7 +150,7 @@ fn found_in_all<R: Threads + Wait + Sync + AllocGlobal, Y: System>(
     Ok(report)
 }
 
-/// Counts directories. The report of a single directory is that of its walk.
+/// Counts one or more directories. The report of a single directory is that of its walk, without the directory's name in front of paths.
 fn found_in<R: Threads + Wait + Sync + AllocGlobal, Y: System>(
     rt: &R,
     system: &Y,

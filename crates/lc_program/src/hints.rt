@@ -12,7 +12,7 @@ use lc_arguments::Request;
 use lc_text::{Sink, print, push_visible};
 use std::alloc::{AllocError, Global};
 
-/// Collects the paths of the directories that lie in the repository with this top.
+/// Collects the directories that lie in the repository with this top. Each is given by its path in the repository.
 fn paths_in<'r>(
     alloc: Global,
     top: &str,
@@ -68,8 +68,8 @@ fn hint_alone(alloc: Global, directory: &str) -> Result<String, AllocError>
     Ok(text)
 }
 
-/// Makes the hint about a directory in a repository. It shows a command with all directories that lie in the repository, unless the command
-/// can't be typed as it is shown.
+/// Makes the hint about a directory in a repository. The hint shows a command with all directories that lie in this repository, unless the
+/// command can't be typed as it is shown.
 fn hint_line(
     alloc: Global,
     directory: &str,
@@ -133,7 +133,7 @@ fn repositories_above<Y: System>(
     Ok(repositories)
 }
 
-/// Writes a hint that rules above these directories were not read, if one of them lies in a repository below its top.
+/// Writes a hint that rules above these directories were not read, if one of them lies in a repository, below the repository's top.
 fn hint_about<Y: System, E: Sink>(alloc: Global, system: &Y, directories: &[&str], err: &mut E)
     ensures { HintsAbout E.may_take (Y.lies system.now) (map (λ d. d.now) directories.now) err.old err.new }
 {
@@ -148,8 +148,8 @@ fn hint_about<Y: System, E: Sink>(alloc: Global, system: &Y, directories: &[&str
     }
 }
 
-/// Writes a hint that rules above the counted directories were not read, if one of them lies in a repository below its top. Only a terminal
-/// gets the hint.
+/// Writes a hint that rules above the counted directories were not read, if one of them lies in a repository, below the repository's top.
+/// Only a terminal gets the hint.
 pub(crate) fn hint<Y: System, E: Sink>(
     alloc: Global,
     system: &Y,

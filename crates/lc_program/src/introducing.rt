@@ -26,7 +26,7 @@ fn reads_paths(request: &Request<'_>) -> bool
     }
 }
 
-/// Returns whether one of these reports is the input.
+/// Returns whether one of these reports is read from the input.
 fn read_input(reports: &[NamedReport<'_>]) -> bool
     ensures { result ≡ read_input reports.now }
 {
@@ -44,7 +44,8 @@ fn reads_reports(request: &Request<'_>) -> bool
     }
 }
 
-/// Says what a request reads from the input if the input is a terminal. Without this line the program would seem to hang.
+/// Writes a line that says what a request reads from the input, if the input is a terminal. Without this line the program would seem to
+/// hang.
 pub(crate) fn introduce<E: Sink>(request: &Request<'_>, stdin_is_terminal: bool, err: &mut E)
     ensures { Introduces E.may_take stdin_is_terminal request.now err.old err.new }
 {

@@ -1,4 +1,4 @@
-//! The texts that a command line names: those of files, or of the input.
+//! The texts of the files that a command line names, or of the input.
 
 ghost use Rattle.lc_program.specs.NamedTexts.{LoadsText, ReadsNamed, ReadsText};
 

@@ -14,7 +14,7 @@ use lc_text::push_visible;
 use std::alloc::{AllocError, Global};
 use std::marker::Model;
 
-/// A directory with its name, and with its canonical path followed by a slash.
+/// A counted directory: its name, and its canonical path followed by a slash.
 #[derive(Drop)]
 struct Place<'w> {
     name: &'w str,
@@ -40,7 +40,7 @@ fn with_slash(alloc: Global, path: &str) -> Result<Vec<u8>, AllocError>
     Ok(slashed)
 }
 
-/// Adds the place of a directory, if the system gives its canonical path.
+/// Appends a directory with its canonical path, if the system gives one.
 fn push_place<'w, Y: System>(
     alloc: Global,
     system: &Y,
@@ -58,7 +58,7 @@ fn push_place<'w, Y: System>(
     Ok(())
 }
 
-/// Makes the places of directories.
+/// Returns the directories for which the system gives a canonical path, each with this path.
 fn places_of<'w, Y: System>(
     alloc: Global,
     system: &Y,
@@ -75,7 +75,7 @@ fn places_of<'w, Y: System>(
     Ok(places)
 }
 
-/// Sorts places, so that the places inside another come right after it.
+/// Sorts directories by their canonical paths, which brings the directories inside another right behind that one.
 fn sort(places: &mut Vec<Place<'_>>)
     ensures same { IsPermutation places.old.items places.new.items }
     ensures order { IsSortedByKey (λ (p : PlaceModel). p.path) bytes_cmp places.new.items }
@@ -114,7 +114,7 @@ fn inner_line(alloc: Global, inner: &str, outer: &str) -> Result<String, AllocEr
     Ok(line)
 }
 
-/// Makes the line about a place that holds another.
+/// Makes the line about two directories, of which `outer` is the same as `inner` or holds it.
 fn nested_line(alloc: Global, outer: &Place<'_>, inner: &Place<'_>) -> Result<String, AllocError>
     ensures { IfOk result (λ line. string_bytes line ≡ nested_line outer.now inner.now) }
 {
@@ -125,7 +125,7 @@ fn nested_line(alloc: Global, outer: &Place<'_>, inner: &Place<'_>) -> Result<St
     }
 }
 
-/// Refuses places if one holds another. The places must be sorted.
+/// Returns an error if one directory is the same as another, or is inside another. The directories must be sorted by their canonical paths.
 fn refuse_nested(alloc: Global, places: &[Place<'_>]) -> Result<(), Cause>
     requires { IsSortedByKey (λ (p : PlaceModel). p.path) bytes_cmp places.now }
     ensures apart { IsOk result → NoneHolds places.now }
@@ -142,7 +142,8 @@ fn refuse_nested(alloc: Global, places: &[Place<'_>]) -> Result<(), Cause>
     Ok(())
 }
 
-/// Refuses directories if one is the same as another, or is inside another. A directory without a canonical path is not compared.
+/// Returns an error if one of these directories is the same as another, or is inside another. A directory without a canonical path is not
+/// compared.
 pub(crate) fn refuse_unless_apart<Y: System>(
     alloc: Global,
     system: &Y,

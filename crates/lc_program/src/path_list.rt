@@ -33,7 +33,7 @@ fn named_list<Y: System, S: Source>(
     }
 }
 
-/// Returns why a list could not be read.
+/// Returns why the list of paths that a command line names could not be read.
 fn list_cause<Y: System>(alloc: Global, system: &Y, file: Option<&str>, fault: WholeFault) -> Cause
     ensures { IsListCause (Y.unreads system.now) file.entry fault result }
 {
@@ -82,14 +82,14 @@ fn no_path_line(alloc: Global, file: &str) -> Result<String, AllocError>
     Ok(line)
 }
 
-/// Returns whether a path of a list is neither the directory itself nor a path that an entry can have.
+/// Returns whether a path of the list can't be counted: it is neither the counted directory itself nor a path that an entry can have.
 fn is_bad_listed(path: &[u8]) -> bool
     ensures { result ≡ is_bad_listed path.now }
 {
     !is_top(path) && is_bad_path(path)
 }
 
-/// Reads the paths of a list, without any `./` at the beginning and without a slash at the end of each.
+/// Splits a list into its paths, and drops any `./` at the beginning of each and a slash at its end.
 fn paths_of<'l>(
     alloc: Global,
     file: &str,
@@ -115,7 +115,7 @@ fn paths_of<'l>(
     Ok(paths)
 }
 
-/// Joins the paths of the command line with the paths of its list.
+/// Returns the paths of `--only`, followed by the paths that the file of `--only-from` lists.
 fn named_paths<'w: 'l, 'l>(
     alloc: Global,
     only: &[&'w [u8]],
@@ -137,15 +137,15 @@ fn named_paths<'w: 'l, 'l>(
     Ok(named)
 }
 
-/// Returns whether one of these paths is the directory itself.
+/// Returns whether one of these paths is the counted directory itself.
 fn has_top(paths: &[&[u8]]) -> bool
     ensures { result ≡ list_any (λ (path : Bor (List ℕ)). is_top path.now) paths.now }
 {
     paths.iter().any(|path| is_top(path))
 }
 
-/// Returns the paths to count: the paths of the command line and of its list. If one of them is the directory itself, it returns no paths,
-/// since all of the directory is counted.
+/// Returns the paths to count: the paths of the command line and of the list that it names. If one of them is the counted directory itself,
+/// the result is empty, which means all of the directory.
 pub(crate) fn wanted_paths<'w: 'l, 'l>(
     alloc: Global,
     only: &[&'w [u8]],

@@ -20,7 +20,7 @@ use std::alloc::{AllocError, Global};
 /// The greatest number of bytes of a report.
 const MAX_REPORT: u32 = 1_073_741_824;
 
-/// Moves a report below a name, if there is one.
+/// Puts a name in front of a report's paths, as `NAME=REPORT` does. Without a name the report stays as it is.
 fn below(alloc: Global, name: Option<&str>, given: ReadReport) -> Result<ReadReport, AllocError>
     ensures { IfOk result (IsBelow (option_map (λ n. n.now) name.entry) given) }
 {
@@ -42,7 +42,7 @@ fn below(alloc: Global, name: Option<&str>, given: ReadReport) -> Result<ReadRep
     })
 }
 
-/// Makes a part of a sum from a report of a text.
+/// Makes a part of a sum from one of the reports in a text that the command line names.
 fn part_of<'w>(
     alloc: Global,
     typed: NamedReport<'w>,
@@ -57,7 +57,7 @@ fn part_of<'w>(
     })
 }
 
-/// Makes the parts of a sum from the reports of a text.
+/// Makes the parts of a sum from the reports in a text that the command line names.
 fn parts_of<'w>(
     alloc: Global,
     typed: NamedReport<'w>,
@@ -72,7 +72,7 @@ fn parts_of<'w>(
     Ok(parts)
 }
 
-/// Reads the reports in one of the texts that the command line names.
+/// Reads the reports in one of the texts that the command line names: a file, or the input for `-`.
 fn read_parts<'w, Y: System, S: Source>(
     alloc: Global,
     system: &Y,
@@ -99,7 +99,7 @@ fn read_parts<'w, Y: System, S: Source>(
     Ok(parts)
 }
 
-/// Reads the reports in the text of this name.
+/// Reads the reports in the file with this name, or in the input for `-`.
 pub(crate) fn read_one<'w, Y: System, S: Source>(
     alloc: Global,
     system: &Y,
@@ -114,7 +114,8 @@ pub(crate) fn read_one<'w, Y: System, S: Source>(
     read_parts(alloc, system, NamedReport { name: None, report }, input)
 }
 
-/// Reads the reports that the command line names, in their order. It stops at the first text that is not read, or is refused.
+/// Reads the reports that the command line names, in their order. The first text that can't be read, or is refused, ends this with an
+/// error.
 pub(crate) fn read_all<'w, Y: System, S: Source>(
     alloc: Global,
     system: &Y,

@@ -1,4 +1,4 @@
-//! The lines about reports that can't be read or added up.
+//! The lines on standard error about reports that can't be read or added up.
 
 ghost use Rattle.std.specs.Prelude.{◌≡◌, ◌++◌, codes, string_bytes, IfOk};
 ghost use Rattle.lc_sheet.specs.ColumnWords.{column_name};
@@ -28,7 +28,7 @@ pub(crate) fn origin_of(report: &str) -> &str
     }
 }
 
-/// Makes a line about a report, or about a path of several reports.
+/// Makes the line that says what is wrong with a report, or with a path that several reports have.
 fn report_line(alloc: Global, name: &[u8], why: &str) -> Result<String, AllocError>
     ensures { IfOk result (λ line. string_bytes line ≡ report_line name.now why.now) }
 {
@@ -40,7 +40,7 @@ fn report_line(alloc: Global, name: &[u8], why: &str) -> Result<String, AllocErr
     Ok(line)
 }
 
-/// Makes the cause with the line about a report, or about a path of several reports.
+/// Makes the cause whose line says what is wrong with a report, or with a path that several reports have.
 fn report_cause(alloc: Global, name: &[u8], why: &str) -> Cause
     ensures { IsTold (report_line name.now why.now) result }
 {
@@ -50,7 +50,7 @@ fn report_cause(alloc: Global, name: &[u8], why: &str) -> Cause
     }
 }
 
-/// Returns why a report could not be read, if the system gives a reason. Standard input has none.
+/// Returns why a report could not be read, or `None` if the system gives no reason or the report is standard input.
 fn reason_for<Y: System>(alloc: Global, system: &Y, report: &str) -> Option<UnreadReason>
     ensures { MayBeWhy (Y.unreads system.now) report.now result }
 {
@@ -60,7 +60,7 @@ fn reason_for<Y: System>(alloc: Global, system: &Y, report: &str) -> Option<Unre
     system.why_unread(alloc, report)
 }
 
-/// Makes the cause with the line about a report that could not be read, for this reason if there is one.
+/// Makes the cause whose line says that a report, or a directory of a comparison, could not be read, and why if there is a reason.
 pub(crate) fn unread_cause(alloc: Global, name: &str, reason: Option<UnreadReason>) -> Cause
     ensures { IsTold (unexplained_line name.now reason) result }
 {
@@ -89,7 +89,7 @@ pub(crate) fn cause_of_text<Y: System>(
     }
 }
 
-/// Makes the text about a text that is no report.
+/// Makes the text that says why a file or the input is no report, such as `no JSON object at byte 0`.
 fn no_report_text(alloc: Global, why: NoReport) -> Result<String, AllocError>
     ensures { IfOk result (λ text. string_bytes text ≡ no_report_text why) }
 {
@@ -102,7 +102,7 @@ fn no_report_text(alloc: Global, why: NoReport) -> Result<String, AllocError>
     }
 }
 
-/// Returns the text about a report whose sums differ.
+/// Returns the text, to follow the name of a report, that says which sums of the report are not those of its total.
 fn sums_text(part: Part) -> &'static str
     ensures { result.now ≡ sums_text part }
 {
@@ -113,7 +113,7 @@ fn sums_text(part: Part) -> &'static str
     }
 }
 
-/// Makes the text about a text that is no report, to follow its name.
+/// Makes the text, to follow the name of a file or the input, that says why this is no report.
 fn refusal_text(alloc: Global, why: NoReport) -> Result<String, AllocError>
     ensures { IfOk result (λ text. string_bytes text ≡ codes "is no report: " ++ no_report_text why) }
 {
@@ -123,7 +123,7 @@ fn refusal_text(alloc: Global, why: NoReport) -> Result<String, AllocError>
     Ok(text)
 }
 
-/// Makes the cause with the line about a text that is no report.
+/// Makes the cause whose line says why a file or the input is no report.
 fn no_report_cause(alloc: Global, name: &[u8], why: NoReport) -> Cause
     ensures { IsTold (report_line name.now (codes "is no report: " ++ no_report_text why)) result }
 {
@@ -133,7 +133,7 @@ fn no_report_cause(alloc: Global, name: &[u8], why: NoReport) -> Cause
     }
 }
 
-/// Makes the cause that says why the text of a report is refused. Errors call the report by this name.
+/// Makes the cause that says why the text of a report is refused. `name` is the name that errors use for the report.
 pub(crate) fn cause_of_refusal(alloc: Global, name: &[u8], fault: ReadFault) -> Cause
     ensures { IsRefusedFor name.now fault result }
 {
@@ -145,7 +145,7 @@ pub(crate) fn cause_of_refusal(alloc: Global, name: &[u8], fault: ReadFault) -> 
     }
 }
 
-/// Makes the text about a report without a column, to follow its name.
+/// Makes the text, to follow the name of a report, that says that the report lacks a column.
 fn no_column_text(alloc: Global, column: Column) -> Result<String, AllocError>
     ensures { IfOk result (λ text. string_bytes text ≡ codes "has no column " ++ column_name column ++ codes ": count with --files") }
 {
@@ -155,7 +155,7 @@ fn no_column_text(alloc: Global, column: Column) -> Result<String, AllocError>
     Ok(text)
 }
 
-/// Makes the cause with the line about a report without a column.
+/// Makes the cause whose line says that a report lacks a column.
 fn no_column_cause(alloc: Global, name: &[u8], column: Column) -> Cause
     ensures { IsTold (report_line name.now (codes "has no column " ++ column_name column ++ codes ": count with --files")) result }
 {

@@ -1,10 +1,10 @@
 //! The repository above a directory.
 
-/// The repository above a directory, with a path that a command line may name it by.
+/// The repository in which a directory lies, below the repository's top.
 #[derive(Drop)]
 pub struct Repository {
-    /// The path of the repository's top.
+    /// A path of the repository's top, by which a command line may name it.
     pub top: String,
-    /// The path of the directory in the repository.
+    /// The path of the directory, relative to the repository's top.
     pub path: String,
 }

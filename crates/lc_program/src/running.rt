@@ -1,4 +1,4 @@
-//! The program: it carries out its arguments in a system, and writes to its streams.
+//! The program: it carries out its arguments over the directories and files of a system, and writes to its streams.
 
 ghost use Rattle.std.specs.Prelude.{◌≡◌, ◌&&◌, map, nat_lt};
 ghost use Rattle.lc_program.specs.Program.{Advises, Comments, Ends, TellsUnread, status_of, streams_may};
@@ -30,7 +30,8 @@ use std::convert::AsStr;
 use std::sync::Wait;
 use std::thread::Threads;
 
-/// Writes what a count, a sum, a comparison or an explanation could not read. A table has this format unless the command line names one.
+/// Writes to standard error what a count, a sum, a comparison or an explanation could not read. `format` is the format of a table if the
+/// command line names none.
 fn tell_unread<Y: System, E: Sink>(
     alloc: Global,
     system: &Y,
@@ -75,7 +76,7 @@ fn tell_unread<Y: System, E: Sink>(
     }
 }
 
-/// Writes what could not be read and which attributes no attribute file names.
+/// Writes to standard error what could not be read, and which attributes of the command line no attribute file names.
 fn comment<Y: System, E: Sink>(
     alloc: Global,
     system: &Y,
@@ -90,14 +91,14 @@ fn comment<Y: System, E: Sink>(
     tell_unnamed(answered, err);
 }
 
-/// Returns whether a printed report has a file, and that is a failure.
+/// Returns whether `fail_if_any` is set and the printed report has a file.
 fn is_failure(fail_if_any: bool, report: &Report) -> bool
     ensures { result ≡ (fail_if_any && nat_lt 0 report.now.totals.files) }
 {
     fail_if_any && report.totals.files > 0
 }
 
-/// Returns whether an answer counts a file, or differs, and `--fail-if-any` makes that a failure.
+/// Returns whether `--fail-if-any` makes an answer a failure: a file is counted, or the sides of a comparison differ.
 fn has_failure(request: &Request<'_>, answered: &Answered) -> bool
     ensures { result ≡ has_failure request.now answered.now }
 {
@@ -113,7 +114,7 @@ fn has_failure(request: &Request<'_>, answered: &Answered) -> bool
     }
 }
 
-/// Returns how a request ends that was answered.
+/// Returns how the program ends after it wrote this answer to a request.
 fn ending_of(request: &Request<'_>, answered: &Answered) -> Ending
     ensures { result ≡ ending_of request.now answered.now }
 {
@@ -126,7 +127,7 @@ fn ending_of(request: &Request<'_>, answered: &Answered) -> Ending
     }
 }
 
-/// Writes these lines about patterns, and the hint of a request.
+/// Writes the lines about patterns that can match nothing, and the hint about rules above counted directories.
 fn advise<Y: System, E: Sink>(
     alloc: Global,
     system: &Y,
@@ -196,10 +197,10 @@ fn end_of<R: Threads + Wait + Sync + AllocGlobal, Y: System, W: AsStr, S: Source
 /// - `sum REPORT`: prints the table of the sum of the reports with these names ([`summed`](lc_sums::summed)); all of them are read first;
 /// - `diff OLD NEW`: prints the changes from one directory or report to another ([`ShownChanges`](lc_changes::ShownChanges)).
 ///
-/// If standard input is a terminal and is read, a line says so first. If standard output is a terminal, checks and explanations escape
-/// paths and patterns that it would not show safely, and a table without a named format is printed in columns. If standard error is a
-/// terminal, a hint may follow the table of a count. `err` also gets lines about paths that a count could not read, the reason why a
-/// directory could not be read, and the patterns of the arguments that can match nothing.
+/// If standard input is a terminal and is read, a line on `err` says so first. If standard output is a terminal, checks and explanations
+/// escape paths and patterns that a terminal would not show safely, and a table without a named format is printed in columns. If standard
+/// error is a terminal, a hint may follow the table of a count. `err` also gets lines about paths that a count could not read, the reason
+/// why a directory could not be read, and the patterns of the arguments that can match nothing.
 pub fn program<
     R: Threads + Wait + Sync + AllocGlobal,
     Y: System,

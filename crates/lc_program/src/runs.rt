@@ -50,7 +50,7 @@ impl From<PrintFault> for RunFault {
     }
 }
 
-/// Walks a tree, writes the table of the part of its report that meets the conditions ([`table`]), and returns this part.
+/// Walks a tree, and writes the table of the part of its report that meets the conditions ([`table`]). Returns this part of the report.
 ///
 /// Rows by directory and a condition on a number need the list of files.
 ///

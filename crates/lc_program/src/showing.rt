@@ -27,7 +27,7 @@ fn text_in(alloc: Global, format: Format, sheet: &ReportSheet<'_>) -> Result<Vec
     }
 }
 
-/// Makes the text of the sheet of a report, with these sums over text and binary files.
+/// Makes the text of a report in any format but HTML. `classes` has the sums over text files and over binary files.
 fn sheet_text(
     alloc: Global,
     report: &mut Report,
@@ -46,7 +46,8 @@ fn sheet_text(
     Ok(text)
 }
 
-/// Like [`report_text`], but with these sums over text and binary files, for a report whose rows may not keep them apart.
+/// Like [`report_text`], but takes the sums over text files and over binary files from `classes`, for a report whose rows may not keep
+/// these apart.
 pub(crate) fn text_with(
     alloc: Global,
     counted: &[u8],
@@ -66,10 +67,10 @@ pub(crate) fn text_with(
     }
 }
 
-/// Makes the text of a report, or its picture, whose heading is what was counted.
+/// Makes the text of a report, or for HTML the page of its picture. `counted` is what was counted, which is the heading of the page.
 ///
-/// It sorts the files of the report in place. Rows by directory and a picture are made from these files, so the report must have them. An
-/// error means that an allocation failed, or that sums or shares overflow. Those of a walk never overflow.
+/// The order of the report's files may change in place. Rows by directory and a picture are made from these files, so the report must have
+/// them. An error means that an allocation failed, or that sums or shares overflow. The sums and shares of a walk never overflow.
 pub fn report_text(
     alloc: Global,
     counted: &[u8],
@@ -84,7 +85,7 @@ pub fn report_text(
     text_with(alloc, counted, report, classes, options)
 }
 
-/// Makes the text of the part of a report that meets the conditions ([`report_text`]). It drops the rest from the report.
+/// Makes the text of the part of a report that meets the conditions ([`report_text`]), and drops the rest from the report.
 fn part_text(
     alloc: Global,
     report: &mut Report,

@@ -11,12 +11,12 @@ use lc_text::{Sink, print, push_visible};
 use lc_walk::FaultLine;
 use std::alloc::{AllocError, Global};
 
-/// The errors of a side of a comparison.
+/// The name of a side of a comparison, and its errors.
 #[derive(Clone, Copy)]
 pub(crate) struct SideFaults<'f> {
-    /// What the side was named.
+    /// The name of the side on the command line.
     pub(crate) name: &'f str,
-    /// What could not be read.
+    /// The errors of the side: the paths that could not be read.
     pub(crate) faults: &'f [FaultLine],
 }
 
@@ -55,7 +55,7 @@ fn side_lines(alloc: Global, name: &str, faults: &[FaultLine]) -> Result<String,
     Ok(text)
 }
 
-/// Makes the lines about both sides.
+/// Makes the lines about what could not be read of both sides, the old side first.
 fn lines_of(alloc: Global, old: SideFaults<'_>, new: SideFaults<'_>) -> Result<String, AllocError>
     ensures { IfOk result (λ text. string_bytes text ≡ side_lines (origin_of old.entry.name.now) old.entry.faults.now
         ++ side_lines (origin_of new.entry.name.now) new.entry.faults.now) }
@@ -72,7 +72,7 @@ fn have_no_faults(old: &[FaultLine], new: &[FaultLine]) -> bool
     old.is_empty() && new.is_empty()
 }
 
-/// Writes what the sides of a comparison could not read, the old one first. No format lists it.
+/// Writes to standard error what the sides of a comparison could not read, the old side first. No format of the output lists these paths.
 pub(crate) fn tell_side_faults<E: Sink>(
     alloc: Global,
     old: SideFaults<'_>,

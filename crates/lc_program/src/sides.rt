@@ -20,7 +20,7 @@ use std::alloc::{AllocError, Global};
 use std::sync::Wait;
 use std::thread::Threads;
 
-/// Returns whether a name can't be listed because no directory has it.
+/// Returns whether a name can't be listed for the reason that no directory has this name.
 fn is_no_directory(why: Option<UnreadReason>) -> bool
     ensures { result ≡ is_no_directory why }
 {
@@ -31,7 +31,7 @@ fn is_no_directory(why: Option<UnreadReason>) -> bool
     }
 }
 
-/// Returns whether a side is a directory. `-` is standard input. It queries the system.
+/// Queries the system, and returns whether a side of a comparison is a directory. The side `-` is standard input.
 pub(crate) fn is_directory<Y: System>(
     alloc: Global,
     system: &Y,
@@ -46,18 +46,18 @@ pub(crate) fn is_directory<Y: System>(
     Ok(!is_no_directory(why))
 }
 
-/// How sides are counted and read.
+/// How the sides of a comparison are counted or read.
 #[derive(Clone, Copy)]
 pub(crate) struct SideOptions<'o> {
-    /// What the command line asks of walks.
+    /// The part of the command line that is about walks.
     pub(crate) walk: &'o WalkRequest<'o>,
-    /// The options of walks.
+    /// The options of the walk of a side that is a directory.
     pub(crate) options: &'o Options<'o>,
-    /// What is needed of reports.
+    /// The columns and lists that the report of a side must have.
     pub(crate) needs: Needs,
 }
 
-/// Counts a directory. A directory that could not be listed itself has no report.
+/// Counts a side that is a directory. If the directory itself could not be listed, this is an error.
 fn counted_side<R: Threads + Wait + Sync + AllocGlobal, Y: System>(
     rt: &R,
     system: &Y,
@@ -82,7 +82,7 @@ fn counted_side<R: Threads + Wait + Sync + AllocGlobal, Y: System>(
     Ok(report)
 }
 
-/// Reads the reports of a name, and adds them up.
+/// Reads a side that is one or more reports in a file or in the input, and adds the reports up.
 fn read_side<Y: System, S: Source>(
     alloc: Global,
     system: &Y,
@@ -103,7 +103,7 @@ fn read_side<Y: System, S: Source>(
     }
 }
 
-/// Counts or reads a side.
+/// Counts a side that is a directory, and reads any other side as reports.
 fn side<R: Threads + Wait + Sync + AllocGlobal, Y: System, S: Source>(
     rt: &R,
     system: &Y,
@@ -125,7 +125,7 @@ fn side<R: Threads + Wait + Sync + AllocGlobal, Y: System, S: Source>(
     read_side(rt.alloc(), system, name, how.needs, input)
 }
 
-/// Counts or reads both sides, the old one first.
+/// Counts or reads both sides of a comparison, the old side first.
 pub(crate) fn both_sides<R: Threads + Wait + Sync + AllocGlobal, Y: System, S: Source>(
     rt: &R,
     system: &Y,

@@ -20,17 +20,17 @@ pub struct Streams<I, O, E> {
 /// Which streams of the program are terminals.
 #[derive(Clone, Copy)]
 pub struct Terminals {
-    /// Whether standard input is a terminal: if so, a line says that it is read.
+    /// Whether standard input is a terminal. If so, a line on standard error says that the program reads it.
     pub input: bool,
-    /// Whether standard output is a terminal: if so, checks and explanations print paths so that it shows them safely, and a count without
-    /// a named format prints its table in columns.
+    /// Whether standard output is a terminal. If so, checks and explanations escape paths that a terminal would not show safely, and a
+    /// table without a named format is printed in columns.
     pub output: bool,
     /// Whether standard error is a terminal: if so, a hint may follow a count.
     pub error: bool,
 }
 
 impl Terminals {
-    /// Returns the style of paths on standard output.
+    /// Returns how paths on standard output are escaped: for a terminal, or for a program that reads them.
     pub(crate) fn style(self) -> PathStyle
         ensures { result ≡ style_for self.output }
     {
@@ -41,7 +41,7 @@ impl Terminals {
         }
     }
 
-    /// Returns the format of a table if none is named.
+    /// Returns the format of a table if the command line names none: columns on a terminal, and TSV otherwise.
     pub(crate) fn format(self) -> Format
         ensures { result ≡ format_for self.output }
     {

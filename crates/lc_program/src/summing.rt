@@ -27,7 +27,7 @@ use lc_text::{PrintFault, Sink, print};
 use lc_walk::Report;
 use std::alloc::{AllocError, Global};
 
-/// Adds a report as it was typed.
+/// Appends a report as it was typed: `REPORT` or `NAME=REPORT`.
 fn push_typed(text: &mut Vec<u8>, typed: NamedReport<'_>) -> Result<(), AllocError>
     ensures { OnOk result (text.new.items ≡ text.old.items ++ typed_text (report_model typed.entry)) }
 {
@@ -38,7 +38,7 @@ fn push_typed(text: &mut Vec<u8>, typed: NamedReport<'_>) -> Result<(), AllocErr
     text.extend_from_slice(typed.report.as_bytes())
 }
 
-/// Adds reports as they were typed, each after a space.
+/// Appends reports as they were typed, each after a space.
 fn push_after_spaces(text: &mut Vec<u8>, reports: &[NamedReport<'_>]) -> Result<(), AllocError>
     ensures { OnOk result (text.new.items ≡ text.old.items ++ after_spaces (map typed_text (map report_model reports.now))) }
 {
@@ -62,7 +62,7 @@ fn one_text(alloc: Global, reports: &[NamedReport<'_>]) -> Result<Vec<u8>, Alloc
     Ok(text)
 }
 
-/// Returns what a sum needs of each report.
+/// Returns which columns and lists a sum needs of each report.
 fn needed_by(asked: &SumRequest<'_>) -> Needs
     ensures { result ≡ needed_by asked.now }
 {
@@ -70,7 +70,7 @@ fn needed_by(asked: &SumRequest<'_>) -> Needs
     Needs::of(asked.table.by, &asked.conditions, files, asked.left_out)
 }
 
-/// Returns the columns of a table whose rows are those of reports.
+/// Turns the columns of reports' rows into the columns of a table, without a column for directories.
 fn columns_of(columns: RowColumns) -> Columns
     ensures { result ≡ columns_of columns }
 {
@@ -82,7 +82,7 @@ fn columns_of(columns: RowColumns) -> Columns
     }
 }
 
-/// Returns the sums over text and binary files.
+/// Returns the sums over the text files and over the binary files of a sum of reports.
 fn classes_in(sum: &Sum) -> ClassSums
     ensures { result ≡ classes_in sum.now }
 {
@@ -93,7 +93,8 @@ fn classes_in(sum: &Sum) -> ClassSums
     }
 }
 
-/// Returns the sums over text and binary files of what meets the conditions: of all if there are none, and otherwise of these rows.
+/// Returns the sums over the text and the binary files that meet the conditions. Without conditions these are the sums over all files, and
+/// otherwise they are made from the rows of the part that was kept.
 fn classes_kept(
     conditions: &[Condition<'_>],
     classes: ClassSums,
@@ -107,7 +108,7 @@ fn classes_kept(
     ClassSums::of_all(&part.rows)
 }
 
-/// Makes the text of the part of a sum that meets the conditions. It drops the rest from the report.
+/// Makes the text of the part of a sum that meets the conditions, and drops the rest from the report.
 fn part_text(
     alloc: Global,
     report: &mut Report,
@@ -143,7 +144,7 @@ fn table<O: Sink>(
     Ok(())
 }
 
-/// Prints the table of the part of a sum that meets the conditions. It returns this part.
+/// Prints the table of the part of a sum that meets the conditions, and returns this part.
 fn print_sum<O: Sink>(
     alloc: Global,
     asked: &SumRequest<'_>,
@@ -166,7 +167,7 @@ fn print_sum<O: Sink>(
     Ok(report)
 }
 
-/// Adds up parts, and prints the table.
+/// Adds up reports that were read, and prints the table of the sum.
 fn sum_parts<O: Sink>(
     alloc: Global,
     asked: &SumRequest<'_>,
@@ -182,7 +183,8 @@ fn sum_parts<O: Sink>(
     }
 }
 
-/// Adds up reports, and prints the table, in this format unless the command line names one.
+/// Reads the reports that the command line names, adds them up, and prints the table of the sum. `format` is the format of the table if the
+/// command line names none.
 pub(crate) fn sum<Y: System, S: Source, O: Sink>(
     alloc: Global,
     system: &Y,

@@ -14,9 +14,10 @@ use std::alloc::{AllocError, Global};
 
 /// The directories and files that a command line names.
 ///
-/// A system defines the tree of each directory's name. Its other ghost members define which answers it may give for a name.
+/// The ghost member `tree` defines the tree that belongs to each directory's name. The other ghost members define which answers a system
+/// may give about a name.
 pub trait System {
-    /// A directory, as a tree.
+    /// A directory with everything under it.
     type Tree: Tree + Drop;
 
     /// An opened file.
@@ -40,8 +41,8 @@ pub trait System {
     // The answers that may be given to which canonical path the directory with this name has.
     ghost stands: { Self → List ℕ → Option (List ℕ) → Type 0 };
 
-    /// Makes the tree of the directory with this name, which enters all file systems or only that of its top. If there is no such
-    /// directory, the top of the tree can't be listed.
+    /// Makes the tree of the directory with this name. The tree enters the directories of all file systems, or only those of the file
+    /// system of its top. If there is no such directory, the top of the tree can't be listed.
     fn tree(
         &self,
         alloc: Global,
@@ -66,7 +67,7 @@ pub trait System {
     fn why_unread(&self, alloc: Global, name: &str) -> Option<UnreadReason>
         ensures { unreads self.now name.now result };
 
-    /// Returns the repository in which the directory with this name lies, below its top, or nothing if the system gives none.
+    /// Returns the repository in which the directory with this name lies, below the repository's top, or nothing if the system gives none.
     fn repository_above(&self, alloc: Global, directory: &str) -> Option<Repository>
         ensures { lies self.now directory.now result };
 

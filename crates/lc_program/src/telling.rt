@@ -10,7 +10,7 @@ use crate::ending::Ending;
 use lc_text::{Sink, print};
 use std::alloc::{AllocError, Global};
 
-/// Writes the refusal of the arguments.
+/// Writes why the arguments are refused, and returns the ending for refused arguments.
 pub fn misuse<E: Sink>(why: &str, err: &mut E) -> Ending
     ensures ending { result ≡ ending.Misused }
     ensures told { Tells E.may_take err.old why.now err.new }
@@ -20,7 +20,7 @@ pub fn misuse<E: Sink>(why: &str, err: &mut E) -> Ending
     Ending::Misused
 }
 
-/// Writes the line about why the program stops with an error, and returns this ending.
+/// Writes the line that says why the program stops with an error, and returns the ending with this cause.
 pub fn give_up<E: Sink>(alloc: Global, cause: Cause, err: &mut E) -> Ending
     ensures ending { result ≡ ending.GaveUp cause }
     ensures told { TellsCause E.may_take err.old cause err.new }
@@ -32,7 +32,7 @@ pub fn give_up<E: Sink>(alloc: Global, cause: Cause, err: &mut E) -> Ending
     Ending::GaveUp(cause)
 }
 
-/// Writes help or the version.
+/// Writes help or the version, and returns how the program ends.
 pub(crate) fn show<O: Sink, E: Sink>(alloc: Global, text: &str, out: &mut O, err: &mut E) -> Ending
     ensures { EndsShown O.may_take E.may_take text.now out.old err.old result out.new err.new }
 {

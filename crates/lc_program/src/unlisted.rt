@@ -20,7 +20,8 @@ fn reason_given(why: Option<UnreadReason>) -> &'static str
     }
 }
 
-/// Makes the command that counts a file that was named as a directory, to follow the reason. It is empty for any other reason.
+/// Makes the words, to follow the reason, that show how to count a file that was named as a directory. If the reason is not `IsFile`, the
+/// text is empty.
 fn count_instead(alloc: Global, path: &str, why: Option<UnreadReason>) -> Result<String, AllocError>
     ensures { IfOk result (λ text. string_bytes text ≡ count_instead path.now why) }
 {
@@ -30,7 +31,7 @@ fn count_instead(alloc: Global, path: &str, why: Option<UnreadReason>) -> Result
     }
 }
 
-/// Makes the line about the directory of a count that could not be read.
+/// Makes the line that says that a counted directory could not be read, and why if there is a reason.
 pub(crate) fn uncounted_line(
     alloc: Global,
     directory: &str,
@@ -47,7 +48,7 @@ pub(crate) fn uncounted_line(
     Ok(text)
 }
 
-/// Makes the line about the directory of an explanation, or about a report, that could not be read.
+/// Makes the line that says that the directory of an explanation, or a report, could not be read, and why if there is a reason.
 pub(crate) fn unexplained_line(
     alloc: Global,
     directory: &str,
@@ -62,7 +63,7 @@ pub(crate) fn unexplained_line(
     Ok(text)
 }
 
-/// Writes that something could not be read, if there is no memory for its name.
+/// Writes to standard error that some paths could not be read. This line names no path, so it needs no memory.
 pub(crate) fn tell_shortly<E: Sink>(err: &mut E)
     ensures { Tells E.may_take err.old short_line err.new }
 {
@@ -85,7 +86,7 @@ fn tell_why<E: Sink>(alloc: Global, directory: &str, why: Option<UnreadReason>, 
     }
 }
 
-/// Writes why the directory of an explanation could not be read, if the system gives a reason.
+/// Writes to standard error why the directory of an explanation could not be read, if the system gives a reason.
 pub(crate) fn tell_unlisted<Y: System, E: Sink>(
     alloc: Global,
     system: &Y,

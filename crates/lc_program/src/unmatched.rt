@@ -17,7 +17,7 @@ fn unmatched_line(alloc: Global, pattern: &str) -> Result<String, AllocError>
     Ok(text)
 }
 
-/// Makes the line about a pattern that can match nothing. It is empty for any other pattern.
+/// Makes the line about a pattern that can match nothing. The line is empty for any other pattern.
 fn unmatched_text(alloc: Global, pattern: &str) -> Result<String, AllocError>
     ensures { IfOk result (λ text. string_bytes text ≡ unmatched_text pattern.now) }
 {

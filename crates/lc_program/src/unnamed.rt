@@ -37,8 +37,8 @@ fn unnamed_text(alloc: Global, named: &NamedAttributes) -> Result<String, AllocE
     Ok(text)
 }
 
-/// Makes a line for each attribute that no attribute file names. It makes none if there is no memory for them, since nothing depends on
-/// these lines.
+/// Makes a line for each attribute of the command line that no attribute file names. If there is no memory for the lines, the text is
+/// empty, since nothing depends on it.
 pub(crate) fn unnamed_lines(alloc: Global, named: &NamedAttributes) -> String
     ensures { AreUnnamedLines (noted named.now) (string_bytes result) }
 {
@@ -48,7 +48,7 @@ pub(crate) fn unnamed_lines(alloc: Global, named: &NamedAttributes) -> String
     }
 }
 
-/// Writes which attributes no attribute file names, if the answer is a count or a comparison.
+/// Writes to standard error which attributes no attribute file names, if the answer is a count or a comparison.
 pub(crate) fn tell_unnamed<E: Sink>(answered: &Answered, err: &mut E)
     ensures { TellsUnnamed E.may_take answered.now err.old err.new }
 {

@@ -8,20 +8,20 @@ ghost use Rattle.lc_program.specs.Reasons.{reason_text};
 pub enum UnreadReason {
     /// Nothing has this name.
     Missing,
-    /// The system does not permit it.
+    /// The system does not permit the program to read the directory or the file.
     Denied,
-    /// It is a directory, but a file is expected.
+    /// The name is that of a directory, but a file is expected.
     IsDirectory,
-    /// It is a file, but a directory is expected.
+    /// The name is that of a file, but a directory is expected.
     IsFile,
-    /// It is neither a directory nor a file, or its path leads through something that is not a directory.
+    /// The name is that of neither a directory nor a file, or its path leads through something that is not a directory.
     NotDirectory,
-    /// The program has no text for the reason.
+    /// Any other reason. The program has no text for it.
     Other,
 }
 
 impl UnreadReason {
-    /// Returns the text of the reason, which follows the name.
+    /// Returns the text of the reason, which follows the name in a line on standard error.
     pub(crate) fn text(self) -> &'static str
         ensures { result.now ≡ reason_text self }
     {
