@@ -1,4 +1,4 @@
-//! The tests of the program over a system of memory.
+//! The tests of the program, over directories and files in memory.
 #![tactic(auto)]
 
 #[cfg(test)]

@@ -1,4 +1,4 @@
-//! What no clause says: that runs of the program succeed where there is memory, and what they then write.
+//! Tests of what no contract states: that runs of the program succeed if there is memory, and what they write.
 
 mod asking;
 mod calls;

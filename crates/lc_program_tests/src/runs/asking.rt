@@ -1,4 +1,4 @@
-//! Runs of the program over systems of memory.
+//! Runs of the program over directories and files in memory, and how they must end.
 
 use crate::runs::mem_system::MemSystem;
 use lc_program::{Streams, Terminals, UnreadReason, program};
@@ -11,15 +11,16 @@ use std::sync::Wait;
 use std::test::Fail;
 use std::thread::Threads;
 
-/// An entry of a directory: its name and its sketch.
+/// An entry of a directory: its name, and a sketch of its contents.
 pub(super) type Entry = (&'static [u8], Sketch<'static>);
 
-/// What is shown; the directory `top`, beside the directory `other`, which has one file; the rule files; the words and the input.
+/// A run of the program with the arguments `words`, and how it must end. The system has the directory `top`, the directory `other` with one
+/// file, and the files in `files`, which the arguments may name.
 #[derive(Clone, Copy)]
 pub(super) struct Case<'a> {
     pub(super) name: &'a str,
     pub(super) top: Sketch<'a>,
-    /// What `top` is if one file system alone is entered.
+    /// The directory `top` as a walk sees it that enters one file system alone.
     pub(super) bounded: Sketch<'a>,
     pub(super) files: Sketch<'a>,
     pub(super) words: &'a [&'a str],
@@ -27,7 +28,7 @@ pub(super) struct Case<'a> {
     pub(super) terminals: Terminals,
     pub(super) why: Option<UnreadReason>,
     pub(super) above: Option<(&'static str, &'static str)>,
-    /// How the run ends.
+    /// The exit status of the run.
     pub(super) status: u8,
     pub(super) out: &'a [u8],
     pub(super) err: &'a [u8],
@@ -39,7 +40,7 @@ pub(super) const NO_TERMINALS: Terminals = Terminals {
     error: false,
 };
 
-/// No directories, files and words.
+/// A run without arguments, in which `top` can't be listed and there are no files. Other cases change parts of this one.
 pub(super) const EMPTY: Case<'static> = Case {
     name: "",
     top: Sketch::Closed,
@@ -67,12 +68,12 @@ fn directories_of(
     Ok(directories)
 }
 
-/// A writer that takes a little more than this text.
+/// Returns a writer that takes a little more than this text.
 fn writer_of(alloc: Global, text: &[u8]) -> Result<Narrow, AllocError> {
     Narrow::new(alloc, 4_096, text.len().saturating_add(64), WhenFull::Fails)
 }
 
-/// Returns whether standard error shows that an allocation failed: a part of what is wanted is missing, or another line is in its place.
+/// Returns whether standard error shows that an allocation failed: a part of the wanted text is missing, or another line is in its place.
 fn is_refusal(told: &[u8], wanted: &[u8]) -> bool {
     told.ends_with(b"lc: out of memory\n")
         // Lines about patterns may follow it.
@@ -82,7 +83,7 @@ fn is_refusal(told: &[u8], wanted: &[u8]) -> bool {
         || (told.len() < wanted.len() && wanted.starts_with(told))
 }
 
-/// Whether a run in a system ends so.
+/// Returns whether a run in this system ends as the case says. An error means that an allocation failed.
 fn ends_so<R: Threads + Wait + Sync + AllocGlobal>(
     rt: &R,
     system: &MemSystem<'_>,
@@ -105,7 +106,7 @@ fn ends_so<R: Threads + Wait + Sync + AllocGlobal>(
     )
 }
 
-/// Whether a run of a case by these words ends as it says.
+/// Returns whether a run of a case with these arguments ends as the case says.
 fn is_so<R: Threads + Wait + Sync + AllocGlobal>(
     rt: &R,
     words: &[&str],
@@ -136,7 +137,7 @@ pub(super) fn compare_all<R: Threads + Wait + Sync + AllocGlobal + Abort>(
     Ok(())
 }
 
-/// So do they with this number of threads.
+/// Checks that the run of a case with this number of threads ends as the case says.
 fn compare_by<R: Threads + Wait + Sync + AllocGlobal + Abort>(
     rt: &R,
     case: &Case<'_>,

@@ -1,4 +1,4 @@
-//! The other public calls, each once.
+//! Calls of the other public functions of the program, each once.
 
 use crate::runs::mem_system::MemSystem;
 use lc_census::Source;
@@ -10,7 +10,7 @@ use std::test::Fail;
 
 const TOP: Sketch<'static> = Sketch::Dir(&[(b"a", Sketch::File(b"x"))]);
 
-/// The first bytes of a reader.
+/// Reads the first bytes of a file, and returns how many there are, or 0 if the read fails.
 fn first<S: Source + Drop>(mut file: S, buffer: &mut [u8]) -> usize {
     match file.read(buffer) {
         Ok(count) => count,

@@ -1,4 +1,4 @@
-//! Checks of paths.
+//! Runs that check paths by the rules of a file or of the input.
 
 use crate::runs::asking::{Case, EMPTY, compare_all};
 use lc_tests::Sketch;

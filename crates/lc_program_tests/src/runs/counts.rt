@@ -1,4 +1,4 @@
-//! Counts: their tables, by one thread and by several.
+//! Runs that count a directory, with one thread and with several, and the tables that they print.
 
 use crate::runs::asking::{Case, EMPTY, Entry, compare_by_threads};
 use lc_tests::Sketch;

@@ -1,11 +1,11 @@
-//! Comparisons of directories and reports.
+//! Runs that compare directories and reports.
 
 use crate::runs::asking::{Case, EMPTY, compare_all};
 use lc_program::UnreadReason;
 use lc_tests::Sketch;
 use std::test::Fail;
 
-/// A count of `other` with `--by ext`.
+/// The report of a count of the directory `other` with `--by ext`.
 const OTHER: &[u8] =
     b"{\"rows\":[{\"ext\":\".x\",\"files\":1,\"lines\":2,\"blank\":0,\"bytes\":4}],\
     \"total\":{\"files\":1,\"lines\":2,\"blank\":0,\"bytes\":4},\
@@ -20,7 +20,7 @@ const REPORTS: Sketch<'static> = Sketch::Dir(&[
 /// A directory with a file.
 const TOP: Sketch<'static> = Sketch::Dir(&[(b"a.c", Sketch::File(b"1\n2\n3\n"))]);
 
-/// A comparison that is refused.
+/// A comparison that is refused. The cases below add the arguments.
 const REFUSED: Case<'static> = Case {
     top: TOP,
     files: REPORTS,

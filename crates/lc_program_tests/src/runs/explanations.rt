@@ -1,4 +1,4 @@
-//! Explanations of paths.
+//! Runs that show which rule decides each path.
 
 use crate::runs::asking::{Case, EMPTY, compare_all};
 use lc_program::{Terminals, UnreadReason};

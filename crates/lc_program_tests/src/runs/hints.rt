@@ -1,4 +1,4 @@
-//! What is written besides an answer, and what a terminal changes.
+//! Runs that write hints and other lines besides an answer, and runs on a terminal.
 
 use crate::runs::asking::{Case, EMPTY, NO_TERMINALS, compare_all};
 use lc_program::{Terminals, UnreadReason};
@@ -22,7 +22,7 @@ const UNTOLD: Case<'static> = Case {
     ..EMPTY
 };
 
-/// Attributes that an attribute file names, and others.
+/// A count with `--without`, of attributes that an attribute file names and of others.
 const NAMED: Case<'static> = Case {
     name: "attributes_that_no_file_names",
     words: &[
@@ -45,7 +45,7 @@ const NAMED: Case<'static> = Case {
     ..EMPTY
 };
 
-/// Patterns that can match nothing, and others.
+/// A count with patterns that can match nothing, and with other patterns.
 const UNMATCHED: Case<'static> = Case {
     name: "patterns_that_can_match_nothing",
     words: &[
@@ -66,7 +66,7 @@ const UNMATCHED: Case<'static> = Case {
     ..EMPTY
 };
 
-/// On a terminal whose input is typed.
+/// A run whose standard input is a terminal, with text that was typed there.
 const TYPED: Case<'static> = Case {
     terminals: Terminals {
         input: true,

@@ -1,4 +1,4 @@
-//! A system of memory.
+//! Directories and files in memory, in place of those of the system.
 
 ghost use Rattle.std.specs.Prelude.{◌≡◌};
 
@@ -6,20 +6,20 @@ use lc_program::{Repository, System, UnreadReason};
 use lc_tree::{FileSystems, MemFile, MemTree, Node, ReadFault, Tree};
 use std::alloc::{AllocError, Global};
 
-/// A system of memory.
+/// Directories and files in memory, in place of those of the system.
 #[derive(Drop)]
 pub(super) struct MemSystem<'a> {
-    /// Directories, each with its name.
+    /// The directories that a command line may name, each with its name.
     pub(super) directories: &'a [(&'a str, Node)],
-    /// The same directories, without entries on other file systems.
+    /// The directories in `directories`, without entries on other file systems.
     pub(super) bounded: &'a [(&'a str, Node)],
-    /// The directory of any other name.
+    /// The directory for any name that `directories` lacks.
     pub(super) absent: &'a Node,
-    /// The directory that has the files that a command line names.
+    /// The directory with the files that a command line may name.
     pub(super) files: &'a Node,
-    /// Why no directory and no file can be read.
+    /// The reason that the system gives why a directory or a file can't be read.
     pub(super) why: Option<UnreadReason>,
-    /// The repository in which each directory lies: its top, and the directory's path in it.
+    /// The repository in which every directory lies, if there is one: its top, and the directory's path in it.
     pub(super) above: Option<(&'static str, &'static str)>,
 }
 
@@ -47,7 +47,7 @@ impl<'a> System for MemSystem<'a> {
 
     ghost stands = { λ s name answer. Unit {0} };
 
-    /// Takes no memory.
+    /// Makes the tree, and allocates no memory.
     fn tree(
         &self,
         _alloc: Global,
@@ -69,7 +69,7 @@ impl<'a> System for MemSystem<'a> {
         MemTree::new(self.files).open_file(alloc, name.as_bytes())
     }
 
-    /// A name that ends with `.json` is that of a file.
+    /// Returns `IsFile` for a name that ends with `.json`, and the field `why` for any other name.
     fn why_unlisted(
         &self,
         _alloc: Global,
@@ -92,7 +92,7 @@ impl<'a> System for MemSystem<'a> {
         Some(Repository { top, path })
     }
 
-    /// Each name is a path of its own, but for `away`, and `./` before a name.
+    /// Returns a slash and the name, without `./` at its beginning, or nothing for the name `away`.
     fn canonical(&self, alloc: Global, directory: &str) -> Result<Option<String>, AllocError> {
         if directory == "away" {
             return Ok(None);

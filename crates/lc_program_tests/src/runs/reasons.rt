@@ -1,4 +1,4 @@
-//! Why a directory or a list of paths could not be read.
+//! Runs that could not read a directory or a list of paths, and the reasons on standard error.
 
 use crate::runs::asking::{Case, EMPTY, compare_all};
 use lc_program::UnreadReason;
@@ -16,7 +16,7 @@ const UNREAD: Case<'static> = Case {
     ..EMPTY
 };
 
-/// A count of a file in place of a directory, in a format whose lines on standard error are others.
+/// A count of a file in place of a directory, in CSV, for which standard error has other lines.
 const FILE: Case<'static> = Case {
     words: &["count", "--by", "ext", "--format=csv", "src/m.c"],
     why: Some(UnreadReason::IsFile),

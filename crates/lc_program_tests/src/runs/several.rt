@@ -1,4 +1,4 @@
-//! Counts of several directories.
+//! Runs that count several directories.
 
 use crate::runs::asking::{Case, EMPTY, NO_TERMINALS, compare_by_threads};
 use lc_program::{Terminals, UnreadReason};

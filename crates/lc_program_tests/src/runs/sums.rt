@@ -1,4 +1,4 @@
-//! Sums of reports.
+//! Runs that add up reports.
 
 use crate::runs::asking::{Case, EMPTY, NO_TERMINALS, compare_all};
 use lc_program::{Terminals, UnreadReason};
@@ -8,7 +8,7 @@ use std::sync::Wait;
 use std::test::Fail;
 use std::thread::Threads;
 
-/// A count with `--by ext`, which found a path that could not be read.
+/// The report of a count with `--by ext`, in which a path could not be read.
 const BY_EXT: &[u8] =
     b"{\"rows\":[{\"ext\":\".c\",\"files\":2,\"lines\":30,\"blank\":3,\"bytes\":400}],\
     \"total\":{\"files\":2,\"lines\":30,\"blank\":3,\"bytes\":400},\
@@ -16,14 +16,14 @@ const BY_EXT: &[u8] =
     \"binary\":{\"files\":1,\"lines\":2,\"blank\":0,\"bytes\":100},\
     \"directories\":1,\"faults\":[{\"word\":\"read\",\"path\":\"\"}]}\n";
 
-/// A count with `--by text`.
+/// The report of a count with `--by text`.
 const BY_TEXT: &[u8] =
     b"{\"rows\":[{\"text\":null,\"files\":1,\"lines\":1,\"blank\":0,\"bytes\":2}],\
     \"total\":{\"files\":1,\"lines\":1,\"blank\":0,\"bytes\":2},\
     \"text\":{\"files\":1,\"lines\":1,\"blank\":0,\"bytes\":2},\
     \"binary\":{\"files\":0,\"lines\":0,\"blank\":0,\"bytes\":0},\"directories\":1,\"faults\":[]}";
 
-/// A count with `--files`.
+/// The report of a count with `--files`.
 const WITH_FILES: &[u8] =
     b"{\"rows\":[{\"ext\":\".c\",\"text\":null,\"eol\":\"lf\",\"files\":1,\"lines\":5,\"blank\":1,\"bytes\":60}],\
     \"total\":{\"files\":1,\"lines\":5,\"blank\":1,\"bytes\":60},\
@@ -31,26 +31,26 @@ const WITH_FILES: &[u8] =
     \"binary\":{\"files\":0,\"lines\":0,\"blank\":0,\"bytes\":0},\"directories\":1,\
     \"files\":[{\"path\":\"a.c\",\"ext\":\".c\",\"text\":null,\"eol\":\"lf\",\"lines\":5,\"blank\":1,\"bytes\":60}],\"faults\":[]}";
 
-/// A count of 2^128 - 1 bytes.
+/// The report of a count of 2^128 - 1 bytes.
 const LARGE: &[u8] =
     b"{\"rows\":[{\"ext\":\".c\",\"files\":1,\"lines\":1,\"blank\":0,\"bytes\":340282366920938463463374607431768211455}],\
     \"total\":{\"files\":1,\"lines\":1,\"blank\":0,\"bytes\":340282366920938463463374607431768211455},\
     \"text\":{\"files\":1,\"lines\":1,\"blank\":0,\"bytes\":340282366920938463463374607431768211455},\
     \"binary\":{\"files\":0,\"lines\":0,\"blank\":0,\"bytes\":0},\"directories\":1,\"faults\":[]}";
 
-/// The beginning of a count whose rows differ from its total.
+/// The report of a count whose rows do not add up to its total.
 const WRONG: &[u8] = b"{\"rows\":[],\"total\":{\"files\":1,\"lines\":5,\"blank\":1,\"bytes\":60},\
     \"text\":{\"files\":1,\"lines\":5,\"blank\":1,\"bytes\":60},\
     \"binary\":{\"files\":0,\"lines\":0,\"blank\":0,\"bytes\":0},\"directories\":1,\"faults\":[]}";
 
-/// A count with `--top 1`.
+/// The report of a count with `--top 1`.
 const CUT: &[u8] = b"{\"rows\":[{\"ext\":\".c\",\"files\":1,\"lines\":5,\"blank\":1,\"bytes\":60}],\
     \"others\":{\"files\":1,\"lines\":1,\"blank\":0,\"bytes\":1},\
     \"total\":{\"files\":2,\"lines\":6,\"blank\":1,\"bytes\":61},\
     \"text\":{\"files\":2,\"lines\":6,\"blank\":1,\"bytes\":61},\
     \"binary\":{\"files\":0,\"lines\":0,\"blank\":0,\"bytes\":0},\"directories\":1,\"faults\":[]}";
 
-/// The reports.
+/// The files of reports that the arguments may name.
 const REPORTS: Sketch<'static> = Sketch::Dir(&[
     (b"cut.json", Sketch::File(CUT)),
     (b"empty.json", Sketch::File(b" \n")),
@@ -61,7 +61,7 @@ const REPORTS: Sketch<'static> = Sketch::Dir(&[
     (b"wrong.json", Sketch::File(WRONG)),
 ]);
 
-/// A refused sum.
+/// A sum that is refused. The cases below add the arguments.
 const REFUSED: Case<'static> = Case { status: 3, ..EMPTY };
 
 const SUMS: &[Case<'static>] = &[
@@ -254,7 +254,7 @@ const REFUSALS: &[Case<'static>] = &[
     },
 ];
 
-/// Sums of the reports end as these cases say.
+/// Checks that the runs of these cases, with the files of `REPORTS`, end as the cases say.
 fn compare_sums<R: Threads + Wait + Sync + AllocGlobal + Abort>(
     rt: &R,
     cases: &[Case<'static>],
