@@ -9,7 +9,7 @@ use Rattle.lc_text.specs.Visible.{visible_bytes, visible_path}
 use Rattle.lc_picture.specs.Colours.{shared_colour}
 use Rattle.lc_picture.specs.Pieces.{Piece, count, markup, name, percent, share}
 
--- a text is the head of its line
+-- the cell of a text, which is the first cell of its line
 abbrev pub name_cell : List ℕ → List Piece
 name_cell text = markup (codes "<th>") ∷ name text ∷ markup (codes "</th>") ∷ []
 
@@ -22,13 +22,13 @@ share_cell part whole = markup (codes "<td>") ∷ percent part whole ∷ markup 
 abbrev pub empty_cell : List Piece
 empty_cell = markup (codes "<td></td>") ∷ []
 
--- a bar, and the space beside it
+-- the cell with a bar and the space next to the bar
 abbrev pub bar_cell : ℕ → ℕ → List Piece
 bar_cell part whole =
     markup (codes "<td><div class=\"bar\"><i style=\"--n:") ∷ share part ∷ markup (codes "\"></i><u style=\"--n:")
     ∷ share (whole - part) ∷ markup (codes "\"></u></div></td>") ∷ []
 
--- a value in its cell. Texts are as a terminal shows them
+-- the cell of a value. Texts are as a terminal shows them
 abbrev pub cell : ValueModel → List Piece
 cell value.missing = name_cell (codes "-")
 cell value.summed = empty_cell
@@ -55,21 +55,21 @@ plain_line values = markup (codes "<tr>") ∷ cells values
 abbrev pub plain_lines : List (List ValueModel) → List Piece
 plain_lines lines = flat_map plain_line lines
 
--- the first lines have colours of their own
+-- the colour of a line at this place. The first lines have colours of their own
 abbrev pub line_colour : ℕ → ℕ
 line_colour place = min place shared_colour
 
--- the begin of a line with the colour of its place
+-- the beginning of a line with the colour of its place
 abbrev pub coloured : ℕ → List Piece
 coloured place = markup (codes "<tr class=\"e") ∷ share (line_colour place) ∷ markup (codes "\">") ∷ []
 
 abbrev pub coloured_line : ℕ → List ValueModel → List Piece
 coloured_line place values = coloured place ++ cells values
 
--- lines from a place on
+-- lines with colours, of which the first has this place
 abbrev pub coloured_lines : ℕ → List (List ValueModel) → List Piece
 coloured_lines place lines = flat_map (λ line. coloured_line line.0 line.1) (enumerate_from place lines)
 
--- the rows of a sheet, and the sums over those that it has no place for
+-- the chart of a sheet: its rows, and the sums over the rows for which it has no place
 abbrev pub chart : SheetModel → List Piece
 chart s = coloured_lines 0 s.rows.lines ++ plain_lines s.others.lines

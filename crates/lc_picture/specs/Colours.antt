@@ -1,4 +1,4 @@
--- The colours of extensions and of directories. A colour is a number.
+-- The colours of extensions and of directories. Here a colour is a number.
 use Rattle.std.specs.Prelude.{ℕ, ◌+◌, nat_lt, Bool, true, false, bytes_eq, if◌then◌else◌, min, max, List, [], ◌∷◌, unwrap_or}
 use Rattle.std.specs.Prelude.{Option, Some, None}
 use Rattle.lc_rows.specs.RowKeys.{ShownRowModel}
@@ -11,29 +11,29 @@ same_extension None (Some b) = false
 same_extension (Some a) None = false
 same_extension (Some a) (Some b) = bytes_eq a b
 
--- the place of an extension among rows; how many rows there are, where it is in none
+-- the index of an extension among rows, or the number of rows if no row has it
 abbrev pub place_of : Option (List ℕ) → List ShownRowModel → ℕ
 place_of e [] = 0
 place_of e (r ∷ rs) = if same_extension e r.key.extension then 0 else place_of e rs + 1
 
--- the colour that all other extensions share
+-- the colour that all extensions share that are not among the first eight of the chart
 abbrev pub shared_colour : ℕ
 shared_colour = 8
 
--- the first extensions of the chart have colours of their own
+-- the colour of an extension: its index in the chart, or the shared colour if it is not among the first eight
 abbrev pub colour_of : List ShownRowModel → Option (List ℕ) → ℕ
 colour_of chart e = min (place_of e chart) shared_colour
 
 abbrev pub path_of : ShownRowModel → List ℕ
 path_of r = unwrap_or r.directory []
 
--- rows by directory and extension, from the first of a directory on
+-- the rows by directory and extension, from the first row of this directory on
 abbrev pub rows_from : List ℕ → List ShownRowModel → List ShownRowModel
 rows_from directory [] = []
 rows_from directory (k ∷ ks) = if bytes_eq directory (path_of k) then k ∷ ks else rows_from directory ks
 
--- the colour of the extension with the largest number in a directory, whose rows come first; of equal ones it is the first, and where
--- none is larger than a number that was met before, the colour that was met with it
+-- the colour of the extension with the largest number in a directory, whose rows come first. Of equal numbers the first counts. `number` is
+-- the largest number of the rows before, and `colour` goes with it
 abbrev pub main_colour : List ShownRowModel → Number → List ℕ → ℕ → ℕ → List ShownRowModel → ℕ
 main_colour chart by directory number colour [] = colour
 main_colour chart by directory number colour (k ∷ ks) =

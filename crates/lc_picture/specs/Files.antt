@@ -17,11 +17,11 @@ pub record FileBoxModel : Type 0 where
   pub parent : List ℕ
   pub drawn : BoxModel
 
--- whether a file has at least the least number that is drawn
+-- whether the number of a file is at least the least number that is drawn, so that the file has a box
 abbrev pub is_large : Number → ℕ → FileLineModel → Bool
 is_large by least f = nat_le least (file_number by f)
 
--- the box of a file has its path, its name, its numbers, and the colour of its extension
+-- the box of a file: its path, its name, its numbers, and the colour of its extension. Its directory is cut after n names
 abbrev pub box_of_file : ℕ → List ShownRowModel → FileLineModel → BoxModel
 box_of_file n chart f = record {
   path = f.path;
@@ -36,15 +36,15 @@ box_of_file n chart f = record {
 abbrev pub file_box : ℕ → List ShownRowModel → FileLineModel → FileBoxModel
 file_box n chart f = record { parent = directory_of n f.path; drawn = box_of_file n chart f }
 
--- all files with at least the least number
+-- the boxes of all files whose number is at least the least that is drawn
 abbrev pub large_files : ℕ → Number → ℕ → List ShownRowModel → List FileLineModel → List FileBoxModel
 large_files n by least chart fs = map (file_box n chart) (filter (is_large by least) fs)
 
--- the boxes of those that are right in a directory
+-- the boxes of the files that are right in this directory
 abbrev pub files_in : List ℕ → List FileBoxModel → List BoxModel
 files_in directory fs = map (λ (f : FileBoxModel). f.drawn) (filter (λ (f : FileBoxModel). bytes_eq directory f.parent) fs)
 
--- directories that come depth first, each with its files right after it
+-- the boxes of directories, depth first, each with the boxes of the files right in its directory after it
 abbrev pub with_files : List FileBoxModel → List BoxModel → List BoxModel
 with_files fs [] = []
 with_files fs (b ∷ bs) = b ∷ (files_in b.path fs ++ with_files fs bs)

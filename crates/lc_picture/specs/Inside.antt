@@ -1,4 +1,4 @@
--- That a box opens inside the box of the directory that holds it.
+-- The law that a box opens inside the box of the directory that holds it.
 use Rattle.std.specs.Prelude.{◌≡◌, ℕ, if◌then◌else◌, List, [], ◌∷◌, ◌++◌, drop, length, ⊤}
 use Rattle.lc_text.specs.Visible.{visible_path}
 use Rattle.lc_picture.specs.declared.scale.Scale.{Scale}
@@ -6,8 +6,8 @@ use Rattle.lc_picture.specs.Boxes.{BoxModel, boxes_in}
 use Rattle.lc_picture.specs.Laws.{ends_box}
 use Rattle.lc_picture.specs.Pieces.{Piece, count, markup, name, percent, share, title, word}
 
--- a reader of a page, by the names of the boxes that are open, the innermost first. A name opens a box; it is read with the names around
--- it. A closing tag ends the innermost box
+-- the boxes that a reader of a page finds, each as its name and the names of the boxes around it, the innermost first. A name opens a box,
+-- and a closing tag ends the innermost box. `around` has the names of the boxes that are open
 abbrev pub boxes_read : List (List ℕ) → List Piece → List (List (List ℕ))
 boxes_read around [] = []
 boxes_read around (markup t ∷ ps) = boxes_read (if ends_box (markup t) then drop 1 around else around) ps
@@ -18,15 +18,15 @@ boxes_read around (percent part whole ∷ ps) = boxes_read around ps
 boxes_read around (title t ∷ ps) = boxes_read around ps
 boxes_read around (name t ∷ ps) = (t ∷ around) ∷ boxes_read (t ∷ around) ps
 
--- directories, each as its name and those of the directories above it. They come depth first: each is right in the one before it or in
--- one above that
+-- directories, each as its name and those of the directories above it, come depth first: each is right in the one before it, or in one
+-- above that. `before` is the one before them
 abbrev pub ComeDepthFirst : List (List ℕ) → List (List (List ℕ)) → Type 0
 ComeDepthFirst before [] = ⊤
 ComeDepthFirst before ([] ∷ ds) = ⊥
 ComeDepthFirst before ((own ∷ above) ∷ ds) =
     ((left : List (List ℕ)) × (before ≡ left ++ above)) × ComeDepthFirst (own ∷ above) ds
 
--- boxes of such directories: each has the name of its directory, as a page shows it, and the depth
+-- these are boxes of these directories: each has the name of its directory, as a page shows it, and its depth
 abbrev pub AreBoxesAt : List BoxModel → List (List (List ℕ)) → Type 0
 AreBoxesAt [] [] = ⊤
 AreBoxesAt [] (d ∷ ds) = ⊥
@@ -35,7 +35,7 @@ AreBoxesAt (b ∷ bs) ([] ∷ ds) = ⊥
 AreBoxesAt (b ∷ bs) ((own ∷ above) ∷ ds) =
     ((visible_path b.own_name ≡ own) × (b.depth ≡ length above)) × AreBoxesAt bs ds
 
--- then a reader finds each directory, inside those above it
+-- a reader of boxes that come depth first finds each directory, inside those above it
 abbrev pub InsideLaw : Type 0
 InsideLaw =
     (scale : Scale) (bs : List BoxModel) (ds : List (List (List ℕ))) → ComeDepthFirst [] ds → AreBoxesAt bs ds

@@ -1,4 +1,4 @@
--- What is true of pages.
+-- The statements of the laws about pages.
 use Rattle.std.specs.Prelude.{◌≡◌, ◌+◌, ◌*◌, ◌-◌, ℕ, nat_eq, Bool, true, false, if◌then◌else◌, List, [], ◌∷◌, ◌++◌, map, flat_map, codes}
 use Rattle.std.specs.Prelude.{◌==◌, ◌<◌, bytes_eq, length, nat_le, nat_lt, take, Option, Some, None}
 use Rattle.std.specs.List.{Contains, filter, list_any, slice_index_or}
@@ -41,7 +41,7 @@ is_tag_byte b = list_any (λ m. nat_eq m b) (codes "<>\"'")
 abbrev pub TagLaw : Type 0
 TagLaw = (text : List ℕ) → list_any is_tag_byte (html text) ≡ false
 
--- a text whose references of two digits are read
+-- a text with its character references of two digits replaced by their bytes
 abbrev pub unescaped : List ℕ → List ℕ
 unescaped [] = []
 unescaped (b ∷ []) = b ∷ []
@@ -51,11 +51,11 @@ unescaped (b ∷ c ∷ d ∷ e ∷ []) = b ∷ c ∷ d ∷ e ∷ []
 unescaped (b ∷ c ∷ d ∷ e ∷ f ∷ fs) =
     if nat_eq 38 b then (10 * (d - 48) + (e - 48)) ∷ unescaped fs else b ∷ unescaped (c ∷ d ∷ e ∷ f ∷ fs)
 
--- a name reads back
+-- a name reads back: escaped, and with its references replaced, it is the same
 abbrev pub UnescapedLaw : Type 0
 UnescapedLaw = (text : List ℕ) → unescaped (html text) ≡ text
 
--- what a page shows between its tags, besides fixed text
+-- whether a page shows a piece to its reader that is neither fixed text nor a number in a tag
 abbrev pub is_shown : Piece → Bool
 is_shown (markup t) = false
 is_shown (share n) = false
@@ -65,17 +65,17 @@ is_shown (percent part whole) = true
 is_shown (title t) = true
 is_shown (name t) = true
 
--- sums, in the order of their words
+-- the pieces that sums show in a title, in the order of their words
 abbrev pub counts : Sums → List Piece
 counts s = count s.lines ∷ count s.files ∷ count s.blank ∷ count s.bytes ∷ []
 
--- what was counted, in the title and on the page, and the numbers of the totals
+-- what the head of a page shows: what was counted, in the title and on the page, and the numbers of the totals
 abbrev pub shown_of_head : List ℕ → SectionModel → List Piece
 shown_of_head counted totals =
     title (visible_path counted) ∷ name (visible_path counted) ∷ count (first_number Files totals) ∷ count (first_number Lines totals)
     ∷ count (first_number Blank totals) ∷ count (first_number Bytes totals) ∷ []
 
--- what could not be read: how many there are, the first of them, and how many more
+-- what the list of errors shows: how many there are, the path and the word of each of the first, and how many more
 abbrev pub shown_of_fault : FaultLineModel → List Piece
 shown_of_fault f = name (visible_path f.path) ∷ name (fault_word f.word) ∷ []
 
@@ -87,7 +87,7 @@ shown_of_faults [] = []
 shown_of_faults (f ∷ fs) =
     count (length (f ∷ fs)) ∷ (flat_map shown_of_fault (take faults_listed (f ∷ fs)) ++ shown_of_more faults_listed (length (f ∷ fs)))
 
--- the text of a value, or its number. Bars are numbers in tags
+-- what the cell of a value shows: its text, or its number. Bars are numbers in tags, which are not shown
 abbrev pub shown_of_value : ValueModel → List Piece
 shown_of_value value.missing = name (codes "-") ∷ []
 shown_of_value value.summed = []
@@ -103,20 +103,20 @@ shown_of_value (value.difference old new) = []
 abbrev pub shown_of_line : List ValueModel → List Piece
 shown_of_line values = flat_map shown_of_value values
 
--- the share of the number that a picture is drawn by
+-- the share of sums in the total over all files, by the number that a picture draws
 abbrev pub share_in : Scale → Sums → Piece
 share_in scale s = percent (number_in scale.by s) scale.whole
 
--- how many the small directories right in one are, their number and its share, where there are some
+-- what the box of small directories shows, if there are some: how many they are, their number, and its share
 abbrev pub shown_of_small : Scale → SmallDirectories → List Piece
 shown_of_small scale s = if nat_le 1 s.count then count s.count ∷ count s.number ∷ percent s.number scale.whole ∷ [] else []
 
--- of what is right in a directory and in no box of its own the small directories, and the number of the other files
+-- what a directory's box shows for what is right in it and in no box of its own: the small directories, and the number of the other files
 abbrev pub shown_of_space : Scale → BoxModel → ℕ → List Piece
 shown_of_space scale b left = if b.is_file then [] else shown_of_small scale b.small ++ count left ∷ []
 
--- the path of a directory or a file, its sums and its share; and its name, with the number that is drawn and the share once more;
--- and of a directory what is right in it and in no box of its own
+-- what a box shows: the path, the sums and the share; the name, with the number that is drawn and the share once more; and for a directory
+-- what is right in it and in no box of its own
 abbrev pub shown_of_box : Scale → BoxModel → ℕ → List Piece
 shown_of_box scale b left =
     title (visible_path b.path) ∷ (counts b.sums ++ share_in scale b.sums ∷ name (visible_path b.own_name)
@@ -127,9 +127,8 @@ shown_of_boxes scale [] = []
 shown_of_boxes scale (b ∷ bs) =
     shown_of_box scale b (others_in scale.by b bs) ++ shown_of_boxes scale bs
 
--- a page shows what was counted, the numbers of all files, what could not be read, the names and the numbers of the rows of its sheet and
--- of the sums over the others, and the directories and the files that are drawn with their sums and shares: each once, in turn, and
--- nothing else
+-- a page shows what was counted, the sums over all files, what could not be read, the names and the numbers of its sheet's rows and of the
+-- sums over the others, and the drawn directories and files with their sums and shares: each once, in turn, and nothing else
 abbrev pub ShownLaw : Type 0
 ShownLaw =
     (counted : List ℕ) (scale : Scale) (faults : List FaultLineModel) (s : SheetModel) (boxes : List BoxModel)
@@ -138,20 +137,20 @@ ShownLaw =
     ++ (shown_of_faults faults ++ ((flat_map shown_of_line s.rows.lines ++ flat_map shown_of_line s.others.lines)
     ++ shown_of_boxes scale boxes))
 
--- a dot and the bytes, as a terminal shows them, or `-` for none
+-- the text for an extension: a dot and its bytes, as a terminal shows them, or `-` for none
 abbrev pub visible_extension : Option (List ℕ) → List ℕ
 visible_extension None = codes "-"
 visible_extension (Some e) = codes "." ++ visible_bytes e
 
--- sums, in the order of columns
+-- the pieces that sums show in a line of the chart, in the order of columns
 abbrev pub cell_counts : Sums → List Piece
 cell_counts s = count s.files ∷ count s.lines ∷ count s.blank ∷ count s.bytes ∷ []
 
--- the sums of a row and its share
+-- what the cells of a row show after its name: its sums and its share
 abbrev pub row_counts : Scale → Sums → List Piece
 row_counts scale s = cell_counts s ++ share_in scale s ∷ []
 
--- the extension, the sums and the share of a row
+-- what a row of the chart shows: the extension, the sums and the share
 abbrev pub shown_of_row : Scale → ShownRowModel → List Piece
 shown_of_row scale r = name (visible_extension r.key.extension) ∷ row_counts scale r.sums
 
@@ -159,8 +158,8 @@ abbrev pub shown_of_others : Scale → Option Sums → List Piece
 shown_of_others scale None = []
 shown_of_others scale (Some s) = name (codes "others") ∷ row_counts scale s
 
--- so the page of a report shows what was counted, the sums over all files, each extension of the chart with its sums and its
--- share, and the sums over the others
+-- the page of a report shows what was counted, the sums over all files, each extension of the chart with its sums and its share, the sums
+-- over the other extensions, and the boxes
 abbrev pub ReportLaw : Type 0
 ReportLaw =
     (counted : List ℕ) (by : Number) (r : Report) (v : ViewModel) (boxes : List BoxModel)
@@ -170,7 +169,7 @@ ReportLaw =
     ++ ((flat_map (shown_of_row (scale_of by r.totals)) v.rows ++ shown_of_others (scale_of by r.totals) v.others)
     ++ shown_of_boxes (scale_of by r.totals) boxes))
 
--- each row of the chart has the colour of its extension, by which the directories are coloured too
+-- each row of the chart has the colour of its extension, which is also that of boxes
 abbrev pub ColoursLaw : Type 0
 ColoursLaw =
     (by : Number) (rs : List TallyRowModel) (fs : List FileLineModel) (extensions : List ShownRowModel) (place : ℕ) (d : ShownRowModel)
@@ -181,7 +180,7 @@ abbrev pub without_colour : BoxModel → BoxModel
 without_colour b =
     record { path = b.path; own_name = b.own_name; depth = b.depth; colour = 0; sums = b.sums; small = no_directories; is_file = b.is_file }
 
--- whatever the colours and the small directories, the directories that are drawn are those with at least the least number, each once
+-- the directories that are drawn are those with at least the least number, each once, whatever the colours and the small directories are
 abbrev pub DrawnLaw : Type 0
 DrawnLaw =
     (by : Number) (least : ℕ) (chart kinds tree : List ShownRowModel)
@@ -210,13 +209,14 @@ nameless (name t) = name []
 abbrev pub outline : BoxModel → BoxModel
 outline b = record { path = []; own_name = []; depth = b.depth; colour = b.colour; sums = b.sums; small = b.small; is_file = b.is_file }
 
--- but for the names, the boxes depend on depths, colours, numbers and which of them are files alone: no name adds a tag, or takes one away
+-- apart from the names, the boxes depend on depths, colours, numbers and which of them are files alone: no name adds a tag, or takes one
+-- away
 abbrev pub OutlineLaw : Type 0
 OutlineLaw =
     (scale : Scale) (bs cs : List BoxModel) → map outline bs ≡ map outline cs
     → map nameless (boxes_in scale 0 bs) ≡ map nameless (boxes_in scale 0 cs)
 
--- whether a piece begins a box, and whether it ends one
+-- whether a piece begins a box, and for `ends_box` whether a piece ends a box
 abbrev pub begins_box : Piece → Bool
 begins_box (markup t) = bytes_eq t (codes "<details class=\"e")
 begins_box (share n) = false
@@ -235,7 +235,7 @@ ends_box (percent part whole) = false
 ends_box (title t) = false
 ends_box (name t) = false
 
--- how many boxes are open behind some pieces, if so many are before them; none, if a box is closed where none is open
+-- how many boxes are open after some pieces, if `n` are open before them; none, if a box is closed where none is open
 abbrev pub open_after : ℕ → List Piece → Option ℕ
 open_after n [] = Some n
 open_after n (p ∷ ps) =

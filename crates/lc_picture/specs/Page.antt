@@ -52,17 +52,17 @@ abbrev pub page_pieces : List ℕ → Scale → List FaultLineModel → SheetMod
 page_pieces counted scale faults s boxes =
     head_part counted scale.by s.totals ++ (faults_part faults ++ (chart_part s ++ tree_part scale boxes))
 
--- what a page is drawn by, of the sums over all files
+-- the number that a page draws, with its sum over all files
 abbrev pub scale_of : Number → Sums → Scale
 scale_of by totals = record { by = by; whole = number_in by totals }
 
 -- ---- the page of a report
 
--- rows by extension alone
+-- the columns of the chart's rows: the extension alone
 abbrev pub chart_columns : Columns
 chart_columns = record { dir = None; ext = true; text = false; eol = false }
 
--- how many extensions have rows of their own
+-- the greatest number of extensions that have rows of their own in the chart
 abbrev pub chart_rows : ℕ
 chart_rows = 20
 
@@ -77,27 +77,27 @@ chart_options by = record {
   share = true;
 }
 
--- rows by directory alone
+-- the columns of the rows from which boxes of directories are made: the directory alone
 abbrev pub tree_columns : Columns
 tree_columns = record { dir = Some 1; ext = false; text = false; eol = false }
 
--- rows by directory and extension
+-- the columns of the rows that decide the colours of boxes: the directory and the extension
 abbrev pub kind_columns : Columns
 kind_columns = record { dir = Some 1; ext = true; text = false; eol = false }
 
--- the number that a picture is drawn by: lines, if none is asked for
+-- the number that a picture draws: the number that is requested, or else lines
 abbrev pub drawn_number : Option Number → Number
 drawn_number sort = unwrap_or sort Lines
 
--- what a chart shows of rows by extension
+-- the rows of a chart, and the sums over the others, of all rows by extension
 abbrev pub chart_view : List ShownRowModel → ViewModel
 chart_view extensions = view_of (Some chart_rows) extensions []
 
--- the number of names after which directories are cut, so that a browser, which nests at most 512 elements, nests all boxes
+-- the number of names after which the paths of directories are cut. So a browser, which nests at most 512 elements, nests all boxes
 abbrev pub tree_depth : ℕ
 tree_depth = 250
 
--- the boxes of the directories and of the files that are drawn, with their colours, the largest first
+-- these are the boxes of the directories and the files that are drawn, with their colours, the largest first
 pub record AreBoxesOf (by : Number) (totals : Sums) (files : List FileLineModel) (chart : List ShownRowModel) (boxes : List BoxModel)
     : Type 0 where
   pub tree : List ShownRowModel
@@ -109,8 +109,8 @@ pub record AreBoxesOf (by : Number) (totals : Sums) (files : List FileLineModel)
       (with_files (large_files tree_depth by (least_drawn (number_in by totals)) chart files)
       (drawn_boxes by (least_drawn (number_in by totals)) chart kinds tree)) boxes
 
--- a text is the page of a report of what was counted, drawn by a number: of the sheet of its extensions, sorted, and of its files and
--- their directories
+-- a text is the page of a report of what was counted, where this number is drawn. It is made from the sheet of the report's extensions,
+-- sorted, and from the boxes of its files and their directories
 pub record IsPageOf (counted : List ℕ) (by : Number) (r : Report) (text : List ℕ) : Type 0 where
   pub extensions : List ShownRowModel
   pub are_extensions : AreShown chart_columns (Some by) r.rows.items r.files.items extensions

@@ -14,8 +14,8 @@ number_word Lines = codes "lines"
 number_word Blank = codes "blank lines"
 number_word Bytes = codes "bytes"
 
--- fixed text with its tags, the word for a number, a number in a tag, a number that the page shows, the share that a part is of a whole, a
--- path in a title, or a name, both as terminals show them
+-- a piece of a page: fixed text with its tags, the word for a number, a number in a tag, a number that the page shows, the share that a
+-- part is of a whole, a path in a title, or a name. The last two are as terminals show them
 pub data Piece : Type 0 where
   markup : List ℕ → Piece
   word : Number → Piece
@@ -37,17 +37,17 @@ piece_text (name t) = html t
 abbrev pub text_of : List Piece → List ℕ
 text_of ps = flat_map piece_text ps
 
--- numbers, each with its word
+-- four numbers, each after its word
 abbrev pub numbers : ℕ → ℕ → ℕ → ℕ → List Piece
 numbers lines files blank bytes =
     markup (codes "lines ") ∷ count lines ∷ markup (codes ", files ") ∷ count files ∷ markup (codes ", blank ") ∷ count blank
     ∷ markup (codes ", bytes ") ∷ count bytes ∷ []
 
--- sums in words
+-- sums over files, each after its word
 abbrev pub sums_pieces : Sums → List Piece
 sums_pieces s = numbers s.lines s.files s.blank s.bytes
 
--- the share that a number is of the whole
+-- the share that a number has in the sum over all files
 abbrev pub share_pieces : Scale → ℕ → List Piece
 share_pieces scale n =
     markup (codes ", ") ∷ percent n scale.whole ∷ markup (codes " of all ") ∷ word scale.by ∷ []

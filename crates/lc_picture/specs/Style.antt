@@ -1,8 +1,8 @@
--- The fixed parts of a page.
+-- The parts of a page that are the same for every report.
 use Rattle.std.specs.Prelude.{ℕ, List, ◌++◌, codes}
 
--- how the parts of a page look: a box beside its parent, space by shares, and a label whole or not there. A text that does not fit under
--- those before it goes into a next column, which is out of sight
+-- the style of a page's parts: a box is next to its parent, space is divided by shares, and a label that does not fit is hidden. A text
+-- that does not fit under those before it goes into a next column, which is out of sight
 unfoldable pub style : List ℕ
 style =
     codes ":root{color-scheme:light dark}\n"
@@ -52,10 +52,10 @@ page_begin =
     codes "<!DOCTYPE html>\n<html lang=\"en\">\n<head>\n<meta charset=\"utf-8\">\n"
     ++ codes "<meta name=\"viewport\" content=\"width=device-width\">\n<title>"
 
--- what is between the title and the style
+-- the part of a page between its title and its style
 abbrev pub style_begin : List ℕ
 style_begin = codes " by directory</title>\n<style>\n"
 
--- and between the style and the name of what was counted
+-- the part of a page between its style and the name of what was counted
 abbrev pub body_begin : List ℕ
 body_begin = codes "</style>\n</head>\n<body>\n<h1>"
