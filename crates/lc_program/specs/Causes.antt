@@ -1,4 +1,4 @@
--- Why the program gives up, and the line that says so.
+-- Why the program stops with an error, and the line that it then writes to standard error.
 use Rattle.std.specs.Prelude.{ℕ, List, ◌++◌, Option, codes, decimal, string_bytes}
 use Rattle.lc_text.specs.Visible.{visible_bytes}
 use Rattle.lc_walk.specs.declared.walk_fault.WalkFault.{WalkFault}
@@ -18,7 +18,7 @@ use Rattle.lc_reports.specs.declared.join_fault.JoinFault.{JoinFault}
 use Rattle.lc_reports.specs.declared.join_fault.JoinFault.TheVariants as join
 use Rattle.lc_program.specs.declared.unread_reason.UnreadReason.{UnreadReason}
 
--- the list of paths could not be read, for this reason
+-- the line that says that the list of paths could not be read, and why if the system gives a reason
 abbrev pub unread_paths_line : Option UnreadReason → List ℕ
 unread_paths_line why = codes "lc: cannot read paths" ++ reason_given why ++ codes "\n"
 
@@ -42,27 +42,27 @@ cause_line UnreadInput = codes "lc: cannot read input\n"
 cause_line InputTooLong = codes "lc: input too long\n"
 cause_line Unwritten = codes "lc: cannot write\n"
 
--- its line has a number
+-- the line of the cause has a number, so making it allocates memory
 abbrev pub HasNumber : Cause → Type 0
 HasNumber (Torn _) = Unit {0}
 HasNumber (Mismatch _) = Unit {0}
 HasNumber _ = ⊥
 
--- a file that gave no rules
+-- the cause if a file gave no rules
 abbrev pub rules_cause : RulesFileFault → Cause
 rules_cause rules.Read = UnreadRules
 rules_cause rules.TooLong = RulesTooLong
 rules_cause rules.Memory = Memory
 
--- the list of this name has a path that no entry can have
+-- the line that says that the list with this name has a path that no entry can have
 abbrev pub bad_path_line : List ℕ → List ℕ → List ℕ
 bad_path_line name path = codes "lc: bad path in " ++ visible_bytes name ++ codes ": " ++ visible_bytes path ++ codes "\n"
 
--- it has no path
+-- the line that says that the list with this name has no path
 abbrev pub no_path_line : List ℕ → List ℕ
 no_path_line name = codes "lc: no path in " ++ visible_bytes name ++ codes "\n"
 
--- a check of an input, or its explanation, that stopped
+-- the cause if a check of paths stopped, explained or not
 abbrev pub check_cause : CheckFault → Cause
 check_cause check.Read = UnreadInput
 check_cause check.InputTooLong = InputTooLong
@@ -70,7 +70,7 @@ check_cause check.RulesTooLong = RulesTooLong
 check_cause check.Memory = Memory
 check_cause check.Write = Unwritten
 
--- a walk that gave no report
+-- the cause if a walk gave no report
 abbrev pub walk_cause : WalkFault → Cause
 walk_cause walk.Memory = Memory
 walk_cause walk.TooManyDirs = TooManyDirs
@@ -78,12 +78,12 @@ walk_cause walk.TooDeep = TooDeep
 walk_cause (walk.Torn n) = Torn n
 walk_cause (walk.Mismatch w) = Mismatch w
 
--- reports that have no sum
+-- the cause if reports have no sum
 abbrev pub join_cause : JoinFault → Cause
 join_cause join.Memory = Memory
 join_cause join.TooLarge = SumsTooLarge
 
--- a text that was not written, or not whole
+-- the cause if a text was not written, or not whole
 abbrev pub print_cause : PrintFault → Cause
 print_cause print.Memory = Memory
 print_cause print.Write = Unwritten

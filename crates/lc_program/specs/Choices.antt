@@ -1,4 +1,4 @@
--- Options that choose files of a directory.
+-- Options that choose files of a directory, which a comparison of reports refuses.
 use Rattle.std.specs.Prelude.{◌≡◌, ◌⊎◌, ℕ, true, false, not, if◌then◌else◌, List, ◌++◌, Option, Some, None, is_some, Result, Ok, Err, codes}
 use Rattle.lc_glob.specs.Lists.{is_empty}
 use Rattle.lc_arguments.specs.declared.walk_request.WalkRequest.{WalkRequest}
@@ -9,15 +9,15 @@ use Rattle.lc_program.specs.declared.cause.Cause.TheVariants.{Memory}
 use Rattle.lc_program.specs.declared.unread_reason.UnreadReason.{UnreadReason}
 use Rattle.lc_text.specs.Visible.{visible_bytes}
 
--- both sides are reports
+-- the words that say that both sides are reports
 abbrev pub are_reports : List ℕ → List ℕ → List ℕ
 are_reports old new = visible_bytes (origin_of old) ++ codes " and " ++ visible_bytes (origin_of new) ++ codes " are reports\n"
 
--- what is told of an option that chooses files, where both sides are reports
+-- the line about an option that chooses files, where both sides of a comparison are reports
 abbrev pub choice_line : List ℕ → List ℕ → List ℕ → List ℕ
 choice_line option old new = codes "lc: " ++ option ++ codes " chooses files of a directory, and " ++ are_reports old new
 
--- the first option of the words that chooses files
+-- the first option of the command line that chooses files
 abbrev pub first_choice : WalkRequest → Option (List ℕ)
 first_choice w =
     if is_some w.filters.exclude_from then Some (codes "--exclude-from")
@@ -31,7 +31,8 @@ first_choice w =
     else if w.one_file_system then Some (codes "--one-file-system")
     else None
 
--- there is no such option, or some side is a directory; or there is one, and both sides are reports; or memory is refused
+-- how options that choose files are accepted or refused. Accepted: there is no such option, or a side is a directory. Refused: there is
+-- one, and both sides are reports; or memory is refused
 abbrev pub AnswersChoices : (List ℕ → Option UnreadReason → Type 0) → WalkRequest → List ℕ → List ℕ → Result (Unit {0}) Cause → Type 0
 AnswersChoices may_unlist w old new (Ok _) = (first_choice w ≡ None) ⊎ (IsSide may_unlist old true ⊎ IsSide may_unlist new true)
 AnswersChoices may_unlist w old new (Err cause) =

@@ -10,20 +10,20 @@ use Rattle.lc_text.specs.Visible.{visible_bytes}
 abbrev pub is_typed : List ℕ → Bool
 is_typed path = not (is_empty path) && not (starts_with nat_eq path (codes "-")) && bytes_eq (visible_bytes path) path
 
--- one path of a count
+-- the option `--only` with a path, as a command has it
 abbrev pub only_of : List ℕ → List ℕ
 only_of path = codes "--only " ++ quoted path ++ codes " "
 
--- the count of some paths of a directory, by the rules of all of the directory
+-- the command that counts some paths of a directory, by the rules of all of the directory
 abbrev pub count_of : List (List ℕ) → List ℕ → List ℕ
 count_of paths directory = codes "lc count " ++ flat_map only_of paths ++ quoted directory
 
--- the directory that a program runs in is a dot
+-- the path of a directory, or a dot if it is empty, for the directory that the program runs in
 abbrev pub or_here : List ℕ → List ℕ
 or_here [] = codes "."
 or_here (b ∷ bs) = b ∷ bs
 
--- the count of a file with this name in this directory, where it can be typed
+-- the words that show how to count the file with this name in this directory; none if the command can't be typed as it is shown
 abbrev pub count_of_file : List ℕ → List ℕ → List ℕ
 count_of_file name directory =
     cond (is_typed name && is_typed directory) (codes ": " ++ count_of (name ∷ []) directory ++ codes " counts one file") []
@@ -32,6 +32,6 @@ abbrev pub file_count_in : Option (List ℕ) → Option (List ℕ) → List ℕ
 file_count_in (Some name) (Some directory) = count_of_file name (or_here directory)
 file_count_in name directory = []
 
--- the count of the file at a path
+-- the words that show how to count the file at a path
 abbrev pub file_count : List ℕ → List ℕ
 file_count path = file_count_in (path_file_name path) (path_parent path)

@@ -29,7 +29,7 @@ use Rattle.lc_program.specs.WalkRequests.{AnswersPathsOf, IsAskedBy, entered_by}
 use Rattle.lc_program.specs.declared.cause.Cause.{Cause}
 use Rattle.lc_program.specs.declared.cause.Cause.TheVariants.{Memory}
 
--- the names of the directories
+-- the names of the directories that a count has as arguments
 abbrev pub names_of : CountRequest → List (List ℕ)
 names_of c = map (λ directory. directory.now) c.directories.items
 
@@ -37,7 +37,7 @@ names_of c = map (λ directory. directory.now) c.directories.items
 abbrev pub after_spaces : List (List ℕ) → List ℕ
 after_spaces names = flat_map (λ name. 32 ∷ name) names
 
--- names as one text, with a space between two
+-- names as one text, with a space between each two
 abbrev pub one_text : List (List ℕ) → List ℕ
 one_text [] = []
 one_text (name ∷ names) = name ++ after_spaces names
@@ -45,7 +45,8 @@ one_text (name ∷ names) = name ++ after_spaces names
 abbrev pub counted_in : CountRequest → List ℕ
 counted_in c = one_text (names_of c)
 
--- the lists that a count asks for: of the files also where they are needed
+-- the lists that the report of a count must have: of skipped entries if requested, and of files also where rows, pictures or conditions
+-- need it
 abbrev pub lists_of : CountRequest → ReportLists
 lists_of c = record {
   files = c.table.files || is_some (unwrap_or c.table.by all_columns).dir || is_picture c.table.format || needs_files c.conditions.items;
@@ -53,17 +54,17 @@ lists_of c = record {
 }
 
 module _ (may : SystemMay) {O : Type 0} (may_take : O → List ℕ → Result ℕ Failed → O → Type 0) (other : Format) (c : CountRequest) where
-  -- what a walk by these options of the directory with this name may answer
+  -- what a walk of the directory with this name may answer, by these options
   abbrev pub MayWalk : Options → List ℕ → Result Report WalkFault → Type 0
   MayWalk o directory = Walks (may.list directory (entered_by c.walk)) (may.give directory (entered_by c.walk)) o
 
-  -- the table of these conditions, with the format if the words name none
+  -- what a call answers that writes the table of what meets the conditions, in this format if the command line names none
   abbrev pub AnswersTableOf : Report → Report → O → Result (Unit {0}) PrintFault → O → Type 0
   AnswersTableOf r left out answer wrote =
       AnswersTable may_take (counted_in c) c.conditions.items (options_in other all_columns c.table) r left out answer wrote
 
-  -- the table of what is found in the directories was written whole, and this is left of it; or nothing was found, and nothing was written;
-  -- or the table was not written, or not whole
+  -- how the table of a count is printed. Either the table of the report of the directories was written whole, and `left` is what remains of
+  -- the report; or there is no report, and nothing was written; or the table was not written, or not whole
   abbrev pub Prints : Options → O → Result Report Cause → O → Type 0
   Prints o out (Ok left) wrote = (r : Report) × Finds (MayWalk o) (names_of c) r × AnswersTableOf r left out (Ok tt) wrote
   Prints o out (Err cause) wrote =
@@ -73,7 +74,8 @@ module _ (may : SystemMay) {O : Type 0} (may_take : O → List ℕ → Result �
 
 module _ (may : SystemMay) {I O : Type 0} (may_give : I → ℕ → Answer → I → Type 0)
     (may_take : O → List ℕ → Result ℕ Failed → O → Type 0) (other : Format) (c : CountRequest) where
-  -- what they have is printed, by what the words ask
+  -- the rules and the paths of the command line were read, the directories were counted by them, and the result was printed or gives this
+  -- reply
   abbrev pub Runs : I → O → Reply → I → O → Type 0
   Runs input out reply read wrote =
       (text : Option (List ℕ)) × Excludes may.hold c.walk.filters.exclude_from text
@@ -82,15 +84,16 @@ module _ (may : SystemMay) {I O : Type 0} (may_give : I → ℕ → Answer → I
       × ((answer : Result Report Cause) × IsRunReply (attributes_of c.walk.filters.without.items) answer reply
       × Prints may may_take other c o out answer wrote)))
 
-  -- such a count; or there were no rules or no memory, and nothing was read; or there were no paths; then nothing was written
+  -- how a count of directories is answered of which none lies in another: the count was made; or there were no rules or no memory, and
+  -- nothing was read; or there were no paths. In the last two cases nothing was written
   abbrev pub AnswersApart : I → O → Reply → I → O → Type 0
   AnswersApart input out reply read wrote =
       Runs input out reply read wrote
       ⊎ ((cause : Cause) × (reply ≡ Err cause) × (wrote ≡ out)
       × (((LacksRules may.hold c.walk.filters cause ⊎ (cause ≡ Memory)) × (read ≡ input)) ⊎ AnswersPathsOf may may_give c.walk input (Err cause) read))
 
-  -- no directory is another or lies in another, and they are counted; or one is or does, or there was no memory to see, and nothing was
-  -- read or written
+  -- how a count is answered. Either no directory is the same as another or lies in another, and they are counted; or one is or does, or
+  -- memory was refused, and nothing was read or written
   abbrev pub AnswersCount : I → O → Reply → I → O → Type 0
   AnswersCount input out reply read wrote =
       (AreApart may.stand (names_of c) × AnswersApart input out reply read wrote)

@@ -45,15 +45,16 @@ use Rattle.lc_walk.specs.declared.report.Report.{Report}
 
 -- ---- what is asked
 
--- rows are by extension if the words name no columns
+-- the columns of a comparison's rows: the extension alone if the command line names no columns
 abbrev pub compared_columns : TableRequest → Columns
 compared_columns s = unwrap_or s.by (record { dir = None; ext = true; text = false; eol = false })
 
--- the order that the words name, or else that of the largest changes of lines in a format for reading
+-- the order of a comparison's rows: the one that the command line names, or else the largest changes of lines first if the format is for
+-- reading, and by name otherwise
 abbrev pub change_order : Format → TableRequest → Order
 change_order format s = unwrap_or s.sort (cond (is_for_reading format) (Largest Lines) Name)
 
--- the options of the comparison, with this format if nothing names another
+-- the options of a comparison, with this format if the command line names none
 abbrev pub change_options : Format → DiffRequest → ChangeOptions
 change_options other d = record {
   format = format_in other d.table;
@@ -64,17 +65,17 @@ change_options other d = record {
   all = d.all;
 }
 
--- what is needed of each side
+-- the columns and lists that the report of each side must have
 abbrev pub compared_needs : DiffRequest → Needs
 compared_needs d = needs_of (Some (compared_columns d.table)) d.conditions.items d.table.files false
 
--- the lists of a side that is counted
+-- the lists that the report of a side must have that is counted
 abbrev pub compared_lists : DiffRequest → ReportLists
 compared_lists d = record { files = (compared_needs d).files; left_out = false }
 
 -- ---- what is printed
 
--- the text of a comparison in a format; a picture shows no differences, and would be a table
+-- a text is that of a comparison in a format. HTML has no picture of changes, and would be the table
 abbrev pub IsTextOfChanges : Format → ComparisonModel → List ℕ → Type 0
 IsTextOfChanges Tsv s text = text ≡ tsv_of_changes s
 IsTextOfChanges Table s text = text ≡ table_of_changes s
@@ -83,7 +84,7 @@ IsTextOfChanges Csv s text = text ≡ csv_of_changes s
 IsTextOfChanges Markdown s text = text ≡ markdown_of_changes s
 IsTextOfChanges Html s text = text ≡ table_of_changes s
 
--- a text of the changes from one report to another, and whether there are some
+-- a text is that of the changes from one report to another, and `differ` is whether there are changes
 pub record IsChangesText (options : ChangeOptions) (old new : Report) (text : List ℕ) (differ : Bool) : Type 0 where
   pub changes : ChangesModel
   pub are_changes : AreChangesOf options old new changes
@@ -91,7 +92,8 @@ pub record IsChangesText (options : ChangeOptions) (old new : Report) (text : Li
   pub is_differ : differ ≡ changes.some_differ
 
 module _ {O : Type 0} (may_take : O → List ℕ → Result ℕ Failed → O → Type 0) where
-  -- the changes were printed whole; or a write stopped it; or nothing was written
+  -- how the changes between two reports are printed: they were written whole; or a write failed; or memory was refused, and nothing was
+  -- written
   abbrev pub AnswersChanges : ChangeOptions → Report → Report → O → Result Bool PrintFault → O → Type 0
   AnswersChanges options old new out (Ok differ) wrote =
       (text : List ℕ) × IsChangesText options old new text differ × Writes may_take out text wrote
@@ -99,7 +101,8 @@ module _ {O : Type 0} (may_take : O → List ℕ → Result ℕ Failed → O →
       (text : List ℕ) × (differ : Bool) × IsChangesText options old new text differ × StopsWriting may_take out text wrote
   AnswersChanges options old new out (Err print.Memory) wrote = wrote ≡ out
 
-  -- what meets the conditions in two reports was compared, and printed; or it was not printed, or not whole; or there was no memory
+  -- how the changes between what two reports have that meets the conditions are printed: they were written whole; or not, or not whole; or
+  -- memory was refused
   abbrev pub PrintsChanges : Format → DiffRequest → Report → Report → O → Result Comparison Cause → O → Type 0
   PrintsChanges other d old new out (Ok c) wrote =
       IsKept d.conditions.items old c.old × IsKept d.conditions.items new c.new
@@ -109,7 +112,7 @@ module _ {O : Type 0} (may_take : O → List ℕ → Result ℕ Failed → O →
       ⊎ ((a b : Report) × (fault : PrintFault) × IsKept d.conditions.items old a × IsKept d.conditions.items new b
       × (cause ≡ print_cause fault) × AnswersChanges (change_options other d) a b out (Err fault) wrote)
 
--- a comparison is replied with what was compared and lines about some of these attributes
+-- the reply to a comparison: what was compared, and lines about some of these attributes
 abbrev pub IsCompareReply : List (List ℕ) → Result Comparison Cause → Reply → Type 0
 IsCompareReply attributes (Ok c) reply =
     (unnamed : String Global) × AreUnnamedLines attributes (string_bytes unnamed) × (reply ≡ Ok (Compared c unnamed))
@@ -117,7 +120,7 @@ IsCompareReply attributes (Err cause) reply = reply ≡ Err cause
 
 module _ (may : SystemMay) {I O : Type 0} (may_give : I → ℕ → Answer → I → Type 0)
     (may_take : O → List ℕ → Result ℕ Failed → O → Type 0) (other : Format) (d : DiffRequest) where
-  -- by these options of walks, both sides were counted or read, and compared; or one has no report, and nothing was written
+  -- by these options of walks, both sides were counted or read, and compared; or a side has no report, and nothing was written
   abbrev pub ComparesSides : Options → I → O → Reply → I → O → Type 0
   ComparesSides o input out reply read wrote =
       ((cause : Cause) × GivesSides may may_give d.walk o (compared_needs d) d.old.now d.new.now input (Err cause) read
@@ -126,7 +129,7 @@ module _ (may : SystemMay) {I O : Type 0} (may_give : I → ℕ → Answer → I
       × ((answer : Result Comparison Cause) × IsCompareReply (attributes_of d.walk.filters.without.items) answer reply
       × PrintsChanges may_take other d both.0 both.1 out answer wrote))
 
-  -- they were compared by options that ask what the words ask
+  -- both sides were compared, by the rules, the paths and the options of the command line
   abbrev pub Compares : I → O → Reply → I → O → Type 0
   Compares input out reply read wrote =
       (text : Option (List ℕ)) × Excludes may.hold d.walk.filters.exclude_from text
@@ -135,7 +138,8 @@ module _ (may : SystemMay) {I O : Type 0} (may_give : I → ℕ → Answer → I
       × IsAskedBy d.walk (compared_lists d) (filters_of d.walk.filters text (map (λ path. path.now) paths.items)) o
       × ComparesSides o between out reply read wrote))
 
-  -- such a comparison; or there were no rules or no memory, and nothing was read; or there were no paths; then nothing was written
+  -- how a comparison with fitting options is answered: the sides were compared; or there were no rules or no memory, and nothing was read;
+  -- or there were no paths. In the last two cases nothing was written
   abbrev pub AnswersSides : I → O → Reply → I → O → Type 0
   AnswersSides input out reply read wrote =
       Compares input out reply read wrote
@@ -143,7 +147,8 @@ module _ (may : SystemMay) {I O : Type 0} (may_give : I → ℕ → Answer → I
       × (((LacksRules may.hold d.walk.filters cause ⊎ (cause ≡ Memory)) × (read ≡ input))
       ⊎ AnswersPathsOf may may_give d.walk input (Err cause) read))
 
-  -- both sides are compared, by options that are for them; or an option is for no side, and nothing was read or written
+  -- how a comparison is answered: both sides are compared; or an option chooses files but both sides are reports, or memory is refused, and
+  -- nothing was read or written
   abbrev pub AnswersDiff : I → O → Reply → I → O → Type 0
   AnswersDiff input out reply read wrote =
       (AnswersChoices may.unlist d.walk d.old.now d.new.now (Ok tt) × AnswersSides input out reply read wrote)

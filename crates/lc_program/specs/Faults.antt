@@ -1,4 +1,4 @@
--- The lines that tell what a count could not read.
+-- The lines on standard error about what a count or a sum could not read.
 use Rattle.std.specs.Prelude.{◌≡◌, ◌⊎◌, ℕ, Bool, true, false, cond, not, List, [], ◌∷◌, ◌++◌, length, flat_map, bytes_eq, codes, decimal}
 use Rattle.std.specs.Prelude.{nat_eq}
 use Rattle.std.specs.Prelude.{Option, Result}
@@ -16,28 +16,29 @@ use Rattle.lc_reports.specs.Named.{named_top}
 use Rattle.lc_program.specs.Unlisted.{short_line}
 use Rattle.lc_program.specs.declared.unread_reason.UnreadReason.{UnreadReason}
 
--- one path could not be read
+-- the line that says that a path could not be read
 abbrev pub unread_line : List ℕ → List ℕ
 unread_line path = codes "lc: cannot read " ++ visible_bytes path ++ codes "\n"
 
--- a line for each path; the empty one is that of a directory itself, which is a dot
+-- a line for each path that could not be read. The empty path, of the counted directory itself, is a dot
 abbrev pub each_line : List FaultLineModel → List ℕ
 each_line faults = flat_map (λ (f : FaultLineModel). unread_line (or_here f.path)) faults
 
--- how many paths could not be read
+-- the beginning of the line with the number of paths that could not be read
 abbrev pub number_text : ℕ → List ℕ
 number_text count = cond (nat_eq count 1) (codes "lc: 1 path could not be read: see ")
     (codes "lc: " ++ decimal count ++ codes " paths could not be read: see ")
 
--- one line with their number, and with the place that has them
+-- the line with the number of paths that could not be read, and with the place where the output lists them
 abbrev pub number_line : List ℕ → ℕ → List ℕ
 number_line place count = number_text count ++ place ++ codes "\n"
 
--- the lines of the table that have this many paths
+-- the words that name the lines in which a table lists this many paths
 abbrev pub fault_rows : ℕ → List ℕ
 fault_rows count = cond (nat_eq count 1) (codes "the line that begins with fault") (codes "the lines that begin with fault")
 
--- CSV and HTML have no place for what could not be read; every other format has one, which is named
+-- the lines about paths inside the counted directories that could not be read: a line for each path for CSV and HTML, and for every other
+-- format one line that names the place where the output lists them
 abbrev pub lines_by : Format → List FaultLineModel → List ℕ
 lines_by Csv faults = each_line faults
 lines_by Html faults = each_line faults
@@ -46,12 +47,12 @@ lines_by Table faults = number_line (codes "the list of faults") (length faults)
 lines_by Markdown faults = number_line (codes "the list of faults") (length faults)
 lines_by Json faults = number_line (codes "faults") (length faults)
 
--- nothing where there is no such path
+-- the lines about paths that could not be read, or nothing if there are none
 abbrev pub lines_if : Format → List FaultLineModel → List ℕ
 lines_if format [] = []
 lines_if format (f ∷ fs) = lines_by format (f ∷ fs)
 
--- the path of the fault of a counted directory itself: none if it is the only one, and else its name
+-- the path that a report has for an error of a counted directory itself: empty if it is the only directory, and else its name
 abbrev pub top_path : List (List ℕ) → List ℕ → List ℕ
 top_path [] directory = named_top (unslashed directory)
 top_path (only ∷ []) directory = []
@@ -60,33 +61,33 @@ top_path (first ∷ second ∷ others) directory = named_top (unslashed director
 abbrev pub has_path : List ℕ → List FaultLineModel → Bool
 has_path path faults = list_any (λ (f : FaultLineModel). bytes_eq f.path path) faults
 
--- the faults of what is in these directories
+-- whether an error is about a path inside these directories, and not about one of these directories itself
 abbrev pub is_inside : List (List ℕ) → FaultLineModel → Bool
 is_inside directories f = not (list_any (λ directory. bytes_eq f.path (top_path directories directory)) directories)
 
 abbrev pub inside : List (List ℕ) → List FaultLineModel → List FaultLineModel
 inside directories faults = filter (is_inside directories) faults
 
--- what is told of a count of these directories, as the system may say why one could not be listed
+-- the lines about a count of these directories, by the reasons that the system may give why one could not be listed
 module _ (may_unlist : List ℕ → Option UnreadReason → Type 0) (directories : List (List ℕ)) (faults : List FaultLineModel) where
-  -- a directory that could not be listed itself, and why
+  -- a text is the line about a counted directory: if it could not be listed itself, that and why; else nothing
   abbrev pub IsTopLine : Bool → List ℕ → List ℕ → Type 0
   IsTopLine true directory text = (why : Option UnreadReason) × may_unlist directory why × (text ≡ uncounted_line directory why)
   IsTopLine false directory text = text ≡ []
 
-  -- a line for each such directory of some
+  -- a text has a line for each of these directories that could not be listed itself
   abbrev pub AreTopLines : List (List ℕ) → List ℕ → Type 0
   AreTopLines [] text = text ≡ []
   AreTopLines (directory ∷ others) text =
       (line rest : List ℕ) × IsTopLine (has_path (top_path directories directory) faults) directory line × AreTopLines others rest
       × (text ≡ line ++ rest)
 
-  -- and then those by the format about what is in them
+  -- a text has the lines about directories that could not be listed, and then the lines about paths inside the directories, by the format
   abbrev pub AreFaultLines : Format → List ℕ → Type 0
   AreFaultLines format text = (tops : List ℕ) × AreTopLines directories tops × (text ≡ tops ++ lines_if format (inside directories faults))
 
 module _ {E : Type 0} (may_take : E → List ℕ → Result ℕ Failed → E → Type 0) where
-  -- what could not be read is told, where there is such a thing
+  -- standard error gets the lines about what could not be read, or a shorter line where memory is refused; it gets nothing if all was read
   abbrev pub TellsFaults : (List ℕ → Option UnreadReason → Type 0) → List (List ℕ) → Format → List FaultLineModel → E → E → Type 0
   TellsFaults may_unlist directories format [] err told = told ≡ err
   TellsFaults may_unlist directories format (f ∷ fs) err told =

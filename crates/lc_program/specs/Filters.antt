@@ -1,4 +1,4 @@
--- The filters that words ask for.
+-- The filters of a command line: what decides, besides the tree's own rules, which entries are skipped.
 use Rattle.std.specs.Prelude.{◌≡◌, ◌⊎◌, ◌<◌, ℕ, Bool, cond, List, [], ◌∷◌, codes, map, length, Option, Some, None, Result, Ok, Err}
 use Rattle.std.specs.Borrow.{Bor}
 use Rattle.lc_arguments.specs.Repeated.{lines_text}
@@ -13,15 +13,15 @@ use Rattle.lc_tree.specs.Trees.{Contents}
 use Rattle.lc_program.specs.Causes.{rules_cause}
 use Rattle.lc_program.specs.declared.cause.Cause.{Cause}
 
--- what loading a file of rules may answer, by what its reads may give: its bytes, which some of these reads gave up to the end; a read
--- failed, as the first one of a file that can't be opened; they gave too many bytes; or memory was refused
+-- what reading a rule file may answer, by what its reads may give. Either its bytes, which reads gave up to the end; or a read failed, as
+-- the first read of a file that can't be opened; or there are too many bytes; or memory was refused
 abbrev pub LoadsFile : Contents → Result (List ℕ) RulesFileFault → Type 0
 LoadsFile gives (Ok bytes) = MayReadRules gives (Ok bytes)
 LoadsFile gives (Err fault.Read) = MayReadRules gives (Err word.Read)
 LoadsFile gives (Err fault.TooLong) = MayReadRules gives (Err word.Long)
 LoadsFile gives (Err fault.Memory) = Unit {0}
 
--- such a file gave no rules, for this cause
+-- a rule file with these contents gave no rules, for this cause
 abbrev pub GaveNoRules : Contents → Cause → Type 0
 GaveNoRules gives cause = (fault : RulesFileFault) × LoadsFile gives (Err fault) × (cause ≡ rules_cause fault)
 
@@ -30,7 +30,7 @@ abbrev pub patterns_text : List (List ℕ) → Option (List ℕ)
 patterns_text [] = None
 patterns_text (pattern ∷ patterns) = Some (lines_text (pattern ∷ patterns))
 
--- that text; or it is too long, or memory was refused
+-- the text of a rule file with these patterns as its lines; or the text is too long, or memory was refused
 abbrev pub AnswersPatterns : List (List ℕ) → Result (Option (List ℕ)) RulesFileFault → Type 0
 AnswersPatterns patterns (Ok text) = text ≡ patterns_text patterns
 AnswersPatterns patterns (Err fault.Read) = ⊥
@@ -42,12 +42,12 @@ abbrev pub LacksPatterns : List (Bor (List ℕ)) → Cause → Type 0
 LacksPatterns patterns cause =
     (fault : RulesFileFault) × AnswersPatterns (map (λ pattern. pattern.now) patterns) (Err fault) × (cause ≡ rules_cause fault)
 
--- the words of attributes that leave out: those of the command line, and of an archive first what git leaves out of one: gitattributes(5),
--- Creating an archive
+-- the attributes for which entries are skipped: those of the command line, and with `--archive` first `export-ignore`, which `git archive`
+-- skips: gitattributes(5), Creating an archive
 abbrev pub words_of : Bool → List (List ℕ) → List (List ℕ)
 words_of archive without = cond archive (codes "export-ignore" ∷ without) without
 
--- the filters that words ask for, by the text of the file that they name, and with these paths alone
+-- the filters that the command line requests, with the text of the rule file that it names, and with these paths alone
 abbrev pub filters_of : FilterRequest → Option (List ℕ) → List (List ℕ) → FiltersModel
 filters_of asked text only = record {
   exclude_from = text;
@@ -59,28 +59,28 @@ filters_of asked text only = record {
 }
 
 module _ (holds : List ℕ → Contents) where
-  -- the text of the rules for the whole tree is that of the file which the words name, if they name one
+  -- the text is that of the file of `--exclude-from`, if the command line names one
   abbrev pub Excludes : Option (Bor (List ℕ)) → Option (List ℕ) → Type 0
   Excludes None text = text ≡ None
   Excludes (Some name) None = ⊥
   Excludes (Some name) (Some bytes) = LoadsFile (holds name.now) (Ok bytes)
 
-  -- the words name a file, which gave no rules
+  -- the command line names a file with `--exclude-from`, which gave no rules, for this cause
   abbrev pub LacksFile : Option (Bor (List ℕ)) → Cause → Type 0
   LacksFile None cause = ⊥
   LacksFile (Some name) cause = GaveNoRules (holds name.now) cause
 
-  -- that text, or why there is none
+  -- the text of the file of `--exclude-from`, or why there is none
   abbrev pub AnswersExcluded : Option (Bor (List ℕ)) → Result (Option (List ℕ)) Cause → Type 0
   AnswersExcluded name (Ok text) = Excludes name text
   AnswersExcluded name (Err cause) = LacksFile name cause
 
-  -- the words name a file or patterns that gave no rules
+  -- the command line names a file or patterns that gave no rules, for this cause
   abbrev pub LacksRules : FilterRequest → Cause → Type 0
   LacksRules asked cause =
       LacksFile asked.exclude_from cause ⊎ (LacksPatterns asked.exclude.items cause ⊎ LacksPatterns asked.include.items cause)
 
-  -- the filters that the words ask for, but for paths, or why there are none
+  -- the filters that the command line requests, without paths, or why there are none
   abbrev pub AnswersFilters : FilterRequest → Result FiltersModel Cause → Type 0
   AnswersFilters asked (Ok f) = (text : Option (List ℕ)) × Excludes asked.exclude_from text × (f ≡ filters_of asked text [])
   AnswersFilters asked (Err cause) = LacksRules asked cause

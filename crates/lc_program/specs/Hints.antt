@@ -11,24 +11,24 @@ use Rattle.lc_program.specs.Counts.{names_of}
 use Rattle.lc_program.specs.Tellings.{Tells}
 use Rattle.lc_program.specs.declared.repository.Repository.{Repository}
 
--- the paths of directories in the repository with this top
+-- the paths, in the repository with this top, of the directories that lie in it
 abbrev pub paths_in : List ℕ → List (Option Repository) → List (List ℕ)
 paths_in top [] = []
 paths_in top (None ∷ others) = paths_in top others
 paths_in top (Some r ∷ others) =
     cond (bytes_eq (string_bytes r.top) top) (string_bytes r.path ∷ paths_in top others) (paths_in top others)
 
--- the count that reads them: that of these paths in the repository
+-- the hint with a command: a count of these paths in the repository, which reads the rules above the directory
 abbrev pub hint_with_command : Repository → List (List ℕ) → List ℕ
 hint_with_command r paths =
     codes "lc: rules above " ++ string_bytes r.path ++ codes " were not read; " ++ count_of paths (string_bytes r.top)
     ++ codes " reads them\n"
 
--- without it, where it can't be typed
+-- the hint without a command, where the command can't be typed as it is shown
 abbrev pub hint_alone : List ℕ → List ℕ
 hint_alone directory = codes "lc: rules above " ++ visible_bytes directory ++ codes " were not read\n"
 
--- what is told of a directory in this repository, and of all that are in it
+-- the hint about a directory in this repository, where `paths` are those of all counted directories in it
 abbrev pub hint : List ℕ → Repository → List (List ℕ) → List ℕ
 hint directory r paths =
     cond (list_all is_typed paths && is_typed (string_bytes r.top)) (hint_with_command r paths) (hint_alone directory)
@@ -40,22 +40,24 @@ first_above (directory ∷ directories) [] = None
 first_above (directory ∷ directories) (None ∷ repositories) = first_above directories repositories
 first_above (directory ∷ directories) (Some r ∷ repositories) = Some (directory, r)
 
--- what is told in its place where memory is refused
+-- the line in place of the hint where memory is refused
 abbrev pub short_hint : List ℕ
 short_hint = codes "lc: rules above this directory were not read\n"
 
 module _ {E : Type 0} (may_take : E → List ℕ → Result ℕ Failed → E → Type 0) where
-  -- the hint about a directory in a repository, by the repositories of all directories; nothing if there is none
+  -- standard error gets the hint about a directory in a repository, or a shorter one where memory is refused; nothing if there is no such
+  -- directory. `all` are the repositories of all directories
   abbrev pub TellsHint : List (Option Repository) → Option (List ℕ × Repository) → E → E → Type 0
   TellsHint all None err told = told ≡ err
   TellsHint all (Some (directory, r)) err told =
       Tells may_take err (hint directory r (paths_in (string_bytes r.top) all)) told ⊎ Tells may_take err short_hint told
 
-  -- about the first of these directories that lies in a repository
+  -- standard error gets the hint about the first of these directories that lies in a repository
   abbrev pub TellsAbove : List (List ℕ) → List (Option Repository) → E → E → Type 0
   TellsAbove directories all err told = TellsHint all (first_above directories all) err told
 
-  -- about directories and the repositories that the system may say they lie in. About several there is none where memory is refused
+  -- standard error gets a hint about directories, by the repositories that the system may say they lie in. About several directories there
+  -- is none where memory is refused
   abbrev pub HintsAbout : (List ℕ → Option Repository → Type 0) → List (List ℕ) → E → E → Type 0
   HintsAbout may_lie [] err told = told ≡ err
   HintsAbout may_lie (only ∷ []) err told =
@@ -64,7 +66,7 @@ module _ {E : Type 0} (may_take : E → List ℕ → Result ℕ Failed → E →
       let directories = first ∷ second ∷ others in
       ((above : List (Option Repository)) × AllZip may_lie directories above × TellsAbove directories above err told) ⊎ (told ≡ err)
 
-  -- after a count, where this is seen, about its directories; else nothing
+  -- standard error gets a hint about the directories of a count, if it is a terminal; else nothing
   abbrev pub Hints : (List ℕ → Option Repository → Type 0) → Bool → Request → E → E → Type 0
   Hints may_lie true (Count c) err told = HintsAbout may_lie (names_of c) err told
   Hints may_lie false (Count c) err told = told ≡ err

@@ -1,4 +1,4 @@
--- The list of paths that words name, in a file or on the input.
+-- The list of paths that the command line names, in a file or on the input.
 use Rattle.std.specs.Prelude.{◌≡◌, ◌≢◌, ◌⊎◌, ◌&&◌, ℕ, Bool, true, false, not, cond, List, [], ◌∷◌, ◌++◌, map}
 use Rattle.std.specs.Prelude.{Option, Some, None, Result, Ok, Err, Vec, codes, string_bytes}
 use Rattle.std.specs.Borrow.{Bor}
@@ -17,18 +17,18 @@ use Rattle.lc_program.specs.declared.cause.Cause.{Cause}
 use Rattle.lc_program.specs.declared.cause.Cause.TheVariants as cause
 use Rattle.lc_program.specs.declared.unread_reason.UnreadReason.{UnreadReason}
 
--- the most bytes of a list
+-- the greatest number of bytes of a list
 abbrev pub max_list : ℕ
 max_list = 268435456
 
 module _ {I : Type 0} (may_give : I → ℕ → Answer → I → Type 0) (holds : List ℕ → Contents) where
-  -- the list that the words name; none has no bytes
+  -- what reading the list may answer that the command line names. If it names none, there are no bytes
   abbrev pub AnswersList : Option (Bor (List ℕ)) → I → Result (Vec ℕ Global) WholeFault → I → Type 0
   AnswersList None input (Ok bytes) read = (bytes.items ≡ []) × (read ≡ input)
   AnswersList None input (Err fault) read = ⊥
   AnswersList (Some name) input answer read = ReadsNamed max_list may_give holds name.now input answer read
 
--- why there is no list. The input has no reason; for a file that could not be read it is what the system may say
+-- why the list could not be read. For the input there is no reason; for a file it is what the system may say
 module _ (may_unread : List ℕ → Option UnreadReason → Type 0) where
   abbrev pub IsListCause : Option (Bor (List ℕ)) → WholeFault → Cause → Type 0
   IsListCause name TooLong why = why ≡ cause.PathsTooLong
@@ -40,13 +40,13 @@ module _ (may_unread : List ℕ → Option UnreadReason → Type 0) where
 
 module _ {I : Type 0} (may_give : I → ℕ → Answer → I → Type 0) (holds : List ℕ → Contents)
     (may_unread : List ℕ → Option UnreadReason → Type 0) where
-  -- the list that the words name, or why there is none
+  -- the list that the command line names, or why there is none
   abbrev pub GivesList : Option (Bor (List ℕ)) → I → Result (Vec ℕ Global) Cause → I → Type 0
   GivesList name input (Ok bytes) read = AnswersList may_give holds name input (Ok bytes) read
   GivesList name input (Err why) read =
       (fault : WholeFault) × AnswersList may_give holds name input (Err fault) read × IsListCause may_unread name fault why
 
--- the path of a line: without any `./` at its beginning and without one slash at its end
+-- the path that a line of the list has: without any `./` at its beginning and without one slash at its end
 abbrev pub listed_path : List ℕ → List ℕ
 listed_path line = path_of (undotted line)
 
@@ -54,11 +54,11 @@ listed_path line = path_of (undotted line)
 abbrev pub paths_listed : PathEnd → List ℕ → List (List ℕ)
 paths_listed end list = map listed_path (input_paths_of end list)
 
--- neither the directory itself nor a path that an entry can have
+-- whether a path is neither the counted directory itself nor one that an entry can have
 abbrev pub is_bad_listed : List ℕ → Bool
 is_bad_listed path = not (is_top path) && is_bad_path path
 
--- a list has no path, or its first one that no entry can have
+-- a path is the first in a list that is neither the counted directory itself nor one that an entry can have
 pub record IsFirstBad (end : PathEnd) (list path : List ℕ) : Type 0 where
   pub before : List (List ℕ)
   pub after : List (List ℕ)
@@ -66,7 +66,7 @@ pub record IsFirstBad (end : PathEnd) (list path : List ℕ) : Type 0 where
   pub fine : list_any is_bad_listed (map listed_path before) ≡ false
   pub bad : is_bad_listed (listed_path path) ≡ true
 
--- the paths of the list of this name; or it has none, or one that no entry can have
+-- the paths of the list with this name, or why they are refused: there are none, or no entry can have one of them; or memory is refused
 abbrev pub AnswersListed : List ℕ → PathEnd → List ℕ → Result (Vec (Bor (List ℕ)) Global) Cause → Type 0
 AnswersListed name end list (Ok paths) =
     (map (λ path. path.now) paths.items ≡ paths_listed end list) × (list_any is_bad_listed (paths_listed end list) ≡ false)
@@ -77,7 +77,7 @@ AnswersListed name end list (Err (cause.BadPaths line)) =
 AnswersListed name end list (Err cause.Memory) = Unit {0}
 AnswersListed name end list (Err _) = ⊥
 
--- the paths of the words, and then those of the list that they name
+-- the paths of `--only`, and then those of the list that the command line names, or why they are refused
 abbrev pub AnswersNamed : List (List ℕ) → Option (Bor (List ℕ)) → PathEnd → List ℕ → Result (Vec (Bor (List ℕ)) Global) Cause → Type 0
 AnswersNamed only None end list (Ok paths) = map (λ path. path.now) paths.items ≡ only
 AnswersNamed only (Some name) end list (Ok paths) =
@@ -86,11 +86,11 @@ AnswersNamed only (Some name) end list (Ok paths) =
 AnswersNamed only None end list (Err why) = why ≡ cause.Memory
 AnswersNamed only (Some name) end list (Err why) = AnswersListed name.now end list (Err why)
 
--- paths of which one is the directory itself ask for all of it, as no paths do
+-- the paths to count. If one of them is the counted directory itself, there are none, which means all of it
 abbrev pub asked_for : List (List ℕ) → List (List ℕ)
 asked_for paths = cond (list_any is_top paths) [] paths
 
--- what those paths ask for
+-- the paths to count, of the command line and of its list, or why they are refused
 abbrev pub AnswersWanted : List (List ℕ) → Option (Bor (List ℕ)) → PathEnd → List ℕ → Result (Vec (Bor (List ℕ)) Global) Cause → Type 0
 AnswersWanted only name end list (Ok paths) =
     (named : Vec (Bor (List ℕ)) Global) × AnswersNamed only name end list (Ok named)

@@ -1,4 +1,4 @@
--- How the program ends on words, by what it read, wrote and told.
+-- How the program ends on its arguments, by what it read and what it wrote to its streams.
 use Rattle.std.specs.Prelude.{◌≡◌, ◌⊎◌, ℕ, Bool, List, [], Option, Result, Ok, Err, string_bytes}
 use Rattle.lc_io.specs.declared.source.Failed.{Failed}
 use Rattle.lc_io.specs.Reads.{Answer}
@@ -43,13 +43,13 @@ status_of (GaveUp _) = 3
 status_of AnyFile = 4
 
 module _ {E : Type 0} (may_take : E → List ℕ → Result ℕ Failed → E → Type 0) where
-  -- the line of the cause; in place of one with a number perhaps that of want of memory
+  -- standard error gets the line of a cause; in place of a line with a number, perhaps the line that memory is refused
   abbrev pub TellsCause : E → Cause → E → Type 0
   TellsCause err cause told = Tells may_take err (cause_line cause) told ⊎ (HasNumber cause × Tells may_take err (cause_line Memory) told)
 
-  -- after a count it is told what it could not read; its table has this format if the words name none. After an explanation that names a
-  -- fault it is told that its directory could not be listed, where the system may say so. After a sum it is told what its reports name,
-  -- which are of no directory. After a comparison it is told what each side could not read
+  -- standard error gets what an answer could not read. For a count and a sum the lines depend on the format, which is `other` if the
+  -- command line names none; a sum has no directories of its own. For an explanation with errors there may be a line about its directory,
+  -- with the reason that the system gives. For a comparison there are the paths of each side
   abbrev pub TellsUnread : (List ℕ → Option UnreadReason → Type 0) → Format → Request → Answered → E → E → Type 0
   TellsUnread may_unlist other (Count c) (Counted left unnamed) err told =
       TellsFaults may_take may_unlist (names_of c) (options_in other all_columns c.table).format left.faults.items err told
@@ -61,24 +61,24 @@ module _ {E : Type 0} (may_take : E → List ℕ → Result ℕ Failed → E →
       TellsSideFaults may_take d.old.now c.old.faults.items d.new.now c.new.faults.items err told
   TellsUnread may_unlist other request answered err told = told ≡ err
 
-  -- and which attributes no attribute file names
+  -- standard error gets the lines about attributes that no attribute file names
   abbrev pub TellsUnnamed : Answered → E → E → Type 0
   TellsUnnamed (Counted left unnamed) err told = Tells may_take err (string_bytes unnamed) told
   TellsUnnamed (Compared c unnamed) err told = Tells may_take err (string_bytes unnamed) told
   TellsUnnamed answered err told = told ≡ err
 
-  -- what could not be read is told, and which attributes are not named
+  -- standard error gets what could not be read, and then which attributes no attribute file names
   abbrev pub Comments : (List ℕ → Option UnreadReason → Type 0) → Terminals → Request → Answered → E → E → Type 0
   Comments may_unlist terminals request answered err told =
       (unread : E) × TellsUnread may_unlist (format_for terminals.output) request answered err unread
       × TellsUnnamed answered unread told
 
-  -- these lines about patterns are told, and perhaps a hint
+  -- standard error gets these lines about patterns, and perhaps a hint
   abbrev pub Advises : (List ℕ → Option Repository → Type 0) → Bool → Request → List ℕ → E → E → Type 0
   Advises may_lie stderr_is_terminal request lines err told =
       (patterns : E) × Tells may_take err lines patterns × Hints may_take may_lie stderr_is_terminal request patterns told
 
--- a text was written, as help is; or it was not, or not whole
+-- how the program ends that shows a text, such as help: the text was written; or it was not, or not whole, and standard error gets why
 abbrev pub EndsShown : {O E : Type 0} → (O → List ℕ → Result ℕ Failed → O → Type 0) → (E → List ℕ → Result ℕ Failed → E → Type 0)
     → List ℕ → O → E → Ending → O → E → Type 0
 EndsShown may_take may_tell text out err Done wrote told = Writes may_take out text wrote × (told ≡ err)
@@ -88,7 +88,7 @@ EndsShown may_take may_tell text out err Misused wrote told = ⊥
 EndsShown may_take may_tell text out err (GaveUp cause) wrote told =
     (cause ≡ Unwritten) × StopsWriting may_take out text wrote × TellsCause may_tell err cause told
 
--- what a read of the input may give, and what a write may take of the output and of what is told
+-- what a read of the input may give, and what writes to standard output and to standard error may take
 pub record StreamsMay (I O E : Type 0) : Type 1 where
   pub give : I → ℕ → Answer → I → Type 0
   pub take : O → List ℕ → Result ℕ Failed → O → Type 0
@@ -100,14 +100,15 @@ module _ {I O E : Type 0} where
   streams_may give take tell = record { give = give; take = take; tell = tell }
 
 module _ {I O E : Type 0} (system : SystemMay) (may : StreamsMay I O E) (words : List (List ℕ)) (terminals : Terminals) where
-  -- the request of the words had this reply, after it was told what is read
+  -- the arguments make this request, standard error got what the request reads from a terminal, and the request had this reply
   pub record Replies (before : Streams I O E) (request : Request) (reply : Reply) (after : Streams I O E) (said : E) : Type 0 where
     pub free : faults_in words ≡ []
     pub asks : Asks words request
     pub introduces : Introduces may.tell terminals.input request before.err said
     pub answers : AnswersRequest system may.give may.take terminals.output request before.input before.out reply after.input after.out
 
-  -- it was answered so, and then it was told what could not be read, which patterns can match nothing, and perhaps a hint
+  -- a request was answered, and the program ends so. Then standard error got what could not be read, which attributes no file names, which
+  -- patterns can match nothing, and perhaps a hint
   abbrev pub EndsAnswered : Streams I O E → Ending → Streams I O E → Type 0
   EndsAnswered before ending after =
       (request : Request) × (answered : Answered) × (said : E) × Replies before request (Ok answered) after said
@@ -115,12 +116,12 @@ module _ {I O E : Type 0} (system : SystemMay) (may : StreamsMay I O E) (words :
       × ((commented : E) × Comments may.tell system.unlist terminals request answered said commented
       × Advises may.tell system.lie terminals.error request (unmatched_in request) commented after.err)
 
-  -- the program gave up on it for this cause
+  -- the program stopped a request with an error, for this cause, and standard error got its line
   abbrev pub GivesUp : Streams I O E → Cause → Streams I O E → Type 0
   GivesUp before cause after =
       (request : Request) × (said : E) × Replies before request (Err cause) after said × TellsCause may.tell said cause after.err
 
-  -- the words ask for a text, nothing was read, and it was shown
+  -- the arguments request a text, such as help. Nothing was read, and the text was shown
   abbrev pub Shows : Streams I O E → Ending → Streams I O E → Type 0
   Shows before ending after =
       MayShow (faults_in words) × (after.input ≡ before.input)

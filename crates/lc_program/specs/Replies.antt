@@ -1,4 +1,4 @@
--- The answer to a request: what was written, or why the program gives up.
+-- The answer to a request: what was written, or why the program stops with an error.
 use Rattle.std.specs.Prelude.{◌≡◌, ◌&&◌, Bool, true, false, String, List, [], ◌∷◌, Result, Ok, Err, ℕ, nat_lt, string_bytes}
 use Rattle.std.specs.Global.{Global}
 use Rattle.lc_level.specs.FaultLines.{FaultLineModel}
@@ -20,17 +20,17 @@ use Rattle.lc_program.specs.declared.ending.Ending.TheVariants.{AnyFile, Done, S
 abbrev pub Reply : Type 0
 Reply = Result Answered Cause
 
--- whether a report names a fault
+-- whether a report has errors
 abbrev pub outcome_by : List FaultLineModel → Outcome
 outcome_by [] = outcome.Clean
 outcome_by (fault ∷ faults) = outcome.SomeFaults
 
--- whether one of two does
+-- whether one of two outcomes has errors
 abbrev pub outcome_of_both : Outcome → Outcome → Outcome
 outcome_of_both outcome.Clean other = other
 outcome_of_both outcome.SomeFaults other = outcome.SomeFaults
 
--- whether an answer does
+-- whether an answer has errors
 abbrev pub outcome_of : Answered → Outcome
 outcome_of Checked = outcome.Clean
 outcome_of (Explained outcome) = outcome
@@ -38,12 +38,12 @@ outcome_of (Counted left unnamed) = outcome_by left.faults.items
 outcome_of (Summed left) = outcome_by left.faults.items
 outcome_of (Compared c unnamed) = outcome_of_both (outcome_by c.old.faults.items) (outcome_by c.new.faults.items)
 
--- a check that was done has no faults to tell
+-- the reply to a check. A check that was written whole has no errors
 abbrev pub checked : Result (Unit {0}) CheckFault → Reply
 checked (Ok _) = Ok Checked
 checked (Err fault) = Err (check_cause fault)
 
--- whether an answer counts a file, or differs, which was to be a failure
+-- whether `--fail-if-any` makes an answer a failure: a file is counted, or the sides of a comparison differ
 abbrev pub has_failure : Request → Answered → Bool
 has_failure (Count c) (Counted left unnamed) = c.fail_if_any && nat_lt 0 left.totals.files
 has_failure (Sum c) (Summed left) = c.fail_if_any && nat_lt 0 left.totals.files
@@ -55,11 +55,11 @@ ending_by true outcome = AnyFile
 ending_by false outcome.Clean = Done
 ending_by false outcome.SomeFaults = SomeFaults
 
--- how a request ends that was answered
+-- how the program ends after this answer to a request
 abbrev pub ending_of : Request → Answered → Ending
 ending_of request answered = ending_by (has_failure request answered) (outcome_of answered)
 
--- a count is replied with the report of what was shown and lines about some of these attributes
+-- the reply to a count: the report that was printed, and lines about some of these attributes
 abbrev pub IsRunReply : List (List ℕ) → Result Report Cause → Reply → Type 0
 IsRunReply attributes (Ok left) reply =
     (unnamed : String Global) × AreUnnamedLines attributes (string_bytes unnamed) × (reply ≡ Ok (Counted left unnamed))

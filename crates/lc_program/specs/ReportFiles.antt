@@ -1,4 +1,4 @@
--- What is read of the reports that the command line names.
+-- Reading the reports that the command line names. A REPORT is a file, or the input, that has one or more reports.
 use Rattle.std.specs.Prelude.{◌≡◌, ◌⊎◌, ℕ, true, List, [], ◌∷◌, ◌++◌, Option, Some, None, Result, Ok, Err, Vec}
 use Rattle.std.specs.Global.{Global}
 use Rattle.std.specs.List.{AllZip, list_all}
@@ -19,37 +19,37 @@ use Rattle.lc_reports.specs.Named.{IsNamed}
 use Rattle.lc_sums.specs.declared.part.Part.{Part}
 use Rattle.lc_tree.specs.Trees.{Contents}
 
--- the most bytes of a REPORT
+-- the greatest number of bytes of a REPORT
 abbrev pub max_report : ℕ
 max_report = 1073741824
 
--- a REPORT of the command line: its name, if it has one, and its path
+-- a REPORT of the command line: its NAME, if it has one, and its path
 abbrev pub Typed : Type 0
 Typed = Option (List ℕ) × List ℕ
 
--- a report below a name, if there is one
+-- a report with this name in front of its paths, or the report itself without a name
 abbrev pub IsBelow : Option (List ℕ) → ReadReport → ReadReport → Type 0
 IsBelow None given below = below ≡ given
 IsBelow (Some name) given below =
     IsNamed name given.report below.report × (below.columns ≡ given.columns) × (below.text ≡ given.text) × (below.binary ≡ given.binary)
 
--- a part of a sum: a report of a REPORT, below the name of that, and what errors call that
+-- a part of a sum is made from a report in a REPORT: it has NAME in front of its paths, and the name of the REPORT in errors
 pub record IsPartOf (typed : Typed) (given : ReadReport) (part : Part) : Type 0 where
   pub origin : part.origin.now ≡ origin_of typed.1
   pub below : IsBelow typed.0 given part.report
 
--- a text is refused for this reason; one of white space alone because it is empty
+-- why the text of a REPORT may be refused. A text of white space alone is refused because it is empty
 abbrev pub MayRefuse : List ℕ → ReadFault → Type 0
 MayRefuse text refusal = list_all is_space text ≡ true → refusal ≡ fault.NoReport why.Empty
 
 module _ {I : Type 0} (may_give : I → ℕ → Answer → I → Type 0) (holds : List ℕ → Contents) where
-  -- the text of a REPORT is that of some reports, of which these parts are made
+  -- the text of a REPORT was read, and these parts were made from the reports in it
   abbrev pub ReadsParts : Typed → I → List Part → I → Type 0
   ReadsParts typed input parts read =
       (text : Vec ℕ Global) × ReadsNamed max_report may_give holds typed.1 input (Ok text) read
       × ((given : List ReadReport) × AreReportsOf text.items given × AllZip (IsPartOf typed) given parts)
 
-  -- the parts of each, one after another
+  -- all REPORTs were read in their order, and these are their parts, one after another
   abbrev pub ReadsAll : List Typed → I → List Part → I → Type 0
   ReadsAll [] input parts read = (parts ≡ []) × (read ≡ input)
   ReadsAll (typed ∷ others) input parts read =
@@ -58,7 +58,7 @@ module _ {I : Type 0} (may_give : I → ℕ → Answer → I → Type 0) (holds 
 
 module _ {I : Type 0} (may_give : I → ℕ → Answer → I → Type 0) (holds : List ℕ → Contents)
     (may_unread : List ℕ → Option UnreadReason → Type 0) where
-  -- a REPORT is not read, or its text is refused
+  -- a REPORT could not be read, or its text is refused, for this cause
   abbrev pub Refuses : Typed → I → Cause → I → Type 0
   Refuses typed input cause read =
       ((whole : WholeFault) × ReadsNamed max_report may_give holds typed.1 input (Err whole) read
@@ -66,7 +66,7 @@ module _ {I : Type 0} (may_give : I → ℕ → Answer → I → Type 0) (holds 
       ⊎ ((text : Vec ℕ Global) × ReadsNamed max_report may_give holds typed.1 input (Ok text) read
       × ((refusal : ReadFault) × MayRefuse text.items refusal × IsRefusedFor (origin_of typed.1) refusal cause))
 
-  -- one of some is the first of which this is so: those before it are read, and those after it are not
+  -- one of these REPORTs is the first that could not be read or is refused. Those before it were read, and those after it were not
   abbrev pub RefusesFirst : List Typed → I → Cause → I → Type 0
   RefusesFirst [] input cause read = ⊥
   RefusesFirst (typed ∷ others) input cause read =
@@ -74,7 +74,7 @@ module _ {I : Type 0} (may_give : I → ℕ → Answer → I → Type 0) (holds 
       ⊎ ((first : List Part) × (between : I) × ReadsParts may_give holds typed input first between
       × RefusesFirst others between cause read)
 
-  -- the parts of all; or why there are none, perhaps for want of memory
+  -- the parts of all REPORTs; or why there are none, which may also be that memory is refused
   abbrev pub AnswersParts : List Typed → I → Result (Vec Part Global) Cause → I → Type 0
   AnswersParts all input (Ok parts) read = ReadsAll may_give holds all input parts.items read
   AnswersParts all input (Err cause) read = RefusesFirst all input cause read ⊎ (cause ≡ Memory)

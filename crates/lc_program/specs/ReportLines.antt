@@ -1,4 +1,4 @@
--- The lines about reports that can't be read or added up, which the program stops with.
+-- The lines about reports that can't be read or added up, with which the program stops.
 use Rattle.std.specs.Prelude.{◌≡◌, ◌≢◌, ◌⊎◌, ℕ, cond, bytes_eq, List, ◌++◌, codes, decimal, Option, None, String, string_bytes}
 use Rattle.std.specs.Global.{Global}
 use Rattle.lc_io.specs.declared.whole.WholeFault.{WholeFault}
@@ -19,21 +19,21 @@ use Rattle.lc_sums.specs.declared.sum_fault.SumFault.{SumFault}
 use Rattle.lc_sums.specs.declared.sum_fault.SumFault.TheVariants as sum
 use Rattle.lc_text.specs.Visible.{visible_bytes}
 
--- what errors call a REPORT
+-- the name that errors use for a REPORT
 abbrev pub origin_of : List ℕ → List ℕ
 origin_of report = cond (bytes_eq report (codes "-")) (codes "standard input") report
 
--- what is told of a REPORT, or of a path in some
+-- the line that says what is wrong with a REPORT, or with a path that several reports have
 abbrev pub report_line : List ℕ → List ℕ → List ℕ
 report_line name why = codes "lc: " ++ visible_bytes name ++ codes " " ++ why ++ codes "\n"
 
--- a cause with this line; in its place perhaps want of memory
+-- a cause has this line about a report; or it is that memory is refused
 abbrev pub IsTold : List ℕ → Cause → Type 0
 IsTold line cause = ((text : String Global) × (string_bytes text ≡ line) × (cause ≡ InReport text)) ⊎ (cause ≡ Memory)
 
 -- ---- a REPORT that is not read
 
--- the reason that the system may give; the input has none
+-- the reason that the system may give why a REPORT could not be read. For the input there is none
 abbrev pub MayBeWhy : (List ℕ → Option UnreadReason → Type 0) → List ℕ → Option UnreadReason → Type 0
 MayBeWhy may_unread report reason =
     ((report ≡ codes "-") × (reason ≡ None)) ⊎ ((report ≢ codes "-") × may_unread report reason)
@@ -58,7 +58,7 @@ sums_text part.Rows = codes "is no report: its rows do not add up to its total"
 sums_text part.Files = codes "is no report: its files do not add up to its total"
 sums_text part.TextAndBinary = codes "is no report: its text and binary do not add up to its total"
 
--- the text of what errors call so is refused
+-- the text of the REPORT that errors call by this name is refused, for this cause
 abbrev pub IsRefusedFor : List ℕ → ReadFault → Cause → Type 0
 IsRefusedFor name fault.Memory cause = cause ≡ Memory
 IsRefusedFor name (fault.NoReport why) cause = IsTold (report_line name (codes "is no report: " ++ no_report_text why)) cause

@@ -31,7 +31,7 @@ use Rattle.lc_program.specs.Systems.{SystemMay}
 use Rattle.lc_program.specs.declared.cause.Cause.{Cause}
 use Rattle.lc_program.specs.declared.cause.Cause.TheVariants.{Memory}
 
--- what may be said of paths in a tree that may answer so
+-- the explanations of paths in a tree, by what the tree may answer
 module _ (lists : List ℕ → Listings) (gives : List ℕ → Contents) {I O : Type 0} (may_give : I → ℕ → Answer → I → Type 0)
     (may_take : O → List ℕ → Result ℕ Failed → O → Type 0) where
   abbrev pub AnswersPaths : ExplainOptions → Bool → List (Bor (List ℕ)) → I → O → Reply → I → O → Type 0
@@ -44,7 +44,7 @@ module _ (lists : List ℕ → Listings) (gives : List ℕ → Contents) {I O : 
       (answer : Result Outcome PrintFault) × (reply ≡ told answer) × (read ≡ input)
       × AnswersLines may_take q.style (MaySay lists gives q) (map (λ p. p.now) (path ∷ paths)) out answer wrote
 
--- a check of rules and paths that come joined
+-- how a check is answered whose rules and paths come joined on the input
 abbrev pub AnswersJoined : {I O : Type 0} → (I → ℕ → Answer → I → Type 0) → (O → List ℕ → Result ℕ Failed → O → Type 0)
     → PathFormat → I → O → Reply → I → O → Type 0
 AnswersJoined may_give may_take format input out reply read wrote =
@@ -52,14 +52,14 @@ AnswersJoined may_give may_take format input out reply read wrote =
     × AnswersCheck may_give may_take rules_part (joined_text (styled format.style) format.end) input out answer read wrote
 
 module _ {I O : Type 0} (may_give : I → ℕ → Answer → I → Type 0) (may_take : O → List ℕ → Result ℕ Failed → O → Type 0) where
-  -- a check of paths by the bytes of the file with this name, explained or not
+  -- how a check of paths is answered by these bytes of the rule file with this name, explained or not
   abbrev pub AnswersPathCheck : PathFormat → List ℕ → Bool → List ℕ → I → O → Result (Unit {0}) CheckFault → I → O → Type 0
   AnswersPathCheck format name true bytes input out answer read wrote =
       AnswersExplainedCheck may_give may_take (explained_text_of (styled format.style) name bytes format.end) input out answer read wrote
   AnswersPathCheck format name false bytes input out answer read wrote =
       AnswersCheck may_give may_take no_rules (text_by (styled format.style) (rules_of bytes) format.end) input out answer read wrote
 
-  -- such a check by the bytes of the file with this name; or it gave no rules, and nothing was read or written
+  -- how a check is answered by the file with this name: by its bytes; or the file gave no rules, and nothing was read or written
   abbrev pub AnswersFile : (List ℕ → Contents) → PathFormat → List ℕ → Bool → I → O → Reply → I → O → Type 0
   AnswersFile holds format name is_explained input out reply read wrote =
       ((bytes : List ℕ) × LoadsFile (holds name) (Ok bytes) × (answer : Result (Unit {0}) CheckFault) × (reply ≡ checked answer)
@@ -68,8 +68,8 @@ module _ {I O : Type 0} (may_give : I → ℕ → Answer → I → Type 0) (may_
 
 module _ (may : SystemMay) {I O : Type 0} (may_give : I → ℕ → Answer → I → Type 0)
     (may_take : O → List ℕ → Result ℕ Failed → O → Type 0) where
-  -- what may be said of the paths in the directory that the words name, by what they ask; or there were no rules or no memory, and nothing
-  -- was read or written
+  -- how an explanation of the paths in a directory is answered: they are explained by what the command line requests; or there were no
+  -- rules or no memory, and nothing was read or written
   abbrev pub AnswersExplanation : PathStyle → ExplainRequest → I → O → Reply → I → O → Type 0
   AnswersExplanation style c input out reply read wrote =
       ((text : Option (List ℕ)) × Excludes may.hold c.filters.exclude_from text
@@ -79,7 +79,8 @@ module _ (may : SystemMay) {I O : Type 0} (may_give : I → ℕ → Answer → I
       ⊎ ((cause : Cause) × (LacksRules may.hold c.filters cause ⊎ (cause ≡ Memory)) × (reply ≡ Err cause) × (read ≡ input)
       × (wrote ≡ out))
 
-  -- whether the output is a terminal decides how paths are printed, but in a table, and the format of a table where none is named
+  -- how a request is answered. If the output is a terminal, paths are printed for it, except in a table, and a table has another format if
+  -- none is named
   abbrev pub AnswersRequest : Bool → Request → I → O → Reply → I → O → Type 0
   AnswersRequest is_terminal CheckJoined input out reply read wrote =
       AnswersJoined may_give may_take (format_with false (style_for is_terminal)) input out reply read wrote

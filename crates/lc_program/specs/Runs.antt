@@ -1,4 +1,4 @@
--- What a run answers, by what its walk answers.
+-- What a run, which walks a tree and writes its table, answers, by what its walk answers.
 use Rattle.std.specs.Prelude.{◌≡◌, ℕ, List, Result, Ok, Err}
 use Rattle.lc_io.specs.declared.source.Failed.{Failed}
 use Rattle.lc_walk.specs.declared.report.Report.{Report}
@@ -12,19 +12,19 @@ use Rattle.lc_io.specs.declared.printing.PrintFault.TheVariants as print
 use Rattle.lc_program.specs.declared.runs.RunFault.{RunFault}
 use Rattle.lc_program.specs.declared.runs.RunFault.TheVariants.{Walk, Memory, Write}
 
--- a table that was not written, or not whole
+-- why a table was not written, or not whole
 abbrev pub table_fault : PrintFault → RunFault
 table_fault print.Write = Write
 table_fault print.Memory = Memory
 
--- what a call answers that writes such a text: it was written whole; a write stopped it; nothing was written
+-- what a call answers that writes a text: the text was written whole; or a write failed; or memory was refused, and nothing was written
 abbrev pub AnswersText : {O : Type 0} → (O → List ℕ → Result ℕ Failed → O → Type 0) → (List ℕ → Type 0) → O
     → Result (Unit {0}) PrintFault → O → Type 0
 AnswersText may_take Is out (Ok _) wrote = (text : List ℕ) × Is text × Writes may_take out text wrote
 AnswersText may_take Is out (Err print.Write) wrote = (text : List ℕ) × Is text × StopsWriting may_take out text wrote
 AnswersText may_take Is out (Err print.Memory) wrote = wrote ≡ out
 
--- what a call answers that writes the table of what meets some conditions of a report, with these options, and leaves this of the report
+-- what a call answers that writes the table of the part of a report that meets some conditions, with these options; `left` is this part
 abbrev pub AnswersTable : {O : Type 0} → (O → List ℕ → Result ℕ Failed → O → Type 0) → List ℕ → List ConditionModel → TableOptions → Report
     → Report → O → Result (Unit {0}) PrintFault → O → Type 0
 AnswersTable may_take counted conditions options r left out answer wrote =

@@ -27,7 +27,7 @@ use Rattle.lc_walk.specs.declared.walk_fault.WalkFault.{WalkFault}
 
 -- ---- which sides are directories
 
--- whether a name can't be listed because no directory has it
+-- whether the reason why a name can't be listed is that no directory has this name
 abbrev pub is_no_directory : Option UnreadReason → Bool
 is_no_directory None = false
 is_no_directory (Some Missing) = true
@@ -37,7 +37,7 @@ is_no_directory (Some IsFile) = true
 is_no_directory (Some NotDirectory) = true
 is_no_directory (Some Other) = false
 
--- whether a side is a directory, by what the system may say of why one of this name can't be listed; `-` is standard input
+-- whether a side is a directory, by the reason that the system may give why a directory of this name can't be listed. `-` is standard input
 abbrev pub IsSide : (List ℕ → Option UnreadReason → Type 0) → List ℕ → Bool → Type 0
 IsSide may_unlist name true =
     (name ≢ codes "-") × ((why : Option UnreadReason) × may_unlist name why × (is_no_directory why ≡ false))
@@ -51,20 +51,20 @@ module _ (may : SystemMay) (w : WalkRequest) (o : Options) where
   abbrev pub MayWalkSide : List ℕ → Result Report WalkFault → Type 0
   MayWalkSide name = Walks (may.list name (entered_by w)) (may.give name (entered_by w)) o
 
-  -- a directory that could not be listed itself
+  -- a side is a directory that could not be listed itself, with this cause
   abbrev pub IsUnlisted : List ℕ → Cause → Type 0
   IsUnlisted name cause =
       (r : Report) × MayWalkSide name (Ok r) × (has_path [] r.faults.items ≡ true)
       × (((why : Option UnreadReason) × may.unlist name why × IsTold (unexplained_line name why) cause) ⊎ (cause ≡ Memory))
 
-  -- the report of a directory that was listed, or why there is none
+  -- the report of a side that is a directory and was listed, or why there is none
   abbrev pub CountsSide : List ℕ → Result Report Cause → Type 0
   CountsSide name (Ok r) = MayWalkSide name (Ok r) × (has_path [] r.faults.items ≡ false)
   CountsSide name (Err cause) =
       ((fault : WalkFault) × MayWalkSide name (Err fault) × IsCauseIn name fault cause) ⊎ IsUnlisted name cause
 
 module _ (may : SystemMay) {I : Type 0} (may_give : I → ℕ → Answer → I → Type 0) (needs : Needs) where
-  -- the sum of the reports of a name, or why there is none
+  -- the sum of the reports in the REPORT with this name, or why there is none
   abbrev pub ReadsSide : List ℕ → I → Result Report Cause → I → Type 0
   ReadsSide name input (Ok r) read =
       (parts : Vec Part Global) × ReadsParts may_give may.hold (None, name) input parts.items read
@@ -75,14 +75,14 @@ module _ (may : SystemMay) {I : Type 0} (may_give : I → ℕ → Answer → I �
       × ((fault : SumFault) × IsSummed needs parts.items (Err fault) × IsUnsummedFor fault cause))
 
 module _ (may : SystemMay) {I : Type 0} (may_give : I → ℕ → Answer → I → Type 0) (w : WalkRequest) (o : Options) (needs : Needs) where
-  -- the report of a side, or that memory is refused before either is known
+  -- the report of a side, or why there is none. Memory may be refused before it is known what the side is
   abbrev pub GivesSide : List ℕ → I → Result Report Cause → I → Type 0
   GivesSide name input answer read =
       (IsSide may.unlist name true × CountsSide may w o name answer × (read ≡ input))
       ⊎ (IsSide may.unlist name false × ReadsSide may may_give needs name input answer read)
       ⊎ ((answer ≡ Err Memory) × (read ≡ input))
 
-  -- the reports of both sides, the old one first
+  -- the reports of both sides, the old side first, or why there is none
   abbrev pub GivesSides : List ℕ → List ℕ → I → Result (Report × Report) Cause → I → Type 0
   GivesSides old new input (Ok both) read =
       (between : I) × GivesSide old input (Ok both.0) between × GivesSide new between (Ok both.1) read

@@ -30,7 +30,7 @@ use Rattle.lc_sums.specs.declared.sum.Sum.{Sum}
 use Rattle.lc_sums.specs.declared.sum_fault.SumFault.{SumFault}
 use Rattle.lc_walk.specs.declared.report.Report.{Report}
 
--- the REPORTs of the words
+-- the REPORTs of the command line
 abbrev pub reports_of : SumRequest → List Typed
 reports_of c = map report_model c.reports.items
 
@@ -39,52 +39,52 @@ abbrev pub typed_text : Typed → List ℕ
 typed_text (None, report) = report
 typed_text (Some name, report) = name ++ codes "=" ++ report
 
--- all of them as one text
+-- all REPORTs of the command line as one text, as they were typed
 abbrev pub summed_in : SumRequest → List ℕ
 summed_in c = one_text (map typed_text (reports_of c))
 
--- what is needed of each report
+-- the columns and lists that each report must have
 abbrev pub needed_by : SumRequest → Needs
 needed_by c = needs_of c.table.by c.conditions.items (c.table.files || is_picture c.table.format) c.left_out
 
--- rows by these columns
+-- the columns of a table with these columns of reports' rows, and none for directories
 abbrev pub columns_of : RowColumns → Columns
 columns_of columns = record { dir = None; ext = columns.ext; text = columns.text; eol = columns.eol }
 
--- the sums over text and binary files
+-- the sums over the text files and over the binary files of a sum of reports
 abbrev pub classes_in : Sum → ClassSums
 classes_in s = record { text = s.text; binary = s.binary; some_binary = nat_lt 0 s.binary.files }
 
 module _ {O : Type 0} (may_take : O → List ℕ → Result ℕ Failed → O → Type 0) (other : Format) (c : SumRequest) where
-  -- the table of what meets the conditions of a sum, with this format if the words name none; if they name no columns, those that each
-  -- report has
+  -- what a call answers that writes the table of what meets the conditions of a sum. The format is `other` if the command line names none,
+  -- and the columns are those that each report has if it names no columns
   abbrev pub AnswersTableOf : Sum → Report → O → Result (Unit {0}) PrintFault → O → Type 0
   AnswersTableOf s left out answer wrote =
       AnswersText may_take
       (λ text. IsPrintedWith (summed_in c) c.conditions.items (options_in other (columns_of s.columns) c.table) s.report (classes_in s) text
       left) out answer wrote
 
-  -- the table of a sum was written whole, and this is left of it; or it was not written, or not whole
+  -- the table of a sum was written whole, and `left` is the part of the sum that meets the conditions; or it was not written, or not whole
   abbrev pub PrintsSum : Sum → O → Result Report Cause → O → Type 0
   PrintsSum s out (Ok left) wrote = AnswersTableOf s left out (Ok tt) wrote
   PrintsSum s out (Err cause) wrote =
       (left : Report) × (fault : PrintFault) × (cause ≡ print_cause fault) × AnswersTableOf s left out (Err fault) wrote
 
-  -- parts were added up, and their sum was printed; or they have no sum, and nothing was written
+  -- the reports of these parts were added up, and their sum was printed; or they have no sum, and nothing was written
   abbrev pub PrintsParts : List Part → O → Result Report Cause → O → Type 0
   PrintsParts parts out answer wrote =
       ((s : Sum) × IsSummed (needed_by c) parts (Ok s) × PrintsSum s out answer wrote)
       ⊎ ((fault : SumFault) × (cause : Cause) × IsSummed (needed_by c) parts (Err fault) × IsUnsummedFor fault cause × (answer ≡ Err cause)
       × (wrote ≡ out))
 
--- a sum is replied with the report of what was shown
+-- the reply to a sum: the report that was printed
 abbrev pub sum_reply : Result Report Cause → Reply
 sum_reply (Ok left) = Ok (Summed left)
 sum_reply (Err cause) = Err cause
 
 module _ (may : SystemMay) {I O : Type 0} (may_give : I → ℕ → Answer → I → Type 0)
     (may_take : O → List ℕ → Result ℕ Failed → O → Type 0) (other : Format) (c : SumRequest) where
-  -- the reports were read, and their sum was printed; or there are no reports, and nothing was written
+  -- how a sum is answered: the reports were read, and their sum was printed; or a report could not be read, and nothing was written
   abbrev pub AnswersSum : I → O → Reply → I → O → Type 0
   AnswersSum input out reply read wrote =
       ((parts : Vec Part Global) × AnswersParts may_give may.hold may.unread (reports_of c) input (Ok parts) read

@@ -1,13 +1,14 @@
--- What a system may answer of the names on a command line.
+-- What a system may answer about the names on a command line.
 use Rattle.std.specs.Prelude.{ℕ, List, Option}
 use Rattle.lc_tree.specs.Trees.{Listings, Contents}
 use Rattle.lc_tree.specs.declared.file_systems.FileSystems.{FileSystems}
 use Rattle.lc_program.specs.declared.repository.Repository.{Repository}
 use Rattle.lc_program.specs.declared.unread_reason.UnreadReason.{UnreadReason}
 
--- of the directory with each name, where all file systems or its own alone are entered, what listing each of its paths may answer and
--- what reads of the file there may give; what reads of the file with each name may give; why the directory and why the file with each
--- name can't be read; in which repository the directory with each name lies, below its top; and which canonical path it has
+-- what a system may answer. `list` and `give`: what listings of each path in the directory with a name, and reads of the file there, may
+-- give, where all file systems are entered or one alone. `hold`: what reads of the file with a name may give. `unlist`, `unread`: why the
+-- directory or the file with a name can't be read. `lie`: in which repository the directory with a name lies, below its top. `stand`: which
+-- canonical path it has
 pub record SystemMay : Type 1 where
   pub list : List ℕ → FileSystems → List ℕ → Listings
   pub give : List ℕ → FileSystems → List ℕ → Contents

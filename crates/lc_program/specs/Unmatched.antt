@@ -1,4 +1,4 @@
--- The lines that tell of patterns which can match nothing.
+-- The lines about patterns that can match nothing.
 use Rattle.std.specs.Prelude.{ℕ, cond, List, [], ◌++◌, codes, flat_map}
 use Rattle.std.specs.Borrow.{Bor}
 use Rattle.lc_arguments.specs.declared.filter_request.FilterRequest.{FilterRequest}
@@ -7,23 +7,23 @@ use Rattle.lc_arguments.specs.declared.request.Request.TheVariants.{CheckJoined,
 use Rattle.lc_rules.specs.CanMatch.{can_match}
 use Rattle.lc_text.specs.Visible.{visible_bytes}
 
--- this pattern can match nothing
+-- the line that says that this pattern can match nothing
 abbrev pub unmatched_line : List ℕ → List ℕ
 unmatched_line pattern = codes "lc: pattern '" ++ visible_bytes pattern ++ codes "' can match nothing\n"
 
--- that line, where it is so
+-- the line about a pattern if it can match nothing, and else nothing
 abbrev pub unmatched_text : List ℕ → List ℕ
 unmatched_text pattern = cond (can_match pattern) [] (unmatched_line pattern)
 
--- a line for each of these of which it is so
+-- a line for each of these patterns that can match nothing
 abbrev pub unmatched_lines : List (Bor (List ℕ)) → List ℕ
 unmatched_lines patterns = flat_map (λ (p : Bor (List ℕ)). unmatched_text p.now) patterns
 
--- the patterns of `--exclude`, and then those of `--include`
+-- a line for each pattern that can match nothing: those of `--exclude`, and then those of `--include`
 abbrev pub unmatched_of : FilterRequest → List ℕ
 unmatched_of e = unmatched_lines e.exclude.items ++ unmatched_lines e.include.items
 
--- the patterns of a request
+-- a line for each pattern of a request that can match nothing
 abbrev pub unmatched_in : Request → List ℕ
 unmatched_in CheckJoined = []
 unmatched_in (Check c) = []

@@ -1,4 +1,4 @@
--- What the words of a command ask of walks.
+-- What the command line requests of walks.
 use Rattle.std.specs.Prelude.{◌≡◌, ◌⊎◌, ℕ, if◌then◌else◌, List, map, Result, Ok, Err, Vec}
 use Rattle.std.specs.Borrow.{Bor}
 use Rattle.std.specs.Global.{Global}
@@ -14,11 +14,11 @@ use Rattle.lc_tree.specs.declared.file_systems.FileSystems.TheVariants.{All, One
 use Rattle.lc_walk.specs.declared.options.Options.{Options}
 use Rattle.lc_walk.specs.declared.options.ReportLists.{ReportLists}
 
--- the file systems whose directories the words let a walk enter
+-- the file systems whose directories the command line lets a walk enter
 abbrev pub entered_by : WalkRequest → FileSystems
 entered_by w = if w.one_file_system then One else All
 
--- options that ask for what the words ask of a walk, by these filters, with these lists
+-- the options of a walk are those that the command line requests, with these filters and these lists
 pub record IsAskedBy (w : WalkRequest) (wanted : ReportLists) (f : FiltersModel) (o : Options) : Type 0 where
   pub threads : o.threads ≡ w.threads
   pub max_dirs : o.max_dirs ≡ w.max_dirs
@@ -26,7 +26,7 @@ pub record IsAskedBy (w : WalkRequest) (wanted : ReportLists) (f : FiltersModel)
   pub filters : o.filters.now ≡ f
 
 module _ (may : SystemMay) {I : Type 0} (may_give : I → ℕ → Answer → I → Type 0) (w : WalkRequest) where
-  -- the paths that the words ask for, with those of the list that they name, or why there are none
+  -- the paths that the command line requests, with those of the list that it names, or why there are none
   abbrev pub AnswersPathsOf : I → Result (Vec (Bor (List ℕ)) Global) Cause → I → Type 0
   AnswersPathsOf input answer read =
       ((list : Vec ℕ Global) × GivesList may_give may.hold may.unread w.only_from input (Ok list) read
