@@ -22,7 +22,7 @@ pub(crate) enum Answered {
     Compared(Comparison, String),
 }
 
-/// Returns whether there are errors.
+/// Returns the outcome of a report with these errors: clean if the list is empty.
 fn outcome_by(faults: &[FaultLine]) -> Outcome
     ensures { result ≡ outcome_by faults.now }
 {
@@ -33,7 +33,7 @@ fn outcome_by(faults: &[FaultLine]) -> Outcome
     }
 }
 
-/// Returns whether one of two outcomes has errors.
+/// Returns the outcome of two reports together: clean if both are clean.
 fn outcome_of_both(one: Outcome, other: Outcome) -> Outcome
     ensures { result ≡ outcome_of_both one other }
 {

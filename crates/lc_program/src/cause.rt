@@ -23,7 +23,7 @@ pub enum Cause {
     TooManyDirs,
     /// A counted directory has an entry that is too deep.
     TooDeep,
-    /// The workers' rows make no tree at the directory with this number. No count ends with this error.
+    /// What the workers found does not make one tree: the directory with this number does not fit. No count ends with this error.
     Torn(u32),
     /// The worker with this number and the board that all workers share have different records. No count ends with this error.
     Mismatch(u32),
@@ -46,7 +46,8 @@ pub enum Cause {
     Nested(String),
     /// The walk of one of several directories ended without a report. The text is the line for standard error, which names the directory.
     InDirectory(String),
-    /// A report, or a directory of a comparison, can't be read or used. The text is the line for standard error, which says which and why.
+    /// A report, or a directory of a comparison, can't be read or used. The text is the line for standard error, which names it and says
+    /// why.
     InReport(String),
     /// Several reports have no column in common.
     NoSharedColumn,

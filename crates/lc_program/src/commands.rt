@@ -56,8 +56,8 @@ fn or_here(directory: &str) -> &str
     if directory.is_empty() { "." } else { directory }
 }
 
-/// Makes the words that show how to count the file with this name in this directory. The text is empty if the command can't be typed as it
-/// is shown.
+/// Makes the text that suggests the command to count the file with this name in this directory. The text is empty if the command can't be
+/// typed as it is shown.
 fn count_of_file(alloc: Global, name: &str, directory: &str) -> Result<String, AllocError>
     ensures { IfOk result (λ text. string_bytes text ≡ count_of_file name.now directory.now) }
 {
@@ -70,8 +70,8 @@ fn count_of_file(alloc: Global, name: &str, directory: &str) -> Result<String, A
     Ok(text)
 }
 
-/// Makes the words that show how to count the file at a path, to follow the reason why the path can't be read as a directory. The text is
-/// empty if the command can't be typed as it is shown.
+/// Makes the text that suggests the command to count the file at a path. The text follows the reason why the path can't be read as a
+/// directory, and is empty if the command can't be typed as it is shown.
 pub(crate) fn file_count(alloc: Global, path: &str) -> Result<String, AllocError>
     ensures { IfOk result (λ text. string_bytes text ≡ file_count path.now) }
 {

@@ -102,7 +102,7 @@ fn no_report_text(alloc: Global, why: NoReport) -> Result<String, AllocError>
     }
 }
 
-/// Returns the text, to follow the name of a report, that says which sums of the report are not those of its total.
+/// Returns the text that says which part of a report does not add up to its total. The text follows the name of the report.
 fn sums_text(part: Part) -> &'static str
     ensures { result.now ≡ sums_text part }
 {
@@ -113,7 +113,7 @@ fn sums_text(part: Part) -> &'static str
     }
 }
 
-/// Makes the text, to follow the name of a file or the input, that says why this is no report.
+/// Makes the text that says why a file or the input is no report. The text follows the name of the file or the input.
 fn refusal_text(alloc: Global, why: NoReport) -> Result<String, AllocError>
     ensures { IfOk result (λ text. string_bytes text ≡ codes "is no report: " ++ no_report_text why) }
 {
@@ -145,7 +145,7 @@ pub(crate) fn cause_of_refusal(alloc: Global, name: &[u8], fault: ReadFault) -> 
     }
 }
 
-/// Makes the text, to follow the name of a report, that says that the report lacks a column.
+/// Makes the text that says that a report lacks a column. The text follows the name of the report.
 fn no_column_text(alloc: Global, column: Column) -> Result<String, AllocError>
     ensures { IfOk result (λ text. string_bytes text ≡ codes "has no column " ++ column_name column ++ codes ": count with --files") }
 {

@@ -41,7 +41,7 @@ pub trait System {
     // The answers that may be given to which canonical path the directory with this name has.
     ghost stands: { Self → List ℕ → Option (List ℕ) → Type 0 };
 
-    /// Makes the tree of the directory with this name. The tree enters the directories of all file systems, or only those of the file
+    /// Makes the tree of the directory with this name. A walk of the tree enters directories on all file systems, or only those on the file
     /// system of its top. If there is no such directory, the top of the tree can't be listed.
     fn tree(
         &self,

@@ -20,8 +20,8 @@ fn reason_given(why: Option<UnreadReason>) -> &'static str
     }
 }
 
-/// Makes the words, to follow the reason, that show how to count a file that was named as a directory. If the reason is not `IsFile`, the
-/// text is empty.
+/// Makes the text that suggests a command for a file that was named as a directory. The text follows the reason, and is empty if the reason
+/// is not `IsFile`.
 fn count_instead(alloc: Global, path: &str, why: Option<UnreadReason>) -> Result<String, AllocError>
     ensures { IfOk result (λ text. string_bytes text ≡ count_instead path.now why) }
 {
