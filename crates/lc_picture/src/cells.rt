@@ -67,7 +67,7 @@ fn push_empty_cell(text: &mut Vec<u8>) -> Result<(), AllocError>
     text.extend_from_slice(b"<td></td>")
 }
 
-/// Appends a cell with a bar and the space next to the bar. The browser divides the width of the cell by their numbers.
+/// Appends a cell with a bar and the space next to the bar. The browser divides the width of the cell between the two by their numbers.
 fn push_bar_cell(text: &mut Vec<u8>, part: u128, whole: u128) -> Result<(), AllocError>
     ensures { OnOk result (text.new.items ≡ text.old.items ++ text_of (bar_cell part whole)) }
 {
