@@ -24,18 +24,18 @@ escape (c ∷ cs) =
     else if c == quotation_mark then Some (quotation_mark, 1)
     else octal (c ∷ cs)
 
--- a byte before the rest of a text
+-- a text with one more byte at its front
 abbrev pub put_byte : ℕ → Option (List ℕ × List ℕ) → Option (List ℕ × List ℕ)
 put_byte b None = None
 put_byte b (Some r) = Some (b ∷ r.0, r.1)
 
--- the byte of an escape before what follows the escape
+-- the text after an escape, with the byte of the escape at its front
 abbrev pub put_escape : Option (ℕ × ℕ) → (ℕ → Option (List ℕ × List ℕ)) → Option (List ℕ × List ℕ)
 put_escape None next = None
 put_escape (Some e) next = put_byte e.0 (next e.1)
 
--- the text up to the closing quotation mark, and what follows it; the first k bytes are passed over. None where the
--- text isn't closed or has another escape
+-- the text up to the closing quotation mark, and what follows the mark; the first k bytes are skipped. None if the text isn't closed or has
+-- another escape
 abbrev pub unquoted : ℕ → List ℕ → Option (List ℕ × List ℕ)
 unquoted k [] = None
 unquoted (suc k) (b ∷ bs) = unquoted k bs

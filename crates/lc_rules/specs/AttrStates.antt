@@ -9,7 +9,7 @@ use Rattle.lc_rules.specs.Verdicts.{below}
 use Rattle.lc_rules.specs.declared.states.TextState.{TextState}
 use Rattle.lc_rules.specs.declared.states.TextState.TheVariants.{Set, Unset, Auto, Other, Unspecified}
 
--- the macro that is built in
+-- the macro `binary`, which is built in
 abbrev pub binary : MacroModel
 binary = (codes "binary", (codes "diff", unset) ∷ (codes "merge", unset) ∷ (codes "text", unset) ∷ [])
 
@@ -24,30 +24,30 @@ abbrev pub top_macros : List (ℕ × AttrFileModel) → List MacroModel
 top_macros [] = []
 top_macros (f ∷ fs) = if f.1.is_top then f.1.macros else []
 
--- those that the file of `.git/info` defines
+-- the macros that the file of `.git/info` defines
 abbrev pub info_macros : Option AttrFileModel → List MacroModel
 info_macros None = []
 info_macros (Some f) = f.macros
 
--- the macros: `binary` as built in, then those of the top file, then those of `.git/info`
+-- the macros that a chain knows: `binary` as built in, then those of the top file, then those of `.git/info`
 abbrev pub macros_of : AttrChainModel → List MacroModel
 macros_of files = binary ∷ top_macros files.tree ++ info_macros files.info
 
--- the assignments of a line, from right to left, where it matches
+-- the assignments of a line, from right to left, if the line matches the path
 abbrev pub by_line : PatternLineModel → List ℕ → Bool → List AssignmentModel
 by_line l path is_dir = if is_match l.pattern path is_dir then reverse l.assigns else []
 
--- those of some lines, from the last to the first
+-- the assignments of the lines that match the path, from the last line to the first
 abbrev pub by_lines : List PatternLineModel → List ℕ → Bool → List AssignmentModel
 by_lines [] path is_dir = []
 by_lines (l ∷ ls) path is_dir = by_lines ls path is_dir ++ by_line l path is_dir
 
--- those of a tree's files: of the file nearest to the path before those of a farther one
+-- the assignments of a tree's files for a path: those of the file nearest to the path come before those of a farther one
 abbrev pub tree_assignments : List (ℕ × AttrFileModel) → List ℕ → Bool → List AssignmentModel
 tree_assignments [] path is_dir = []
 tree_assignments (f ∷ fs) path is_dir = tree_assignments fs path is_dir ++ by_lines f.1.lines (below f.0 path) is_dir
 
--- those of the file of `.git/info`, which sees the whole path
+-- the assignments of the file of `.git/info` for a path; the file is matched with the whole path
 abbrev pub info_assignments : Option AttrFileModel → List ℕ → Bool → List AssignmentModel
 info_assignments None path is_dir = []
 info_assignments (Some f) path is_dir = by_lines f.lines path is_dir
@@ -56,12 +56,12 @@ info_assignments (Some f) path is_dir = by_lines f.lines path is_dir
 abbrev pub assignments_of : AttrChainModel → List ℕ → Bool → List AssignmentModel
 assignments_of files path is_dir = info_assignments files.info path is_dir ++ tree_assignments files.tree path is_dir
 
--- what an attribute is for a path: what the decision of all names has for its name
+-- the state of an attribute for a path: what the decision of all names has for its name
 abbrev pub state_of : AttrChainModel → List ℕ → Bool → List ℕ → StateModel
 state_of files path is_dir name =
     unwrap_or (decided (decide (macros_of files) (assignments_of files path is_dir) []) name) unspecified
 
--- the attribute `text`, by its state
+-- the attribute `text` as the code has it, by its state
 abbrev pub as_text : StateModel → TextState
 as_text set = Set
 as_text unset = Unset

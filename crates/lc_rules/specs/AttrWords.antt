@@ -12,7 +12,7 @@ use Rattle.lc_rules.specs.Attributes.{StateModel, set, unset, value, unspecified
 abbrev pub is_white : ℕ → Bool
 is_white b = b == space || b == tab || b == carriage_return
 
--- a piece between white space that isn't empty
+-- whether a piece between white space is a word: it isn't empty
 abbrev pub is_some_word : List ℕ → Bool
 is_some_word word = nat_lt 0 (length word)
 
@@ -20,11 +20,11 @@ is_some_word word = nat_lt 0 (length word)
 abbrev pub words : List ℕ → List (List ℕ)
 words bytes = filter is_some_word (slice_split is_white bytes)
 
--- ASCII letters and digits, and `-`, `.` and `_`
+-- whether a byte may be in a name: ASCII letters and digits, and `-`, `.` and `_`
 abbrev pub is_name_byte : ℕ → Bool
 is_name_byte b = nat_le 65 b && nat_le b 90 || nat_le 97 b && nat_le b 122 || nat_le 48 b && nat_le b 57 || b == 45 || b == 46 || b == 95
 
--- the names of attributes and macros: one or more such bytes, of which a hyphen isn't the first
+-- whether an attribute or a macro can have this name: it has one or more such bytes, of which a hyphen isn't the first
 abbrev pub is_name : List ℕ → Bool
 is_name [] = false
 is_name (b ∷ bs) = not (b == hyphen) && list_all is_name_byte (b ∷ bs)
@@ -33,11 +33,11 @@ is_name (b ∷ bs) = not (b == hyphen) && list_all is_name_byte (b ∷ bs)
 abbrev pub IsEndOf : List ℕ → List ℕ → Type 0
 IsEndOf rest whole = (front : List ℕ) × (whole ≡ front ++ rest)
 
--- an assignment, if the name is one
+-- the assignment of a state to a name, if an attribute can have the name
 abbrev pub named : List ℕ → StateModel → Option AssignmentModel
 named name state = if is_name name then Some (name, state) else None
 
--- `name=value`, whose value is all that follows the first equals sign, or `name`
+-- the assignment of a word of the form `name=value`, whose value is all that follows the first equals sign, or `name`
 abbrev pub plain_assign : List ℕ → Option AssignmentModel
 plain_assign w =
     if nat_lt (position_or_len (is_byte equals_sign) w) (length w) then named (before_first (is_byte equals_sign) w)
@@ -52,7 +52,7 @@ assign (b ∷ bs) =
     else if b == exclamation_mark then named (before_first (is_byte equals_sign) bs) unspecified
     else plain_assign (b ∷ bs)
 
--- an assignment before others, where all are
+-- a list of assignments with one more at its front; none if one of the two is missing
 abbrev pub both : Option AssignmentModel → Option (List AssignmentModel) → Option (List AssignmentModel)
 both None others = None
 both (Some a) None = None

@@ -1,7 +1,7 @@
 -- What an attribute is for a path, and what a line says of one: gitattributes(5), DESCRIPTION.
 use Rattle.std.specs.Prelude.{ℕ, List}
 
--- what an attribute is; a name that nothing decides is unspecified, too
+-- the state of an attribute for a path; a name that no assignment decides is unspecified, too
 pub data StateModel : Type 0 where
   set : StateModel
   unset : StateModel

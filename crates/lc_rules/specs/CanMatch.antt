@@ -11,7 +11,7 @@ use Rattle.lc_rules.specs.IgnoreRules.{RuleModel, rule_of_line, text_of_line}
 abbrev pub MatchesNothing : RuleModel → Type 0
 MatchesNothing rule = (path : List ℕ) (is_dir : Bool) → is_good_path path ≡ true → is_match rule.pattern path is_dir ≡ false
 
--- a line that gives no rule, or such a one
+-- a line that gives no rule, or a rule that matches no path of an entry
 abbrev pub GivesNothing : List ℕ → Type 0
 GivesNothing line = (number : ℕ) → MatchOption (rule_of_line (number, line)) (Unit {0}) MatchesNothing
 
@@ -32,11 +32,11 @@ is_dots (b ∷ []) = b == dot
 is_dots (b ∷ c ∷ []) = (b == dot) && (c == dot)
 is_dots (b ∷ c ∷ d ∷ ds) = false
 
--- whether a bracket or a backslash is there, in which a slash cuts no segments
+-- whether a segment has a bracket or a backslash, in which a slash cuts no segments
 abbrev pub is_special : List ℕ → Bool
 is_special segment = list_any (λ b. b == opening) segment || list_any (λ b. b == backslash) segment
 
--- whether one of the segments before the first such one is `.` or `..`
+-- whether a segment is `.` or `..`, of those before the first segment that has a bracket or a backslash
 abbrev pub has_dots : List (List ℕ) → Bool
 has_dots [] = false
 has_dots (s ∷ ss) = if is_special s then false else is_dots s || has_dots ss
@@ -45,6 +45,6 @@ has_dots (s ∷ ss) = if is_special s then false else is_dots s || has_dots ss
 abbrev pub can_match : List ℕ → Bool
 can_match line = is_live (rule_of_line (1, line)) && not (has_dots (segments_of (pattern_text (text_of_line line))))
 
--- where it can't, it gives nothing
+-- a line for which `can_match` is false gives no rule, or a rule that matches no path of an entry
 abbrev pub CanMatchLaw : Type 0
 CanMatchLaw = (line : List ℕ) → can_match line ≡ false → GivesNothing line

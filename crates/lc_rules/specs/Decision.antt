@@ -4,7 +4,7 @@ use Rattle.std.specs.Prelude.{Some, None, is_some, unwrap_or}
 use Rattle.std.specs.Str.{bytes_eq}
 use Rattle.lc_rules.specs.Attributes.{StateModel, set, unset, value, unspecified, AssignmentModel, MacroModel}
 
--- what a list of decided names has for a name
+-- the state that a list of decided names has for a name
 abbrev pub decided : List AssignmentModel → List ℕ → Option StateModel
 decided [] name = None
 decided (a ∷ d) name = if bytes_eq a.0 name then Some a.1 else decided d name
@@ -13,7 +13,7 @@ decided (a ∷ d) name = if bytes_eq a.0 name then Some a.1 else decided d name
 abbrev pub has : List AssignmentModel → List ℕ → Bool
 has d name = is_some (decided d name)
 
--- what later definitions have, or else an earlier one
+-- the assignments of a later definition of a macro, or else those of an earlier one
 abbrev pub later : Option (List AssignmentModel) → Option (List AssignmentModel) → Option (List AssignmentModel)
 later None first = first
 later (Some body) first = Some body
@@ -23,7 +23,7 @@ abbrev pub macro_of : List MacroModel → List ℕ → Option (List AssignmentMo
 macro_of [] name = None
 macro_of (m ∷ ms) name = later (macro_of ms name) (if bytes_eq m.0 name then Some m.1 else None)
 
--- what is read where an assignment decides its name: where it sets a macro, the macro's assignments from right to left
+-- the assignments that are read where an assignment decides its name: if it sets a macro, the macro's assignments from right to left
 abbrev pub expansion : List MacroModel → AssignmentModel → List AssignmentModel
 expansion ms (name, set) = reverse (unwrap_or (macro_of ms name) [])
 expansion ms (name, unset) = []
@@ -42,14 +42,14 @@ pub record IsDecision (ms : List MacroModel) (decide : List AssignmentModel → 
   pub take : (a : AssignmentModel) (rest d : List AssignmentModel) → has d a.0 ≡ false
       → decide (a ∷ rest) d ≡ decide (expansion ms a ++ rest) (a ∷ d)
 
--- the same within so many steps
+-- the decision, within this many steps
 abbrev pub decide_within : List MacroModel → ℕ → List AssignmentModel → List AssignmentModel → List AssignmentModel
 decide_within ms zero todo d = d
 decide_within ms (suc k) [] d = d
 decide_within ms (suc k) (a ∷ r) d =
     if has d a.0 then decide_within ms k r d else decide_within ms k (expansion ms a ++ r) (a ∷ d)
 
--- steps enough for the macros that are not decided: one for each, and one for each of its assignments
+-- enough steps for the macros that are not decided: one for each macro, and one for each of its assignments
 abbrev pub unread : List MacroModel → List AssignmentModel → ℕ
 unread [] d = 0
 unread (m ∷ ms) d = (if has d m.0 then 0 else suc (length m.1)) + unread ms d
@@ -58,7 +58,7 @@ unread (m ∷ ms) d = (if has d m.0 then 0 else suc (length m.1)) + unread ms d
 unfoldable pub decide : List MacroModel → List AssignmentModel → List AssignmentModel → List AssignmentModel
 decide ms todo d = decide_within ms (length todo + unread ms d) todo d
 
--- whichever macros there are, the decision keeps its equations, and what else keeps them is the same
+-- for all macros, `decide` keeps the three equations, and any function that keeps them decides as `decide` does
 abbrev pub DecidesByEquations : Type 0
 DecidesByEquations =
     (ms : List MacroModel)

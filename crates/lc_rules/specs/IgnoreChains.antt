@@ -8,8 +8,8 @@ use Rattle.lc_rules.specs.Verdicts.{at_depth, from_file}
 use Rattle.lc_rules.specs.declared.rule_source.RuleSource.{RuleSource}
 use Rattle.lc_rules.specs.declared.rule_source.RuleSource.TheVariants.{ExcludeFrom, InfoExclude, CommandLine}
 
--- the rules that speak of a directory's entries: the exclude file, that of `.git/info`, those of the tree from the top down,
--- each with the depth of its directory, and the patterns of the command line; and whether no ignore file of the tree is read
+-- the rules for a directory's entries: the exclude file, that of `.git/info`, those of the tree from the top down, each with the depth of
+-- its directory, and the patterns of the command line; and whether no ignore file of the tree is read
 pub record ChainModel : Type 0 where
   pub exclude : Option (List RuleModel)
   pub info : Option (List RuleModel)
@@ -17,12 +17,12 @@ pub record ChainModel : Type 0 where
   pub command_line : Option (List RuleModel)
   pub no_ignore : Bool
 
--- the rules of a file, where it is there
+-- the rules of a file with this source, if there is such a file
 abbrev pub rules_if : RuleSource → Option (List RuleModel) → List (RuleSource × RuleModel)
 rules_if source None = []
 rules_if source (Some rules) = from_file source rules
 
--- those of the tree's files, from the top down
+-- the rules of the tree's files, from the top down
 abbrev pub joined : List (ℕ × List RuleModel) → List (RuleSource × RuleModel)
 joined [] = []
 joined (f ∷ fs) = at_depth f.0 f.1 ++ joined fs
@@ -37,7 +37,7 @@ rules_in chain =
 abbrev pub no_ignore_files : ChainModel
 no_ignore_files = record { exclude = None; info = None; tree = []; command_line = None; no_ignore = false }
 
--- with other files in place of those of the tree, and in place of the exclude file and the command line
+-- the chain with other files in place of the tree's and `.git/info`'s, or in place of the exclude file and the command line
 module _ (chain : ChainModel) where
   abbrev pub with_files : Option (List RuleModel) → List (ℕ × List RuleModel) → ChainModel
   with_files info tree = record {
@@ -57,7 +57,7 @@ module _ (chain : ChainModel) where
     no_ignore = chain.no_ignore;
   }
 
-  -- which reads no ignore file of the tree, or each
+  -- the chain, marked with whether no ignore file of the tree is read
   abbrev pub with_no_ignore : Bool → ChainModel
   with_no_ignore no_ignore = record {
     exclude = chain.exclude;
@@ -67,7 +67,7 @@ module _ (chain : ChainModel) where
     no_ignore = no_ignore;
   }
 
--- with a file in its place, or the same chain
+-- the chain with a file in its place, or the unchanged chain if there is no file
 module _ {A : Type 0} (chain : ChainModel) where
   abbrev pub with_exclude : Option (Arc (List RuleModel) A) → ChainModel
   with_exclude file = with_given chain (option_or (lent file) chain.exclude) chain.command_line

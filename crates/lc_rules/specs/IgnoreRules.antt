@@ -24,7 +24,7 @@ without_return [] = []
 without_return (b ∷ []) = if b == carriage_return then [] else b ∷ []
 without_return (b ∷ c ∷ cs) = b ∷ without_return (c ∷ cs)
 
--- a single byte before what is kept of the units after it: a space is dropped where nothing after it is kept
+-- a line's kept part with one more byte at its front: a space is dropped if nothing after it is kept
 abbrev pub byte_before : ℕ → List ℕ → List ℕ
 byte_before b [] = if b == space then [] else b ∷ []
 byte_before b (c ∷ cs) = b ∷ c ∷ cs
@@ -37,7 +37,7 @@ without_spaces (b ∷ []) = byte_before b []
 without_spaces (b ∷ c ∷ cs) =
     if b == backslash then b ∷ c ∷ without_spaces cs else byte_before b (without_spaces (c ∷ cs))
 
--- the text of a line: what of it is read as a rule
+-- the text of a line: the part of the line that is read as a rule
 abbrev pub text_of_line : List ℕ → List ℕ
 text_of_line line = without_spaces (without_return line)
 

@@ -13,12 +13,12 @@ use Rattle.lc_rules.specs.declared.known_macros.MacroBody.{MacroBody}
 use Rattle.lc_rules.specs.declared.known_macros.MacroBody.TheVariants.{Defined, Binary}
 use Rattle.lc_rules.specs.declared.resolver.Query.{Query}
 
--- the macros of a table that may be there
+-- the macros of a table, or none if there is no table
 abbrev pub defined_in : Option (Bor (List MacroModel)) → List MacroModel
 defined_in None = []
 defined_in (Some table) = table.now
 
--- `binary` and those of both tables
+-- the macro `binary`, and the macros of both tables
 abbrev pub known_macros : KnownMacros → List MacroModel
 known_macros m = binary ∷ defined_in m.top ++ defined_in m.info
 
@@ -27,7 +27,7 @@ abbrev pub macro_body_model : MacroBody → List AssignmentModel
 macro_body_model (Defined assignments) = assigned assignments.now
 macro_body_model Binary = binary.1
 
--- what is read of a macro's assignments where its name is decided as this state
+-- the assignments of a macro that are read if the macro is decided to be in this state
 abbrev pub expanded : List AssignmentModel → StateModel → List AssignmentModel
 expanded body set = reverse body
 expanded body unset = []
@@ -38,10 +38,10 @@ expanded body unspecified = []
 abbrev pub matters : List MacroModel → List ℕ → List ℕ → Bool
 matters ms wanted name = bytes_eq name wanted || is_some (macro_of ms name)
 
--- whether an assignment of some lines can
+-- whether some assignment of these lines can decide the attribute
 abbrev pub some_matters : List MacroModel → List ℕ → List PatternLineModel → Bool
 some_matters ms wanted lines = list_any (λ l. list_any (λ a. matters ms wanted a.0) l.assigns) lines
 
--- the macros that may lead to the attribute
+-- the macros whose assignments may decide the attribute of a query
 abbrev pub macros_for : Query → List MacroModel
 macros_for w = known_macros w.macros

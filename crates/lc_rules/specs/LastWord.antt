@@ -1,13 +1,13 @@
--- Where the last word of an attribute line stands.
+-- Where the last word of an attribute line begins.
 use Rattle.std.specs.Prelude.{◌≡◌, ℕ, false, true, List, [], ◌∷◌, ◌++◌, take, drop}
 use Rattle.std.specs.List.{list_any}
 use Rattle.lc_rules.specs.AttrWords.{is_white}
 
--- the bytes, if there are some, don't end with white space
+-- the bytes don't end with white space
 abbrev pub EndsBlack : List ℕ → Type 0
 EndsBlack bytes = (front : List ℕ) (b : ℕ) → bytes ≡ front ++ (b ∷ []) → is_white b ≡ false
 
--- no byte from a place on is white, and the one before it, if there is one, is
+-- no byte from `start` on is white space, and the byte before `start`, if there is one, is
 pub record IsLastWordAt (start : ℕ) (bytes : List ℕ) : Type 0 where
   pub black : list_any is_white (drop start bytes) ≡ false
   pub white : (front : List ℕ) (b : ℕ) → take start bytes ≡ front ++ (b ∷ []) → is_white b ≡ true

@@ -19,7 +19,7 @@ assigns_name assigns name = list_any (λ a. bytes_eq a.0 name) assigns
 abbrev pub lines_name : List PatternLineModel → List ℕ → Bool
 lines_name lines name = list_any (λ l. assigns_name l.assigns name) lines
 
--- whether a set of names has one
+-- whether a set of names has this name
 abbrev pub has_name : BTreeSet (Vec ℕ Global) → List ℕ → Bool
 has_name names name = tree.contains_by (λ k. slice_cmp nat_cmp name k.items) names
 
@@ -27,6 +27,6 @@ has_name names name = tree.contains_by (λ k. slice_cmp nat_cmp name k.items) na
 abbrev pub HasNames : List PatternLineModel → BTreeSet (Vec ℕ Global) → Type 0
 HasNames lines names = (name : List ℕ) → lines_name lines name ≡ true → has_name names name ≡ true
 
--- no line assigns the name of a macro
+-- no line assigns the name of one of these macros
 abbrev pub NameNone : List PatternLineModel → List MacroModel → Type 0
 NameNone lines ms = (name : List ℕ) → is_some (macro_of ms name) ≡ true → lines_name lines name ≡ false

@@ -1,4 +1,4 @@
--- What definitions see of the code's types.
+-- The values of the code's types, as definitions see them.
 use Rattle.std.specs.Prelude.{ℕ, List, Option, Some, None}
 use Rattle.lc_glob.specs.Reading.{pattern_of}
 use Rattle.lc_rules.specs.Attributes.{StateModel, set, unset, value, unspecified, AssignmentModel, MacroModel}
@@ -15,14 +15,14 @@ use Rattle.lc_rules.specs.declared.attr_line.PatternText.{PatternText}
 use Rattle.lc_rules.specs.declared.attr_line.PatternText.TheVariants.{Written, Unquoted}
 use Rattle.lc_rules.specs.declared.macro_table.Macro.{Macro as CodeMacro}
 
--- what a state shows
+-- the state of an attribute
 abbrev pub state_model : State → StateModel
 state_model Set = set
 state_model Unset = unset
 state_model (Value v) = value v.now
 state_model Unspecified = unspecified
 
--- an assignment, and a macro
+-- an assignment of the code, and a macro of the code
 abbrev pub assignment_model : Assignment → AssignmentModel
 assignment_model a = (a.name.now, state_model a.state)
 
@@ -34,7 +34,7 @@ abbrev pub pattern_bytes : PatternText → List ℕ
 pattern_bytes (Written bytes) = bytes.now
 pattern_bytes (Unquoted bytes) = bytes.items
 
--- what a line of an attribute file gives
+-- what a line of an attribute file gives: a macro, or a pattern with assignments
 abbrev pub macro_line_model : MacroLine → MacroModel
 macro_line_model l = (l.name.now, assigned l.assignments.now)
 
@@ -45,7 +45,7 @@ abbrev pub attr_line_model : AttrLine → AttrLineModel
 attr_line_model (Macro l) = macro_line (macro_line_model l)
 attr_line_model (Pattern l) = pattern_line (pattern_line_model l)
 
--- what may have been found, as the definitions see it
+-- a state, an assignment or a line that the code may have found
 abbrev pub seen_state : Option State → Option StateModel
 seen_state None = None
 seen_state (Some s) = Some (state_model s)

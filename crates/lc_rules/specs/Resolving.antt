@@ -11,20 +11,20 @@ use Rattle.lc_rules.specs.declared.resolver.Resolver.{Resolver}
 use Rattle.lc_rules.specs.declared.states.State.{State}
 use Rattle.lc_rules.specs.declared.assignment.Assignment.{Assignment}
 
--- these names are decided, in whatever state
+-- these names as decided ones, all in one state, since only whether they are decided matters
 abbrev pub marked : List (List ℕ) → List AssignmentModel
 marked [] = []
 marked (n ∷ ns) = (n, set) ∷ marked ns
 
--- whether a name is among these
+-- whether a name is among these decided names
 abbrev pub is_marked : List (List ℕ) → List ℕ → Bool
 is_marked ns n = has (marked ns) n
 
--- what is decided for one name where these names of macros are decided: the decision of all names with a smaller start
+-- the state that is decided for the name `wanted`, if these assignments are read and these names of macros are decided before
 abbrev pub answer : List MacroModel → List ℕ → List AssignmentModel → List (List ℕ) → Option StateModel
 answer ms wanted todo ns = decided (decide ms todo (marked ns)) wanted
 
--- reading these assignments decides the name, or leaves others to be read and other names of macros decided
+-- reading the assignments `todo` finds the state of the name, or leaves other assignments to be read and other names of macros decided
 abbrev pub Moves : List MacroModel → List ℕ → List AssignmentModel → List (List ℕ) → Option StateModel → List AssignmentModel
     → List (List ℕ) → Type 0
 Moves ms wanted todo before found left after =
@@ -33,15 +33,15 @@ Moves ms wanted todo before found left after =
     × ((rest : List AssignmentModel) → answer ms wanted (todo ++ rest) before ≡ answer ms wanted (left ++ rest) after))
     (λ s. (rest : List AssignmentModel) → answer ms wanted (todo ++ rest) before ≡ Some s)
 
--- how many assignments may still be read
+-- a bound on the number of assignments that may still be read
 abbrev pub to_read : List MacroModel → List AssignmentModel → List (List ℕ) → ℕ
 to_read ms todo ns = length todo + unread ms (marked ns)
 
--- the names of the macros that are decided
+-- the names in a resolver's set of decided macros
 abbrev pub names_in : BTreeSet (Bor (List ℕ)) → List (List ℕ)
 names_in names = map (λ n. n.now) names.keys
 
--- what a stack of assignments leaves to be read
+-- the assignments of a stack in the order in which they are read
 abbrev pub stacked : List Assignment → List AssignmentModel
 stacked words = reverse (map assignment_model words)
 
@@ -60,6 +60,6 @@ pub record Decides (query : Query) (todo : List AssignmentModel) (old : Resolver
   pub moves : ReadsAssignments query todo old found [] new
   pub empty : IfNone found (new.pending.items ≡ [])
 
--- how many assignments a resolver may still read for a query
+-- a bound on the number of assignments that a resolver may still read for a query
 abbrev pub still_to_read : Query → Resolver → ℕ
 still_to_read query r = to_read (macros_for query) (stacked r.pending.items) (names_in r.decided)

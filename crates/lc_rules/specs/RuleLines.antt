@@ -9,11 +9,11 @@ abbrev pub without_mark : List ℕ → List ℕ
 without_mark (a ∷ b ∷ c ∷ rest) = if a == 0xEF && b == 0xBB && c == 0xBF then rest else a ∷ b ∷ c ∷ rest
 without_mark bytes = bytes
 
--- the pieces between line feeds. The piece after a last line feed is empty, and an empty line gives nothing in either
--- format, so that no line stands there
+-- the pieces of a file between line feeds. The piece after a last line feed is empty, and an empty line gives nothing in either format, so
+-- this piece adds no rule
 abbrev pub lines_of : List ℕ → List (List ℕ)
 lines_of bytes = pieces_of line_feed (without_mark bytes)
 
--- the lines of the bytes that are left, or none after the last
+-- the lines that are still to be read, or none after the last
 abbrev pub lines_left : Option (Bor (List ℕ)) → List (List ℕ)
 lines_left rest = pieces_left line_feed rest

@@ -3,7 +3,7 @@ use Rattle.std.specs.Prelude.{ℕ, List, codes, Option, Some, None}
 use Rattle.lc_rules.specs.declared.states.TextState.{TextState}
 use Rattle.lc_rules.specs.declared.states.TextState.TheVariants.{Set, Unset, Auto, Other, Unspecified}
 
--- the word by which reports name a state; there is none where the attribute is unspecified
+-- the word by which reports name a state; an unspecified attribute has none
 abbrev pub text_word : TextState → Option (List ℕ)
 text_word Set = Some (codes "set")
 text_word Unset = Some (codes "unset")

@@ -10,12 +10,12 @@ use Rattle.lc_rules.specs.declared.rule_source.RuleSource.TheVariants.{ExcludeFr
 use Rattle.lc_rules.specs.declared.verdicts.Verdict.{Verdict}
 use Rattle.lc_rules.specs.declared.verdicts.Verdict.TheVariants.{Ignored, Included, NoRule}
 
--- a path without its first segments, as a file in the directory at this depth sees it
+-- a path without its first segments: the path as seen from a directory at this depth
 abbrev pub below : ℕ → List ℕ → List ℕ
 below zero path = path
 below (suc depth) path = below depth (after_first (is_byte slash) path)
 
--- how deep the directory is of which a file sees what stands below it
+-- the depth of the directory whose paths the rules of a source are matched with
 abbrev pub depth_at : RuleSource → ℕ
 depth_at ExcludeFrom = 0
 depth_at (InfoExclude depth) = depth
@@ -26,7 +26,7 @@ depth_at CommandLine = 0
 abbrev pub rule_matches : List ℕ → Bool → (RuleSource × RuleModel) → Bool
 rule_matches path is_dir rule = is_match rule.1.pattern (below (depth_at rule.0) path) is_dir
 
--- what a rule says where it matches
+-- the verdict of a rule on a path that it matches
 abbrev pub verdict_by : RuleModel → Verdict
 verdict_by rule = if rule.is_negated then Included else Ignored
 
@@ -34,12 +34,12 @@ verdict_by rule = if rule.is_negated then Included else Ignored
 abbrev pub last_match : List (RuleSource × RuleModel) → List ℕ → Bool → Option (RuleSource × RuleModel)
 last_match rules path is_dir = last_or None (filter (rule_matches path is_dir) rules)
 
--- what the rule that decides says
+-- the verdict of the rule that decides, if any does
 abbrev pub verdict_from : Option (RuleSource × RuleModel) → Verdict
 verdict_from None = NoRule
 verdict_from (Some rule) = verdict_by rule.1
 
--- the verdict of these rules
+-- the verdict of these rules on a path
 abbrev pub verdict_of : List (RuleSource × RuleModel) → List ℕ → Bool → Verdict
 verdict_of rules path is_dir = verdict_from (last_match rules path is_dir)
 
@@ -47,6 +47,6 @@ verdict_of rules path is_dir = verdict_from (last_match rules path is_dir)
 abbrev pub from_file : RuleSource → List RuleModel → List (RuleSource × RuleModel)
 from_file source rules = map (λ r. (source, r)) rules
 
--- those of a file of a directory at this depth
+-- the rules of a `.gitignore` in a directory at this depth
 abbrev pub at_depth : ℕ → List RuleModel → List (RuleSource × RuleModel)
 at_depth depth rules = from_file (Gitignore depth) rules

@@ -1,4 +1,4 @@
-//! Chains of attribute files.
+//! Chains of attribute files: the files that apply in a directory, in the order of precedence.
 
 ghost use Rattle.std.specs.Prelude.{◌≡◌, false, IfOk, codes};
 ghost use Rattle.lc_rules.specs.Models.{state_model};
@@ -20,7 +20,7 @@ use std::alloc::{AllocError, Global};
 use std::marker::Model;
 use std::sync::Arc;
 
-/// Reads the lines of a file, unless none of them can decide the attribute.
+/// Looks for the state of an attribute in the lines of a file. If no line can decide the attribute, the lines are not matched.
 fn decide_by_file<'a>(
     query: Query<'_, 'a>,
     file: &'a AttrFile,
@@ -38,7 +38,7 @@ fn decide_by_file<'a>(
     decide_by_lines(query, lines, path, is_dir, resolver)
 }
 
-/// Reads the lines of the files, the nearest to the path first.
+/// Looks for the state of an attribute in the lines of the tree's files, from the file nearest to the path up.
 fn decide_by_files<'a>(
     query: Query<'_, 'a>,
     files: FilesLeft<'a, AttrFile>,
@@ -60,7 +60,7 @@ fn decide_by_files<'a>(
     Ok(found)
 }
 
-/// Reads the lines of the file of `.git/info`, if there is one.
+/// Looks for the state of an attribute in the lines of `.git/info/attributes`, if there is such a file.
 fn decide_by_info<'a>(
     query: Query<'_, 'a>,
     info: &'a Option<Arc<AttrFile, Global>>,
@@ -96,7 +96,7 @@ impl Model for AttrChain {
 }
 
 impl AttrChain {
-    /// Returns the chain without a file, which knows the macro `binary` alone.
+    /// Returns the chain that has no file yet. The chain knows one macro, `binary`.
     pub fn top() -> AttrChain
         ensures { result ≡ no_files }
     {
@@ -106,8 +106,8 @@ impl AttrChain {
         }
     }
 
-    /// Returns the chain with one more file of the tree, or a copy if there is no file. `depth` is the number of segments of the file's
-    /// directory.
+    /// Returns the chain with one more attribute file of the tree, or a copy if `file` is `None`. `depth` is the number of segments in the
+    /// path of the file's directory.
     pub fn below(
         &self,
         alloc: Global,
@@ -121,8 +121,8 @@ impl AttrChain {
         Ok(AttrChain { files, info })
     }
 
-    /// Returns the chain with the file of `.git/info/attributes`, or a copy if there is no file. The file was read as a top-level one. It
-    /// overrides every file that the chain has or gains later, and replaces an earlier file of `.git/info`.
+    /// Returns the chain with the file `.git/info/attributes`, or a copy if `file` is `None`. The file is one that was read with `top`. It
+    /// overrides every other file of the chain, also files that are added later, and replaces an earlier file of `.git/info`.
     pub fn with_info(
         &self,
         alloc: Global,
@@ -176,7 +176,7 @@ impl AttrChain {
         }
     }
 
-    /// Reads the lines of the files, that of `.git/info` first.
+    /// Looks for the state of an attribute in the files of the chain, first in `.git/info/attributes`.
     fn decide<'a>(
         &'a self,
         query: Query<'_, 'a>,
@@ -204,7 +204,7 @@ impl AttrChain {
     }
 }
 
-/// Returns the macros of the first file, if it is top-level.
+/// Returns the macros of the first of these files, if that file was read as top-level.
 fn top_macros<'a>(files: FilesLeft<'a, AttrFile>) -> Option<&'a MacroTable>
     ensures { defined_in result ≡ top_macros files.entry }
 {

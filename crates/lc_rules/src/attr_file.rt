@@ -44,7 +44,7 @@ impl AttrFile {
         Ok(file)
     }
 
-    /// Returns whether the file was read as one of the tree's top directory.
+    /// Returns whether the file was read with `top`, so that it may define macros.
     pub fn is_top(&self) -> bool
         ensures { result ≡ self.now.is_top }
     {

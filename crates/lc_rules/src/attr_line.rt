@@ -1,4 +1,4 @@
-//! The macro or the pattern of a line of an attribute file.
+//! Reading a line of an attribute file, which defines a macro or assigns attributes by a pattern.
 
 ghost use Rattle.std.specs.Prelude.{◌≡◌, IfOk, MatchOption, Some, None};
 ghost use Rattle.lc_rules.specs.AttrLines.{as_macro, by_pattern, is_negated, macro_word, by_words, by_quote, trimmed, given_by};
@@ -16,7 +16,7 @@ use std::alloc::{AllocError, Global};
 pub(crate) enum PatternText<'a> {
     /// The bytes as they are in the line.
     Written(&'a [u8]),
-    /// The bytes without the quotation marks and the escapes of the line.
+    /// The bytes of a quoted pattern, without its quotation marks and with its escapes replaced.
     Unquoted(Vec<u8>),
 }
 
@@ -31,14 +31,14 @@ impl<'a> PatternText<'a> {
     }
 }
 
-/// A line with a pattern, and the words of its assignments.
+/// A line with a pattern, and the bytes that hold its assignments.
 #[derive(Drop)]
 pub(crate) struct PatternLine<'a> {
     pub(crate) pattern: PatternText<'a>,
     pub(crate) assignments: &'a [u8],
 }
 
-/// A line that defines a macro, and the words of its assignments.
+/// A line that defines a macro, and the bytes that hold the macro's assignments.
 #[derive(Clone, Copy)]
 pub(crate) struct MacroLine<'a> {
     pub(crate) name: &'a [u8],
@@ -83,7 +83,7 @@ fn read_pattern_line<'a>(pattern: PatternText<'a>, assignments: &'a [u8]) -> Opt
     }))
 }
 
-/// Returns the name of the macro that a first word defines.
+/// Returns the name of the macro that the first word of a line defines, such as `m` for `[attr]m`.
 fn macro_word<'a>(word: &'a [u8]) -> Option<&'a [u8]>
     ensures { MatchOption result (macro_word word.now ≡ None) (λ n. macro_word word.now ≡ Some n.now) }
 {
@@ -115,7 +115,7 @@ fn read_quoted<'a>(alloc: Global, bytes: &'a [u8]) -> Result<Option<AttrLine<'a>
     Ok(read_pattern_line(PatternText::Unquoted(pattern), rest))
 }
 
-/// Reads a line without white space at its start. A line that defines a macro has a meaning in a top-level file alone.
+/// Reads a line that has no white space at its start. A line that defines a macro has a meaning only in a top-level file.
 pub(crate) fn read_line<'a>(
     alloc: Global,
     is_top: bool,
@@ -133,7 +133,7 @@ pub(crate) fn read_line<'a>(
     }
 }
 
-/// Returns the pattern of a line that has one, and what follows it.
+/// Splits a line that has a pattern into that pattern and the bytes after it, which hold the assignments.
 pub(crate) fn split_line<'a>(
     alloc: Global,
     line: &'a [u8],

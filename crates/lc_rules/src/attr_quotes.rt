@@ -1,4 +1,4 @@
-//! Quoted patterns.
+//! Reading the quoted patterns of attribute lines.
 
 ghost use Rattle.std.specs.Prelude.{◌≡◌, ◌≤◌, length, IfOk, IfSome, MatchOption, Some, None};
 ghost use Rattle.lc_rules.specs.AttrQuotes.{escape, octal, is_octal, unquoted};
@@ -27,7 +27,7 @@ fn octal(bytes: &[u8]) -> Option<(u8, usize)>
     }
 }
 
-/// Returns the byte of an escape, and how many bytes it takes.
+/// Reads the escape that follows a backslash. Returns the byte that the escape stands for, and the number of bytes of the escape.
 fn escape(bytes: &[u8]) -> Option<(u8, usize)>
     ensures is { result ≡ escape bytes.now }
     ensures within { IfSome result (λ r. r.1 ≤ length bytes.now) }
@@ -47,7 +47,8 @@ fn escape(bytes: &[u8]) -> Option<(u8, usize)>
     }
 }
 
-/// Returns the text up to the closing quote, and what follows it.
+/// Reads a pattern from after its opening quotation mark. Returns the pattern, with its escapes replaced, and the bytes after the closing
+/// mark.
 pub(crate) fn unquoted<'a>(
     alloc: Global,
     bytes: &'a [u8],

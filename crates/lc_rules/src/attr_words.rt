@@ -1,4 +1,4 @@
-//! The words of an attribute line, and their assignments.
+//! Splitting a line of an attribute file into words, and reading words as assignments, such as `-text`.
 
 ghost use Rattle.std.specs.Prelude.{◌≡◌, ◌≤◌, ◌<◌, ◌∷◌, [], length, IfSome, MatchOption};
 ghost use Rattle.std.specs.List.{before_first, list_all, position_or_len};
@@ -36,7 +36,7 @@ pub(crate) fn trimmed<'a>(line: &'a [u8]) -> &'a [u8]
     rest
 }
 
-/// Returns the place of the first white byte, or the length.
+/// Returns the index of the first white-space byte, or the length if there is no such byte.
 pub(crate) fn word_end(bytes: &[u8]) -> usize
     ensures is { result ≡ position_or_len is_white bytes.now }
     ensures within { result ≤ length bytes.now }
@@ -49,7 +49,7 @@ pub(crate) fn word_end(bytes: &[u8]) -> usize
     bytes.len()
 }
 
-/// Returns the first word, and what follows it.
+/// Returns the first word, and the bytes after the word.
 pub(crate) fn split_word<'a>(bytes: &'a [u8]) -> Option<(&'a [u8], &'a [u8])>
     ensures cases { MatchOption result (words bytes.now ≡ []) (λ p. words bytes.now ≡ p.0.now ∷ words p.1.now) }
     ensures smaller { IfSome result (λ p. length p.1.now < length bytes.now) }
@@ -90,7 +90,7 @@ fn has_name_bytes(name: &[u8]) -> bool
     name.iter().all(|b| is_name_byte(*b))
 }
 
-/// Returns an assignment, if the name is an attribute's name.
+/// Returns the assignment of a state to a name, or `None` if no attribute can have this name.
 fn named<'a>(name: &'a [u8], state: State<'a>) -> Option<Assignment<'a>>
     ensures { seen_assign result ≡ named name.now (state_model state.entry) }
 {
@@ -116,7 +116,7 @@ fn read_plain<'a>(word: &'a [u8]) -> Option<Assignment<'a>>
     named(&word[..i], State::Value(&word[i + 1..]))
 }
 
-/// Returns the assignment of a word.
+/// Reads a word as an assignment, such as `-text` or `eol=lf`. Returns `None` if no attribute can have the word's name.
 pub(crate) fn read_assignment<'a>(word: &'a [u8]) -> Option<Assignment<'a>>
     ensures { seen_assign result ≡ assign word.now }
 {
@@ -128,7 +128,7 @@ pub(crate) fn read_assignment<'a>(word: &'a [u8]) -> Option<Assignment<'a>>
     }
 }
 
-/// Returns whether all words are assignments.
+/// Returns whether each word in these bytes is an assignment.
 pub(crate) fn are_assignments(bytes: &[u8]) -> bool
     ensures { assigns (words bytes.now) ≡ all_assigned result bytes.now }
 {
@@ -142,7 +142,7 @@ pub(crate) fn are_assignments(bytes: &[u8]) -> bool
     true
 }
 
-/// Returns the first assignment, and what follows it.
+/// Returns the first word that is an assignment, and the bytes after the word.
 pub(crate) fn split_assignment<'a>(bytes: &'a [u8]) -> Option<(Assignment<'a>, &'a [u8])>
     ensures cases { MatchOption result (assigned bytes.now ≡ []) (λ p. assigned bytes.now ≡ assignment_model p.0 ∷ assigned p.1.now) }
     ensures smaller { IfSome result (λ p. length p.1.now < length bytes.now) }

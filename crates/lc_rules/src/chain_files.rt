@@ -1,4 +1,4 @@
-//! The files of a chain, of either kind.
+//! The files of a chain, which are ignore files or attribute files.
 
 ghost use Rattle.std.specs.Prelude.{◌≡◌, ◌∷◌, [], IfOk, MatchOption};
 ghost use Rattle.std.specs.List.{filter_map};
@@ -46,7 +46,7 @@ impl<F: Drop> ChainEntry<F> {
     }
 }
 
-/// Adds an owner to a file, if there is a file.
+/// Clones the `Arc` of a file, if there is a file.
 pub(crate) fn share<F: Drop>(
     file: &Option<Arc<F, Global>>,
 ) -> Result<Option<Arc<F, Global>>, AllocError>
@@ -58,10 +58,10 @@ pub(crate) fn share<F: Drop>(
     }
 }
 
-/// Files from the top down, each with the depth of its directory. Chains share them.
+/// The files of a chain from the top down, each with the depth of its directory. Several chains may share a file.
 #[derive(Drop)]
 pub(crate) struct ChainFiles<F> {
-    /// It is `None` where no file was added, so that the empty chain needs no allocator.
+    /// The files, or `None` if no file was added, so that the empty chain needs no allocator.
     entries: Option<SmallVec<ChainEntry<F>, 8>>,
 }
 
@@ -82,7 +82,7 @@ impl<F: Drop> ChainFiles<F> {
         ChainFiles { entries: None }
     }
 
-    /// Returns a copy of the chain, with one more file below the others if there is one.
+    /// Returns a copy of these files. If `file` is `Some`, the copy has one more file, below the others.
     pub(crate) fn with(
         &self,
         alloc: Global,
@@ -104,7 +104,7 @@ impl<F: Drop> ChainFiles<F> {
         })
     }
 
-    /// Returns the files from the first on.
+    /// Returns all files, to be split off one after another from the first on.
     pub(crate) fn left(&self) -> FilesLeft<'_, F>
         ensures { result ≡ self.now }
     {
@@ -136,7 +136,7 @@ fn share_entries<F: Drop>(
     Ok(shared)
 }
 
-/// The files of a chain from one of them on.
+/// The files of a chain that are still to be read, in order.
 #[derive(Drop)]
 pub(crate) struct FilesLeft<'a, F> {
     entries: &'a [ChainEntry<F>],
@@ -153,7 +153,7 @@ impl<'a, F> Model for FilesLeft<'a, F> {
 }
 
 impl<'a, F> FilesLeft<'a, F> {
-    /// Returns the first file with its depth, and the others.
+    /// Returns the depth of the first file, that file, and the files after it.
     pub(crate) fn split_first(self) -> Option<(u32, &'a F, FilesLeft<'a, F>)>
         ensures { MatchOption result (self.entry ≡ []) (λ r. self.entry ≡ (r.0, r.1.now) ∷ r.2) }
     {

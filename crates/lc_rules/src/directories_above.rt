@@ -19,8 +19,8 @@ use std::marker::Model;
 
 /// A path and the directories above it, with the rules of one ignore file that decide them.
 ///
-/// Each rule is matched with all directories in one pass, from the last rule on, until the highest ignored directory is known. Directories
-/// below that one, and below the first `MAX_DEPTH`, are matched one by one when they are needed.
+/// Each rule is matched with all directories in one pass, from the last rule to the first, until the highest ignored directory is known.
+/// Directories below that one, and below the first `MAX_DEPTH`, are matched one by one when they are needed.
 ///
 /// ```
 /// let file = IgnoreFile::read(alloc, b"**/b/\n!/a\n")?;
@@ -32,15 +32,15 @@ pub struct DirectoriesAbove<'a> {
     file: &'a IgnoreFile,
     path: &'a [u8],
     is_dir: bool,
-    /// The index in the path at which each directory ends, the highest first.
+    /// The index in the path at which each directory above the path ends, the highest directory first.
     ends: [usize; MAX_DEPTH],
-    /// The rule that was found for each.
+    /// For each directory above the path, the highest first, the last rule that matches it. Only the first `count` are known.
     found: [Option<&'a Rule>; MAX_DEPTH],
-    /// For how many directories the rule is known.
+    /// The number of directories above the path, from the highest down, whose rule is known.
     count: usize,
-    /// Whether the path was matched together with them.
+    /// Whether the whole path was matched together with the directories. A path with over `MAX_DEPTH` names is not.
     is_whole: bool,
-    /// The rule that was found for the path, if it is known.
+    /// The last rule that matches the path itself, if `is_whole`: `None` if not known, `Some(None)` if no rule matches.
     own: Option<Option<&'a Rule>>,
     ghost within: { count ≤ 256 },
     ghost decided: { (k : ℕ) → k < count → option_map (λ r. (Gitignore 0, r.now)) (slice_index_or found k None)
@@ -83,8 +83,8 @@ impl<'a> DirectoriesAbove<'a> {
         }
     }
 
-    /// Returns the last rule of the file that matches the directory whose path is the first `len` bytes. `place` is the number of
-    /// directories above that directory.
+    /// Returns the last rule of the file that matches the directory whose path is the first `len` bytes of the path. `place` is the number
+    /// of directories above that directory.
     pub fn last_match(&self, place: usize, len: usize) -> Option<&'a Rule>
         requires { len ≤ length self.now.path }
         ensures { option_map (λ r. (Gitignore 0, r.now)) result ≡ last_match (at_depth 0 self.now.rules) (take len self.now.path) true }
@@ -109,8 +109,8 @@ impl<'a> DirectoriesAbove<'a> {
     }
 }
 
-/// Splits a path into its names, as many as there is room for, and finds where the directories above the last of them end. It
-/// returns the number of names, and whether they are all.
+/// Writes the names of a path into `names`, as many as there is room for, and into `ends` where the directories above the last of these
+/// names end. Returns the number of names written, and whether they are all names of the path.
 fn cut_names<'p>(path: &'p [u8], names: &mut [&'p [u8]], ends: &mut [usize]) -> (usize, bool)
     requires same { length ends.old ≡ length names.old }
     requires room { 0 < length names.old }
@@ -136,9 +136,9 @@ fn cut_names<'p>(path: &'p [u8], names: &mut [&'p [u8]], ends: &mut [usize]) -> 
     (count, false)
 }
 
-/// Finds the rules that decide the directories above the last of these names, and the last itself, from the newest rule to the
-/// oldest, until the highest directory that is ignored is known. It returns for how many directories, the highest first, they were
-/// found, and if all rules were tried, what was found for the last name.
+/// Finds the last rule that matches each directory above the last of these names, and the last rule that matches the path of all names.
+/// Rules are tried from the last to the first, until the highest ignored directory is known. Returns for how many directories, from the
+/// highest down, the rule is known. If all rules were tried, also returns the rule for the path of all names.
 fn decide<'a>(
     file: &'a IgnoreFile,
     names: &[&[u8]],
@@ -173,14 +173,14 @@ fn decide<'a>(
     (above, Some(own))
 }
 
-/// Returns whether a pattern matches a path, by whether it matches a directory of that path.
+/// Returns whether a pattern matches a path, given whether the pattern would match a directory with that path.
 fn is_matched(is_directory_matched: bool, is_dir: bool, is_dir_only: bool) -> bool
     ensures { result ≡ (is_directory_matched && (not is_dir_only || is_dir)) }
 {
     is_directory_matched && (!is_dir_only || is_dir)
 }
 
-/// The rule that was found of a path, or where none was, an older rule that matches it.
+/// Returns the rule that was already found for a path. If none was found, returns this older rule if it matches the path.
 fn newest_match<'a>(found: Option<&'a Rule>, rule: &'a Rule, is_matched: bool) -> Option<&'a Rule>
     ensures { option_map (λ r. r.now) result
         ≡ option_or (option_map (λ r. r.now) found.entry) (cond is_matched (Some rule.now) None) }
@@ -191,7 +191,7 @@ fn newest_match<'a>(found: Option<&'a Rule>, rule: &'a Rule, is_matched: bool) -
     Some(rule)
 }
 
-/// Fills in a rule for the directories that it matches and for which no newer rule was found.
+/// Stores a rule for each directory that the rule matches and for which no newer rule was found.
 fn fill_undecided<'a>(rule: &'a Rule, flags: &[bool], found: &mut [Option<&'a Rule>])
     requires { length flags.now ≤ length found.old }
     ensures len { length found.new ≡ length found.old }
@@ -206,8 +206,8 @@ fn fill_undecided<'a>(rule: &'a Rule, flags: &[bool], found: &mut [Option<&'a Ru
     }
 }
 
-/// Returns the number of directories down to the highest ignored one, if a rule was found for each of these; or of all, if a rule was found
-/// for all.
+/// Returns the number of directories down to the highest ignored one, if a rule was found for each of these. If a rule was found for every
+/// directory and none is ignored, returns the number of all.
 fn told_count(found: &[Option<&Rule>]) -> Option<usize>
     ensures { IfSome result (λ count. AreFound found.now count) }
 {

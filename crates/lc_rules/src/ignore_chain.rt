@@ -1,4 +1,4 @@
-//! Chains of ignore files.
+//! Chains of ignore files: the files that apply in a directory, in the order of precedence.
 
 ghost use Rattle.std.specs.Prelude.{◌≡◌, ℕ, option_map, IfOk};
 ghost use Rattle.lc_rules.specs.Chains.{lent};
@@ -45,7 +45,7 @@ impl Model for Chain {
 }
 
 impl Chain {
-    /// Returns the chain without a file.
+    /// Returns the chain that has no file yet.
     pub fn top() -> Chain
         ensures { result ≡ no_ignore_files }
     {
@@ -58,7 +58,7 @@ impl Chain {
         }
     }
 
-    /// Returns the chain with the exclude file of the whole tree. Without such a file it is the same chain.
+    /// Returns the chain with the exclude file of the whole tree, or the unchanged chain if `file` is `None`.
     pub fn with_exclude(self, file: Option<Arc<IgnoreFile, Global>>) -> Chain
         ensures { result ≡ with_exclude self file }
     {
@@ -71,8 +71,8 @@ impl Chain {
         }
     }
 
-    /// Returns the chain with the patterns of the command line, if there are some. They override the rules of every file, also of those
-    /// that the chain gains later.
+    /// Returns the chain with the patterns of the command line, or the unchanged chain if `file` is `None`. The patterns override the rules
+    /// of every file, also of files that are added later.
     pub fn with_command_line(self, file: Option<Arc<IgnoreFile, Global>>) -> Chain
         ensures { result ≡ with_command_line self file }
     {
@@ -85,7 +85,7 @@ impl Chain {
         }
     }
 
-    /// Returns the chain of a tree whose ignore files are all read or, with `no_ignore`, are not read.
+    /// Returns the chain, marked with whether a walk skips the tree's ignore files: if `no_ignore` is true, the walk does not read them.
     pub fn with_no_ignore(self, no_ignore: bool) -> Chain
         ensures { result ≡ with_no_ignore self no_ignore }
     {
@@ -99,7 +99,7 @@ impl Chain {
         self.no_ignore
     }
 
-    /// Returns the chain with the file of `.git/info/exclude`. Without such a file it is the same chain.
+    /// Returns the chain with the rules of `.git/info/exclude`, or the unchanged chain if `file` is `None`.
     pub fn with_info(self, file: Option<Arc<IgnoreFile, Global>>) -> Chain
         ensures { result ≡ with_info self file }
     {
@@ -112,8 +112,8 @@ impl Chain {
         }
     }
 
-    /// Returns the chain with one more file of the tree, or a copy if there is no file. `depth` is the number of segments of the file's
-    /// directory.
+    /// Returns the chain with one more ignore file of the tree, or a copy if `file` is `None`. `depth` is the number of segments in the
+    /// path of the file's directory.
     pub fn below(
         &self,
         alloc: Global,
@@ -135,8 +135,8 @@ impl Chain {
         })
     }
 
-    /// Returns the verdict of the last rule that matches a path. A file of the tree at some depth is matched with the path without that
-    /// many of its first segments.
+    /// Returns the verdict of the last rule that matches a path. The rules of a file at depth `d` are matched with the path without its
+    /// first `d` segments.
     pub fn verdict(&self, path: &[u8], is_dir: bool) -> Verdict
         ensures { result ≡ verdict_of (rules_in self.now) path.now is_dir }
     {
@@ -165,7 +165,7 @@ impl Chain {
     }
 }
 
-/// Matches the rules of a file at the top, if it is there.
+/// Returns the last rule of a file that matches a path, if there is a file. The file's rules hold for the whole tree.
 fn last_match_in_file<'a>(
     file: &'a Option<Arc<IgnoreFile, Global>>,
     path: &[u8],
@@ -180,7 +180,7 @@ fn last_match_in_file<'a>(
     }
 }
 
-/// Matches the rules of the files of the tree, the nearest to the path first.
+/// Returns the last rule of the tree's files that matches a path, with the depth of its file. Files nearer to the path are tried first.
 fn last_match_in_files<'a>(
     files: FilesLeft<'a, IgnoreFile>,
     path: PathBelow,

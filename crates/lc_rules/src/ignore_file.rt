@@ -18,7 +18,7 @@ use std::marker::Model;
 
 /// An ignore file, such as a `.gitignore`: its rules in the order of its lines, each with its pattern.
 ///
-/// A rule takes 20 bytes, and most patterns take no more than their own bytes.
+/// A rule takes 20 bytes of memory besides its pattern. Most patterns take no more bytes than their text has.
 #[derive(Drop)]
 pub struct IgnoreFile {
     rules: Vec<Rule>,
@@ -55,7 +55,7 @@ impl IgnoreFile {
         &self.rules
     }
 
-    /// Returns the number of rules, those with a dead pattern included.
+    /// Returns the number of rules, including those whose pattern can't be read and matches nothing.
     pub fn len(&self) -> usize
         ensures { result ≡ length self.now }
     {
@@ -76,15 +76,15 @@ impl IgnoreFile {
         &self.patterns
     }
 
-    /// Returns whether matching one directory after another repeats work for the pattern of some rule, as
-    /// `lc_glob::Pattern::has_nested_wildcards` says. If so, `DirectoriesAbove` costs less for all directories above a path.
+    /// Returns whether some rule's pattern has nested wildcards (`lc_glob::Pattern::has_nested_wildcards`), so that matching one directory
+    /// after another repeats work. If so, `DirectoriesAbove` costs less for all directories above a path.
     pub fn has_nested_wildcards(&self) -> bool
         ensures { result ≡ list_any has_nested_wildcards (patterns_of self.now) }
     {
         self.patterns.has_nested_wildcards()
     }
 
-    /// Returns the verdict of the file alone on a path below its directory.
+    /// Returns the verdict on a path below the file's directory, by the rules of this file alone.
     pub fn verdict(&self, path: &[u8], is_dir: bool) -> Verdict
         ensures { result ≡ verdict_of (at_depth 0 self.now) path.now is_dir }
     {

@@ -1,4 +1,4 @@
-//! The rule of a line of an ignore file.
+//! Reading a line of an ignore file as a rule.
 
 ghost use Rattle.std.specs.Prelude.{◌≡◌, not, IfOk, IfSome, option_map};
 ghost use Rattle.lc_rules.specs.IgnoreRules.{without_return, without_spaces, text_of_line, rule_of_line};
@@ -10,7 +10,7 @@ use std::alloc::{AllocError, Global};
 use std::marker::Model;
 use std::snapshot::Snapshot;
 
-/// A rule of an ignore file without its pattern, which the file keeps.
+/// A rule of an ignore file without its pattern, which the `IgnoreFile` stores.
 #[derive(Drop)]
 pub struct Rule {
     line: u32,
@@ -98,7 +98,7 @@ pub fn text_of_line<'a>(line: &'a [u8]) -> &'a [u8]
     without_spaces(without_return(line))
 }
 
-/// Reads a line with this number as a rule and its pattern. An empty line and a comment have no rule.
+/// Reads the line with this number of an ignore file as a rule and its pattern. An empty line and a comment have no rule.
 pub(crate) fn read_rule(
     alloc: Global,
     number: u32,

@@ -16,12 +16,12 @@ use std::alloc::AllocError;
 /// The assignments of a macro.
 #[derive(Clone, Copy)]
 pub(crate) enum MacroBody<'a> {
-    /// The words of its assignments.
+    /// The bytes that hold the assignments of a macro that a file defines.
     Defined(&'a [u8]),
     Binary,
 }
 
-/// The macros of a chain: `binary`, then those of its top file, then those of the file of `.git/info`.
+/// The macros that a chain of attribute files knows: `binary`, then those of its top file, then those of the file of `.git/info`.
 #[derive(Clone, Copy)]
 pub(crate) struct KnownMacros<'a> {
     pub(crate) top: Option<&'a MacroTable>,

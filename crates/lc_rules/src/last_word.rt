@@ -1,4 +1,4 @@
-//! The last of the words and assignments of an attribute line.
+//! Splitting the last word or the last assignment off an attribute line.
 
 ghost use Rattle.std.specs.Prelude.{◌≡◌, ◌<◌, ◌≤◌, ◌∷◌, [], ◌++◌, length, IfSome, MatchOption};
 ghost use Rattle.lc_rules.specs.AttrWords.{words};
@@ -25,7 +25,7 @@ fn trimmed_end<'a>(bytes: &'a [u8]) -> &'a [u8]
     rest
 }
 
-/// Returns the index at which the last word begins, in bytes that end with it.
+/// Returns the index at which the last word begins, in bytes that end with that word.
 fn last_word_start(bytes: &[u8]) -> usize
     ensures within { result ≤ length bytes.now }
     ensures is { IsLastWordAt result bytes.now }
@@ -37,7 +37,7 @@ fn last_word_start(bytes: &[u8]) -> usize
     start
 }
 
-/// Returns the last word, and the bytes before it.
+/// Returns the bytes before the last word, and that word.
 fn split_last_word<'a>(bytes: &'a [u8]) -> Option<(&'a [u8], &'a [u8])>
     ensures cases { MatchOption result (words bytes.now ≡ []) (λ p. words bytes.now ≡ words p.0.now ++ p.1.now ∷ []) }
     ensures smaller { IfSome result (λ p. length p.0.now < length bytes.now) }
@@ -50,7 +50,7 @@ fn split_last_word<'a>(bytes: &'a [u8]) -> Option<(&'a [u8], &'a [u8])>
     Some((&rest[..start], &rest[start..]))
 }
 
-/// Returns the last assignment, and the bytes before it.
+/// Returns the last word that is an assignment, and the bytes before the word.
 pub(crate) fn split_last_assignment<'a>(bytes: &'a [u8]) -> Option<(Assignment<'a>, &'a [u8])>
     ensures cases { MatchOption result (assigned bytes.now ≡ [])
         (λ p. assigned bytes.now ≡ assigned p.1.now ++ assignment_model p.0 ∷ []) }

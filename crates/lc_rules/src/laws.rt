@@ -9,12 +9,12 @@ pub fn the_last_match_decides()
     ensures { LastMatchLaw }
 {}
 
-/// The law that the last pattern of the command line that matches decides. If none matches, the files decide.
+/// The law that the last pattern of the command line that matches a path decides the path. If none matches, the files decide.
 pub fn the_command_line_decides()
     ensures { CommandLineLaw }
 {}
 
-/// The law that each rule of a file comes from the line with its number.
+/// The law that each rule of a file is read from the line of the file that has the rule's number.
 pub fn rules_stand_on_their_lines()
     ensures { LinesLaw }
 {}

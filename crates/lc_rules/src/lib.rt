@@ -1,15 +1,16 @@
-//! The rules of a tree: ignore files and attribute files, their chains, and the rule or the attribute of a path.
+//! The rules of a tree: ignore files and attribute files, chains of both, and which rule decides a path or the state of its attribute.
 //!
 //! The formats are those of gitignore(5) and gitattributes(5); `docs/RULES.md` has each rule with an example.
 //!
-//! - `ignore_line`, `ignore_file`, `ignore_chain`: a rule, an ignore file, and the chain of those that apply to a path
-//! - `matchable`: the lines that give a rule that can match
+//! - `ignore_line`, `ignore_file`, `ignore_chain`: a rule, an ignore file, and the chain of the ignore files that apply to a path
+//! - `matchable`: which lines give a rule that can match a path
 //! - `attr_line`, `attr_words`, `last_word`, `attr_quotes`, `assignment`: a line of an attribute file
-//! - `attr_file`, `line_table`, `macro_table`, `attr_chain`: an attribute file, and the chain of those that apply to a path
-//! - `known_macros`, `resolver`, `states`: deciding one attribute
-//! - `lines`, `chain_files`, `paths`: what both kinds of files share
-//! - `directories_above`: the last match of each directory above a path; `verdicts`, `rule_source`: what a rule says, and its file
-//! - `faults`: why a file can't be read as rules; `laws`: that these answers are those of gitignore(5)
+//! - `attr_file`, `line_table`, `macro_table`, `attr_chain`: an attribute file, and the chain of the attribute files that apply to a path
+//! - `known_macros`, `resolver`, `states`: deciding the state of one attribute
+//! - `lines`, `chain_files`, `paths`: what ignore files and attribute files share
+//! - `directories_above`: the last rule that matches each directory above a path
+//! - `verdicts`, `rule_source`: what a rule says of a path, and the file that the rule was read from
+//! - `faults`: why a file can't be read as rules; `laws`: laws of which rule decides a path
 #![tactic(auto)]
 
 mod assignment;

@@ -17,9 +17,10 @@ use std::alloc::{AllocError, Global};
 use std::collections::BTreeSet;
 use std::marker::Model;
 
-/// Lines in order, and the names that they assign, so that a file that can't decide an attribute is skipped whole.
+/// The lines of an attribute file that have a pattern, in order, and the names that they assign. A file whose names can't decide an
+/// attribute is skipped whole.
 ///
-/// A line is stored as its pattern and the index in the text at which it begins, so a line of a few bytes takes a few bytes more. Its
+/// A line is stored as its pattern and the index in the text at which the line begins, so a short line takes few bytes of memory. Its
 /// assignments are read from the text when they are needed.
 #[derive(Drop)]
 pub(crate) struct LineTable {
@@ -44,7 +45,7 @@ impl Model for LineTable {
 }
 
 impl LineTable {
-    /// Makes a table of a text, without lines.
+    /// Makes a table for the text of an attribute file. The table has no lines yet.
     pub(crate) fn new(alloc: Global, text: &[u8]) -> Result<LineTable, AllocError>
         ensures { IfOk result (λ table. table ≡ without_lines text.now) }
     {
@@ -56,7 +57,7 @@ impl LineTable {
         })
     }
 
-    /// Adds the line that begins at a place of the text.
+    /// Adds a line to the table. `start` is the index in the text at which the line begins.
     pub(crate) fn push(
         &mut self,
         alloc: Global,
@@ -89,7 +90,8 @@ impl LineTable {
         &self.patterns
     }
 
-    /// Returns the words of the assignments of the line at an index. The pattern is skipped, which takes memory if it is quoted.
+    /// Returns the bytes that hold the assignments of the line at an index of the table. Skipping the line's pattern allocates if it is
+    /// quoted.
     pub(crate) fn assignments_at<'a>(
         &'a self,
         alloc: Global,
@@ -104,7 +106,7 @@ impl LineTable {
         }
     }
 
-    /// Returns the pattern of the line that begins at a place of the text, and the words of its assignments.
+    /// Splits the line that begins at index `start` of the text into its pattern and the bytes that hold its assignments.
     fn line_from<'a>(
         &'a self,
         alloc: Global,
@@ -118,7 +120,7 @@ impl LineTable {
         split_line(alloc, line)
     }
 
-    /// Returns whether some line may decide the attribute, by its name or by a macro.
+    /// Returns whether some line may decide the attribute of a query, by the attribute's name or by a macro.
     pub(crate) fn can_decide(&self, query: Query) -> bool
         ensures { result ≡ false → some_matters (macros_for query.entry) query.entry.name.now self.now.lines ≡ false }
     {
@@ -131,7 +133,7 @@ impl LineTable {
         self.names.contains(name)
     }
 
-    /// Returns whether some line may name a macro.
+    /// Returns whether some line may assign one of these macros, or the built-in macro `binary`.
     fn may_name_some(&self, macros: KnownMacros) -> bool
         ensures { result ≡ false → NameNone self.now.lines (known_macros macros.entry) }
     {
@@ -144,7 +146,7 @@ impl LineTable {
         self.may_name_some_in(macros_in(macros.info))
     }
 
-    /// Returns whether some line may name one of these macros. They are not looked for where they are more than the names.
+    /// Returns whether some line may assign one of these macros. If the macros outnumber the table's names, returns true without a search.
     fn may_name_some_in(&self, defined: &[Macro]) -> bool
         ensures { result ≡ false → NameNone self.now.lines (map macro_model defined.now) }
     {
@@ -160,7 +162,7 @@ impl LineTable {
     }
 }
 
-/// Adds the names of the assignments that these words are to a set of names.
+/// Reads the assignments in these bytes, and adds their names to a set.
 fn add_names(alloc: Global, names: &mut BTreeSet<Vec<u8>>, words: &[u8]) -> Result<(), AllocError>
     ensures keeps { (name : List ℕ) → has_name names.old name ≡ true → has_name names.new name ≡ true }
     ensures adds { OnOk result
@@ -174,7 +176,7 @@ fn add_names(alloc: Global, names: &mut BTreeSet<Vec<u8>>, words: &[u8]) -> Resu
     Ok(())
 }
 
-/// Adds a name to a set that may have it.
+/// Adds a name to a set, unless the set already has the name.
 fn add_name(alloc: Global, names: &mut BTreeSet<Vec<u8>>, name: &[u8]) -> Result<(), AllocError>
     ensures keeps { (other : List ℕ) → has_name names.old other ≡ true → has_name names.new other ≡ true }
     ensures adds { OnOk result (has_name names.new name.now ≡ true) }

@@ -17,8 +17,8 @@ pub(crate) struct Macro {
     pub(crate) assignments: Vec<u8>,
 }
 
-/// Macros in the order of their lines, and for each name the place of its last macro, so that a search takes time in the logarithm of the
-/// number of macros.
+/// Macros in the order of their lines, and for each name the index of its last macro. So a search takes time in the logarithm of the number
+/// of macros.
 #[derive(Drop)]
 pub(crate) struct MacroTable {
     defined: Vec<Macro>,
@@ -60,7 +60,7 @@ impl MacroTable {
         Ok(())
     }
 
-    /// Returns the words of the last macro with this name.
+    /// Returns the bytes that hold the assignments of the last macro with this name.
     pub(crate) fn find(&self, name: &[u8]) -> Option<&[u8]>
         ensures { MatchOption result (macro_of self.now name.now ≡ None)
             (λ body. macro_of self.now name.now ≡ Some (assigned body.now)) }

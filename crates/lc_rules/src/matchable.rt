@@ -15,14 +15,14 @@ fn is_dots(segment: &[u8]) -> bool
     matches!(segment, [b'.'] | [b'.', b'.'])
 }
 
-/// Returns whether a segment has a byte that may quote a slash.
+/// Returns whether a segment has a `[` or a backslash, which may quote a slash that comes later.
 fn is_special(segment: &[u8]) -> bool
     ensures { result ≡ is_special segment.now }
 {
     segment.contains(&b'[') || segment.contains(&b'\\')
 }
 
-/// Returns whether a segment of a pattern is `.` or `..`. It reads the segments before the first that has a bracket or a backslash.
+/// Returns whether a segment of a pattern is `.` or `..`. Only the segments before the first that has a bracket or a backslash are tested.
 fn has_dots(pattern: &[u8]) -> bool
     ensures { result ≡ has_dots (segments_of pattern.now) }
 {
@@ -54,8 +54,8 @@ fn pattern_text(text: &[u8]) -> &[u8]
 
 /// Returns whether a line of an ignore file gives a rule that can match a path, as far as is known.
 ///
-/// It is false for an empty line, a comment, and a pattern that can't be read, such as `[a`. It is also false for a pattern with a segment
-/// `.` or `..`, such as `./a`, since no entry has such a name. Segments after the first bracket or backslash may be anything.
+/// The result is false for an empty line, a comment, and a pattern that can't be read, such as `[a`. It is also false for a pattern with a
+/// segment `.` or `..`, such as `./a`, since no entry has such a name. Segments after the first bracket or backslash may be anything.
 ///
 /// ```
 /// assert!(rt; can_match(alloc, b"*.o")? && !can_match(alloc, b"./src")?);

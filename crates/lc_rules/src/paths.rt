@@ -8,8 +8,8 @@ ghost use Rattle.lc_rules.specs.Verdicts.{below};
 
 use lc_glob::cut_at_first;
 
-/// A path, and the part of it below a depth. The files of a chain, from the top down, each go on where the one before
-/// stopped, so that a path is read once for all of them.
+/// A path, and the rest of it after its first `depth` segments. Files of a chain are matched from the top down, and each goes on where the
+/// file before it stopped. So a path is read once for all of them.
 #[derive(Clone, Copy)]
 pub(crate) struct PathBelow<'a> {
     pub(crate) path: &'a [u8],
@@ -29,7 +29,7 @@ impl<'a> PathBelow<'a> {
         }
     }
 
-    /// Moves to the part of the path that a file sees. `depth` is the number of segments of the directory of that file.
+    /// Moves on to the part of the path that is below a file's directory. `depth` is the number of segments of that directory's path.
     pub(crate) fn at(self, depth: u32) -> PathBelow<'a>
         ensures path { result.path.now ≡ self.entry.path.now }
         ensures depth { result.depth ≡ depth }
@@ -49,7 +49,7 @@ impl<'a> PathBelow<'a> {
     }
 }
 
-/// Returns a path without its first segments.
+/// Returns a path without its first `depth` segments.
 fn below<'a>(path: &'a [u8], depth: u32) -> &'a [u8]
     ensures { result.now ≡ below depth path.now }
 {

@@ -17,15 +17,16 @@ use lc_glob::Candidate;
 use std::alloc::{AllocError, Global};
 use std::collections::BTreeSet;
 
-/// The name of the attribute that is looked for, and the macros that may lead to it.
+/// The name of the attribute whose state is looked for, and the macros whose assignments may decide it.
 #[derive(Clone, Copy)]
 pub(crate) struct Query<'q, 'a> {
     pub(crate) name: &'q [u8],
     pub(crate) macros: KnownMacros<'a>,
 }
 
-/// The macros that are decided, in whatever state, and the assignments of macros that are still to be read, the next on top. Other names
-/// decide nothing else, so they aren't kept. Nothing is allocated before the first macro.
+/// The progress of a search for the state of one attribute. It has the macros that are decided, in whatever state, and a stack of the
+/// macros' assignments that are still to be read. A name of no macro decides no other name, so it is not stored. Nothing is allocated
+/// before the first macro.
 #[derive(Drop)]
 pub(crate) struct Resolver<'a> {
     alloc: Global,
@@ -46,7 +47,7 @@ impl<'a> Resolver<'a> {
     }
 }
 
-/// Pushes a macro's assignments on the stack where its name is set.
+/// Pushes a macro's assignments on the stack, if the macro's state is `Set`.
 fn expand<'a>(
     body: MacroBody<'a>,
     state: State<'a>,
@@ -61,7 +62,8 @@ fn expand<'a>(
     }
 }
 
-/// Reads one assignment: it decides the name that is looked for, or pushes a macro's assignments on the stack.
+/// Reads one assignment. If it assigns the attribute of the query, returns its state. If it sets a macro that is not yet decided, pushes
+/// the macro's assignments on the stack.
 fn decide_at<'a>(
     query: Query<'_, 'a>,
     word: Assignment<'a>,
@@ -87,7 +89,7 @@ fn decide_at<'a>(
     Ok(None)
 }
 
-/// Reads the assignments on the stack.
+/// Reads the assignments on the stack until one decides the attribute of the query.
 fn decide_pending<'a>(
     query: Query<'_, 'a>,
     resolver: &mut Resolver<'a>,
@@ -103,7 +105,7 @@ fn decide_pending<'a>(
     Ok(None)
 }
 
-/// Reads one assignment of a line, and those of macros that it leads to.
+/// Reads one assignment of a line and, if it sets a macro, the assignments of that macro.
 fn decide_by_word<'a>(
     query: Query<'_, 'a>,
     word: Assignment<'a>,
@@ -119,7 +121,7 @@ fn decide_by_word<'a>(
     Ok(found)
 }
 
-/// Reads the assignments that these words are from right to left.
+/// Reads the assignments in these bytes from right to left, until one decides the attribute of the query.
 fn decide_by_words<'a>(
     query: Query<'_, 'a>,
     words: &'a [u8],
@@ -138,7 +140,7 @@ fn decide_by_words<'a>(
     Ok(None)
 }
 
-/// Reads the assignments of the lines of a file that match a path, the last line first.
+/// Looks for the state of the query's attribute in the lines of a file that match a path, from the last line to the first.
 pub(crate) fn decide_by_lines<'a>(
     query: Query<'_, 'a>,
     table: &'a LineTable,
@@ -162,9 +164,9 @@ pub(crate) fn decide_by_lines<'a>(
     Ok(None)
 }
 
-/// The law that the decision, which `AttrChain::state` returns for one name, satisfies its equations, and that no other decision does. Once
-/// nothing is left to be read, the decision stays as it is. A name that is decided stays so. The first assignment of a name decides it; if
-/// it sets a macro, the macro's assignments come before the rest.
+/// The law that three equations determine which state a list of assignments gives each name; `AttrChain::state` returns the state of one
+/// name. An empty list changes nothing. A name that is decided stays so. The first assignment of a name decides it; if it sets a macro, the
+/// macro's assignments are read before the rest of the list.
 pub fn decides_by_equations()
     ensures { DecidesByEquations }
 {}

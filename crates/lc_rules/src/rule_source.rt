@@ -5,10 +5,11 @@
 pub enum RuleSource {
     /// The file of `--exclude-from`, which holds for the whole tree.
     ExcludeFrom,
-    /// The `.git/info/exclude` of the directory whose path has this number of segments: 0 in a walk, which reads only the one of the top.
+    /// The `.git/info/exclude` of the directory whose path has this number of segments: 0 in a walk, which reads only that of the top
+    /// directory.
     InfoExclude(u32),
     /// The `.gitignore` of the directory whose path has this number of segments.
     Gitignore(u32),
-    /// The patterns of `--exclude`, one a line, which override those of every file.
+    /// The patterns of `--exclude`, each as one line. They override the rules of every file.
     CommandLine,
 }

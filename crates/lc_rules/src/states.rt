@@ -20,7 +20,7 @@ pub enum TextState {
     Unset,
     /// The value `auto`.
     Auto,
-    /// Another value.
+    /// A value other than `auto`.
     Other,
     Unspecified,
 }

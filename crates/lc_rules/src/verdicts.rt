@@ -1,4 +1,4 @@
-//! Verdicts of rules on paths.
+//! The verdict of a rule on a path: ignored, included, or no rule.
 
 /// The verdict of the last rule that matches a path. It is about the path alone: a path under an ignored directory is skipped, whatever its
 /// own verdict is.
