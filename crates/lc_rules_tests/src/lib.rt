@@ -1,4 +1,4 @@
-//! The tests of rules.
+//! Tests of ignore files and attribute files.
 #![tactic(auto)]
 
 #[cfg(test)]

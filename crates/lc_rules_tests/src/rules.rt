@@ -1,4 +1,4 @@
-//! What the rules of files say of paths: values from outside, and that each call can succeed.
+//! Tests of what rules say of paths. Each call must succeed, and return the value that the test expects.
 
 mod attributes;
 mod chains;

@@ -1,5 +1,5 @@
-//! Attribute files. `tools/cases` makes each table of cases from those of `docs/cases/attributes.tsv` whose topic
-//! is its name.
+//! Tests of attribute files. `tools/cases` makes each table of cases from the cases of `docs/cases/attributes.tsv` whose topic is the
+//! table's name.
 
 use lc_rules::{AttrChain, AttrFile, RuleFault, State, TextState, is_attribute_name};
 use std::alloc::{AllocError, Global};
@@ -11,10 +11,11 @@ const FILE: bool = false;
 
 const DIR: bool = true;
 
-/// Lines of the top file, the path of a file, an attribute, and its state.
+/// The lines of a top-level attribute file, the path of a file, the name of an attribute, and its state for that path.
 type Case = (&'static [u8], &'static [u8], &'static [u8], State<'static>);
 
-/// What a chain is made of, from its top on: files of directories at a depth, or none, and the file of `.git/info`.
+/// A part of an attribute chain. A chain is made from its parts in order: files of directories at a depth, directories without a file, and
+/// the file of `.git/info`.
 #[derive(Clone, Copy)]
 enum Part {
     File(u32, &'static [u8]),
@@ -23,10 +24,10 @@ enum Part {
     NoInfo,
 }
 
-/// What a chain is made of, the path of a file, and its attribute `text`.
+/// The parts of a chain, the path of a file, and the state of the attribute `text` for that path.
 type TextCase = (&'static [Part], &'static [u8], TextState);
 
-/// What a chain is made of, a path and its kind, an attribute, and its state.
+/// The parts of a chain, a path and whether it is a directory, the name of an attribute, and its state for that path.
 type StateCase = (
     &'static [Part],
     (&'static [u8], bool),
@@ -213,7 +214,7 @@ fn each_case_holds(rt: HostRuntime) -> Result<(), Fail> {
     Ok(())
 }
 
-/// Lines that match no path of the cases, of many patterns.
+/// Returns 100 lines whose pattern matches no path of the cases.
 fn many_lines(alloc: Global) -> Result<Vec<u8>, AllocError> {
     let mut lines = Vec::new(alloc);
     for _ in 0..100 {
@@ -253,14 +254,14 @@ const TEXT_LINES: &[Part] = &[Part::File(
     b"*.t text=auto\n*.u text=crlf\n*.s text\n*.n -text\n*.v text\n*.v !text\nd/ text",
 )];
 
-/// The example of gitattributes(5).
+/// A chain with the example of gitattributes(5).
 const MANUAL: &[Part] = &[
     Part::File(0, b"abc foo bar baz"),
     Part::File(1, b"ab* merge=filfre\nabc -foo -bar\n*.c frotz"),
     Part::NoFile(2),
 ];
 
-/// Only the top file defines macros.
+/// A chain in which a file that is not at the top tries to define a macro. Only the top file defines macros.
 const TOP_MACRO: &[Part] = &[
     Part::File(0, b"[attr]m -text"),
     Part::File(1, b"[attr]sub -text\n*.z sub\n*.y m"),
@@ -268,7 +269,7 @@ const TOP_MACRO: &[Part] = &[
 
 const BELOW_THE_TOP: &[Part] = &[Part::File(1, b"*.z binary")];
 
-/// The attributes of `.git/info` override the tree's, also where they are put last.
+/// A chain to which the file of `.git/info` is added first. Its attributes override the tree's, as they do when it is added last.
 const INFO_FIRST: &[Part] = &[
     Part::Info(b"*.c text"),
     Part::File(0, b"*.c -text"),
@@ -283,7 +284,7 @@ const INFO_LAST: &[Part] = &[
     Part::Info(b"*.c text"),
 ];
 
-/// So do its macros those of the top file.
+/// A chain without a file of `.git/info`. `INFO_MACROS` adds such a file, whose macros override those of the top file.
 const NO_INFO_MACROS: &[Part] = &[Part::File(0, b"[attr]m text\n*.c m")];
 
 const INFO_MACROS: &[Part] = &[
@@ -358,7 +359,7 @@ fn at_most_a_mebibyte(rt: HostRuntime) -> Result<(), Fail> {
     Ok(())
 }
 
-/// Words, and whether an attribute can have such a name.
+/// Words, and whether each can be the name of an attribute.
 const NAMES: &[(&'static str, bool)] = &[
     ("a", true),
     ("linguist-vendored", true),

@@ -1,4 +1,4 @@
-//! Chains of ignore files.
+//! Tests of chains of ignore files.
 
 use lc_rules::{Chain, IgnoreFile, Verdict};
 use std::alloc::{AllocError, Global};
@@ -9,10 +9,10 @@ const FILE: bool = false;
 
 const DIR: bool = true;
 
-/// A directory's depth, and the rules of its file, if it has one.
+/// The depth of a directory, and the rules of its ignore file, if it has one.
 type Directory = (u32, Option<&'static [u8]>);
 
-/// The directories of a chain from the top down, a path and its kind, and the verdict.
+/// The directories of a chain from the top down, a path, whether the path is a directory, and the verdict on it.
 type Case = (&'static [Directory], &'static [u8], bool, Verdict);
 
 fn file(alloc: Global, rules: &[u8]) -> Result<Arc<IgnoreFile, Global>, AllocError> {
@@ -37,18 +37,18 @@ fn chain_of(alloc: Global, directories: &[Directory]) -> Result<Chain, AllocErro
 
 const TOP: &[Directory] = &[(0, Some(b"*.t"))];
 
-/// A deeper file overrides.
+/// A chain in which a deeper file overrides the file of the top.
 const INNER: &[Directory] = &[(0, Some(b"*.t")), (1, Some(b"!k.t"))];
 
-/// A later file of one depth overrides.
+/// A chain in which the later of two files at one depth overrides the earlier.
 const ONE_DEPTH: &[Directory] = &[(0, Some(b"*.c")), (0, Some(b"!x.c"))];
 
 const AND_NO_FILE: &[Directory] = &[(0, Some(b"*.c")), (0, Some(b"!x.c")), (3, None)];
 
-/// A file sees paths below its directory.
+/// A chain with a file at depth 2, which is matched with paths below its own directory.
 const SECOND: &[Directory] = &[(2, Some(b"/c\nd/e/"))];
 
-/// More files than a chain stores inline.
+/// A chain with more files than it stores inline.
 const MANY: &[Directory] = &[
     (0, Some(b"a\nb")),
     (0, Some(b"!b")),

@@ -1,4 +1,4 @@
-//! Which rule decides a path. A rule is named by its line.
+//! Tests of which rule decides a path. A rule is named by the number of its line.
 
 use lc_rules::{Chain, DirectoriesAbove, IgnoreFile, Lines, RuleSource, Verdict, text_of_line};
 use std::alloc::{AllocError, Global};
@@ -10,7 +10,7 @@ const FILE: bool = false;
 
 const DIR: bool = true;
 
-/// Rules, a path and its kind, and the line of the rule that decides with what that rule says.
+/// The rules of a file, a path, whether the path is a directory, and the rule that decides the path, if any: its line and its verdict.
 type Case = (&'static [u8], &'static [u8], bool, Option<(u32, Verdict)>);
 
 fn read(alloc: Global, bytes: &[u8]) -> Result<IgnoreFile, AllocError> {
@@ -72,7 +72,7 @@ fn each_case_holds(rt: HostRuntime) -> Result<(), Fail> {
     Ok(())
 }
 
-/// Where a file of rules is put on a chain.
+/// The place in a chain where a file of rules is added.
 #[derive(Clone, Copy)]
 enum Put {
     Exclude,
@@ -106,7 +106,7 @@ fn chain_of(alloc: Global, files: &[(Put, &'static [u8])]) -> Result<Chain, Allo
     Ok(chain)
 }
 
-/// A path, and the place of the rule that decides it.
+/// A path, and the source and the line of the rule that decides the path, if any does.
 type Place = (&'static [u8], Option<(RuleSource, u32)>);
 
 const NEARER: &[Place] = &[
@@ -142,7 +142,7 @@ fn a_nearer_file_decides(rt: HostRuntime) -> Result<(), Fail> {
     Ok(())
 }
 
-/// Patterns of the command line, and files that come before them and after them.
+/// A chain's files, some added before the patterns of the command line and some after them.
 const WITH_PATTERNS: &[(Put, &'static [u8])] = &[
     (Put::Exclude, b"*.o\n*.t\n"),
     (Put::CommandLine, b"*.t\n!keep.c\n/s/*.p\n"),
@@ -167,7 +167,7 @@ fn the_command_line_decides_before_every_file(rt: HostRuntime) -> Result<(), Fai
     Ok(())
 }
 
-/// The texts of some lines.
+/// The text of each line of the file in `texts_of_lines`.
 const TEXTS: &[&'static [u8]] = &[b"!a", b"b\\ ", b"", b"#c", b" d", b""];
 
 #[test]
@@ -184,7 +184,8 @@ fn texts_of_lines(rt: HostRuntime) -> Result<(), Fail> {
     Ok(())
 }
 
-/// Rules, a path, and the lines of the rules that decide each directory above it, and itself as a file.
+/// The rules of a file, a path, and the lines of the rules that decide: one for each directory above the path, and one for the path as a
+/// file.
 type Above = (
     &'static [u8],
     &'static [u8],

@@ -1,4 +1,5 @@
-//! Ignore files. `tools/cases` makes each table of cases from those of `docs/cases/ignore.tsv` whose topic is its name.
+//! Tests of ignore files. `tools/cases` makes each table of cases from the cases of `docs/cases/ignore.tsv` whose topic is the table's
+//! name.
 
 use lc_rules::{IgnoreFile, RuleFault, Verdict};
 use std::alloc::{AllocError, Global};
@@ -9,7 +10,7 @@ const FILE: bool = false;
 
 const DIR: bool = true;
 
-/// Rules, a path and its kind, and the verdict.
+/// The rules of a file, a path, whether the path is a directory, and the verdict on it.
 type Case = (&'static [u8], &'static [u8], bool, Verdict);
 
 fn read(alloc: Global, bytes: &[u8]) -> Result<IgnoreFile, AllocError> {
@@ -216,7 +217,7 @@ fn each_case_holds(rt: HostRuntime) -> Result<(), Fail> {
     Ok(())
 }
 
-/// Rules, and how many they are.
+/// The lines of an ignore file, and how many rules they give.
 const LENS: &[(&'static [u8], usize)] = &[
     (b"a\\ \na\\\\ \n   \nfoo \r\n", 3),
     (b"[ab\na//b\n!\n#c\n\n", 3),

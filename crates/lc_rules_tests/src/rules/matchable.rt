@@ -1,4 +1,4 @@
-//! Lines that are known to give no rule that matches a path.
+//! Tests of `can_match`, which finds lines that give no rule that matches a path.
 
 use lc_rules::can_match;
 use std::process::Abort;
