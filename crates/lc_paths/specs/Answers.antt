@@ -1,4 +1,4 @@
--- What a call answers that reads an input whole, and writes as it makes it what it says of the input's bytes.
+-- The results of a call that reads an input whole, and writes its output while it is made.
 use Rattle.std.specs.Prelude.{◌≡◌, ◌⊎◌, ℕ, List, Result, Ok, Err}
 use Rattle.lc_io.specs.Reads.{Answer}
 use Rattle.lc_io.specs.declared.whole.WholeFault.TheVariants as whole
@@ -8,7 +8,7 @@ use Rattle.lc_text.specs.declared.check_fault.CheckFault.TheVariants.{Read, Inpu
 use Rattle.lc_io.specs.declared.printing.PrintFault.{PrintFault}
 use Rattle.lc_io.specs.declared.printing.PrintFault.TheVariants as print
 
--- by what writing it answers
+-- the result of the call, by what was read, and by what writing the output gives
 module _ {I O V : Type 0} (may_give : I → ℕ → Answer → I → Type 0) (AnswersOutput : List ℕ → O → Result V PrintFault → O → Type 0) where
   abbrev pub AnswersAsMade : I → O → Result V CheckFault → I → O → Type 0
   -- the input was read whole, and all was written

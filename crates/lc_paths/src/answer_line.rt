@@ -1,4 +1,4 @@
-//! Writing a line about a path.
+//! Writing the output line for a path.
 
 ghost use Rattle.std.specs.Prelude.{◌≡◌, ◌++◌, OnOk, option_map};
 ghost use Rattle.lc_paths.specs.AnswerLines.{place_text, pattern_text, answer_line};
@@ -18,7 +18,7 @@ fn push_line_number(text: &mut Vec<u8>, line: Option<u32>) -> Result<(), AllocEr
     }
 }
 
-/// Appends a place, or a dash if there is none.
+/// Appends the place of a rule, such as `src/.gitignore:3`, or the word for another reason. If there is neither, appends a dash.
 fn push_place(
     text: &mut Vec<u8>,
     style: PathStyle,
@@ -49,7 +49,7 @@ fn push_pattern(
     }
 }
 
-/// Appends a line of an answer: a word, the place of its cause, the pattern that is the cause, and a path.
+/// Appends the output line for a path: a word, the place of the rule that is the cause or another reason, the rule's pattern, and the path.
 pub(crate) fn push_answer(
     text: &mut Vec<u8>,
     style: PathStyle,

@@ -1,6 +1,7 @@
-//! Checks of paths by the rules of one file. The input is read whole, then answered, then written.
+//! Checks of paths by the rules of one file. The input is read to its end before anything is written.
 //!
-//! - `joined`: rules and paths in one input; `text`: the text of a check; `explained`: the text with rules, written while it is made
+//! - `joined`: rules and paths in one input; `text`: the output of a check; `explained`: the output with the deciding rules, written while
+//!   it is made
 //! - `checker`: matching one path after another; `finding`: what the rules decide about a path
 
 ghost use Rattle.lc_paths.specs.Checks.Answers.{AnswersCheck, AnswersExplainedCheck, no_rules};
@@ -25,7 +26,7 @@ use lc_text::{CheckFault, PathFormat, Sink, print, read_input};
 use std::alloc::Global;
 pub use text::check_text;
 
-/// Reads paths to the input's end, and writes the word of each ([`check_text`]).
+/// Reads paths to the end of the input, and writes a line for each, with a word such as `ignored` ([`check_text`]).
 ///
 /// After any error but `Write` nothing was written.
 pub fn check<S: Source, O: Sink>(
@@ -44,12 +45,13 @@ pub fn check<S: Source, O: Sink>(
     Ok(())
 }
 
-/// Reads paths to the input's end, and writes the word of each with its rule, which is from the file with this name.
+/// Reads paths to the end of the input, and writes a line for each, with a word such as `ignored` and the rule that decides. `name` is the
+/// name of the rules' file.
 ///
 /// A line of the text has four fields, separated by tabs: the word, as in [`check_text`]; the place of the rule, `NAME:LINE`, with lines
 /// counted from 1; the text of that line, with its `!` and without its trailing spaces; and the path. For `below` the rule is that of the
 /// highest ignored directory above the path. If no rule decides, the second field and the third are dashes. Name, text and path are printed
-/// in a style.
+/// in the style of `format`.
 ///
 /// The text is written in blocks while it is made ([`Block`](lc_text::Block)). After an error of the input nothing was written, and after
 /// any other error a prefix of the text.
@@ -71,9 +73,9 @@ pub fn check_explained<S: Source, O: Sink>(
     Ok(())
 }
 
-/// Reads rules, a line `--` and paths from one input, and writes the word of each path ([`check_text`]).
+/// Reads rules, a line `--` and paths from one input, and writes a line for each path, with a word such as `ignored` ([`check_text`]).
 ///
-/// Without such a line all of the input is rules, and there are no paths. After any error but `Write` nothing was written.
+/// Without a line `--`, all of the input is rules, and there are no paths. After any error but `Write` nothing was written.
 pub fn check_joined<S: Source, O: Sink>(
     alloc: Global,
     format: PathFormat,

@@ -1,7 +1,8 @@
 //! Explanations of paths: which rule of a tree decides a path, as `git check-ignore -v -n` shows it.
 //!
-//! - `explain_options`: the options besides the paths; `top_text`: the texts of their rules for the whole tree
-//! - `open_dir`, `dir_stack`: the directories that were opened on the way to a path; `stack_cache`: the stacks of earlier paths
+//! - `explain_options`: the options besides the paths; `top_text`: the text of rules that the options give for the whole tree
+//! - `open_dir`, `dir_stack`: the directories that were opened on the way to a path; `stack_cache`: the stacks of directories of earlier
+//!   paths
 //! - `finding`: the explanation of a path; `explainer`: finding it, from the top of the tree down
 //! - `output`: the text of an explanation; `printing`: writing the explanations of many paths
 
@@ -36,13 +37,13 @@ use std::alloc::Global;
 /// and a path that does not exist counts as a file. The word is the first of these that holds, from the top directory down to the path:
 ///
 /// - `bad`: no entry of a tree can have this path, or it has over 4,096 bytes;
-/// - `fault`: a directory above the path could not be listed, or a rule file could not be read. Then come the word of the error, a dash and
-///   the path that could not be read;
+/// - `fault`: a directory above the path could not be listed, or a rule file could not be read. The next fields are the word of the error,
+///   a dash and the path that could not be read;
 /// - `below`: a rule ignores a directory above the path; the line names the rule of the highest such directory;
 /// - `ignored`, `included`, `none`: the last rule that matches the path, or that no rule matches;
-/// - `left`: a walk skips the path, or a directory above it, by no rule. It is named `.git` (`git`), whatever the rules are, or an
-///   attribute has a state for it (`attribute:WORD`), or it is a file that no pattern includes (`include`), or it is neither a file nor a
-///   directory (`other`).
+/// - `left`: a walk skips the path, or a directory above it, for a reason that is no rule. What is skipped is named `.git` (`git`),
+///   whatever the rules are; or an attribute has a state for it (`attribute:WORD`); or it is a file that no pattern includes (`include`);
+///   or it is neither a file nor a directory (`other`).
 ///
 /// The source of a rule is its file and the number of its line, such as `src/.gitignore:3`, or `--exclude:N` for the Nth pattern of the
 /// command line. The pattern is the text of that line.
@@ -51,7 +52,7 @@ use std::alloc::Global;
 /// other error a prefix of the text was written, perhaps all of it.
 ///
 /// Each directory is listed once and its rules are read once, in any order of the paths, as long as the opened directories use no more than
-/// about [`MAX_KEPT`](crate::MAX_KEPT) bytes. Past that this holds only for paths in the order of a walk.
+/// about [`MAX_KEPT`](crate::MAX_KEPT) bytes. Past that limit this holds only for paths in the order in which a walk visits them.
 ///
 /// ```
 /// let tree = SysTree::new(&rt, rt.alloc(), ".", FileSystems::All)?;
@@ -77,7 +78,7 @@ pub fn explain<T: Tree, S: Source, O: Sink>(
     Ok(outcome)
 }
 
-/// Like [`explain`], but for these paths instead of the paths of an input.
+/// Like [`explain`], but for the paths in `words` instead of the paths of an input.
 ///
 /// After an error a prefix of the text was written.
 pub fn explain_words<T: Tree, O: Sink>(

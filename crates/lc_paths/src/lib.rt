@@ -2,8 +2,8 @@
 //!
 //! - `checking`: checks of paths by the rules of one file, a line for each path
 //! - `explaining`: explanations of the paths of a tree, a line for each path
-//! - `paths`: the paths that are answered; `answer_line`: a line of an answer
-//! - `laws`: what is true of the definitions that the contracts cite
+//! - `paths`: the paths of an input or of arguments; `answer_line`: the output line for a path
+//! - `laws`: laws of the definitions that the contracts cite
 #![tactic(auto)]
 
 mod answer_line;

@@ -1,14 +1,14 @@
-//! The paths that are answered, one after another.
+//! The paths of an input or of arguments, one after another.
 
 ghost use Rattle.std.specs.Prelude.{◌≡◌, ◌∷◌, [], MatchOption};
 ghost use Rattle.lc_paths.specs.Paths.{paths_in};
 
 use lc_text::{PathEnd, split_path};
 
-/// Paths that are answered one after another.
+/// Paths that are checked or explained one after another.
 #[derive(Clone, Copy)]
 pub(crate) enum Paths<'w, 'a> {
-    /// The paths of an input.
+    /// The paths of an input, each ended as the `PathEnd` says.
     Input(PathEnd, &'a [u8]),
     /// Arguments, each of them a path.
     Words(&'w [&'a str]),

@@ -1,4 +1,4 @@
--- What a check answers, by its reads and its writes.
+-- The results of a check, by its reads and its writes.
 use Rattle.std.specs.Prelude.{◌≡◌, ℕ, ◌<◌, ◌≤◌, List, [], length, Result, Ok, Err}
 use Rattle.lc_io.specs.declared.source.Failed.{Failed}
 use Rattle.lc_io.specs.declared.whole.WholeFault.TheVariants as whole
@@ -15,7 +15,7 @@ use Rattle.lc_text.specs.declared.check_fault.CheckFault.TheVariants.{Read, Inpu
 abbrev pub no_rules : List ℕ → List ℕ
 no_rules bytes = []
 
--- what a check answers, where the input's bytes have these rules in them and give this text
+-- the result of a check, if `rules_in` and `text_of` are the rules in the input's bytes and the output for them
 module _ {I O : Type 0} (may_give : I → ℕ → Answer → I → Type 0) (may_take : O → List ℕ → Result ℕ Failed → O → Type 0)
     (rules_in text_of : List ℕ → List ℕ) where
   -- the input was read whole, and its rules are no longer than a rule file may be
@@ -41,7 +41,7 @@ module _ {I O : Type 0} (may_give : I → ℕ → Answer → I → Type 0) (may_
   AnswersCheck input out (Err Write) read wrote =
       (bytes : List ℕ) × HasRead input bytes read × StopsWriting may_take out (text_of bytes) wrote
 
--- what an explained check answers, whose text is written as it is made; the input's bytes give this text
+-- the result of an explained check, whose output is written while it is made; `text_of` is the output for the input's bytes
 module _ {I O : Type 0} (may_give : I → ℕ → Answer → I → Type 0) (may_take : O → List ℕ → Result ℕ Failed → O → Type 0)
     (text_of : List ℕ → List ℕ) where
   abbrev pub AnswersExplainedCheck : I → O → Result (Unit {0}) CheckFault → I → O → Type 0

@@ -19,7 +19,7 @@ is_ignored Ignored = true
 is_ignored Included = false
 is_ignored NoRule = false
 
--- at place k of the path stands a slash, and what stands before it is, as a directory, ignored
+-- the path has a slash at place k, and the directory before this slash is ignored
 abbrev pub is_ignored_parent : (List ℕ → Bool → Verdict) → List ℕ → ℕ → Bool
 is_ignored_parent verdict path k = nat_eq (slice_index path k) slash && is_ignored (verdict (take k path) true)
 
@@ -28,7 +28,7 @@ is_ignored_parent verdict path k = nat_eq (slice_index path k) slash && is_ignor
 abbrev pub has_ignored_parent : (List ℕ → Bool → Verdict) → List ℕ → Bool
 has_ignored_parent verdict path = list_any (is_ignored_parent verdict path) (range_with_len 0 (length path))
 
--- no directory that ends before place n is ignored
+-- no directory that ends before place n of the path is ignored
 pub record IsClearTo (verdict : List ℕ → Bool → Verdict) (path : List ℕ) (n : ℕ) : Type 0 where
   pub within : n ≤ length path
   pub clear : (k : ℕ) → k < n → is_ignored_parent verdict path k ≡ false
@@ -38,22 +38,22 @@ verdict_word Ignored = codes "ignored"
 verdict_word Included = codes "included"
 verdict_word NoRule = codes "none"
 
--- the first that holds: the path is bad, it stands below an ignored directory, its own verdict
+-- the word of a path, the first that holds: the path is bad, it is below an ignored directory, or its own verdict
 abbrev pub path_word : (List ℕ → Bool → Verdict) → List ℕ → Bool → List ℕ
 path_word verdict path is_dir =
     cond (is_bad_path path) (codes "bad")
     (cond (has_ignored_parent verdict path) (codes "below")
     (verdict_word (verdict path is_dir)))
 
--- the word, a tab, the path as it came, perhaps with a slash, written by `escape`, a line feed
+-- the output line for a path: its word, a tab, the path as it was read, perhaps with a slash, written by `escape`, a line feed
 abbrev pub checked_line : (List ℕ → List ℕ) → (List ℕ → Bool → Verdict) → List ℕ → List ℕ
 checked_line escape verdict line =
     path_word verdict (path_of line) (is_dir_line line) ++ codes "\t" ++ escape line ++ codes "\n"
 
--- the paths, which end so, each with its word
+-- the lines for all paths of an input, whose paths end as `end` says
 abbrev pub check_text_of : (List ℕ → List ℕ) → (List ℕ → Bool → Verdict) → PathEnd → List ℕ → List ℕ
 check_text_of escape verdict end paths = flat_map (checked_line escape verdict) (input_paths_of end paths)
 
--- the same with the rules of one file
+-- the lines for all paths of an input, by the rules of one file
 abbrev pub text_by : (List ℕ → List ℕ) → List RuleModel → PathEnd → List ℕ → List ℕ
 text_by escape rules end paths = check_text_of escape (file_verdict rules) end paths

@@ -11,35 +11,35 @@ use Rattle.lc_text.specs.RulePlaces.{line_text}
 use Rattle.lc_text.specs.declared.lines.PathEnd.{PathEnd}
 use Rattle.lc_paths.specs.AnswerLines.{answer_line}
 
--- the rule of one file that decides a path, or a directory
+-- the last rule of one file that matches a path, or a directory
 abbrev pub file_rule : List RuleModel → List ℕ → Bool → Option RuleModel
 file_rule rules path is_dir = option_map (λ r. r.1) (last_match (at_depth 0 rules) path is_dir)
 
--- the highest ignored directory above a path, where there is one: that which is the first on the way down
+-- the highest ignored directory above a path, if there is one: the first on the way down
 abbrev pub highest_ignored : (List ℕ → Bool → Verdict) → List ℕ → List ℕ
 highest_ignored verdict path = take (position_or_len (is_ignored_parent verdict path) (range_with_len 0 (length path))) path
 
--- the rule that gives a path its word: none of a bad path; that which ignores the highest ignored directory above it; or else
--- that which decides the path itself
+-- the rule that gives a path its word: none for a bad path; the rule that ignores the highest ignored directory above the path; or else the
+-- rule that decides the path itself
 abbrev pub path_rule : List RuleModel → List ℕ → Bool → Option RuleModel
 path_rule rules path is_dir =
     cond (is_bad_path path) None
     (cond (has_ignored_parent (file_verdict rules) path) (file_rule rules (highest_ignored (file_verdict rules) path) true)
     (file_rule rules path is_dir))
 
--- a line of a rule of the file with this name: the word, the name with the number of the rule's line, the text of that line, and the path
--- as it came
+-- an output line by a rule of the file with this name: the word, the name with the number of the rule's line, the text of that line, and
+-- the path as it was read
 abbrev pub rule_line : (List ℕ → List ℕ) → List ℕ → List ℕ → List ℕ → Option RuleModel → List ℕ → List ℕ
 rule_line escape name bytes word rule path =
     answer_line escape word (option_map (λ (r : RuleModel). record { front = []; bytes = name; end = []; line = Some r.line }) rule)
     (option_map (λ (r : RuleModel). line_text bytes r.line) rule) path
 
--- the word as in a check, with the rule that gives it
+-- the output line for a path: its word as in a check, with the rule that gives the word
 abbrev pub explained_line : (List ℕ → List ℕ) → List ℕ → List ℕ → List ℕ → List ℕ
 explained_line escape name bytes line =
     rule_line escape name bytes (path_word (file_verdict (rules_of bytes)) (path_of line) (is_dir_line line))
     (path_rule (rules_of bytes) (path_of line) (is_dir_line line)) line
 
--- the lines of the paths, which end so, by the rules of a file with this name and these bytes
+-- the lines for all paths of an input, by the rules of a file with this name and these bytes; the paths end as `end` says
 abbrev pub explained_text_of : (List ℕ → List ℕ) → List ℕ → List ℕ → PathEnd → List ℕ → List ℕ
 explained_text_of escape name bytes end paths = flat_map (explained_line escape name bytes) (input_paths_of end paths)

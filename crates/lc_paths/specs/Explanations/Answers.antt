@@ -1,4 +1,4 @@
--- What a call answers that explains paths, by its reads and its writes.
+-- The results of a call that explains paths, by its reads and its writes.
 use Rattle.std.specs.Prelude.{◌≡◌, ◌++◌, if◌then◌else◌, ℕ, Bool, cond, List, Result, Ok, Err, map}
 use Rattle.std.specs.List.{AllByRecursion}
 use Rattle.lc_io.specs.Reads.{Answer}
@@ -20,7 +20,7 @@ use Rattle.lc_paths.specs.declared.explaining.explain_options.ExplainOptions.{Ex
 use Rattle.lc_text.specs.declared.outcome.Outcome.{Outcome}
 use Rattle.lc_text.specs.declared.outcome.Outcome.TheVariants.{Clean, SomeFaults}
 
--- what may be said of a path, by what the listings and the files of a tree may answer and by what is asked
+-- the explanations that a path may have, by what the listings and the files of a tree may answer, and by the options
 abbrev pub MaySay : (List ℕ → Listings) → (List ℕ → Contents) → ExplainOptions → List ℕ → Bool → Explanation → Type 0
 MaySay lists gives options path as_dir x =
     IsExplained (MayEnter lists gives) options.filters.now path as_dir x
@@ -29,7 +29,7 @@ abbrev pub outcome_of : List Told → Outcome
 outcome_of told = cond (has_fault told) SomeFaults Clean
 
 module _ (style : PathStyle) (Says : List ℕ → Bool → Explanation → Type 0) where
-  -- lines, each with something that may be said of its path: their text in this style, and whether a directory was at fault
+  -- the output for these lines, in this style: each line has an explanation that its path may have; and whether a directory had an error
   pub record Explains (lines : List (List ℕ)) (text : List ℕ) (outcome : Outcome) : Type 0 where
     pub told : List Told
     pub lines_are : map (λ (t : Told). t.0) told ≡ lines
@@ -37,7 +37,7 @@ module _ (style : PathStyle) (Says : List ℕ → Bool → Explanation → Type 
     pub text_is : text ≡ told_text style told
     pub outcome_is : outcome ≡ outcome_of told
 
-  -- the first of these lines were explained, and this holds of their text
+  -- the first of these lines were explained, and `Holds` is true of their output
   pub record ExplainsFirst (lines : List (List ℕ)) (Holds : List ℕ → Type 0) : Type 0 where
     pub first : List (List ℕ)
     pub rest : List (List ℕ)
@@ -47,7 +47,7 @@ module _ (style : PathStyle) (Says : List ℕ → Bool → Explanation → Type 
     pub explains : Explains first text outcome
     pub holds : Holds text
 
-  -- one more line was explained: the text before it and after it, and whether a directory was at fault
+  -- one more line was explained: the output before it and after it, and whether a directory had an error
   pub record ExplainsLine (line old new : List ℕ) (before after : Outcome) : Type 0 where
     pub x : Explanation
     pub said : Says (named_path line) (names_dir line) x
@@ -56,13 +56,13 @@ module _ (style : PathStyle) (Says : List ℕ → Bool → Explanation → Type 
 
 module _ {O : Type 0} (may_take : O → List ℕ → Result ℕ Failed → O → Type 0) (style : PathStyle)
     (Says : List ℕ → Bool → Explanation → Type 0) where
-  -- of lines, whose text is written as it is made: it was written whole; or of the first of them a prefix was, when a write stopped it or
-  -- there was no memory for the rest
+  -- the result of explaining lines, whose output is written while it is made. Either all output was written, or a prefix of the output for
+  -- the first lines, because a write stopped or there was no memory for the rest
   abbrev pub AnswersLines : List (List ℕ) → O → Result Outcome PrintFault → O → Type 0
   AnswersLines lines out (Ok outcome) wrote =
       (text : List ℕ) × Explains style Says lines text outcome × WritesInPieces may_take out text wrote
   AnswersLines lines out (Err fault) wrote = ExplainsFirst style Says lines (λ text. AnswersInPieces may_take out text (Err fault) wrote)
 
-  -- of the paths of an input, which end so
+  -- the result of explaining the paths of an input, which end as `end` says
   abbrev pub AnswersExplain : PathEnd → {I : Type 0} → (I → ℕ → Answer → I → Type 0) → I → O → Result Outcome CheckFault → I → O → Type 0
   AnswersExplain end may_give = AnswersAsMade may_give (λ bytes. AnswersLines (input_paths_of end bytes))

@@ -1,4 +1,4 @@
--- The text of explanations, in a style: a line of four fields for each path.
+-- The output for explained paths, in a style: a line of four fields for each path.
 use Rattle.std.specs.Prelude.{ℕ, Bool, true, false, List, [], Option, Some, None, flat_map, codes}
 use Rattle.std.specs.List.{list_any}
 use Rattle.lc_level.specs.FaultLines.{FaultLineModel}
@@ -13,14 +13,14 @@ use Rattle.lc_level.specs.FaultWords.{fault_word}
 use Rattle.lc_paths.specs.AnswerLines.{answer_line}
 use Rattle.lc_paths.specs.Explanations.Explained.{CitedRule, Explanation, bad, faulted, below, ignored, included, unruled, left_out}
 
--- the path that a line names, and whether as that of a directory: `./` at the beginning of the line means nothing
+-- the path of an input line, and whether it is that of a directory: `./` at the beginning of the line means nothing
 abbrev pub named_path : List ℕ → List ℕ
 named_path line = path_of (undotted line)
 
 abbrev pub names_dir : List ℕ → Bool
 names_dir line = is_dir_line (undotted line)
 
--- where a rule is that decides the path of a line: the directory of its file, the file and the number of the rule's line
+-- the place of the rule that decides the path of a line: the directory of its file, the file and the number of the rule's line
 abbrev pub rule_name : List ℕ → RuleSource → ℕ → NameModel
 rule_name path source line = record {
   front = [];
@@ -29,27 +29,27 @@ rule_name path source line = record {
   line = Some line;
 }
 
--- a word in place of a file
+-- a word that is printed where the place of a rule would be
 abbrev pub word_name : List ℕ → NameModel
 word_name word = record { front = word; bytes = []; end = []; line = None }
 
--- why the walk leaves out what no rule leaves out, by the word for it and by the word of an attribute
+-- the reason, which is no rule, why a walk skips an entry: the word for it, or the word of an attribute
 abbrev pub reason_name : List ℕ → Option (List ℕ) → NameModel
 reason_name word None = word_name word
 reason_name word (Some attribute) = record { front = codes "attribute:"; bytes = attribute; end = []; line = None }
 
--- as paths and patterns are printed in a style
+-- output lines, with paths and patterns in this style
 module _ (style : PathStyle) where
-  -- of a directory that is at fault
+  -- the line for a path below a directory that has an error
   abbrev pub fault_line : FaultLineModel → List ℕ
   fault_line fault = answer_line (styled style) (codes "fault") (Some (word_name (fault_word fault.word))) None (or_dot fault.path)
 
-  -- of a line that a rule decides: where the rule stands, and the text of its line
+  -- the line for a path that a rule decides: the place of the rule, and the text of its line
   abbrev pub rule_line : List ℕ → List ℕ → CitedRule → List ℕ
   rule_line word line rule =
       answer_line (styled style) word (Some (rule_name (named_path line) rule.source rule.line)) (Some rule.text) line
 
-  -- the word of what is said of a line's path, where it is said by, the pattern, and the line as it came
+  -- the line for a path with this explanation: the word, the place or the reason, the pattern, and the path as it was read
   abbrev pub explained_line : List ℕ → Explanation → List ℕ
   explained_line line bad = answer_line (styled style) (codes "bad") None None line
   explained_line line (faulted fault) = fault_line fault
@@ -60,7 +60,7 @@ module _ (style : PathStyle) where
   explained_line line (left_out reason) =
       answer_line (styled style) (codes "left") (Some (reason_name (reason_word reason) (attribute_of reason))) None line
 
--- a line with what is said of it
+-- an input line and the explanation of its path
 abbrev pub Told : Type 0
 Told = List ℕ × Explanation
 
@@ -79,6 +79,6 @@ is_fault (included rule) = false
 is_fault unruled = false
 is_fault (left_out reason) = false
 
--- some directory on the way to some path was at fault
+-- whether a directory on the way to one of the paths had an error
 abbrev pub has_fault : List Told → Bool
 has_fault told = list_any (λ t. is_fault t.1) told

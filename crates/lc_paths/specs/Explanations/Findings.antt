@@ -1,4 +1,4 @@
--- What the code finds of a path.
+-- What `explain` finds for a path, as an explanation.
 use Rattle.std.specs.Prelude.{ℕ, List, codes}
 use Rattle.lc_level.specs.FaultLines.{FaultLineModel}
 use Rattle.lc_level.specs.Filters.{FiltersModel}
@@ -14,11 +14,11 @@ use Rattle.lc_paths.specs.declared.explaining.finding.Finding.{Finding}
 use Rattle.lc_paths.specs.declared.explaining.finding.Found.{Found}
 use Rattle.lc_paths.specs.declared.explaining.finding.Finding.TheVariants as found
 
--- the path at which a directory is at fault, and why
+-- the path that could not be read, and the word of the error
 abbrev pub fault_line_of : DirectoryFault → FaultLineModel
 fault_line_of fault = record { path = site_path fault.directory.now fault.site; word = fault.word }
 
--- what a rule decides, and its word
+-- the explanation by a rule that decides this, and its word
 abbrev pub decided : Decision → CitedRule → Explanation
 decided Below = below
 decided Ignored = ignored
@@ -29,7 +29,7 @@ decision_word Below = codes "below"
 decision_word Ignored = codes "ignored"
 decision_word Included = codes "included"
 
--- what it says, by the rules as they are told of
+-- the explanation that a finding stands for; `cite` makes a rule as it is printed
 abbrev pub explanation_of : (RuleSource → ℕ → CitedRule) → Finding → Explanation
 explanation_of cite found.Bad = bad
 explanation_of cite (found.Fault fault) = faulted (fault_line_of fault)
@@ -37,6 +37,6 @@ explanation_of cite (found.Ruled decision rule) = decided decision (cite rule.so
 explanation_of cite found.NoRule = unruled
 explanation_of cite (found.Skipped reason) = left_out (reason_model reason)
 
--- by the rules of the kept way on which it was found
+-- the explanation that a finding stands for, by the rules of the directories of its cached stack
 abbrev pub explanation_on : FiltersModel → DirStacks → Found → Explanation
 explanation_on f stacks found = explanation_of (cited f (stack_to stacks found.to)) found.finding

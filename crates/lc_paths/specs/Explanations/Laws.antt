@@ -13,20 +13,21 @@ use Rattle.lc_paths.specs.Explanations.OpenDirs.{DirStack}
 abbrev pub IsSaidKept : Explanation → Type 0
 IsSaidKept x = (x ≡ unruled) ⊎ ((rule : CitedRule) × (x ≡ included rule))
 
--- what is said of an entry agrees with its fate: it is left out for the same reason, or taken
+-- the explanation of an entry agrees with its fate: it is skipped for the same reason, or not skipped
 abbrev pub Agrees : (RuleSource → ℕ → CitedRule) → Fate → Explanation → Type 0
 Agrees cite (counted file) x = IsSaidKept x
 Agrees cite (failed word) x = IsSaidKept x
 Agrees cite (walked job) x = IsSaidKept x
 Agrees cite (skipped kind reason) x = x ≡ said_for cite ignored reason
 
--- so it is for each entry of a directory
+-- the explanation of each entry of a directory agrees with the entry's fate in the directory's level
 abbrev pub EntryLaw : Type 0
 EntryLaw =
     (f : FiltersModel) (stack : DirStack) (j : JobModel) (item : Item)
     → Agrees (cited f stack) (fate_of f j item) (said_of f stack j (name_of item) (entry_of item).kind)
 
--- a directory on the way is left out for the reason that is told of, or else it is walked, by the job by which it is entered
+-- a directory on the way to a path is skipped for the reason that explains the path; without a reason the level visits it, by the job by
+-- which it is entered
 abbrev pub IntoLaw : Type 0
 IntoLaw =
     (f : FiltersModel) (j : JobModel) (name : List ℕ)

@@ -13,19 +13,19 @@ use Rattle.lc_tree.specs.Listing.{EntryModel}
 use Rattle.lc_tree.specs.Trees.{Listings, Contents}
 use Rattle.lc_tree.specs.declared.entry.Kind.{Kind}
 
--- a directory on the way: with its own rule files in both chains, its entries, and the texts of `.git/info/exclude` and of its
--- `.gitignore`, as far as they are there
+-- a directory on the way to a path: its job, whose chains have its own rule files; its entries; and the texts of `.git/info/exclude` and of
+-- its `.gitignore`, if it has these files
 pub record OpenDirModel : Type 0 where
   pub job : JobModel
   pub entries : List EntryModel
   pub info : Option (List ℕ)
   pub own : Option (List ℕ)
 
--- such directories from the top down
+-- a stack: the directories on the way to a path, from the top down
 abbrev pub DirStack : Type 0
 DirStack = List OpenDirModel
 
--- ways that are kept
+-- the cached stacks, by number
 abbrev pub DirStacks : Type 0
 DirStacks = List DirStack
 
@@ -33,7 +33,7 @@ abbrev pub stack_or_none : Option DirStack → DirStack
 stack_or_none None = []
 stack_or_none (Some stack) = stack
 
--- the way of this number, or of none: where there is no such way, it has no directories
+-- the cached stack with this number, or with none: if there is no such stack, it has no directories
 abbrev pub stack_at : DirStacks → ℕ → DirStack
 stack_at stacks at = stack_or_none (slice_get stacks at)
 
@@ -43,7 +43,7 @@ stack_to stacks (Some at) = stack_at stacks at
 
 -- ---- entering a directory
 
--- by its items, and what reading its rule files gave
+-- the directory with these items, after its rule files were read, or the first error
 abbrev pub open_dir_after : JobModel → List Item → Result RuleBytes FaultLineModel → Result OpenDirModel FaultLineModel
 open_dir_after j items (Ok files) =
     Ok (record { job = extended j files; entries = entries_of items; info = files.info.rules; own = files.own.rules })
@@ -53,11 +53,11 @@ abbrev pub open_dir_of : JobModel → Answers → Items → Result OpenDirModel 
 open_dir_of j a (Ok items) = open_dir_after j items (rule_bytes j.ignore.no_ignore j.path items a)
 open_dir_of j a (Err word) = Err (record { path = j.path; word = word })
 
--- the directory of a job whose answers these are, or its first fault
+-- the directory of a job, opened by these answers, or its first error
 abbrev pub open_dir : JobModel → Answers → Result OpenDirModel FaultLineModel
 open_dir j a = open_dir_of j a a.here
 
--- by answers that the tree may give
+-- the directory of a job, opened by answers that the tree may give, or its first error
 pub record MayEnter (lists : List ℕ → Listings) (gives : List ℕ → Contents) (j : JobModel) (entered : Result OpenDirModel FaultLineModel)
     : Type 0 where
   pub answers : Answers
@@ -67,7 +67,7 @@ pub record MayEnter (lists : List ℕ → Listings) (gives : List ℕ → Conten
 
 -- ---- what a way knows
 
--- the kind of what stands under a name, if anything does
+-- the kind of the entry with this name, if there is one
 abbrev pub kind_in : List EntryModel → List ℕ → Option Kind
 kind_in entries name = option_map (λ (e : EntryModel). e.kind) (find (λ (e : EntryModel). bytes_eq e.name name) entries)
 
@@ -79,7 +79,7 @@ abbrev pub text_at : (OpenDirModel → Option (List ℕ)) → Option OpenDirMode
 text_at text None = []
 text_at text (Some directory) = text_or_none (text directory)
 
--- the text of the rules of this source; empty where there are none
+-- the text of the rules of this source; empty if there are none
 abbrev pub text_in : FiltersModel → DirStack → RuleSource → List ℕ
 text_in f stack ExcludeFrom = text_or_none f.exclude_from
 text_in f stack (InfoExclude depth) = text_at (λ d. d.info) (slice_get stack depth)

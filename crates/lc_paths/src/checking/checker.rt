@@ -1,4 +1,4 @@
-//! Matching paths with the rules, one after another.
+//! Matching one path after another with the rules of a file.
 //!
 //! Paths come in runs that share their directories, so the rules are matched with these directories once for a run.
 
@@ -14,13 +14,15 @@ use lc_rules::{DirectoriesAbove, IgnoreFile, Rule, Verdict};
 use lc_text::is_bad_path;
 use memchr::memchr;
 
-/// The number of unknown names up to which directories are matched one by one, even if a pattern has nested wildcards.
+/// The most names of a path for which the directories above it are matched one by one, even if a pattern has nested wildcards. Names that
+/// are known from the previous path are not counted.
 const FEW_NAMES: usize = 2;
 
-/// The same number if no pattern has nested wildcards. Past it, most rules match all directories together sooner than one after another.
+/// The most names of a path for which the directories above it are matched one by one, if no pattern has nested wildcards. With more names,
+/// most rules match all directories together sooner than one after another.
 const SOME_NAMES: usize = 8;
 
-/// Returns the number of bytes that two paths share at their front.
+/// Returns the number of bytes that two paths share at their beginning.
 fn shared_len(one: &[u8], other: &[u8]) -> usize
     ensures within_one { result ≤ length one.now }
     ensures within_other { result ≤ length other.now }
@@ -51,8 +53,8 @@ fn ignoring<'a>(rules: &'a IgnoreFile, directory: &[u8]) -> Option<&'a Rule>
     }
 }
 
-/// Returns the rule that ignores the directory whose path is this many bytes of a path, if one does. If all directories above the path were
-/// matched together, the rule is already known; `place` is the number of directories above this one.
+/// Returns the rule that ignores the directory whose path is the first `len` bytes of a path, if a rule does. If all directories above the
+/// path were matched together, `above` has the rule; `place` is the number of directories above this one.
 fn ignoring_among<'a>(
     rules: &'a IgnoreFile,
     above: Option<&DirectoriesAbove<'a>>,
@@ -75,7 +77,7 @@ fn ignoring_among<'a>(
     }
 }
 
-/// Returns the finding for a path, by the rule that ignores the highest ignored directory above it.
+/// Returns the finding for a path. `above` is the rule that ignores the highest ignored directory above the path, if one is ignored.
 fn found_below<'a>(
     rules: &'a IgnoreFile,
     above: Option<&'a Rule>,
@@ -93,13 +95,13 @@ fn found_below<'a>(
     }
 }
 
-/// The rules of a file, and the rule that ignores a directory above the last path.
+/// The rules of a file, the directory that was matched last, and the rule that ignores this directory, if one does.
 #[derive(Drop)]
 pub(crate) struct Checker<'a> {
     rules: &'a IgnoreFile,
     directory: &'a [u8],
     excluded_by: Option<&'a Rule>,
-    /// The number of unknown names up to which directories are matched one by one.
+    /// The most names of a path for which the directories above it are matched one by one: `FEW_NAMES` or `SOME_NAMES`.
     few_names: usize,
     // no directory above this one is ignored, and the rule is the one that ignores this one
     ghost clear: { (k : ℕ) → k < length directory.now → is_ignored_parent (file_verdict rules.now) directory.now k ≡ false },
@@ -107,7 +109,7 @@ pub(crate) struct Checker<'a> {
 }
 
 impl<'a> Checker<'a> {
-    /// Makes a checker that knows of no directory yet.
+    /// Makes a checker that has matched no directory yet.
     pub(crate) fn new(rules: &'a IgnoreFile) -> Self
         ensures { result.rules.now ≡ rules.now }
     {
@@ -142,8 +144,8 @@ impl<'a> Checker<'a> {
         found_below(self.rules, above, path, is_dir)
     }
 
-    /// Like `find`, but matches the path together with all directories above it. So many bytes of it are known to be below no ignored
-    /// directory.
+    /// Like `find`, but matches the path together with all directories above it. No directory that ends in its first `known` bytes is
+    /// ignored.
     #[inline(never)]
     fn find_at_once(&mut self, path: &'a [u8], is_dir: bool, known: usize) -> Finding<'a>
         requires good { is_bad_path path.now ≡ false }
@@ -160,8 +162,8 @@ impl<'a> Checker<'a> {
         }
     }
 
-    /// Returns how many bytes of the path are known to be below no ignored directory, or none if the last directory is ignored and is
-    /// above the path.
+    /// Returns a number of bytes at the path's beginning in which no ignored directory ends. Returns `None` if the directory that was
+    /// matched last is ignored and is above the path.
     fn clear_len(&self, path: &[u8]) -> Option<usize>
         ensures { MatchOption result (IsIgnoringAbove self.now.rules.now path.now self.now.excluded_by)
             (λ len. IsClearTo (file_verdict self.now.rules.now) path.now len) }
@@ -180,8 +182,9 @@ impl<'a> Checker<'a> {
         Some(shared + 1)
     }
 
-    /// Returns the rule that ignores the highest ignored directory above the path, if one above it is ignored. So many bytes are known to
-    /// be below none. The directories were matched together, or are matched here one by one; `place` of them are known.
+    /// Returns the rule that ignores the highest ignored directory above the path, if one is ignored. No ignored directory ends in the
+    /// first `known` bytes. Without `above`, the other directories are matched here one by one. With `above`, all were matched together,
+    /// and `place` directories end in the first `known` bytes.
     fn ignoring_from(
         &mut self,
         path: &'a [u8],

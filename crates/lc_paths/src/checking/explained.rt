@@ -1,4 +1,4 @@
-//! The text of a check with rules, written while it is made.
+//! The output of a check with the deciding rules, written while it is made.
 
 ghost use Rattle.std.specs.Prelude.{◌≡◌, ◌++◌, IfSome, OnOk, IfOk, map, option_map, flat_map};
 ghost use Rattle.lc_rules.specs.IgnoreLaws.{IsOnLine};
@@ -18,7 +18,7 @@ use lc_rules::{Lines, Rule, text_of_line};
 use lc_text::{Block, Name, PathStyle, PrintFault, Sink, split_slash};
 use std::alloc::{AllocError, Global};
 
-/// A file of rules as it is printed: its name, what each of its lines is read as, and a style.
+/// A file of rules as it is printed: its name, the text that each of its lines is read as, and the style of the output.
 #[derive(Drop)]
 pub(crate) struct RuleLines<'a> {
     name: &'a [u8],
@@ -51,7 +51,7 @@ impl<'a> RuleLines<'a> {
         })
     }
 
-    /// Returns what the line of a rule is read as.
+    /// Returns the text that a rule's line is read as, without the trailing spaces.
     fn text(&self, rule: &Rule) -> &'a [u8]
         requires { IsOnLine (lines_of self.now.rules.now) rule.now }
         ensures { result.now ≡ line_text self.now.rules.now rule.now.line }
@@ -59,7 +59,7 @@ impl<'a> RuleLines<'a> {
         self.texts[rule.line() as usize - 1]
     }
 
-    /// Appends the line of a path, with the rule that gives it this word.
+    /// Appends the output line for a path: the word, the place and the text of the rule that the word follows from, and the path.
     fn push_line(
         &self,
         word: &str,
@@ -92,7 +92,7 @@ impl<'a> RuleLines<'a> {
     }
 }
 
-/// Appends the line that is printed for a path, perhaps with a slash at its end.
+/// Appends the output line for a path. `line` is the path as it was read, perhaps with a slash at its end.
 fn push_explained<'a>(
     lines: &RuleLines,
     checker: &mut Checker<'a>,
@@ -109,7 +109,7 @@ fn push_explained<'a>(
     lines.push_line(finding.word(), finding.rule(), line, text)
 }
 
-/// Writes the word of each path, with the rule that gives it.
+/// Writes a line for each path, with its word and the rule that the word follows from.
 pub(crate) fn print_explained<O: Sink>(
     alloc: Global,
     lines: &RuleLines,

@@ -23,7 +23,7 @@ pub(crate) enum Finding<'a> {
     Bad,
     /// A directory above the path is ignored. This rule ignores the highest such directory.
     Below(&'a Rule),
-    /// The rule that decides it, if any does.
+    /// The last rule that matches the path, if any does.
     Decided(Option<&'a Rule>),
 }
 
@@ -39,7 +39,7 @@ impl<'a> Finding<'a> {
         }
     }
 
-    /// Returns the rule that gives the word.
+    /// Returns the rule from which the word of the finding follows, if there is one.
     pub(crate) fn rule(self) -> Option<&'a Rule>
         ensures { option_map (λ r. r.now) result ≡ finding_rule self.entry }
     {

@@ -11,7 +11,7 @@ fn is_dashes(line: &[u8]) -> bool
     line == b"--".as_slice() || line == b"--\r".as_slice()
 }
 
-/// Splits an input at its first line of two dashes into rules and paths. Without such a line all of it is rules.
+/// Splits an input at its first line of two dashes into rules and paths. Without such a line all of the input is rules.
 pub(crate) fn split_joined(bytes: &[u8]) -> (&[u8], &[u8])
     ensures rules { result.0.now ≡ rules_part bytes.now }
     ensures paths { result.1.now ≡ paths_part bytes.now }

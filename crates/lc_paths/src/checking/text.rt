@@ -1,4 +1,4 @@
-//! The text of a check.
+//! The output of a check: a line for each path.
 
 ghost use Rattle.std.specs.Prelude.{◌≡◌, ◌++◌, OnOk, IfOk};
 ghost use Rattle.lc_paths.specs.Checks.CheckText.{file_verdict, checked_line, text_by};
@@ -10,7 +10,7 @@ use lc_rules::IgnoreFile;
 use lc_text::{PathFormat, PathStyle, push_styled, split_slash};
 use std::alloc::{AllocError, Global};
 
-/// Appends the line that is printed for a path, perhaps with a slash at its end.
+/// Appends the output line for a path. `line` is the path as it was read, perhaps with a slash at its end.
 fn push_checked<'a>(
     checker: &mut Checker<'a>,
     style: PathStyle,
@@ -28,14 +28,14 @@ fn push_checked<'a>(
     text.extend_from_slice(b"\n")
 }
 
-/// Makes the text of a check: the word of each path.
+/// Returns the output of a check of paths: a line for each, with a word such as `ignored`.
 ///
-/// A line of the text is a word, a tab and the path, in a style. One slash at a path's end means a directory. The word is the first of
-/// these that holds:
+/// A line of the text is a word, a tab and the path, in the style of `format`. One slash at a path's end means a directory. The word is the
+/// first of these that holds:
 ///
 /// - `bad`: no entry of a tree can have this path, or it has over 4,096 bytes;
-/// - `below`: some directory above it is ignored, so that nothing can include it again (gitignore(5), PATTERN FORMAT);
-/// - `ignored`, `included` or `none`: what the last rule that matches says.
+/// - `below`: some directory above the path is ignored, so that nothing can include it again (gitignore(5), PATTERN FORMAT);
+/// - `ignored`, `included` or `none`: what the last rule that matches the path says, or that no rule matches.
 pub fn check_text(
     alloc: Global,
     rules: &IgnoreFile,

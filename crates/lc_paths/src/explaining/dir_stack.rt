@@ -15,7 +15,7 @@ use std::alloc::{AllocError, Global};
 use std::marker::Model;
 use std::sync::Arc;
 
-/// Returns the bytes of a text, or none if there is no text.
+/// Returns the bytes of a text, or no bytes if there is no text.
 fn text_or_none(text: &Option<Vec<u8>>) -> &[u8]
     ensures { result.now ≡ text_or_none (text_items text.now) }
 {
@@ -25,7 +25,7 @@ fn text_or_none(text: &Option<Vec<u8>>) -> &[u8]
     }
 }
 
-/// Shares each directory once more.
+/// Clones the `Arc` of each directory.
 fn shared(
     alloc: Global,
     directories: &[Arc<OpenDir, Global>],

@@ -25,7 +25,8 @@ use lc_text::{PathStyle, is_bad_path, is_top};
 use lc_tree::{Kind, Tree};
 use std::alloc::{AllocError, Global};
 
-/// Returns the kind by which rules are matched: that of the entry, or what the path says if there is no entry.
+/// Returns the kind by which rules are matched with a path: the kind of its entry, but a directory if `as_dir` and the entry is a file.
+/// Without an entry, `as_dir` alone decides between directory and file.
 fn kind_asked(as_dir: bool, there: Option<Kind>) -> Kind
     ensures { result ≡ kind_asked as_dir there }
 {
@@ -45,7 +46,7 @@ fn is_directory(there: Option<Kind>) -> bool
     }
 }
 
-/// Returns the finding of a path that no entry of a tree has.
+/// Returns the finding for a path that no entry of a tree has: the top directory's `.`, or a bad path.
 fn without_entry<'p>(path: &[u8]) -> Finding<'p>
     ensures { (cite : RuleSource → ℕ → CitedRule) → explanation_of cite result ≡ said_of_none path.now }
 {
@@ -64,16 +65,16 @@ fn place_before<'p>(path: &'p [u8], others: &[u8]) -> &'p [u8]
     &path[..path.len() - others.len() - 1]
 }
 
-/// A step on the way to a path.
+/// The result of one step from the top of a tree down to a path.
 #[derive(Drop)]
 enum Step<'p> {
     /// The path is explained.
     Found(Finding<'p>),
-    /// The way goes on in the directory of this job, whose path comes next, and then what is left of the path below it.
+    /// The next step is in a directory: its job, its path, and the rest of the path below that directory.
     Into(Job, &'p [u8], &'p [u8]),
 }
 
-/// Explains paths of a tree.
+/// A reader of a tree's directories, and the options by which the tree's paths are explained.
 #[derive(Drop)]
 pub(crate) struct Explainer<'t, T> {
     alloc: Global,
@@ -110,8 +111,8 @@ impl<'t, T: Tree> Explainer<'t, T> {
         })
     }
 
-    /// Opens a directory in the last one of a stack, or the top, and caches its stack. It returns the stack's number, or why the
-    /// directory can't be opened.
+    /// Opens the directory of a job, which is in the last directory of the stack `above`, or is the top. Caches the stack that ends with
+    /// it, and returns that stack's number, or why the directory can't be opened.
     fn enter<'p>(
         &self,
         kept: &mut StackCache,
@@ -141,7 +142,7 @@ impl<'t, T: Tree> Explainer<'t, T> {
         }
     }
 
-    /// Explains a path by its last name, in the directory of the job.
+    /// Explains a path by its last name, which is a name in the directory of the job.
     fn last<'p>(
         &self,
         job: &Job,
@@ -166,8 +167,8 @@ impl<'t, T: Tree> Explainer<'t, T> {
         }
     }
 
-    /// Explains the rest of a path under something that is no directory, or does not exist, by the rules above it. The job is that of such
-    /// a place.
+    /// Explains a path that goes through a name that does not exist or is no directory, by the rules of the directories above. The job is
+    /// for the place of that name, and `rest` is the part of the path below it.
     fn beside<'p>(
         &self,
         job: Job,
@@ -196,7 +197,8 @@ impl<'t, T: Tree> Explainer<'t, T> {
         }
     }
 
-    /// Explains a path by the first name of its rest, in this directory, or goes on into the directory of this name.
+    /// Explains a path by the first name of `rest`, its part below the directory `here`, or returns the child directory of this name to go
+    /// on in.
     fn step<'p>(
         &self,
         here: &OpenDir,
@@ -230,7 +232,7 @@ impl<'t, T: Tree> Explainer<'t, T> {
         Ok(Step::Found(finding))
     }
 
-    /// Explains the rest of a path below the last directory of a stack.
+    /// Explains a path by descending from the last directory of a cached stack, which is above the path.
     fn descend<'p>(
         &self,
         kept: &mut StackCache,

@@ -27,11 +27,11 @@ pub(crate) struct DirectoryFault<'a> {
 /// What a rule decides about a path.
 #[derive(Clone, Copy, Debug)]
 pub(crate) enum Decision {
-    /// It ignores the highest ignored directory above the path.
+    /// The rule ignores the highest ignored directory above the path.
     Below,
-    /// It is the last that matches, and ignores the path.
+    /// The rule is the last that matches the path, and ignores it.
     Ignored,
-    /// It is the last that matches, and includes the path again.
+    /// The rule is the last that matches the path, and includes it again.
     Included,
 }
 
@@ -54,15 +54,15 @@ pub(crate) enum Finding<'a> {
     Bad,
     /// A directory above the path could not be opened.
     Fault(DirectoryFault<'a>),
-    /// This rule decides.
+    /// A rule decides the path, or a directory above it: what the rule decides, and its place.
     Ruled(Decision, RulePlace),
-    /// No rule matches, and a walk takes the path.
+    /// No rule matches the path, and a walk does not skip it.
     NoRule,
     /// A walk skips the path, or a directory above it, for this reason, which is no rule.
     Skipped(Reason),
 }
 
-/// A finding, with the number of the stack of the directories above the path, if any was opened.
+/// The finding for a path, with the cache's number of the stack of directories above the path, if any directory was opened.
 #[derive(Debug, Drop)]
 pub(crate) struct Found<'a> {
     pub(crate) finding: Finding<'a>,
@@ -70,7 +70,7 @@ pub(crate) struct Found<'a> {
 }
 
 impl<'a> Found<'a> {
-    /// Makes a finding below the directories of a stack.
+    /// Makes the result for a path below the directories of the stack with this number.
     pub(crate) fn on(at: usize, finding: Finding<'a>) -> Found<'a>
         ensures { result ≡ record { finding = finding.entry; to = Some at } }
     {
@@ -80,7 +80,7 @@ impl<'a> Found<'a> {
         }
     }
 
-    /// Makes a finding for which no directory was opened.
+    /// Makes the result for a path for which no directory was opened.
     pub(crate) fn on_none(finding: Finding<'a>) -> Found<'a>
         ensures { result ≡ record { finding = finding.entry; to = None } }
     {

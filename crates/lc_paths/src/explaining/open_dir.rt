@@ -10,19 +10,20 @@ use lc_level::{Entered, Job, RuleTexts, entry_named, relative_to};
 use lc_tree::{Entry, Kind};
 use std::marker::Model;
 
-/// About how many bytes a directory takes besides its entries, its path and its texts.
+/// About how many bytes of memory an opened directory takes, besides its entries, its path and the texts of its rule files.
 const DIRECTORY_BYTES: usize = 512;
 
-/// About how many bytes an entry takes besides its name.
+/// About how many bytes of memory an entry takes besides its name.
 const ENTRY_BYTES: usize = 64;
 
-/// About how many bytes a byte of the directory's path takes: the path is kept twice, and each name on it makes the stack longer.
+/// About how many bytes of memory each byte of a directory's path takes: the path is stored twice, and each name of the path makes the
+/// stack longer.
 const PATH_BYTES: usize = 6;
 
-/// About how many bytes a byte of a file of rules takes: itself, and its part of the rules that it was read as.
+/// About how many bytes of memory each byte of a rule file takes: the byte itself, and its part of the rules that were read.
 const TEXT_BYTES: usize = 16;
 
-/// About how many bytes these entries take.
+/// Returns about how many bytes of memory these entries take.
 fn size_of_entries(entries: &[Entry]) -> usize {
     let mut size = 0_usize;
     for entry in entries {
@@ -33,7 +34,7 @@ fn size_of_entries(entries: &[Entry]) -> usize {
     size
 }
 
-/// About how many bytes a file of rules takes, if there is one.
+/// Returns about how many bytes of memory a rule file takes, if there is one.
 fn size_of_text(text: &Option<Vec<u8>>) -> usize {
     match text {
         Some(bytes) => bytes.len().saturating_mul(TEXT_BYTES),
@@ -41,7 +42,7 @@ fn size_of_text(text: &Option<Vec<u8>>) -> usize {
     }
 }
 
-/// A directory that was opened: its entries, its rule files, and both chains with them.
+/// A directory that was opened: its entries, the texts of its rule files, and its job, whose chains have these files.
 #[derive(Drop)]
 pub(crate) struct OpenDir {
     pub(crate) job: Job,
@@ -65,7 +66,7 @@ impl Model for OpenDir {
 }
 
 impl OpenDir {
-    /// Keeps what a level reader found.
+    /// Stores what a level reader found when it entered a directory.
     pub(crate) fn new(entered: Entered) -> OpenDir
         requires { IsListing entered.entries.items }
         ensures { result ≡ record {
@@ -95,7 +96,7 @@ impl OpenDir {
         }
     }
 
-    /// Returns about how many bytes of memory it takes.
+    /// Returns about how many bytes of memory the directory takes.
     pub(crate) fn size(&self) -> usize {
         self.size
     }

@@ -41,7 +41,7 @@ fn line_text(bytes: &[u8], number: u32) -> &[u8]
     &[]
 }
 
-/// Appends the line of a path that a rule decides, by the text of the rule's line.
+/// Appends the output line for a path that a rule decides. `pattern` is the text of the rule's line, and `line` is the path as it was read.
 fn push_ruled(
     text: &mut Vec<u8>,
     style: PathStyle,
@@ -63,7 +63,7 @@ fn push_ruled(
     push_answer(text, style, word, Some(place), Some(pattern), line)
 }
 
-/// Returns a word in place of a file.
+/// Returns a name that is printed as this word, where the place of a rule would be printed.
 fn word_name(word: &'static str) -> Name<'static>
     ensures { name_model result ≡ word_name word.now }
 {
@@ -75,7 +75,7 @@ fn word_name(word: &'static str) -> Name<'static>
     }
 }
 
-/// Returns what is printed for a reason that is no rule.
+/// Returns what is printed for a reason to skip an entry that is no rule.
 fn reason_name(reason: &Reason) -> Name<'_>
     ensures { name_model result ≡ reason_name (reason_word (reason_model reason.now)) (attribute_of (reason_model reason.now)) }
 {
@@ -90,14 +90,14 @@ fn reason_name(reason: &Reason) -> Name<'_>
     }
 }
 
-/// Returns the path, or a dot for the empty path of the top.
+/// Returns the path, or a dot for the empty path of the top directory.
 fn or_dot(path: &[u8]) -> &[u8]
     ensures { result.now ≡ or_dot path.now }
 {
     if path.is_empty() { b"." } else { path }
 }
 
-/// Appends the line of a path below a directory that has an error.
+/// Appends the output line for a path below a directory that could not be opened.
 fn push_fault(
     text: &mut Vec<u8>,
     style: PathStyle,
@@ -128,7 +128,7 @@ impl ExplainOutput {
         }
     }
 
-    /// Appends the line of a finding.
+    /// Appends the output line for a path's finding. `line` is the path as it was read.
     fn push(
         &mut self,
         filters: &Filters<'_>,
@@ -161,7 +161,7 @@ impl ExplainOutput {
         }
     }
 
-    /// Explains one more line of the input.
+    /// Explains one more path, which is `line` as it was read, and appends its output line.
     pub(crate) fn tell<T: Tree>(
         &mut self,
         explainer: &Explainer<'_, T>,

@@ -13,7 +13,7 @@ use lc_text::{Outcome, PrintFault, Sink};
 use lc_tree::Tree;
 use std::alloc::Global;
 
-/// Writes a line for each path.
+/// Writes the explanation of each path as a line.
 pub(crate) fn print_paths<T: Tree, O: Sink>(
     alloc: Global,
     explainer: &Explainer<'_, T>,

@@ -17,8 +17,8 @@ use std::marker::Model;
 
 /// The memory that opened directories may use before some of them are dropped: about 96 MiB.
 ///
-/// The directories above the present path are kept however large they are. If all others together use more than this, opening one more
-/// directory drops these others.
+/// The directories above the path that is being explained are kept however large they are. If all other opened directories together use
+/// more than this, opening one more directory drops these others.
 pub const MAX_KEPT: usize = 96 * 1024 * 1024;
 
 /// A cached stack whose last directory is above a path, and the rest of the path below that directory.
@@ -28,7 +28,8 @@ pub(crate) struct Near<'p> {
     pub(crate) rest: &'p [u8],
 }
 
-/// The stacks of the directories that were opened, by number.
+/// The stacks of the directories that were opened. A stack has the directories from the top down to one of them; its number is its index
+/// here.
 #[derive(Drop)]
 pub(crate) struct StackCache {
     alloc: Global,
@@ -96,7 +97,7 @@ impl StackCache {
         self.to(&[], path)
     }
 
-    /// Returns the last directory of a stack.
+    /// Returns the last directory of the stack with this number.
     pub(crate) fn last(&self, at: usize) -> Option<&OpenDir>
         ensures { option_copied result ≡ slice_get (stack_at self.now at) (length (stack_at self.now at) - 1) }
     {
@@ -106,7 +107,7 @@ impl StackCache {
         }
     }
 
-    /// Returns, for a stack, the text of the rules of this source, or no bytes if there are no such rules.
+    /// Returns the text of the rules of this source, as seen by the stack with the number `to`, or no bytes if there are no such rules.
     pub(crate) fn text<'w>(
         &'w self,
         filters: &'w Filters<'_>,
@@ -124,7 +125,8 @@ impl StackCache {
         }
     }
 
-    /// Makes the stack of a directory that was opened in the last directory of another stack, or the stack of the top.
+    /// Makes the stack of a directory that was opened in the last directory of the stack `above`, or, without `above`, the stack of the top
+    /// directory.
     pub(crate) fn below(
         &self,
         above: Option<usize>,
@@ -156,7 +158,8 @@ impl StackCache {
         Ok(at)
     }
 
-    /// Drops every stack but those of the directories above the last one of `stack`, and raises the limit by the size of these.
+    /// Drops all stacks except those of the directories above the last one of `stack`. The limit becomes the size of the stacks that stay,
+    /// plus `MAX_KEPT`.
     fn drop_beside(&mut self, stack: &DirStack) -> Result<(), AllocError>
         ensures { OnOk result (AreFirstOf self.new stack.now) }
     {
@@ -171,9 +174,10 @@ impl StackCache {
         Ok(())
     }
 
-    /// Caches a stack and returns its number. Past the limit it first drops all other stacks.
+    /// Caches a stack and returns its number. If the cached directories take more than the limit, first drops all stacks except those of
+    /// the directories above.
     ///
-    /// Stacks are dropped again only after another `MAX_KEPT` bytes, so dropping them costs less than opening what was dropped.
+    /// Stacks are dropped again only after another `MAX_KEPT` bytes, so dropping stacks costs less than opening their directories.
     pub(crate) fn keep(&mut self, stack: DirStack) -> Result<usize, AllocError>
         ensures { IfOk result (λ at. Keeps self.old stack self.new at) }
     {

@@ -1,4 +1,4 @@
-//! The texts of the rules for a whole tree, besides those of its own files.
+//! The text of the rules that options give for a whole tree.
 
 ghost use Rattle.std.specs.Prelude.{◌≡◌, []};
 ghost use Rattle.lc_paths.specs.Explanations.OpenDirs.{text_or_none, text_in};
@@ -15,7 +15,7 @@ fn text_or_none(text: &Option<RuleText>) -> &[u8]
     }
 }
 
-/// Returns the text of the rules of this source, which is no file of the tree.
+/// Returns the text of the rules of `--exclude-from` or `--exclude`, or no bytes for a source that is a file of the tree.
 pub(crate) fn top_text<'f>(filters: &'f Filters<'_>, source: RuleSource) -> &'f [u8]
     ensures { result.now ≡ text_in filters.entry.now [] source }
 {
