@@ -1,4 +1,4 @@
-//! What no clause says: worked cases, that calls succeed where there is memory, and streams that misbehave.
+//! Tests of checks, for what no contract states: worked cases, that calls succeed where there is memory, and streams that misbehave.
 
 mod blocks;
 mod explained;
@@ -7,19 +7,19 @@ mod texts;
 
 use lc_text::{PathEnd, PathFormat, PathStyle};
 
-/// Each line is a path, and paths are printed for a program.
+/// The format in which each line is a path, and paths are printed for a program.
 const BY_LINES: PathFormat = PathFormat {
     end: PathEnd::LineFeed,
     style: PathStyle::Escaped,
 };
 
-/// Each path ends with a NUL byte, and paths are printed for a program.
+/// The format in which each path ends with a NUL byte, and paths are printed for a program.
 const BY_NUL: PathFormat = PathFormat {
     end: PathEnd::Nul,
     style: PathStyle::Escaped,
 };
 
-/// Each line is a path, and paths are shown in a terminal.
+/// The format in which each line is a path, and paths are shown in a terminal.
 const SHOWN_BY_LINES: PathFormat = PathFormat {
     end: PathEnd::LineFeed,
     style: PathStyle::Visible,

@@ -1,4 +1,5 @@
-//! What no clause says: worked cases, that calls succeed where there is memory, and trees and streams that fail.
+//! Tests of explanations, for what no contract states: worked cases, that calls succeed where there is memory, and trees and streams that
+//! fail.
 
 mod asking;
 mod blocks;

@@ -1,4 +1,4 @@
-//! The tests of checks and of explanations.
+//! Tests of checks and explanations of paths.
 #![tactic(auto)]
 
 #[cfg(test)]

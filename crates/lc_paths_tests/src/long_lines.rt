@@ -1,11 +1,11 @@
-//! Lines of about a KiB, of which many are more than a block.
+//! Lines of about 1 KiB, so that the output for many paths is longer than a block.
 
 use std::alloc::{AllocError, Global};
 
-/// The number of lines: they make three blocks and a rest.
+/// The number of lines. They make three blocks and a part of a fourth.
 pub(crate) const LINES: usize = 200;
 
-/// A pattern of 1,003 bytes that matches `a`.
+/// Returns a pattern of 1,003 bytes that matches `a`.
 pub(crate) fn long_pattern(alloc: Global) -> Result<Vec<u8>, AllocError> {
     let mut pattern = b"[a".to_vec(alloc)?;
     for _ in 0..1000 {
@@ -24,7 +24,7 @@ pub(crate) fn repeated(alloc: Global, line: &[u8]) -> Result<Vec<u8>, AllocError
     Ok(text)
 }
 
-/// Returns the text of `LINES` paths `a`, which the pattern in the first line of this file ignores.
+/// Returns the output that is expected for `LINES` paths `a`, which the long pattern in the first line of this file ignores.
 pub(crate) fn expected(alloc: Global, file: &[u8]) -> Result<Vec<u8>, AllocError> {
     let mut line = b"ignored\t".to_vec(alloc)?;
     line.extend_from_slice(file)?;

@@ -1,4 +1,4 @@
-//! Explained checks whose text is longer than a block: it is written as it is made, and what was written is a prefix.
+//! Tests of explained checks whose text is longer than a block. The text is written as it is made, and what was written is a prefix of it.
 
 use crate::checks::BY_LINES;
 use crate::long_lines::{expected, long_pattern, repeated};
@@ -11,7 +11,7 @@ use std::alloc::{AllocError, Global};
 use std::process::Abort;
 use std::test::Fail;
 
-/// The explained check of so many paths by the long pattern.
+/// Makes an explained check of `LINES` paths by the long pattern.
 fn check_long<O: Sink>(alloc: Global, out: &mut O) -> Result<(), CheckFault> {
     let pattern = long_pattern(alloc)?;
     let Ok(rules) = read_rule_text(alloc, &mut pattern.as_slice()) else {
@@ -21,7 +21,7 @@ fn check_long<O: Sink>(alloc: Global, out: &mut O) -> Result<(), CheckFault> {
     check_explained(alloc, b"f", &rules, BY_LINES, &mut paths.as_slice(), out)
 }
 
-/// Takes all bytes, and keeps how many each write had.
+/// A sink that takes all bytes, and stores how many bytes each write had.
 #[derive(Drop)]
 struct Measured {
     lengths: Vec<usize>,
@@ -57,7 +57,7 @@ fn a_full_block_is_written_at_once(rt: HostRuntime) -> Result<(), Fail> {
     Ok(())
 }
 
-/// Whether a writer with so much room has that much of the text, and the check says whether this is all.
+/// Returns whether a writer with room for `room` bytes gets that many bytes of the text, and the check succeeds exactly if these are all.
 fn stops_there<R: AllocGlobal + Abort>(
     rt: &R,
     text: &[u8],
@@ -78,7 +78,8 @@ fn stops_there<R: AllocGlobal + Abort>(
     Ok(answer == wanted && text.get(..room) == Some(out.taken.as_slice()))
 }
 
-/// Where a writer has no more room: in the first block, at its end, in the second, in the last and at the end of the text.
+/// The numbers of bytes that a writer has room for: they end in the first block, at its end, in the second, in the last and at the end of
+/// the text.
 const ROOMS: &[usize] = &[0, 1, 66_169, 66_170, 100_000, 198_511, 203_599, 203_600];
 
 #[test]

@@ -1,4 +1,4 @@
-//! Rules and paths, and the text of their explained check.
+//! Tests of the text of an explained check of given paths by given rules.
 
 use crate::checks::{BY_LINES, BY_NUL, SHOWN_BY_LINES};
 use lc_level::{RuleText, read_rule_text};
@@ -8,10 +8,10 @@ use std::alloc::{AllocError, Global};
 use std::process::Abort;
 use std::test::Fail;
 
-/// What is shown, the file of rules, paths, and the text.
+/// What a case shows, its file of rules, its paths, and the expected text.
 type Case = (&'static str, &'static [u8], &'static [u8], &'static [u8]);
 
-/// By a file that is called `f`. The lines and the rules are those that `git check-ignore -v -n` (2.39) names.
+/// Cases with a file of rules that is called `f`. The lines and the rules are those that `git check-ignore -v -n` (2.39) names.
 const CASES: &[Case] = &[
     (
         "each_word",
@@ -103,7 +103,7 @@ const CASES: &[Case] = &[
     ("a_dash", b"-\n", b"-\n", b"ignored\tf:1\t-\t-\n"),
 ];
 
-/// By a file whose name has bytes that are escaped.
+/// Cases with a file of rules whose name has bytes that are escaped.
 const NAMED: &[Case] = &[(
     "an_escaped_name",
     b"a",
@@ -118,7 +118,7 @@ fn read_rules(alloc: Global, mut file: &[u8]) -> Result<RuleText, AllocError> {
     }
 }
 
-/// Whether the explained check of a case by a file of this name gives its text in this format.
+/// Returns whether the explained check of a case, by a file of rules with this name, writes the expected text in this format.
 fn has_text(
     alloc: Global,
     name: &[u8],
@@ -169,7 +169,7 @@ fn a_name_is_escaped(rt: HostRuntime) -> Result<(), Fail> {
     compare(&rt, b"..\\x\n:1/\xff", BY_LINES, NAMED)
 }
 
-/// By a file with a right-to-left override in its name, as a terminal shows the lines.
+/// Cases with a file of rules that has a right-to-left override in its name, and text as a terminal shows it.
 const SHOWN: &[Case] = &[(
     "name_pattern_and_path_are_visible",
     b"a\x1b]2;*\n",

@@ -1,4 +1,5 @@
-//! Readers and writers that give or take little, fail or never end: what is written is a prefix, and whole only on success.
+//! Tests with readers and writers that give or take few bytes, fail or never end. What is written is a prefix of the text, and all of it
+//! only on success.
 
 use crate::checks::BY_LINES;
 use lc_census::Source;
@@ -19,15 +20,15 @@ const PATHS: &[u8] = b"a\nb\n";
 /// The forms of a check: where rules and paths come from, and what is printed for each path.
 #[derive(Clone, Copy)]
 enum Form {
-    /// The rules are read before.
+    /// The rules are read before the check, and the input has only paths.
     Paths,
-    /// The rules come before the paths.
+    /// The input has the rules, and after them the paths.
     Joined,
-    /// The rules are read first, and printed with the paths.
+    /// The rules are read before the check, and are printed with the paths of the input.
     Explained,
 }
 
-/// A form, its input, and the text.
+/// The form of a check, its input, and the expected text.
 type Case = (Form, &'static [u8], &'static [u8]);
 
 const CASES: &[Case] = &[
@@ -80,7 +81,7 @@ fn checked<S: Source>(
     }
 }
 
-/// Whether a writer with so much room has that much of the text, and the check says whether this is all.
+/// Returns whether a writer with room for `room` bytes gets that many bytes of the text, and the check succeeds exactly if these are all.
 fn stops_there<R: AllocGlobal + Abort>(
     rt: &R,
     (form, bytes, text): &Case,
@@ -118,7 +119,7 @@ fn writes_stop_at_every_place(rt: HostRuntime) -> Result<(), Fail> {
     Ok(())
 }
 
-/// Whether an input of which a read fails is answered by that, and nothing is written.
+/// Returns whether the check of an input whose read fails reports this error, and writes nothing.
 fn fails_to_read<R: AllocGlobal + Abort, S: Source>(
     rt: &R,
     form: Form,
@@ -170,20 +171,20 @@ fn an_input_without_end_is_too_long(rt: HostRuntime) -> Result<(), Fail> {
     Ok(())
 }
 
-/// A rule of so many letters, dashes and a path.
+/// Returns an input that has a rule of this many letters, a line of dashes and a path.
 fn one_long_rule(alloc: Global, letters: usize) -> Result<Vec<u8>, AllocError> {
     let mut joined = vec![in alloc; b'a'; letters]?;
     joined.extend_from_slice(b"\n--\nb\n")?;
     Ok(joined)
 }
 
-/// How many letters a rule has, and what is answered. The line feed after it is one of the bytes of the rules.
+/// The number of letters of a rule, and the expected result. The line feed after the rule is one of the bytes of the rules.
 const LIMITS: &[(usize, Result<(), CheckFault>)] = &[
     (1_048_575, Ok(())),
     (1_048_576, Err(CheckFault::RulesTooLong)),
 ];
 
-/// Whether the check of so many letters is answered so, and writes only where it is answered well.
+/// Returns whether the check of a rule of this many letters has the result `wanted`, and writes something only if it succeeds.
 fn is_answered<R: AllocGlobal + Abort>(
     rt: &R,
     letters: usize,

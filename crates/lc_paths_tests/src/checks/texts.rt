@@ -1,4 +1,4 @@
-//! Rules and paths, and the text of their check.
+//! Tests of the text of a check of given paths by given rules.
 
 use crate::checks::{BY_LINES, BY_NUL, SHOWN_BY_LINES};
 use lc_paths::{check_joined, check_text};
@@ -8,7 +8,7 @@ use std::alloc::{AllocError, Global};
 use std::process::Abort;
 use std::test::Fail;
 
-/// What is shown, rules and paths joined, and the text.
+/// What a case shows, its rules and paths joined in one input, and the expected text.
 type Case = (&'static str, &'static [u8], &'static [u8]);
 
 const RULES: &[Case] = &[
@@ -70,7 +70,7 @@ const LINES: &[Case] = &[
     ),
 ];
 
-/// Paths in runs that share directories, so that what is known of these is used.
+/// Cases with paths in runs that share directories, so that what is known of a directory is used for the next path.
 const RUNS: &[Case] = &[
     (
         "a_run_below_one_directory",
@@ -91,7 +91,7 @@ const RUNS: &[Case] = &[
 
 const TABLES: &[&[Case]] = &[RULES, LINES, RUNS];
 
-/// Whether the check of rules and paths, joined, gives this text in this format.
+/// Returns whether the check of rules and paths, joined in one input, writes this text in this format.
 fn has_text(
     alloc: Global,
     format: PathFormat,
@@ -121,7 +121,7 @@ fn texts_of_checks(rt: HostRuntime) -> Result<(), Fail> {
     Ok(())
 }
 
-/// As a terminal shows the lines.
+/// Cases whose text is expected as a terminal shows it.
 const SHOWN: &[Case] = &[
     (
         "what_moves_the_cursor",
@@ -145,7 +145,7 @@ fn texts_for_a_terminal(rt: HostRuntime) -> Result<(), Fail> {
     compare(&rt, SHOWN_BY_LINES, SHOWN)
 }
 
-/// Rules by lines, and paths that each end with a NUL byte: the last may lack it.
+/// Cases with rules in lines, and with paths that each end with a NUL byte, which the last may lack.
 const ENDED_BY_NUL: &[Case] = &[
     (
         "a_path_with_a_line_feed",
@@ -160,7 +160,7 @@ fn texts_of_paths_that_end_with_nul(rt: HostRuntime) -> Result<(), Fail> {
     compare(&rt, BY_NUL, ENDED_BY_NUL)
 }
 
-/// This name so often, with a slash after each.
+/// Returns a path that has this name `times` times, with a slash after each.
 fn deep(alloc: Global, name: &[u8], times: usize) -> Result<Vec<u8>, AllocError> {
     let mut path = Vec::with_capacity(alloc, 8192)?;
     for _ in 0..times {
@@ -170,7 +170,7 @@ fn deep(alloc: Global, name: &[u8], times: usize) -> Result<Vec<u8>, AllocError>
     Ok(path)
 }
 
-/// Whether the text of a path, of 2,048 directories and this name, begins so.
+/// Returns whether the text of a check begins with `front`, for a path of 2,048 directories and this name.
 fn begins(alloc: Global, name: &[u8], front: &[u8]) -> Result<bool, AllocError> {
     let Ok(rules) = IgnoreFile::read(alloc, b"**/a/b\n") else {
         return Err(AllocError);

@@ -11,7 +11,7 @@ use std::alloc::{AllocError, Global};
 use std::process::Abort;
 use std::test::Fail;
 
-/// What is shown, the tree, lines of paths, and their text.
+/// What a case shows, its tree, lines of paths, and the expected text.
 pub(crate) type Case = (&'static str, Sketch<'static>, &'static [u8], &'static [u8]);
 
 /// Makes options with these filters, and with paths in this style.
@@ -19,12 +19,12 @@ pub(crate) fn in_style<'o>(filters: &'o Filters<'_>, style: PathStyle) -> Explai
     ExplainOptions { filters, style }
 }
 
-/// Makes options with these filters, for a pipe.
+/// Makes options with these filters, and with paths in the style for a pipe.
 pub(crate) fn for_a_pipe<'o>(filters: &'o Filters<'_>) -> ExplainOptions<'o> {
     in_style(filters, PathStyle::Escaped)
 }
 
-/// Rules for a whole tree.
+/// Reads rules for a whole tree.
 pub(crate) fn rule_text(alloc: Global, bytes: &[u8]) -> Result<RuleText, AllocError> {
     let mut file = bytes;
     match read_rule_text(alloc, &mut file) {
@@ -33,7 +33,7 @@ pub(crate) fn rule_text(alloc: Global, bytes: &[u8]) -> Result<RuleText, AllocEr
     }
 }
 
-/// Makes an explanation of less than a block. If an allocation fails, nothing of it is written.
+/// Explains paths whose text is shorter than a block. If an allocation fails, nothing is written.
 pub(crate) fn explained<T: Tree, S: Source>(
     rt: &impl Abort,
     alloc: Global,
@@ -63,7 +63,7 @@ pub(crate) fn plainly<T: Tree, S: Source>(
     explained(rt, alloc, tree, &for_a_pipe(&filters), input, out)
 }
 
-/// Explains words by the rules of the tree alone.
+/// Explains the paths in `words` by the rules of the tree alone.
 pub(crate) fn explained_words<T: Tree>(
     rt: &impl Abort,
     alloc: Global,
@@ -81,7 +81,7 @@ pub(crate) fn explained_words<T: Tree>(
     }
 }
 
-/// Checks that the lines of paths give this text and this outcome.
+/// Asserts that explaining the paths of a case writes its text and has this outcome.
 pub(crate) fn check<R: Abort + AllocGlobal>(
     rt: &R,
     case: &Case,

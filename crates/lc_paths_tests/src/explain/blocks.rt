@@ -1,4 +1,4 @@
-//! Explanations longer than a block: their text is written as it is made, and what was written is a prefix.
+//! Tests of explanations that are longer than a block. The text is written as it is made, and what was written is a prefix of it.
 
 use crate::explain::asking::for_a_pipe;
 use crate::long_lines::{LINES, expected, long_pattern, repeated};
@@ -11,7 +11,7 @@ use std::alloc::{AllocError, Global};
 use std::process::Abort;
 use std::test::Fail;
 
-/// A tree with the rule of this pattern alone.
+/// Returns a tree whose only rule has this pattern.
 fn tree_with(alloc: Global, pattern: Vec<u8>) -> Result<Node, AllocError> {
     let mut children = Vec::with_capacity(alloc, 1)?;
     let name = b".gitignore".to_vec(alloc)?;
@@ -19,8 +19,8 @@ fn tree_with(alloc: Global, pattern: Vec<u8>) -> Result<Node, AllocError> {
     Ok(Node::Dir(children))
 }
 
-/// Where a writer has no more room: in the first block, at its end, in the second, in the last and at the end of the text. A line has
-/// 1,027 bytes, and 64 of them are the first that fill a block.
+/// The numbers of bytes that a writer has room for: they end in the first block, at its end, in the second, in the last and at the end of
+/// the text. A line has 1,027 bytes, and 64 of them are the first that fill a block.
 const ROOMS: &[usize] = &[
     0, 1, 65_727, 65_728, 65_729, 100_000, 197_184, 205_399, 205_400,
 ];

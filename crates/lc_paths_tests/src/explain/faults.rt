@@ -1,4 +1,4 @@
-//! Trees with an unreadable directory on the way, and trees of which one call fails.
+//! Tests with an unreadable directory above a path, and with trees of which one call fails.
 
 use crate::explain::asking::{Case, check, for_a_pipe, plainly};
 use lc_level::Filters;
@@ -82,12 +82,14 @@ const NESTED: Sketch = Sketch::Dir(&[
 
 const PATHS: &[u8] = b"d/a.o\nd/k.o\n";
 
-/// Two listings, and three times each that a file is opened, read, and read to its end: so each is done once.
+/// The number of calls that explaining both paths takes: two listings, and two files that are each opened, read, and read to their end. So
+/// nothing is read twice.
 const CALLS: u64 = 8;
 
 const WHOLE: &[u8] = b"ignored\t.gitignore:1\t*.o\td/a.o\nincluded\td/.gitignore:1\t!k.o\td/k.o\n";
 
-/// Returns the text if the call at a place fails: the first path's line names the error, and the second path is read again.
+/// Returns the text that is written if the call at a place fails: the first path's line names the error, and for the second path the tree
+/// is read again.
 fn text_at(place: u64) -> &'static [u8] {
     match place {
         0 => b"fault\tread\t-\t.\nincluded\td/.gitignore:1\t!k.o\td/k.o\n",

@@ -1,4 +1,4 @@
-//! Directories that paths come back to: each is listed, and its rules are read, once.
+//! Tests with paths that come back to directories. Each directory is listed once, and its rules are read once.
 
 use crate::explain::asking::plainly;
 use lc_paths::MAX_KEPT;
@@ -26,10 +26,10 @@ const TREE: Sketch = Sketch::Dir(&[
     (b"out", Sketch::Closed),
 ]);
 
-/// Four listings, and two files that are opened, read, and read to their end.
+/// The number of calls that explaining the paths takes: four listings, and two files that are each opened, read, and read to their end.
 const CALLS: u64 = 10;
 
-/// Paths in several orders, and their text.
+/// Paths in several orders, and the expected text of their explanations.
 static ORDERS: [(&[u8], &[u8]); 3] = [
     (
         b"k.o\na/k.o\na/b/k.o\nc/k.o\n",
@@ -59,7 +59,7 @@ static ORDERS: [(&[u8], &[u8]); 3] = [
     ),
 ];
 
-/// How many calls these paths of a tree cost, whose text this is.
+/// Returns how many calls of the tree the explanation of these paths takes, and asserts that its text is `text`.
 fn calls_of<R: Abort + AllocGlobal>(
     rt: &R,
     tree: &MemTree,
@@ -87,10 +87,11 @@ fn directories_are_entered_once_in_any_order(rt: HostRuntime) -> Result<(), Fail
     Ok(())
 }
 
-/// A comment of so many bytes, of which seven are kept with the rules that they are read as, and an eighth is too much.
+/// The number of bytes of a comment. Seven directories with such a comment are kept, with the rules that are read from it; an eighth is too
+/// much.
 const COMMENT: usize = 1_000_000;
 
-/// A directory whose rules are one long comment.
+/// Returns a directory whose rules are one long comment.
 fn commented(alloc: Global) -> Result<Node, AllocError> {
     let mut comment = Vec::with_capacity(alloc, COMMENT)?;
     for _ in 0..COMMENT {
@@ -102,7 +103,7 @@ fn commented(alloc: Global) -> Result<Node, AllocError> {
     Ok(Node::Dir(children))
 }
 
-/// Eight such directories, named by a digit.
+/// Returns a tree of eight directories, each named by a digit, whose rules are one long comment.
 fn eight_commented(alloc: Global) -> Result<Node, AllocError> {
     let mut children = Vec::with_capacity(alloc, 8)?;
     for digit in b"01234567" {
@@ -112,13 +113,13 @@ fn eight_commented(alloc: Global) -> Result<Node, AllocError> {
     Ok(Node::Dir(children))
 }
 
-/// Paths in these directories in turn, and then in one of them.
+/// A path in each of the eight directories.
 const IN_EACH: &[u8] = b"0/x\n1/x\n2/x\n3/x\n4/x\n5/x\n6/x\n7/x\n";
 
 const TEXT: &[u8] = b"none\t-\t-\t0/x\nnone\t-\t-\t1/x\nnone\t-\t-\t2/x\nnone\t-\t-\t3/x\n\
                       none\t-\t-\t4/x\nnone\t-\t-\t5/x\nnone\t-\t-\t6/x\nnone\t-\t-\t7/x\n";
 
-/// How many calls it costs to come to each, and then again to the one of a digit.
+/// Returns how many calls it takes to explain a path in each directory, and then another path in the directory that is named by `digit`.
 fn calls_with<R: Abort + AllocGlobal>(
     rt: &R,
     tree: &MemTree,

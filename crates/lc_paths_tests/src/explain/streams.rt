@@ -1,4 +1,5 @@
-//! Inputs that fail or are too long, and writers that stop: what is written is a prefix, and whole only on success.
+//! Tests with inputs that fail or are too long, and writers that stop. What is written is a prefix of the text, and all of it only on
+//! success.
 
 use crate::explain::asking::{explained_words, plainly};
 use lc_tests::Sketch;

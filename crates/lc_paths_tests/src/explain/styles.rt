@@ -1,4 +1,4 @@
-//! Paths and patterns in each style.
+//! Tests of explanations with paths and patterns in each style.
 
 use crate::explain::asking::{Case, check, in_style};
 use lc_level::Filters;
@@ -7,7 +7,7 @@ use lc_text::{Outcome, PathStyle};
 use std::process::Abort;
 use std::test::Fail;
 
-/// The names have U+202E, which turns the direction of text, and the patterns U+009B, which begins an escape sequence.
+/// A tree whose names have U+202E, which turns the direction of text, and whose patterns have U+009B, which begins an escape sequence.
 const TREE: Sketch = Sketch::Dir(&[
     (b".gitignore", Sketch::File(b"*.l\xc2\x9b\n")),
     (b"c\xe2\x80\xae", Sketch::Closed),

@@ -1,4 +1,4 @@
-//! Trees and paths, and the text of what decides them.
+//! Tests of the text that explains given paths of given trees.
 
 use crate::explain::asking::{Case, check, explained_words, for_a_pipe, rule_text};
 use lc_level::Filters;
@@ -256,7 +256,7 @@ fn a_path_may_have_a_line_feed(rt: HostRuntime) -> Result<(), Fail> {
     Ok(())
 }
 
-/// A word is a path, whatever its bytes.
+/// Arguments, each of which is a path, whatever its bytes.
 const WORDS: [&str; 5] = ["a.log", "a\nb", "src/", "./a.log", "."];
 
 const OF_WORDS: &[u8] =
