@@ -1,4 +1,4 @@
--- The rows and the files that a report keeps of those that were read.
+-- The rows and the files of a report, made from those that were read.
 use Rattle.std.specs.Prelude.{◌≡◌, ◌⊎◌, true, false, List, [], map, Option, Some, None, is_some, unwrap_or}
 use Rattle.std.specs.List.Sorted.{IsPermutation, IsSortedByKey}
 use Rattle.lc_level.specs.FaultLines.{FaultLineModel}
@@ -15,7 +15,7 @@ use Rattle.lc_reading.specs.declared.kept_files.Kept.{Kept}
 use Rattle.lc_reading.specs.declared.read_report.ReadReport.{ReadReport}
 use Rattle.lc_reading.specs.declared.row_columns.RowColumns.{RowColumns}
 
--- the files in order of their paths, and the rows that they make
+-- the report lists these files, in order of their paths; its rows are those that the files make
 pub record IsKeptOf (total : Sums) (files : List FileLineModel) (k : Kept) : Type 0 where
   pub columns_are : k.columns ≡ record { ext = true; text = true; eol = true }
   pub listed : k.has_files ≡ true
@@ -25,7 +25,7 @@ pub record IsKeptOf (total : Sums) (files : List FileLineModel) (k : Kept) : Typ
   pub files_are : total ≡ sums_of_files (map counted_line k.files.items)
   pub rows_are : total ≡ sums_of_rows k.rows.items
 
--- no files, and the rows, one for each key
+-- the report lists no files; its rows are those that were read, one for each key
 pub record IsKeptRows (total : Sums) (columns : RowColumns) (rows : List TallyRowModel) (k : Kept) : Type 0 where
   pub columns_are : k.columns ≡ columns
   pub unlisted : k.has_files ≡ false
@@ -33,12 +33,12 @@ pub record IsKeptRows (total : Sums) (columns : RowColumns) (rows : List TallyRo
   pub added : AddsUp rows k.rows.items
   pub rows_are : total ≡ sums_of_rows k.rows.items
 
--- listed files are kept, and no files where there are none; otherwise the rows
+-- the report has the files if they were listed, or if there are none; otherwise it has the rows that were read
 abbrev pub IsKept : Option (List FileLineModel) → RowColumns → List TallyRowModel → Sums → Kept → Type 0
 IsKept (Some files) columns rows total k = IsKeptOf total files k
 IsKept None columns rows total k = (IsKeptOf total [] k × (total.files ≡ 0)) ⊎ IsKeptRows total columns rows k
 
--- the rows add up to the total, and what is kept agrees with all sums
+-- the rows that were read add up to the total, and the rows and files of the report agree with all sums
 pub record Agrees (n : Numbers) (columns : RowColumns) (rows : List TallyRowModel) (files : Option (List FileLineModel)) (k : Kept) :
     Type 0 where
   pub rows_are : n.total ≡ sums_of_rows rows
@@ -46,7 +46,7 @@ pub record Agrees (n : Numbers) (columns : RowColumns) (rows : List TallyRowMode
   pub parts : n.total ≡ plus n.text n.binary
   pub nul : k.columns.eol ≡ true → n.binary ≡ binary_sums k.rows.items
 
--- the report of these numbers, rows, files and lists
+-- the report made from these numbers, rows, files and lists
 pub record IsFinished (n : Numbers) (k : Kept) (skipped : List SkippedLineModel) (faults : List FaultLineModel) (r : ReadReport) : Type 0
   where
     pub totals_are : r.report.totals ≡ n.total

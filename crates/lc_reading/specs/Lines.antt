@@ -58,7 +58,7 @@ pub record IsFaultOf (ms : List Member) (f : FaultLineModel) : Type 0 where
 
 -- ---- skipped entries
 
--- the kinds of which an entry is skipped for this reason
+-- an entry of this kind can be skipped for this reason
 abbrev pub HasReason : Kind → Reason → Type 0
 HasReason kind named_git = kind ≡ Other Mounted → ⊥
 HasReason kind (by_rule source line) = kind ≡ Other Mounted → ⊥
@@ -66,7 +66,7 @@ HasReason kind (by_attribute word) = kind ≡ Other Mounted → ⊥
 HasReason kind not_included = kind ≡ File
 HasReason kind (other_kind what) = kind ≡ Other what
 
--- the file of the rule that decides a path, and its line
+-- the members have the file and the line of the rule that decides a path
 abbrev pub HasRule : List Member → List ℕ → Option (RuleSource × ℕ) → Type 0
 HasRule ms path None = ⊤
 HasRule ms path (Some rule) =

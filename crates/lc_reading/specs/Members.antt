@@ -1,4 +1,4 @@
--- The members of a JSON object by their names, and what they have.
+-- The members of a JSON object, and their values, by their names.
 use Rattle.std.specs.Prelude.{◌≡◌, ◌⊎◌, ℕ, Bool, false, List, [], ◌∷◌, map, cond, decimal, Option, Some, None}
 use Rattle.std.specs.Str.{bytes_eq}
 use Rattle.std.specs.Borrow.{Bor}
@@ -16,12 +16,12 @@ abbrev pub members_with : List Member → Members
 members_with [] = no_members
 members_with (m ∷ ms) = member m.0 m.1 (members_with ms)
 
--- the members that are lent
+-- the members that a slice of the code has
 abbrev pub members_of : {A : Type 0} → List (Bor (List ℕ) × Value A) → List Member
 members_of [] = []
 members_of (m ∷ ms) = (m.0.now, value_view m.1) ∷ members_of ms
 
--- the values that are lent
+-- the values that a slice of the code has
 abbrev pub values_of : {A : Type 0} → List (Value A) → List Json
 values_of vs = map value_view vs
 
@@ -41,23 +41,23 @@ Lacks name ms = named name ms ≡ []
 abbrev pub Has : MemberName → List Member → Json → Type 0
 Has name ms j = named name ms ≡ j ∷ []
 
--- its value is this number, in digits
+-- the value of the one member of this name is this number, in digits
 abbrev pub HasNumber : MemberName → List Member → ℕ → Type 0
 HasNumber name ms n = Has name ms (number (decimal n))
 
--- its value is this text
+-- the value of the one member of this name is this text
 abbrev pub HasText : MemberName → List Member → List ℕ → Type 0
 HasText name ms s = Has name ms (string s)
 
--- its value is these bytes, as a list of numbers
+-- the value of the one member of this name is these bytes, as a list of numbers
 abbrev pub HasList : MemberName → List Member → List ℕ → Type 0
 HasList name ms bytes = Has name ms (array (items_of (map (λ b. number (decimal b)) bytes)))
 
--- these bytes are a text under the one name, or a list of numbers under the other
+-- these bytes are a text in the member of the one name, or a list of numbers in the member of the other name
 abbrev pub HasBytes : MemberName → MemberName → List Member → List ℕ → Type 0
 HasBytes text list ms bytes = (HasText text ms bytes × Lacks list ms) ⊎ (Lacks text ms × HasList list ms bytes)
 
--- whether a word is there, and is this one
+-- whether there is a word, and it is this one
 abbrev pub is_word : List ℕ → Option (List ℕ) → Bool
 is_word word None = false
 is_word word (Some own) = bytes_eq own word

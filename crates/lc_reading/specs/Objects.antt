@@ -14,7 +14,7 @@ use Rattle.lc_reading.specs.declared.object.Object.{Object}
 use Rattle.lc_reading.specs.declared.top_member.TopMember.{TopMember}
 use Rattle.lc_reading.specs.declared.top_member.TopMember.TheVariants as top
 
--- the members of a report that are no lists
+-- whether a member of a report with this name is not a list
 abbrev pub is_value : MemberName → Bool
 is_value member.Others = true
 is_value member.Total = true
@@ -24,7 +24,7 @@ is_value member.Directories = true
 is_value member.Entries = true
 is_value _ = false
 
--- which member of a report has a name
+-- the member of a report that this name stands for
 abbrev pub IsTopMember : List ℕ → TopMember → Type 0
 IsTopMember k top.Rows = k ≡ member_name member.Rows
 IsTopMember k top.Files = k ≡ member_name member.Files
@@ -41,11 +41,11 @@ pub record HasLines {L : Type 0} (Says : List Member → L → Type 0) (name : M
   pub has : Has name ms value
   pub list : IsListOf Says value lines
 
--- there is such a member, or none
+-- the one member of this name is a list of these lines; or, without lines, there is no such member
 abbrev pub MayHaveLines : {L : Type 0} → (List Member → L → Type 0) → MemberName → List Member → Option (List L) → Type 0
 MayHaveLines Says name ms lines = MatchOption lines (Lacks name ms) (HasLines Says name ms)
 
--- members of a report, of which the lists were read line by line
+-- these members of a report were read as this object, its lists line by line
 pub record IsObjectOf (ms : List Member) (o : Object) : Type 0 where
   pub values : (n : MemberName) → is_value n ≡ true → named n (members_of o.values.items) ≡ named n ms
   pub rows : MayHaveLines IsRowOf member.Rows ms (option_map (λ v. v.items) o.rows)
@@ -53,13 +53,13 @@ pub record IsObjectOf (ms : List Member) (o : Object) : Type 0 where
   pub skipped : MayHaveLines IsSkippedOf member.Left ms (option_map (λ v. v.items) o.skipped)
   pub faults : MayHaveLines IsFaultOf member.Faults ms (option_map (λ v. v.items) o.faults)
 
--- a member of this name was read from the tokens, and added
+-- a member of this name was read from the tokens, and added to the object
 pub record TakesMember (k : List ℕ) (old new : Object) (before after : List Token) : Type 0 where
   pub value : Json
   pub tokens_are : before ≡ json_tokens value ++ after
   pub adds : (ms : List Member) → IsObjectOf ms old → IsObjectOf (ms ++ (k, value) ∷ []) new
 
--- a value was passed over
+-- a value was skipped: the tokens begin with it
 pub record IsPassed (before after : List Token) : Type 0 where
   pub value : Json
   pub tokens_are : before ≡ json_tokens value ++ after

@@ -1,4 +1,4 @@
--- What a JSON object has to have so that it is a report, and which.
+-- The members of a JSON object that is a report, and the report that it is.
 use Rattle.std.specs.Prelude.{◌≡◌, ◌⊎◌, ℕ, true, if◌then◌else◌, List, [], ◌∷◌, map, ⊤, MatchOption}
 use Rattle.std.specs.Bool.{MatchBool}
 use Rattle.std.specs.List.Sorted.{IsPermutation, IsSortedByKey}
@@ -19,11 +19,11 @@ use Rattle.lc_reading.specs.declared.read_report.ReadReport.{ReadReport}
 use Rattle.lc_reading.specs.declared.row_columns.RowColumns.{RowColumns}
 use Rattle.lc_reading.specs.declared.rows.ReadRow.{ReadRow}
 
--- the sums of a row of binary files, and those over no files for others
+-- the sums of a row if it is of binary files, and otherwise the sums over no files
 abbrev pub nul_part : TallyRowModel → Sums
 nul_part r = if is_binary r then r.sums else no_files
 
--- the members of a report that are no lists
+-- these numbers are those of a report with these members
 pub record IsNumbersOf (ms : List Member) (n : Numbers) : Type 0 where
   pub uncut : MatchBool n.is_cut (Unit {0}) (Lacks member.Others ms)
   pub total : HasSums member.Total ms n.total
@@ -32,7 +32,7 @@ pub record IsNumbersOf (ms : List Member) (n : Numbers) : Type 0 where
   pub directories : HasNumber member.Directories ms n.directories
   pub entries : MatchOption n.entries (Lacks member.Entries ms) (HasNumber member.Entries ms)
 
--- these lines are those of the member's list, in order of their paths
+-- these lines are those in the list of this member, in the order of their paths
 pub record HasOrdered {L : Type 0} (Says : List Member → L → Type 0) (path : L
     → List ℕ) (name : MemberName) (ms : List Member) (lines : List L) : Type 0 where
   pub listed : List L
@@ -54,7 +54,7 @@ pub record AreRowsOf (columns : RowColumns) (ms : List Member) (total : Sums) (r
   pub columns_are : HaveColumns columns rows
   pub total_is : total ≡ sums_of_rows (map row_in rows)
 
--- the rows that are listed: where files are listed too, all columns are those of the files
+-- the rows of a report with these members; if files are listed too, the rows have all columns
 pub record HasRows (ms : List Member) (r : ReadReport) : Type 0 where
   pub columns : RowColumns
   pub rows : List ReadRow
@@ -62,7 +62,7 @@ pub record HasRows (ms : List Member) (r : ReadReport) : Type 0 where
   pub kept : MatchBool r.report.lists.files (r.columns ≡ record { ext = true; text = true; eol = true })
       ((r.columns ≡ columns) × AddsUp (map row_in rows) r.report.rows.items)
 
--- an object with these members is a report
+-- an object with these members is this report
 pub record IsReportOf (ms : List Member) (r : ReadReport) : Type 0 where
   pub uncut : Lacks member.Others ms
   pub total : HasSums member.Total ms r.report.totals
@@ -72,7 +72,7 @@ pub record IsReportOf (ms : List Member) (r : ReadReport) : Type 0 where
   pub entries : MatchBool r.report.lists.left_out (HasNumber member.Entries ms r.report.entries)
       (Lacks member.Entries ms × (r.report.entries ≡ 0))
   pub rows : HasRows ms r
-  -- a report of no files has an empty list of them
+  -- a report that counts no files has an empty list of files
   pub files : MatchBool r.report.lists.files
       (HasOrdered IsFileOf (λ f. f.path) member.Files ms r.report.files.items
       ⊎ (Lacks member.Files ms × (r.report.files.items ≡ []) × (r.report.totals.files ≡ 0)))

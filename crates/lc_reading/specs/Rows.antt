@@ -39,12 +39,12 @@ abbrev pub is_extension : List ℕ → Bool
 is_extension [] = false
 is_extension (b ∷ bs) = not (list_any no_name_has (b ∷ bs))
 
--- a dot and the extension, or null
+-- the members have a dot and this extension, or null if there is no extension
 abbrev pub HasExtension : List Member → Option (List ℕ) → Type 0
 HasExtension ms None = Has member.Ext ms null × Lacks member.ExtBytes ms
 HasExtension ms (Some e) = HasBytes member.Ext member.ExtBytes ms (46 ∷ e) × (is_extension e ≡ true)
 
--- the columns by which rows are kept apart, and those over which they are summed
+-- the key of a row: its values in the columns that rows are grouped by; in any other column it has no member, and a fixed value
 pub record IsKeyOf (columns : RowColumns) (ms : List Member) (k : Key) : Type 0 where
   pub extension : MatchBool columns.ext (HasExtension ms k.extension)
       (Lacks member.Ext ms × Lacks member.ExtBytes ms × (k.extension ≡ None))

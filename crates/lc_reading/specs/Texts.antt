@@ -1,4 +1,4 @@
--- The text of reports.
+-- The texts that are read as reports.
 use Rattle.std.specs.Prelude.{◌≡◌, ◌<◌, ℕ, true, List, [], ◌∷◌, ◌++◌, length, ⊤, Some}
 use Rattle.std.specs.List.{flat_map, list_all}
 use Rattle.json.specs.Json.{Json, document, object}
@@ -12,20 +12,20 @@ pub record IsJson (text : List ℕ) : Type 0 where
   pub value : Json
   pub is : document text ≡ Some value
 
--- a text is one JSON object, which is a report
+-- a text is one JSON object, which is this report
 pub record IsReportText (text : List ℕ) (r : ReadReport) : Type 0 where
   pub members : List Member
   pub value_is : document text ≡ Some (object (members_with members))
   pub is : IsReportOf members r
 
--- each text is that of a report, in order
+-- each of these texts is that of a report, in the same order
 abbrev pub AreReportTexts : List (List ℕ) → List ReadReport → Type 0
 AreReportTexts [] [] = ⊤
 AreReportTexts [] (r ∷ rs) = ⊥
 AreReportTexts (t ∷ ts) [] = ⊥
 AreReportTexts (t ∷ ts) (r ∷ rs) = IsReportText t r × AreReportTexts ts rs
 
--- a text is those of these reports, one after another, of which there is one, and white space
+-- a text is made of the texts of these reports, at least one, one after another, and white space
 pub record AreReportsOf (text : List ℕ) (reports : List ReadReport) : Type 0 where
   pub texts : List (List ℕ)
   pub blank : List ℕ

@@ -1,4 +1,4 @@
-//! Comparing sums with their total.
+//! Comparing the sums over parts of a report with its total.
 
 ghost use Rattle.std.specs.Prelude.{◌≡◌, IfOk, IfSome, IsTrue, map};
 ghost use Rattle.lc_reading.specs.Reports.{nul_part};
@@ -47,7 +47,7 @@ pub(crate) fn parts_add_up(text: Sums, binary: Sums, total: Sums) -> bool
     }
 }
 
-/// Counts files by their keys.
+/// Sums files in a tally, by extension, state of the attribute `text`, and line ends.
 fn tally_of(alloc: Global, files: &[FileLine]) -> Result<Tally, AllocError>
     ensures { IfOk result (λ tally. StandsFor tally (map counted_line files.now)) }
 {
@@ -97,7 +97,7 @@ pub(crate) fn binary_adds_up(rows: &[TallyRow], binary: Sums) -> bool
     }
 }
 
-/// Makes the rows of files, and the sums over them.
+/// Returns the rows for these files, and the sums over all of these files.
 pub(crate) fn rows_of_files(
     alloc: Global,
     files: &[FileLine],

@@ -1,4 +1,4 @@
-//! Making the report of an object that was read.
+//! Making a report from its JSON object, which was read.
 
 ghost use Rattle.std.specs.Prelude.{◌≡◌, [], false, IfOk, List, MatchOption, None, Some, option_map};
 ghost use Rattle.lc_reading.specs.Members.{Member};
@@ -52,7 +52,7 @@ fn is_cut(numbers: &Numbers, files: &Option<Vec<FileLine>>) -> bool
     }
 }
 
-/// Keeps the rows and the files if their sums agree.
+/// Returns the rows and the files of a report, if the sums over them agree with the report's totals.
 fn agreeing(
     alloc: Global,
     numbers: &Numbers,
@@ -106,7 +106,7 @@ fn finished(
     })
 }
 
-/// Makes the report of an object.
+/// Makes a report from its object, or returns why the object is no report.
 pub(crate) fn report_of(alloc: Global, object: Object<'_>) -> Result<ReadReport, ReadFault>
     ensures { IfOk result (λ report. (ms : List Member) → IsObjectOf ms object.entry → IsReportOf ms report) }
 {

@@ -2,7 +2,7 @@
 
 ghost use Rattle.std.specs.Prelude.{◌<◌, ◌≤◌, length, IfSome};
 
-/// The part of an object that a place is in.
+/// Where a byte of a JSON text is: in a string or outside of strings.
 #[derive(Clone, Copy, Debug, Drop, PartialEq, Eq)]
 enum Place {
     /// Outside of a string.
@@ -13,7 +13,7 @@ enum Place {
     AfterBackslash,
 }
 
-/// A place in an object, with the number of open brackets there.
+/// A place in a JSON text, with the number of brackets and braces that are open there.
 #[derive(Clone, Copy, Debug, Drop)]
 struct Nesting {
     place: Place,
@@ -21,7 +21,7 @@ struct Nesting {
 }
 
 impl Nesting {
-    /// Returns the place before an object.
+    /// Returns the place before the first byte of an object.
     fn outside() -> Nesting {
         Nesting {
             place: Place::Between,
@@ -29,7 +29,7 @@ impl Nesting {
         }
     }
 
-    /// Returns the place after one more byte.
+    /// Returns the place after one more byte, `byte`.
     fn after(self, byte: u8) -> Nesting {
         let Nesting { place, open } = self;
         match (place, byte) {
@@ -61,13 +61,13 @@ impl Nesting {
         }
     }
 
-    /// Returns whether an object that began before ends with this byte.
+    /// Returns whether an object ends at this place, just after `byte`.
     fn has_ended(self, byte: u8) -> bool {
         byte == b'}' && self.open == 0 && self.place == Place::Between
     }
 }
 
-/// Finds the length of the object at the beginning of a text, with the white space before it, if the object ends.
+/// Returns the length of the object at the beginning of a text, with the white space before it, or `None` if the object does not end.
 pub(crate) fn object_length(text: &[u8]) -> Option<usize>
     ensures { IfSome result (λ n. (0 < n) × (n ≤ length text.now)) }
 {

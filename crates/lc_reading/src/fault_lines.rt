@@ -1,4 +1,4 @@
-//! The errors of a report.
+//! Reading the errors of a report.
 
 ghost use Rattle.std.specs.Prelude.{IfOk};
 ghost use Rattle.lc_reading.specs.Lines.{IsFaultOf};

@@ -1,4 +1,4 @@
-//! Listed files.
+//! Reading the listed files of a report.
 
 ghost use Rattle.std.specs.Prelude.{IfOk};
 ghost use Rattle.lc_reading.specs.Lines.{IsCountOf, IsFileOf};
@@ -28,7 +28,7 @@ fn count_of<'a>(members: &[(&'a str, Value<'a>)]) -> Result<Count, NoReport>
     })
 }
 
-/// Reads a listed file.
+/// Reads a listed file from the members of its JSON object.
 pub(crate) fn file_of<'a>(
     alloc: Global,
     members: &[(&'a str, Value<'a>)],

@@ -1,4 +1,4 @@
-//! The rows and the files that a report keeps.
+//! The rows and the files of a report that was read. Rows are made from the files if these are listed.
 
 ghost use Rattle.std.specs.Prelude.{◌≡◌, IfOk, map, option_map};
 ghost use Rattle.std.specs.List.Sorted.{IsPermutation, IsSortedByKey};
@@ -15,7 +15,7 @@ use lc_level::Line;
 use lc_walk::{FileLine, Sums, TallyRow, added_up, sort_lines};
 use std::alloc::{AllocError, Global};
 
-/// The rows and the files that a report keeps.
+/// The rows and the files of a report that was read, and the columns of the rows.
 #[derive(Debug, Drop)]
 pub(crate) struct Kept {
     pub(crate) columns: RowColumns,
@@ -42,7 +42,7 @@ pub(crate) fn in_order<L: Line + Drop>(mut lines: Vec<L>) -> Result<Vec<L>, Allo
     Ok(lines)
 }
 
-/// Finds the columns that all rows have. If there are no rows, these are all columns.
+/// Returns the columns of the rows, which must all have the same ones. Without rows, returns all columns.
 pub(crate) fn columns_of_rows(rows: &[ReadRow]) -> Result<RowColumns, NoReport>
     ensures { IfOk result (λ columns. HaveColumns columns rows.now) }
 {
@@ -60,7 +60,7 @@ pub(crate) fn columns_of_rows(rows: &[ReadRow]) -> Result<RowColumns, NoReport>
     Ok(columns)
 }
 
-/// Returns the rows without their columns.
+/// Returns the rows in the form of a tally, without their columns.
 pub(crate) fn tally_rows(alloc: Global, rows: Vec<ReadRow>) -> Result<Vec<TallyRow>, AllocError>
     ensures { IfOk result (λ tally. tally.items ≡ map row_in rows.items) }
 {
@@ -71,7 +71,7 @@ pub(crate) fn tally_rows(alloc: Global, rows: Vec<ReadRow>) -> Result<Vec<TallyR
     Ok(tally)
 }
 
-/// Keeps files, and makes the rows of the files.
+/// Makes the rows of a report from its files. The files and the rows must add up to the total.
 fn with_files(alloc: Global, files: Vec<FileLine>, total: Sums) -> Result<Kept, ReadFault>
     ensures { IfOk result (IsKeptOf total files.items) }
 {
@@ -88,7 +88,7 @@ fn with_files(alloc: Global, files: Vec<FileLine>, total: Sums) -> Result<Kept, 
     })
 }
 
-/// Keeps the rows of a report that lists no files.
+/// Sums the rows of a report that lists no files, one for each key. They must add up to the total.
 fn without_files(
     alloc: Global,
     columns: RowColumns,
@@ -111,7 +111,7 @@ fn without_files(
     })
 }
 
-/// Keeps the files if they are listed or there are none, and otherwise the rows.
+/// Makes the rows from the files, if files are listed or there are none. Otherwise takes the rows that were read.
 pub(crate) fn kept_of(
     alloc: Global,
     files: Option<Vec<FileLine>>,

@@ -2,9 +2,11 @@
 //!
 //! - `reading`: the reports of a text, which `cutter` cuts after each JSON object
 //! - `object`, `top_member`: the members of a report; `lists`: the lists of a report, which are read line by line
-//! - `rows`, `file_lines`, `skipped_lines`, `fault_lines`, with `lines`: a line of each list; `rule_places`: the file of a rule
+//! - `rows`, `file_lines`, `skipped_lines`, `fault_lines`: a line of each list, by the parts in `lines`; `rule_places`: the file that a
+//!   rule was read from
 //! - `sums`, `numbers_of`: the sums and the numbers of a report
-//! - `building`: making the report of an object; `kept_files`: its rows and files; `adding`: whether sums agree
+//! - `building`: making a report from its object; `kept_files`: the rows and files of the report; `adding`: whether sums agree with their
+//!   total
 //! - `members`, `member_name`, `values`, `numbers`, `words`: the members of an object, and their values
 //! - `read_report`, `row_columns`: a report that was read; `read_fault`: why no report is read
 #![tactic(auto)]

@@ -1,4 +1,4 @@
-//! The parts that all lines of a report share.
+//! Reading the parts that several lists of a report have in their lines.
 
 ghost use Rattle.std.specs.Prelude.{◌≡◌, ◌==◌, ◌-◌, true, length, slice_get, IfOk, OnErr};
 ghost use Rattle.std.specs.List.{list_any};
@@ -21,7 +21,7 @@ use lc_census::Eol;
 use lc_rules::TextState;
 use std::alloc::Global;
 
-/// Returns the members of `value`, which is the object under this name.
+/// Returns the members of `value`, which must be an object. `name` is the name of the member that has this value.
 #[tactic(auto, using(crate::proofs::LentObjects::object_of_members))]
 pub(crate) fn members_in<'v, 'a>(
     value: &'v Value<'a>,
@@ -35,7 +35,7 @@ pub(crate) fn members_in<'v, 'a>(
     }
 }
 
-/// Reads the state of the attribute `text`.
+/// Reads the state of the attribute `text` from the member `text`.
 #[tactic(auto, using(crate::proofs::JsonKinds::text_if, crate::proofs::JsonKinds::null_if))]
 pub(crate) fn text_state_in<'a>(members: &[(&'a str, Value<'a>)]) -> Result<TextState, NoReport>
     ensures state { IfOk result (HasTextState (members_of members.now)) }
@@ -54,7 +54,7 @@ pub(crate) fn text_state_in<'a>(members: &[(&'a str, Value<'a>)]) -> Result<Text
     }
 }
 
-/// Reads how lines end.
+/// Reads how the lines of a file end, from the member `eol`.
 pub(crate) fn eol_in<'a>(members: &[(&'a str, Value<'a>)]) -> Result<Eol, NoReport>
     ensures word { IfOk result (λ eol. HasText name.Eol (members_of members.now) (eol_word eol)) }
     ensures refused { OnErr result ((eol : EolModel) → HasText name.Eol (members_of members.now) (eol_word eol) → ⊥) }

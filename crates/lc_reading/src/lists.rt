@@ -18,14 +18,14 @@ use json::{Error, Reader, Token, Value};
 use lc_level::{FaultLine, FileLine, SkippedLine};
 use std::alloc::Global;
 
-/// A line of a list.
+/// A line of a list in a report: a file, an error, a skipped entry or a row.
 pub(crate) trait ListLine: Sized + Drop {
     ghost use Rattle.std.specs.Prelude.{List};
     ghost use Rattle.lc_reading.specs.Members.{Member};
 
     ghost is_of: { List Member → Self → Type 0 };
 
-    /// Makes the line of an object with these members.
+    /// Reads a line from the members of its JSON object.
     fn of<'a>(alloc: Global, members: &[(&'a str, Value<'a>)]) -> Result<Self, ReadFault>
         ensures { IfOk result (λ line. is_of (members_of members.now) line) };
 }
@@ -70,7 +70,7 @@ impl ListLine for ReadRow {
     }
 }
 
-/// Returns the error for a value that is not JSON, or for which an allocation failed.
+/// Returns the error for the value of the member `name`, which is not JSON, or for which an allocation failed.
 pub(crate) fn value_fault(error: Error, name: MemberName) -> ReadFault {
     match error {
         Error::OutOfMemory => ReadFault::Memory,
@@ -80,7 +80,7 @@ pub(crate) fn value_fault(error: Error, name: MemberName) -> ReadFault {
     }
 }
 
-/// Reads a value completely.
+/// Reads the whole value of the member `name`.
 #[tactic(auto, using(crate::proofs::ListsRead::value_taken))]
 pub(crate) fn read_value<'a>(
     alloc: Global,
@@ -135,7 +135,7 @@ fn read_lines<'a, L: ListLine>(
     Ok(lines)
 }
 
-/// Reads a list.
+/// Reads the list that is the value of the member `name`.
 pub(crate) fn read_list<'a, L: ListLine>(
     alloc: Global,
     reader: &mut Reader<'a>,

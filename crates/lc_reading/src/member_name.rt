@@ -1,4 +1,4 @@
-//! The names of members.
+//! The names of the members of a report in JSON.
 
 ghost use Rattle.std.specs.Prelude.{◌≡◌};
 ghost use Rattle.lc_reading.specs.MemberNames.{member_name};

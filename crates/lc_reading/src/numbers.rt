@@ -1,4 +1,4 @@
-//! Numbers, which consist of digits only.
+//! Reading numbers that consist of digits only.
 
 ghost use Rattle.std.specs.Prelude.{◌≡◌, ◌≢◌, ◌<◌, ◌^◌, ℕ, decimal, MatchOption};
 

@@ -1,4 +1,4 @@
-//! The members of a report that are not lists.
+//! Reading the members of a report that are not lists.
 
 ghost use Rattle.std.specs.Prelude.{◌≡◌, IfOk, MatchOption};
 ghost use Rattle.lc_reading.specs.Members.{HasNumber, Lacks, members_of};
@@ -34,7 +34,7 @@ fn entries_in<'a>(members: &[(&'a str, Value<'a>)]) -> Result<Option<u64>, NoRep
     }
 }
 
-/// Reads the sums and numbers of a report.
+/// Reads the sums and numbers of a report from the members of its object.
 pub(crate) fn numbers_of<'a>(members: &[(&'a str, Value<'a>)]) -> Result<Numbers, NoReport>
     ensures { IfOk result (IsNumbersOf (members_of members.now)) }
 {

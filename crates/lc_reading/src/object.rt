@@ -1,4 +1,4 @@
-//! The object of a report, which is read member by member.
+//! Reading the JSON object of a report, member by member.
 
 ghost use Rattle.std.specs.Prelude.{◌≡◌, ◌∷◌, true, option_map, IfOk, OnOk, [], ℕ, List};
 ghost use Rattle.json.specs.Token.{begin_object};
@@ -119,7 +119,7 @@ fn read_small<'a>(
     Ok(())
 }
 
-/// Skips a value.
+/// Skips the next JSON value.
 #[tactic(auto, using(crate::proofs::ObjectsRead::value_skipped))]
 fn skip<'a>(reader: &mut Reader<'a>) -> Result<(), ReadFault>
     ensures { OnOk result (IsPassed reader.old reader.new) }
@@ -148,7 +148,7 @@ fn read_member<'a>(
     }
 }
 
-/// Reads a key, unless the object ends.
+/// Reads the next key of an object, or returns `None` where the object ends.
 #[tactic(auto, using(crate::proofs::ObjectsRead::key_taken))]
 fn next_key<'a>(reader: &mut Reader<'a>) -> Result<Option<&'a str>, ReadFault>
     ensures { IfOk result (λ k. reader.old ≡ key_token (option_map (λ s. s.now) k) ∷ reader.new) }
@@ -170,7 +170,7 @@ fn read_members<'a>(alloc: Global, reader: &mut Reader<'a>) -> Result<Object<'a>
     Ok(object)
 }
 
-/// Reads the object of a report.
+/// Reads the JSON object of a report.
 pub(crate) fn read_object<'a>(
     alloc: Global,
     reader: &mut Reader<'a>,

@@ -8,7 +8,7 @@ use std::alloc::{AllocError, AllocFailed};
 use std::fmt;
 use thiserror::Error;
 
-/// Why no reports are read from a text. It is printed as the text that follows the name of the input.
+/// Why no reports are read from a text. The error is printed behind the name of the input.
 #[derive(Clone, Copy, Debug, Drop, PartialEq, Eq, Error)]
 pub enum ReadFault {
     /// An allocation failed.

@@ -28,7 +28,7 @@ fn is_blank(text: &[u8]) -> bool
     text.iter().all(|byte| is_space(*byte))
 }
 
-/// Returns the error for a text that has no JSON object at a byte.
+/// Returns the error for a text that has no JSON object at the byte with this index.
 fn no_object(at: usize) -> ReadFault {
     ReadFault::NoReport(NoReport::NoObject(at))
 }
@@ -66,7 +66,7 @@ fn report_in(
     report_of(alloc, object)
 }
 
-/// Cuts a text after the object at its beginning.
+/// Splits a text after the JSON object at its beginning. `start` is the index of the text's first byte in the input.
 fn cut(text: &[u8], start: usize) -> Result<(&str, &[u8]), ReadFault>
     ensures parts { IfOk result (λ parts. text.now ≡ parts.0.now ++ parts.1.now) }
     ensures shorter { IfOk result (λ parts. length parts.1.now < length text.now) }
@@ -87,10 +87,10 @@ fn cut(text: &[u8], start: usize) -> Result<(&str, &[u8]), ReadFault>
 
 /// Reads the reports in a text, which are JSON objects. They may have white space between them, or nothing.
 ///
-/// Each object is read before the next one, so the error is about the first object that is refused. An object that is not a report is
-/// refused for that reason, before the check that its rows and files are complete ([`ReadFault::CutByTop`]) and the comparison of its sums.
+/// Each object is read before the next one, so the error is about the first object that is refused. An object must first be a report, then
+/// have all its rows and files ([`ReadFault::CutByTop`]), and then have sums that agree.
 ///
-/// It allocates memory for the reports, for as many bytes as the longest object has, and for one line of a list at a time.
+/// The function allocates memory for the reports, for as many bytes as the longest object has, and for one line of a list at a time.
 ///
 /// ```
 /// let reports = read_reports(alloc, &text)?;

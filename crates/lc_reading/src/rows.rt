@@ -1,4 +1,4 @@
-//! The rows of a report.
+//! Reading the rows of a report.
 
 ghost use Rattle.std.specs.Prelude.{◌≡◌, ⊤, IfOk, None, Some, option_map};
 ghost use Rattle.std.specs.Bool.{MatchBool};
@@ -24,7 +24,7 @@ use lc_rules::TextState;
 use lc_walk::TallyRow;
 use std::alloc::Global;
 
-/// A row, with the columns that it has.
+/// A row of a report that was read, with the columns that the row has.
 #[derive(Debug, Drop)]
 pub(crate) struct ReadRow {
     pub(crate) columns: RowColumns,
@@ -56,7 +56,7 @@ fn has<'a>(members: &[(&'a str, Value<'a>)], name: MemberName) -> Result<bool, N
     Ok(found.is_some())
 }
 
-/// Returns whether a null says that there is no extension.
+/// Returns whether the member `ext` of a row is null: the row is for files without an extension.
 #[tactic(auto, using(crate::proofs::JsonKinds::null_if))]
 fn has_no_extension<'a>(members: &[(&'a str, Value<'a>)]) -> Result<bool, NoReport>
     ensures { IfOk result (λ none. MatchBool none (HasExtension (members_of members.now) None) ⊤) }
@@ -73,7 +73,7 @@ fn has_no_extension<'a>(members: &[(&'a str, Value<'a>)]) -> Result<bool, NoRepo
     }
 }
 
-/// Reads an extension, which follows a dot.
+/// Reads the extension of a row, and drops the dot at its beginning.
 fn extension_after_dot<'a>(
     alloc: Global,
     members: &[(&'a str, Value<'a>)],
@@ -90,7 +90,7 @@ fn extension_after_dot<'a>(
     Ok(rest.to_vec(alloc)?)
 }
 
-/// Reads the extension of a row, if rows have the column.
+/// Reads the extension of a row, if the row has that column, as `there` says.
 fn extension_in<'a>(
     alloc: Global,
     members: &[(&'a str, Value<'a>)],
@@ -142,7 +142,7 @@ fn columns_of<'a>(members: &[(&'a str, Value<'a>)]) -> Result<RowColumns, NoRepo
     })
 }
 
-/// Reads a row.
+/// Reads a row from the members of its JSON object.
 pub(crate) fn row_of<'a>(
     alloc: Global,
     members: &[(&'a str, Value<'a>)],

@@ -6,7 +6,7 @@ ghost use Rattle.lc_text.specs.RulePlaces.{source_directory, source_name};
 use lc_rules::RuleSource;
 use lc_text::{source_directory, source_name};
 
-/// Returns whether this path is the one that is shown for the file of a source, if a rule in it decides `path`.
+/// Returns whether `file` is the path that is shown for a rule's file, if the rule has this source and decides `path`.
 fn is_shown(path: &[u8], file: &[u8], source: RuleSource) -> bool
     ensures { IsTrue result → file.now ≡ source_directory path.now source ++ source_name source }
 {

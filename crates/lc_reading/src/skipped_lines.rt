@@ -1,4 +1,4 @@
-//! Skipped entries.
+//! Reading the skipped entries of a report.
 
 ghost use Rattle.std.specs.Prelude.{◌≡◌, codes, None, IfOk, IfSome};
 ghost use Rattle.lc_level.specs.ReasonWords.{attribute_of, reason_word, rule_of};
@@ -17,7 +17,7 @@ use lc_level::{Reason, SkippedLine};
 use lc_tree::{Kind, OtherKind};
 use std::alloc::Global;
 
-/// Finds the kind of an entry by its word and by the reason why the entry is skipped.
+/// Finds the kind of an entry by the word for the kind, and by the reason why the entry is skipped.
 fn kind_of(word: &str, reason: &Reason) -> Option<Kind>
     ensures word { IfSome result (λ kind. word.now ≡ kind_word kind) }
     ensures reason { IfSome result (λ kind. HasReason kind (reason_model reason.now)) }
@@ -34,7 +34,7 @@ fn kind_of(word: &str, reason: &Reason) -> Option<Kind>
     }
 }
 
-/// Reads the rule that decides a path.
+/// Reads the file and the line of the rule that decides a path, as the reason to skip the path.
 fn rule_in<'a>(
     alloc: Global,
     members: &[(&'a str, Value<'a>)],
@@ -81,7 +81,7 @@ fn reason_in<'a>(
     }
 }
 
-/// Reads a skipped entry.
+/// Reads a skipped entry from the members of its JSON object.
 pub(crate) fn skipped_of<'a>(
     alloc: Global,
     members: &[(&'a str, Value<'a>)],

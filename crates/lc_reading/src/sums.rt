@@ -1,4 +1,4 @@
-//! Sums over files.
+//! Reading the sums over files that a report has.
 
 ghost use Rattle.std.specs.Prelude.{IfOk, OnErr};
 ghost use Rattle.lc_walk.specs.Sums.{IsInRange};
@@ -14,7 +14,7 @@ use crate::values::{count_in, sum_in};
 use json::Value;
 use lc_walk::Sums;
 
-/// Reads the sums in an object.
+/// Reads the sums over files from the members of an object.
 pub(crate) fn sums_of<'a>(members: &[(&'a str, Value<'a>)]) -> Result<Sums, NoReport>
     ensures sums { IfOk result (IsSumsOf (members_of members.now)) }
     ensures refused { OnErr result ((s : SumsModel) → IsInRange s → IsSumsOf (members_of members.now) s → ⊥) }
@@ -31,7 +31,7 @@ pub(crate) fn sums_of<'a>(members: &[(&'a str, Value<'a>)]) -> Result<Sums, NoRe
     })
 }
 
-/// Reads the sums in the object under this name.
+/// Reads the sums over files from the object in the member `name`.
 pub(crate) fn sums_in<'a>(
     members: &[(&'a str, Value<'a>)],
     name: MemberName,

@@ -1,4 +1,4 @@
-//! The members of a report by their names.
+//! Finding a member of a report by its name.
 
 ghost use Rattle.std.specs.Prelude.{◌≡◌, ◌≢◌, true, find, bytes_eq, MatchOption};
 ghost use Rattle.lc_reading.specs.MemberNames.{member_name};
@@ -7,7 +7,7 @@ ghost use Rattle.lc_reading.specs.declared.member_name.MemberName.{MemberName as
 
 use crate::member_name::MemberName;
 
-/// A member of a report.
+/// Which member of a report a name stands for.
 #[derive(Clone, Copy, Debug, Drop)]
 pub(crate) enum TopMember {
     Rows,
@@ -16,7 +16,7 @@ pub(crate) enum TopMember {
     Faults,
     /// The member is not a list.
     Value(MemberName),
-    /// The member is skipped.
+    /// No report has a member with the name, so the member is skipped.
     Other,
 }
 

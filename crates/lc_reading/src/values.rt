@@ -1,4 +1,4 @@
-//! The numbers, texts and bytes in members.
+//! Reading the numbers, texts and bytes in the members of an object.
 
 ghost use Rattle.std.specs.Prelude.{ℕ, List, OnErr, ◌≡◌, ◌<◌, ◌^◌, map, decimal, IfOk, IfSome, MatchOption};
 ghost use Rattle.json.specs.Json.{number as json_number};
@@ -12,7 +12,7 @@ use crate::read_fault::{NoReport, ReadFault};
 use json::Value;
 use std::alloc::{AllocError, Global};
 
-/// Reads the number in a member.
+/// Reads the number in the member `name`, which must be below 2^128.
 #[tactic(auto, using(crate::proofs::JsonKinds::number_if))]
 pub(crate) fn sum_in<'a>(
     members: &[(&'a str, Value<'a>)],
@@ -32,7 +32,7 @@ pub(crate) fn sum_in<'a>(
     }
 }
 
-/// Reads the number in a member, which must be below 2^64.
+/// Reads the number in the member `name`, which must be below 2^64.
 pub(crate) fn count_in<'a>(
     members: &[(&'a str, Value<'a>)],
     name: MemberName,
@@ -47,7 +47,7 @@ pub(crate) fn count_in<'a>(
     }
 }
 
-/// Returns the text in a member.
+/// Returns the text in the member `name`.
 #[tactic(auto, using(crate::proofs::JsonKinds::text_if))]
 pub(crate) fn text_in<'a>(
     members: &[(&'a str, Value<'a>)],
@@ -88,7 +88,7 @@ fn listed_bytes(alloc: Global, values: &[Value<'_>]) -> Result<Option<Vec<u8>>, 
     Ok(Some(bytes))
 }
 
-/// Reads the bytes that a member has as a list of numbers, if there is such a member.
+/// Reads the bytes that the member `list` has as a list of numbers, if there is such a member.
 fn bytes_of_list<'a>(
     alloc: Global,
     members: &[(&'a str, Value<'a>)],
@@ -109,7 +109,7 @@ fn bytes_of_list<'a>(
     }
 }
 
-/// Reads the bytes of the text under one name, if there is no list of numbers under the other name.
+/// Reads the bytes of the text in the member `text`. There must be no member `list`.
 fn bytes_of_text<'a>(
     alloc: Global,
     members: &[(&'a str, Value<'a>)],
@@ -125,7 +125,7 @@ fn bytes_of_text<'a>(
     }
 }
 
-/// Reads bytes: a text under one name, or a list of numbers under another name. It returns `None` if there is neither.
+/// Reads bytes from a text in the member `text`, or from a list of numbers in the member `list`. Returns `None` if there is neither.
 pub(crate) fn optional_bytes<'a>(
     alloc: Global,
     members: &[(&'a str, Value<'a>)],
@@ -141,7 +141,7 @@ pub(crate) fn optional_bytes<'a>(
     }
 }
 
-/// Reads bytes: a text under one name, or a list of numbers under another name.
+/// Reads bytes from a text in the member `text`, or from a list of numbers in the member `list`. One of the two must be there.
 pub(crate) fn bytes_in<'a>(
     alloc: Global,
     members: &[(&'a str, Value<'a>)],

@@ -1,4 +1,4 @@
-//! Reading words by the tables from which they are printed.
+//! Finding the kind of line end, the error or the state that a printed word names.
 
 ghost use Rattle.std.specs.Prelude.{◌≡◌, ◌≢◌, find, bytes_eq, MatchOption, Some};
 ghost use Rattle.lc_census.specs.EolWords.{eol_word};
