@@ -1,4 +1,4 @@
-//! The tests of reading reports.
+//! Tests of reading reports.
 #![tactic(auto)]
 
 #[cfg(test)]

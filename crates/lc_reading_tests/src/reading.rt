@@ -1,8 +1,8 @@
-//! Texts of reports, what is read of them, and what is refused.
+//! Tests of texts of reports: what is read from them, and which are refused.
 //!
 //! - `printed`: reports that are read and printed again
-//! - `other_texts`: the same reports in other texts
-//! - `refusals`: texts that are no reports; `sums`: those whose sums do not agree
+//! - `other_texts`: reports that are written in other ways, such as with other white space
+//! - `refusals`: texts that are no reports; `sums`: reports whose sums do not agree
 
 mod other_texts;
 mod printed;

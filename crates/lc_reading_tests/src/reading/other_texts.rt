@@ -1,4 +1,4 @@
-//! The same reports in other texts: white space, other orders, members of no meaning, escapes, and several reports in one text.
+//! Tests of reports that are written in other ways: white space, other orders, members of no meaning, escapes, several reports in one text.
 
 use crate::reading::printed::{BY_EXT, is_printed_as, reports_of};
 use lc_sheet::Columns;

@@ -1,4 +1,4 @@
-//! Reports that are printed as JSON, read, and printed again.
+//! Tests of reports that are read from JSON and printed again.
 
 use lc_formats::json_text;
 use lc_reading::{ReadFault, ReadReport, read_reports};
@@ -31,7 +31,7 @@ const BY_EOL: Columns = Columns {
     eol: true,
 };
 
-/// A report as it is printed, by these columns, and whether its files are listed.
+/// The JSON text of a report, the columns that its rows are grouped by, and whether its files are listed.
 #[derive(Clone, Copy)]
 struct Case {
     name: &'static str,
@@ -165,7 +165,7 @@ pub(super) fn reports_of(
     }
 }
 
-/// Returns whether a text is read as one report, which is printed as another text.
+/// Returns whether a text is read as one report that is printed as `printed`, by these columns and with or without files.
 pub(super) fn is_printed_as(
     alloc: Global,
     text: &str,

@@ -1,11 +1,11 @@
-//! Texts that are no reports, and why.
+//! Tests of texts that are no reports, and of the errors for them.
 
 use lc_reading::{ReadFault, read_reports};
 use std::alloc::{AllocError, Global};
 use std::process::Abort;
 use std::test::Fail;
 
-/// A text, and what is said of it.
+/// A text, and the expected message about it.
 type Case = (&'static [u8], &'static str);
 
 const NO_JSON: &[Case] = &[
@@ -147,7 +147,7 @@ const ENTRIES: &[Case] = &[
     ),
 ];
 
-/// Returns the message about a text, which is empty if the text is read.
+/// Returns the error message about a text, or an empty one if the text is read.
 pub(super) fn said_of(alloc: Global, text: &[u8]) -> Result<String, AllocError> {
     match read_reports(alloc, text) {
         Ok(_) => Ok(String::new(alloc)),
@@ -189,7 +189,7 @@ fn entries_that_are_refused(rt: HostRuntime) -> Result<(), Fail> {
     compare(&rt, ENTRIES)
 }
 
-/// An object with arrays in it, one in another.
+/// Returns a JSON object with this number of arrays, each inside the one before.
 fn nested(alloc: Global, arrays: u32) -> Result<Vec<u8>, AllocError> {
     let mut text = Vec::from_slice(alloc, b"{\"a\":")?;
     for _ in 0..arrays {

@@ -1,11 +1,11 @@
-//! Reports that were cut, or whose sums do not agree.
+//! Tests of reports that were cut, or whose sums do not agree.
 
 use crate::reading::refusals::said_of;
 use std::alloc::{AllocError, Global};
 use std::process::Abort;
 use std::test::Fail;
 
-/// Rows, the numbers of `total`, `text` and `binary`, further members, and what is said.
+/// The rows of a report, its sums `total`, `text` and `binary`, its further members, and the expected message.
 type Case = (&'static str, [&'static str; 3], &'static str, &'static str);
 
 const ONE: &str =
