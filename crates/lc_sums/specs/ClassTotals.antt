@@ -6,6 +6,6 @@ use Rattle.lc_sums.specs.declared.class_totals.ClassTotals.{ClassTotals}
 abbrev pub no_classes : ClassTotals
 no_classes = record { text = no_files; binary = no_files }
 
--- these and those of a report
+-- these sums, with those of a report added
 abbrev pub totals_with : ClassTotals → ReadReport → ClassTotals
 totals_with t r = record { text = plus t.text r.text; binary = plus t.binary r.binary }

@@ -1,4 +1,4 @@
--- What is true of sums of reports.
+-- The law of the order of reports in a sum.
 use Rattle.std.specs.Prelude.{List}
 use Rattle.std.specs.List.Sorted.{IsPermutation}
 use Rattle.lc_sums.specs.Sums.{CanBeSummed, IsSumOf}
@@ -6,7 +6,7 @@ use Rattle.lc_sums.specs.declared.needs.Needs.{Needs}
 use Rattle.lc_sums.specs.declared.part.Part.{Part}
 use Rattle.lc_sums.specs.declared.sum.Sum.{Sum}
 
--- reports can be summed in any order where they can be in one, and their sum is the same
+-- if reports can be summed in one order, they can be summed in any order, and their sum is the same
 pub record SumOrderLaw : Type 0 where
   pub can_be : (needs : Needs) (ps moved : List Part) → IsPermutation ps moved → CanBeSummed needs ps → CanBeSummed needs moved
   pub sum : (needs : Needs) (ps moved : List Part) (s : Sum) → IsPermutation ps moved → IsSumOf needs ps s → IsSumOf needs moved s

@@ -36,11 +36,11 @@ is_on_eol c = is_eol c.column
 abbrev pub is_on_key : ConditionModel → Bool
 is_on_key c = is_on_ext c || is_on_text c || is_on_eol c
 
--- the columns of conditions; with any of them the rows that are met must tell what is binary
+-- the columns of rows that conditions need; a condition on such a column also needs `eol`, which shows what is binary
 abbrev pub tested_columns : List ConditionModel → RowColumns
 tested_columns cs = record { ext = list_any is_on_ext cs; text = list_any is_on_text cs; eol = list_any is_on_key cs }
 
--- the columns by which rows are to be kept apart, where they are named
+-- the columns that rows are grouped by, if columns are named
 abbrev pub named_columns : Option Columns → RowColumns
 named_columns None = record { ext = false; text = false; eol = false }
 named_columns (Some by) = record { ext = by.ext; text = by.text; eol = by.eol }
@@ -49,7 +49,7 @@ abbrev pub by_directory : Option Columns → Bool
 by_directory None = false
 by_directory (Some by) = is_some by.dir
 
--- what is needed for rows by these columns, or by those that are shared; for these conditions; and for these lists
+-- what a sum needs of each report: for rows by these columns, or by any shared column; for these conditions; and for these lists
 abbrev pub needs_of : Option Columns → List ConditionModel → Bool → Bool → Needs
 needs_of by cs files left_out = record {
   columns = record {
@@ -64,18 +64,18 @@ needs_of by cs files left_out = record {
 
 -- ---- what reports have
 
--- the columns of a report: where it lists its files these show all
+-- the columns that a report has; a report that lists its files has all columns
 abbrev pub columns_of : ReadReport → RowColumns
 columns_of r = if r.report.lists.files then record { ext = true; text = true; eol = true } else r.columns
 
--- a needed column is not there
+-- whether a needed column is not among those that are there
 abbrev pub is_lacking : RowColumns → RowColumns → Bool
 is_lacking needed there = needed.ext && not there.ext || needed.text && not there.text || needed.eol && not there.eol
 
 abbrev pub lacks_column : RowColumns → Part → Bool
 lacks_column needed p = is_lacking needed (columns_of p.report)
 
--- the first of them, where one is not there
+-- the first needed column that is not there, if one is not there
 abbrev pub first_of_lacking : RowColumns → RowColumns → Column
 first_of_lacking needed there =
     if needed.ext && not there.ext then column.Ext else (if needed.text && not there.text then column.Text else column.Eol)
@@ -89,7 +89,7 @@ lacks_files p = not p.report.report.lists.files
 abbrev pub lacks_skipped : Part → Bool
 lacks_skipped p = not p.report.report.lists.left_out
 
--- the columns that each of them has
+-- the columns that all of the reports have
 abbrev pub shared_columns : List Part → RowColumns
 shared_columns ps = record {
   ext = list_all (λ (p : Part). (columns_of p.report).ext) ps;

@@ -7,24 +7,24 @@ use Rattle.lc_level.specs.Level.{FileLineModel}
 use Rattle.lc_tree.specs.ByteOrder.{bytes_cmp}
 use Rattle.lc_sums.specs.declared.part.Part.{Part}
 
--- the paths of all listed files
+-- the paths of all files that the reports list
 abbrev pub paths_of : List Part → List (List ℕ)
 paths_of ps = flat_map (λ (p : Part). map (λ (f : FileLineModel). f.path) p.report.report.files.items) ps
 
--- two of these paths, or more, are this one
+-- two or more of these paths are equal to this path
 abbrev pub IsTwice : List ℕ → List (List ℕ) → Type 0
 IsTwice path paths = 2 ≤ count_by (bytes_eq path) paths
 
--- each is there once
+-- no path is twice among these paths
 abbrev pub AreApart : List (List ℕ) → Type 0
 AreApart paths = (path : List ℕ) → IsTwice path paths → ⊥
 
--- it is twice there, and none before it is
+-- this path is twice among these paths, and no path before it, in the order of bytes, is
 pub record IsFirstTwice (path : List ℕ) (paths : List (List ℕ)) : Type 0 where
   pub twice : IsTwice path paths
   pub first : (other : List ℕ) → IsTwice other paths → is_lt (bytes_cmp other path) ≡ false
 
--- the first path of a sorted list that the next one repeats
+-- whether a path is equal to the first of these; and the first path of a sorted list that is equal to the next one
 abbrev pub is_first : List ℕ → List (List ℕ) → Bool
 is_first path [] = false
 is_first path (next ∷ paths) = bytes_eq next path

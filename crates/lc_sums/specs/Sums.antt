@@ -21,13 +21,13 @@ use Rattle.lc_sums.specs.declared.sum_fault.SumFault.TheVariants.{Memory, NoColu
 abbrev pub NoneLacks : (Part → Bool) → List Part → Type 0
 NoneLacks lacks ps = find lacks ps ≡ None
 
--- the first that lacks it has this name
+-- the first report that lacks something has this name
 pub record FirstLacks (lacks : Part → Bool) (ps : List Part) (origin : List ℕ) : Type 0 where
   pub part : Part
   pub first : find lacks ps ≡ Some part
   pub named : origin ≡ part.origin.now
 
--- and of the needed columns it lacks this one first
+-- the first report that lacks a needed column has this name, and this is the first needed column that it lacks
 pub record FirstLacksColumn (needs : Needs) (ps : List Part) (origin : List ℕ) (column : Column) : Type 0 where
   pub part : Part
   pub first : find (lacks_column needs.columns) ps ≡ Some part
@@ -45,7 +45,7 @@ pub record HaveLists (needs : Needs) (ps : List Part) : Type 0 where
   pub files : HaveFiles needs ps
   pub left_out : needs.left_out ≡ true → NoneLacks lacks_skipped ps
 
--- each has what is needed, and no file is in two
+-- each report has what is needed, and no two listed files have the same path
 pub record CanBeSummed (needs : Needs) (ps : List Part) : Type 0 where
   pub columns : HaveColumns needs ps
   pub lists : HaveLists needs ps
@@ -60,7 +60,7 @@ needed_report needs p = record p.report.report { lists = record { files = needs.
 abbrev pub needed_reports : Needs → List Part → List Report
 needed_reports needs ps = map (needed_report needs) ps
 
--- the sums over text and over binary files of all
+-- the sums over text and over binary files of all reports
 abbrev pub class_totals : List Part → ClassTotals
 class_totals ps = record {
   text = record {
@@ -86,7 +86,7 @@ pub record SumsFit (needs : Needs) (ps : List Part) : Type 0 where
   pub classes : ClassesFit (class_totals ps)
   pub report : Fits (needed_reports needs ps)
 
--- their joined report, with the columns that each of them has
+-- the sum of the reports: their joined report, with the columns that all of them have
 pub record IsSumOf (needs : Needs) (ps : List Part) (s : Sum) : Type 0 where
   pub joined : IsJoined (needed_reports needs ps) s.report
   pub files : needs.files ≡ true → s.report.lists.files ≡ true
@@ -96,37 +96,37 @@ pub record IsSumOf (needs : Needs) (ps : List Part) (s : Sum) : Type 0 where
 
 -- ---- why there is none
 
--- a column is lacking
+-- the error if a report lacks a needed column, or if no column is shared although one must be
 abbrev pub LacksColumns : Needs → List Part → SumFault → Type 0
 LacksColumns needs ps (NoColumn origin column) = FirstLacksColumn needs ps origin.now column
 LacksColumns needs ps NoSharedColumn =
     NoneLacks (lacks_column needs.columns) ps × (needs.some_column ≡ true) × (has_some (shared_columns ps) ≡ false)
 LacksColumns needs ps other = ⊥
 
--- a list is lacking: that of files, or else that of skipped entries
+-- the error if a report lacks a needed list: that of files, or else that of skipped entries
 abbrev pub LacksLists : Needs → List Part → SumFault → Type 0
 LacksLists needs ps (NoFiles origin) = (needs.files ≡ true) × FirstLacks lacks_files ps origin.now
 LacksLists needs ps (NoSkipped origin) = HaveFiles needs ps × (needs.left_out ≡ true) × FirstLacks lacks_skipped ps origin.now
 LacksLists needs ps other = ⊥
 
--- two files have the same path, or memory is refused
+-- the error if two files have the same path, or an allocation fails
 abbrev pub HasSamePath : List Part → SumFault → Type 0
 HasSamePath ps (SamePath path) = IsFirstTwice path.items (paths_of ps)
 HasSamePath ps Memory = ⊤
 HasSamePath ps other = ⊥
 
--- what is said where reports are not joined
+-- the error for reports that can't be joined
 abbrev pub fault_of_join : JoinFault → SumFault
 fault_of_join join.Memory = Memory
 fault_of_join join.TooLarge = TooLarge
 
--- a sum does not fit, or memory is refused
+-- the error if a sum does not fit its type, or an allocation fails
 abbrev pub IsUnjoined : Needs → List Part → SumFault → Type 0
 IsUnjoined needs ps TooLarge = SumsFit needs ps → ⊥
 IsUnjoined needs ps Memory = ⊤
 IsUnjoined needs ps other = ⊥
 
--- the first of these that is so: memory is refused only where all that is needed is there
+-- the first of these errors that holds; an allocation fails only after each report was found to have the needed columns and lists
 abbrev pub IsRefused : Needs → List Part → SumFault → Type 0
 IsRefused needs ps Memory = HaveColumns needs ps × HaveLists needs ps
 IsRefused needs ps (NoColumn origin column) = LacksColumns needs ps (NoColumn origin column)

@@ -36,7 +36,7 @@ impl ClassTotals {
         })
     }
 
-    /// Returns the sums over all of these reports, if each fits its type.
+    /// Returns the sums over text and over binary files of all these reports, if each sum fits its type.
     pub(crate) fn of(parts: &[Part<'_>]) -> Option<ClassTotals>
         ensures { MatchOption result (ClassesFit (class_totals parts.now) → ⊥) (λ t. t ≡ class_totals parts.now) }
     {

@@ -1,4 +1,4 @@
-//! The columns of reports.
+//! Comparing the columns of reports with the needed ones.
 
 ghost use Rattle.std.specs.Prelude.{◌≡◌, MatchResult};
 ghost use Rattle.std.specs.List.{find, list_all};
@@ -12,7 +12,7 @@ use crate::sum_fault::SumFault;
 use lc_reading::{ReadReport, RowColumns};
 use lc_sheet::Column;
 
-/// Returns the columns that a report has. A report that lists its files has all.
+/// Returns the columns that a report has. A report that lists its files has all columns.
 fn columns_of(report: &ReadReport) -> RowColumns
     ensures { result ≡ columns_of report.now }
 {
@@ -31,7 +31,7 @@ fn lacks_column(needed: RowColumns, part: &Part<'_>) -> bool
     needed.ext && !there.ext || needed.text && !there.text || needed.eol && !there.eol
 }
 
-/// Returns the first needed column that a report lacks. It must lack one.
+/// Returns the first needed column that a report lacks. The report must lack one.
 fn lacking(needed: RowColumns, part: &Part<'_>) -> Column
     ensures { result ≡ lacking needed part.now }
 {
@@ -63,7 +63,7 @@ fn have_eol(parts: &[Part<'_>]) -> bool
     parts.iter().all(|part| columns_of(&part.report).eol)
 }
 
-/// Returns the columns that each report has.
+/// Returns the columns that all of these reports have.
 pub(crate) fn shared_columns(parts: &[Part<'_>]) -> RowColumns
     ensures { result ≡ shared_columns parts.now }
 {

@@ -2,7 +2,7 @@
 
 ghost use Rattle.lc_sums.specs.Laws.{SumOrderLaw};
 
-/// The law that the sum of reports does not depend on their order, nor does whether they can be summed.
+/// The law that the order of reports changes neither their sum nor whether they can be summed.
 pub fn a_sum_has_no_order()
     ensures { SumOrderLaw }
 {}

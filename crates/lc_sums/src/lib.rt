@@ -1,9 +1,9 @@
 //! The sum of several reports that were read.
 //!
-//! - `summing`: summing reports, or refusing them; `sum`: what is summed; `sum_fault`: why reports are refused
+//! - `summing`: summing reports, or refusing them; `sum`: the sum; `sum_fault`: why reports are refused
 //! - `part`: a report with its name; `needs`: what is needed of each report
-//! - `columns`: the columns of reports; `lists`: their lists; `paths`: files with the same path; `class_totals`: the sums over text and
-//!   over binary files
+//! - `columns`, `lists`, `paths`: refusing reports that lack a column or a list, or that list files with the same path
+//! - `class_totals`: the sums over text and over binary files
 //! - `laws`: a law of the definitions that the contracts cite
 #![tactic(auto)]
 

@@ -1,4 +1,4 @@
-//! The lists of reports.
+//! Comparing the lists of reports with the needed ones.
 
 ghost use Rattle.std.specs.Prelude.{◌≡◌, MatchResult};
 ghost use Rattle.std.specs.List.{find};
@@ -24,7 +24,7 @@ fn first_without_skipped<'p, 'n>(parts: &'p [Part<'n>]) -> Option<&'p Part<'n>>
     parts.iter().find(|part| !part.report.report.lists.left_out)
 }
 
-/// Refuses reports if files are needed and one lists none.
+/// Refuses reports if files are needed and one report lists no files.
 fn refuse_files<'n>(needs: Needs, parts: &[Part<'n>]) -> Result<(), SumFault<'n>>
     ensures { MatchResult result (λ done. HaveFiles needs parts.now) (LacksLists needs parts.now) }
 {
@@ -36,7 +36,7 @@ fn refuse_files<'n>(needs: Needs, parts: &[Part<'n>]) -> Result<(), SumFault<'n>
     Ok(())
 }
 
-/// Refuses reports if one lacks a needed list: that of files, or else that of skipped entries.
+/// Refuses reports if one lacks a needed list. The list of files is tested before that of skipped entries.
 pub(crate) fn refuse_lists<'n>(needs: Needs, parts: &[Part<'n>]) -> Result<(), SumFault<'n>>
     ensures { MatchResult result (λ done. HaveLists needs parts.now) (LacksLists needs parts.now) }
 {

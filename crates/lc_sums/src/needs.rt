@@ -1,4 +1,4 @@
-//! What is needed of each report.
+//! What a sum needs of each report.
 
 ghost use Rattle.std.specs.Prelude.{◌≡◌};
 ghost use Rattle.std.specs.List.{list_any};
@@ -38,7 +38,7 @@ fn is_on_eol(condition: &Condition<'_>) -> bool
     matches!(condition.column, Column::Eol)
 }
 
-/// Returns whether a condition is on a column of rows.
+/// Returns whether a condition is on a column that rows are grouped by.
 fn is_on_key(condition: &Condition<'_>) -> bool
     ensures { result ≡ is_on_key condition.now }
 {
@@ -63,9 +63,9 @@ fn test_keys(conditions: &[Condition<'_>]) -> bool
     conditions.iter().any(|condition| is_on_key(condition))
 }
 
-/// Returns the columns that the conditions need.
+/// Returns the columns of rows that are needed to test these conditions.
 ///
-/// A condition on a column of rows also needs the column `Eol`, because text and binary files that meet it are summed anew.
+/// A condition on a column of rows also needs the column `Eol`, because text and binary files that meet the condition are summed anew.
 fn tested_columns(conditions: &[Condition<'_>]) -> RowColumns
     ensures { result ≡ tested_columns conditions.now }
 {
@@ -76,7 +76,7 @@ fn tested_columns(conditions: &[Condition<'_>]) -> RowColumns
     }
 }
 
-/// Returns the columns of rows among those that were requested.
+/// Returns those of the requested columns that rows are grouped by.
 fn named_columns(by: Option<Columns>) -> RowColumns
     ensures { result ≡ named_columns by }
 {

@@ -1,4 +1,4 @@
-//! Files with the same path.
+//! Refusing reports that list two files with the same path.
 
 ghost use Rattle.std.specs.Prelude.{◌≡◌, ◌++◌, map, option_map, IfOk, MatchResult, OnOk};
 ghost use Rattle.std.specs.List.Sorted.{IsPermutation, IsSortedByKey};
@@ -26,7 +26,7 @@ impl<'p> Model for Listed<'p> {
     ghost view = { λ l. l.path.now };
 }
 
-/// Adds the paths of files.
+/// Appends the paths of these files.
 fn push_paths<'p>(files: &'p [FileLine], paths: &mut Vec<Listed<'p>>) -> Result<(), AllocError>
     ensures { OnOk result (paths.new.items ≡ paths.old.items ++ map (λ f. f.path) files.entry.now) }
 {
@@ -38,7 +38,7 @@ fn push_paths<'p>(files: &'p [FileLine], paths: &mut Vec<Listed<'p>>) -> Result<
     Ok(())
 }
 
-/// Gathers the paths of all listed files.
+/// Returns the paths of all files that the reports list.
 fn paths_of<'p>(alloc: Global, parts: &'p [Part<'_>]) -> Result<Vec<Listed<'p>>, AllocError>
     ensures { IfOk result (λ paths. paths.items ≡ paths_of parts.entry.now) }
 {
@@ -51,7 +51,7 @@ fn paths_of<'p>(alloc: Global, parts: &'p [Part<'_>]) -> Result<Vec<Listed<'p>>,
     Ok(paths)
 }
 
-/// Sorts paths. The sort is a stable one, because it merges the paths of the reports, which are in order in each.
+/// Sorts paths. A stable sort is used, because it merges the paths of the reports, which each report has in order.
 fn sort(paths: &mut Vec<Listed<'_>>) -> Result<(), AllocError>
     ensures same { IsPermutation paths.old.items paths.new.items }
     ensures order { OnOk result (IsSortedByKey (λ path. path) bytes_cmp paths.new.items) }
@@ -60,7 +60,7 @@ fn sort(paths: &mut Vec<Listed<'_>>) -> Result<(), AllocError>
     Ok(())
 }
 
-/// Returns whether a path is also the first of these.
+/// Returns whether a path is equal to the first of these others.
 fn is_first(path: &Listed<'_>, others: &[Listed<'_>]) -> bool
     ensures { result ≡ is_first path.now others.now }
 {
@@ -70,7 +70,7 @@ fn is_first(path: &Listed<'_>, others: &[Listed<'_>]) -> bool
     }
 }
 
-/// Returns the first path that is also the next one.
+/// Returns the first path that is equal to the next one.
 fn first_repeated<'p>(paths: &[Listed<'p>]) -> Option<&'p [u8]>
     ensures { option_map (λ path. path.now) result ≡ first_repeated paths.now }
 {

@@ -86,11 +86,11 @@ fn sum_of<'n>(alloc: Global, needs: Needs, parts: Vec<Part<'n>>) -> Result<Sum, 
 /// The sum is the joined report ([`joined`]) with the needed lists alone. It has the columns that each report has, and its `text` and
 /// `binary` are the sums of those of the reports.
 ///
-/// Errors but `Memory` are tested in the order of the variants of [`SumFault`], each over all reports. So a report without a needed
+/// Errors other than `Memory` are tested in the order of the variants of [`SumFault`], each over all reports. So a report without a needed
 /// column is refused before another without files. Two listed files with the same path are refused whether or not files are needed: they
 /// may be one file, which would be counted twice.
 ///
-/// It allocates memory for references to the paths and for the lists of the sum, but not for paths.
+/// The function allocates memory for references to the paths and for the lists of the sum, but not for paths.
 ///
 /// ```
 /// let sum = summed(alloc, parts, Needs::of(None, &[], false, false))?;
