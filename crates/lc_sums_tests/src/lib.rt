@@ -1,4 +1,4 @@
-//! The tests of sums of reports.
+//! Tests of sums of reports.
 #![tactic(auto)]
 
 #[cfg(test)]

@@ -1,7 +1,7 @@
-//! Reports, the sum of them, and why some are not summed.
+//! Tests of the sum of several reports, and of why some reports are not summed.
 //!
-//! - `texts`: reports in JSON, which several tests share; `reading`: making parts of them
-//! - `summed`: reports that are summed; `refusals`: reports that are not; `needs`: what is needed of reports
+//! - `texts`: reports in JSON, which several tests share; `reading`: reading these texts as parts of a sum
+//! - `summed`: reports that are summed; `refusals`: reports that are refused; `needs`: what a sum needs of each report
 
 mod needs;
 mod reading;

@@ -1,4 +1,4 @@
-//! What is needed of reports for a table.
+//! Tests of what a table needs of the reports that are summed.
 
 use lc_reading::RowColumns;
 use lc_sheet::{Column, Columns, Comparison, Condition, Number, Test};

@@ -1,13 +1,13 @@
-//! Parts that are read of JSON.
+//! Reading the parts of a sum from JSON.
 
 use lc_reading::{ReadFault, read_reports};
 use lc_sums::Part;
 use std::alloc::{AllocError, Global};
 
-/// A name, and the JSON of its reports.
+/// The name of an input, and its reports in JSON.
 pub(super) type Text = (&'static str, &'static str);
 
-/// Reads the reports of texts. A text that is no report has none.
+/// Reads the reports of these texts. A text that is no report adds none.
 pub(super) fn parts_of(alloc: Global, texts: &[Text]) -> Result<Vec<Part<'static>>, AllocError> {
     let mut parts = Vec::new(alloc);
     for (origin, text) in texts {

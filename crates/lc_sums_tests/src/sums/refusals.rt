@@ -1,4 +1,4 @@
-//! Reports that are not summed, and why.
+//! Tests of reports that are not summed, and of the errors for them.
 
 use crate::sums::reading::{Text, parts_of};
 use crate::sums::texts::{BY_EOL, BY_EXT, FILES, LARGEST, SKIPPED};
@@ -63,7 +63,7 @@ const LEFT_OUT: Needs = Needs {
     ..NOTHING
 };
 
-/// What is needed, the reports, and what is said.
+/// What a sum needs of each report, the reports, and the expected message.
 type Case = (Needs, &'static [Text], &'static str);
 
 const CASES: &[Case] = &[
@@ -133,7 +133,7 @@ fn column_name(column: Column) -> &'static str {
     }
 }
 
-/// Returns what is said of reports, which is empty if they are summed.
+/// Returns the error message about these reports, or an empty one if they are summed.
 fn said_of(alloc: Global, needs: Needs, texts: &[Text]) -> Result<String, AllocError> {
     let parts = parts_of(alloc, texts)?;
     match summed(alloc, parts, needs) {

@@ -1,4 +1,4 @@
-//! Reports that are summed.
+//! Tests of reports that are summed.
 
 use crate::sums::reading::{Text, parts_of};
 use crate::sums::texts::{BY_EOL, BY_EXT, FILES, SKIPPED};

@@ -1,6 +1,6 @@
-//! Reports in JSON.
+//! Reports in JSON, for the tests of sums.
 
-/// A report by extension, which lists nothing.
+/// A report with rows by extension, without lists of files and of skipped entries.
 pub(super) const BY_EXT: &str =
     "{\"rows\":[{\"ext\":\".c\",\"files\":2,\"lines\":9,\"blank\":1,\"bytes\":60}],\
     \"total\":{\"files\":2,\"lines\":9,\"blank\":1,\"bytes\":60},\
@@ -8,7 +8,7 @@ pub(super) const BY_EXT: &str =
     \"binary\":{\"files\":1,\"lines\":2,\"blank\":0,\"bytes\":10},\
     \"directories\":1,\"faults\":[{\"word\":\"read\",\"path\":\"ext\"}]}";
 
-/// A report by line ends, which lists nothing.
+/// A report with rows by line ends, without lists of files and of skipped entries.
 pub(super) const BY_EOL: &str =
     "{\"rows\":[{\"eol\":\"lf\",\"files\":3,\"lines\":4,\"blank\":0,\"bytes\":20},\
     {\"eol\":\"nul\",\"files\":1,\"lines\":1,\"blank\":0,\"bytes\":8}],\
@@ -17,7 +17,7 @@ pub(super) const BY_EOL: &str =
     \"binary\":{\"files\":1,\"lines\":1,\"blank\":0,\"bytes\":8},\
     \"directories\":2,\"faults\":[]}";
 
-/// A report of files by all columns.
+/// A report that lists its files, with rows by all columns.
 pub(super) const FILES: &str =
     "{\"rows\":[{\"ext\":\".c\",\"text\":null,\"eol\":\"lf\",\"files\":2,\"lines\":5,\"blank\":2,\"bytes\":30}],\
     \"total\":{\"files\":2,\"lines\":5,\"blank\":2,\"bytes\":30},\
@@ -28,7 +28,7 @@ pub(super) const FILES: &str =
     {\"path\":\"src/b.c\",\"text\":null,\"eol\":\"lf\",\"lines\":3,\"blank\":1,\"bytes\":20}],\
     \"faults\":[]}";
 
-/// A report of a file and a skipped entry, by extension.
+/// A report that lists a file and a skipped entry, with rows by extension.
 pub(super) const SKIPPED: &str =
     "{\"rows\":[{\"ext\":\".c\",\"files\":1,\"lines\":1,\"blank\":0,\"bytes\":4}],\
     \"total\":{\"files\":1,\"lines\":1,\"blank\":0,\"bytes\":4},\
@@ -39,7 +39,7 @@ pub(super) const SKIPPED: &str =
     \"left\":[{\"path\":\"gen\",\"kind\":\"dir\",\"reason\":\"rule\",\"file\":\".gitignore\",\"line\":1}],\
     \"faults\":[]}";
 
-/// A report of as many files as there may be.
+/// A report that counts as many files as a report can.
 pub(super) const LARGEST: &str =
     "{\"rows\":[{\"ext\":\".c\",\"files\":18446744073709551615,\"lines\":0,\"blank\":0,\"bytes\":0}],\
     \"total\":{\"files\":18446744073709551615,\"lines\":0,\"blank\":0,\"bytes\":0},\
