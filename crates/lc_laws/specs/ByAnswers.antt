@@ -1,4 +1,4 @@
--- What is said of a path by given answers: one state of a tree's directories, as far as an explanation asked for it.
+-- The explanation of a path by given answers: one state of a tree's directories, as far as an explanation asked for it.
 use Rattle.std.specs.Prelude.{◌≡◌, ℕ, Bool, List, [], ◌∷◌, ◌++◌, Result, Ok, Err}
 use Rattle.std.specs.List.{Contains}
 use Rattle.lc_paths.specs.Explanations.Answers.{MaySay}
@@ -23,11 +23,11 @@ use Rattle.lc_walk.specs.FoundAt.{LeadsTo}
 
 -- ---- an explanation
 
--- a directory is entered by the answers that a tree has at its place
+-- a directory is entered by the answers that a tree has for its place
 abbrev pub EntersBy : Tree → JobModel → Result OpenDirModel FaultLineModel → Type 0
 EntersBy u j entered = open_dir j (u (names_of_path j.path)) ≡ entered
 
--- and that its listings and files may give
+-- a directory is entered by answers that the tree's listings and files may give
 pub record EntersGiven (lists : List ℕ → Listings) (gives : List ℕ → Contents) (u : Tree) (j : JobModel)
     (entered : Result OpenDirModel FaultLineModel) : Type 0 where
   pub may : MayAnswer lists gives j.path (u (names_of_path j.path))
@@ -35,29 +35,29 @@ pub record EntersGiven (lists : List ℕ → Listings) (gives : List ℕ → Con
   pub enters : EntersBy u j entered
 
 module _ (q : ExplainOptions) where
-  -- where an explanation begins, and what it leaves out: it looks at a whole tree
+  -- the job with which an explanation begins; and its filters, for a whole tree
   abbrev pub top_asked : JobModel
   top_asked = top_job q.filters.now
 
   abbrev pub whole_asked : FiltersModel
   whole_asked = narrowed q.filters.now []
 
-  -- what is said of a path, where directories are entered so
+  -- `x` is the explanation of a path, if directories are entered by `Enters`
   abbrev pub SaysEntering : (JobModel → Result OpenDirModel FaultLineModel → Type 0) → List ℕ → Bool → Explanation → Type 0
   SaysEntering Enters path as_dir x = IsExplained Enters q.filters.now path as_dir x
 
-  -- by the answers of a tree
+  -- `x` is the explanation of a path by the answers of a tree
   abbrev pub SaysBy : Tree → List ℕ → Bool → Explanation → Type 0
   SaysBy u path as_dir x = SaysEntering (EntersBy u) path as_dir x
 
-  -- by some answers that a tree may give
+  -- `x` is the explanation of a path by some answers that a tree may give
   pub record IsSaidByAnswers (lists : List ℕ → Listings) (gives : List ℕ → Contents) (path : List ℕ) (as_dir : Bool) (x : Explanation)
       : Type 0 where
     pub answers : Tree
     pub says : SaysBy answers path as_dir x
     pub given : SaysEntering (EntersGiven lists gives answers) path as_dir x
 
--- so is all that may be said
+-- each explanation that a path may have follows from some answers that the tree may give
 abbrev pub SaidByAnswersLaw : (List ℕ → Listings) → (List ℕ → Contents) → Type 0
 SaidByAnswersLaw lists gives =
     (q : ExplainOptions) (path : List ℕ) (as_dir : Bool) (x : Explanation) → MaySay lists gives q path as_dir x
@@ -65,7 +65,7 @@ SaidByAnswersLaw lists gives =
 
 -- ---- two states of a tree
 
--- what is read of the directory of a job before its files are counted: its entries and the bytes of its rule files, or the first fault
+-- what is read of a job's directory before its files are counted: its entries and the bytes of its rule files, or the first error
 abbrev pub read_after : List Item → Result RuleBytes FaultLineModel → Result (List EntryModel × RuleBytes) FaultLineModel
 read_after items (Ok files) = Ok (entries_of items, files)
 read_after items (Err fault) = Err fault
@@ -77,19 +77,20 @@ read_of j a (Err word) = Err (record { path = j.path; word = word })
 abbrev pub what_is_read : JobModel → Answers → Result (List EntryModel × RuleBytes) FaultLineModel
 what_is_read j a = read_of j a a.here
 
--- the kind of a name that others follow, or else this
+-- the kind of a name in a path: a directory if other names follow it, or else `kind`
 abbrev pub kind_before : Kind → List (List ℕ) → Kind
 kind_before kind [] = kind
 kind_before kind (next ∷ names) = Dir
 
 module _ (s : FiltersModel) (top : JobModel) (t : Tree) where
-  -- the same is read by both of each directory on the way to a path to which names lead
+  -- the same is read from both trees, of each directory on the way to a path to which names lead
   abbrev pub AgreeOnWay : Tree → List ℕ → Type 0
   AgreeOnWay u path =
       (place : List (List ℕ)) (name : List ℕ) (names : List (List ℕ)) (k : JobModel) → segments_of path ≡ place ++ name ∷ names
       → LeadsTo s top t place k → what_is_read k (t place) ≡ what_is_read k (u place)
 
-  -- each directory on the way to a path that is listed has the next name: the last as an entry of this kind, any other as a directory
+  -- the tree has an entry with this path and kind: each directory on the way that is listed has the next name, the last as an entry of this
+  -- kind, and any other as a directory
   abbrev pub IsEntryBy : List ℕ → Kind → Type 0
   IsEntryBy path kind =
       (place : List (List ℕ)) (name : List ℕ) (names : List (List ℕ)) (k : JobModel) (items : List Item)

@@ -1,4 +1,4 @@
--- That a count and a check agree, where the only ignore file is the top's `.gitignore`.
+-- The law that a count and a check agree, if the only ignore file is the top's `.gitignore`.
 use Rattle.std.specs.Prelude.{◌≡◌, ◌⊎◌, ℕ, true, false, List, [], ◌∷◌, Option, Some, None, Ok, codes}
 use Rattle.std.specs.List.{Contains}
 use Rattle.lc_glob.specs.Path.{segments_of}
@@ -34,47 +34,48 @@ pub record HasTopRules (lists : List ℕ → Listings) (gives : List ℕ → Con
   pub no_info : HasListed lists (codes ".git/info") (codes "exclude") File → ⊥
   pub no_other : (directory : List ℕ) → (directory ≡ [] → ⊥) → HasListed lists directory (codes ".gitignore") File → ⊥
 
--- of a directory at a place the bytes of its `.gitignore` are these if it is the top, and else there is none
+-- the bytes of the `.gitignore` of a directory at this place: `bytes` at the top, and none elsewhere
 abbrev pub text_at : List ℕ → List (List ℕ) → Option (List ℕ)
 text_at bytes [] = Some bytes
 text_at bytes (name ∷ place) = None
 
--- the same by answers, of each directory that a walk lists
+-- by the answers of a tree, the only ignore file of the directories that a walk lists is the top's `.gitignore`, with these bytes
 abbrev pub ReadsTopRules : FiltersModel → JobModel → Tree → List ℕ → Type 0
 ReadsTopRules s top t bytes =
     (place : List (List ℕ)) (k : JobModel) (items : List Item) (files : RuleBytes) → LeadsTo s top t place k → (t place).here ≡ Ok items
     → rule_bytes k.ignore.no_ignore k.path items (t place) ≡ Ok files → (files.info.rules ≡ None) × (files.own.rules ≡ text_at bytes place)
 
--- a count that lists what it leaves out, by the rules of the tree alone
+-- a count that lists what it skips, by the rules of the tree alone
 pub record AsksRulesAlone (o : Options) : Type 0 where
   pub left_out : o.lists.left_out ≡ true
   pub filters : (asked_by o).filters ≡ no_filters
 
--- a check by the rules of a file says `ignored` of a path of this kind, or `below`
+-- a check by these rules answers `ignored` or `below` for a path of this kind
 abbrev pub IsCheckedOut : List RuleModel → List ℕ → Kind → Type 0
 IsCheckedOut rules path kind =
     (path_word (file_verdict rules) path (is_dir kind) ≡ codes "ignored")
     ⊎ (path_word (file_verdict rules) path (is_dir kind) ≡ codes "below")
 
--- a report has the path as left out by a rule, or a directory above it
+-- a report has the path, or a directory above it, as skipped by a rule
 abbrev pub IsRuledOut : Report → List ℕ → Type 0
 IsRuledOut r path =
     (source : RuleSource) × (line : ℕ) × (IsSkipped r path (by_rule source line) ⊎ IsSkippedAbove r path (by_rule source line))
 
--- where nothing is at fault these are the same of a path that is not bad, and neither named `.git` nor below one of this name
+-- if nothing had an error, the check says that a path is ignored exactly if the report says so. The path is not bad, and none of its names
+-- is `.git`
 abbrev pub CheckAgrees : Report → List RuleModel → List ℕ → Kind → Type 0
 CheckAgrees r rules path kind =
     r.faults.items ≡ [] → is_bad_path path ≡ false → (Contains (segments_of path) (codes ".git") → ⊥)
     → (IsCheckedOut rules path kind → IsRuledOut r path) × (IsRuledOut r path → IsCheckedOut rules path kind)
 
--- so it is of each entry, by the report by some answers
+-- the check agrees for each entry with the report by given answers
 abbrev pub AnswersCheckedLaw : Type 0
 AnswersCheckedLaw =
     (t : Tree) (bytes : List ℕ) (o : Options) (r : Report) → AsksRulesAlone o → HasListings (asked_by o).filters (top_of o) t
     → ReadsTopRules (asked_by o).filters (top_of o) t bytes → IsReportBy t o r → (path : List ℕ) (kind : Kind)
     → IsEntryBy (asked_by o).filters (top_of o) t path kind → CheckAgrees r (rules_of bytes) path kind
 
--- and by that of a tree that answers in one way
+-- the check agrees for each entry with the report of a walk of a tree that always answers a question in the same way
 abbrev pub CheckedLaw : (List ℕ → Listings) → (List ℕ → Contents) → Type 0
 CheckedLaw lists gives =
     GivesOne lists gives → (bytes : List ℕ) → HasTopRules lists gives bytes → (o : Options) (r : Report) → AsksRulesAlone o

@@ -8,7 +8,7 @@ use Rattle.lc_tree.specs.declared.entry.Kind.{Kind}
 use Rattle.lc_tree.specs.declared.entry.Kind.TheVariants.{Dir}
 
 module _ (lists : List ℕ → Listings) where
-  -- the directory at a path may be listed with an entry of this name and kind
+  -- the listing of the directory at a path may have an entry of this name and kind
   abbrev pub HasListed : List ℕ → List ℕ → Kind → Type 0
   HasListed directory name kind =
       (entries : List EntryModel) × lists directory (Ok entries) × Contains entries (record { name = name; kind = kind })

@@ -1,4 +1,4 @@
--- What a walk of included files has as errors and as skipped, by what the walk of all files has.
+-- The errors and the skipped entries of a walk of included files, by those of the walk of all files.
 use Rattle.std.specs.Prelude.{◌≡◌, ◌⊎◌, ◌<◌, ℕ, Bool, true, false, List, length, Option, None, option_map, ⊤}
 use Rattle.std.specs.List.{Contains}
 use Rattle.lc_glob.specs.Path.{path_in}
@@ -19,7 +19,7 @@ abbrev pub includes : Option (List ℕ) → List ℕ → List ℕ → Bool
 includes patterns directory name =
     is_included (patterns_for (option_map rules_of patterns) directory) (path_in directory name)
 
--- a file is read: it is counted, or could not be read
+-- a file with this fate is read: it is counted, or could not be read
 abbrev pub IsRead : Fate → Type 0
 IsRead (counted f) = ⊤
 IsRead (failed word) = ⊤
@@ -33,7 +33,7 @@ pub record IsEntered (filters : FiltersModel) (depth : ℕ) (top : JobModel) (t 
   pub leads : LeadsTo filters top t place job
 
 module _ (filters : FiltersModel) (patterns : Option (List ℕ)) (depth : ℕ) (top : JobModel) (t : Tree) where
-  -- the walk of all files, and that of the included ones
+  -- the filters of the walk of all files, and those of the walk of included files
   abbrev pub whole : FiltersModel
   whole = including filters None
 
@@ -83,7 +83,7 @@ module _ (filters : FiltersModel) (patterns : Option (List ℕ)) (depth : ℕ) (
         × (Contains (walk_of whole depth top t) (found_skipped directory l) ⊎ IsUnincluded directory l
         → Contains (walk_of part depth top t) (found_skipped directory l))
 
--- so it is of each walk
+-- `AreIncludedEntries` is true of each walk
 abbrev pub IncludedEntriesLaw : Type 0
 IncludedEntriesLaw =
     (filters : FiltersModel) (patterns : Option (List ℕ)) (depth : ℕ) (top : JobModel) (t : Tree)

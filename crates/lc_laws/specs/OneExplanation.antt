@@ -1,4 +1,4 @@
--- That a path has one explanation.
+-- The law that a path has one explanation.
 use Rattle.std.specs.Prelude.{◌≡◌, ℕ, Bool, List}
 use Rattle.lc_paths.specs.Explanations.Answers.{MaySay}
 use Rattle.lc_paths.specs.Explanations.Explained.{Explanation}
@@ -9,13 +9,14 @@ use Rattle.lc_tree.specs.Trees.{Listings, Contents}
 use Rattle.lc_walk.specs.GivenAnswers.{HasListings}
 use Rattle.lc_laws.specs.ByAnswers.{top_asked, whole_asked, SaysBy, AgreeOnWay}
 
--- by the same question the same is said by two states of a tree of which the same is read on the way, with or without a slash at its end
+-- by the same options, a path has the same explanation in two states of a tree, if the same is read from both, of each directory on the way
+-- to the path. The path may have a slash at its end
 abbrev pub AnswersOneExplanationLaw : Type 0
 AnswersOneExplanationLaw =
     (t u : Tree) (q : ExplainOptions) (path : List ℕ) (as_dir : Bool) (x y : Explanation) → HasListings (whole_asked q) (top_asked q) t
     → AgreeOnWay (whole_asked q) (top_asked q) t u path → SaysBy q t path as_dir x → SaysBy q u path as_dir y → x ≡ y
 
--- so no two things may be said, where a tree answers in one way
+-- a path has one explanation, if the tree always answers a question in the same way
 abbrev pub OneExplanationLaw : (List ℕ → Listings) → (List ℕ → Contents) → Type 0
 OneExplanationLaw lists gives =
     GivesOne lists gives → (q : ExplainOptions) (path : List ℕ) (as_dir : Bool) (x y : Explanation)

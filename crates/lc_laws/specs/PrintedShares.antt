@@ -1,4 +1,4 @@
--- Shares, as a text for reading shows them.
+-- Shares of a total, as a text for reading shows them.
 use Rattle.std.specs.Prelude.{⊤, ◌≡◌, ◌≤◌, ℕ, List}
 use Rattle.std.specs.List.{All}
 use Rattle.lc_formats.specs.Cells.{shown_text}
@@ -12,7 +12,7 @@ use Rattle.lc_tree.specs.Trees.{Listings, Contents}
 use Rattle.lc_walk.specs.declared.options.Options.{Options}
 use Rattle.lc_walk.specs.declared.report.Report.{Report}
 
--- the text of a share is that of at most 1,000 tenths of a per cent
+-- if a value is a share, its text is that of at most 1,000 tenths of a per cent
 abbrev pub IsPrintedWithin : ValueModel → Type 0
 IsPrintedWithin missing = ⊤
 IsPrintedWithin summed = ⊤
@@ -28,13 +28,13 @@ IsPrintedWithin (difference old new) = ⊤
 abbrev pub AreSharesWithin : SectionModel → Type 0
 AreSharesWithin section = All (λ (line : List ValueModel). All IsPrintedWithin line) section.lines
 
--- so is each share of the rows and the sums of a sheet
+-- each share in the rows and the sums of a sheet is printed as at most 100.0 per cent
 pub record PrintsShares (s : SheetModel) : Type 0 where
   pub rows : AreSharesWithin s.rows
   pub others : AreSharesWithin s.others
   pub totals : AreSharesWithin s.totals
 
--- and of each sheet of the report of a walk, and of what meets conditions of it
+-- the shares of each sheet of a walk's report, or of the part of it that meets conditions, are printed as at most 100.0 per cent
 abbrev pub PrintedSharesLaw : (List ℕ → Listings) → (List ℕ → Contents) → Type 0
 PrintedSharesLaw lists gives =
     (o : Options) (options : TableOptions) (r : Report) (s : SheetModel) → IsOfWalk lists gives o r → ListsFilesFor o options

@@ -1,4 +1,4 @@
--- A report that is printed as JSON and read is that report.
+-- The law that a report is the same after it was printed as JSON and read again.
 use Rattle.std.specs.Prelude.{◌≡◌, ◌<◌, ◌^◌, ◌++◌, ℕ, true, List, [], ◌∷◌, map, Option, None, option_map}
 use Rattle.std.specs.Bool.{MatchBool}
 use Rattle.std.specs.List.{All}
@@ -84,7 +84,7 @@ skipped_text l = record {
   attribute = attribute_of l.reason;
 }
 
--- the skipped entries and the number of entries are the same where they were printed; else there are none
+-- the skipped entries and the number of entries are the same, if they were printed; else there are none
 pub record HasSkippedOf (r read : Report) : Type 0 where
   pub entries : read.entries ≡ r.entries
   pub skipped : map skipped_text read.skipped.items ≡ map skipped_text r.skipped.items
@@ -119,8 +119,8 @@ pub record IsReadFrom (r : Report) (reports : List ReadReport) : Type 0 where
   pub one : reports ≡ read ∷ []
   pub is : IsReadBack r read
 
--- so it is with the report of each walk that lists its files, and with what meets conditions of it: if a text is a document of its sheet
--- and a line feed, as `json_text` writes it, and these reports are in the text, as `read_reports` reads it, then they are this one report
+-- the report of each walk that lists its files, and the part of it that meets conditions, is read back. A text is a document of its sheet
+-- and a line feed, as `json_text` writes it. If these reports are in the text, as `read_reports` reads it, they are this one report
 abbrev pub ReadBackLaw : (List ℕ → Listings) → (List ℕ → Contents) → Type 0
 ReadBackLaw lists gives =
     (o : Options) (options : TableOptions) (r : Report) (s : SheetModel) (text : List ℕ) (reports : List ReadReport)

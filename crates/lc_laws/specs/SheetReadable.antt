@@ -20,26 +20,26 @@ HasByteName (by_attribute name) = AreBytes name
 HasByteName not_included = ⊤
 HasByteName (other_kind what) = ⊤
 
--- the bytes of the names of a row, and of an entry that is skipped
+-- the names of a row consist of bytes; so do those of a skipped entry
 abbrev pub HasByteNames : ShownRowModel → Type 0
 HasByteNames row = AreBytes (unwrap_or row.directory []) × IfSome row.key.extension AreBytes
 
 abbrev pub HasSkippedBytes : SkippedLineModel → Type 0
 HasSkippedBytes l = AreBytes l.path × HasByteName l.reason
 
--- rows and sums in the same columns, and lists whose last column ends its line
+-- a sheet has rows and sums in the same columns, and lists whose last column ends its line
 pub record IsReadableSheet (s : SheetModel) : Type 0 where
   pub tabular : IsTabular s
   pub files_listed : IfSome s.files IsListed
   pub skipped_listed : IsListed s.skipped
   pub faults_listed : IsListed s.faults
 
--- so the laws of the widths of a text in columns hold of each report
+-- the sheet of each report is readable, so the laws of the widths of a text in columns hold of it
 abbrev pub ReadableSheetLaw : Type 0
 ReadableSheetLaw =
     (options : TableOptions) (r : Report) (v : ViewModel) → options.format ≡ Table → All HasByteNames v.rows
     → All HasSkippedBytes r.skipped.items → IsReadableSheet (sheet_of options r v)
 
--- what a text as CSV shows of a report has columns, and a value in each: so a reader gives its records back
+-- the part of a report's sheet that a text as CSV shows has columns, and a value in each: so a reader gets its records back
 abbrev pub SheetRecordsLaw : Type 0
 SheetRecordsLaw = (options : TableOptions) (r : Report) (v : ViewModel) → HasColumns (csv_section (sheet_of options r v))

@@ -1,7 +1,7 @@
 //! Laws of the definitions that the contracts cite. The functions do nothing: their contracts are what is proved.
 //!
-//! The clauses `answers` are about given answers: one state of a tree's directories for a count, and one for an explanation. Each report
-//! and each explanation is made from such answers, which its tree may give (`lc_walk::reports_are_by_given_answers`,
+//! The clauses `answers` are about given answers of a tree: one state of its directories for a count, and one for an explanation. Each
+//! report and each explanation is made from such answers, which its tree may give (`lc_walk::reports_are_by_given_answers`,
 //! [`explanations_are_by_given_answers`]). The clauses `tree` are about a tree that always answers a question in the same way, such as an
 //! in-memory tree.
 
@@ -33,7 +33,7 @@ pub fn one_answer_is_one_explanation<T: Tree>(tree: &T)
     let _tree = tree;
 }
 
-/// The law that a slash at the end of a directory's path does not change the explanation, if the answers are the same.
+/// The law that a slash at the end of a directory's path does not change the explanation, if the tree's answers are the same.
 pub fn slashes_of_directories_say_nothing<T: Tree>(tree: &T)
     ensures answers { AnswersSlashLaw }
     ensures tree { SlashLaw (T.lists tree.now) (T.gives tree.now) }
@@ -42,7 +42,8 @@ pub fn slashes_of_directories_say_nothing<T: Tree>(tree: &T)
 }
 
 /// The law that a count and an explanation agree on each path if the same was read from each directory on the way to the path. A counted
-/// file is explained as taken, and a skipped entry by the same reason. The explanation of an entry shows where the report has it.
+/// file is explained as one that is not skipped, and a skipped entry by the reason in the report. The explanation of an entry shows in
+/// which list the report has the entry.
 pub fn counts_are_as_explained<T: Tree>(tree: &T)
     ensures answers { AnswersExplainedLaw }
     ensures tree { ExplainedLaw (T.lists tree.now) (T.gives tree.now) }
@@ -73,8 +74,8 @@ pub fn no_ignore_file_of_the_tree_skips_an_entry<T: Tree>(tree: &T)
     the_rule_of_a_line_ignores_it();
 }
 
-/// The law that the errors of a walk of included files, as with `--include`, are those of directories and of included files. The walk skips
-/// what the walk of all files skips, for the same reasons, and also the files that are not included.
+/// The law that the errors of a walk of included files, as with `--include`, are those of directories and of included files. Such a walk
+/// skips what the walk of all files skips, for the same reasons, and also the files that are not included.
 pub fn errors_and_skipped_entries_are_those_of_included_files()
     ensures { IncludedEntriesLaw }
 {

@@ -1,11 +1,12 @@
-//! The law that relates the text of a report as JSON to what is read of it. The function does nothing: its contract is what is proved.
+//! The law that relates the JSON text of a report to what is read from that text. The function does nothing: its contract is what is
+//! proved.
 
 ghost use Rattle.lc_laws.specs.ReadBack.{ReadBackLaw};
 
 use lc_tree::Tree;
 
-/// The law that a report printed as JSON and read is that report, for the report of a walk and for the part of it that meets conditions.
-/// The table must list all files and all rows.
+/// The law that a report is the same after it was printed as JSON and read again, as far as JSON shows its skipped entries. This holds for
+/// the report of a walk and for the part of the report that meets conditions. The table must list all files and all rows.
 pub fn reports_read_back<T: Tree>(tree: &T)
     ensures { ReadBackLaw (T.lists tree.now) (T.gives tree.now) }
 {
