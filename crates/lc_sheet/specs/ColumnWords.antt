@@ -1,4 +1,4 @@
--- The words of columns, and their sides.
+-- The names and headings of columns, and the sides at which their values are aligned.
 use Rattle.std.specs.Prelude.{ℕ, List, [], ◌++◌, codes}
 use Rattle.lc_sheet.specs.declared.column.Number.{Number as NumberColumn}
 use Rattle.lc_sheet.specs.declared.column.Number.TheVariants.{Files, Lines, Blank, Bytes}
@@ -16,7 +16,7 @@ number_name Lines = codes "lines"
 number_name Blank = codes "blank"
 number_name Bytes = codes "bytes"
 
--- what is compared, and its names in two reports
+-- the name of a compared value; its names in the old report and in the new one are below
 abbrev pub compared_name : Compared → List ℕ
 compared_name compared.Text = codes "text"
 compared_name compared.Eol = codes "eol"
@@ -31,7 +31,7 @@ new_name c = codes "new_" ++ compared_name c
 abbrev pub difference_name : NumberColumn → List ℕ
 difference_name n = number_name n ++ codes "_change"
 
--- for programs
+-- the name of a column in the formats that programs read
 abbrev pub column_name : Column → List ℕ
 column_name Dir = codes "dir"
 column_name Ext = codes "ext"
@@ -55,7 +55,7 @@ column_name (Old c) = old_name c
 column_name (New c) = new_name c
 column_name (Difference n) = difference_name n
 
--- for people
+-- the heading of a column in the formats that people read
 abbrev pub heading : Column → List ℕ
 heading Bar = []
 heading Path = codes "file"
@@ -68,7 +68,7 @@ heading (New c) = compared_name c
 heading (Difference n) = []
 heading column = column_name column
 
--- numbers are at the right, and paths end their lines
+-- the side at which a column's values are aligned: numbers at the right, words at the left; paths end their lines
 abbrev pub side_of : Column → Side
 side_of (Number n) = Right
 side_of Share = Right

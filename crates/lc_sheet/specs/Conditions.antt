@@ -1,4 +1,4 @@
--- Conditions on files: a column, and a test of what a file has there.
+-- Conditions on files: a column, and a test of a file's value in the column.
 use Rattle.std.specs.Prelude.{ℕ, Bool, true, false, not, nat_le, nat_eq, List, ◌++◌, codes}
 use Rattle.std.specs.List.{list_any}
 use Rattle.std.specs.Str.{bytes_eq}
@@ -11,7 +11,7 @@ use Rattle.lc_sheet.specs.declared.condition.Comparison.TheVariants.{Less, AtMos
 use Rattle.lc_sheet.specs.declared.condition.Test.{Test}
 use Rattle.lc_sheet.specs.declared.condition.Test.TheVariants.{OneOf, NoneOf, Compared}
 
--- a value is one of some, or none of them; or a number compares so with another
+-- a test of a value: the value is one of these texts, or none of these texts, or its comparison with a number is true
 pub data TestModel : Type 0 where
   one_of : List (List ℕ) → TestModel
   none_of : List (List ℕ) → TestModel
@@ -21,7 +21,7 @@ pub record ConditionModel : Type 0 where
   pub column : Column
   pub test : TestModel
 
--- values have commas between them
+-- the byte that separates the texts of a test
 abbrev pub comma : ℕ
 comma = 44
 
@@ -38,7 +38,8 @@ compares Unequal n m = not (nat_eq n m)
 compares AtLeast n m = nat_le m n
 compares Greater n m = not (nat_le n m)
 
--- a command line names a value by a text: a hyphen where there is none; the word; or an extension with its dot
+-- whether a text names a value on a command line: a hyphen names a missing value, a word itself, and an extension with its dot the
+-- extension
 abbrev pub has_text : ValueModel → List ℕ → Bool
 has_text missing text = bytes_eq text (codes "-")
 has_text (word w) text = bytes_eq text w
@@ -49,7 +50,7 @@ abbrev pub number_of : ValueModel → ℕ
 number_of (number n) = n
 number_of other = 0
 
--- a value passes a test
+-- whether a value passes a test
 abbrev pub meets : TestModel → ValueModel → Bool
 meets (one_of texts) value = list_any (has_text value) texts
 meets (none_of texts) value = not (list_any (has_text value) texts)
@@ -59,7 +60,7 @@ abbrev pub is_number : Column → Bool
 is_number (column.Number n) = true
 is_number other = false
 
--- a condition on a number is on what only a file has by itself
+-- whether a condition is on a number; only files have such numbers, since rows have sums
 abbrev pub is_on_number : ConditionModel → Bool
 is_on_number c = is_number c.column
 

@@ -3,7 +3,7 @@ use Rattle.std.specs.Prelude.{ℕ, Bool, List, map, Option}
 use Rattle.lc_sheet.specs.Values.{ValueModel}
 use Rattle.lc_sheet.specs.declared.column.Column.{Column}
 
--- each line has as many values as there are columns
+-- a section: its columns, and for each line its values in these columns
 pub record SectionModel : Type 0 where
   pub columns : List Column
   pub lines : List (List ValueModel)
@@ -12,7 +12,7 @@ pub record SectionModel : Type 0 where
 abbrev pub line_of : {X : Type 0} → (X → Column → ValueModel) → List Column → X → List ValueModel
 line_of value columns line = map (value line) columns
 
--- and of each line
+-- the values of each line in each column
 abbrev pub lines_of : {X : Type 0} → (X → Column → ValueModel) → List Column → List X → List (List ValueModel)
 lines_of value columns lines = map (line_of value columns) lines
 
@@ -27,7 +27,7 @@ pub record SheetModel : Type 0 where
   pub skipped : SectionModel
   pub faults : SectionModel
 
--- a comparison of two reports: the rows, the sums over those that are cut off, where some are, the total, and the files
+-- a comparison of two reports: the rows, the sums over the rows that are cut off if there are any, the total, and the files
 pub record ComparisonModel : Type 0 where
   pub rows : SectionModel
   pub others : SectionModel

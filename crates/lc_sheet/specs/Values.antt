@@ -4,8 +4,8 @@ use Rattle.lc_sheet.specs.declared.value.Value.{Value}
 use Rattle.lc_sheet.specs.declared.value.Value.TheVariants as value
 use Rattle.lc_text.specs.Names.{NameModel, name_model}
 
--- a value of a line in a column: none; summed over the column; a column that does not apply; a word; bytes with what is printed before and
--- after them; a path; a number; a part of a whole, as a share or as a bar; an old number and a new one, as a change
+-- the value of a line in a column: no value; a sum over all values of the column; a column that does not apply; a word; bytes with what is
+-- printed before and after them; a path; a number; a part of a whole, as a share or as a bar; an old number and a new one, as a change
 pub data ValueModel : Type 0 where
   missing : ValueModel
   summed : ValueModel

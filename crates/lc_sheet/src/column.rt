@@ -1,10 +1,10 @@
-//! The columns of a sheet: their names, their headings and their sides.
+//! The columns of a sheet, with their names, their headings and the sides at which values are aligned.
 
 ghost use Rattle.std.specs.Prelude.{◌≡◌};
 ghost use Rattle.lc_sheet.specs.ColumnWords.{column_name, compared_name, difference_name, heading, new_name, number_name, old_name};
 ghost use Rattle.lc_sheet.specs.ColumnWords.{side_of};
 
-/// A number of a row or of a file. Rows and files are sorted by one of these, largest first.
+/// One of the numbers that a row or a file has. Rows and files can be sorted by one of these numbers, largest first.
 #[derive(Debug, Clone, Copy, PartialEq, Eq)]
 pub enum Number {
     /// The number of files.
@@ -17,14 +17,14 @@ pub enum Number {
     Bytes,
 }
 
-/// What is compared in two reports: a word or a number of a file, or a number of a row.
+/// Which value of a file or of a row is compared in two reports: a word or a number of a file, or a number of a row.
 #[derive(Debug, Clone, Copy, PartialEq, Eq)]
 pub enum Compared {
-    /// What the attribute `text` is for the file.
+    /// The state of the attribute `text` for the file.
     Text,
     /// How the file's lines end.
     Eol,
-    /// One of the numbers.
+    /// One of the numbers of a file or of a row.
     Number(Number),
 }
 
@@ -35,7 +35,7 @@ pub enum Side {
     Left,
     /// Numbers are at the right.
     Right,
-    /// The value ends its line, and is in no column.
+    /// Neither side: the value ends its line without padding, as paths do.
     End,
 }
 
@@ -46,29 +46,29 @@ pub enum Column {
     Dir,
     /// The extension of the files' names.
     Ext,
-    /// What the attribute `text` is for the files.
+    /// The state of the attribute `text` for the files.
     Text,
     /// How the files' lines end.
     Eol,
-    /// One of the numbers.
+    /// One of the numbers of a row or of a file.
     Number(Number),
-    /// The share of the total.
+    /// The line's share of the total.
     Share,
-    /// A bar as long as the number is large.
+    /// A bar whose length shows how large the line's number is.
     Bar,
     /// The path of a file, or of a skipped entry.
     Path,
-    /// What a skipped entry is.
+    /// What a skipped entry is: `file`, `dir` or `other`.
     Kind,
     /// Why an entry is skipped.
     Reason,
-    /// The place of the rule that skips an entry, or the attribute that does.
+    /// The file and line of the rule that skips an entry, or the attribute that skips the entry.
     Place,
-    /// The path of a skipped entry, with a slash if it is a directory.
+    /// The path of a skipped entry, with a slash at the end if the entry is a directory.
     Entry,
     /// The file of the rule that skips an entry.
     File,
-    /// The line of that rule.
+    /// The line number of the rule that skips an entry, in the rule's file.
     Line,
     /// The attribute that skips an entry.
     Attribute,
@@ -78,11 +78,11 @@ pub enum Column {
     Site,
     /// What became of a file from the old report to the new one: `added`, `removed` or `changed`.
     Change,
-    /// What a file or a row has in the old report.
+    /// The value of a file or of a row in the old report.
     Old(Compared),
-    /// What a file or a row has in the new report.
+    /// The value of a file or of a row in the new report.
     New(Compared),
-    /// The change of a number, with its sign. It follows the number, and has no heading.
+    /// The change of a number, with its sign. This column follows the column of the number, and has no heading.
     Difference(Number),
 }
 
@@ -179,7 +179,8 @@ impl Column {
         }
     }
 
-    /// Returns the heading of the column in the formats that people read. It is another word than the name, or none, for a few columns.
+    /// Returns the heading of the column in the formats that people read. A few columns have a heading that differs from their name, or an
+    /// empty one.
     pub fn heading(self) -> &'static str
         ensures { result.now ≡ heading self }
     {
@@ -195,7 +196,7 @@ impl Column {
         }
     }
 
-    /// Returns the side at which the values of the column are.
+    /// Returns the side at which the values of the column are aligned.
     pub fn side(self) -> Side
         ensures { result ≡ side_of self }
     {

@@ -1,4 +1,4 @@
-//! Sheets of differences: what is shown of two reports in any format.
+//! The sheet of a comparison: what is shown of two reports, whatever the format.
 
 use crate::lines::Lines;
 use crate::section::Section;
@@ -7,9 +7,9 @@ use std::marker::Model;
 /// What is shown of a comparison of two reports: its rows, sums and files.
 #[derive(Drop)]
 pub struct ComparisonSheet<'a, R: Lines, T: Lines, F: Lines> {
-    /// The rows.
+    /// The rows of the comparison's table that are shown.
     pub rows: Section<'a, R>,
-    /// The sums over the rows that are cut off: one line, or none if no row is.
+    /// The sums over the rows that are cut off: one line, or no line if no row is cut off.
     pub others: Section<'a, T>,
     /// The sums over all files: one line.
     pub total: Section<'a, T>,

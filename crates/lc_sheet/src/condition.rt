@@ -1,4 +1,4 @@
-//! Conditions on files: a column, and a test of what a file has there.
+//! Conditions on files: a column, and a test of a file's value in the column.
 
 ghost use Rattle.std.specs.Prelude.{◌≡◌, false};
 ghost use Rattle.std.specs.List.{list_any};
@@ -33,20 +33,20 @@ pub enum Comparison {
 /// A test of a value.
 #[derive(Clone, Copy)]
 pub enum Test<'w> {
-    /// The value is one of these, which have commas between them.
+    /// The value is one of these texts, which commas separate.
     OneOf(&'w [u8]),
-    /// The value is none of these, which have commas between them.
+    /// The value is none of these texts, which commas separate.
     NoneOf(&'w [u8]),
-    /// The comparison of the value with this number holds.
+    /// The comparison of the value with this number is true.
     Compared(Comparison, u64),
 }
 
-/// A condition on files: a column, and a test of what a file has there, such as `eol=crlf,mixed` or `lines>1000`.
+/// A condition on files, such as `eol=crlf,mixed` or `lines>1000`: a column, and a test of a file's value in the column.
 #[derive(Drop)]
 pub struct Condition<'w> {
     /// The column: `Ext`, `Text`, `Eol`, or the number of lines, blank lines or bytes.
     pub column: Column,
-    /// The test of what a file has in the column.
+    /// The test of a file's value in the column.
     pub test: Test<'w>,
 }
 
@@ -59,7 +59,7 @@ impl<'w> Model for Condition<'w> {
 }
 
 impl Comparison {
-    /// Returns whether a number compares so with another.
+    /// Returns whether this comparison is true of `number` and `bound`, in this order.
     fn compares(self, number: u128, bound: u128) -> bool
         ensures { result ≡ compares self number bound }
     {
@@ -74,7 +74,7 @@ impl Comparison {
     }
 }
 
-/// Returns whether a text is what a name has before its bytes, and these.
+/// Returns whether a text is the front of a name followed by the bytes of the name, such as `.c`.
 fn is_name(name: Name<'_>, text: &[u8]) -> bool
     ensures { result ≡ has_text (value_model (values.Name name.entry)) text.now }
 {
@@ -84,7 +84,7 @@ fn is_name(name: Name<'_>, text: &[u8]) -> bool
     }
 }
 
-/// Returns whether a command line names a value by a text.
+/// Returns whether a text on a command line names this value, as `-` names a missing value.
 fn has_text(value: Value<'_>, text: &[u8]) -> bool
     ensures { result ≡ has_text (value_model value.entry) text.now }
 {
@@ -96,7 +96,7 @@ fn has_text(value: Value<'_>, text: &[u8]) -> bool
     }
 }
 
-/// Returns whether a value is one of some, which have commas between them.
+/// Returns whether one of these texts, which commas separate, names the value on a command line.
 fn is_among(value: Value<'_>, texts: &[u8]) -> bool
     ensures { result ≡ list_any (has_text (value_model value.entry)) (pieces_of comma texts.now) }
 {
@@ -111,7 +111,7 @@ fn is_among(value: Value<'_>, texts: &[u8]) -> bool
     false
 }
 
-/// Returns the number that a value is; any other is 0.
+/// Returns the number that a value holds, or 0 if the value is not a number.
 fn number_of(value: Value<'_>) -> u128
     ensures { result ≡ number_of (value_model value.entry) }
 {
@@ -135,7 +135,7 @@ impl Condition<'_> {
         }
     }
 
-    /// Returns whether the condition is on a number. A row has no such number of its own, only a file.
+    /// Returns whether the condition is on a number, such as `lines>1000`. Only files have such numbers: a row has sums over files.
     pub fn is_on_number(&self) -> bool
         ensures { result ≡ is_on_number self.now }
     {
@@ -143,7 +143,8 @@ impl Condition<'_> {
     }
 }
 
-/// Returns whether one of the conditions is on a number. Then only a report with its files can show which files meet them.
+/// Returns whether one of the conditions is on a number. If so, only a report that lists its files can show which files meet the
+/// conditions.
 pub fn needs_files(conditions: &[Condition<'_>]) -> bool
     ensures { result ≡ needs_files conditions.now }
 {

@@ -1,26 +1,26 @@
-//! What the values of every line of a section depend on.
+//! What the values of a section's lines depend on, besides the line and the column.
 
 use crate::column::{Column, Number};
 use crate::table_options::Columns;
 
-/// The number whose shares lines show, with its total and its largest value.
+/// What the shares and bars of lines are computed from: a number, its total, and its largest value in a row.
 #[derive(Debug, Clone, Copy, PartialEq, Eq)]
 pub struct Shares {
-    /// The number.
+    /// Which number the shares and bars are of, such as lines.
     pub number: Number,
-    /// The total, of which each line is a share.
+    /// The total of the number. Each line shows its share of the total.
     pub total: u128,
-    /// The largest number of a row that is shown, whose bar is the longest.
+    /// The largest value of the number in a shown row. This row has the longest bar.
     pub largest: u128,
 }
 
-/// What the values of every line of a section depend on.
+/// What the values of a section's lines depend on, besides the line and the column.
 #[derive(Debug, Clone, Copy, PartialEq, Eq)]
 pub struct Form {
-    /// The columns by which rows are kept apart.
+    /// The columns that rows are grouped by.
     pub by: Columns,
-    /// The column in which a line of sums has its name.
+    /// The column that shows the name of a line of sums, such as `total`.
     pub first: Column,
-    /// The shares, if lines show them.
+    /// What the shares and bars are computed from, if lines show shares.
     pub shares: Option<Shares>,
 }

@@ -1,8 +1,9 @@
-//! The sheet of a report: what is shown of it in any format, as sections of lines with a value in each column. Also the options of a table.
+//! The sheet of a report: what every format shows of the report, as sections of lines with a value in each column. The crate also has the
+//! options of a table.
 //!
-//! - `column`: the columns; `value`: what a line has in a column
-//! - `form`: what every line depends on; `lines`: the kinds of lines; `section`: lines of one kind in columns; `sheet`: the sections of a
-//!   report; `comparison_sheet`: those of two reports that are compared
+//! - `column`: the columns; `value`: the value of a line in a column
+//! - `form`: what the values of all lines of a section depend on; `lines`: the trait of a kind of lines; `section`: lines of one kind in
+//!   columns; `sheet`: the sections of a report; `comparison_sheet`: the sections of a comparison of two reports
 //! - `table_options`: the format of a table, its columns, its order, and where it is cut
 //! - `condition`: which files a table shows
 #![tactic(auto)]

@@ -1,4 +1,4 @@
-//! Kinds of lines.
+//! The trait of a kind of lines of a sheet, such as rows or files.
 
 ghost use Rattle.std.specs.Prelude.{◌≡◌};
 ghost use Rattle.lc_sheet.specs.Values.{ValueModel, value_model};
@@ -9,9 +9,9 @@ use crate::column::Column;
 use crate::form::Form;
 use crate::value::Value;
 
-/// A kind of lines. It states which value a line of this kind has in a column.
+/// A kind of lines of a sheet, such as rows or files. It says which value a line of this kind has in each column.
 pub trait Lines {
-    /// A line of this kind.
+    /// The type of a line of this kind.
     type Line;
 
     ghost value_in: { Form → Self.Line → Column → ValueModel };

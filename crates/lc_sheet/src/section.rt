@@ -8,7 +8,7 @@ use crate::form::Form;
 use crate::lines::Lines;
 use std::marker::Model;
 
-/// Lines of one kind, in columns.
+/// A section of a sheet: lines of the kind `L`, and the columns in which they are shown.
 #[derive(Drop)]
 pub struct Section<'a, L: Lines> {
     form: Form,

@@ -1,4 +1,4 @@
-//! Sheets: what is shown of a report in any format.
+//! The sheet of a report: what is shown of the report, whatever the format.
 
 use crate::lines::Lines;
 use crate::section::Section;
@@ -7,23 +7,23 @@ use std::marker::Model;
 /// What is shown of a report: its rows, sums, files, skipped entries and errors.
 #[derive(Drop)]
 pub struct Sheet<'a, R: Lines, T: Lines, F: Lines, S: Lines, E: Lines> {
-    /// The rows.
+    /// The rows of the report's table that are shown.
     pub rows: Section<'a, R>,
-    /// The sums over the rows that are cut off: one line, or none if no row is.
+    /// The sums over the rows that are cut off: one line, or no line if no row is cut off.
     pub others: Section<'a, T>,
-    /// The sums over all files, over those of text, and over binary ones: three lines.
+    /// The sums over all files, over text files and over binary files: three lines.
     pub totals: Section<'a, T>,
     /// Whether some file is binary.
     pub some_binary: bool,
-    /// The number of directories.
+    /// The number of directories in the report.
     pub directories: u64,
-    /// The number of their entries, if skipped entries are requested.
+    /// The number of entries in the report's directories, if skipped entries are requested.
     pub entries: Option<u64>,
     /// The files, if these are requested.
     pub files: Option<Section<'a, F>>,
     /// The skipped entries.
     pub skipped: Section<'a, S>,
-    /// What could not be read.
+    /// The errors: what could not be read.
     pub faults: Section<'a, E>,
 }
 

@@ -6,7 +6,7 @@ use crate::condition::Condition;
 /// The format in which a table is written.
 #[derive(Debug, Clone, Copy, PartialEq, Eq)]
 pub enum Format {
-    /// Fields with a tab between.
+    /// Lines of fields, with tabs between the fields.
     Tsv,
     /// Columns that are as wide as their widest cell, for reading.
     Table,
@@ -20,16 +20,17 @@ pub enum Format {
     Html,
 }
 
-/// The columns by which the rows of a table are kept apart. Rows that differ only in other columns are added up.
+/// The columns that the rows of a table are grouped by. Rows that differ only in other columns are added up.
 #[derive(Debug, Clone, Copy, PartialEq, Eq)]
 pub struct Columns {
-    /// The directory that holds the file, relative to the counted directory. It is cut to this many of its first segments (1 to 256).
+    /// If rows are grouped by directory, the number of names (1 to 256) after which the path of a file's directory is cut. The path is
+    /// relative to the counted directory.
     pub dir: Option<u32>,
-    /// The extension of the file's name.
+    /// Whether rows are grouped by the extension of the files' names.
     pub ext: bool,
-    /// The state of the attribute `text`.
+    /// Whether rows are grouped by the state of the attribute `text` for the files.
     pub text: bool,
-    /// The class of line ends.
+    /// Whether rows are grouped by how the files' lines end.
     pub eol: bool,
 }
 
@@ -46,9 +47,9 @@ impl Columns {
 /// The order of the rows and of the files of a table, as a command line names it.
 #[derive(Debug, Clone, Copy, PartialEq, Eq)]
 pub enum Order {
-    /// By the keys of the rows, and by the paths of the files.
+    /// Rows are in the order of their keys, and files in the order of their paths.
     Name,
-    /// By this number, largest first.
+    /// Rows and files are in the order of this number, largest first.
     Largest(Number),
 }
 
@@ -59,28 +60,28 @@ pub enum Order {
 /// ```
 #[derive(Debug, Clone, Copy, PartialEq, Eq)]
 pub struct TableOptions {
-    /// The format in which it is written.
+    /// The format in which the table is written.
     pub format: Format,
-    /// The columns by which its rows are kept apart.
+    /// The columns that the table's rows are grouped by.
     pub by: Columns,
-    /// The number that sorts rows and files, largest first. Rows with equal numbers are in the order of their keys, and files in the order
-    /// of their paths. Without a number, so are all rows and all files.
+    /// The number by which rows and files are sorted, largest first. Rows with equal numbers are in the order of their keys, and files with
+    /// equal numbers in the order of their paths. If this is `None`, all rows and all files are in these orders.
     pub sort: Option<Number>,
-    /// The most rows, and the most files, that it shows; all if there is no limit.
+    /// The largest number of rows, and of files, that the table shows. If this is `None`, the table shows all of them.
     pub top: Option<u32>,
-    /// Whether the table lists the files. A report may have its files only for the sake of rows by directory.
+    /// Whether the table lists the files. For rows by directory, a report may list files that its table does not list.
     pub files: bool,
     /// Whether each row shows its share of the total, in the formats `Table` and `Markdown`.
     pub share: bool,
 }
 
-/// The options of a report: what it is of, which of its files are shown, and in which table.
+/// The options with which a report is shown: what was counted, which files are shown, and the options of the table.
 #[derive(Clone, Copy)]
 pub struct ReportOptions<'c> {
     /// The options of the table.
     pub table: TableOptions,
-    /// Only the files that meet all of these are shown and summed.
+    /// The conditions on files. Only the files that meet all conditions are shown and summed.
     pub conditions: &'c [Condition<'c>],
-    /// What was counted, as it was named. A picture has this at its top.
+    /// The counted directories, or the summed reports, as the command line names them. A page of HTML shows them at its top.
     pub counted: &'c [u8],
 }

@@ -1,19 +1,20 @@
-//! The values of a sheet.
+//! The values that the lines of a sheet have in its columns.
 
 use lc_text::Name;
 
-/// The value of a line in a column. It borrows its bytes, and nothing is computed or escaped before it is printed.
+/// The value of a line in a column. The value borrows its bytes. They are escaped, and shares and changes are computed, only when the value
+/// is printed.
 #[derive(Clone, Copy)]
 pub enum Value<'a> {
-    /// There is none, such as the extension of a name without one.
+    /// The line has no value in the column, such as the extension of the file name `Makefile`.
     Missing,
-    /// The line is summed over this column.
+    /// The line is a sum over all values of the column.
     Summed,
     /// The column does not apply to the line.
     Blank,
     /// A word, such as `crlf`.
     Word(&'static str),
-    /// The path of an entry, of a rule or of a directory, or an extension.
+    /// The path of an entry, of a rule's file or of a directory, or an extension or the name of an attribute.
     Name(Name<'a>),
     /// A path; it is empty for the counted directory.
     Path(&'a [u8]),
@@ -23,6 +24,6 @@ pub enum Value<'a> {
     Share { part: u128, whole: u128 },
     /// A part of a whole, for a bar.
     Bar { part: u128, whole: u128 },
-    /// A number of two reports, for its change from the old one to the new one, such as `+1,310`.
+    /// A number in the old report and in the new one. Its change from the old number to the new one is printed, such as `+1,310`.
     Difference { old: u128, new: u128 },
 }
