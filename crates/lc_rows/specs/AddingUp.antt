@@ -4,7 +4,8 @@ use Rattle.std.specs.Bool.{MatchBool}
 use Rattle.lc_walk.specs.Sums.{plus}
 use Rattle.lc_rows.specs.RowKeys.{ShownRowModel, row_key, row_with, same_row_key}
 
--- behind some rows, a part is added to the last row if it has the same key; otherwise it becomes the next last row
+-- a part is added to the last row if both have the same key; otherwise the last row is appended to the rows, and the part is the new last
+-- row
 abbrev pub IsAdded : List ShownRowModel → ShownRowModel → ShownRowModel → List ShownRowModel → ShownRowModel → Type 0
 IsAdded rows last part rows_after last_after = MatchBool (same_row_key (row_key last) (row_key part))
     ((rows_after ≡ rows) × (last_after ≡ row_with (row_key last) (plus last.sums part.sums)))

@@ -1,4 +1,4 @@
--- The sums over binary files, and over others.
+-- The sums over binary files, and over text files.
 use Rattle.std.specs.Prelude.{Bool, true, false, not, List, filter}
 use Rattle.std.specs.List.{list_any}
 use Rattle.lc_census.specs.declared.line_count.Eol.{Eol}
@@ -21,6 +21,6 @@ text_sums rs = sums_of_rows (filter (λ r. not (is_binary r)) rs)
 abbrev pub binary_sums : List TallyRowModel → Sums
 binary_sums rs = sums_of_rows (filter is_binary rs)
 
--- both, and whether there is a row of binary files
+-- the sums over text files and over binary files, and whether there is a row of binary files
 abbrev pub classes_of : List TallyRowModel → ClassSums
 classes_of rs = record { text = text_sums rs; binary = binary_sums rs; some_binary = list_any is_binary rs }

@@ -17,11 +17,11 @@ use Rattle.lc_rows.specs.Kinds.{file_value, row_value}
 use Rattle.lc_rows.specs.Laws.{all_columns}
 use Rattle.lc_rows.specs.ShownRows.{part_of_row}
 
--- lines with a value in each of a report's columns
+-- the form in which a line has a value in each column of a report's rows
 abbrev pub whole_form : Form
 whole_form = record { by = all_columns; first = Ext; shares = None }
 
--- what a file has in a column, and what the files of a row have in common there
+-- the value of a file in a column; the value that the files of a row have in common is below
 abbrev pub value_of_file : FileLineModel → Column → ValueModel
 value_of_file f column = file_value whole_form f column
 
@@ -38,7 +38,7 @@ file_meets cs f = holds_all (value_of_file f) cs
 abbrev pub row_meets : List ConditionModel → TallyRowModel → Bool
 row_meets cs r = holds_all (value_of_row r) cs
 
--- the rows are those that meet the conditions; where these are on what only files have, the rows of the files that do
+-- the rows that meet the conditions; if a condition is on a number, the rows of the files that meet the conditions
 abbrev pub AreKeptRows : Bool → List ConditionModel → Report → List FileLineModel → List TallyRowModel → Type 0
 AreKeptRows by_file cs r files rows =
     MatchBool by_file (IsTally (map counted_line files) rows) (rows ≡ filter (row_meets cs) r.rows.items)
@@ -46,7 +46,7 @@ AreKeptRows by_file cs r files rows =
 abbrev pub kept_totals : Bool → List FileLineModel → List TallyRowModel → Sums
 kept_totals by_file files rows = if by_file then sums_of_files (map counted_line files) else sums_of_rows rows
 
--- of a report, what meets some conditions: files, rows and sums; all else is of the walk, and stays
+-- the part of a report that meets some conditions: its files, rows and totals; all else stays as in the report
 pub record IsPart (cs : List ConditionModel) (r part : Report) : Type 0 where
   pub files : part.files.items ≡ filter (file_meets cs) r.files.items
   pub rows : AreKeptRows (needs_files cs) cs r part.files.items part.rows.items
@@ -57,7 +57,7 @@ pub record IsPart (cs : List ConditionModel) (r part : Report) : Type 0 where
   pub faults : part.faults ≡ r.faults
   pub skipped : part.skipped ≡ r.skipped
 
--- without conditions, all of a report
+-- the part of a report that meets some conditions; without conditions, the whole report
 abbrev pub IsKept : List ConditionModel → Report → Report → Type 0
 IsKept [] r part = part ≡ r
 IsKept (c ∷ cs) r part = IsPart (c ∷ cs) r part

@@ -15,15 +15,15 @@ use Rattle.lc_walk.specs.declared.tally.sums.Sums.{Sums}
 use Rattle.lc_rows.specs.Kept.{IsKept}
 use Rattle.lc_rows.specs.WalkedReports.{IsOfWalk, ListsFilesToTest}
 
--- no condition changes nothing
+-- without conditions a report stays as it is
 abbrev pub NoConditionLaw : Type 0
 NoConditionLaw = (r part : Report) → IsKept [] r part → part ≡ r
 
--- the order of conditions is of no account
+-- the order of conditions makes no difference
 abbrev pub OrderLaw : Type 0
 OrderLaw = (cs ds : List ConditionModel) (r part : Report) → IsPermutation cs ds → IsKept cs r part → IsKept ds r part
 
--- the test that a value passes where it does not pass another
+-- the comparison that is true exactly if this comparison is false
 abbrev pub opposite_of : Comparison → Comparison
 opposite_of Less = AtLeast
 opposite_of AtMost = Greater
@@ -44,21 +44,21 @@ opposite c = record { column = c.column; test = opposite_test c.test }
 abbrev pub tested_sums : Bool → Report → Sums
 tested_sums by_file r = if by_file then sums_of_files (map counted_line r.files.items) else sums_of_rows r.rows.items
 
--- where the totals of a report add up, those of what meets conditions do
+-- if the totals of a report add up, so do the totals of the part that meets conditions
 abbrev pub KeptTotalsLaw : Type 0
 KeptTotalsLaw = (cs : List ConditionModel) (r part : Report) → TotalsAddUp r → IsKept cs r part → TotalsAddUp part
 
--- the totals with a condition and with its opposite add up to those without
+-- the totals with a condition and the totals with its opposite add up to the totals without the condition
 abbrev pub AddUpOpposite : ConditionModel → Report → Type 0
 AddUpOpposite c r =
     (with_it without_it : Report) → IsKept (c ∷ []) r with_it → IsKept (opposite c ∷ []) r without_it
     → plus with_it.totals without_it.totals ≡ r.totals
 
--- so it is where the totals are the sums over all that the condition is tested on
+-- opposite conditions add up if the totals are the sums over all that the condition is tested on
 abbrev pub OppositesLaw : Type 0
 OppositesLaw = (c : ConditionModel) (r : Report) → r.totals ≡ tested_sums (is_on_number c) r → AddUpOpposite c r
 
--- and with each report of a walk, and with what meets other conditions of it
+-- opposite conditions add up for each report of a walk, and for the part of such a report that meets other conditions
 abbrev pub WalkedOppositesLaw : (List ℕ → Listings) → (List ℕ → Contents) → Type 0
 WalkedOppositesLaw lists gives =
     (o : Options) (c : ConditionModel) (r : Report) → IsOfWalk lists gives o r → ListsFilesToTest o c → AddUpOpposite c r

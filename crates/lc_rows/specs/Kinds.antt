@@ -1,4 +1,4 @@
--- The lines of a sheet: what rows, sums, files, skipped entries and errors have in each column.
+-- The lines of a sheet: the values that rows, sums, files, skipped entries and errors have in each column.
 use Rattle.std.specs.Prelude.{ℕ, Bool, if◌then◌else◌, List, [], ◌∷◌, codes, is_some, unwrap_or, Option, Some, None}
 use Rattle.lc_census.specs.EolWords.{eol_word}
 use Rattle.lc_level.specs.FaultLines.{FaultLineModel}
@@ -24,16 +24,16 @@ use Rattle.lc_rows.specs.Words.{kind_word, skipped_end}
 
 -- ---- values
 
--- bytes alone
+-- a value that is printed as these bytes alone
 abbrev pub bytes_value : List ℕ → ValueModel
 bytes_value bytes = name (record { front = []; bytes = bytes; end = []; line = None })
 
--- a dot and the bytes
+-- an extension as a value: a dot and the bytes of the extension
 abbrev pub extension_value : Option (List ℕ) → ValueModel
 extension_value None = missing
 extension_value (Some bytes) = name (record { front = codes "."; bytes = bytes; end = []; line = None })
 
--- the path of a directory; the top's, which is empty, is a dot
+-- the path of a directory as a value; the empty path of the top directory is a dot
 abbrev pub directory_value : List ℕ → ValueModel
 directory_value [] = name (record { front = codes "."; bytes = []; end = []; line = None })
 directory_value (b ∷ bs) = bytes_value (b ∷ bs)
@@ -45,7 +45,7 @@ word_value (Some w) = word w
 abbrev pub text_value : TextState → ValueModel
 text_value state = word_value (text_word state)
 
--- the value in a column by which rows are kept apart, or which they are summed over
+-- the value in a column that rows are grouped by, or `summed` in a column that they are summed over
 abbrev pub kept_value : Bool → ValueModel → ValueModel
 kept_value kept value = if kept then value else summed
 
@@ -76,7 +76,7 @@ pub record NamedSumsModel : Type 0 where
   pub name : List ℕ
   pub sums : Sums
 
--- a name in the first of the columns by which rows are kept apart
+-- the value of a line of sums in a column of keys: its name in the first of these columns, and `summed` in the others
 abbrev pub named_in : Column → Column → List ℕ → ValueModel
 named_in column.Dir column.Dir n = word n
 named_in column.Ext column.Ext n = word n
@@ -95,7 +95,7 @@ sums_value form s other = blank
 
 -- ---- files
 
--- the directory that holds a file, cut as those of rows are
+-- the directory that holds a file, cut after n names as the directories of rows are
 abbrev pub file_directory : Option ℕ → List ℕ → ValueModel
 file_directory None p = summed
 file_directory (Some n) p = directory_value (directory_of n p)
@@ -111,12 +111,12 @@ file_value form f other = blank
 
 -- ---- skipped entries
 
--- the file of a rule that decides a path, and the number of a line
+-- the path of the file that has the rule that decides a path, and the number of a line
 abbrev pub rule_name : List ℕ → RuleSource → Option ℕ → ValueModel
 rule_name p source line =
     name (record { front = []; bytes = source_directory p source; end = source_name source; line = line })
 
--- where the rule is, or the attribute's name
+-- the file and line of the rule, or the name of the attribute, that skips an entry
 abbrev pub place_of : List ℕ → Option (RuleSource × ℕ) → Option (List ℕ) → ValueModel
 place_of p (Some rule) attribute = rule_name p rule.0 (Some rule.1)
 place_of p None (Some n) = bytes_value n
@@ -125,7 +125,7 @@ place_of p None None = missing
 abbrev pub place_value : List ℕ → SkipReason → ValueModel
 place_value p reason = place_of p (rule_of reason) (attribute_of reason)
 
--- the file of the rule
+-- the path of the rule's file, if a rule skips the entry
 abbrev pub file_of_rule : List ℕ → Option (RuleSource × ℕ) → ValueModel
 file_of_rule p None = blank
 file_of_rule p (Some rule) = rule_name p rule.0 None
@@ -133,7 +133,7 @@ file_of_rule p (Some rule) = rule_name p rule.0 None
 abbrev pub rule_file_value : List ℕ → SkipReason → ValueModel
 rule_file_value p reason = file_of_rule p (rule_of reason)
 
--- the number of its line
+-- the number of the rule's line, if a rule skips the entry
 abbrev pub line_of_rule : Option (RuleSource × ℕ) → ValueModel
 line_of_rule None = blank
 line_of_rule (Some rule) = number rule.1
@@ -141,7 +141,7 @@ line_of_rule (Some rule) = number rule.1
 abbrev pub rule_line_value : SkipReason → ValueModel
 rule_line_value reason = line_of_rule (rule_of reason)
 
--- the attribute
+-- the name of the attribute, if an attribute skips the entry
 abbrev pub name_of_attribute : Option (List ℕ) → ValueModel
 name_of_attribute None = blank
 name_of_attribute (Some n) = bytes_value n

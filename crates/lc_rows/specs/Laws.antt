@@ -19,7 +19,7 @@ use Rattle.lc_rows.specs.TreeRows.{AreTreeRows, is_below, is_child, is_in}
 use Rattle.lc_rows.specs.Views.{first_of, rest_of, view_of}
 use Rattle.lc_level.specs.Level.{FileLineModel}
 
--- they are the summed ones, each once
+-- the shown rows are the summed rows, each once
 abbrev pub PermutationLaw : Type 0
 PermutationLaw =
     (by : Columns) (sort : Option Number) (rs : List TallyRowModel) (fs : List FileLineModel) (shown : List ShownRowModel)
@@ -29,12 +29,12 @@ PermutationLaw =
 abbrev pub sums_of_lines : List FileLineModel → Sums
 sums_of_lines fs = sums_over (λ (f : FileLineModel). one_file f.count) fs
 
--- the sums over all that a table adds up: the rows of the report, or for a table of directories the files
+-- the sums over all that a table adds up: the rows of the report, or the files if rows are by directory
 abbrev pub totals_of : Option ℕ → List TallyRowModel → List FileLineModel → Sums
 totals_of None rs fs = sums_of_rows rs
 totals_of (Some n) rs fs = sums_of_lines fs
 
--- whatever columns are left out, and however the rows are sorted, their sums are those of all rows of the report, or of all files
+-- whichever columns are missing, and however rows are sorted, the shown rows have the sums over all rows of the report, or over all files
 abbrev pub TotalsLaw : Type 0
 TotalsLaw =
     (by : Columns) (sort : Option Number) (rs : List TallyRowModel) (fs : List FileLineModel) (shown : List ShownRowModel)
@@ -44,33 +44,33 @@ TotalsLaw =
 abbrev pub all_columns : Columns
 all_columns = record { dir = None; ext = true; text = true; eol = true }
 
--- rows in order of their keys add up to themselves where no column is left out
+-- adding up rows that are in the order of their keys changes no row if no column is missing
 abbrev pub WholeLaw : Type 0
 WholeLaw = (rs : List TallyRowModel) → IsInOrder rs → AreAddedUp (map (part_of_row all_columns) rs) (map (part_of_row all_columns) rs)
 
--- the rows of directories that are cut after n names
+-- the columns of a table by directory, whose directories are cut after n names
 abbrev pub by_directories : ℕ → Columns → Columns
 by_directories n by = record { dir = Some n; ext = by.ext; text = by.text; eol = by.eol }
 
--- the row of a file in a table of directories: its directory, cut, and its key in the columns that are kept
+-- the key of a file's row in a table by directory: the file's directory, cut, and its key in the columns that rows are grouped by
 abbrev pub file_row_key : ℕ → Columns → FileLineModel → RowKey
 file_row_key n by f = record { directory = Some (directory_of n f.path); key = key_in by (file_key f) }
 
--- for each directory and key, the rows have the sums over the files whose directory is cut to that one and which have that key
+-- for each directory and key, the rows have the sums over the files that have this key and whose own directory is cut to this directory
 abbrev pub DirectoriesLaw : Type 0
 DirectoriesLaw =
     (n : ℕ) (by : Columns) (sort : Option Number) (rs : List TallyRowModel) (fs : List FileLineModel) (shown : List ShownRowModel)
     (k : RowKey) → AreShown (by_directories n by) sort rs fs shown
     → sums_of_shown (rows_within (same_row_key k) shown) ≡ sums_of_lines (filter (λ f. same_row_key k (file_row_key n by f)) fs)
 
--- each file is in exactly one row
+-- each file is in exactly one row of a table by directory
 abbrev pub OneRowLaw : Type 0
 OneRowLaw =
     (n : ℕ) (by : Columns) (sort : Option Number) (rs : List TallyRowModel) (fs : List FileLineModel) (shown : List ShownRowModel)
     → AreShown (by_directories n by) sort rs fs shown
     → All (λ f. length (rows_within (same_row_key (file_row_key n by f)) shown) ≡ 1) fs
 
--- the directory of a path of a tree, whose segments are all names, is its first segments, and never the last
+-- the directory of a path in a tree, cut after n names, is the first n segments of the path, but never the last one; all segments are names
 abbrev pub NamesLaw : Type 0
 NamesLaw =
     (n : ℕ) (path : List ℕ) → is_good_path path ≡ true
@@ -94,7 +94,7 @@ ChildrenLaw =
     ≡ plus (sums_of_lines (filter (λ f. is_in n directory f.path && same_key key (key_in by (file_key f))) fs))
     (sums_of_shown (rows_within (λ k. is_child directory k.directory && same_key key k.key) rows))
 
--- the rows that are shown where a table is cut, and the sums over the others, add up to those over all
+-- the shown rows of a cut table, and the sums over the other rows, add up to the sums over all rows
 abbrev pub CutTotalsLaw : Type 0
 CutTotalsLaw =
     (by : Columns) (sort : Option Number) (top : Option ℕ) (rs : List TallyRowModel) (fs : List FileLineModel)
@@ -105,12 +105,12 @@ CutTotalsLaw =
 abbrev pub SortedFilesLaw : Type 0
 SortedFilesLaw = (sort : Option Number) (fs sorted : List FileLineModel) → AreFilesSorted sort fs sorted → IsPermutation fs sorted
 
--- no file that is cut off has a larger number than one that is listed
+-- no file that is cut off has a larger number than a listed file
 abbrev pub FirstFilesLaw : Type 0
 FirstFilesLaw =
     (n : Number) (top : Option ℕ) (fs sorted : List FileLineModel) → AreFilesSorted (Some n) fs sorted
     → All (λ cut. All (λ kept. file_number n cut ≤ file_number n kept) (first_of top sorted)) (rest_of top sorted)
 
--- the sums over binary files and over others add up to those over all
+-- the sums over text files and over binary files add up to the sums over all rows
 abbrev pub ClassesLaw : Type 0
 ClassesLaw = (rs : List TallyRowModel) → plus (text_sums rs) (binary_sums rs) ≡ sums_of_rows rs

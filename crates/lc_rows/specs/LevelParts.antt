@@ -4,11 +4,11 @@ use Rattle.std.specs.List.{range_with_len}
 use Rattle.lc_rows.specs.Directories.{first_names, level_of}
 use Rattle.lc_rows.specs.RowKeys.{RowKey, ShownRowModel, has_within, row_key, row_with, rows_within, sums_of_shown}
 
--- the key of a row in the directory above its own that has so many names
+-- the key of a row, with its directory cut after this many names
 abbrev pub key_at : ℕ → RowKey → RowKey
 key_at level k = record { directory = option_map (first_names level) k.directory; key = k.key }
 
--- how many directories are above a row's own directory; a row without a directory has none
+-- how many directories are above the directory of a row; 0 if the row has no directory
 abbrev pub level_in : Option (List ℕ) → ℕ
 level_in None = 0
 level_in (Some directory) = level_of directory
@@ -17,7 +17,7 @@ level_in (Some directory) = level_of directory
 abbrev pub level_to : ℕ → RowKey → ℕ
 level_to n k = min n (level_in k.directory)
 
--- what a row adds to the directory above it that has so many names
+-- what a row adds to a directory above its own: the row, with its directory cut after this many names
 abbrev pub row_at : ℕ → ShownRowModel → ShownRowModel
 row_at level r = row_with (key_at level (row_key r)) r.sums
 
@@ -29,7 +29,7 @@ level_parts n r = map (λ level. row_at level r) (range_with_len 0 (level_to n (
 abbrev pub own_row : ℕ → ShownRowModel → ShownRowModel
 own_row n r = row_at (level_to n (row_key r)) r
 
--- what a row with so many directories above its own adds to the one right above; the top has none
+-- what a row with this many directories above its own adds to the directory right above its own; no directory is above the top directory
 abbrev pub next_at : ℕ → ShownRowModel → List ShownRowModel
 next_at zero r = []
 next_at (suc level) r = row_at level r ∷ []
@@ -37,7 +37,7 @@ next_at (suc level) r = row_at level r ∷ []
 abbrev pub next_above : ℕ → ShownRowModel → List ShownRowModel
 next_above n r = next_at (level_to n (row_key r)) r
 
--- for each set of keys, rows and parts have the same sums, and some row is in the set where some part is
+-- for each set of keys, rows and parts have the same sums, and some row has a key of the set if some part has
 pub record HaveSumsOf (parts rows : List ShownRowModel) : Type 0 where
   pub sums : (keys : RowKey → Bool) → sums_of_shown (rows_within keys rows) ≡ sums_of_shown (rows_within keys parts)
   pub present : (keys : RowKey → Bool) → has_within keys rows ≡ has_within keys parts

@@ -1,4 +1,4 @@
--- What a row adds up, as the code keeps it.
+-- The parts that a row adds up, as the code stores them.
 use Rattle.lc_rows.specs.declared.parts.Source.{Source}
 use Rattle.lc_rows.specs.declared.parts.Source.TheVariants.{File, Row, Shown}
 use Rattle.lc_walk.specs.Sums.{one_file}

@@ -9,7 +9,7 @@ use Rattle.lc_tree.specs.ByteOrder.{bytes_cmp}
 use Rattle.lc_walk.specs.Key.{Key, key_cmp}
 use Rattle.lc_walk.specs.declared.tally.sums.Sums.{Sums}
 
--- what the files of a row have in common: their directory, where rows are by directory, and their key
+-- what the files of a row have in common: their directory, if rows are by directory, and their key
 pub record RowKey : Type 0 where
   pub directory : Option (List ℕ)
   pub key : Key
@@ -26,7 +26,7 @@ row_key r = record { directory = r.directory; key = r.key }
 abbrev pub row_with : RowKey → Sums → ShownRowModel
 row_with k s = record { directory = k.directory; key = k.key; sums = s }
 
--- by directory: by its path's bytes
+-- the order of directories, by the bytes of their paths
 abbrev pub by_directory : RowKey → RowKey → Ordering
 by_directory = on (λ (k : RowKey). k.directory) (option_cmp bytes_cmp)
 

@@ -1,4 +1,4 @@
--- The columns that each section has, by the format.
+-- The columns that each section of a sheet has in each format.
 use Rattle.std.specs.Prelude.{Bool, true, false, if◌then◌else◌, List, [], ◌∷◌, ◌++◌, is_some}
 use Rattle.lc_sheet.specs.declared.column.Column.{Column}
 use Rattle.lc_sheet.specs.declared.column.Column.TheVariants as column
@@ -11,7 +11,7 @@ use Rattle.lc_sheet.specs.declared.table_options.TableOptions.{TableOptions}
 abbrev pub column_if : Bool → Column → List Column
 column_if kept c = if kept then c ∷ [] else []
 
--- whether a format has a column for a key over which rows are summed
+-- whether a format shows the columns of keys that rows are summed over
 abbrev pub keeps_columns : Format → Bool
 keeps_columns Tsv = true
 keeps_columns Table = false
@@ -20,13 +20,13 @@ keeps_columns Csv = false
 keeps_columns Markdown = false
 keeps_columns Html = false
 
--- the columns by which rows are kept apart, and in some formats also those that rows are summed over
+-- the columns of the rows' keys: those that rows are grouped by, and in some formats also those that rows are summed over
 abbrev pub key_columns : Bool → Columns → List Column
 key_columns all by =
     column_if (is_some by.dir) column.Dir ++ column_if (if all then true else by.ext) column.Ext
     ++ column_if (if all then true else by.text) column.Text ++ column_if (if all then true else by.eol) column.Eol
 
--- the first of them
+-- the first of the columns of the rows' keys
 abbrev pub first_key : Bool → Columns → Column
 first_key all by =
     if is_some by.dir then column.Dir else if (if all then true else by.ext) then column.Ext
@@ -36,7 +36,7 @@ abbrev pub number_columns : List Column
 number_columns =
     column.Number number.Files ∷ column.Number number.Lines ∷ column.Number number.Blank ∷ column.Number number.Bytes ∷ []
 
--- shares and bars, where they are asked for
+-- the columns of shares and bars
 abbrev pub share_columns : Format → List Column
 share_columns Tsv = []
 share_columns Table = column.Share ∷ column.Bar ∷ []
@@ -50,7 +50,7 @@ row_columns options =
     key_columns (keeps_columns options.format) options.by ++ number_columns
     ++ (if options.share then share_columns options.format else [])
 
--- those of sums, where rows have these: no keys where sums have no line among the rows
+-- the columns of sums in a table whose rows have these columns: only numbers in the formats in which sums have no line among the rows
 abbrev pub sums_columns : Format → List Column → List Column
 sums_columns Tsv rows = rows
 sums_columns Table rows = rows
@@ -59,7 +59,7 @@ sums_columns Csv rows = number_columns
 sums_columns Markdown rows = rows
 sums_columns Html rows = rows
 
--- those of files in lines that people read, and in records
+-- the columns of files in listed lines, and in records
 abbrev pub listed_columns : List Column
 listed_columns =
     column.Text ∷ column.Eol ∷ column.Number number.Lines ∷ column.Number number.Blank ∷ column.Number number.Bytes ∷ column.Path ∷ []
@@ -77,7 +77,7 @@ file_columns Csv by = recorded_columns (is_some by.dir)
 file_columns Markdown by = listed_columns
 file_columns Html by = listed_columns
 
--- and of skipped entries
+-- the columns of skipped entries in listed lines, and in records
 abbrev pub listed_skipped : List Column
 listed_skipped = column.Reason ∷ column.Place ∷ column.Entry ∷ []
 

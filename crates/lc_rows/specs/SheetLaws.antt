@@ -36,20 +36,20 @@ abbrev pub number_of : ValueModel → ℕ
 number_of (number n) = n
 number_of value = 0
 
--- what a line has in the column of a number
+-- the number of a line in the column of this number
 abbrev pub number_at : Number → List Column → List ValueModel → ℕ
 number_at n [] vs = 0
 number_at n (c ∷ cs) [] = 0
 number_at n (c ∷ cs) (v ∷ vs) = if is_number n c then number_of v else number_at n cs vs
 
--- what each line has there, and the sum over all lines
+-- the numbers of all lines in the column of this number; their sum is below
 abbrev pub numbers_in : Number → SectionModel → List ℕ
 numbers_in n s = map (number_at n s.columns) s.lines
 
 abbrev pub column_sum : Number → SectionModel → ℕ
 column_sum n s = sum_by (number_at n s.columns) s.lines
 
--- what the first line has there
+-- the number of the first line in the column of this number
 abbrev pub number_of_first : Number → List Column → List (List ValueModel) → ℕ
 number_of_first n columns [] = 0
 number_of_first n columns (line ∷ lines) = number_at n columns line
@@ -57,11 +57,11 @@ number_of_first n columns (line ∷ lines) = number_at n columns line
 abbrev pub first_number : Number → SectionModel → ℕ
 first_number n s = number_of_first n s.columns s.lines
 
--- the totals of a report are those of what a table adds up: its rows, or for a table of directories its files
+-- the totals of a report are the sums over what a table adds up: the report's rows, or its files if rows are by directory
 abbrev pub HasTotals : TableOptions → Report → Type 0
 HasTotals options r = r.totals ≡ totals_of options.by.dir r.rows.items r.files.items
 
--- in each column of numbers the rows that are shown, and the sums over the others, add up to the total
+-- in each column of numbers, the shown rows and the sums over the rows that are cut off add up to the total
 abbrev pub RowsAddUp : SheetModel → Type 0
 RowsAddUp s = (n : Number) → column_sum n s.rows + column_sum n s.others ≡ first_number n s.totals
 
@@ -70,11 +70,11 @@ SheetTotalsLaw =
     (options : TableOptions) (r : Report) (classes : ClassSums) (s : SheetModel) → HasTotals options r → IsSheetWith options r classes s
     → RowsAddUp s
 
--- in each column of numbers what is text and what is binary add up to the total
+-- in each column of numbers, text files and binary files add up to the total
 abbrev pub ClassesAddUp : SheetModel → Type 0
 ClassesAddUp s = (n : Number) → (text : ℕ) × (binary : ℕ) × (numbers_in n s.totals ≡ (text + binary) ∷ text ∷ binary ∷ [])
 
--- the totals of a report are those of text and binary files
+-- the totals of a report are the sums over text files plus the sums over binary files
 abbrev pub HasClassTotals : Report → ClassSums → Type 0
 HasClassTotals r classes = r.totals ≡ plus classes.text classes.binary
 
@@ -83,7 +83,7 @@ SheetClassesLaw =
     (options : TableOptions) (r : Report) (classes : ClassSums) (s : SheetModel) → HasClassTotals r classes
     → IsSheetWith options r classes s → ClassesAddUp s
 
--- a part is no larger than its whole
+-- a share or a bar is of a part that is no larger than its whole
 abbrev pub IsWithin : ValueModel → Type 0
 IsWithin missing = ⊤
 IsWithin summed = ⊤
@@ -99,7 +99,7 @@ IsWithin (difference old new) = ⊤
 abbrev pub IsSectionWithin : SectionModel → Type 0
 IsSectionWithin section = All (λ (line : List ValueModel). All IsWithin line) section.lines
 
--- no share is over the total, and no bar over the longest
+-- no share is larger than the total, and no bar is longer than the bar of the largest number
 pub record SharesAreWithin (s : SheetModel) : Type 0 where
   pub rows : IsSectionWithin s.rows
   pub others : IsSectionWithin s.others
@@ -121,7 +121,7 @@ pub record SheetAddsUp (s : SheetModel) : Type 0 where
   pub classes : ClassesAddUp s
   pub shares : SharesAreWithin s
 
--- so it is with each sheet of the report of a walk, and of what meets conditions of it
+-- each sheet of a walk's report adds up, and each sheet of the part of such a report that meets conditions
 abbrev pub WalkedSheetLaw : (List ℕ → Listings) → (List ℕ → Contents) → Type 0
 WalkedSheetLaw lists gives =
     (o : Options) (options : TableOptions) (r : Report) (s : SheetModel) → IsOfWalk lists gives o r → ListsFilesFor o options
@@ -138,7 +138,7 @@ path_at (c ∷ cs) [] = []
 path_at (column.Path ∷ cs) (v ∷ vs) = bytes_of v
 path_at (c ∷ cs) (v ∷ vs) = path_at cs vs
 
--- the files that a sheet lists are the first of the sorted ones
+-- the files that a sheet lists are the first of the report's sorted files
 abbrev pub SheetFilesLaw : Type 0
 SheetFilesLaw =
     (options : TableOptions) (r : Report) (classes : ClassSums) (s : SheetModel) (section : SectionModel) → IsSheetWith options r classes s

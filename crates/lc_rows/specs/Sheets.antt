@@ -28,7 +28,7 @@ abbrev pub largest : Number → List ShownRowModel → ℕ
 largest n [] = 0
 largest n (r ∷ rs) = max (number_in n r.sums) (largest n rs)
 
--- the number that a table is sorted by, or lines
+-- the number of which rows show shares: the number that the table is sorted by, or lines
 abbrev pub share_number : Option Number → Number
 share_number sort = unwrap_or sort Lines
 
@@ -44,12 +44,12 @@ form_of options totals rs = record {
 
 -- ---- the lines of sums
 
--- the sums over the rows that are cut off, where some are
+-- the line of the sums over the rows that are cut off, if there are any
 abbrev pub others_lines : Option Sums → List NamedSumsModel
 others_lines None = []
 others_lines (Some s) = record { name = codes "others"; sums = s } ∷ []
 
--- the sums over all files, over those of text, and over binary ones
+-- the lines of the sums over all files, over text files, and over binary files
 abbrev pub totals_lines : Sums → ClassSums → List NamedSumsModel
 totals_lines totals classes =
     record { name = codes "total"; sums = totals } ∷ record { name = codes "text"; sums = classes.text }
@@ -57,8 +57,8 @@ totals_lines totals classes =
 
 -- ---- the sheet
 
--- what is shown of a report: in which format and form; the rows with their columns; the sums, and whether a file is binary; the files,
--- where they are listed
+-- what is shown of a report: the format and the form; the rows with their columns; the sums, and whether a file is binary; the files, if
+-- they are listed
 pub record ShownModel : Type 0 where
   pub format : Format
   pub form : Form
@@ -111,12 +111,11 @@ sheet_among options r classes v = sheet_with (shown_of options r classes v) r
 abbrev pub sheet_of : TableOptions → Report → ViewModel → SheetModel
 sheet_of options r v = sheet_among options r (classes_of r.rows.items) v
 
--- the files that a sheet lists: none where it is not to list files
+-- the files that a sheet lists: none if files are not requested
 abbrev pub listed_files : Bool → List FileLineModel → List FileLineModel
 listed_files listed files = if listed then files else []
 
--- a sheet of a report with these options and sums by class whose files are these: the first of them and of its rows, as they are summed
--- and sorted
+-- a sheet of a report with these options and sums by class: it shows the first of these files, and the first of the rows, summed and sorted
 pub record HasFilesWith (options : TableOptions) (r : Report) (classes : ClassSums) (files : List FileLineModel) (s : SheetModel) : Type 0
   where
     pub rows : List ShownRowModel

@@ -9,11 +9,11 @@ use Rattle.lc_walk.specs.Sums.{one_file}
 use Rattle.lc_rows.specs.ShownRows.{number_in}
 use Rattle.lc_level.specs.Level.{FileLineModel}
 
--- the number that files are sorted by; each is one file
+-- the number of a file that files are sorted by; the number of files is 1
 abbrev pub file_number : Number → FileLineModel → ℕ
 file_number n f = number_in n (one_file f.count)
 
--- the largest number first
+-- the order of files by a number, largest first
 abbrev pub by_file_number : Number → FileLineModel → FileLineModel → Ordering
 by_file_number n a b = nat_cmp (file_number n b) (file_number n a)
 
@@ -21,7 +21,7 @@ by_file_number n a b = nat_cmp (file_number n b) (file_number n a)
 abbrev pub file_cmp : Number → FileLineModel → FileLineModel → Ordering
 file_cmp n = then_cmp (by_file_number n) (on (λ (f : FileLineModel). f.path) bytes_cmp)
 
--- the files as a report has them, or sorted
+-- the files in the order of the report, or sorted by a number
 abbrev pub AreFilesSorted : Option Number → List FileLineModel → List FileLineModel → Type 0
 AreFilesSorted None fs sorted = sorted ≡ fs
 AreFilesSorted (Some n) fs sorted = IsPermutation fs sorted × IsSorted (file_cmp n) sorted

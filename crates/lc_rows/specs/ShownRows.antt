@@ -1,4 +1,4 @@
--- The rows that a table shows: summed over the columns that it leaves out, and sorted.
+-- The rows that a table shows: summed over the columns that the table lacks, and sorted.
 use Rattle.std.specs.Prelude.{◌≡◌, ℕ, Bool, true, false, ◌&&◌, if◌then◌else◌, List, map, Option, Some, None}
 use Rattle.std.specs.Bool.{MatchBool}
 use Rattle.std.specs.List.Sorted.{IsPermutation, IsSorted}
@@ -18,7 +18,7 @@ use Rattle.lc_rows.specs.Directories.{directory_of, name_of}
 use Rattle.lc_rows.specs.RowKeys.{RowKey, ShownRowModel, AreInRowOrder, has_within, row_key, row_key_cmp, rows_within, sums_of_shown}
 use Rattle.lc_level.specs.Level.{FileLineModel}
 
--- the key in the columns that are kept; a column that is left out is the same in all keys
+-- the key in the columns that rows are grouped by; any other column is the same in all keys
 abbrev pub key_in : Columns → Key → Key
 key_in by k = record {
   extension = if by.ext then k.extension else None;
@@ -38,7 +38,7 @@ part_of_row by r = record { directory = None; key = key_in by r.key; sums = r.su
 abbrev pub part_of_file : Columns → ℕ → FileLineModel → ShownRowModel
 part_of_file by n f = record { directory = Some (directory_of n f.path); key = key_in by (file_key f); sums = one_file f.count }
 
--- what the rows of a table add up: the rows of the report, or for a table of directories the files
+-- the parts that the rows of a table add up: the rows of the report, or the files if rows are by directory
 abbrev pub parts_in : Option ℕ → Columns → List TallyRowModel → List FileLineModel → List ShownRowModel
 parts_in None by rs fs = map (part_of_row by) rs
 parts_in (Some n) by rs fs = map (part_of_file by n) fs
@@ -47,13 +47,13 @@ abbrev pub parts_of : Columns → List TallyRowModel → List FileLineModel → 
 parts_of by rs fs = parts_in by.dir by rs fs
 
 -- a row for each key that some part has, with the sums over the parts of this key, in order of keys. So for each set of keys, rows and
--- parts have the same sums, and some row is in the set where some part is
+-- parts have the same sums, and some row has a key of the set if some part has
 pub record AreAddedUp (parts rows : List ShownRowModel) : Type 0 where
   pub sums : (keys : RowKey → Bool) → sums_of_shown (rows_within keys rows) ≡ sums_of_shown (rows_within keys parts)
   pub present : (keys : RowKey → Bool) → has_within keys rows ≡ has_within keys parts
   pub order : AreInRowOrder rows
 
--- whether the rows of a report are those of a table: no column is left out, and there are no directories
+-- whether rows are not by directory; a table with all other columns then shows the rows of the report
 abbrev pub has_no_directories : Option ℕ → Bool
 has_no_directories None = true
 has_no_directories (Some n) = false
@@ -61,18 +61,18 @@ has_no_directories (Some n) = false
 abbrev pub keeps_all : Columns → Bool
 keeps_all by = has_no_directories by.dir && by.ext && by.text && by.eol
 
--- the rows as they stand in the report, or what the parts add up to
+-- the rows as they are in the report if no column is missing, and otherwise what the parts add up to
 abbrev pub AreSummed : Columns → List TallyRowModel → List FileLineModel → List ShownRowModel → Type 0
 AreSummed by rs fs summed = MatchBool (keeps_all by) (summed ≡ parts_of by rs fs) (AreAddedUp (parts_of by rs fs) summed)
 
--- the number that rows are sorted by
+-- a number of some sums, such as the number of lines
 abbrev pub number_in : Number → Sums → ℕ
 number_in Files s = s.files
 number_in Lines s = s.lines
 number_in Blank s = s.blank
 number_in Bytes s = s.bytes
 
--- the largest number first
+-- the order of rows by a number, largest first
 abbrev pub by_number : Number → ShownRowModel → ShownRowModel → Ordering
 by_number n a b = nat_cmp (number_in n b.sums) (number_in n a.sums)
 
@@ -80,7 +80,7 @@ by_number n a b = nat_cmp (number_in n b.sums) (number_in n a.sums)
 abbrev pub row_cmp : Number → ShownRowModel → ShownRowModel → Ordering
 row_cmp n = then_cmp (by_number n) (on row_key row_key_cmp)
 
--- the rows as they stand, or sorted
+-- the rows in the given order, or sorted by a number
 abbrev pub AreSorted : Option Number → List ShownRowModel → List ShownRowModel → Type 0
 AreSorted None rs sorted = sorted ≡ rs
 AreSorted (Some n) rs sorted = IsPermutation rs sorted × IsSorted (row_cmp n) sorted

@@ -1,4 +1,4 @@
--- The rows of a tree of directories: each directory with the files in it and below it.
+-- The rows of a tree of directories. The row of a directory has the sums over the files in the directory and below it.
 use Rattle.std.specs.Prelude.{ℕ, ◌+◌, ◌==◌, Bool, false, bytes_eq, cond, min, List, [], ◌∷◌, map, Option, Some, None}
 use Rattle.std.specs.Cmp.Lexicographic.{slice_cmp}
 use Rattle.std.specs.List.{flat_map, range_with_len}
@@ -14,7 +14,7 @@ use Rattle.lc_rows.specs.RowKeys.{RowKey, ShownRowModel, row_key}
 use Rattle.lc_rows.specs.ShownRows.{AreAddedUp, part_of_file}
 use Rattle.lc_level.specs.Level.{FileLineModel}
 
--- whether a file is in a directory or below it: the directory that holds the file, cut, is this one
+-- whether a file is in a directory or below it: the directory that holds the file, cut after as many names, is this directory
 abbrev pub is_below : List ℕ → List ℕ → Bool
 is_below directory path = bytes_eq directory (directory_of (level_of directory) path)
 
@@ -22,36 +22,36 @@ is_below directory path = bytes_eq directory (directory_of (level_of directory) 
 abbrev pub is_in : ℕ → List ℕ → List ℕ → Bool
 is_in n directory path = bytes_eq directory (directory_of n path)
 
--- whether a directory is right in another; the top is in none
+-- whether a directory is right in another; the top directory is in no other
 abbrev pub is_child : List ℕ → Option (List ℕ) → Bool
 is_child directory None = false
 is_child directory (Some []) = false
 is_child directory (Some (b ∷ bs)) = bytes_eq directory (above (b ∷ bs))
 
--- how many directories are above a file and below the top, where directories are cut after n names
+-- how many directories are above a file and below the top directory, if directories are cut after n names
 abbrev pub levels_above : ℕ → List ℕ → ℕ
 levels_above n path = min n (level_of (parent_of path))
 
--- what a file adds to each directory above it, from the top down to the one that holds it
+-- what a file adds to each directory above it, from the top directory down to the directory that holds it
 abbrev pub parts_above : ℕ → Columns → FileLineModel → List ShownRowModel
 parts_above n by f = map (λ level. part_of_file by level f) (range_with_len 0 (levels_above n f.path + 1))
 
 abbrev pub tree_parts : ℕ → Columns → List FileLineModel → List ShownRowModel
 tree_parts n by fs = flat_map (parts_above n by) fs
 
--- a slash comes before all other bytes, so what is below a directory comes right after it
+-- the rank of a byte: a slash comes before all other bytes, so what is below a directory comes right after the directory
 abbrev pub byte_place : ℕ → ℕ
 byte_place b = cond (b == slash) 0 (b + 1)
 
 abbrev pub path_cmp : List ℕ → List ℕ → Ordering
 path_cmp = slice_cmp (on byte_place nat_cmp)
 
--- depth first: by directory, and then by key
+-- the order of the rows of a tree: by directory, depth first, and then by key
 unfoldable pub depth_first_cmp : RowKey → RowKey → Ordering
 depth_first_cmp = then_cmp (on (λ (k : RowKey). k.directory) (option_cmp path_cmp)) (on (λ (k : RowKey). k.key) key_cmp)
 
--- a row for each directory above some file, cut after n names, and each key of such a file, with the sums over the files in it and below
--- it, depth first
+-- a row for each directory that has files in it or below it, cut after n names, and for each key of such files, with the sums over these
+-- files, depth first
 abbrev pub AreTreeRows : ℕ → Columns → List FileLineModel → List ShownRowModel → Type 0
 AreTreeRows n by fs rows = (summed : List ShownRowModel) × AreAddedUp (tree_parts n by fs) summed × IsPermutation summed rows
     × IsSorted (on row_key depth_first_cmp) rows

@@ -1,4 +1,4 @@
--- Reports of walks, and what meets conditions of them.
+-- Reports of walks, and the parts of them that meet conditions.
 use Rattle.std.specs.Prelude.{◌≡◌, ℕ, true, List, is_some, Ok}
 use Rattle.lc_sheet.specs.Conditions.{ConditionModel, is_on_number}
 use Rattle.lc_sheet.specs.declared.table_options.TableOptions.{TableOptions}
@@ -9,7 +9,7 @@ use Rattle.lc_walk.specs.declared.options.ReportLists.{ReportLists}
 use Rattle.lc_walk.specs.declared.report.Report.{Report}
 use Rattle.lc_rows.specs.Kept.{IsKept}
 
--- what meets some conditions of the report of a walk by these options; without conditions it is all of that report
+-- the part of a walk's report that meets some conditions; without conditions, the whole report
 pub record IsOfWalk (lists : List ℕ → Listings) (gives : List ℕ → Contents) (o : Options) (r : Report) : Type 0 where
   pub conditions : List ConditionModel
   pub whole : Report
@@ -23,6 +23,6 @@ HasFilesFor options lists = is_some options.by.dir ≡ true → lists.files ≡ 
 abbrev pub ListsFilesFor : Options → TableOptions → Type 0
 ListsFilesFor o options = HasFilesFor options o.lists
 
--- and so is what meets a condition on a number
+-- a condition on a number is tested on the files, so the walk must list them
 abbrev pub ListsFilesToTest : Options → ConditionModel → Type 0
 ListsFilesToTest o c = is_on_number c ≡ true → o.lists.files ≡ true

@@ -1,4 +1,4 @@
--- The words of skipped entries.
+-- What is printed of a skipped entry: the word for what it is, and what follows its path.
 use Rattle.std.specs.Prelude.{ℕ, List, [], codes}
 use Rattle.lc_level.specs.Level.{Reason, named_git, by_rule, by_attribute, not_included, other_kind}
 use Rattle.lc_tree.specs.declared.entry.Kind.{Kind}
@@ -12,7 +12,7 @@ kind_word Dir = codes "dir"
 kind_word (Other Special) = codes "other"
 kind_word (Other Mounted) = codes "dir"
 
--- a slash follows the path of a directory, but for `.git`
+-- what follows the path of a skipped entry: a slash if it is a directory other than `.git`
 abbrev pub skipped_end : Kind → Reason → List ℕ
 skipped_end Dir named_git = []
 skipped_end Dir (by_rule source line) = codes "/"

@@ -1,4 +1,4 @@
-//! Adding up parts to rows, one row for each key.
+//! Adding up the parts of rows, such as files, into one row for each key.
 
 ghost use Rattle.std.specs.Prelude.{◌≡◌, IfOk};
 ghost use Rattle.std.specs.List.Sorted.{IsPermutation, IsSortedByKey};
@@ -17,7 +17,7 @@ fn sort(parts: &mut Vec<Part<'_, '_>>)
     parts.sort_unstable_by(|a, b| a.key.compare(&b.key));
 }
 
-/// Adds a part to the last row if both have the same key. Otherwise it pushes the last row, and returns the row of the part.
+/// Returns the last row with the part added, if both have the same key. Otherwise pushes the last row, and returns a row of the part alone.
 fn add_part<'a>(
     rows: &mut Vec<ShownRow<'a>>,
     last: ShownRow<'a>,
@@ -32,7 +32,7 @@ fn add_part<'a>(
     Ok(ShownRow::of(part))
 }
 
-/// Adds up parts that are in the order of their keys.
+/// Adds up parts that are in the order of their keys, into one row for each key.
 fn added_in_order<'a>(
     alloc: Global,
     parts: &[Part<'a, '_>],
@@ -54,7 +54,7 @@ fn added_in_order<'a>(
     Ok(rows)
 }
 
-/// Makes a row of each part.
+/// Makes a row from each part.
 pub(crate) fn rows_of<'a>(
     alloc: Global,
     parts: &[Part<'a, '_>],
@@ -68,7 +68,7 @@ pub(crate) fn rows_of<'a>(
     Ok(rows)
 }
 
-/// Adds up the parts of each key, in the order of keys. It stops with an error if the sums overflow.
+/// Adds up parts into one row for each key, in the order of keys. An error means that an allocation failed or that sums overflow.
 pub(crate) fn added_up<'a>(
     alloc: Global,
     mut parts: Vec<Part<'a, '_>>,

@@ -55,7 +55,8 @@ impl ClassSums {
         }
     }
 
-    /// Adds up rows by class: text or binary. It stops with an error only if the sums overflow. The sums of a walk's rows never overflow.
+    /// Adds up the rows of text files, and the rows of binary files. An error means that sums overflow, which the sums of a walk's rows
+    /// never do.
     pub fn of_all(rows: &[TallyRow]) -> Result<ClassSums, AllocError>
         ensures classes { IfOk result (λ sums. sums ≡ classes_of rows.now) }
         ensures overflow { IfErr result (λ _. IsInRange (sums_of_rows rows.now) → ⊥) }

@@ -1,4 +1,4 @@
-//! The columns of each section of a sheet, by the format.
+//! The columns that each section of a sheet has in each format.
 
 ghost use Rattle.std.specs.Prelude.{◌≡◌, ◌++◌, if◌then◌else◌, [], IfOk, OnOk};
 ghost use Rattle.lc_rows.specs.SheetColumns.{column_if, fault_columns, file_columns, first_key, keeps_columns, key_columns, listed_columns};
@@ -8,7 +8,7 @@ ghost use Rattle.lc_rows.specs.SheetColumns.{share_columns, skipped_columns, sum
 use lc_sheet::{Column, Columns, Format, Number, TableOptions};
 use std::alloc::{AllocError, Global};
 
-/// Returns whether rows have all columns of keys in a format, even those that they are summed over.
+/// Returns whether a format shows the columns `ext`, `text` and `eol` of rows, even if the rows are summed over them.
 pub fn keeps_columns(format: Format) -> bool
     ensures { result ≡ keeps_columns format }
 {
@@ -27,7 +27,7 @@ fn push_if(columns: &mut Vec<Column>, kept: bool, column: Column) -> Result<(), 
     Ok(())
 }
 
-/// Returns the first of the columns that rows are grouped by. The names of sums are in this column.
+/// Returns the first column of the rows' keys in a format. A line of sums shows its name in this column.
 pub fn first_key(format: Format, by: Columns) -> Column
     ensures { result ≡ first_key (keeps_columns format) by }
 {
@@ -63,8 +63,8 @@ fn share_columns(format: Format) -> &'static [Column]
     }
 }
 
-/// Adds the columns of the keys of rows: all of them, or those that rows are grouped by. The column of the directory is added only if rows
-/// are grouped by it.
+/// Adds the columns of the rows' keys: all of them if `all` is true, and otherwise only the columns that rows are grouped by. The column of
+/// the directory is added only if rows are grouped by directory.
 pub fn push_keys(columns: &mut Vec<Column>, all: bool, by: Columns) -> Result<(), AllocError>
     ensures { OnOk result (columns.new.items ≡ columns.old.items ++ key_columns all by) }
 {
@@ -85,7 +85,7 @@ fn push_shares(columns: &mut Vec<Column>, options: &TableOptions) -> Result<(), 
     }
 }
 
-/// Makes the columns of rows.
+/// Makes the columns of the rows of a table.
 pub(crate) fn row_columns(alloc: Global, options: &TableOptions) -> Result<Vec<Column>, AllocError>
     ensures { IfOk result (λ columns. columns.items ≡ row_columns options.now) }
 {
@@ -146,7 +146,7 @@ fn recorded_columns(by_directory: bool) -> &'static [Column]
     }
 }
 
-/// Returns the columns of files.
+/// Returns the columns of a list of files.
 pub(crate) fn file_columns(format: Format, by: Columns) -> &'static [Column]
     ensures { result.now ≡ file_columns format by }
 {
@@ -175,7 +175,7 @@ fn recorded_skipped() -> &'static [Column]
     ]
 }
 
-/// Returns the columns of skipped entries.
+/// Returns the columns of a list of skipped entries.
 pub(crate) fn skipped_columns(format: Format) -> &'static [Column]
     ensures { result.now ≡ skipped_columns format }
 {
@@ -185,7 +185,7 @@ pub(crate) fn skipped_columns(format: Format) -> &'static [Column]
     }
 }
 
-/// Returns the columns of errors.
+/// Returns the columns of a list of errors.
 pub(crate) fn fault_columns() -> &'static [Column]
     ensures { result.now ≡ fault_columns }
 {

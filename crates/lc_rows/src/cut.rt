@@ -9,7 +9,7 @@ use crate::shown_row::ShownRow;
 use lc_walk::Sums;
 use std::alloc::AllocError;
 
-/// Splits items after the first `top`. Without such a number, all are in the first part.
+/// Splits items after the first `top` items. If `top` is `None`, all items are in the first part.
 pub fn split_at_top<T>(top: Option<u32>, items: &[T]) -> (&[T], &[T])
     ensures first { result.0.now ≡ first_of top items.now }
     ensures rest { result.1.now ≡ rest_of top items.now }

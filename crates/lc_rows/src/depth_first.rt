@@ -1,18 +1,18 @@
-//! The order of directories in which each comes right before those below it.
+//! The depth-first order of directories: each directory comes right before the directories below it.
 
 ghost use Rattle.std.specs.Prelude.{◌≡◌};
 ghost use Rattle.lc_rows.specs.TreeRows.{byte_place, path_cmp};
 
 use std::cmp::Ordering;
 
-/// Returns the place of a byte in the order of bytes in which a slash comes first.
+/// Returns the rank of a byte in the order of bytes in which the slash comes first.
 fn byte_place(byte: u8) -> u16
     ensures { result ≡ byte_place byte }
 {
     if byte == b'/' { 0 } else { u16::from(byte) + 1 }
 }
 
-/// Compares two paths, where a slash comes before all other bytes.
+/// Compares two paths byte by byte. A slash comes before all other bytes.
 pub(crate) fn compare_paths(a: &[u8], b: &[u8]) -> Ordering
     ensures { result ≡ path_cmp a.now b.now }
 {

@@ -1,4 +1,4 @@
-//! The directories of files, cut after some of their names.
+//! The directories that hold files, and how their paths are cut after some names.
 
 ghost use Rattle.std.specs.Prelude.{◌≡◌, ◌-◌, [], MatchOption, length, take};
 ghost use Rattle.std.specs.List.{join_with_byte};
@@ -10,7 +10,8 @@ ghost use Rattle.lc_rows.specs.Directories.{own_part, parent_of};
 use lc_glob::cut_at_first;
 use memchr::memrchr;
 
-/// Returns the directory whose path ends before a slash: `/` if nothing is before the slash, and the empty path of the top for `.`.
+/// Returns the directory whose path is `front`, which is what a path has before its last slash. An empty `front` is the directory `/`, and
+/// `.` is the top directory, whose path is empty.
 fn directory_before(front: &[u8]) -> &[u8]
     ensures { result.now ≡ directory_before front.now }
 {
@@ -23,7 +24,7 @@ fn directory_before(front: &[u8]) -> &[u8]
     }
 }
 
-/// Splits the path of a file into its directory and its name. The directory of a file right in the top is empty.
+/// Splits the path of a file into its directory and its name. The directory is the empty path if the file is right in the top directory.
 pub(crate) fn split_path(path: &[u8]) -> (&[u8], &[u8])
     ensures parent { result.0.now ≡ parent_of path.now }
     ensures name { result.1.now ≡ name_of path.now }
@@ -34,7 +35,7 @@ pub(crate) fn split_path(path: &[u8]) -> (&[u8], &[u8])
     }
 }
 
-/// Returns the last name of a path.
+/// Returns the last name of a path: what follows the last slash, or the whole path if it has no slash.
 pub fn name_of(path: &[u8]) -> &[u8]
     ensures { result.now ≡ name_of path.now }
 {
@@ -47,14 +48,14 @@ fn is_no_name(segment: &[u8]) -> bool
     matches!(segment, [] | [b'.'] | [b'.', b'.'])
 }
 
-/// Returns 1 for a name, and 0 for the empty segment, `.` and `..`, which are no names.
+/// Returns how many names a segment of a path counts as: none for the empty segment, `.` and `..`, and 1 for any other.
 fn names_in(segment: &[u8]) -> usize
     ensures { result ≡ names_in segment.now }
 {
     if is_no_name(segment) { 0 } else { 1 }
 }
 
-/// Returns what follows the slash after the name with this number, or `None` if there is no such slash.
+/// Returns what follows the slash after the first `number` names of a path, or `None` if no slash follows them.
 fn after_name(number: usize, path: &[u8]) -> Option<&[u8]>
     ensures front { MatchOption result (first_names number path.now ≡ path.now)
         (λ rest. first_names number path.now ≡ take (length path.now - length rest.now - 1) path.now) }
@@ -74,7 +75,7 @@ fn after_name(number: usize, path: &[u8]) -> Option<&[u8]>
     Some(rest)
 }
 
-/// Cuts a path after the name with this number.
+/// Cuts a path after its first `number` names.
 pub(crate) fn first_names(number: usize, path: &[u8]) -> &[u8]
     ensures { result.now ≡ first_names number path.now }
 {
@@ -84,9 +85,9 @@ pub(crate) fn first_names(number: usize, path: &[u8]) -> &[u8]
     }
 }
 
-/// Returns the directory of a file, cut after its name with this number. The directory of a file right in the top is empty.
+/// Returns the directory of a file, cut after its first `number` names. It is the empty path if the file is right in the top directory.
 ///
-/// The empty segment, `.` and `..` are no names.
+/// The empty segment, `.` and `..` do not count as names.
 ///
 /// ```
 /// assert!(rt; directory_at(1, b"src/view/main.rt") == b"src".as_slice());
@@ -99,7 +100,7 @@ pub fn directory_at(number: u32, path: &[u8]) -> &[u8]
     first_names(number as usize, parent)
 }
 
-/// Returns how many directories are above a directory in a tree. The top, whose path is empty, has none.
+/// Returns how many directories are above a directory in a tree. The top directory, whose path is empty, has none.
 ///
 /// ```
 /// assert!(rt; level_of(b"") == 0 && level_of(b"/usr") == 1 && level_of(b"../lib/a") == 2);

@@ -1,4 +1,4 @@
-//! The rows of a tree of directories: each directory has the files in it and below it.
+//! The rows of a tree of directories. The row of a directory has the sums over all files in the directory and below it.
 
 ghost use Rattle.std.specs.Prelude.{◌≡◌, ◌≤◌, ◌++◌, min, map, option_map, IfOk, OnOk};
 ghost use Rattle.std.specs.List.{flat_map};
@@ -18,7 +18,7 @@ use lc_sheet::Columns;
 use lc_walk::FileLine;
 use std::alloc::{AllocError, Global};
 
-/// Returns how many directories are above a directory. Directories are cut after `depth` names.
+/// Returns how many directories are above a directory whose path is cut after `depth` names.
 fn levels_above(depth: u32, directory: Option<&[u8]>) -> usize
     ensures levels { result ≡ min depth (level_in (option_map (λ s. s.now) directory.entry)) }
     ensures few { result ≤ depth }
@@ -29,7 +29,7 @@ fn levels_above(depth: u32, directory: Option<&[u8]>) -> usize
     }
 }
 
-/// Cuts a directory after the name with this number.
+/// Cuts the path of a directory after its first `level` names.
 fn cut_at<'a>(level: usize, directory: Option<&'a [u8]>) -> Option<&'a [u8]>
     ensures { option_map (λ s. s.now) result ≡ option_map (first_names level) (option_map (λ s. s.now) directory.entry) }
 {
@@ -39,7 +39,7 @@ fn cut_at<'a>(level: usize, directory: Option<&'a [u8]>) -> Option<&'a [u8]>
     }
 }
 
-/// Makes the part that a row adds to the directory above it with this many names.
+/// Makes the part that a row adds to a directory above its own: the path of the row's directory is cut after `level` names.
 fn part_at<'a, 's>(level: usize, row: &'s ShownRow<'a>) -> Part<'a, 's>
     ensures { result ≡ row_at level row.now }
 {
@@ -66,7 +66,7 @@ fn push_own<'a>(
     Ok(())
 }
 
-/// Pushes the part that a row adds to the directory right above its own. The top has none.
+/// Pushes the part that a row adds to the directory right above its own. No directory is above the top directory.
 fn push_next<'a, 's>(
     depth: u32,
     row: &'s ShownRow<'a>,
@@ -96,7 +96,7 @@ fn next_parts<'a, 's>(
     Ok(parts)
 }
 
-/// Adds up rows to the directories right above theirs.
+/// Adds up what rows add to the directories right above their own.
 fn rows_above<'a>(
     alloc: Global,
     depth: u32,
@@ -109,9 +109,10 @@ fn rows_above<'a>(
     Ok(above)
 }
 
-/// Returns the rows and what they add to each directory above theirs.
+/// Returns the rows, and rows of what they add to each directory above their own.
 ///
-/// It goes up level by level. What the rows of all directories in one add to it is one row for each key before it goes further up.
+/// The function goes up level by level. What rows add to the same directory is first added up into one row for each key. Only this row is
+/// added to the next directory above.
 fn with_rows_above<'a>(
     alloc: Global,
     rows: Vec<ShownRow<'a>>,
@@ -132,7 +133,7 @@ fn with_rows_above<'a>(
     Ok(all)
 }
 
-/// Adds up the files right in each directory.
+/// Adds up the files that are right in each directory, into one row for each key.
 fn rows_with_files<'a>(
     alloc: Global,
     files: &'a [FileLine],
@@ -146,7 +147,7 @@ fn rows_with_files<'a>(
     Ok(rows)
 }
 
-/// Adds up the rows of each key.
+/// Adds up the rows that have the same key.
 fn rows_added_up<'a>(alloc: Global, rows: &[ShownRow<'a>]) -> Result<Vec<ShownRow<'a>>, AllocError>
     ensures { IfOk result (λ added. AreAddedUp rows.now added.items) }
 {
@@ -162,15 +163,15 @@ fn sort(rows: &mut Vec<ShownRow<'_>>)
     rows.sort_unstable_by(|a, b| a.key().compare_depth_first(&b.key()));
 }
 
-/// Returns a row for each directory above some file, with the sums over the files in it and below it. The rows are depth first: each
-/// directory comes right before those below it, and the top comes first. A directory is cut after `depth` names, and the files below the
-/// cut count as files of the cut directory.
+/// Returns a row for each directory that has files in it or below it, with the sums over these files. The rows are depth first: each
+/// directory comes right before the directories below it, and the top directory comes first. A directory is cut after `depth` names, and
+/// the files below the cut count as files of the cut directory.
 ///
-/// If rows are also grouped by other columns, a directory has a row for each key of the files in it and below it. The column `dir` makes no
-/// difference. An error means that an allocation failed or that sums overflow.
+/// If rows are also grouped by other columns, a directory has a row for each key of the files in it and below it. The value of `by.dir`
+/// makes no difference. An error means that an allocation failed or that sums overflow.
 ///
-/// It takes 56 bytes for each file. The files of a directory are added up before they are added to the directory above it, so depth costs
-/// something for each directory, but nothing for each file.
+/// The function takes 56 bytes of memory for each file. The files of a directory are added up before they are added to the directory above
+/// it, so depth costs something for each directory, but nothing for each file.
 pub fn tree_rows<'a>(
     alloc: Global,
     files: &'a [FileLine],

@@ -8,7 +8,7 @@ use lc_sheet::Number;
 use lc_walk::FileLine;
 use std::cmp::Ordering;
 
-/// Returns the number `by` of a file, such as its lines. The number of files is 1.
+/// Returns the number of a file that `by` names, such as its number of lines. The number of files is 1.
 pub fn number_of(by: Number, file: &FileLine) -> u64
     ensures { result ≡ file_number by file.now }
 {

@@ -18,7 +18,7 @@ use lc_sheet::{Column, Columns, Condition, Form, Lines, needs_files};
 use lc_walk::{FileLine, Report, Sums, Tally, TallyRow, extension};
 use std::alloc::{AllocError, Global};
 
-/// Returns the form of lines that have a value in each of a report's columns.
+/// Returns the form in which a line has a value in each column of a report's rows, so that no column is summed over.
 fn whole_form() -> Form
     ensures { result ≡ whole_form }
 {
@@ -45,7 +45,7 @@ fn file_meets(conditions: &[Condition<'_>], file: &FileLine) -> bool
         .all(|condition| holds_of_file(condition, file))
 }
 
-/// Makes the line of a row that shows all columns.
+/// Makes a row of a table with all columns from a row of a report.
 fn shown_row(row: &TallyRow) -> ShownRow<'_>
     ensures { result ≡ part_of_row all_columns row.entry.now }
 {
@@ -90,7 +90,7 @@ fn keep_rows(conditions: &[Condition<'_>], rows: &mut Vec<TallyRow>)
     rows.retain(|row| row_meets(conditions, row));
 }
 
-/// Adds up rows. It stops with an error only if the sums overflow, which those of a walk's rows never do.
+/// Adds up rows. An error means that the sums overflow, which the sums of a walk's rows never do.
 fn sums_of_rows(rows: &[TallyRow]) -> Result<Sums, AllocError>
     ensures sums { IfOk result (λ sums. sums ≡ sums_of_rows rows.now) }
     ensures overflow { IfErr result (λ _. IsInRange (sums_of_rows rows.now) → ⊥) }
@@ -102,7 +102,7 @@ fn sums_of_rows(rows: &[TallyRow]) -> Result<Sums, AllocError>
     Ok(sums)
 }
 
-/// Adds a file to a tally. It fails if an allocation fails, or if the tally has more files than any walk.
+/// Adds a file to a tally. An error means that an allocation failed, or that the tally has more files than any walk.
 fn add_file(tally: &mut Tally, file: &FileLine) -> Result<(), AllocError>
     ensures { OnOk result ((fs : List CountedFile) → StandsFor tally.old fs → StandsFor tally.new (fs ++ counted_line file.now ∷ [])) }
 {
@@ -112,7 +112,7 @@ fn add_file(tally: &mut Tally, file: &FileLine) -> Result<(), AllocError>
     tally.add(extension(name_of(&file.path)), file.text, file.count)
 }
 
-/// Counts files by their keys.
+/// Makes the tally of some files.
 fn tally_of(alloc: Global, files: &[FileLine]) -> Result<Tally, AllocError>
     ensures { IfOk result (λ tally. StandsFor tally (map counted_line files.now)) }
 {
@@ -123,7 +123,7 @@ fn tally_of(alloc: Global, files: &[FileLine]) -> Result<Tally, AllocError>
     Ok(tally)
 }
 
-/// Keeps what meets the conditions if one of them is on a column that only files have, and counts the files that are kept.
+/// Keeps the files that meet the conditions, and makes the rows and totals anew from these files. One of the conditions is on a number.
 fn keep_by_files(
     alloc: Global,
     conditions: &[Condition<'_>],
@@ -148,7 +148,8 @@ fn are_in_range(sums: Sums)
     let _sums = sums;
 }
 
-/// Keeps the rows that meet the conditions if all of these are on what the files of a row have in common.
+/// Keeps the files and the rows that meet the conditions, and adds up the totals anew. No condition is on a number, so all files of a row
+/// meet the conditions, or none does.
 fn keep_by_rows(conditions: &[Condition<'_>], report: &mut Report) -> Result<(), AllocError>
     requires by_rows { needs_files conditions.now ≡ false }
     ensures kept { OnOk result (IsPart conditions.now report.old report.new) }
@@ -163,11 +164,11 @@ fn keep_by_rows(conditions: &[Condition<'_>], report: &mut Report) -> Result<(),
     Ok(())
 }
 
-/// Keeps what meets all conditions of a report, in place. It drops the other files, and then drops the other rows or counts the files that
-/// are left.
+/// Keeps the part of a report that meets all conditions, in place. The function drops the other files. Then it drops the other rows, or
+/// makes the rows anew from the files that are left.
 ///
-/// Skipped entries, errors and the numbers of directories and entries stay. For a condition on a number the report must have its files, and
-/// an allocation may fail. Any other error comes only for sums that no walk has.
+/// Skipped entries, errors and the numbers of directories and entries stay as they are. For a condition on a number, the report must have
+/// its files, and an allocation may fail. Any other error means that the sums are larger than those of any walk.
 pub fn keep(
     alloc: Global,
     conditions: &[Condition<'_>],

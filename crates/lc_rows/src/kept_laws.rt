@@ -4,7 +4,7 @@ ghost use Rattle.lc_rows.specs.KeptLaws.{KeptTotalsLaw, NoConditionLaw, Opposite
 
 use lc_tree::Tree;
 
-/// The law that a report without conditions is unchanged.
+/// The law that a report stays as it is if there are no conditions.
 pub fn no_condition_keeps_all()
     ensures { NoConditionLaw }
 {}
@@ -14,14 +14,15 @@ pub fn conditions_have_no_order()
     ensures { OrderLaw }
 {}
 
-/// The law that totals still add up after conditions are applied, if those of the report do, as in the report of a walk.
+/// The law that conditions keep the totals right. If the totals of a report are the sums over its rows and over its listed files, as in the
+/// report of a walk, so are the totals of the part that meets the conditions.
 pub fn conditions_keep_totals()
     ensures { KeptTotalsLaw }
 {}
 
-/// The law that the totals with a condition and the totals with its opposite add up to the totals without it. Opposites are `=` and `!=`,
-/// or `>` and `<=`. It holds for the report of a walk. It also holds for any report whose totals are the sums over its rows or, if the
-/// condition is on a number, over its files. For a condition on a number the walk must list its files.
+/// The law that the totals with a condition and the totals with its opposite add up to the totals without the condition. Opposites are `=`
+/// and `!=`, or `>` and `<=`. The law is true of the report of a walk. It is also true of any report whose totals are the sums over its
+/// rows or, if the condition is on a number, over its files. For a condition on a number, the walk must list its files.
 pub fn opposite_conditions_add_up<T: Tree>(tree: &T)
     ensures any { OppositesLaw }
     ensures walked { WalkedOppositesLaw (T.lists tree.now) (T.gives tree.now) }

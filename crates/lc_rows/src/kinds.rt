@@ -1,4 +1,4 @@
-//! The kinds of lines of a report.
+//! The kinds of lines of a report's sheet.
 //!
 //! - `rows`, `totals`, `files`, `skipped`, `faults`: the value of a line of each kind in each column
 

@@ -3,24 +3,24 @@
 ghost use Rattle.lc_rows.specs.Laws.{ChildrenLaw, ClassesLaw, CutTotalsLaw, DirectoriesLaw, FirstFilesLaw, NamesLaw, OneRowLaw};
 ghost use Rattle.lc_rows.specs.Laws.{PermutationLaw, SortedFilesLaw, TotalsLaw, TreeLaw, WholeLaw};
 
-/// The law that the rows of a table are the summed rows, each once.
+/// The law that the sorted rows of a table are the summed rows, each once.
 pub fn shown_rows_are_the_summed_ones()
     ensures { PermutationLaw }
 {}
 
-/// The law that the rows of a table have the totals of all rows of the report, whichever columns are missing. Rows by directory have the
-/// totals of all files.
+/// The law that the rows of a table add up to the same sums as all rows of the report, whichever columns the table lacks. Rows by directory
+/// add up to the sums over all files.
 pub fn shown_rows_keep_the_totals()
     ensures { TotalsLaw }
 {}
 
-/// The law that rows in the order of their keys add up to themselves in a table with all columns.
+/// The law that, in a table with all columns, adding up rows that are in the order of their keys changes no row.
 pub fn whole_keys_add_up_to_themselves()
     ensures { WholeLaw }
 {}
 
-/// The law that, for each directory and key, the rows of a table have the sums over certain files: those that have the key, and whose own
-/// directory is cut to that directory.
+/// The law that, for each directory and key, a table by directory shows the sums over the files that have this key, and whose own directory
+/// is cut to this directory.
 pub fn rows_of_a_directory_are_the_sums_of_its_files()
     ensures { DirectoriesLaw }
 {}
@@ -30,13 +30,14 @@ pub fn each_file_is_in_one_row()
     ensures { OneRowLaw }
 {}
 
-/// The law that the cut directory of a path of a tree is the path's first segments, without the last one, since all segments are names.
+/// The law that cutting the directory of a path in a tree after n names keeps the first n segments of the path, but never the last one,
+/// which is the file's name. All segments of a path in a tree are names.
 pub fn directories_of_names_are_their_first_segments()
     ensures { NamesLaw }
 {}
 
 /// The law that, for each directory and key, the rows of a tree have the sums over the files with that key in the directory and below it.
-/// So each directory above a file has the file once.
+/// So a file counts once in each directory above it.
 pub fn rows_of_a_tree_are_the_sums_of_what_is_below()
     ensures { TreeLaw }
 {}

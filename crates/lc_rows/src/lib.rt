@@ -1,13 +1,14 @@
-//! The contents of a table: the rows of a report, summed, sorted, and by class.
+//! What a table shows of a report: its rows and files, summed, sorted and cut, and the sheet that the formats print.
 //!
-//! - `shown`: the rows of a table, summed over the columns that it lacks, and sorted
-//! - `shown_row`, `row_key`: a row, and its key; `parts`, `adding_up`: the parts of rows, and adding them up
+//! - `shown`: the rows of a table, summed over the columns that the table lacks, and sorted
+//! - `shown_row`, `row_key`: a row of a table, and its key; `parts`: the files or rows that a row adds up; `adding_up`: adding up these
+//!   parts
 //! - `directories`: the directories of files; `directory_tree`, `depth_first`: the rows of a tree of directories, and their order
-//! - `files`: the listed files, sorted; `cut`: the first rows and files, and the sums over the other rows
+//! - `files`: the listed files, sorted; `cut`: the first rows and files of a table, and the sums over the other rows
 //! - `kept`: the part of a report that meets some conditions
 //! - `classes`: the sums over all files, over binary files and over text files
-//! - `kinds`: the value of a line in a column; `values`, `words`: values that several kinds share, and their words; `columns`: the columns
-//!   of each section; `shown_sheet`: the shown part of a report, and its sheet
+//! - `kinds`: the kinds of lines of a sheet, with the value of a line in a column; `values`: values that several kinds share; `words`: the
+//!   words of skipped entries; `columns`: the columns of each section; `shown_sheet`: the shown part of a report, and its sheet
 //! - `laws`, `sheet_laws`, `kept_laws`: laws of the definitions that the contracts cite
 #![tactic(auto)]
 

@@ -1,4 +1,4 @@
-//! The parts of a table's rows: the rows of a report, or its files.
+//! The parts that the rows of a table add up: the rows of a report, or its files.
 
 ghost use Rattle.std.specs.Prelude.{◌≡◌, map, IfOk};
 ghost use Rattle.lc_rows.specs.Parts.{sums_of_source};
@@ -15,18 +15,18 @@ use lc_walk::{FileLine, KeyRef, Sums, TallyRow, extension};
 use std::alloc::{AllocError, Global};
 use std::marker::Model;
 
-/// The place of a part's sums.
+/// Where the sums of a part are stored.
 #[derive(Clone, Copy)]
 pub(crate) enum Source<'s> {
-    /// In the census of a file.
+    /// In the counts of a file.
     File(&'s FileLine),
     /// In a row of the report.
     Row(&'s TallyRow),
-    /// In a row of a table.
+    /// In the sums of a row of a table.
     Shown(&'s Sums),
 }
 
-/// A part of a row of a table: a file, a row of the report, or another row of a table. It borrows all its bytes.
+/// A part that a row of a table adds up: a file, a row of the report, or another row of a table. The part borrows all its bytes.
 #[derive(Drop)]
 pub(crate) struct Part<'a, 's> {
     pub(crate) key: RowKeyRef<'a>,
@@ -62,7 +62,7 @@ impl Source<'_> {
 }
 
 impl<'a, 's> Part<'a, 's> {
-    /// Makes a part with the sums of a row of a table.
+    /// Makes a part with this key and the sums of a row of a table.
     pub(crate) fn shown(key: RowKeyRef<'a>, sums: &'s Sums) -> Part<'a, 's>
         ensures { result ≡ row_with key.entry sums.now }
     {
@@ -72,7 +72,7 @@ impl<'a, 's> Part<'a, 's> {
         }
     }
 
-    /// Returns the sums that the part adds.
+    /// Returns the sums that the part adds to its row.
     pub(crate) fn sums(&self) -> Sums
         ensures { result ≡ self.now.sums }
     {
@@ -109,7 +109,7 @@ fn row_part<'a>(by: Columns, row: &'a TallyRow) -> Part<'a, 'a>
     }
 }
 
-/// Makes the part of a file, with its directory cut after this many names.
+/// Makes a part from a file, with the file's directory cut after `depth` names.
 fn file_part<'a>(by: Columns, depth: usize, file: &'a FileLine) -> Part<'a, 'a>
     ensures { result ≡ part_of_file by depth file.now }
 {
@@ -147,7 +147,7 @@ fn row_parts<'a>(
     Ok(parts)
 }
 
-/// Makes a part of each file, with its directory cut after `depth` names.
+/// Makes a part from each file, with the file's directory cut after `depth` names.
 pub(crate) fn file_parts<'a>(
     alloc: Global,
     files: &'a [FileLine],
@@ -163,7 +163,7 @@ pub(crate) fn file_parts<'a>(
     Ok(parts)
 }
 
-/// Makes a part of each row of a table.
+/// Makes a part from each row of a table.
 pub(crate) fn shown_parts<'a, 's>(
     alloc: Global,
     rows: &'s [ShownRow<'a>],
@@ -177,7 +177,8 @@ pub(crate) fn shown_parts<'a, 's>(
     Ok(parts)
 }
 
-/// Makes the parts of a table: one for each file if rows are by directory, and otherwise one for each row of the report.
+/// Makes the parts that the rows of a table add up: one for each file if rows are by directory, and otherwise one for each row of the
+/// report.
 ///
 /// A part takes 56 bytes. Each path is cut once.
 pub(crate) fn parts_of<'a>(

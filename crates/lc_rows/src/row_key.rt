@@ -13,16 +13,16 @@ use lc_rules::TextState;
 use std::cmp::Ordering;
 use std::marker::Model;
 
-/// The key of a row, with a borrowed directory and extension.
+/// The key of a row of a table: what the files of the row have in common. The directory and the extension are borrowed.
 #[derive(Drop)]
 pub struct RowKeyRef<'a> {
-    /// The directory of the files, cut after some of its names, if rows are by directory. It is empty for the top.
+    /// The directory of the files, cut after some of its names, if rows are by directory. The path of the top directory is empty.
     pub directory: Option<&'a [u8]>,
     /// The extension of the files' names, if they have one and rows are by extension.
     pub extension: Option<&'a [u8]>,
-    /// The state of the attribute `text` of the files, or `Unspecified` if rows are not by it.
+    /// The state of the attribute `text` of the files, or `Unspecified` if rows are not by this state.
     pub text: TextState,
-    /// How the files' lines end, or `NoEnd` if rows are not by it.
+    /// How the files' lines end, or `NoEnd` if rows are not by line ends.
     pub eol: Eol,
 }
 
@@ -39,7 +39,7 @@ impl<'a> Model for RowKeyRef<'a> {
 }
 
 impl RowKeyRef<'_> {
-    /// Compares two keys in the order of rows.
+    /// Compares two keys in the order of a table's rows: by directory, and then by the other columns.
     #[tactic(auto, unfolding(crate::specs::RowKeys::row_key_cmp))]
     pub fn compare(&self, other: &RowKeyRef<'_>) -> Ordering
         ensures { result ≡ row_key_cmp self.now other.now }
@@ -47,7 +47,7 @@ impl RowKeyRef<'_> {
         compare_bytes(self.directory, other.directory).then(self.compare_columns(other))
     }
 
-    /// Compares two keys in the order of the rows of a tree.
+    /// Compares two keys in the order of the rows of a tree of directories: depth first, and then by the other columns.
     #[tactic(auto, unfolding(crate::specs::TreeRows::depth_first_cmp))]
     pub(crate) fn compare_depth_first(&self, other: &RowKeyRef<'_>) -> Ordering
         ensures { result ≡ depth_first_cmp self.now other.now }

@@ -34,7 +34,8 @@ fn summed<'a>(
     }
 }
 
-/// Adds up a report's counts by these columns, in the order of keys, each key once. Rows of all columns are added up too.
+/// Adds up a report's counts into one row for each key in the columns `by`, in the order of keys. Even if `by` has all columns, rows with
+/// the same key are added up.
 ///
 /// Rows by directory are sums over `files`, which the report must have, and all other rows are sums over `rows`. An error means that an
 /// allocation failed or that sums overflow. The sums of a walk's rows never overflow.
@@ -51,7 +52,7 @@ pub fn added_rows<'a>(
     Ok(added)
 }
 
-/// Returns the number `by` of some sums, such as their lines.
+/// Returns the number that `by` names in some sums, such as the number of lines.
 pub fn number_in(by: Number, sums: Sums) -> u128
     ensures { result ≡ number_in by sums }
 {
@@ -79,7 +80,7 @@ fn sort(by: Number, rows: &mut Vec<ShownRow<'_>>)
     rows.sort_unstable_by(|a, b| compare(by, a, b));
 }
 
-/// Adds up a report's counts over the columns that a table lacks, and sorts the rows if the table is sorted by a number.
+/// Adds up a report's counts over the columns that `by` lacks, and sorts the rows if the table is sorted by a number.
 ///
 /// Rows by directory are sums over `files`, which the report must have, and all other rows are sums over `rows`. Rows with all columns keep
 /// the order of the report. An error means that an allocation failed or that sums overflow. The sums of a walk's rows never overflow.

@@ -15,7 +15,7 @@ use std::marker::Model;
 /// A row of a table: the sums over the files that have the same values in the table's columns.
 #[derive(Drop)]
 pub struct ShownRow<'a> {
-    /// The directory of the files, cut after some of its names, if rows are by directory. It is empty for the top.
+    /// The directory of the files, cut after some of its names, if rows are by directory. The path of the top directory is empty.
     pub directory: Option<&'a [u8]>,
     /// The extension of the files' names, if they have one and the table has a column for it.
     pub extension: Option<&'a [u8]>,
@@ -41,7 +41,7 @@ impl<'a> Model for ShownRow<'a> {
 }
 
 impl<'a> ShownRow<'a> {
-    /// Makes the row of one part.
+    /// Makes a row that adds up one part alone.
     pub(crate) fn of(part: &Part<'a, '_>) -> ShownRow<'a>
         ensures { result ≡ part.now }
     {
@@ -65,7 +65,7 @@ impl<'a> ShownRow<'a> {
             eol: self.eol,
         }
     }
-    /// Returns the row with further sums added. It stops with an error only if they overflow.
+    /// Returns the row with `more` added to its sums. An error means that the sums overflow.
     pub(crate) fn with(self, more: Sums) -> Result<ShownRow<'a>, AllocError>
         ensures row { IfOk result (λ row. row ≡ row_with (row_key self.entry) (plus self.entry.sums more)) }
         ensures overflow { IfErr result (λ _. IsInRange (plus self.entry.sums more) → ⊥) }

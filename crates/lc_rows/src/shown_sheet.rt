@@ -22,7 +22,8 @@ use std::marker::Model;
 /// The sheet of a report.
 pub type ReportSheet<'a> = Sheet<'a, Rows<'a>, Totals, Files, Skipped, Faults>;
 
-/// The shown part of a report. It owns the rows, which borrow their names from the report, and the sheet borrows from it.
+/// The shown part of a report. It owns its rows, which borrow their names from the report. The sheet that [`sheet`](Shown::sheet) returns
+/// borrows from the shown part and from the report.
 #[derive(Drop)]
 pub struct Shown<'a> {
     format: Format,
@@ -129,7 +130,7 @@ fn totals_lines(
     Ok(lines)
 }
 
-/// Adds up the rows that are cut off, if there are some.
+/// Adds up the rows after the first `top`, which are cut off. Returns `None` if no row is cut off.
 fn others_sums(top: Option<u32>, rows: &[ShownRow<'_>]) -> Result<Option<Sums>, AllocError>
     ensures { IfOk result (λ others. others ≡ sums_of_some (rest_of top rows.now)) }
 {
@@ -137,7 +138,7 @@ fn others_sums(top: Option<u32>, rows: &[ShownRow<'_>]) -> Result<Option<Sums>, 
     sums_of_some(rest)
 }
 
-/// Cuts off all rows after the first `top`, if there is such a number.
+/// Cuts off all rows after the first `top`. If `top` is `None`, no row is cut off.
 fn cut(top: Option<u32>, rows: &mut Vec<ShownRow<'_>>)
     ensures { rows.new.items ≡ first_of top rows.old.items }
 {
@@ -153,10 +154,11 @@ fn listed_files(listed: bool, files: &[FileLine]) -> &[FileLine]
 }
 
 impl<'a> Shown<'a> {
-    /// Sums and sorts the rows of a report, cuts them, and adds up the sums that are also shown.
+    /// Sums, sorts and cuts the rows of a report. Also adds up the rows that are cut off, and the rows of text files and of binary files.
     ///
-    /// Rows by directory are sums over the files, which the report must have, sorted as the sheet lists them. An error means that an
-    /// allocation failed or that sums overflow. The sums of a walk's rows never overflow.
+    /// Rows by directory are sums over the files, which the report must have. The sheet lists files in the order of the report, so the
+    /// caller sorts them before, with [`sort_files`](crate::sort_files). An error means that an allocation failed or that sums overflow.
+    /// The sums of a walk's rows never overflow.
     pub fn of(
         alloc: Global,
         report: &'a Report,
@@ -170,7 +172,8 @@ impl<'a> Shown<'a> {
         Ok(shown)
     }
 
-    /// Like [`of`](Shown::of), but shows these sums over text and binary files, for a report whose rows do not keep them apart.
+    /// Like [`of`](Shown::of), but shows these sums over text files and over binary files, for a report whose rows do not keep the two
+    /// apart.
     pub fn with_classes(
         alloc: Global,
         report: &'a Report,
@@ -185,7 +188,8 @@ impl<'a> Shown<'a> {
         Ok(shown)
     }
 
-    /// Shows these rows of a report, which [`shown_rows`] summed and sorted: cuts them, and adds up the sums that are also shown.
+    /// Shows these rows of a report, which [`shown_rows`] summed and sorted. Cuts them, and adds up the rows that are cut off, and the
+    /// report's rows of text files and of binary files.
     pub fn with_rows(
         alloc: Global,
         report: &'a Report,
@@ -253,7 +257,7 @@ impl<'a> Shown<'a> {
         }
     }
 
-    /// Returns the sheet, which borrows everything.
+    /// Returns the sheet of the shown part. The sheet borrows its lines and columns.
     pub fn sheet(&'a self) -> ReportSheet<'a>
         ensures { result ≡ self.entry.now }
     {

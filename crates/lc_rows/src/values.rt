@@ -1,4 +1,4 @@
-//! Values that several kinds of lines have.
+//! Values of columns that several kinds of lines share, such as rows and files.
 
 ghost use Rattle.std.specs.Prelude.{◌≡◌, option_map};
 ghost use Rattle.lc_sheet.specs.Values.{value_model};
@@ -10,7 +10,7 @@ use lc_sheet::{Shares, Value};
 use lc_text::Name;
 use lc_walk::Sums;
 
-/// Makes the value that has only these bytes.
+/// Makes a value that is printed as these bytes, with nothing before or after them.
 pub(crate) fn bytes_value(bytes: &[u8]) -> Value<'_>
     ensures { value_model result ≡ bytes_value bytes.entry.now }
 {
@@ -36,7 +36,7 @@ pub(crate) fn extension_value(extension: Option<&[u8]>) -> Value<'_>
     }
 }
 
-/// Makes the value of a directory. The empty path of the top is shown as a dot.
+/// Makes the value of a directory. The empty path of the top directory is shown as a dot.
 pub(crate) fn directory_value(path: &[u8]) -> Value<'_>
     ensures { value_model result ≡ directory_value path.entry.now }
 {

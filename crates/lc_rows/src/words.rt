@@ -1,4 +1,4 @@
-//! The words of skipped entries.
+//! What is printed of a skipped entry: the word for what it is, and what follows its path.
 
 ghost use Rattle.std.specs.Prelude.{◌≡◌};
 ghost use Rattle.lc_level.specs.Reasons.{reason_model};

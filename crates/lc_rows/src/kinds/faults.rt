@@ -1,4 +1,4 @@
-//! The errors of a sheet.
+//! The errors of a report's sheet, and their values in its columns.
 
 ghost use Rattle.std.specs.Prelude.{◌≡◌};
 ghost use Rattle.lc_sheet.specs.Values.{value_model};
@@ -7,7 +7,7 @@ ghost use Rattle.lc_rows.specs.Kinds.{fault_value};
 use lc_sheet::{Column, Form, Lines, Value};
 use lc_walk::FaultLine;
 
-/// The kind of the lines about errors.
+/// Says which value a line about an error has in each column of a sheet. The struct is empty: it only implements `Lines` for errors.
 #[derive(Drop)]
 pub struct Faults {}
 

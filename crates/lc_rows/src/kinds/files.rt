@@ -1,4 +1,4 @@
-//! The files of a sheet.
+//! The files of a report's sheet, and their values in its columns.
 
 ghost use Rattle.std.specs.Prelude.{◌≡◌};
 ghost use Rattle.lc_sheet.specs.Values.{value_model};
@@ -10,7 +10,7 @@ use crate::values::{directory_value, extension_value, text_value};
 use lc_sheet::{Column, Form, Lines, Value};
 use lc_walk::{FileLine, extension};
 
-/// The kind of the files of a sheet.
+/// Says which value a counted file has in each column of a sheet. The struct is empty: it only implements `Lines` for files.
 #[derive(Drop)]
 pub struct Files {}
 

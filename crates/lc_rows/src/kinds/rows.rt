@@ -1,4 +1,4 @@
-//! The rows of a sheet.
+//! The rows of a report's sheet, and their values in its columns.
 
 ghost use Rattle.std.specs.Prelude.{◌≡◌, [], option_map, unwrap_or};
 ghost use Rattle.lc_sheet.specs.Values.{value_model, word};
@@ -14,7 +14,7 @@ use lc_rules::TextState;
 use lc_sheet::{Column, Form, Lines, Value};
 use std::marker::PhantomData;
 
-/// The kind of the rows of a sheet.
+/// Says which value a row of a table has in each column of a sheet. The struct holds no data: it only implements `Lines` for rows.
 #[derive(Drop)]
 pub struct Rows<'a> {
     rows: PhantomData<&'a ()>,

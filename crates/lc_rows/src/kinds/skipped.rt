@@ -1,4 +1,4 @@
-//! The skipped entries of a sheet.
+//! The skipped entries of a report's sheet, and their values in its columns.
 
 ghost use Rattle.std.specs.Prelude.{◌≡◌};
 ghost use Rattle.lc_sheet.specs.Values.{value_model};
@@ -12,11 +12,11 @@ use lc_sheet::{Column, Form, Lines, Value};
 use lc_text::{Name, source_directory, source_name};
 use lc_walk::SkippedLine;
 
-/// The kind of the skipped entries of a sheet.
+/// Says which value a skipped entry has in each column of a sheet. The struct is empty: it only implements `Lines` for skipped entries.
 #[derive(Drop)]
 pub struct Skipped {}
 
-/// Makes the value of the path of a rule's file, with a line number if there is one.
+/// Makes a value that shows the path of a rule's file, and the line number if there is one.
 fn rule_name(path: &[u8], source: RuleSource, line: Option<u32>) -> Value<'_>
     ensures { value_model result ≡ rule_name path.entry.now source line }
 {
@@ -67,7 +67,7 @@ fn attribute_value(line: &SkippedLine) -> Value<'_>
     }
 }
 
-/// Makes the value of the path of an entry, with a slash if it is a directory.
+/// Makes a value that shows the path of a skipped entry, with a slash at the end if the entry is a directory.
 fn entry_value(line: &SkippedLine) -> Value<'_>
     ensures { value_model result ≡ entry_value line.entry.now }
 {

@@ -1,4 +1,4 @@
-//! The sums of a sheet.
+//! The lines of sums of a report's sheet, and their values in its columns.
 
 ghost use Rattle.std.specs.Prelude.{◌≡◌};
 ghost use Rattle.lc_sheet.specs.Values.{value_model};
@@ -27,11 +27,12 @@ impl Model for NamedSums {
     ghost view = { λ s. record { name = s.name.now; sums = s.sums } };
 }
 
-/// The kind of the sums of a sheet.
+/// Says which value a line of sums, such as the total, has in each column of a sheet. The struct is empty: it only implements `Lines` for
+/// sums.
 #[derive(Drop)]
 pub struct Totals {}
 
-/// Makes the value of a name in a column: the name in the first column, and `Summed` in the others.
+/// Makes the value of a line of sums in a column of keys: the line's name in the column `first`, and `Summed` in the others.
 fn named_in<'l>(first: Column, column: Column, name: &'static str) -> Value<'l>
     ensures { value_model result ≡ named_in first column name.now }
 {
