@@ -1,4 +1,4 @@
--- The columns of each section of a comparison, by the format.
+-- The columns that each section of a comparison has in each format.
 use Rattle.std.specs.Prelude.{Bool, List, [], ◌∷◌, ◌++◌, is_some}
 use Rattle.lc_rows.specs.SheetColumns.{column_if, keeps_columns, key_columns}
 use Rattle.lc_sheet.specs.declared.column.Column.{Column}
@@ -9,7 +9,7 @@ use Rattle.lc_sheet.specs.declared.table_options.Columns.{Columns}
 use Rattle.lc_sheet.specs.declared.table_options.Format.{Format}
 use Rattle.lc_sheet.specs.declared.table_options.Format.TheVariants.{Tsv, Table, Json, Csv, Markdown, Html}
 
--- each number of the old report, and beside it that of the new one
+-- each number of the old report, followed by the same number of the new report
 abbrev pub numbers_in_turn : List Column
 numbers_in_turn =
     column.Old (compared.Number number.Files) ∷ column.New (compared.Number number.Files)
@@ -17,7 +17,7 @@ numbers_in_turn =
     ∷ column.Old (compared.Number number.Blank) ∷ column.New (compared.Number number.Blank)
     ∷ column.Old (compared.Number number.Bytes) ∷ column.New (compared.Number number.Bytes) ∷ []
 
--- the numbers of the old report, and then those of the new one
+-- the numbers of the old report, and then the numbers of the new report
 abbrev pub numbers_by_report : List Column
 numbers_by_report =
     column.Old (compared.Number number.Files) ∷ column.Old (compared.Number number.Lines)
@@ -25,7 +25,7 @@ numbers_by_report =
     ∷ column.New (compared.Number number.Files) ∷ column.New (compared.Number number.Lines)
     ∷ column.New (compared.Number number.Blank) ∷ column.New (compared.Number number.Bytes) ∷ []
 
--- each number of the new report, and beside it its change
+-- each number of the new report, followed by its change
 abbrev pub numbers_with_changes : List Column
 numbers_with_changes =
     column.New (compared.Number number.Files) ∷ column.Difference number.Files
@@ -41,11 +41,11 @@ changed_numbers Table = numbers_with_changes
 changed_numbers Markdown = numbers_with_changes
 changed_numbers Html = numbers_with_changes
 
--- of rows: their keys, and then the numbers
+-- the columns of rows: their keys, and then the numbers
 abbrev pub changed_columns : Format → Columns → List Column
 changed_columns format by = key_columns (keeps_columns format) by ++ changed_numbers format
 
--- of sums, where rows have these
+-- the columns of sums in a comparison whose rows have these columns
 abbrev pub changed_sums_columns : Format → List Column → List Column
 changed_sums_columns Tsv rows = rows
 changed_sums_columns Table rows = rows
@@ -56,7 +56,7 @@ changed_sums_columns Html rows = rows
 
 -- ---- of files
 
--- what a file has in the old report, and beside it what it has in the new one
+-- each value of a file in the old report, followed by the same value in the new report
 abbrev pub sides_in_turn : List Column
 sides_in_turn =
     column.Old compared.Text ∷ column.New compared.Text ∷ column.Old compared.Eol ∷ column.New compared.Eol
@@ -64,7 +64,7 @@ sides_in_turn =
     ∷ column.Old (compared.Number number.Blank) ∷ column.New (compared.Number number.Blank)
     ∷ column.Old (compared.Number number.Bytes) ∷ column.New (compared.Number number.Bytes) ∷ []
 
--- what it has in the old report, and then what it has in the new one
+-- the values of a file in the old report, and then its values in the new report
 abbrev pub sides_by_report : List Column
 sides_by_report =
     column.Old compared.Text ∷ column.Old compared.Eol ∷ column.Old (compared.Number number.Lines)

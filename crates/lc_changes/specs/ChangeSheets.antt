@@ -19,7 +19,7 @@ use Rattle.lc_walk.specs.declared.options.ReportLists.{ReportLists}
 use Rattle.lc_walk.specs.declared.report.Report.{Report}
 use Rattle.lc_walk.specs.declared.tally.sums.Sums.{Sums}
 
--- the columns by which rows are kept apart, and the column of names
+-- the form of lines: the columns that rows are grouped by, and the column of the names of sums
 abbrev pub form_by : Format → Columns → Form
 form_by format by = record { by = by; first = first_key (keeps_columns format) by; shares = None }
 
@@ -28,7 +28,7 @@ form_by format by = record { by = by; first = first_key (keeps_columns format) b
 abbrev pub sums_line : List ℕ → Sums → Sums → ChangedSumsModel
 sums_line name old new = record { new_sums = record { name = name; sums = new }; old_sums = old }
 
--- the sums over the rows that are cut off, where some are
+-- the line of the sums over the rows that are cut off, if there are any
 abbrev pub other_sums : List ChangedRowModel → List ChangedSumsModel
 other_sums [] = []
 other_sums (r ∷ rows) = sums_line (codes "others") (old_sums_of (r ∷ rows)) (new_sums_of (r ∷ rows)) ∷ []
@@ -38,7 +38,7 @@ total_sums old new = sums_line (codes "total") old new ∷ []
 
 -- ---- the comparison
 
--- what is shown of a comparison: in which format and form; the rows with their columns; the sums; the files, where they are listed
+-- what is shown of a comparison: the format and the form; the rows with their columns; the sums; the files, if they are listed
 pub record ShownChangesModel : Type 0 where
   pub format : Format
   pub form : Form
@@ -61,7 +61,7 @@ comparison_with m = record {
   files = files_section m;
 }
 
--- of these rows and files, as they are sorted, the first ones, and the sums over the other rows; and this total
+-- the comparison that shows the first of these sorted rows and files, the sums over the other rows, and this total
 abbrev pub comparison_of : ChangeOptions → List ChangedSumsModel → List ChangedRowModel → List FileChangeModel → ComparisonModel
 comparison_of options total rows files = comparison_with (record {
   format = options.format;
@@ -74,7 +74,7 @@ comparison_of options total rows files = comparison_with (record {
   files = first_of options.top files;
 })
 
--- a comparison, and whether the reports differ in a row or in a listed file, shown or not
+-- a comparison, and whether the reports differ in a row or in a listed file, whether the row or file is shown or not
 pub record ChangesModel : Type 0 where
   pub sheet : ComparisonModel
   pub some_differ : Bool
@@ -98,7 +98,7 @@ pub record AreChangesOf (options : ChangeOptions) (old new : Report) (c : Change
   pub is_sheet : c.sheet ≡ comparison_of options (total_sums old.totals new.totals) shown listed
   pub is_differ : c.some_differ ≡ some_differ rows files
 
--- rows by directory are made of the files, and so is the list of files; both reports must have them
+-- whether a comparison needs the files of both reports: rows by directory and the list of files are made of the files
 abbrev pub needs_files : ChangeOptions → Bool
 needs_files options = if options.files then true else is_some options.by.dir
 

@@ -1,4 +1,4 @@
--- The lines of a comparison: what rows, sums and files have in each column.
+-- The lines of a comparison: the values that rows, sums and files have in each column.
 use Rattle.std.specs.Prelude.{ℕ, List, codes, Option, Some, None}
 use Rattle.lc_changes.specs.Changes.{ChangedRowModel}
 use Rattle.lc_changes.specs.FileChanges.{FileChangeModel, either_file, side_number}
@@ -23,7 +23,7 @@ changed_value form r other = row_value form r.new_row other
 
 -- ---- sums
 
--- sums over files of the new report, with their name, and over those of the old one
+-- sums over files of the new report, with their name, and sums over files of the old report
 pub record ChangedSumsModel : Type 0 where
   pub new_sums : NamedSumsModel
   pub old_sums : Sums
@@ -36,18 +36,18 @@ changed_sums_value form s other = sums_value form s.new_sums other
 
 -- ---- files
 
--- the column in which a report has what is compared
+-- the column of a single report that has the compared value
 abbrev pub column_of : Compared → Column
 column_of compared.Text = column.Text
 column_of compared.Eol = column.Eol
 column_of (compared.Number n) = column.Number n
 
--- what a report has of a file; nothing, where it does not have the file
+-- the compared value of a file in one report; it is `missing` if the report lacks the file
 abbrev pub side_value : Form → Option FileLineModel → Compared → ValueModel
 side_value form None compared = missing
 side_value form (Some f) compared = file_value form f (column_of compared)
 
--- what both reports have of it
+-- a value of a file that does not depend on the report, such as its extension
 abbrev pub shared_value : Form → Option FileLineModel → Column → ValueModel
 shared_value form None column = blank
 shared_value form (Some f) column = file_value form f column

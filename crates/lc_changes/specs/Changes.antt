@@ -23,13 +23,13 @@ changed_key r = row_key r.new_row
 abbrev pub changed_row : ShownRowModel → Sums → ChangedRowModel
 changed_row row old = record { new_row = row; old_sums = old }
 
--- the row of a pair; a report without the key has no files of it
+-- the row of a pair; a report without the key has sums of zero
 abbrev pub row_of_pair : PairModel ShownRowModel → ChangedRowModel
 row_of_pair (removed o) = changed_row (row_with (row_key o) no_files) o.sums
 row_of_pair (added n) = changed_row n no_files
 row_of_pair (both o n) = changed_row n o.sums
 
--- the sums of a key
+-- the sums over the parts that have a key
 abbrev pub sums_at : RowKey → List ShownRowModel → Sums
 sums_at k parts = sums_of_shown (rows_within (same_row_key k) parts)
 
@@ -45,7 +45,7 @@ pub record AreCompared (olds news : List ShownRowModel) (rows : List ChangedRowM
 abbrev pub are_same_sums : Sums → Sums → Bool
 are_same_sums a b = a.files == b.files && a.lines == b.lines && a.blank == b.blank && a.bytes == b.bytes
 
--- whether a number of a row changed
+-- whether any number of a row changed
 abbrev pub differs : ChangedRowModel → Bool
 differs r = not (are_same_sums r.old_sums r.new_row.sums)
 
@@ -55,14 +55,14 @@ kept_rows all rows = if all then rows else filter differs rows
 
 -- ---- their order
 
--- how far a number is from another, above or below it
+-- the difference of two numbers without its sign
 abbrev pub distance : ℕ → ℕ → ℕ
 distance a b = (a - b) + (b - a)
 
 abbrev pub row_change : Number → ChangedRowModel → ℕ
 row_change n r = distance (number_in n r.old_sums) (number_in n r.new_row.sums)
 
--- the largest change first
+-- the order of rows by the change of a number, largest first
 abbrev pub by_change : Number → ChangedRowModel → ChangedRowModel → Ordering
 by_change n a b = nat_cmp (row_change n b) (row_change n a)
 
@@ -70,7 +70,7 @@ by_change n a b = nat_cmp (row_change n b) (row_change n a)
 abbrev pub change_cmp : Number → ChangedRowModel → ChangedRowModel → Ordering
 change_cmp n = then_cmp (by_change n) (on changed_key row_key_cmp)
 
--- the rows in the order of keys, or sorted
+-- the rows in the given order, or sorted by the change of a number
 abbrev pub AreChangesSorted : Option Number → List ChangedRowModel → List ChangedRowModel → Type 0
 AreChangesSorted None rows sorted = sorted ≡ rows
 AreChangesSorted (Some n) rows sorted = IsPermutation rows sorted × IsSorted (change_cmp n) sorted

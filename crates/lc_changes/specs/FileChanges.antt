@@ -1,4 +1,4 @@
--- The files of a comparison: those of one report alone, and those that differ.
+-- The files of a comparison: files that one report alone has, and files that differ between both.
 use Rattle.std.specs.Prelude.{◌≡◌, ℕ, ◌==◌, Bool, true, false, ◌&&◌, ◌||◌, not, List, [], map, filter, Option, Some, None}
 use Rattle.std.specs.Bool.{MatchBool}
 use Rattle.std.specs.List.{All, Contains, list_any}
@@ -27,7 +27,7 @@ file_of_pair (removed o) = file_pair (Some o) None
 file_of_pair (added n) = file_pair None (Some n)
 file_of_pair (both o n) = file_pair (Some o) (Some n)
 
--- the file in the new report, or else in the old one, and its path
+-- the file of the new report, or the file of the old report if the new one lacks it; its path is below
 abbrev pub either_file : FileChangeModel → Option FileLineModel
 either_file c = option_or c.new_file c.old_file
 
@@ -45,7 +45,7 @@ abbrev pub IsFileAt : List FileLineModel → List ℕ → Option FileLineModel �
 IsFileAt files path file =
     MatchOption file (list_any (λ (f : FileLineModel). same_path path f.path) files ≡ false) (λ f. Contains files f × (f.path ≡ path))
 
--- the files of both reports side by side, for each path of some file, in the order of paths
+-- the files of both reports side by side: a pair for each path that a report has, in the order of paths
 pub record AreFilesCompared (olds news : List FileLineModel) (changes : List FileChangeModel) : Type 0 where
   pub old : All (λ (c : FileChangeModel). IsFileAt olds (changed_path c) c.old_file) changes
   pub new : All (λ (c : FileChangeModel). IsFileAt news (changed_path c) c.new_file) changes
@@ -78,14 +78,14 @@ AreFilesChanged listed olds news changes = MatchBool listed
 
 -- ---- their order
 
--- a number of a file; a report without it has none
+-- a number of a file, or 0 if the report lacks the file
 abbrev pub side_number : Number → Option FileLineModel → ℕ
 side_number n file = option_map_or (file_number n) file 0
 
 abbrev pub file_change : Number → FileChangeModel → ℕ
 file_change n c = distance (side_number n c.old_file) (side_number n c.new_file)
 
--- the largest change first
+-- the order of files by the change of a number, largest first
 abbrev pub by_file_change : Number → FileChangeModel → FileChangeModel → Ordering
 by_file_change n a b = nat_cmp (file_change n b) (file_change n a)
 
@@ -93,14 +93,14 @@ by_file_change n a b = nat_cmp (file_change n b) (file_change n a)
 abbrev pub file_change_cmp : Number → FileChangeModel → FileChangeModel → Ordering
 file_change_cmp n = then_cmp (by_file_change n) (on changed_path bytes_cmp)
 
--- the files in the order of paths, or sorted
+-- the files in the given order, or sorted by the change of a number
 abbrev pub AreFileChangesSorted : Option Number → List FileChangeModel → List FileChangeModel → Type 0
 AreFileChangesSorted None changes sorted = sorted ≡ changes
 AreFileChangesSorted (Some n) changes sorted = IsPermutation changes sorted × IsSorted (file_change_cmp n) sorted
 
 -- ---- the files of one report
 
--- a file of each path that some file has, in the order of paths
+-- one file for each path that some file has, in the order of paths
 pub record AreByPath (files sorted : List FileLineModel) : Type 0 where
   pub given : (f : FileLineModel) → Contains sorted f → Contains files f
   pub present : (paths : List ℕ → Bool) → list_any (λ (f : FileLineModel). paths f.path) sorted

@@ -27,14 +27,14 @@ use Rattle.lc_walk.specs.declared.report.Report.{Report}
 abbrev pub has_no_line : Option SectionModel → Type 0
 has_no_line section = MatchOption section (Unit {0}) (λ s. s.lines ≡ [])
 
--- no row and no file differs: without `--all` there is no row, and no file in any case
+-- no row and no file differs: the comparison shows no file, and it shows rows only with `--all`
 pub record HasNoChange (options : ChangeOptions) (c : ChangesModel) : Type 0 where
   pub differ : c.some_differ ≡ false
   pub rows : options.all ≡ false → c.sheet.rows.lines ≡ []
   pub others : options.all ≡ false → c.sheet.others.lines ≡ []
   pub files : has_no_line c.sheet.files
 
--- a report in which no path stands twice does not differ from itself
+-- a report in which no path is twice does not differ from itself
 abbrev pub SelfLaw : Type 0
 SelfLaw =
     (options : ChangeOptions) (r : Report) (c : ChangesModel) → AreApart (map file_path r.files.items) → AreChangesOf options r r c
@@ -42,8 +42,8 @@ SelfLaw =
 
 -- ---- rows, and those of tables
 
--- a row has the sums that the tables of both reports show for its key, there is a row for each key that one of them shows, and the rows
--- add up to the same as both tables
+-- a row of a comparison has the sums that the tables of both reports show for its key; each key that one of the tables shows has a row; and
+-- the rows add up to the same sums as both tables
 pub record HasRowsOf (olds news : List ShownRowModel) (rows : List ChangedRowModel) : Type 0 where
   pub old : All (λ (r : ChangedRowModel). r.old_sums ≡ sums_at (changed_key r) olds) rows
   pub new : All (λ (r : ChangedRowModel). r.new_row.sums ≡ sums_at (changed_key r) news) rows
@@ -60,13 +60,13 @@ TablesLaw =
 
 -- ---- one comparison
 
--- the rows of a comparison are determined by the parts of the rows of both reports
+-- the parts that the rows of both reports add up determine the rows of their comparison
 abbrev pub RowsOnceLaw : Type 0
 RowsOnceLaw =
     (olds news : List ShownRowModel) (rows others : List ChangedRowModel) → AreCompared olds news rows → AreCompared olds news others
     → rows ≡ others
 
--- and its files by the files of both, if no path stands twice in one of them
+-- the files of two reports determine the files of their comparison, if neither report has a path twice
 abbrev pub FilesOnceLaw : Type 0
 FilesOnceLaw =
     (olds news : List FileLineModel) (files others : List FileChangeModel) → AreApart (map file_path olds) → AreApart (map file_path news)
@@ -78,14 +78,14 @@ pub record OneComparisonLaw : Type 0 where
 
 -- ---- changes
 
--- the change of a number is from what is in the column of the old report to what is in that of the new one, and from 0 or to 0 where
--- nothing is there
+-- the change of a number is from the number in the column of the old report to the number in the column of the new report; a missing number
+-- counts as 0
 abbrev pub IsFromOldToNew : (Column → ValueModel) → Type 0
 IsFromOldToNew value = (n : Number)
     → value (column.Difference n)
     ≡ difference (number_of (value (column.Old (compared.Number n)))) (number_of (value (column.New (compared.Number n))))
 
--- so it is in each line of rows, of sums and of files
+-- changes are from old numbers to new numbers in each line of rows, of sums and of files
 pub record DifferencesLaw : Type 0 where
   pub rows : (form : Form) (r : ChangedRowModel) → IsFromOldToNew (changed_value form r)
   pub sums : (form : Form) (s : ChangedSumsModel) → IsFromOldToNew (changed_sums_value form s)

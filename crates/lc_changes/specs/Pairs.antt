@@ -1,17 +1,17 @@
--- Two lists set side by side: what has the same key in both is a pair.
+-- Two lists set side by side: elements that have the same key in both lists are a pair.
 use Rattle.std.specs.Prelude.{◌≡◌, Bool, true, false, List, [], ◌∷◌, map, flat_map, Option, Some, None}
 use Rattle.std.specs.List.{All}
 use Rattle.std.specs.List.Sorted.{IsStrictlySortedBy}
 use Rattle.std.specs.declared.cmp.Ordering.{Ordering}
 use Rattle.std.specs.declared.cmp.Ordering.TheVariants.{Less, Equal, Greater}
 
--- what is in the old list alone, in the new list alone, or in both
+-- an element of the old list alone, an element of the new list alone, or an element of each list
 pub data PairModel (X : Type 0) : Type 0 where
   removed : X → PairModel X
   added : X → PairModel X
   both : X → X → PairModel X
 
--- what a pair has of the old list, and of the new one
+-- the element of the old list in a pair, if there is one; the element of the new list is below
 abbrev pub old_of : {X : Type 0} → PairModel X → List X
 old_of (removed x) = x ∷ []
 old_of (added y) = []
@@ -22,7 +22,7 @@ new_of (removed x) = []
 new_of (added y) = y ∷ []
 new_of (both x y) = y ∷ []
 
--- what a pair has its key of
+-- the element whose key is the key of the pair
 abbrev pub lead : {X : Type 0} → PairModel X → X
 lead (removed x) = x
 lead (added y) = y
@@ -31,13 +31,13 @@ lead (both x y) = y
 abbrev pub pair_key : {X K : Type 0} → (X → K) → PairModel X → K
 pair_key key p = key (lead p)
 
--- both sides have the same key
+-- both elements of a pair have the same key
 abbrev pub HasOneKey : {X K : Type 0} → (X → K) → PairModel X → Type 0
 HasOneKey key (removed x) = Unit {0}
 HasOneKey key (added y) = Unit {0}
 HasOneKey key (both x y) = key x ≡ key y
 
--- pairs that have all of both lists, in order, and whose keys rise
+-- pairs that have all elements of both lists, in their order, and whose keys rise
 pub record ArePaired {X K : Type 0} (key : X → K) (cmp : K → K → Ordering) (olds news : List X) (pairs : List (PairModel X)) : Type 0 where
   pub old_sides : flat_map old_of pairs ≡ olds
   pub new_sides : flat_map new_of pairs ≡ news
@@ -62,14 +62,14 @@ next_by make Less o n = record { line = make (removed o); from_old = true; from_
 next_by make Equal o n = record { line = make (both o n); from_old = true; from_new = true }
 next_by make Greater o n = record { line = make (added n); from_old = false; from_new = true }
 
--- of two lists whose keys rise, the first element with the least key, or the first ones of both
+-- the next pair of two lists whose keys rise: the first element with the least key, or both first elements if their keys are equal
 abbrev pub next_of : {X K L : Type 0} → (PairModel X → L) → (X → K) → (K → K → Ordering) → List X → List X → Option (NextModel L)
 next_of make key cmp [] [] = None
 next_of make key cmp (o ∷ os) [] = Some (record { line = make (removed o); from_old = true; from_new = false })
 next_of make key cmp [] (n ∷ ns) = Some (record { line = make (added n); from_old = false; from_new = true })
 next_of make key cmp (o ∷ os) (n ∷ ns) = Some (next_by make (cmp (key o) (key n)) o n)
 
--- what is left of a list after its first element, if that is passed
+-- a list without its first element if the element is passed, and otherwise the whole list
 abbrev pub left_of : {X : Type 0} → Bool → List X → List X
 left_of false xs = xs
 left_of true [] = []

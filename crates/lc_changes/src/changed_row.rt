@@ -10,7 +10,7 @@ use lc_sheet::Number;
 use lc_walk::Sums;
 use std::marker::Model;
 
-/// A row of a comparison: the sums of both reports over the files that have the same values in the columns of rows. A report without such
+/// A row of a comparison: the sums of both reports over the files that have the same values in the table's columns. A report without such
 /// files has sums of zero.
 #[derive(Drop)]
 pub struct ChangedRow<'a> {
@@ -47,7 +47,7 @@ fn are_same_sums(a: Sums, b: Sums) -> bool
     a.files == b.files && a.lines == b.lines && a.blank == b.blank && a.bytes == b.bytes
 }
 
-/// Returns how far a number is from another.
+/// Returns the distance of two numbers: their difference without its sign.
 pub(crate) fn distance(a: u128, b: u128) -> u128
     ensures { result ≡ distance a b }
 {
@@ -85,7 +85,7 @@ impl<'a> ChangedRow<'a> {
         }
     }
 
-    /// Returns whether a number differs between the reports.
+    /// Returns whether any number of the row differs between the reports.
     pub(crate) fn differs(&self) -> bool
         ensures { result ≡ differs self.now }
     {

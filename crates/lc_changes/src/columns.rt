@@ -1,4 +1,4 @@
-//! The columns of each section of a comparison, by the format.
+//! The columns that each section of a comparison has in each format.
 
 ghost use Rattle.std.specs.Prelude.{◌≡◌, IfOk};
 ghost use Rattle.lc_changes.specs.ChangeColumns.{changed_columns, changed_numbers, changed_sums_columns, csv_changes, file_change_columns};
@@ -64,7 +64,7 @@ fn changed_numbers(format: Format) -> &'static [Column]
     }
 }
 
-/// Makes the columns of rows.
+/// Makes the columns of the rows of a comparison.
 pub(crate) fn changed_columns(
     alloc: Global,
     format: Format,
@@ -196,7 +196,7 @@ fn json_changes(by_directory: bool) -> &'static [Column]
     }
 }
 
-/// Returns the columns of files.
+/// Returns the columns of a comparison's list of files.
 pub(crate) fn file_change_columns(format: Format, by: Columns) -> &'static [Column]
     ensures { result.now ≡ file_change_columns format by }
 {

@@ -10,12 +10,12 @@ use lc_sheet::Number;
 use lc_walk::FileLine;
 use std::marker::Model;
 
-/// A file of a comparison: a path, and what each report has there.
+/// A file of a comparison: the files that the two reports have at the same path.
 #[derive(Drop)]
 pub struct FileChange<'a> {
-    /// The file of the old report, if it has one at the path.
+    /// The old report's file at the path, or `None` if the report has no file there.
     pub old_file: Option<&'a FileLine>,
-    /// The file of the new report, if it has one at the path.
+    /// The new report's file at the path, or `None` if the report has no file there.
     pub new_file: Option<&'a FileLine>,
 }
 
@@ -50,7 +50,7 @@ pub(crate) fn side_number(number: Number, file: Option<&FileLine>) -> u128
 }
 
 impl<'a> FileChange<'a> {
-    /// Returns the file in the new report, or else in the old one.
+    /// Returns the file of the new report, or the file of the old report if the new report lacks the file.
     pub(crate) fn either(&self) -> Option<&'a FileLine>
         ensures { option_map (λ f. f.now) result ≡ either_file self.now }
     {
@@ -81,7 +81,7 @@ impl<'a> FileChange<'a> {
         }
     }
 
-    /// Returns the word for what became of the file.
+    /// Returns the word for what became of the file from the old report to the new one: `added`, `removed` or `changed`.
     pub(crate) fn word(&self) -> &'static str
         ensures { result.now ≡ change_word self.now.old_file self.now.new_file }
     {

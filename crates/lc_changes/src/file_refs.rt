@@ -50,7 +50,7 @@ fn all_refs<'a>(alloc: Global, files: &'a [FileLine]) -> Result<Vec<FileRef<'a>>
     Ok(refs)
 }
 
-/// Sorts files by their paths. Of files with the same path it keeps one.
+/// Sorts files by their paths, and keeps only one of the files with the same path.
 fn unite(refs: &mut Vec<FileRef<'_>>)
     ensures { AreByPath refs.old.items refs.new.items }
 {
@@ -60,7 +60,7 @@ fn unite(refs: &mut Vec<FileRef<'_>>)
 
 /// Returns the files of a report in the order of their paths, each path once.
 ///
-/// The files of a walk's report are already in this order. Then this takes time in proportion to their number.
+/// The files of a walk's report are already in this order. Sorting such files takes time in proportion to their number.
 pub(crate) fn by_path<'a>(
     alloc: Global,
     files: &'a [FileLine],

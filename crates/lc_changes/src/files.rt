@@ -41,7 +41,8 @@ fn both<'a>(old: &FileRef<'a>, new: &FileRef<'a>) -> FileChange<'a>
     }
 }
 
-/// Returns the file of the least path of two lists in the order of paths, and whether each list has it first.
+/// Compares the first files of two lists that are in the order of paths. Returns the file with the least path, and for each list whether it
+/// begins with this path. Returns `None` if both lists are empty.
 fn next_file<'a>(olds: &[FileRef<'a>], news: &[FileRef<'a>]) -> Option<(FileChange<'a>, bool, bool)>
     ensures { MatchOption result (next_of file_of_pair file_path bytes_cmp olds.now news.now ≡ None)
         (λ s. next_of file_of_pair file_path bytes_cmp olds.now news.now
@@ -59,7 +60,7 @@ fn next_file<'a>(olds: &[FileRef<'a>], news: &[FileRef<'a>]) -> Option<(FileChan
     }
 }
 
-/// Sets files that are in the order of their paths side by side.
+/// Pairs the files of two lists by their paths. Both lists, and the result, are in the order of paths.
 fn paired_files<'s, 'a>(
     alloc: Global,
     olds: &'s [FileRef<'a>],
@@ -80,7 +81,7 @@ fn paired_files<'s, 'a>(
     Ok(files)
 }
 
-/// Sets the files of two reports side by side, in the order of their paths.
+/// Pairs the files of two reports by their paths, in the order of paths.
 fn compared_files<'a>(
     alloc: Global,
     olds: &'a [FileLine],
@@ -101,7 +102,7 @@ fn keep_changed(files: &mut Vec<FileChange<'_>>)
     files.retain(|file| file.is_changed());
 }
 
-/// Returns the files that differ between two reports, in the order of their paths, if they are listed.
+/// Returns the files that differ between two reports, in the order of their paths. Returns no files if `listed` is false.
 pub(crate) fn changed_files<'a>(
     alloc: Global,
     old: &'a Report,

@@ -1,4 +1,4 @@
-//! The kinds of lines of a comparison.
+//! The kinds of lines of a comparison's sheet.
 //!
 //! - `rows`, `sums`, `files`: the value of a line of each kind in each column
 

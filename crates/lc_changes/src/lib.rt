@@ -1,11 +1,13 @@
 //! The changes from one report to another: the rows and the files in which they differ, and what is shown of them.
 //!
 //! - `options`: the options of a comparison
-//! - `pairs`: two lists side by side
+//! - `pairs`: a step through two sorted lists side by side
 //! - `changed_row`: a row with the sums of both reports; `rows`: the rows of two reports side by side
-//! - `file_change`: a file of two reports; `files`: the files of two reports side by side; `file_refs`: the files of one, by their paths
+//! - `file_change`: a file in two reports; `files`: the files of two reports side by side; `file_refs`: the files of one report, by their
+//!   paths
 //! - `sorting`: the order of rows and of files; `sums`: the sums over rows
-//! - `kinds`: the value of a line in a column; `columns`: the columns of each section; `shown_changes`: what is shown, and its sheet
+//! - `kinds`: the value of a line in a column; `columns`: the columns of each section; `shown_changes`: what a comparison shows, and its
+//!   sheet
 //! - `laws`: laws of the definitions that the contracts cite
 #![tactic(auto)]
 

@@ -5,17 +5,19 @@ use lc_sheet::{Columns, Format, Number};
 /// The options of a comparison of two reports.
 #[derive(Debug, Clone, Copy, PartialEq, Eq)]
 pub struct ChangeOptions {
-    /// The format in which it is written.
+    /// The format in which the comparison is written.
     pub format: Format,
-    /// The columns by which its rows are kept apart.
+    /// The columns that the rows of the comparison are grouped by.
     pub by: Columns,
-    /// The number whose change sorts rows and files, the largest change first, up or down. Rows with equal changes are in the order of
-    /// their keys, and files in the order of their paths. Without a number, so are all rows and all files.
+    /// The number by whose change rows and files are sorted: the largest change first, whether up or down. Rows with equal changes are in
+    /// the order of their keys, and files with equal changes in the order of their paths. If this is `None`, all rows and all files are in
+    /// these orders.
     pub sort: Option<Number>,
-    /// The most rows, and the most files, that it shows; all if there is no limit.
+    /// The largest number of rows, and of files, that the comparison shows. If this is `None`, the comparison shows all of them.
     pub top: Option<u32>,
-    /// Whether the comparison lists the files that differ. A report may have its files only for the sake of rows by directory.
+    /// Whether the comparison lists the files that differ. For rows by directory, a report may list files that the comparison does not
+    /// list.
     pub files: bool,
-    /// Whether it also shows the rows in which no number changed.
+    /// Whether the comparison also shows the rows in which no number changed.
     pub all: bool,
 }

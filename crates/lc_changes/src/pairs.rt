@@ -1,9 +1,9 @@
-//! Two lists side by side.
+//! A step through two sorted lists side by side.
 
 ghost use Rattle.std.specs.Prelude.{◌≡◌};
 ghost use Rattle.lc_changes.specs.Pairs.{left_of};
 
-/// Returns a list without its first element if that element is passed, and otherwise the whole list.
+/// Returns a list without its first element if `passed` is true, and otherwise the whole list.
 pub(crate) fn left_of<T>(passed: bool, items: &[T]) -> &[T]
     ensures { result.now ≡ left_of passed items.now }
 {

@@ -15,7 +15,8 @@ use lc_walk::Report;
 use std::alloc::{AllocError, Global};
 use std::cmp::Ordering;
 
-/// Returns the row of the least key of two lists in the order of keys, and whether each list has it first.
+/// Compares the first rows of two lists that are in the order of keys. Returns the row with the least key, and for each list whether it
+/// begins with this key. Returns `None` if both lists are empty.
 fn next_row<'a>(
     olds: &[ShownRow<'a>],
     news: &[ShownRow<'a>],
@@ -38,7 +39,7 @@ fn next_row<'a>(
     }
 }
 
-/// Sets rows that are in the order of their keys side by side.
+/// Pairs the rows of two lists by their keys. Both lists, and the result, are in the order of keys.
 fn paired_rows<'s, 'a>(
     alloc: Global,
     olds: &'s [ShownRow<'a>],
@@ -59,7 +60,7 @@ fn paired_rows<'s, 'a>(
     Ok(rows)
 }
 
-/// Adds up the counts of two reports by these columns, and sets the sums of each key side by side, in the order of keys.
+/// Adds up the counts of two reports by these columns, and pairs the sums of both reports for each key, in the order of keys.
 ///
 /// Rows by directory are sums over the files, which the reports must have. An error means that an allocation failed or that sums overflow.
 /// The sums of a walk's rows never overflow.

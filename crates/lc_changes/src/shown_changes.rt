@@ -25,7 +25,8 @@ use std::marker::Model;
 /// The sheet of a comparison of two reports.
 pub type ChangeSheet<'a> = ComparisonSheet<'a, Changes<'a>, ChangedTotals, FileChanges<'a>>;
 
-/// The changes from one report to another. It owns the rows and the files, which borrow from both reports, and the sheet borrows from it.
+/// What a comparison shows of two reports. It owns its rows and files, which borrow from both reports. The sheet that
+/// [`comparison`](ShownChanges::comparison) returns borrows from it.
 #[derive(Drop)]
 pub struct ShownChanges<'a> {
     format: Format,
@@ -87,7 +88,7 @@ fn some_differ(rows: &[ChangedRow<'_>], files: &[FileChange<'_>]) -> bool
     some_rows_differ(rows) || some_files_differ(files)
 }
 
-/// Adds up the rows that are cut off, if there are some.
+/// Makes the line of the sums over the rows after the first `top`, which are cut off. Returns no line if no row is cut off.
 fn cut_sums(
     alloc: Global,
     top: Option<u32>,
@@ -99,7 +100,7 @@ fn cut_sums(
     other_sums(alloc, rest)
 }
 
-/// Cuts off all rows after the first `top`, if there is such a number.
+/// Cuts off all rows after the first `top`. If `top` is `None`, no row is cut off.
 fn cut_rows(top: Option<u32>, rows: &mut Vec<ChangedRow<'_>>)
     ensures { rows.new.items ≡ first_of top rows.old.items }
 {
@@ -117,8 +118,8 @@ fn cut_files(top: Option<u32>, files: &mut Vec<FileChange<'_>>)
 }
 
 impl<'a> ShownChanges<'a> {
-    /// Compares two reports: sums the rows of both, drops those in which no number changed, sorts and cuts them, and lists the files that
-    /// differ.
+    /// Compares two reports. Sums the rows of both, drops the rows in which no number changed unless all are shown, sorts and cuts the
+    /// rows, and lists the files that differ if these are listed.
     ///
     /// Rows by directory, and the list of files, are made of the files, which both reports must have. An error means that an allocation
     /// failed or that sums overflow. The sums of a walk's rows never overflow. The time is that of sorting rows and files. Each row of both
@@ -148,7 +149,7 @@ impl<'a> ShownChanges<'a> {
         Ok(shown)
     }
 
-    /// Shows the first of these rows and files, and adds up the other rows.
+    /// Keeps the first `options.top` of these rows and of these files, and adds up the rows that are cut off.
     fn with_lines(
         alloc: Global,
         options: &ChangeOptions,
@@ -192,7 +193,7 @@ impl<'a> ShownChanges<'a> {
         }
     }
 
-    /// Returns the sheet, which borrows everything.
+    /// Returns the sheet of the comparison. The sheet borrows its lines and columns.
     pub fn comparison(&'a self) -> ChangeSheet<'a>
         ensures { result ≡ self.entry.now.sheet }
     {

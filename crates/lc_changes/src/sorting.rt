@@ -26,8 +26,7 @@ fn sort_rows_by(by: Number, rows: &mut Vec<ChangedRow<'_>>)
     rows.sort_unstable_by(|a, b| compare_rows(by, a, b));
 }
 
-/// Sorts rows by the change of a number, the largest change first. The rows are in the order of their keys, and keep it if there is no
-/// number.
+/// Sorts rows by the change of a number, the largest change first. If `by` is `None`, the rows stay in the order of their keys.
 pub(crate) fn sort_rows(by: Option<Number>, rows: &mut Vec<ChangedRow<'_>>)
     ensures { AreChangesSorted by rows.old.items rows.new.items }
 {
@@ -42,7 +41,7 @@ fn keep_changed(rows: &mut Vec<ChangedRow<'_>>)
     rows.retain(|row| row.differs());
 }
 
-/// Removes the rows in which no number changed, unless all are kept.
+/// Removes the rows in which no number changed. If `all` is true, no row is removed.
 pub(crate) fn keep_rows(all: bool, rows: &mut Vec<ChangedRow<'_>>)
     ensures { rows.new.items ≡ kept_rows all rows.old.items }
 {
@@ -67,8 +66,7 @@ fn sort_files_by(by: Number, files: &mut Vec<FileChange<'_>>)
     files.sort_unstable_by(|a, b| compare_files(by, a, b));
 }
 
-/// Sorts files by the change of a number, the largest change first. The files are in the order of their paths, and keep it if there is no
-/// number.
+/// Sorts files by the change of a number, the largest change first. If `by` is `None`, the files stay in the order of their paths.
 pub(crate) fn sort_files(by: Option<Number>, files: &mut Vec<FileChange<'_>>)
     ensures { AreFileChangesSorted by files.old.items files.new.items }
 {

@@ -30,7 +30,8 @@ fn new_sums_of(rows: &[ChangedRow<'_>]) -> Result<Sums, AllocError>
     Ok(sums)
 }
 
-/// Adds up these rows in a line, if there are some. It stops with an error if an allocation fails or the sums overflow.
+/// Makes a line of the sums over these rows, or no line if there are no rows. An error means that an allocation failed or that sums
+/// overflow.
 pub(crate) fn other_sums(
     alloc: Global,
     rows: &[ChangedRow<'_>],

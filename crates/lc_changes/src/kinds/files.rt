@@ -1,4 +1,4 @@
-//! The files of a comparison.
+//! The files of a comparison's sheet, and their values in its columns.
 
 ghost use Rattle.std.specs.Prelude.{◌≡◌, option_map};
 ghost use Rattle.lc_changes.specs.ChangeValues.{column_of, file_change_value, shared_value, side_value};
@@ -10,13 +10,14 @@ use lc_sheet::{Column, Compared, Form, Lines, Value};
 use lc_walk::FileLine;
 use std::marker::PhantomData;
 
-/// The kind of the files of a comparison.
+/// Says which value a file of a comparison has in each column of a sheet. The struct holds no data: it only implements `Lines` for files of
+/// two reports.
 #[derive(Drop)]
 pub struct FileChanges<'a> {
     files: PhantomData<&'a ()>,
 }
 
-/// Returns the column in which a report has what is compared.
+/// Returns the column of a single report that has the compared value.
 fn column_of(compared: Compared) -> Column
     ensures { result ≡ column_of compared }
 {
@@ -27,7 +28,7 @@ fn column_of(compared: Compared) -> Column
     }
 }
 
-/// Returns what a report has of a file. If the report lacks the file, nothing is there.
+/// Returns the compared value of a file in one report. The value is `Missing` if the report lacks the file.
 fn side_value(form: Form, file: Option<&FileLine>, compared: Compared) -> Value<'_>
     ensures { value_model result ≡ side_value form (option_map (λ f. f.now) file.entry) compared }
 {
@@ -37,7 +38,7 @@ fn side_value(form: Form, file: Option<&FileLine>, compared: Compared) -> Value<
     }
 }
 
-/// Returns what both reports have of a file, such as its extension.
+/// Returns a value of a file that does not depend on the report, such as the file's extension.
 fn shared_value(form: Form, file: Option<&FileLine>, column: Column) -> Value<'_>
     ensures { value_model result ≡ shared_value form (option_map (λ f. f.now) file.entry) column }
 {

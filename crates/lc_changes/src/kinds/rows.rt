@@ -1,4 +1,4 @@
-//! The rows of a comparison.
+//! The rows of a comparison's sheet, and their values in its columns.
 
 ghost use Rattle.std.specs.Prelude.{◌≡◌};
 ghost use Rattle.lc_changes.specs.ChangeValues.{changed_value};
@@ -8,7 +8,8 @@ use lc_rows::{Rows, number_in};
 use lc_sheet::{Column, Compared, Form, Lines, Value};
 use std::marker::PhantomData;
 
-/// The kind of the rows of a comparison.
+/// Says which value a row of a comparison has in each column of a sheet. The struct holds no data: it only implements `Lines` for rows with
+/// the sums of two reports.
 #[derive(Drop)]
 pub struct Changes<'a> {
     rows: PhantomData<&'a ()>,

@@ -1,4 +1,4 @@
-//! The sums of a comparison.
+//! The lines of sums of a comparison's sheet, and their values in its columns.
 
 ghost use Rattle.std.specs.Prelude.{◌≡◌};
 ghost use Rattle.lc_changes.specs.ChangeValues.{changed_sums_value};
@@ -25,7 +25,8 @@ impl Model for ChangedSums {
     ghost view = { λ s. record { new_sums = s.new_sums; old_sums = s.old_sums } };
 }
 
-/// The kind of the sums of a comparison.
+/// Says which value a line of sums, such as the total, has in each column of a comparison's sheet. The struct is empty: it only implements
+/// `Lines` for sums of two reports.
 #[derive(Drop)]
 pub struct ChangedTotals {}
 
