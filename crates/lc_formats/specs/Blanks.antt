@@ -8,7 +8,7 @@ ends_in_blank [] = false
 ends_in_blank (c ∷ []) = c == 32
 ends_in_blank (c ∷ d ∷ ds) = ends_in_blank (d ∷ ds)
 
--- a character before the rest of its line: a blank before nothing is dropped
+-- a character followed by the rest of its line; a blank at the end of the line is dropped
 abbrev pub char_before : ℕ → List ℕ → List ℕ
 char_before c [] = if c == 32 then [] else c ∷ []
 char_before c (d ∷ ds) = c ∷ d ∷ ds

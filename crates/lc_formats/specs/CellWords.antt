@@ -2,7 +2,7 @@
 use Rattle.std.specs.Prelude.{ℕ, ◌%◌, ◌==◌, ◌&&◌, nat_lt, if◌then◌else◌, List, [], ◌∷◌, ◌++◌, length, codes, decimal}
 use Rattle.std.specs.Int.{abs_diff}
 
--- a comma where a multiple of three digits follow
+-- a comma if the number of digits that follow is a multiple of three and not 0
 abbrev pub comma : List ℕ → List ℕ
 comma digits = if nat_lt 0 (length digits) && (length digits % 3 == 0) then codes "," else []
 
@@ -10,10 +10,10 @@ abbrev pub with_commas : List ℕ → List ℕ
 with_commas [] = []
 with_commas (d ∷ ds) = d ∷ (comma ds ++ with_commas ds)
 
--- whether a number grew or shrank; nothing where it stayed
+-- the sign of a change: `+` if the number grew, `-` if it shrank, and nothing if it is the same
 abbrev pub sign : ℕ → ℕ → List ℕ
 sign old new = if nat_lt old new then codes "+" else if nat_lt new old then codes "-" else []
 
--- the change from one number to another: by how much, after its sign
+-- the change from one number to another: its sign, and then the difference with commas
 abbrev pub change_word : ℕ → ℕ → List ℕ
 change_word old new = sign old new ++ with_commas (decimal (abs_diff old new))

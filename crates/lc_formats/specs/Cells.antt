@@ -12,7 +12,7 @@ use Rattle.lc_formats.specs.Columns.{CellModel}
 use Rattle.lc_formats.specs.Shares.{bar as bar_text, rounded_parts, share_word}
 use Rattle.lc_formats.specs.declared.cells.Cell.{Cell}
 
--- a value for people: nothing where there is no value to show, and `-` where there could be one
+-- the text of a value for reading: `-` if the value is missing, and nothing if the column is summed over or does not apply
 abbrev pub shown_text : ValueModel → List ℕ
 shown_text missing = codes "-"
 shown_text summed = []
@@ -28,7 +28,7 @@ shown_text (difference old new) = change_word old new
 abbrev pub cell_at : Side → ValueModel → CellModel
 cell_at side value = record { side = side; text = shown_text value }
 
--- a value in a column, and the heading of the column
+-- the cell of a value in a column; the cell of the column's heading is below
 abbrev pub cell_of : Column → ValueModel → CellModel
 cell_of column value = cell_at (side_of column) value
 
@@ -37,7 +37,7 @@ heading_cell column = cell_at (side_of column) (word (heading column))
 
 -- ---- the lines of a section
 
--- the values of a line, each in its column
+-- the cells of a line: each value in its column
 abbrev pub line_cells : List Column → List ValueModel → List CellModel
 line_cells [] values = []
 line_cells (c ∷ cs) [] = []

@@ -20,11 +20,11 @@ use Rattle.lc_formats.specs.WidthLaws.{AreEven, HasEnds}
 
 -- ---- changes
 
--- the number that a text with commas is
+-- the number whose digits a text has, without the commas
 abbrev pub number_in : List ℕ → ℕ
 number_in text = digits_value 10 (filter (λ d. not (d == 44)) text)
 
--- by how much a change says that a number grew, and by how much it shrank
+-- by how much a number grew, as the text of its change says; by how much it shrank is below
 abbrev pub gained : List ℕ → ℕ
 gained [] = 0
 gained (c ∷ cs) = if c == 43 then number_in cs else 0
@@ -39,7 +39,7 @@ ChangeLaw =
     (old new : ℕ) → old < 2 ^ 128 → new < 2 ^ 128
     → old + gained (change_word old new) ≡ new + lost (change_word old new)
 
--- a number that stayed has a zero without a sign
+-- the change of a number that is the same is a zero without a sign
 abbrev pub NoChangeLaw : Type 0
 NoChangeLaw = (n : ℕ) → change_word n n ≡ codes "0"
 
@@ -52,13 +52,13 @@ pub record IsTabularComparison (s : ComparisonModel) : Type 0 where
   pub others : AreRows s.rows.columns s.others
   pub total : AreRows s.rows.columns s.total
 
--- the rows between their headings and their sums have one width, the lines of hyphens too
+-- the headings, the rows, the sums and the lines of hyphens between them have one width
 abbrev pub ComparisonWidthLaw : Type 0
 ComparisonWidthLaw =
     (s : ComparisonModel) → IsTabularComparison s
     → AreEven (padded_summary_of s.rows s.others s.total) (summary_of s.rows s.others s.total)
 
--- no line ends with a blank, where no path of a file does
+-- no line ends with a blank if no path of a file does
 abbrev pub ComparisonEndsLaw : Type 0
 ComparisonEndsLaw =
     (s : ComparisonModel) → IsTabularComparison s → IfSome s.files HasEnds
@@ -66,7 +66,7 @@ ComparisonEndsLaw =
 
 -- ---- records
 
--- a reader of CSV (RFC 4180) gives the records of the files or of the rows, and no others
+-- reading the CSV text (RFC 4180) of a comparison returns the records of the files or of the rows, and no others
 abbrev pub ComparisonRecordsLaw : Type 0
 ComparisonRecordsLaw =
     (s : ComparisonModel) → HasColumns (files_or_rows s.files s.rows)

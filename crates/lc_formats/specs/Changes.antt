@@ -1,4 +1,4 @@
--- The text of a comparison of two reports in the formats of lines: with tabs, as CSV, in columns, and as Markdown.
+-- The text of a comparison of two reports in the formats that have lines: with tabs, as CSV, in columns, and as Markdown.
 use Rattle.std.specs.Prelude.{ℕ, List, [], ◌++◌, Option, Some, None}
 use Rattle.std.specs.List.{flat_map}
 use Rattle.lc_sheet.specs.Sheets.{ComparisonModel, SectionModel}
@@ -11,7 +11,7 @@ use Rattle.lc_formats.specs.Tsv.{header_line, values_line}
 
 -- ---- with tabs
 
--- the lines of the files, where files are asked for
+-- the lines of the files, if the comparison lists files
 abbrev pub listed_lines : Option SectionModel → List (List ValueModel)
 listed_lines None = []
 listed_lines (Some files) = files.lines
@@ -24,7 +24,7 @@ tsv_of_changes s =
 
 -- ---- as CSV
 
--- the files where they are asked for, else the rows
+-- the section of files if the comparison lists files, and otherwise the section of rows
 abbrev pub files_or_rows : Option SectionModel → SectionModel → SectionModel
 files_or_rows None rows = rows
 files_or_rows (Some files) rows = files

@@ -5,7 +5,7 @@ use Rattle.unicode_width.specs.Width.{str_width}
 use Rattle.lc_sheet.specs.declared.column.Side.{Side}
 use Rattle.lc_sheet.specs.declared.column.Side.TheVariants.{Left, Right, End}
 
--- a text, and its side of the column
+-- a cell: a text, and the side of its column at which the text is aligned
 pub record CellModel : Type 0 where
   pub side : Side
   pub text : List ℕ
@@ -28,7 +28,7 @@ text_at Left width t = t ++ spaces (width - width_of t)
 text_at Right width t = spaces (width - width_of t) ++ t
 text_at End width t = t
 
--- the wider of two, column by column
+-- the wider of two widths, for each column
 abbrev pub wider : List ℕ → List ℕ → List ℕ
 wider [] ws = ws
 wider (v ∷ vs) [] = v ∷ vs
@@ -37,7 +37,7 @@ wider (v ∷ vs) (w ∷ ws) = max v w ∷ wider vs ws
 abbrev pub cell_widths : List CellModel → List ℕ
 cell_widths cells = map (λ c. width_at c.side c.text) cells
 
--- the widths of columns that hold some more lines
+-- the widths of columns, widened so that they also hold these lines
 abbrev pub widened : List ℕ → List (List CellModel) → List ℕ
 widened ws [] = ws
 widened ws (line ∷ lines) = widened (wider ws (cell_widths line)) lines
@@ -45,7 +45,7 @@ widened ws (line ∷ lines) = widened (wider ws (cell_widths line)) lines
 abbrev pub widths_of : List (List CellModel) → List ℕ
 widths_of lines = widened [] lines
 
--- two spaces are between cells
+-- the gap between a cell and the cells after it: two spaces, or nothing at the end of a line
 abbrev pub gap : List CellModel → List ℕ
 gap [] = []
 gap (c ∷ cs) = codes "  "
@@ -62,22 +62,22 @@ is_shown Left t = has_text t
 is_shown Right t = has_text t
 is_shown End t = true
 
--- a cell before those that are shown after it, where it is shown itself or some are
+-- a cell before the shown cells that follow; it is dropped if it shows nothing and none follow
 abbrev pub before_shown : CellModel → List CellModel → List CellModel
 before_shown c [] = if is_shown c.side c.text then c ∷ [] else []
 before_shown c (d ∷ ds) = c ∷ d ∷ ds
 
--- the cells of a line up to the last that is shown
+-- the cells of a line up to the last cell that shows something
 abbrev pub shown_cells : List CellModel → List CellModel
 shown_cells [] = []
 shown_cells (c ∷ cs) = before_shown c (shown_cells cs)
 
--- blanks before these cells, none at the end of a line
+-- n blanks before these cells, or none at the end of a line
 abbrev pub blanks_before : List CellModel → ℕ → List ℕ
 blanks_before [] n = []
 blanks_before (c ∷ cs) n = spaces n
 
--- a text in a column of this width, before these cells
+-- a text in a column of this width, followed by these cells
 abbrev pub text_before : List CellModel → Side → ℕ → List ℕ → List ℕ
 text_before cs Left width t = t ++ blanks_before cs (width - width_of t)
 text_before cs Right width t = text_at Right width t
@@ -99,7 +99,7 @@ lines_in ws lines = flat_map (line_in ws) lines
 abbrev pub listing_in : List ℕ → List CellModel → List (List CellModel) → List ℕ
 listing_in ws headings lines = lines_in ws (headings ∷ lines) ++ codes "\n"
 
--- hyphens in the columns, and two between these
+-- the two hyphens between the hyphens of a column and those of the next column
 abbrev pub rule_gap : List ℕ → List ℕ
 rule_gap [] = []
 rule_gap (w ∷ ws) = codes "--"

@@ -3,6 +3,6 @@ use Rattle.std.specs.Prelude.{◌≡◌, ℕ, ◌<◌, ◌^◌, ◌==◌, not, f
 use Rattle.std.specs.Str.Parse.{digits_value}
 use Rattle.lc_formats.specs.CellWords.{with_commas}
 
--- without its commas a number reads back
+-- the digits of a number without the commas have the value of the number
 abbrev pub CommasLaw : Type 0
 CommasLaw = (n : ℕ) → n < 2 ^ 128 → digits_value 10 (filter (λ d. not (d == 44)) (with_commas (decimal n))) ≡ n

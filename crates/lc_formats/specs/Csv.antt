@@ -24,12 +24,12 @@ field_of (difference old new) = []
 abbrev pub records_of : SectionModel → List (List (List ℕ))
 records_of s = map column_name s.columns ∷ map (map field_of) s.lines
 
--- the skipped entries where they are asked for, else the rows
+-- the section of skipped entries if the sheet counts entries, and otherwise the section of rows
 abbrev pub skipped_or_rows : Option ℕ → SheetModel → SectionModel
 skipped_or_rows None s = s.rows
 skipped_or_rows (Some entries) s = s.skipped
 
--- the files where they are asked for, else the skipped entries or the rows
+-- the section of files if the sheet lists files, and otherwise the section of skipped entries or of rows
 abbrev pub section_among : Option SectionModel → SheetModel → SectionModel
 section_among None s = skipped_or_rows s.entries s
 section_among (Some files) s = files

@@ -7,12 +7,12 @@ use Rattle.lc_sheet.specs.Sheets.{SectionModel, SheetModel}
 use Rattle.lc_sheet.specs.Values.{ValueModel}
 use Rattle.lc_formats.specs.Csv.{csv_of, csv_section, records_of}
 
--- a section with columns, whose lines have a value in each
+-- a section that has columns, and whose lines have a value in each column
 pub record HasColumns (s : SectionModel) : Type 0 where
   pub some : 0 < length s.columns
   pub each : All (λ (values : List ValueModel). length values ≡ length s.columns) s.lines
 
--- a reader of CSV (RFC 4180) gives the records of the section and no others
+-- reading the CSV text (RFC 4180) of a sheet returns the records of its section, and no others
 abbrev pub RecordsLaw : Type 0
 RecordsLaw =
     (s : SheetModel) → HasColumns (csv_section s)

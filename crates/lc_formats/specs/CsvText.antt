@@ -8,7 +8,7 @@ use Rattle.csv.specs.declared.writer.Writer.{Writer}
 abbrev pub record_text : List (List ℕ) → List ℕ
 record_text fields = row_text default_writer fields
 
--- a writer of such records, between two of them
+-- a writer of records that has finished one record and has not begun the next
 pub record IsBetween (w : Writer (Vec ℕ Global)) : Type 0 where
   pub setup : writer_setup w ≡ default_writer
   pub fields : fields_written w ≡ 0

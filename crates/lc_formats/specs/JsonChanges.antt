@@ -16,13 +16,13 @@ use Rattle.lc_formats.specs.declared.json_comparison.Part.TheVariants.{Own, Old,
 
 -- ---- the parts of a line: what it has of neither report, of the old one, and of the new one
 
--- the column that has the name of what is compared
+-- the column whose name a compared value has in the objects `old` and `new`
 abbrev pub compared_column : Compared → Column
 compared_column compared.Text = column.Text
 compared_column compared.Eol = column.Eol
 compared_column (compared.Number n) = column.Number n
 
--- the column under whose name a part has what is in a column, where it is of this part
+-- the column whose name a value gets in a part of a line, if the value belongs to this part; first for the part of neither report
 abbrev pub own_column : Column → Option Column
 own_column (column.Old c) = None
 own_column (column.New c) = None
@@ -41,12 +41,12 @@ column_in Own c = own_column c
 column_in Old c = old_column c
 column_in New c = new_column c
 
--- a value in such a column
+-- the member of a value in a column, or none if the value belongs to another part
 abbrev pub members_in : Option Column → ValueModel → List Member
 members_in None v = []
 members_in (Some c) v = value_members c v
 
--- the members of a part
+-- the members of a line that belong to a part
 abbrev pub part_members : Part → List Column → List ValueModel → List Member
 part_members p [] values = []
 part_members p (c ∷ cs) [] = []
@@ -57,18 +57,18 @@ is_missing missing = true
 is_missing blank = true
 is_missing other = false
 
--- whether a value is missing, or of another part
+-- whether a value is missing, or belongs to another part
 abbrev pub lacks_in : Option Column → ValueModel → Bool
 lacks_in None v = true
 lacks_in (Some c) v = is_missing v
 
--- whether all values of a part are missing
+-- whether all values of a line that belong to a part are missing
 abbrev pub lacks : Part → List Column → List ValueModel → Bool
 lacks p [] values = true
 lacks p (c ∷ cs) [] = true
 lacks p (c ∷ cs) (v ∷ vs) = lacks_in (column_in p c) v && lacks p cs vs
 
--- what a line has of one report: null where that report lacks it
+-- the object of a line's values in one report, or null if the report lacks the line
 abbrev pub side_value : Part → List Column → List ValueModel → Json
 side_value p columns values = if lacks p columns values then null else object_with (part_members p columns values)
 
@@ -85,7 +85,7 @@ change_object columns values = object_with (change_members columns values)
 abbrev pub changes_member : List ℕ → SectionModel → Member
 changes_member n s = (n, array_with (map (change_object s.columns) s.lines))
 
--- the first line of a section as an object, where the section has one
+-- a member whose value is the first line of a section, if the section has a line
 abbrev pub first_of : List ℕ → List Column → List (List ValueModel) → List Member
 first_of n columns [] = []
 first_of n columns (l ∷ ls) = (n, change_object columns l) ∷ []
@@ -95,7 +95,7 @@ first_change n s = first_of n s.columns s.lines
 
 -- ---- comparisons
 
--- the sums over the rows that are cut off, where some are, and the total
+-- the members of the sums over the rows that are cut off, if there are any, and of the total
 abbrev pub sums_members : ComparisonModel → List Member
 sums_members s = first_change (codes "others") s.others ++ first_change (codes "total") s.total
 
@@ -103,10 +103,10 @@ abbrev pub changed_files : Option SectionModel → List Member
 changed_files None = []
 changed_files (Some files) = changes_member (codes "files") files ∷ []
 
--- the value of a comparison
+-- the JSON value of a comparison
 abbrev pub json_of_changes : ComparisonModel → Json
 json_of_changes s = object_with (changes_member (codes "rows") s.rows ∷ (sums_members s ++ changed_files s.files))
 
--- the value on one line
+-- the JSON text of a comparison, on one line
 abbrev pub json_text_of_changes : ComparisonModel → List ℕ
 json_text_of_changes s = print (json_tokens (json_of_changes s)) ++ codes "\n"

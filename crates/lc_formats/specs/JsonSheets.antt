@@ -12,7 +12,7 @@ use Rattle.lc_formats.specs.JsonText.{Member, array_with, bytes_member, integer,
 
 -- ---- lines
 
--- the member of a value in a column; none where the line is summed over the column, or where the column does not apply to it
+-- the member of a value in a column; there is none if the line is summed over the column, or if the column does not apply to the line
 abbrev pub value_members : Column → ValueModel → List Member
 value_members c missing = (column_name c, null) ∷ []
 value_members c summed = []
@@ -44,13 +44,13 @@ abbrev pub object_members : List ℕ → List Column → Option (List ValueModel
 object_members n columns None = []
 object_members n columns (Some values) = (n, line_object columns values) ∷ []
 
--- one line of a section as an object, where the section has this line
+-- a member whose value is the line at index i of a section, if the section has this line
 abbrev pub line_at : List ℕ → ℕ → SectionModel → List Member
 line_at n i s = object_members n s.columns (slice_get s.lines i)
 
 -- ---- sheets
 
--- the sums over all files, over those of text, and over binary ones
+-- the members of the sums over all files, over text files, and over binary files
 abbrev pub totals_members : SectionModel → List Member
 totals_members totals =
     line_at (codes "total") 0 totals ++ (line_at (codes "text") 1 totals ++ line_at (codes "binary") 2 totals)
@@ -59,7 +59,7 @@ abbrev pub entries_members : Option ℕ → List Member
 entries_members None = []
 entries_members (Some n) = (codes "entries", integer n) ∷ []
 
--- the numbers: the sums over the rows that are cut off, if some are; all sums; how many directories and entries there are
+-- the members of numbers: the sums over the rows that are cut off, if there are any; all totals; the numbers of directories and of entries
 abbrev pub number_members : SheetModel → List Member
 number_members s =
     line_at (codes "others") 0 s.others ++ (totals_members s.totals
@@ -69,7 +69,7 @@ abbrev pub files_members : Option SectionModel → List Member
 files_members None = []
 files_members (Some files) = list_member (codes "files") files ∷ []
 
--- the skipped entries, where the number of entries is there
+-- the skipped entries, if the sheet has the number of entries
 abbrev pub skipped_members : Option ℕ → SectionModel → List Member
 skipped_members None skipped = []
 skipped_members (Some n) skipped = list_member (codes "left") skipped ∷ []
@@ -79,10 +79,10 @@ abbrev pub list_members : SheetModel → List Member
 list_members s =
     files_members s.files ++ (skipped_members s.entries s.skipped ++ list_member (codes "faults") s.faults ∷ [])
 
--- the value of a sheet
+-- the JSON value of a sheet
 abbrev pub json_of : SheetModel → Json
 json_of s = object_with (list_member (codes "rows") s.rows ∷ (number_members s ++ list_members s))
 
--- the value on one line
+-- the JSON text of a sheet, on one line
 abbrev pub json_text_of : SheetModel → List ℕ
 json_text_of s = print (json_tokens (json_of s)) ++ codes "\n"

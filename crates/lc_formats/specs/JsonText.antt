@@ -10,7 +10,7 @@ items_with (j ∷ js) = item j (items_with js)
 abbrev pub array_with : List Json → Json
 array_with js = array (items_with js)
 
--- a name and its value
+-- a member of an object: a name and its value
 abbrev pub Member : Type 0
 Member = List ℕ × Json
 
@@ -24,11 +24,11 @@ object_with ms = object (members_with ms)
 abbrev pub integer : ℕ → Json
 integer n = number (decimal n)
 
--- the name of the member that has bytes as a list of numbers
+-- the name of a member whose value is bytes as a list of numbers
 abbrev pub bytes_name : List ℕ → List ℕ
 bytes_name name = name ++ codes "_bytes"
 
--- bytes as a text where they are UTF-8, and else as a list of numbers under another name
+-- a member for bytes: a string if the bytes are UTF-8, and otherwise a list of numbers under a name that ends with `_bytes`
 abbrev pub bytes_member : List ℕ → List ℕ → Member
 bytes_member name bytes =
     if is_utf8 bytes then (name, string bytes) else (bytes_name name, array_with (map integer bytes))

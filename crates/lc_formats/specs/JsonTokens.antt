@@ -1,4 +1,4 @@
--- The tokens of members, in turn.
+-- The tokens of the members of a JSON object, in order.
 use Rattle.std.specs.Prelude.{List, ◌∷◌}
 use Rattle.std.specs.List.{flat_map}
 use Rattle.json.specs.Token.{Token, key}

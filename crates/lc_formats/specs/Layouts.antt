@@ -1,16 +1,16 @@
--- Lines that end with a text in no column, and lines that don't.
+-- Lines whose last cell ends the line without padding, and lines without such a cell.
 use Rattle.std.specs.Prelude.{Bool, true, false, List, [], ◌∷◌}
 use Rattle.lc_sheet.specs.declared.column.Side.{Side}
 use Rattle.lc_sheet.specs.declared.column.Side.TheVariants.{Left, Right, End}
 
--- no cell ends its line
+-- whether no cell ends its line
 abbrev pub has_no_end : List Side → Bool
 has_no_end [] = true
 has_no_end (Left ∷ ss) = has_no_end ss
 has_no_end (Right ∷ ss) = has_no_end ss
 has_no_end (End ∷ ss) = false
 
--- the last cell alone ends its line
+-- whether the last cell, and no other, ends its line
 abbrev pub is_open : List Side → Bool
 is_open [] = false
 is_open (Left ∷ ss) = is_open ss

@@ -13,20 +13,21 @@ use Rattle.lc_formats.specs.declared.markdown_line.Weight.TheVariants.{Plain, Bo
 abbrev pub is_markup : ℕ → Bool
 is_markup b = list_any (λ m. nat_eq m b) (codes "\\`*_[]<>&|~$")
 
--- a byte of a text: markup is behind a backslash. A blank at an end of the text, which GitHub would drop, is written by its number
+-- a byte of a text in a cell: markup has a backslash before it; a blank at an end of the text, which GitHub would drop, is written as
+-- `&#32;`
 abbrev pub cell_byte : Bool → ℕ → List ℕ
 cell_byte at_end b = if is_markup b then 92 ∷ b ∷ [] else if at_end && b == 32 then codes "&#32;" else b ∷ []
 
--- what GitHub may make a link of has one of these: `www.a.b`, `https://a.b`, `a@b.c`
+-- whether a text begins like the part of an address that makes GitHub show a link: `www.a.b`, `https://a.b`, `a@b.c`
 abbrev pub begins_address : List ℕ → Bool
 begins_address t =
     starts_with nat_eq t (codes "www.") || (starts_with nat_eq t (codes "://") || starts_with nat_eq t (codes "@"))
 
--- the tag that is put into them, behind their first byte. It shows nothing, and a line may be broken there
+-- the tag that is put behind the first byte of such a text; it shows nothing, and a line may be broken there
 abbrev pub break_in : List ℕ → List ℕ
 break_in t = if begins_address t then codes "<wbr>" else []
 
--- what follows in a cell, where the first byte of the text may be next
+-- the rest of a text in a cell; the flag says whether the rest is the whole text
 abbrev pub markdown_from : Bool → List ℕ → List ℕ
 markdown_from first [] = []
 markdown_from first (b ∷ bs) = cell_byte (first || is_empty bs) b ++ (break_in (b ∷ bs) ++ markdown_from false bs)
@@ -34,7 +35,7 @@ markdown_from first (b ∷ bs) = cell_byte (first || is_empty bs) b ++ (break_in
 abbrev pub markdown : List ℕ → List ℕ
 markdown t = markdown_from true t
 
--- a text in bold; nothing has no marks
+-- a text in bold; an empty text has no marks
 abbrev pub bold : List ℕ → List ℕ
 bold [] = []
 bold (b ∷ bs) = codes "**" ++ (markdown (b ∷ bs) ++ codes "**")
@@ -47,7 +48,7 @@ weighted Bold t = bold t
 abbrev pub value_cell : Weight → ValueModel → List ℕ
 value_cell weight value = codes " " ++ (weighted weight (shown_text value) ++ codes " |")
 
--- what sets the side of a column: a colon at the right for numbers
+-- the cell below a heading that sets the side of its column: a colon at the right for numbers
 abbrev pub rule_cell : Side → List ℕ
 rule_cell Left = codes " --- |"
 rule_cell Right = codes " ---: |"

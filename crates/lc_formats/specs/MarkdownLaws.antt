@@ -5,21 +5,21 @@ use Rattle.std.specs.List.{list_any, starts_with}
 use Rattle.lc_formats.specs.Blanks.{ends_in_blank}
 use Rattle.lc_formats.specs.MarkdownCells.{is_markup, markdown}
 
--- what a reader of Markdown sees in a cell: a byte as it is, one behind a backslash, one by its number, or a tag
+-- what a reader of Markdown sees in a cell: a byte as it is, a byte behind a backslash, a byte that is written by its number, or a tag
 pub data Sight : Type 0 where
   plain : ℕ → Sight
   escaped : ℕ → Sight
   numbered : ℕ → Sight
   tag : Sight
 
--- where a byte is: in text, behind a backslash, in a tag, or in a number of which this was read
+-- where a reader is: in text, behind a backslash, in a tag, or in a number whose digits so far make this number
 pub data Place : Type 0 where
   in_text : Place
   in_escape : Place
   in_tag : Place
   in_number : ℕ → Place
 
--- what is seen from such a place on
+-- what a reader sees from a place on
 abbrev pub seen : Place → List ℕ → List Sight
 seen place [] = []
 seen in_text (b ∷ bs) =
@@ -32,7 +32,7 @@ seen (in_number n) (b ∷ bs) =
     if b == 59 then numbered n ∷ seen in_text bs
     else if b == 35 then seen (in_number n) bs else seen (in_number (10 * n + (b - 48))) bs
 
--- what is seen of a text
+-- what a reader sees of a text that is written as Markdown
 abbrev pub sights : List ℕ → List Sight
 sights text = seen in_text (markdown text)
 
@@ -42,7 +42,7 @@ bytes_of (escaped b) = b ∷ []
 bytes_of (numbered b) = b ∷ []
 bytes_of tag = []
 
--- the text reads back
+-- what a reader sees is the text
 abbrev pub UnescapedLaw : Type 0
 UnescapedLaw = (text : List ℕ) → flat_map bytes_of (sights text) ≡ text
 
@@ -52,7 +52,7 @@ is_bare_markup (escaped b) = false
 is_bare_markup (numbered b) = false
 is_bare_markup tag = false
 
--- all markup in it is escaped
+-- all markup in a text is escaped
 abbrev pub EscapedLaw : Type 0
 EscapedLaw = (text : List ℕ) → list_any is_bare_markup (sights text) ≡ false
 
@@ -64,13 +64,13 @@ text_to_tag (escaped b ∷ ss) = b ∷ text_to_tag ss
 text_to_tag (numbered b ∷ ss) = b ∷ text_to_tag ss
 text_to_tag (tag ∷ ss) = []
 
--- an `@` before something
+-- whether a text begins with an `@` that is not its last byte
 abbrev pub begins_domain : List ℕ → Bool
 begins_domain [] = false
 begins_domain (b ∷ []) = false
 begins_domain (b ∷ c ∷ cs) = b == 64
 
--- what may make a link of the text around it: an address on the web, behind a protocol or not, or what follows a name in one of mail
+-- whether a text begins with what may make a link of the text around it: `www.`, the `://` of a protocol, or the `@` of a mail address
 abbrev pub begins_link : List ℕ → Bool
 begins_link t = starts_with nat_eq t (codes "www.") || (starts_with nat_eq t (codes "://") || begins_domain t)
 

@@ -1,4 +1,4 @@
--- The text of a sheet as Markdown: tables of GitHub Flavored Markdown, with an empty line between.
+-- The text of a sheet as Markdown: tables of GitHub Flavored Markdown, with empty lines between the tables.
 use Rattle.std.specs.Prelude.{ℕ, List, [], ◌∷◌, ◌++◌, map, flat_map, codes, Option, Some, None}
 use Rattle.lc_sheet.specs.ColumnWords.{heading, side_of}
 use Rattle.lc_sheet.specs.Sheets.{SectionModel, SheetModel}
@@ -11,7 +11,7 @@ use Rattle.lc_formats.specs.declared.markdown_line.Weight.TheVariants.{Plain, Bo
 
 -- ---- lines
 
--- a bar, and each value with a bar
+-- a line of a table: a bar, and each value with a bar after it
 abbrev pub line_with : Weight → List ValueModel → List ℕ
 line_with weight values = codes "|" ++ (flat_map (value_cell weight) values ++ codes "\n")
 
@@ -34,12 +34,12 @@ headings_with columns = line_with Plain (map heading_value columns) ++ rule_with
 abbrev pub section_table : SectionModel → List ℕ
 section_table s = headings_with s.columns ++ lines_with Plain s.lines
 
--- nothing where nothing is listed
+-- a text, or nothing if there are no lines
 abbrev pub if_listed : List (List ValueModel) → List ℕ → List ℕ
 if_listed [] text = []
 if_listed (l ∷ ls) text = text
 
--- a table, and an empty line below it or above it
+-- a table with an empty line below it; a table with an empty line above it is below
 abbrev pub list_above : SectionModel → List ℕ
 list_above s = if_listed s.lines (section_table s ++ codes "\n")
 
@@ -56,7 +56,7 @@ files_above (Some files) = list_above files
 abbrev pub summary_with : SectionModel → SectionModel → SectionModel → List ℕ
 summary_with rows others totals = section_table rows ++ lines_with Bold others.lines ++ lines_with Bold totals.lines
 
--- the number of directories, and of entries where it is there
+-- the number of directories, and the number of entries if the sheet has this number
 abbrev pub counts_with : ℕ → Option ℕ → List ℕ
 counts_with directories None = codes "| directories |\n| ---: |\n" ++ line_with Plain (number directories ∷ [])
 counts_with directories (Some entries) =

@@ -6,7 +6,7 @@ use Rattle.lc_formats.specs.Cells.{heading_cells, section_cells}
 use Rattle.lc_formats.specs.Columns.{CellModel, rule_in, widths_of}
 use Rattle.lc_formats.specs.TableText.{count_lines, row_lines, shown_totals, summary_widths}
 
--- headings, the rows and the sums, with a rule between
+-- the headings, the rows and the sums, with lines of hyphens between them
 abbrev pub padded_rows : List ℕ → List CellModel → List (List CellModel) → List (List CellModel) → List ℕ
 padded_rows ws headings rows sums =
     padded_line ws headings ++ rule_in ws ++ padded_lines ws rows ++ rule_in ws ++ padded_lines ws sums

@@ -1,4 +1,4 @@
--- What is known of the values of a sheet: words are plain, and bytes are bytes.
+-- What laws require of the values of a sheet: words are printable, and bytes are below 256.
 use Rattle.std.specs.Prelude.{◌≡◌, ◌<◌, ℕ, ◌&&◌, nat_lt, Bool, true, List, ◌∷◌, ◌++◌, map, ⊤}
 use Rattle.std.specs.List.{All, AllZip, list_all}
 use Rattle.lc_sheet.specs.ColumnWords.{side_of}
@@ -13,7 +13,7 @@ use Rattle.lc_formats.specs.Layouts.{has_no_end, is_open}
 abbrev pub is_printable : ℕ → Bool
 is_printable b = nat_lt 31 b && nat_lt b 127
 
--- a word, or what is printed before and after the bytes of a name
+-- a text of printable characters, as words are, and what is printed before and after the bytes of a name
 abbrev pub IsPlain : List ℕ → Type 0
 IsPlain t = list_all is_printable t ≡ true
 
@@ -45,7 +45,7 @@ AreReadable columns values = AllZip (λ c v. IsReadable (side_of c) v) columns v
 
 -- ---- the rows and their sums
 
--- numbers, what is made of them, and nothing
+-- a number, what is computed from numbers, or no value
 abbrev pub IsNumeral : ValueModel → Type 0
 IsNumeral missing = ⊥
 IsNumeral summed = ⊤
@@ -58,7 +58,7 @@ IsNumeral (share part whole) = ⊤
 IsNumeral (bar part whole) = ⊤
 IsNumeral (difference old new) = ⊤
 
--- from some number on a line has these alone
+-- after its keys, a line has a number, and then only values of this kind
 abbrev pub EndsInNumbers : List ValueModel → Type 0
 EndsInNumbers values = (keys more : List ValueModel) × (n : ℕ) × (values ≡ keys ++ number n ∷ more) × All IsNumeral more
 

@@ -2,7 +2,7 @@
 use Rattle.std.specs.Prelude.{◌≡◌, ◌<◌, ◌≤◌, ◌+◌, ◌*◌, ◌/◌, ℕ, length, chars}
 use Rattle.lc_formats.specs.Shares.{bar, rounded_parts}
 
--- a share is at most half a part from the quotient, and not that much below it
+-- a share is at most half a part above the quotient, and less than half a part below it
 abbrev pub NearestLaw : Type 0
 NearestLaw =
     (count part whole : ℕ) → 0 < whole
@@ -13,7 +13,7 @@ NearestLaw =
 abbrev pub WholeLaw : Type 0
 WholeLaw = (count whole : ℕ) → 0 < whole → rounded_parts count whole whole ≡ count
 
--- and a part of it no more than these
+-- a part of a whole has no more parts than the whole
 abbrev pub PartsLaw : Type 0
 PartsLaw = (count part whole : ℕ) → part ≤ whole → rounded_parts count part whole ≤ count
 

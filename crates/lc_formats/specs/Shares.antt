@@ -2,15 +2,15 @@
 use Rattle.std.specs.Prelude.{ℕ, ◌+◌, ◌-◌, ◌*◌, ◌/◌, ◌%◌, ◌==◌, if◌then◌else◌, List, [], ◌++◌}
 use Rattle.std.specs.Prelude.{replicate, flat_map, codes, decimal, encode_utf8}
 
--- of so many parts of a whole, those that a part of it is, rounded half up: none of nothing
+-- how many of `count` equal parts of a whole a part is, rounded half up; 0 if the whole is 0
 abbrev pub rounded_parts : ℕ → ℕ → ℕ → ℕ
 rounded_parts count part whole = if whole == 0 then 0 else (2 * count * part + whole) / (2 * whole)
 
--- tenths of a per cent
+-- the text of a share in tenths of a per cent
 abbrev pub share_word : ℕ → List ℕ
 share_word tenths = decimal (tenths / 10) ++ codes "." ++ decimal (tenths % 10) ++ codes "%"
 
--- so many full blocks (U+2588)
+-- n full blocks (U+2588)
 abbrev pub blocks : ℕ → List ℕ
 blocks n = flat_map encode_utf8 (replicate n 0x2588)
 
@@ -18,6 +18,6 @@ blocks n = flat_map encode_utf8 (replicate n 0x2588)
 abbrev pub last_block : ℕ → List ℕ
 last_block eighths = if eighths == 0 then [] else encode_utf8 (0x2590 - eighths)
 
--- a bar of so many eighths of a cell
+-- a bar of this many eighths of a cell
 abbrev pub bar : ℕ → List ℕ
 bar eighths = blocks (eighths / 8) ++ last_block (eighths % 8)

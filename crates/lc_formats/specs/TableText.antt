@@ -1,4 +1,4 @@
--- The text of a sheet for people: sections in columns, with an empty line between.
+-- The text of a sheet for reading: sections in columns, with empty lines between the sections.
 use Rattle.std.specs.Prelude.{ℕ, Bool, if◌then◌else◌, List, [], ◌∷◌, ◌++◌, take, codes, Option, Some, None}
 use Rattle.lc_sheet.specs.Sheets.{SectionModel, SheetModel}
 use Rattle.lc_sheet.specs.Values.{word, number}
@@ -8,19 +8,19 @@ use Rattle.lc_formats.specs.Columns.{CellModel, widths_of, line_in, lines_in, ru
 
 -- ---- the rows and their sums
 
--- all lines of a section, or the first alone
+-- a section with all of its lines, or with the first line alone
 abbrev pub shown_lines : Bool → SectionModel → SectionModel
 shown_lines all s = record s { lines = if all then s.lines else take 1 s.lines }
 
--- the sums over all files; and those over text and over binary files, where some are binary
+-- the sums over all files, and also the sums over text files and over binary files if some file is binary
 abbrev pub shown_totals : SheetModel → SectionModel
 shown_totals s = shown_lines s.some_binary s.totals
 
--- headings, the rows and the sums, with a rule between
+-- the headings, the rows and the sums, with lines of hyphens between them
 abbrev pub rows_in_columns : List ℕ → List CellModel → List (List CellModel) → List (List CellModel) → List ℕ
 rows_in_columns ws headings rows sums = line_in ws headings ++ rule_in ws ++ lines_in ws rows ++ rule_in ws ++ lines_in ws sums
 
--- the rows; the sums over those that are cut off, where some are; and the totals
+-- the lines of the rows, and of the sums over the rows that are cut off, if there are any
 abbrev pub row_lines : SectionModel → SectionModel → List (List CellModel)
 row_lines rows others = section_cells rows ++ section_cells others
 
@@ -37,7 +37,7 @@ summary s = summary_of s.rows s.others (shown_totals s)
 
 -- ---- what is listed
 
--- nothing where there is no line, and else headings, the lines, and an empty line
+-- the headings, the lines and an empty line, or nothing if there are no lines
 abbrev pub listing : List CellModel → List (List CellModel) → List ℕ
 listing headings [] = []
 listing headings (l ∷ ls) = lines_in (widths_of (headings ∷ l ∷ ls)) (headings ∷ l ∷ ls) ++ codes "\n"

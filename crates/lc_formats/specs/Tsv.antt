@@ -1,4 +1,4 @@
--- The text of a sheet with a tab between fields: a header, a line for each row, the sums, the directories, the files, the skipped entries,
+-- The text of a sheet with tabs between fields: a header, a line for each row, the sums, the directories, the files, the skipped entries,
 -- the errors.
 use Rattle.std.specs.Prelude.{ℕ, List, [], ◌∷◌, ◌++◌, map, take, codes, decimal, Option, Some, None}
 use Rattle.std.specs.List.{flat_map}
@@ -9,7 +9,7 @@ use Rattle.lc_sheet.specs.declared.column.Column.{Column}
 use Rattle.lc_text.specs.Escape.{escape_bytes, escape_path}
 use Rattle.lc_text.specs.Names.{named}
 
--- a value as a field: a dash for none, a star where the line is summed
+-- a value as a field: a dash if the value is missing, a star if the line is summed over the column
 abbrev pub field_of : ValueModel → List ℕ
 field_of missing = codes "-"
 field_of summed = codes "*"
@@ -22,7 +22,7 @@ field_of (share part whole) = []
 field_of (bar part whole) = []
 field_of (difference old new) = []
 
--- fields with a tab between, and a line feed
+-- a line of fields with tabs between them, and a line feed at its end
 abbrev pub line_with : List (List ℕ) → List ℕ
 line_with [] = codes "\n"
 line_with (f ∷ []) = f ++ codes "\n"
@@ -45,17 +45,17 @@ tagged_lines tag s = flat_map (tagged_line tag) s.lines
 abbrev pub number_line : List ℕ → ℕ → List ℕ
 number_line tag n = line_with (tag ∷ decimal n ∷ [])
 
--- where skipped entries are asked for
+-- the line of the number of entries, if the sheet has this number
 abbrev pub entries_line : Option ℕ → List ℕ
 entries_line None = []
 entries_line (Some n) = number_line (codes "entries") n
 
--- where files are asked for
+-- the lines of files, if the sheet lists files
 abbrev pub file_lines : Option SectionModel → List ℕ
 file_lines None = []
 file_lines (Some s) = tagged_lines (codes "file") s
 
--- the first of the sums, those over all files, are the only ones that are written
+-- the text of a sheet; of the three lines of totals only the first is written, the sums over all files
 abbrev pub tsv_of : SheetModel → List ℕ
 tsv_of s =
     header_line s.rows.columns ++ flat_map values_line s.rows.lines ++ flat_map values_line s.others.lines

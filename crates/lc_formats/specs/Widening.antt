@@ -1,4 +1,4 @@
--- What the code makes of one cell more.
+-- The widths of columns after one more cell, as the code computes them.
 use Rattle.std.specs.Prelude.{ℕ, zero, suc, max, List, [], ◌∷◌}
 
 -- the widths with one column made as wide as a cell

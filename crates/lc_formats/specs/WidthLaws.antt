@@ -1,4 +1,4 @@
--- How wide the lines of a text in columns are, part by part.
+-- How wide the lines of a text in columns are: of the rows with their sums, of the counts, and of each list.
 use Rattle.std.specs.Prelude.{◌≡◌, ℕ, false, List, [], ◌∷◌, ◌++◌, map, IfSome}
 use Rattle.std.specs.List.{All, AllZip}
 use Rattle.lc_sheet.specs.ColumnWords.{heading}
@@ -17,22 +17,22 @@ use Rattle.lc_formats.specs.TableText.{counts, section_listing, summary, table_o
 abbrev pub AreAsWide : List (List ℕ) → Type 0
 AreAsWide lines = (width : ℕ) × All (λ line. width_of line ≡ width) lines
 
--- with their blanks the lines have one width, and the text has them without the blanks at their ends
+-- the padded lines have one width, and the text has these lines without the blanks at their ends
 abbrev pub AreEven : List ℕ → List ℕ → Type 0
 AreEven padded text = AreAsWide (input_lines_of padded) × (input_lines_of text ≡ map without_blanks (input_lines_of padded))
 
--- the lines end with these texts, and what is before these has one width
+-- the lines end with these texts, and what is before the texts has one width in all lines
 abbrev pub AreAligned : List (List ℕ) → List (List ℕ) → Type 0
 AreAligned lines ends =
     (width : ℕ) × AllZip (λ line end. (front : List ℕ) × (line ≡ front ++ end) × (width_of front ≡ width)) lines ends
 
--- nothing where nothing is listed, and else lines that end with the heading and with these texts, and an empty line
+-- an aligned list: a line that ends with the heading, lines that end with these texts, and an empty line; nothing if there are no texts
 abbrev pub IsAlignedListing : List ℕ → List (List ℕ) → List ℕ → Type 0
 IsAlignedListing heading [] text = text ≡ []
 IsAlignedListing heading (end ∷ ends) text =
     (lines : List (List ℕ)) × (input_lines_of text ≡ lines ++ [] ∷ []) × AreAligned lines (heading ∷ end ∷ ends)
 
--- the last heading, and the last text of a line
+-- the heading of the last column; the last text of a line is below
 abbrev pub last_heading : List Column → List ℕ
 last_heading [] = []
 last_heading (c ∷ []) = heading c
@@ -43,15 +43,15 @@ last_text [] = []
 last_text (v ∷ []) = shown_text v
 last_text (v ∷ w ∷ ws) = last_text (w ∷ ws)
 
--- the rows between their headings and their sums, the lines of hyphens too
+-- the headings, the rows, the sums and the lines of hyphens between them have one width
 abbrev pub SummaryWidthLaw : Type 0
 SummaryWidthLaw = (s : SheetModel) → IsTabular s → AreEven (padded_summary s) (summary s)
 
--- the numbers of directories and of their entries
+-- the lines of the numbers of directories and of entries have one width
 abbrev pub CountsWidthLaw : Type 0
 CountsWidthLaw = (s : SheetModel) → AreEven (padded_counts s) (counts s)
 
--- what is listed, where the last column ends its line
+-- a list whose last column ends its line is aligned
 abbrev pub ListingWidthLaw : Type 0
 ListingWidthLaw =
     (s : SectionModel) → IsListed s → IsAlignedListing (last_heading s.columns) (map last_text s.lines) (section_listing s)
@@ -60,11 +60,11 @@ ListingWidthLaw =
 abbrev pub HasEnd : List ℕ → Type 0
 HasEnd t = (t ≡ [] → ⊥) × (ends_in_blank t ≡ false)
 
--- a section that is listed, of which no last text ends with a blank
+-- a section that is listed, and in which the last text of no line is empty or ends with a blank
 abbrev pub HasEnds : SectionModel → Type 0
 HasEnds s = IsListed s × All (λ line. HasEnd (last_text line)) s.lines
 
--- no line of a text in columns ends with a blank, where no last text of what is listed does
+-- no line of a text in columns ends with a blank if no last text of a listed line does
 abbrev pub LineEndsLaw : Type 0
 LineEndsLaw =
     (s : SheetModel) → IsTabular s → IfSome s.files HasEnds → HasEnds s.skipped → HasEnds s.faults

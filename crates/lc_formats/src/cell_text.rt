@@ -29,7 +29,7 @@ pub(crate) fn push_value(text: &mut String, value: &Value<'_>) -> Result<(), All
     }
 }
 
-/// Makes the text of a value, in place of what `made` had.
+/// Replaces the text in `made` by the text of a value.
 pub(crate) fn make_value(made: &mut String, value: &Value<'_>) -> Result<(), AllocError>
     ensures { OnOk result (string_bytes made.new ≡ shown_text (value_model value.now)) }
 {
@@ -37,7 +37,7 @@ pub(crate) fn make_value(made: &mut String, value: &Value<'_>) -> Result<(), All
     push_value(made, value)
 }
 
-/// Makes the text of a value, in place of what `made` had, and returns its width in columns of a terminal.
+/// Replaces the text in `made` by the text of a value, and returns the width of this text in columns of a terminal.
 pub(crate) fn make_wide(made: &mut String, value: &Value<'_>) -> Result<usize, AllocError>
     ensures text { OnOk result (string_bytes made.new ≡ shown_text (value_model value.now)) }
     ensures width { IfOk result (λ width. width ≡ width_of (shown_text (value_model value.now))) }

@@ -1,4 +1,4 @@
-//! The cells of a line.
+//! The cells of a line of a table for reading.
 
 ghost use Rattle.std.specs.Prelude.{◌≡◌, ◌<◌, ◌++◌, ◌∷◌, [], IfOk, OnOk, replicate, string_bytes};
 ghost use Rattle.lc_formats.specs.Cells.{cell_at, cell_model, cell_of, cells_of, heading_cell, heading_cells, line_cells};
@@ -10,7 +10,7 @@ use crate::cell_text::{make_value, make_wide, push_value};
 use lc_sheet::{Column, Form, Lines, Side, Value};
 use std::alloc::AllocError;
 
-/// A value at a side of its column.
+/// A cell of a line: a value, and the side of its column at which the value is aligned.
 #[derive(Clone, Copy)]
 pub(crate) struct Cell<'a> {
     side: Side,
@@ -30,7 +30,7 @@ pub(crate) fn push_copies(text: &mut String, c: char, count: usize) -> Result<()
     Ok(())
 }
 
-/// Appends this many blanks before other cells, but none at the end of a line.
+/// Appends this many blanks if other cells follow in the line. Appends none at the end of a line.
 fn push_blanks(text: &mut String, count: usize, others: &[Cell<'_>]) -> Result<(), AllocError>
     ensures { OnOk result (string_bytes text.new ≡ string_bytes text.old ++ blanks_before (cells_of others.now) count) }
 {
@@ -42,7 +42,7 @@ fn push_blanks(text: &mut String, count: usize, others: &[Cell<'_>]) -> Result<(
 }
 
 impl<'a> Cell<'a> {
-    /// Makes a cell with a value at a side.
+    /// Makes a cell with a value that is aligned at this side.
     pub(crate) fn new(side: Side, value: Value<'a>) -> Cell<'a>
         ensures { cell_model result ≡ cell_at side (value_model value.entry) }
     {
@@ -69,7 +69,7 @@ impl<'a> Cell<'a> {
         }
     }
 
-    /// Returns how wide the column must be for the cell.
+    /// Returns how wide a column must be for the cell, in columns of a terminal. A value that ends its line needs no width.
     pub(crate) fn width(&self, made: &mut String) -> Result<usize, AllocError>
         ensures { IfOk result (λ width. width ≡ width_at (cell_model self.now).side (cell_model self.now).text) }
     {
@@ -79,7 +79,7 @@ impl<'a> Cell<'a> {
         }
     }
 
-    /// Returns whether the cell shows something: it has a text, or is the end of its line.
+    /// Returns whether the cell shows something: whether its text is not empty, or its value ends the line.
     pub(crate) fn is_shown(&self, made: &mut String) -> Result<bool, AllocError>
         ensures { IfOk result (λ shown. shown ≡ is_shown (cell_model self.now).side (cell_model self.now).text) }
     {
@@ -92,7 +92,7 @@ impl<'a> Cell<'a> {
         }
     }
 
-    /// Appends the cell, as it is shown in a column of this width before other cells. No blanks follow the last cell of a line.
+    /// Appends the cell, padded to this width. No blanks follow the last cell of a line, for which `others` is empty.
     pub(crate) fn push_before(
         &self,
         others: &[Cell<'_>],

@@ -3,12 +3,12 @@
 ghost use Rattle.lc_formats.specs.ChangeLaws.{ComparisonRecordsLaw};
 ghost use Rattle.lc_formats.specs.CsvLaws.{RecordsLaw};
 
-/// The law that a reader of CSV returns the records of a sheet, and no others.
+/// The law that reading the CSV text of a sheet returns the records of the sheet, and no others.
 pub fn csv_reads_back()
     ensures { RecordsLaw }
 {}
 
-/// The law that a reader of CSV returns the records of a comparison, and no others.
+/// The law that reading the CSV text of a comparison returns the records of the comparison, and no others.
 pub fn csv_of_comparisons_reads_back()
     ensures { ComparisonRecordsLaw }
 {}

@@ -11,7 +11,7 @@ use lc_text::Name;
 use std::alloc::{AllocError, Global};
 use std::marker::Model;
 
-/// Appends a field to a record. If there is no memory, no field is left.
+/// Appends a field to a record. If an allocation fails, the record loses all its fields.
 fn push_field(row: &mut ByteRecord, field: &[u8]) -> Result<(), AllocError>
     requires { partial_of row.old ≡ [] }
     ensures fields { OnOk result (fields_of row.new ≡ fields_of row.old ++ field.now ∷ []) }
@@ -25,7 +25,7 @@ fn push_field(row: &mut ByteRecord, field: &[u8]) -> Result<(), AllocError>
     Ok(())
 }
 
-/// The fields of a record.
+/// The fields of a CSV record.
 #[derive(Drop)]
 pub(crate) struct Fields {
     record: ByteRecord,
@@ -59,14 +59,14 @@ impl Fields {
         self.record.clear();
     }
 
-    /// Appends a field. If there is no memory, all fields are dropped.
+    /// Appends a field. If an allocation fails, all fields are dropped.
     pub(crate) fn push(&mut self, field: &[u8]) -> Result<(), AllocError>
         ensures { OnOk result (self.new ≡ self.old ++ field.now ∷ []) }
     {
         push_field(&mut self.record, field)
     }
 
-    /// Appends a name as one field, with its bytes as they are.
+    /// Appends a name as one field. The bytes of the name are not escaped.
     pub(crate) fn push_name(&mut self, name: Name<'_>) -> Result<(), AllocError>
         ensures { OnOk result (self.new ≡ self.old ++ named (λ bytes. bytes) (name_model name.entry) ∷ []) }
     {
@@ -78,7 +78,7 @@ impl Fields {
         push_field(&mut self.record, &self.joined)
     }
 
-    /// Appends a number.
+    /// Appends a number as a field.
     pub(crate) fn push_number(&mut self, n: u128) -> Result<(), AllocError>
         ensures { OnOk result (self.new ≡ self.old ++ decimal n ∷ []) }
     {
@@ -87,7 +87,7 @@ impl Fields {
     }
 }
 
-/// The text of some records.
+/// A CSV text to which records are appended.
 #[derive(Drop)]
 pub(crate) struct CsvText {
     writer: Writer<Vec<u8>>,
@@ -116,7 +116,7 @@ impl CsvText {
         }
     }
 
-    /// Appends a record. If there is no memory, all records are dropped.
+    /// Appends a record. If an allocation fails, all records are dropped.
     pub(crate) fn push_record(&mut self, fields: &Fields) -> Result<(), AllocError>
         ensures { OnOk result (self.new ≡ self.old ++ record_text fields.now) }
     {

@@ -33,7 +33,7 @@ fn push_value(fields: &mut Fields, value: Value<'_>) -> Result<(), AllocError>
     }
 }
 
-/// Appends the value of a line in a column.
+/// Appends the value of a line in a column as a field.
 #[inline(always)]
 fn push_field<L: Lines>(
     fields: &mut Fields,
@@ -83,7 +83,7 @@ fn push_names(fields: &mut Fields, columns: &[Column]) -> Result<(), AllocError>
     Ok(())
 }
 
-/// Appends the names of columns as a record.
+/// Appends a record of the names of columns.
 fn push_headings(
     text: &mut CsvText,
     fields: &mut Fields,
@@ -126,7 +126,8 @@ fn push_section<L: Lines>(
     push_lines::<L>(text, fields, form, columns, lines)
 }
 
-/// Appends the records of the files, else of the skipped entries, else of the rows.
+/// Appends the records of one section: of the files if the sheet lists files, otherwise of the skipped entries if the sheet counts entries,
+/// and otherwise of the rows.
 fn push_records<R: Lines, T: Lines, F: Lines, S: Lines, E: Lines>(
     text: &mut CsvText,
     fields: &mut Fields,
@@ -159,7 +160,7 @@ pub fn csv_text<R: Lines, T: Lines, F: Lines, S: Lines, E: Lines>(
     text.into_text()
 }
 
-/// Appends the records of the files, else of the rows.
+/// Appends the records of the files if the comparison lists files, and otherwise of the rows.
 fn push_changes<R: Lines, T: Lines, F: Lines>(
     text: &mut CsvText,
     fields: &mut Fields,

@@ -17,7 +17,7 @@ fn join_line(text: &mut Vec<u8>, line: Option<u32>) -> Result<(), AllocError>
     push_digits(text, u128::from(line))
 }
 
-/// Appends the parts of a name, with its bytes as they are.
+/// Appends a name with what is printed before and after its bytes. The bytes are not escaped.
 pub(crate) fn join_name(text: &mut Vec<u8>, name: Name<'_>) -> Result<(), AllocError>
     ensures { OnOk result (text.new.items ≡ text.old.items ++ named (λ bytes. bytes) (name_model name.entry)) }
 {
@@ -27,7 +27,7 @@ pub(crate) fn join_name(text: &mut Vec<u8>, name: Name<'_>) -> Result<(), AllocE
     join_line(text, name.line)
 }
 
-/// Returns whether nothing is printed before or after the bytes of a name, so that they need no joining.
+/// Returns whether nothing is printed before or after the bytes of a name. If so, callers use these bytes without a copy.
 pub(crate) fn has_bytes_alone(name: Name<'_>) -> bool
     ensures { IsTrue result → named (λ bytes. bytes) (name_model name.entry) ≡ name.entry.bytes.now }
 {

@@ -16,18 +16,18 @@ use crate::json_writer::JsonText;
 use lc_sheet::{Column, Compared, ComparisonSheet, Form, Lines, Section, Value};
 use std::alloc::{AllocError, Global};
 
-/// A part of a line's object.
+/// One of the three parts of the JSON object for a line of a comparison.
 #[derive(Clone, Copy)]
 enum Part {
-    /// What belongs to neither report.
+    /// The members that belong to neither report, such as `ext`.
     Own,
-    /// What the old report has.
+    /// The members in `old`: the values of the old report.
     Old,
-    /// What the new report has.
+    /// The members in `new`: the values of the new report.
     New,
 }
 
-/// Returns the column that has the name of what is compared.
+/// Returns the column whose name a compared value has in the objects `old` and `new`.
 fn compared_column(compared: Compared) -> Column
     ensures { result ≡ compared_column compared }
 {
@@ -39,7 +39,7 @@ fn compared_column(compared: Compared) -> Column
 }
 
 impl Part {
-    /// Returns the column under whose name the part has what is in a column, if this belongs to the part.
+    /// Returns the column whose name the value in `column` gets in this part, or `None` if the value belongs to another part.
     fn column(self, column: Column) -> Option<Column>
         ensures { result ≡ column_in self column }
     {
@@ -59,7 +59,7 @@ fn is_missing(value: Value<'_>) -> bool
     matches!(value, Value::Missing | Value::Blank)
 }
 
-/// Returns whether a line has no value in a column, or one that belongs to another part.
+/// Returns whether a part of a line lacks the value in a column: the line has no value there, or the value belongs to another part.
 fn lacks_in<L: Lines>(part: Part, form: Form, column: Column, line: &L::Line) -> bool
     ensures { result ≡ lacks_in (column_in part column) (L.value_in form line.now column) }
 {
@@ -69,7 +69,7 @@ fn lacks_in<L: Lines>(part: Part, form: Form, column: Column, line: &L::Line) ->
     }
 }
 
-/// Returns whether a line has no value in a part.
+/// Returns whether a line has no value that belongs to this part.
 fn lacks<L: Lines>(part: Part, form: Form, columns: &[Column], line: &L::Line) -> bool
     ensures { result ≡ lacks part columns.now (line_of (L.value_in form) columns.now line.now) }
 {
@@ -83,7 +83,7 @@ fn lacks<L: Lines>(part: Part, form: Form, columns: &[Column], line: &L::Line) -
     true
 }
 
-/// Writes the member of a value, if it belongs to the part.
+/// Writes the member for the value of a line in a column, if the value belongs to the part.
 fn write_member<L: Lines>(
     text: &mut JsonText,
     joined: &mut Vec<u8>,
@@ -101,7 +101,7 @@ fn write_member<L: Lines>(
     }
 }
 
-/// Writes the members of a part.
+/// Writes the members of a line that belong to the part.
 fn write_part<L: Lines>(
     text: &mut JsonText,
     joined: &mut Vec<u8>,
@@ -121,7 +121,7 @@ fn write_part<L: Lines>(
     Ok(())
 }
 
-/// Writes what a line has of one report as an object, or null if that report lacks it.
+/// Writes the values of one report in a line as an object, or null if the report lacks the line.
 fn write_side<L: Lines>(
     text: &mut JsonText,
     joined: &mut Vec<u8>,
@@ -142,7 +142,7 @@ fn write_side<L: Lines>(
     Ok(())
 }
 
-/// Writes a line as an object.
+/// Writes a line of a comparison as an object.
 fn write_change<L: Lines>(
     text: &mut JsonText,
     joined: &mut Vec<u8>,
@@ -181,7 +181,7 @@ fn write_lines<L: Lines>(
     Ok(())
 }
 
-/// Writes a section as an array of its lines.
+/// Writes a member whose value is an array of the lines of a section.
 fn write_list<L: Lines>(
     text: &mut JsonText,
     joined: &mut Vec<u8>,
@@ -197,7 +197,7 @@ fn write_list<L: Lines>(
     Ok(())
 }
 
-/// Writes the first line of a section as an object, if the section has one.
+/// Writes a member whose value is the first line of a section, if the section has a line.
 fn write_first<L: Lines>(
     text: &mut JsonText,
     joined: &mut Vec<u8>,
@@ -257,8 +257,8 @@ fn write_comparison<R: Lines, T: Lines, F: Lines>(
 
 /// Makes the text of a comparison as one JSON object on one line.
 ///
-/// A section is an array of objects, and a line of sums is an object. What is compared is in two objects of a line, `old` and `new`. One of
-/// them is null if its report lacks the line. Bytes that are not UTF-8 are a list of numbers, under a name that ends with `_bytes`.
+/// A section is an array of objects, and a line of sums is an object. A line has the compared values in two objects, `old` and `new`. One
+/// of these is null if its report lacks the line. Bytes that are not UTF-8 are a list of numbers, under a name that ends with `_bytes`.
 pub fn json_changes<R: Lines, T: Lines, F: Lines>(
     alloc: Global,
     sheet: &ComparisonSheet<'_, R, T, F>,

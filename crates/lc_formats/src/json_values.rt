@@ -15,7 +15,7 @@ use lc_sheet::{Column, Form, Lines, Section, Value};
 use lc_text::Name;
 use std::alloc::AllocError;
 
-/// Writes the member of a name in a column. Its parts are joined only where there is more than its bytes.
+/// Writes the member for a name in a column. The name is copied only if something is printed before or after its bytes.
 fn write_name(
     text: &mut JsonText,
     joined: &mut Vec<u8>,
@@ -32,7 +32,7 @@ fn write_name(
     text.bytes_member(column.name(), joined)
 }
 
-/// Writes the member of a value in a column, if it has one.
+/// Writes the member for the value of a line in a column. Values that JSON does not show, such as `Blank`, have no member.
 #[inline(always)]
 pub(crate) fn write_value(
     text: &mut JsonText,
@@ -86,7 +86,7 @@ fn write_columns<L: Lines>(
     Ok(())
 }
 
-/// Writes a line as an object.
+/// Writes a line of a section as an object.
 fn write_line<L: Lines>(
     text: &mut JsonText,
     joined: &mut Vec<u8>,
@@ -119,7 +119,7 @@ fn write_lines<L: Lines>(
     Ok(())
 }
 
-/// Writes a section as an array of its lines.
+/// Writes a member whose value is an array of the lines of a section.
 pub(crate) fn write_list<L: Lines>(
     text: &mut JsonText,
     joined: &mut Vec<u8>,
@@ -135,7 +135,7 @@ pub(crate) fn write_list<L: Lines>(
     Ok(())
 }
 
-/// Writes one line of a section as an object, if the section has this line.
+/// Writes a member whose value is the line at this index of a section, if the section has such a line.
 pub(crate) fn write_line_at<L: Lines>(
     text: &mut JsonText,
     joined: &mut Vec<u8>,

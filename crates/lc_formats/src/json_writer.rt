@@ -13,7 +13,7 @@ use std::alloc::{AllocError, Global};
 use std::marker::Model;
 use std::str::from_utf8;
 
-/// The text of some JSON tokens. The caller has to nest them.
+/// A JSON text that is written token by token. The caller must nest the tokens correctly.
 #[derive(Drop)]
 pub(crate) struct JsonText {
     writer: Writer<Global>,
@@ -43,7 +43,7 @@ impl JsonText {
         }
     }
 
-    /// Returns the text and a line feed.
+    /// Returns the text with a line feed at its end.
     pub(crate) fn into_line(self) -> Result<Vec<u8>, AllocError>
         ensures text { IfOk result (λ line. line.items ≡ print self ++ codes "\n") }
         ensures reads_back { IfOk result (λ _. tokens (print self) ≡ self) }
@@ -103,7 +103,7 @@ impl JsonText {
         self.writer.number(buffer.format(n))
     }
 
-    /// Writes a name, and the start of the list that it has.
+    /// Writes the name of a member, and the start of the array that is the member's value.
     pub(crate) fn begin_list(&mut self, name: &str) -> Result<(), AllocError>
         ensures { OnOk result (self.new ≡ self.old ++ key name.now ∷ begin_array ∷ []) }
     {
@@ -148,7 +148,7 @@ impl JsonText {
         Ok(())
     }
 
-    /// Writes the name of the member that has bytes as a list of numbers.
+    /// Writes the name of a member whose value is bytes as an array of numbers: the given name with `_bytes` at its end.
     fn bytes_key(&mut self, name: &str) -> Result<(), AllocError>
         ensures { OnOk result (self.new ≡ self.old ++ key (bytes_name name.now) ∷ []) }
     {
@@ -169,7 +169,8 @@ impl JsonText {
         Ok(())
     }
 
-    /// Writes a member whose value is a string, or under another name a list of numbers if the bytes are not UTF-8.
+    /// Writes bytes as a member whose value is a string. If the bytes are not UTF-8, the value is an array of numbers, and the member's
+    /// name ends with `_bytes`.
     pub(crate) fn bytes_member(&mut self, name: &str, bytes: &[u8]) -> Result<(), AllocError>
         ensures { OnOk result (self.new ≡ self.old ++ member_tokens (bytes_member name.now bytes.now)) }
     {

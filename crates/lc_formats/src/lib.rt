@@ -1,5 +1,5 @@
-//! The formats in which a sheet is printed, of one report or of two that are compared. A format knows values, columns and sections, and
-//! not where they come from.
+//! The formats in which a sheet is printed: the sheet of one report, or the sheet of a comparison of two reports. A format knows values,
+//! columns and sections, but not the reports that they come from.
 //!
 //! - `tsv`: fields with tabs between them
 //! - `csv_sheet`: CSV, which `csv_records` writes record by record

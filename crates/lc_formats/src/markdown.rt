@@ -27,7 +27,7 @@ fn push_lines<L: Lines>(
     Ok(())
 }
 
-/// Appends a table of headings and lines.
+/// Appends a section as a table of headings and lines.
 fn push_table<L: Lines>(
     text: &mut Vec<u8>,
     section: &Section<'_, L>,
@@ -39,7 +39,7 @@ fn push_table<L: Lines>(
     push_lines(text, Weight::Plain, section, made)
 }
 
-/// Appends a table and an empty line; without lines nothing.
+/// Appends the table of a section and an empty line. Appends nothing if the section has no lines.
 fn push_list_above<L: Lines>(
     text: &mut Vec<u8>,
     section: &Section<'_, L>,
@@ -54,7 +54,7 @@ fn push_list_above<L: Lines>(
     text.extend_from_slice(b"\n")
 }
 
-/// Appends an empty line and a table; without lines nothing.
+/// Appends an empty line and the table of a section. Appends nothing if the section has no lines.
 fn push_list_below<L: Lines>(
     text: &mut Vec<u8>,
     section: &Section<'_, L>,
@@ -83,7 +83,7 @@ fn push_files<F: Lines>(
     }
 }
 
-/// Appends the rows, and their sums in bold.
+/// Appends the table of rows, and the sums over them in bold.
 fn push_summary<R: Lines, T: Lines>(
     text: &mut Vec<u8>,
     rows: &Section<'_, R>,
@@ -126,7 +126,7 @@ fn push_both(
     Ok(())
 }
 
-/// Appends the number of directories, and that of their entries where it is there.
+/// Appends the number of directories, and the number of their entries if the sheet has this number.
 fn push_counts(
     text: &mut Vec<u8>,
     directories: u64,

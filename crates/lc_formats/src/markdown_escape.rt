@@ -1,4 +1,4 @@
-//! Escaping texts in cells of Markdown.
+//! Escaping texts in the cells of Markdown tables.
 
 ghost use Rattle.std.specs.Prelude.{◌≡◌, ◌++◌, OnOk};
 ghost use Rattle.lc_formats.specs.MarkdownCells.{begins_address, break_in, cell_byte, is_markup, markdown};
@@ -14,8 +14,8 @@ fn is_markup(b: u8) -> bool
     MARKUP.contains(&b)
 }
 
-/// Appends a byte with a backslash before it if Markdown may take it as markup. A blank at an end of its text is written by its number,
-/// since blanks at the ends of a cell are dropped.
+/// Appends a byte of a cell's text, with a backslash before it if Markdown may take the byte as markup. A blank at an end of the text is
+/// written as `&#32;`, since Markdown drops blanks at the ends of a cell.
 fn push_cell_byte(text: &mut Vec<u8>, at_end: bool, b: u8) -> Result<(), AllocError>
     ensures { OnOk result (text.new.items ≡ text.old.items ++ cell_byte at_end b) }
 {
@@ -28,14 +28,14 @@ fn push_cell_byte(text: &mut Vec<u8>, at_end: bool, b: u8) -> Result<(), AllocEr
     }
 }
 
-/// Returns whether GitHub may make a link of a text that begins so, or has this behind a name.
+/// Returns whether a text begins with `www.`, `://` or `@`, of which GitHub may make a link together with the text around it.
 fn begins_address(shown: &[u8]) -> bool
     ensures { result ≡ begins_address shown.now }
 {
     shown.starts_with(b"www.") || shown.starts_with(b"://") || shown.starts_with(b"@")
 }
 
-/// Appends a tag that shows nothing, if an address begins here.
+/// Appends `<wbr>`, a tag that shows nothing, if the text `shown` begins like an address.
 fn push_break(text: &mut Vec<u8>, shown: &[u8]) -> Result<(), AllocError>
     ensures { OnOk result (text.new.items ≡ text.old.items ++ break_in shown.now) }
 {

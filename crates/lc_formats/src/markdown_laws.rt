@@ -2,8 +2,8 @@
 
 ghost use Rattle.lc_formats.specs.MarkdownLaws.{BlankLaw, EscapedLaw, LinkLaw, UnescapedLaw};
 
-/// The law that in Markdown each markup byte of a name is escaped, no address in it is a link, no blank at its ends is dropped, and it
-/// reads back.
+/// The law of names in Markdown: each markup byte is escaped, no address becomes a link, no blank at an end is dropped, and what a reader
+/// of the Markdown sees is the name.
 pub fn markdown_has_no_markup_of_names()
     ensures reads_back { UnescapedLaw }
     ensures escaped { EscapedLaw }

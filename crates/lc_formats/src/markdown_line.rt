@@ -1,4 +1,4 @@
-//! Lines of a table of Markdown.
+//! The lines of a Markdown table.
 
 ghost use Rattle.std.specs.Prelude.{◌≡◌, ◌++◌, map, OnOk};
 ghost use Rattle.lc_formats.specs.MarkdownCells.{bold, rule_cell, value_cell, weighted};
@@ -11,7 +11,7 @@ use crate::markdown_escape::push_markdown;
 use lc_sheet::{Column, Form, Lines, Side, Value};
 use std::alloc::AllocError;
 
-/// The weight in which the values of a line are printed.
+/// Whether the values of a line are printed plain or in bold.
 #[derive(Clone, Copy)]
 pub(crate) enum Weight {
     Plain,
@@ -81,7 +81,7 @@ fn push_column<L: Lines>(
     push_value(text, weight, &L::value(line, form, column), made)
 }
 
-/// Appends what a line has in each column.
+/// Appends a line of a table: the value in each column.
 pub(crate) fn push_line<L: Lines>(
     text: &mut Vec<u8>,
     weight: Weight,
@@ -133,7 +133,7 @@ fn rule_cell(side: Side) -> &'static [u8]
     }
 }
 
-/// Appends the line that ends the headings of a table, and sets the sides of its columns.
+/// Appends the line below the headings of a table. It sets at which side each column is aligned.
 fn push_rule(text: &mut Vec<u8>, columns: &[Column]) -> Result<(), AllocError>
     ensures { OnOk result (text.new.items ≡ text.old.items ++ rule_with columns.now) }
 {
@@ -146,7 +146,7 @@ fn push_rule(text: &mut Vec<u8>, columns: &[Column]) -> Result<(), AllocError>
     text.extend_from_slice(b"\n")
 }
 
-/// Appends the headings of a table.
+/// Appends the headings of a table, and the line below them.
 pub(crate) fn push_headings(
     text: &mut Vec<u8>,
     columns: &[Column],

@@ -48,7 +48,7 @@ pub fn push_number(text: &mut String, n: u128) -> Result<(), AllocError>
     push_with_commas(text, buffer.format(n).as_bytes())
 }
 
-/// Returns the sign of a change from one number to another: none if they are equal.
+/// Returns the sign of a change from one number to another, or an empty text if the numbers are equal.
 fn sign(old: u128, new: u128) -> &'static str
     ensures { result.now ≡ sign old new }
 {

@@ -1,4 +1,4 @@
-//! The lines of a section in columns.
+//! The lines of a section as text in columns, for reading.
 
 ghost use Rattle.std.specs.Prelude.{◌≡◌, ◌∷◌, ◌++◌, ◌==◌, length, OnOk, string_bytes};
 ghost use Rattle.lc_formats.specs.Cells.{heading_cells, section_cells};
@@ -10,7 +10,7 @@ use crate::widths::Widths;
 use lc_sheet::{Lines, Section};
 use std::alloc::{AllocError, Global};
 
-/// Makes the columns at least as wide as the lines of a section.
+/// Makes each column at least as wide as its cells in the lines of a section.
 pub(crate) fn fit_lines<'a, L: Lines>(
     widths: &mut Widths,
     section: &Section<'a, L>,
@@ -29,7 +29,7 @@ pub(crate) fn fit_lines<'a, L: Lines>(
     Ok(())
 }
 
-/// Appends the lines of a section.
+/// Appends the lines of a section, in columns of these widths.
 pub(crate) fn push_lines<'a, L: Lines>(
     widths: &Widths,
     section: &Section<'a, L>,
@@ -49,7 +49,7 @@ pub(crate) fn push_lines<'a, L: Lines>(
     Ok(())
 }
 
-/// Appends the headings, the lines and an empty line, in columns that are as wide as all of them need.
+/// Appends the headings and the lines of a section, and then an empty line. Each column is first made as wide as its widest cell.
 fn push_some<'a, L: Lines>(
     widths: &mut Widths,
     section: &Section<'a, L>,
@@ -96,7 +96,7 @@ pub(crate) fn push_listing<'a, L: Lines>(
     push_some(&mut widths, section, &mut cells, text, made)
 }
 
-/// Returns a section with all of its lines, or with the first alone.
+/// Returns a section with all of its lines if `all` is true, and otherwise with the first line alone.
 pub(crate) fn shown_lines<'a, L: Lines>(all: bool, section: &Section<'a, L>) -> Section<'a, L>
     ensures { result ≡ shown_lines all section.now }
 {

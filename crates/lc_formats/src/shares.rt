@@ -1,19 +1,19 @@
-//! Shares of a whole, and bars.
+//! The texts of shares in per cent, and of bars.
 
 ghost use Rattle.std.specs.Prelude.{◌≡◌, ◌<◌, ◌+◌, ◌*◌, ◌^◌, ◌++◌, IfErr, IfOk, OnOk, decimal, string_bytes};
 ghost use Rattle.lc_formats.specs.Shares.{bar, blocks, last_block, rounded_parts, share_word};
 
 use std::alloc::AllocError;
 
-/// The parts of a whole that a share counts: tenths of a per cent.
+/// The number of parts of a whole in which shares are printed: tenths of a per cent.
 const SHARE_PARTS: u16 = 1_000;
 
-/// The parts of the longest bar: eighths of 20 cells.
+/// The number of parts of the longest bar: eighths of 20 cells.
 const BAR_PARTS: u16 = 160;
 
-/// Divides a whole into `count` parts, and returns how many of them a part of it is, rounded half up.
+/// Divides `whole` into `count` equal parts, and returns how many of these `part` is, rounded half up. Returns 0 if `whole` is 0.
 ///
-/// It stops with an error only if the divisor or the dividend overflows, which takes numbers of 2^111 or more.
+/// An error means that the divisor or the dividend overflows, which takes numbers of 2^111 or more.
 fn rounded_parts(count: u16, part: u128, whole: u128) -> Result<u128, AllocError>
     ensures parts { IfOk result (λ parts. parts ≡ rounded_parts count part whole) }
     ensures overflow { IfErr result (λ _. 2 * count * part + whole < 2 ^ 128 → 2 * whole < 2 ^ 128 → ⊥) }
@@ -34,7 +34,7 @@ fn push_decimal(text: &mut String, n: u128) -> Result<(), AllocError>
     text.push_str(buffer.format(n))
 }
 
-/// Appends a share in tenths of a per cent.
+/// Appends a share of this many tenths of a per cent, such as `12.5%`.
 fn push_tenths(text: &mut String, tenths: u128) -> Result<(), AllocError>
     ensures { OnOk result (string_bytes text.new ≡ string_bytes text.old ++ share_word tenths) }
 {
@@ -71,7 +71,7 @@ fn last_block(eighths: u128) -> &'static str
     }
 }
 
-/// Appends a bar whose length is in eighths of a cell.
+/// Appends a bar whose length is this many eighths of a cell.
 fn push_eighths(text: &mut String, eighths: u128) -> Result<(), AllocError>
     ensures { OnOk result (string_bytes text.new ≡ string_bytes text.old ++ bar eighths) }
 {
@@ -87,7 +87,7 @@ pub(crate) fn push_share(text: &mut String, part: u128, whole: u128) -> Result<(
     push_tenths(text, tenths)
 }
 
-/// Appends a bar for a part of a whole. The whole has 20 cells.
+/// Appends a bar for a part of a whole. The bar of the whole has 20 cells.
 pub(crate) fn push_bar(text: &mut String, part: u128, whole: u128) -> Result<(), AllocError>
     ensures { OnOk result (string_bytes text.new ≡ string_bytes text.old ++ bar (rounded_parts 160 part whole)) }
 {

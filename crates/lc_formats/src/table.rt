@@ -41,7 +41,7 @@ fn push_rows<'a, R: Lines, T: Lines>(
     Ok(())
 }
 
-/// Appends the rows between their headings and their sums.
+/// Appends the headings of the rows, the rows, and the sums over them.
 fn push_summary<R: Lines, T: Lines>(
     alloc: Global,
     rows: &Section<'_, R>,
@@ -110,7 +110,7 @@ fn push_both(
     Ok(())
 }
 
-/// Appends the number of directories, and that of their entries where it is there.
+/// Appends the number of directories, and the number of their entries if the sheet has this number.
 fn push_counts(
     alloc: Global,
     directories: u64,
@@ -127,7 +127,7 @@ fn push_counts(
     }
 }
 
-/// Appends the files, if these are requested.
+/// Appends the list of files, if the sheet has one.
 fn push_files<F: Lines>(
     alloc: Global,
     files: &Option<Section<'_, F>>,

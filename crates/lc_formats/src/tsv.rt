@@ -1,4 +1,4 @@
-//! The text of a sheet with a tab between fields.
+//! The text of a sheet as lines of fields, with tabs between the fields.
 
 ghost use Rattle.std.specs.Prelude.{◌≡◌, ◌++◌, OnOk, IfOk, map, take};
 ghost use Rattle.std.specs.List.{flat_map};
@@ -15,7 +15,7 @@ use lc_sheet::{Column, ComparisonSheet, Form, Lines, Section, Sheet, Value};
 use lc_text::{push_name, push_path};
 use std::alloc::{AllocError, Global};
 
-/// About what the line of a file takes, in bytes. Room for all lines at once spares most copies of the text while it grows.
+/// About how many bytes the line of a file takes. Room for all lines is reserved together, so that the text is copied less while it grows.
 const LINE_ROOM: usize = 64;
 
 /// Appends a value as a field.
@@ -35,7 +35,7 @@ fn push_value(text: &mut Vec<u8>, value: Value<'_>) -> Result<(), AllocError>
     }
 }
 
-/// Appends the value of a line in a column.
+/// Appends the value of a line in a column as a field.
 #[inline(always)]
 fn push_field<L: Lines>(
     text: &mut Vec<u8>,
@@ -94,7 +94,7 @@ fn push_line<L: Lines>(
     Ok(())
 }
 
-/// Appends a line that begins with a word.
+/// Appends a line that begins with the word `tag`, which names the kind of the line.
 fn push_tagged_line<L: Lines>(
     text: &mut Vec<u8>,
     tag: &'static str,
@@ -147,7 +147,7 @@ fn push_section<L: Lines>(text: &mut Vec<u8>, section: &Section<'_, L>) -> Resul
     push_lines::<L>(text, form, columns, lines)
 }
 
-/// Appends the first line of a section.
+/// Appends the first line of a section, if the section has a line.
 fn push_first<L: Lines>(text: &mut Vec<u8>, section: &Section<'_, L>) -> Result<(), AllocError>
     ensures { OnOk result (text.new.items ≡ text.old.items ++ flat_map values_line (take 1 section.now.lines)) }
 {
@@ -222,11 +222,11 @@ fn push_entries(text: &mut Vec<u8>, entries: Option<u64>) -> Result<(), AllocErr
     }
 }
 
-/// Makes the text of a sheet with a tab between fields.
+/// Makes the text of a sheet as lines of fields, with tabs between the fields.
 ///
-/// It has a header, then a line for each row, for the rows that are cut off, for the totals and for the number of directories. Then come
-/// lines for files and for skipped entries, if the sheet has these, and for errors. Paths are escaped like [`escape`](lc_text::escape)
-/// does.
+/// The text has a header, then a line for each row, a line for the rows that are cut off, a line for the totals, a line for the number of
+/// directories, and a line for the number of entries if the sheet has this number. Then come lines for files and for skipped entries, if
+/// the sheet has these, and for errors. Paths are escaped like [`escape`](lc_text::escape) does.
 pub fn tsv_text<R: Lines, T: Lines, F: Lines, S: Lines, E: Lines>(
     alloc: Global,
     sheet: &Sheet<'_, R, T, F, S, E>,
@@ -246,7 +246,7 @@ pub fn tsv_text<R: Lines, T: Lines, F: Lines, S: Lines, E: Lines>(
     Ok(text)
 }
 
-/// Appends a line for each file, if files are requested. It has the values of the file alone.
+/// Appends a line for each file, if the comparison lists files. No word is before the values of the file.
 fn push_listed<L: Lines>(
     text: &mut Vec<u8>,
     files: &Option<Section<'_, L>>,
@@ -259,10 +259,10 @@ fn push_listed<L: Lines>(
     }
 }
 
-/// Makes the text of a comparison with a tab between fields.
+/// Makes the text of a comparison as lines of fields, with tabs between the fields.
 ///
-/// It has a header, then a line for each row, for the rows that are cut off and for the totals. Then comes a line for each file, if the
-/// comparison lists files. Paths are escaped like [`escape`](lc_text::escape) does.
+/// The text has a header, then a line for each row, a line for the rows that are cut off, and a line for the totals. Then comes a line for
+/// each file, if the comparison lists files. Paths are escaped like [`escape`](lc_text::escape) does.
 pub fn tsv_changes<R: Lines, T: Lines, F: Lines>(
     alloc: Global,
     sheet: &ComparisonSheet<'_, R, T, F>,

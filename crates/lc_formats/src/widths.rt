@@ -1,4 +1,4 @@
-//! The widths of columns. Each is as wide as its widest cell.
+//! The widths of columns. Each column is as wide as its widest cell.
 
 ghost use Rattle.std.specs.Prelude.{◌≡◌, ◌≤◌, ◌++◌, [], length, slice_index, IfOk, OnOk, string_bytes};
 ghost use Rattle.lc_formats.specs.Cells.{cells_of};
@@ -9,7 +9,7 @@ use crate::cells::{Cell, push_copies};
 use std::alloc::{AllocError, Global};
 use std::marker::Model;
 
-/// The width of each column.
+/// The width of each column, in columns of a terminal.
 #[derive(Drop)]
 pub(crate) struct Widths {
     of_columns: Vec<usize>,
@@ -23,7 +23,7 @@ impl Model for Widths {
     ghost view = { λ w. w.of_columns.items };
 }
 
-/// Returns the cells of a line up to the last that is shown.
+/// Returns the cells of a line up to the last cell that shows something.
 fn shown_cells<'c, 'a>(
     cells: &'c [Cell<'a>],
     made: &mut String,
@@ -101,7 +101,7 @@ impl Widths {
         self.of_columns.get(column).copied().unwrap_or(0)
     }
 
-    /// Appends a line of these cells, which ends after its last text.
+    /// Appends a line of these cells. The line ends after the last cell that shows something.
     pub(crate) fn push_line(
         &self,
         cells: &[Cell<'_>],
