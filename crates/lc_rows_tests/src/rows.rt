@@ -1,4 +1,4 @@
-//! What no clause says: worked cases, and that calls succeed if there is memory.
+//! Tests of what no contract states: worked cases, and that calls succeed if no allocation fails.
 
 mod by_directory;
 mod conditions;

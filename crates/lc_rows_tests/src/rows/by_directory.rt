@@ -104,7 +104,8 @@ fn rows_by_directory(rt: HostRuntime) -> Result<(), Fail> {
     Ok(())
 }
 
-/// Files of several directories that were named on one command line. The top comes first, then the order is by bytes.
+/// Files of several directories that were named on one command line. In their rows the top directory comes first, and the others are in the
+/// order of their paths' bytes.
 const NAMED: &[File] = &[
     (b"../lib/a/b.c", NONE, Eol::Lf, [1, 0, 2]),
     (b"../x.c", NONE, Eol::Lf, [2, 0, 3]),

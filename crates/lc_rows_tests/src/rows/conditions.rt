@@ -1,4 +1,4 @@
-//! What meets conditions: files, rows and sums of a report.
+//! The part of a report that meets conditions: its files, rows and sums.
 
 use crate::rows::files::{File, NONE, file_lines};
 use lc_census::Eol;
@@ -48,7 +48,7 @@ fn push_files(text: &mut String, files: &[FileLine]) -> Result<(), AllocError> {
     Ok(())
 }
 
-/// Returns what meets conditions: files, the lines of each row, and the totals.
+/// Returns what meets conditions as text: the paths of the files, the lines of each row, and the totals.
 fn kept(alloc: Global, conditions: &[Condition<'_>]) -> Result<String, AllocError> {
     let mut report = report(alloc)?;
     keep(alloc, conditions, &mut report)?;

@@ -4,7 +4,7 @@ use lc_rows::{directory_at, level_of, own_part};
 use std::process::Abort;
 use std::test::Fail;
 
-/// The number of names, the path of a file, and its directory.
+/// A number of names, the path of a file, and the file's directory cut after this many names.
 const CASES: &[(u32, &[u8], &[u8])] = &[
     (1, b"", b""),
     (1, b"main.c", b""),
@@ -43,7 +43,7 @@ fn directories_of_paths(rt: HostRuntime) -> Result<(), Fail> {
     Ok(())
 }
 
-/// A directory, the number of those above it in a tree, and its path from the one right above it on.
+/// A directory, the number of directories above it in a tree, and the part of its path that follows the directory right above it.
 const LEVELS: &[(&[u8], usize, &[u8])] = &[
     (b"", 0, b""),
     (b"src", 1, b"src"),

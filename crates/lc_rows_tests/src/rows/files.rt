@@ -1,4 +1,4 @@
-//! Files and rows, as cases write them.
+//! Files and rows in the short form in which test cases write them.
 
 use lc_census::{Count, Eol};
 use lc_rows::ShownRow;
@@ -9,10 +9,10 @@ use std::alloc::{AllocError, Global};
 
 pub(super) const NONE: TextState = TextState::Unspecified;
 
-/// A path, a text state, a class, and the lines, blank lines and bytes.
+/// A file: a path, a text state, a class of line ends, and the numbers of lines, blank lines and bytes.
 pub(super) type File = (&'static [u8], TextState, Eol, [u64; 3]);
 
-/// A directory, an extension, a class, and the files, lines, blank lines and bytes.
+/// A row: a directory, an extension, a class of line ends, and the numbers of files, lines, blank lines and bytes.
 pub(super) type Row = (&'static [u8], Option<&'static [u8]>, Eol, [u64; 4]);
 
 pub(super) const BY_DIRECTORY: Columns = Columns {

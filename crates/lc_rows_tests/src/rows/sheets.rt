@@ -1,4 +1,4 @@
-//! The sheet of a report: a value of each kind, in the order of the columns.
+//! The sheet of a report: the values of lines of each kind, in the order of the columns.
 
 ghost use Rattle.std.specs.Prelude.{◌≡◌, true, IfOk};
 

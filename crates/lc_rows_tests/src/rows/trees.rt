@@ -23,7 +23,7 @@ const DIRECTORIES: &[Row] = &[
     (b"src-old", None, Eol::NoEnd, [1, 3, 1, 15]),
 ];
 
-/// The rows of these files where directories are cut after one name.
+/// The rows of `FILES` if directories are cut after one name.
 const FIRST_DIRECTORIES: &[Row] = &[
     (b"", None, Eol::NoEnd, [5, 18, 5, 109]),
     (b"src", None, Eol::NoEnd, [3, 11, 3, 85]),
@@ -63,7 +63,7 @@ const EXTENSIONS: &[Row] = &[
     (b"src-old", Some(b"c"), Eol::NoEnd, [1, 3, 1, 15]),
 ];
 
-/// Files of which two are in one directory, and one is in a directory above it.
+/// Three files: two are in one directory, and one is in the directory above it.
 const DEEP: &[File] = &[
     (b"a/b/c/m.rs", NONE, Eol::Lf, [4, 1, 9]),
     (b"a/b/c/n.rs", NONE, Eol::Lf, [3, 1, 15]),
