@@ -1,4 +1,4 @@
-//! What no clause says: worked comparisons, and that calls succeed if there is memory.
+//! Tests of what no contract states: worked comparisons, and that calls succeed if no allocation fails.
 
 mod files;
 mod formats;

@@ -1,4 +1,4 @@
-//! Files: those that were added, removed or changed, and their order.
+//! The files of a comparison that were added, removed or changed, and their order.
 
 use crate::changes::reports::{File, NEW, NONE, OLD, TSV, check, compared, report, text_of};
 use lc_census::Eol;
@@ -122,7 +122,7 @@ removed - - lf - 5 - 0 - 6 - c
 
 ";
 
-/// A report may have been changed after it was made.
+/// Checks a comparison of reports whose files are not in the order of their paths, since a report may be changed after it was made.
 #[test]
 fn files_in_any_order(rt: HostRuntime) -> Result<(), Fail> {
     let alloc = rt.alloc();

@@ -1,4 +1,4 @@
-//! The columns of each format.
+//! The columns of a comparison in each format.
 
 use crate::changes::reports::{BY_EXTENSION, TSV, check};
 use lc_changes::ChangeOptions;

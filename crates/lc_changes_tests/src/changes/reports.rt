@@ -1,4 +1,4 @@
-//! Reports of two versions of a tree, and the text of a comparison: a value of each kind, in the order of the columns.
+//! Reports of two versions of a tree, and the text of their comparison, which shows the values of each line in the order of the columns.
 
 ghost use Rattle.std.specs.Prelude.{◌≡◌, true, IfOk};
 
@@ -15,7 +15,7 @@ use std::process::Abort;
 
 pub(super) const NONE: TextState = TextState::Unspecified;
 
-/// A path, a text state, a class, and the lines, blank lines and bytes.
+/// A file: a path, a text state, a class of line ends, and the numbers of lines, blank lines and bytes.
 pub(super) type File = (&'static [u8], TextState, Eol, [u64; 3]);
 
 pub(super) const OLD: &[File] = &[
@@ -75,7 +75,7 @@ fn tally_of(alloc: Global, files: &[FileLine]) -> Result<Tally, AllocError> {
     Ok(tally)
 }
 
-/// Makes a report of some files, in this order.
+/// Makes a report of some files.
 pub(super) fn report(alloc: Global, files: &[File]) -> Result<Report, AllocError>
     ensures { IfOk result (λ report. report.lists.files ≡ true) }
 {
@@ -143,7 +143,7 @@ pub(super) fn text_of(alloc: Global, changes: &ShownChanges<'_>) -> Result<Vec<u
     Ok(text)
 }
 
-/// Compares two reports. Returns the text of the comparison, and whether they differ.
+/// Compares the reports of two lists of files. Returns the text of the comparison, and whether the reports differ.
 pub(super) fn compared(
     alloc: Global,
     old: &[File],
@@ -157,7 +157,7 @@ pub(super) fn compared(
     Ok((text, changes.some_differ()))
 }
 
-/// Checks the text of the comparison of `OLD` and `NEW`, which differ.
+/// Checks that the comparison of `OLD` and `NEW` has this text, and that the two differ.
 pub(super) fn check(
     rt: &impl Abort,
     alloc: Global,

@@ -1,4 +1,4 @@
-//! Rows: what changed, their order, where they are cut, and one report without files.
+//! The rows of a comparison: which rows changed, their order, where they are cut, and a report without files.
 
 use crate::changes::reports::{BY_EXTENSION, NEW, OLD, TSV, check, compared};
 use lc_changes::ChangeOptions;
