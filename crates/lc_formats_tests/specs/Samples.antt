@@ -1,4 +1,4 @@
--- What a line of the tests has in each column.
+-- The values that a sample, a line for tests, has in each column.
 use Rattle.std.specs.Prelude.{ℕ, Option, Some, None}
 use Rattle.lc_sheet.specs.Values.{ValueModel, missing, summed, blank, word, path, number, difference}
 use Rattle.lc_sheet.specs.declared.column.Column.{Column}
@@ -17,7 +17,7 @@ number_in Lines v = v.lines
 number_in Blank v = v.blank
 number_in Bytes v = v.bytes
 
--- a side without the line has zeros
+-- a number of a line in one report, or 0 if the report lacks the line
 abbrev pub number_of : Number → Option Version → ℕ
 number_of n None = 0
 number_of n (Some v) = number_in n v

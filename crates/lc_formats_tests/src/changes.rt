@@ -1,4 +1,4 @@
-//! What no clause says: worked comparisons of two reports, in each format.
+//! Tests of what no contract states: worked comparisons of two reports, in each format.
 
 mod comparing;
 mod files;

@@ -1,4 +1,4 @@
-//! The tests of the table of a run, and of the texts of comparisons.
+//! The tests of tables of reports, and of the texts of comparisons.
 #![tactic(auto)]
 
 #[cfg(test)]

@@ -1,4 +1,4 @@
-//! A kind of lines for tests. A line has the values of a file or of a row in two reports.
+//! A kind of lines of a sheet, for tests. A line has the values of a file or of a row in two reports.
 
 ghost use Rattle.std.specs.Prelude.{◌≡◌};
 ghost use Rattle.lc_sheet.specs.Values.{value_model};
@@ -6,7 +6,7 @@ ghost use Rattle.lc_formats_tests.specs.Samples.{compared_in, compared_of, numbe
 
 use lc_sheet::{Column, Compared, Form, Lines, Number, Value};
 
-/// What one report has.
+/// The values of a line in one report.
 #[derive(Clone, Copy)]
 pub struct Version {
     /// The state of the attribute `text`.
@@ -23,22 +23,22 @@ pub struct Version {
     pub bytes: u128,
 }
 
-/// A line, with what each of two reports has.
+/// A line of a comparison, with its values in each of two reports.
 #[derive(Clone, Copy)]
 pub struct Sample {
-    /// The extension, or the name of a line of sums.
+    /// The extension of a file or of a row, or the name of a line of sums.
     pub key: &'static str,
-    /// What became of the file.
+    /// What became of the file, such as `added`; empty for a row.
     pub change: &'static str,
-    /// The path of the file.
+    /// The path of the file; empty for a row.
     pub path: &'static [u8],
-    /// What the old report has.
+    /// The values in the old report, or `None` if the report lacks the line.
     pub old: Option<Version>,
-    /// What the new report has.
+    /// The values in the new report, or `None` if the report lacks the line.
     pub new: Option<Version>,
 }
 
-/// The kind of such lines.
+/// Says which value a `Sample` has in each column of a sheet. The struct is empty: it only implements `Lines` for samples.
 #[derive(Drop)]
 pub struct Samples {}
 

@@ -1,4 +1,4 @@
-//! What no clause says: worked cases, that runs succeed where there is memory, and trees whose calls fail.
+//! Tests of what no contract states: worked cases, runs that succeed if no allocation fails, and trees whose calls fail.
 
 mod asking;
 mod cuts;

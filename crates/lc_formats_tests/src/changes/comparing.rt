@@ -7,16 +7,17 @@ use std::alloc::{AllocError, Global};
 use std::process::Abort;
 use std::test::Fail;
 
-/// A row or a line of sums: its key, and what it has in the old report and in the new one.
+/// A row or a line of sums: its key, and its four numbers in the old report and in the new one.
 pub(super) type Row = (&'static str, [u128; 4], [u128; 4]);
 
-/// What a file has in a report: its states of `text` and of line ends, its lines, blank lines and bytes.
+/// The values of a file in one report: its state of `text`, its class of line ends, and its numbers of lines, blank lines and bytes. They
+/// are `None` if the report lacks the file.
 pub(super) type Side = Option<(&'static str, &'static str, [u128; 3])>;
 
-/// A file: what became of it, its path, its extension, and what it has in the old report and in the new one.
+/// A file: what became of it, its path, its extension, and its values in the old report and in the new one.
 pub(super) type File = (&'static str, &'static [u8], &'static str, Side, Side);
 
-/// What the case shows, a comparison, and its text in a format.
+/// A test case: a name that says what the case shows, a comparison, and the text of the comparison in a format.
 #[derive(Clone, Copy)]
 pub(super) struct Case<'a> {
     pub(super) name: &'a str,
@@ -158,7 +159,7 @@ const SHOWN_FILES: &[Column] = &[
     Column::Path,
 ];
 
-/// The columns of rows, of sums and of files in a format.
+/// Returns the columns of rows, of sums and of files in a format.
 fn columns_of(format: Format) -> [&'static [Column]; 3] {
     match format {
         Format::Tsv => [TABBED_ROWS, TABBED_ROWS, TABBED_FILES],
@@ -229,7 +230,7 @@ fn files(alloc: Global, all: &[File]) -> Result<Vec<Sample>, AllocError> {
     Ok(samples)
 }
 
-/// Makes the text of a comparison in a format; none as HTML.
+/// Makes the text of a comparison in a format. The text is empty for HTML.
 fn text_in(
     alloc: Global,
     format: Format,
@@ -245,7 +246,7 @@ fn text_in(
     }
 }
 
-/// Makes the text of a case.
+/// Makes the text of the comparison of a case.
 pub(super) fn text_of(alloc: Global, case: &Case<'_>) -> Result<Vec<u8>, AllocError> {
     let [row_columns, sums_columns, file_columns] = columns_of(case.format);
     let all = rows(alloc, case.rows)?;
@@ -263,7 +264,7 @@ pub(super) fn text_of(alloc: Global, case: &Case<'_>) -> Result<Vec<u8>, AllocEr
     text_in(alloc, case.format, &sheet)
 }
 
-/// Checks that each comparison has its text.
+/// Checks that the comparison of each case has the text of the case.
 pub(super) fn compare_all<R: AllocGlobal + Abort>(rt: &R, cases: &[Case<'_>]) -> Result<(), Fail> {
     for case in cases {
         let text = text_of(rt.alloc(), case)?;

@@ -8,7 +8,7 @@ const ROWS: &[Row] = &[(".c", [2, 1_440, 100, 32_000], [2, 2_520, 101, 61_107])]
 
 const TOTAL: Row = ("total", [2, 1_440, 100, 32_000], [2, 2_520, 101, 61_107]);
 
-/// The path of one is not UTF-8.
+/// A changed, a removed and an added file. The path of the removed one is not UTF-8.
 const FILES: &[File] = &[
     (
         "changed",

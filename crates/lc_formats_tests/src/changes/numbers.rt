@@ -1,4 +1,4 @@
-//! Large numbers in comparisons: those of files are below 2^64, and sums are below 2^128.
+//! Large numbers in comparisons: numbers of files are below 2^64, and other sums are below 2^128.
 
 use crate::changes::comparing::{Case, compare_all};
 use lc_sheet::Format;

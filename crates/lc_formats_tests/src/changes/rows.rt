@@ -1,10 +1,10 @@
-//! Rows of a comparison and their sums.
+//! The rows of a comparison, and the sums over them.
 
 use crate::changes::comparing::{Case, Row, compare_all};
 use lc_sheet::Format;
 use std::test::Fail;
 
-/// Two releases of a program: a row of which no number changed is left out of its rows, and is in its total.
+/// The comparison of two releases of a program. A row in which no number changed is not shown, but is in the total.
 const RELEASES: Case = Case {
     name: "two_releases",
     format: Format::Table,
@@ -33,7 +33,7 @@ total    203  +3  51,020  +1,070  4,901  -12  1,100,199  +22,907
 ",
 };
 
-/// Rows of which some are cut off.
+/// The row that is shown if the other row is cut off.
 const ROWS: &[Row] = &[(".c", [1, 20, 3, 400], [2, 30, 3, 90])];
 
 const OTHERS: &[Row] = &[("others", [1, 1, 0, 7], [0, 0, 0, 0])];

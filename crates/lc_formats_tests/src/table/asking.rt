@@ -1,4 +1,4 @@
-//! Runs as the tests ask for them, and their tables.
+//! Test cases of runs that count a tree and print its table, and the checks of these cases.
 
 ghost use Rattle.std.specs.Prelude.{◌≡◌, ◌≤◌, false, is_some};
 ghost use Rattle.lc_walk.specs.WalkOptions.{AreWithinLimits};
@@ -19,7 +19,7 @@ use std::sync::Wait;
 use std::test::Fail;
 use std::thread::Threads;
 
-/// The rules of `--exclude-from`, the lists that are requested, and whether `--archive` is.
+/// The arguments of a run: the rules of `--exclude-from`, the lists that are requested, and whether `--archive` is set.
 #[derive(Clone, Copy)]
 pub(super) struct Asked<'a> {
     pub(super) exclude: &'a [u8],
@@ -52,7 +52,8 @@ pub(super) const WITH_LEFT_OUT: Asked<'static> = Asked {
     ..PLAIN
 };
 
-/// What the case shows, a tree, the arguments of a run over it, and the outcome and the lines below the header.
+/// A test case: a name that says what the case shows, a tree, the arguments of a run over this tree, the outcome of the run, and the lines
+/// of the table below the header.
 #[derive(Clone, Copy)]
 pub(super) struct Case<'a> {
     pub(super) name: &'a str,
@@ -62,7 +63,7 @@ pub(super) struct Case<'a> {
     pub(super) lines: &'a [u8],
 }
 
-/// A table with tabs, of all columns, in the order of its keys.
+/// The options of a table with tabs, with all columns, whose rows are in the order of their keys.
 pub(super) const TSV: TableOptions = TableOptions {
     format: Format::Tsv,
     by: Columns::ALL,
@@ -72,7 +73,7 @@ pub(super) const TSV: TableOptions = TableOptions {
     share: false,
 };
 
-/// The first line of each such table.
+/// The first line of a table with the options `TSV`.
 pub(super) const HEADER: &[u8] = b"ext\ttext\teol\tfiles\tlines\tblank\tbytes\n";
 
 fn excluding(alloc: Global, rules: &[u8]) -> Result<Option<RuleText>, AllocError> {
@@ -86,7 +87,7 @@ fn excluding(alloc: Global, rules: &[u8]) -> Result<Option<RuleText>, AllocError
     }
 }
 
-/// Makes the filters that the arguments request.
+/// Makes the filters that these arguments request.
 fn filters_of<'p>(alloc: Global, asked: &Asked<'_>) -> Result<Filters<'p>, AllocError> {
     let mut without = Vec::new(alloc);
     if asked.archive {
@@ -118,7 +119,7 @@ fn options_of<'o>(
     }
 }
 
-/// The options of a table of a report with these lists.
+/// Returns the options of a table for a report with these lists.
 pub(super) fn listing(lists: ReportLists) -> TableOptions
     ensures { is_some result.by.dir ≡ false }
 {
@@ -128,7 +129,7 @@ pub(super) fn listing(lists: ReportLists) -> TableOptions
     }
 }
 
-/// The options of a report of which all is shown.
+/// Returns options by which all files of a report are shown in this table.
 pub(super) fn showing_all(table: TableOptions) -> ReportOptions<'static>
     ensures { result.table ≡ table }
 {
@@ -139,7 +140,7 @@ pub(super) fn showing_all(table: TableOptions) -> ReportOptions<'static>
     }
 }
 
-/// What a report with these faults shows.
+/// Returns the outcome of a run whose report has these errors.
 fn outcome_of(faults: &[FaultLine]) -> Outcome {
     if faults.is_empty() {
         Outcome::Clean
@@ -148,12 +149,12 @@ fn outcome_of(faults: &[FaultLine]) -> Outcome {
     }
 }
 
-/// A writer that takes any of these tables at once.
+/// Makes a writer that accepts any table of these tests in one write.
 pub(super) fn new_writer(alloc: Global) -> Result<Narrow, AllocError> {
     Narrow::new(alloc, 1_024, 1_024, WhenFull::Fails)
 }
 
-/// The answer of a run over a tree.
+/// Runs a count of a tree, and returns its outcome or its error.
 pub(super) fn answer_of<R: Threads + Wait + Sync + AllocGlobal, T: Tree>(
     rt: &R,
     tree: &T,
@@ -174,7 +175,7 @@ pub(super) fn answer_of<R: Threads + Wait + Sync + AllocGlobal, T: Tree>(
     Ok(outcome_of(&report.faults))
 }
 
-/// That of a walk over boards of this type, whose table is then written.
+/// Like `answer_of`, but walks the tree with a board of type `B`, and then writes the table.
 fn answer_over<B: Shared<Job, Row>, R: Threads + Wait + Sync, T: Tree>(
     rt: &R,
     alloc: Global,
@@ -195,7 +196,7 @@ fn answer_over<B: Shared<Job, Row>, R: Threads + Wait + Sync, T: Tree>(
     Ok(outcome_of(&report.faults))
 }
 
-/// Returns an answer. If an allocation fails, nothing is written.
+/// Returns the answer of a run. If an allocation failed and nothing was written, returns `Err(AllocError)`.
 pub(super) fn settled(
     answer: Result<Outcome, RunFault>,
     out: &Narrow,
@@ -208,7 +209,7 @@ pub(super) fn settled(
     }
 }
 
-/// Whether an answer, and what was written, are those of the case.
+/// Returns whether the answer of a run, and what the run wrote, are those of the case.
 fn is_told(
     answer: Result<Outcome, RunFault>,
     out: &Narrow,
@@ -219,7 +220,7 @@ fn is_told(
     Ok(answer == Ok(case.outcome) && lines == Some(case.lines))
 }
 
-/// Whether a run by so many workers over a tree ends as the case says.
+/// Returns whether a run over a tree with this many workers ends as the case says.
 fn ends_so<R: Threads + Wait + Sync + AllocGlobal, T: Tree>(
     rt: &R,
     tree: &T,
@@ -233,7 +234,7 @@ fn ends_so<R: Threads + Wait + Sync + AllocGlobal, T: Tree>(
     is_told(answer, &out, case)
 }
 
-/// Whether a walk over boards of this type does, whose table is then written.
+/// Like `ends_so`, but walks the tree with a board of type `B`, and then writes the table.
 fn ends_so_over<B: Shared<Job, Row>, R: Threads + Wait + Sync + AllocGlobal, T: Tree>(
     rt: &R,
     tree: &T,
@@ -247,7 +248,7 @@ fn ends_so_over<B: Shared<Job, Row>, R: Threads + Wait + Sync + AllocGlobal, T: 
     is_told(answer, &out, case)
 }
 
-/// Whether a run does, and walks over both boards.
+/// Returns whether a run, and walks with both types of boards, end as the case says.
 fn all_end_so<R: Threads + Wait + Sync + AllocGlobal>(
     rt: &R,
     tree: &MemTree<'_>,
@@ -280,8 +281,8 @@ pub(super) fn compare<R: Threads + Wait + Sync + AllocGlobal + Abort, T: Tree>(
     Ok(())
 }
 
-/// Checks that these end as the case says: a run over the case's own tree and walks of that tree over both boards, with each of these
-/// numbers of workers, and a run however its files are read.
+/// Checks that runs over the case's own tree end as the case says, with each of these numbers of workers and with both types of boards.
+/// Also checks a run that reads files byte by byte.
 pub(super) fn compare_by<R: Threads + Wait + Sync + AllocGlobal + Abort>(
     rt: &R,
     case: &Case<'_>,
@@ -303,7 +304,7 @@ pub(super) fn compare_by<R: Threads + Wait + Sync + AllocGlobal + Abort>(
 
 const MANY: &[u32] = &[1, 2, 16];
 
-/// Like `compare_by`, but checks several cases, with any number of workers.
+/// Like `compare_by`, but checks several cases, each with one, a few and many workers.
 pub(super) fn compare_all<R: Threads + Wait + Sync + AllocGlobal + Abort>(
     rt: &R,
     cases: &[Case<'_>],

@@ -9,7 +9,7 @@ use std::test::Fail;
 
 const HEADER: &[u8] = b"dir\text\ttext\teol\tfiles\tlines\tblank\tbytes\n";
 
-/// The first directories of paths alone.
+/// The options of a table with tabs whose rows are only by directory, cut after one name.
 const BY_DIR: TableOptions = TableOptions {
     by: Columns {
         dir: Some(1),
@@ -20,7 +20,7 @@ const BY_DIR: TableOptions = TableOptions {
     ..TSV
 };
 
-/// By two directories of paths and by extension, the largest number of lines first.
+/// The options of a table whose rows are by directory, cut after two names, and by extension. It shows the two rows with the most lines.
 const BY_TWO: TableOptions = TableOptions {
     by: Columns {
         dir: Some(2),
@@ -156,7 +156,7 @@ const OTHER_FORMATS: &[Case] = &[
     },
 ];
 
-/// A directory whose name is no UTF-8.
+/// A directory whose name is not UTF-8.
 const NO_TEXT: &[Case] = &[Case {
     name: "directories_that_are_no_text",
     options: TableOptions {
@@ -174,7 +174,7 @@ const NO_TEXT: &[Case] = &[Case {
     ..TREE
 }];
 
-/// The files of JSON, with their directories.
+/// Tables in JSON that list the files with their directories.
 const JSON_FILES: &[Case] = &[
     Case {
         name: "files_as_json_by_one_directory",

@@ -1,4 +1,5 @@
-//! The table of a run with one worker in which one call fails, whichever call that is, and of a run that meets a file whose reads fail.
+//! The tables of runs with one worker in which one call of the tree fails: each call fails in one of the runs. Also the tables of runs over
+//! a tree with a file whose reads fail.
 
 use crate::table::asking::{Case, compare, compare_all};
 use crate::table::runs::{BUILD, FIRST_CASE, IGNORE, KEPT, LOG, RULES, SRC};
@@ -19,11 +20,12 @@ const LOG_UNCOUNTED: &[u8] =
 const C_UNCOUNTED: &[u8] =
     b"-\t-\tlf\t1\t3\t0\t24\n.log\t-\tlf\t1\t1\t0\t2\ntotal\t*\t*\t2\t4\t0\t26\ndirectories\t3\nfault\tread\tsrc/build/y.c\n";
 
-/// Calls of the tree, from the first to the one before the last number, in which the worker does one thing, and the lines where
-/// one of them fails.
+/// Calls of the tree that serve one purpose: the number of the first call, the number after the last call, a name, and the lines of the
+/// table if one of these calls fails.
 type Step = (u64, u64, &'static str, &'static [u8]);
 
-/// A listing is one call. A file is opened, read, and read to its end. The last call is the one before 15.
+/// All calls of a walk of the tree of `FIRST_CASE`, numbered from 0 to 14. A listing is one call. A file takes three: it is opened, read,
+/// and read to its end.
 const STEPS: &[Step] = &[
     (
         0,
@@ -54,7 +56,7 @@ const STEPS: &[Step] = &[
     (12, 15, "a_file_below_that_is_not_counted", C_UNCOUNTED),
 ];
 
-/// Where one of these calls fails, whichever it is, the run ends as the case says.
+/// Checks that the run ends as the case says if any one of these calls fails.
 fn compare_failing<R: Threads + Wait + Sync + AllocGlobal + Abort>(
     rt: &R,
     tree: &MemTree<'_>,
@@ -87,7 +89,7 @@ fn each_call_of_one_worker_fails(rt: HostRuntime) -> Result<(), Fail> {
     compare_failing(&rt, &tree, 15, 16, whole)
 }
 
-/// The tree with a file that fails, once it has given its bytes, in place of each of its files.
+/// The tree of `FIRST_CASE`, with each of its files in turn replaced by a file whose reads return its bytes and then fail.
 const FAILING_FILES: &[Case<'static>] = &[
     Case {
         name: "a_gitignore_that_fails",

@@ -1,4 +1,4 @@
-//! Runs over a tree of which one call fails, whichever call that is.
+//! Runs over a tree of which one call fails. Each call of the tree fails in one of the runs.
 
 ghost use Rattle.std.specs.Prelude.{◌≤◌};
 
@@ -28,7 +28,7 @@ const TOP: Sketch<'static> = Sketch::Dir(&[
     ),
 ]);
 
-/// The lines of the files where no call fails.
+/// The lines of the table that show files if no call fails.
 const FILES: [&[u8]; 4] = [
     b"file\t-\tlf\t1\t0\t4\t.gitignore",
     b"file\t-\tlf\t1\t0\t2\ta.c",
@@ -36,7 +36,7 @@ const FILES: [&[u8]; 4] = [
     b"file\tset\tlf\t2\t1\t3\td/b.c",
 ];
 
-/// The paths of which one is unreadable if a call fails.
+/// The paths that a run reads. If a call fails, one of these could not be read.
 const PATHS: [&[u8]; 7] = [
     b".",
     b".gitignore",
@@ -47,7 +47,7 @@ const PATHS: [&[u8]; 7] = [
     b"d/e",
 ];
 
-/// How many lines of a table show files, and how many errors.
+/// How many lines of a table show files, and how many show errors.
 #[derive(Clone, Copy)]
 struct Told {
     files: usize,
@@ -69,8 +69,8 @@ fn is_counted(table: &[u8], path: &[u8]) -> bool {
     false
 }
 
-/// Returns how many lines of a table show files and errors. It returns nothing if a line is none of the files above, or shows an error of a
-/// path that was counted.
+/// Returns how many lines of a table show files, and how many show errors. Returns `None` if a line shows a file but is not in `FILES`, or
+/// shows an error for a path that is not in `PATHS` or was counted.
 fn lines_told(table: &[u8]) -> Option<Told> {
     let mut files = 0usize;
     let mut faults = 0usize;
@@ -91,7 +91,7 @@ fn lines_told(table: &[u8]) -> Option<Told> {
     Some(Told { files, faults })
 }
 
-/// How many calls a walk makes: three listings, and six times a file is opened, read, and read to its end.
+/// How many calls of the tree a walk makes: three listings, and six times a file is opened, read, and read to its end.
 const CALLS: u64 = 21;
 
 /// The answer of a run, the lines of its table, and how many calls it made.
@@ -114,7 +114,8 @@ fn is_whole((answer, told, calls): &Found) -> bool {
         && *calls == CALLS
 }
 
-/// Of a run of which this call fails. One that makes more calls than there are began again, since several workers were refused memory.
+/// Runs a count in which the call with this number fails, and returns its answer, its lines and its calls. A run that makes more than
+/// `CALLS` calls began again, since several workers were refused memory: this is an `AllocError`.
 fn found_at<R: Threads + Wait + Sync + AllocGlobal>(
     rt: &R,
     tree: &MemTree<'_>,
@@ -134,7 +135,8 @@ fn found_at<R: Threads + Wait + Sync + AllocGlobal>(
     Ok((answer, lines_told(&out.taken), call.begun()))
 }
 
-/// Each call of a walk fails in turn: the table then has one fault more, and each line of a file as it was or not at all.
+/// Checks runs in which each call of a walk fails in turn: the table then has one error, and shows no line of a file that differs from its
+/// line in `FILES`.
 fn compare<R: Threads + Wait + Sync + AllocGlobal + Abort>(rt: &R, threads: u32) -> Result<(), Fail>
     requires threads { (1 ≤ threads) × (threads ≤ 16) }
 {

@@ -1,4 +1,4 @@
-//! The rows of a table by each subset of its columns, and sorted by each number.
+//! The rows of a table, grouped by each subset of its columns, and sorted by each number.
 
 use crate::table::asking::{HEADER, TSV};
 use crate::table::tables::{Case, NONE, compare_all, has_parts, report_of};
@@ -9,7 +9,7 @@ use std::alloc::{AllocError, Global};
 use std::process::Abort;
 use std::test::Fail;
 
-/// The lines below the rows.
+/// The lines of the table below its rows.
 const TOTALS: &[u8] = b"total\t*\t*\t7\t30\t8\t157\ndirectories\t2\n";
 
 const SUMMED: Case = Case {
@@ -49,7 +49,8 @@ const NO_ROWS: &[Case] = &[Case {
     lines: b"total\t*\t*\t0\t0\t0\t0\ndirectories\t1\n",
 }];
 
-/// What is shown, whether the three columns are kept, the number that sorts, and the rows.
+/// A test case: what it shows, whether rows are by extension, text state and line ends, the number that sorts rows, and the lines of the
+/// rows.
 type ShapeCase = (&'static str, [bool; 3], Option<Number>, &'static [u8]);
 
 const CASES: &[ShapeCase] = &[
@@ -133,7 +134,7 @@ const CASES: &[ShapeCase] = &[
     ),
 ];
 
-/// Whether the rows of a report with these options are those of the case.
+/// Returns whether the table of the report `SUMMED`, with the options of the case, has the rows of the case.
 fn has_rows(alloc: Global, case: &ShapeCase) -> Result<bool, AllocError> {
     let report = report_of(alloc, &SUMMED)?;
     let (_, [ext, text, eol], sort, rows) = *case;

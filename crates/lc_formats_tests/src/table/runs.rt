@@ -1,4 +1,4 @@
-//! Runs over trees in memory: their tables, with any number of workers, and their errors.
+//! Runs over trees in memory: the tables that they print, with several numbers of workers, and their errors.
 
 use crate::table::asking::{
     Asked, Case, HEADER, PLAIN, WITH_FILES, WITH_LEFT_OUT, answer_of, compare_all, compare_by,
@@ -16,7 +16,7 @@ use std::sync::Wait;
 use std::test::Fail;
 use std::thread::Threads;
 
-/// An entry of a directory: its name, and its node.
+/// An entry of a directory: its name, and a sketch of the file or directory.
 type Entry = (&'static [u8], Sketch<'static>);
 
 pub(super) const RULES: &[u8] = b"*.log\n!keep.log\n/build/\n";
@@ -39,7 +39,7 @@ pub(super) const SRC: Entry = (
 
 const FIRST: Sketch<'static> = Sketch::Dir(&[IGNORE, LOG, KEPT, BUILD, SRC]);
 
-/// The lines of its table.
+/// The lines of the table of `FIRST`, below the header.
 const WHOLE: &[u8] =
     b"-\t-\tlf\t1\t3\t0\t24\n.c\t-\tcrlf\t1\t1\t0\t8\n.log\t-\tlf\t1\t1\t0\t2\ntotal\t*\t*\t3\t5\t0\t34\ndirectories\t3\n";
 
@@ -169,7 +169,7 @@ fn tables_of_trees(rt: HostRuntime) -> Result<(), Fail> {
     compare_all(&rt, CASES)
 }
 
-/// So few workers that most allocations are refused in turn, where that is tried.
+/// Numbers of workers that are so few that tests with failing allocations can make most of these fail in turn.
 const FEW: &[u32] = &[1, 2];
 
 #[test]
@@ -187,7 +187,8 @@ fn excluding_rules_by_few_workers(rt: HostRuntime) -> Result<(), Fail> {
     compare_by(&rt, &EXCLUDING, FEW)
 }
 
-/// Whether a writer with so much room has that much of the first tree's table, and the run says whether this is all.
+/// Returns whether a run fills a writer that has room for `room` bytes with the beginning of `text`, and fails unless this is all of
+/// `text`.
 fn stops_there<R: Threads + Wait + Sync + AllocGlobal>(
     rt: &R,
     tree: &MemTree<'_>,
@@ -235,7 +236,7 @@ fn a_run_stops_at_every_place(rt: HostRuntime) -> Result<(), Fail> {
     Ok(())
 }
 
-/// Whether a run that may have two directories is refused, and writes nothing.
+/// Returns whether a run that may visit only two directories ends with `TooManyDirs` and writes nothing.
 fn is_refused<R: Threads + Wait + Sync + AllocGlobal>(rt: &R) -> Result<bool, AllocError> {
     let node = FIRST.node(rt.alloc())?;
     let mut out = new_writer(rt.alloc())?;

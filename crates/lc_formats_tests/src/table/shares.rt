@@ -15,7 +15,7 @@ const SHARES: TableOptions = TableOptions {
     ..TSV
 };
 
-/// Parts of 16: the last digit of 6.25 and of 43.75 is rounded up.
+/// Shares of 16 lines. The shares 6.25 and 43.75 per cent are rounded up.
 const SIXTEENTHS: Case = Case {
     name: "shares_of_lines_rounded_half_up",
     options: SHARES,

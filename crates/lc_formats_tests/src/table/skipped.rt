@@ -132,7 +132,7 @@ const MARKDOWN: &[u8] = b"| left out | by | path |\n\
      | ---: | ---: |\n\
      | 1 | 1,008 |\n";
 
-/// A format, whether files are listed, the first line of its text, and the others.
+/// A test case: a format, whether files are listed, the first line of the text, and the other lines.
 type Case = (Format, bool, &'static [u8], &'static [u8]);
 
 const CASES: &[Case] = &[

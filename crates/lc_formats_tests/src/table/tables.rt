@@ -1,4 +1,4 @@
-//! Reports, and the text of their table.
+//! Test cases of reports, each with the text of its table.
 
 use crate::table::asking::{HEADER, TSV, showing_all};
 use lc_census::{Count, Eol};
@@ -13,13 +13,13 @@ use std::alloc::{AllocError, Global};
 use std::process::Abort;
 use std::test::Fail;
 
-/// An extension, a text state, a class, and the files, lines, blank lines and bytes.
+/// A row: an extension, a text state, a class of line ends, and the numbers of files, lines, blank lines and bytes.
 pub(super) type Row = (Option<&'static [u8]>, TextState, Eol, [u64; 4]);
 
-/// A path, a text state, a class, and the lines, blank lines and bytes.
+/// A file: a path, a text state, a class of line ends, and the numbers of lines, blank lines and bytes.
 pub(super) type File = (&'static [u8], TextState, Eol, [u64; 3]);
 
-/// What is shown, the options of the table, the rows, the totals, the directories, the files, the faults, and the text, of tabs below the
+/// A test case: a name that says what it shows, the options of the table, the parts of a report, and the lines of the table below the
 /// header.
 #[derive(Clone, Copy)]
 pub(super) struct Case {
@@ -217,7 +217,7 @@ pub(super) fn report_of(alloc: Global, case: &Case) -> Result<Report, AllocError
     })
 }
 
-/// A header, rows, and the lines below them.
+/// A table in parts: the header, the lines of the rows, and the lines below the rows.
 type Parts<'a> = (&'a [u8], &'a [u8], &'a [u8]);
 
 fn is_made_of(text: &[u8], (header, rows, below): Parts<'_>) -> bool {
@@ -243,13 +243,13 @@ pub(super) fn has_parts(
     Ok(is_made_of(&text, parts))
 }
 
-/// Whether the table of a report is its text below this header.
+/// Returns whether the table of the case's report is this header, followed by the lines of the case.
 fn has_text(alloc: Global, header: &[u8], case: &Case) -> Result<bool, AllocError> {
     let report = report_of(alloc, case)?;
     has_parts(alloc, report, case.options, (header, b"", case.lines))
 }
 
-/// The case with its files listed.
+/// Returns the case, with its table listing the files if there are any.
 fn listing(case: &Case) -> Case {
     Case {
         options: TableOptions {
@@ -290,7 +290,8 @@ fn tables(rt: HostRuntime) -> Result<(), Fail> {
     compare_all(&rt, HEADER, CASES)
 }
 
-/// Whether a writer with so much room has that much of a table, and it is said whether this is all.
+/// Returns whether a writer that has room for `room` bytes is filled with the beginning of `text`, and the call fails unless this is all of
+/// `text`.
 fn stops_there(
     alloc: Global,
     case: &Case,
