@@ -31,7 +31,7 @@ module _ (may : SystemMay) (w : WalkRequest) (o : Options) (name : List ℕ) (en
     subst (λ fs. has_path [] fs ≡ false) are (subst (λ p. has_path p faults ≡ false) empty (sym says ∙ is_false)),
   )
 
-  -- one that was not, for a reason that is told unless memory is refused
+  -- one that was not, for a reason that is told unless an allocation fails
   pub side_unlisted : (r : Report) (path : List ℕ) (faults : List FaultLineModel) (has : Bool) (cause : Cause)
       → Walks (may.list name entered) (may.give name entered) o (Ok r) → has ≡ has_path path faults → has ≡ true → path ≡ []
       → faults ≡ r.faults.items

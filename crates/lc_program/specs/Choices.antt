@@ -32,7 +32,7 @@ first_choice w =
     else None
 
 -- how options that choose files are accepted or refused. Accepted: there is no such option, or a side is a directory. Refused: there is
--- one, and both sides are reports; or memory is refused
+-- one, and both sides are reports; or an allocation fails
 abbrev pub AnswersChoices : (List ℕ → Option UnreadReason → Type 0) → WalkRequest → List ℕ → List ℕ → Result (Unit {0}) Cause → Type 0
 AnswersChoices may_unlist w old new (Ok _) = (first_choice w ≡ None) ⊎ (IsSide may_unlist old true ⊎ IsSide may_unlist new true)
 AnswersChoices may_unlist w old new (Err cause) =

@@ -93,7 +93,7 @@ module _ (may : SystemMay) {I O : Type 0} (may_give : I → ℕ → Answer → I
       × (((LacksRules may.hold c.walk.filters cause ⊎ (cause ≡ Memory)) × (read ≡ input)) ⊎ AnswersPathsOf may may_give c.walk input (Err cause) read))
 
   -- how a count is answered. Either no directory is the same as another or lies in another, and they are counted; or one is or does, or
-  -- memory was refused, and nothing was read or written
+  -- an allocation failed, and nothing was read or written
   abbrev pub AnswersCount : I → O → Reply → I → O → Type 0
   AnswersCount input out reply read wrote =
       (AreApart may.stand (names_of c) × AnswersApart input out reply read wrote)

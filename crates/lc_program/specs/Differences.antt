@@ -92,7 +92,7 @@ pub record IsChangesText (options : ChangeOptions) (old new : Report) (text : Li
   pub is_differ : differ ≡ changes.some_differ
 
 module _ {O : Type 0} (may_take : O → List ℕ → Result ℕ Failed → O → Type 0) where
-  -- how the changes between two reports are printed: they were written whole; or a write failed; or memory was refused, and nothing was
+  -- how the changes between two reports are printed: they were written whole; or a write failed; or an allocation failed, and nothing was
   -- written
   abbrev pub AnswersChanges : ChangeOptions → Report → Report → O → Result Bool PrintFault → O → Type 0
   AnswersChanges options old new out (Ok differ) wrote =
@@ -102,7 +102,7 @@ module _ {O : Type 0} (may_take : O → List ℕ → Result ℕ Failed → O →
   AnswersChanges options old new out (Err print.Memory) wrote = wrote ≡ out
 
   -- how the changes between what two reports have that meets the conditions are printed: they were written whole; or not, or not whole; or
-  -- memory was refused
+  -- an allocation failed
   abbrev pub PrintsChanges : Format → DiffRequest → Report → Report → O → Result Comparison Cause → O → Type 0
   PrintsChanges other d old new out (Ok c) wrote =
       IsKept d.conditions.items old c.old × IsKept d.conditions.items new c.new
@@ -147,8 +147,8 @@ module _ (may : SystemMay) {I O : Type 0} (may_give : I → ℕ → Answer → I
       × (((LacksRules may.hold d.walk.filters cause ⊎ (cause ≡ Memory)) × (read ≡ input))
       ⊎ AnswersPathsOf may may_give d.walk input (Err cause) read))
 
-  -- how a comparison is answered: both sides are compared; or an option chooses files but both sides are reports, or memory is refused, and
-  -- nothing was read or written
+  -- how a comparison is answered: both sides are compared; or an option chooses files but both sides are reports, or an allocation
+  -- fails, and nothing was read or written
   abbrev pub AnswersDiff : I → O → Reply → I → O → Type 0
   AnswersDiff input out reply read wrote =
       (AnswersChoices may.unlist d.walk d.old.now d.new.now (Ok tt) × AnswersSides input out reply read wrote)

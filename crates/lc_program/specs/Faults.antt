@@ -87,7 +87,7 @@ module _ (may_unlist : List ℕ → Option UnreadReason → Type 0) (directories
   AreFaultLines format text = (tops : List ℕ) × AreTopLines directories tops × (text ≡ tops ++ lines_if format (inside directories faults))
 
 module _ {E : Type 0} (may_take : E → List ℕ → Result ℕ Failed → E → Type 0) where
-  -- standard error gets the lines about what could not be read, or a shorter line where memory is refused; it gets nothing if all was read
+  -- standard error gets the lines about what could not be read, or a shorter line if an allocation fails; it gets nothing if all was read
   abbrev pub TellsFaults : (List ℕ → Option UnreadReason → Type 0) → List (List ℕ) → Format → List FaultLineModel → E → E → Type 0
   TellsFaults may_unlist directories format [] err told = told ≡ err
   TellsFaults may_unlist directories format (f ∷ fs) err told =

@@ -14,7 +14,7 @@ use Rattle.lc_program.specs.Causes.{rules_cause}
 use Rattle.lc_program.specs.declared.cause.Cause.{Cause}
 
 -- what reading a rule file may answer, by what its reads may give. Either its bytes, which reads gave up to the end; or a read failed, as
--- the first read of a file that can't be opened; or there are too many bytes; or memory was refused
+-- the first read of a file that can't be opened; or there are too many bytes; or an allocation failed
 abbrev pub LoadsFile : Contents → Result (List ℕ) RulesFileFault → Type 0
 LoadsFile gives (Ok bytes) = MayReadRules gives (Ok bytes)
 LoadsFile gives (Err fault.Read) = MayReadRules gives (Err word.Read)
@@ -30,7 +30,7 @@ abbrev pub patterns_text : List (List ℕ) → Option (List ℕ)
 patterns_text [] = None
 patterns_text (pattern ∷ patterns) = Some (lines_text (pattern ∷ patterns))
 
--- the text of a rule file with these patterns as its lines; or the text is too long, or memory was refused
+-- the text of a rule file with these patterns as its lines; or the text is too long, or an allocation failed
 abbrev pub AnswersPatterns : List (List ℕ) → Result (Option (List ℕ)) RulesFileFault → Type 0
 AnswersPatterns patterns (Ok text) = text ≡ patterns_text patterns
 AnswersPatterns patterns (Err fault.Read) = ⊥

@@ -22,7 +22,7 @@ abbrev pub HasLine : List ℕ → Cause → Type 0
 HasLine line cause = (text : String Global) × (string_bytes text ≡ line) × (cause ≡ InDirectory text)
 
 -- the cause for which the walk of one of several directories gave no report. If the line names the directory, the cause may also be that
--- memory is refused
+-- an allocation fails
 abbrev pub IsCauseIn : List ℕ → WalkFault → Cause → Type 0
 IsCauseIn directory walk.TooManyDirs cause = HasLine (line_in directory (codes "too many directories")) cause ⊎ (cause ≡ Memory)
 IsCauseIn directory walk.TooDeep cause = HasLine (line_in directory (codes "path too deep")) cause ⊎ (cause ≡ Memory)
@@ -36,7 +36,7 @@ module _ (walks : List ℕ → Result Report WalkFault → Type 0) where
     pub walked : walks directory (Ok report)
     pub is_named : IsNamed (unslashed directory) report named
 
-  -- why the walk of one of several directories gave no report; the cause may always be that memory is refused
+  -- why the walk of one of several directories gave no report; the cause may always be that an allocation failed
   abbrev pub EndsIn : List ℕ → Cause → Type 0
   EndsIn directory cause = ((fault : WalkFault) × walks directory (Err fault) × IsCauseIn directory fault cause) ⊎ (cause ≡ Memory)
 
@@ -53,7 +53,7 @@ module _ (walks : List ℕ → Result Report WalkFault → Type 0) where
   Finds (directory ∷ []) r = walks directory (Ok r)
   Finds (first ∷ second ∷ others) r = JoinsWalks (first ∷ second ∷ others) r
 
-  -- why several directories have no report: a walk gave none, or the sums are too large, or memory is refused
+  -- why several directories have no report: a walk gave none, or the sums are too large, or an allocation fails
   abbrev pub JoinsNone : List (List ℕ) → Cause → Type 0
   JoinsNone directories cause =
       EndsAmong directories cause

@@ -40,12 +40,12 @@ first_above (directory ∷ directories) [] = None
 first_above (directory ∷ directories) (None ∷ repositories) = first_above directories repositories
 first_above (directory ∷ directories) (Some r ∷ repositories) = Some (directory, r)
 
--- the line in place of the hint where memory is refused
+-- the line in place of the hint if an allocation fails
 abbrev pub short_hint : List ℕ
 short_hint = codes "lc: rules above this directory were not read\n"
 
 module _ {E : Type 0} (may_take : E → List ℕ → Result ℕ Failed → E → Type 0) where
-  -- standard error gets the hint about a directory in a repository, or a shorter one where memory is refused; nothing if there is no such
+  -- standard error gets the hint about a directory in a repository, or a shorter one if an allocation fails; nothing if there is no such
   -- directory. `all` are the repositories of all directories
   abbrev pub TellsHint : List (Option Repository) → Option (List ℕ × Repository) → E → E → Type 0
   TellsHint all None err told = told ≡ err
@@ -57,7 +57,7 @@ module _ {E : Type 0} (may_take : E → List ℕ → Result ℕ Failed → E →
   TellsAbove directories all err told = TellsHint all (first_above directories all) err told
 
   -- standard error gets a hint about directories, by the repositories that the system may say they lie in. About several directories there
-  -- is none where memory is refused
+  -- is none if an allocation fails
   abbrev pub HintsAbout : (List ℕ → Option Repository → Type 0) → List (List ℕ) → E → E → Type 0
   HintsAbout may_lie [] err told = told ≡ err
   HintsAbout may_lie (only ∷ []) err told =

@@ -8,7 +8,7 @@ use Rattle.lc_io.specs.declared.whole.WholeFault.{WholeFault}
 use Rattle.lc_io.specs.declared.whole.WholeFault.TheVariants.{Read, TooLong, Memory}
 use Rattle.lc_tree.specs.Trees.{Contents}
 
--- what reading a text may answer: its bytes, read whole and up to a limit; or the reads failed, or gave more bytes; or memory was refused
+-- what reading a text may answer: its bytes, read whole and up to a limit; or the reads failed, or gave more bytes; or an allocation failed
 abbrev pub ReadsText : {I : Type 0} → ℕ → (I → ℕ → Answer → I → Type 0) → I → Result (Vec ℕ Global) WholeFault → I → Type 0
 ReadsText limit may_give old (Ok bytes) new = AnswersWhole may_give limit old (Ok tt) bytes.items new
 ReadsText limit may_give old (Err Read) new = (bytes : List ℕ) × AnswersWhole may_give limit old (Err Read) bytes new

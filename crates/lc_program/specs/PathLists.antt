@@ -66,7 +66,7 @@ pub record IsFirstBad (end : PathEnd) (list path : List ℕ) : Type 0 where
   pub fine : list_any is_bad_listed (map listed_path before) ≡ false
   pub bad : is_bad_listed (listed_path path) ≡ true
 
--- the paths of the list with this name, or why they are refused: there are none, or no entry can have one of them; or memory is refused
+-- the paths of the list with this name, or why they are refused: there are none, or no entry can have one of them; or an allocation fails
 abbrev pub AnswersListed : List ℕ → PathEnd → List ℕ → Result (Vec (Bor (List ℕ)) Global) Cause → Type 0
 AnswersListed name end list (Ok paths) =
     (map (λ path. path.now) paths.items ≡ paths_listed end list) × (list_any is_bad_listed (paths_listed end list) ≡ false)

@@ -43,7 +43,7 @@ status_of (GaveUp _) = 3
 status_of AnyFile = 4
 
 module _ {E : Type 0} (may_take : E → List ℕ → Result ℕ Failed → E → Type 0) where
-  -- standard error gets the line of a cause; in place of a line with a number, perhaps the line that memory is refused
+  -- standard error gets the line of a cause; in place of a line with a number, perhaps the line that an allocation failed
   abbrev pub TellsCause : E → Cause → E → Type 0
   TellsCause err cause told = Tells may_take err (cause_line cause) told ⊎ (HasNumber cause × Tells may_take err (cause_line Memory) told)
 

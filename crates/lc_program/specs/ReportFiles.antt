@@ -74,7 +74,7 @@ module _ {I : Type 0} (may_give : I → ℕ → Answer → I → Type 0) (holds 
       ⊎ ((first : List Part) × (between : I) × ReadsParts may_give holds typed input first between
       × RefusesFirst others between cause read)
 
-  -- the parts of all REPORTs; or why there are none, which may also be that memory is refused
+  -- the parts of all REPORTs; or why there are none, which may also be that an allocation failed
   abbrev pub AnswersParts : List Typed → I → Result (Vec Part Global) Cause → I → Type 0
   AnswersParts all input (Ok parts) read = ReadsAll may_give holds all input parts.items read
   AnswersParts all input (Err cause) read = RefusesFirst all input cause read ⊎ (cause ≡ Memory)

@@ -27,7 +27,7 @@ origin_of report = cond (bytes_eq report (codes "-")) (codes "standard input") r
 abbrev pub report_line : List ℕ → List ℕ → List ℕ
 report_line name why = codes "lc: " ++ visible_bytes name ++ codes " " ++ why ++ codes "\n"
 
--- a cause has this line about a report; or it is that memory is refused
+-- a cause has this line about a report; or it is that an allocation failed
 abbrev pub IsTold : List ℕ → Cause → Type 0
 IsTold line cause = ((text : String Global) × (string_bytes text ≡ line) × (cause ≡ InReport text)) ⊎ (cause ≡ Memory)
 

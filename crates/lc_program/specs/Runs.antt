@@ -17,7 +17,7 @@ abbrev pub table_fault : PrintFault → RunFault
 table_fault print.Write = Write
 table_fault print.Memory = Memory
 
--- what a call answers that writes a text: the text was written whole; or a write failed; or memory was refused, and nothing was written
+-- what a call answers that writes a text: the text was written whole; or a write failed; or an allocation failed, and nothing was written
 abbrev pub AnswersText : {O : Type 0} → (O → List ℕ → Result ℕ Failed → O → Type 0) → (List ℕ → Type 0) → O
     → Result (Unit {0}) PrintFault → O → Type 0
 AnswersText may_take Is out (Ok _) wrote = (text : List ℕ) × Is text × Writes may_take out text wrote

@@ -30,7 +30,7 @@ abbrev pub have_no_faults : List FaultLineModel → List FaultLineModel → Bool
 have_no_faults olds news = is_empty olds && is_empty news
 
 module _ {E : Type 0} (may_take : E → List ℕ → Result ℕ Failed → E → Type 0) where
-  -- standard error gets the lines about the old side and then those about the new side, or a shorter line where memory is refused; nothing
+  -- standard error gets the lines about the old side and then those about the new side, or a shorter line if an allocation fails; nothing
   -- if all was read
   abbrev pub TellsSideFaults : List ℕ → List FaultLineModel → List ℕ → List FaultLineModel → E → E → Type 0
   TellsSideFaults old olds new news err told =

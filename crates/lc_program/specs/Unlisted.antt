@@ -5,7 +5,7 @@ use Rattle.lc_program.specs.Reasons.{unexplained_line}
 use Rattle.lc_program.specs.Tellings.{Tells}
 use Rattle.lc_program.specs.declared.unread_reason.UnreadReason.{UnreadReason}
 
--- the line in place of lines about paths where memory is refused
+-- the line in place of lines about paths if an allocation fails
 abbrev pub short_line : List ℕ
 short_line = codes "lc: some paths could not be read\n"
 
@@ -16,7 +16,7 @@ module _ {E : Type 0} (may_take : E → List ℕ → Result ℕ Failed → E →
   TellsWhy directory (Some why) err told =
       Tells may_take err (unexplained_line directory (Some why)) told ⊎ Tells may_take err short_line told
 
-  -- standard error gets that line, for the reason that the system may give, or the shorter line where memory is refused
+  -- standard error gets that line, for the reason that the system may give, or the shorter line if an allocation fails
   abbrev pub TellsUnlisted : (List ℕ → Option UnreadReason → Type 0) → List ℕ → E → E → Type 0
   TellsUnlisted may_unlist directory err told =
       ((why : Option UnreadReason) × may_unlist directory why × TellsWhy directory why err told) ⊎ Tells may_take err short_line told

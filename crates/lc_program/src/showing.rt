@@ -102,7 +102,7 @@ fn part_text(
 
 /// Makes the text of the part of a report that meets the conditions ([`report_text`]), and writes it.
 ///
-/// The rest is dropped from the report. The remaining files are then in the order in which a table lists them.
+/// The rest is dropped from the report. The order of the remaining files may change in place.
 pub fn table<O: Sink>(
     alloc: Global,
     report: &mut Report,

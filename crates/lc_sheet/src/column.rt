@@ -64,7 +64,7 @@ pub enum Column {
     Reason,
     /// The file and line of the rule that skips an entry, or the attribute that skips the entry.
     Place,
-    /// The path of a skipped entry, with a slash at the end if the entry is a directory.
+    /// The path of a skipped entry, with a slash at the end if the entry is a directory other than `.git`.
     Entry,
     /// The file of the rule that skips an entry.
     File,

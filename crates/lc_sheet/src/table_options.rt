@@ -71,7 +71,7 @@ pub struct TableOptions {
     pub top: Option<u32>,
     /// Whether the table lists the files. For rows by directory, a report may list files that its table does not list.
     pub files: bool,
-    /// Whether each row shows its share of the total, in the formats `Table` and `Markdown`.
+    /// Whether each row shows its share of the total. The formats `Tsv`, `Json` and `Csv` never show shares.
     pub share: bool,
 }
 

@@ -147,7 +147,7 @@ module _ (ask : Asked) (lists : List ℕ → Listings) (gives : List ℕ → Con
         (λ n. refl))
     serves_refused TooDeep t result x g = absurd x
 
-    -- all were posted, and then memory was refused
+    -- all were posted, and then an allocation failed
     pub serves_uncounted : (t u : TallyModel) (result : Result (Unit {0}) AllocError) → HasPosted p q (jobs_of o.children.items)
         → BreaksOff Memory result →
         Serves ask (MayAnswer lists gives) p (after_give q (Broken (record { job = j; cause = Memory }))) t u result

@@ -186,7 +186,7 @@ module _ (ask : Asked) (MayAnswer : List ℕ → Answers → Type 0) where
   then_serves p q r t u (Ok _) a b = λ first w. b first (a first w)
   then_serves p q r t u (Err _) a b = λ first w. b first (a first w)
 
-  -- where memory was refused no tally is left
+  -- where an allocation failed no tally is left
   pub refused_serves : (p q : Pass JobModel Row) (t u : TallyModel) (result : Result (Unit {0}) AllocError) → is_err result ≡ true
       → Serves ask MayAnswer p q t u result → WorksOn ask MayAnswer p q (Some t) None
   refused_serves p q t u (Ok _) e s = absurd (cc e)

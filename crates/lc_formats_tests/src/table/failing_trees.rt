@@ -115,7 +115,7 @@ fn is_whole((answer, told, calls): &Found) -> bool {
 }
 
 /// Runs a count in which the call with this number fails, and returns its answer, its lines and its calls. A run that makes more than
-/// `CALLS` calls began again, since several workers were refused memory: this is an `AllocError`.
+/// `CALLS` calls began again, since several workers ran out of memory: this is an `AllocError`.
 fn found_at<R: Threads + Wait + Sync + AllocGlobal>(
     rt: &R,
     tree: &MemTree<'_>,

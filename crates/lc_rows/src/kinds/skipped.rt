@@ -67,7 +67,8 @@ fn attribute_value(line: &SkippedLine) -> Value<'_>
     }
 }
 
-/// Makes a value that shows the path of a skipped entry, with a slash at the end if the entry is a directory.
+/// Makes a value that shows the path of a skipped entry, with a slash at the end if the entry is a directory
+/// other than `.git`.
 fn entry_value(line: &SkippedLine) -> Value<'_>
     ensures { value_model result ≡ entry_value line.entry.now }
 {

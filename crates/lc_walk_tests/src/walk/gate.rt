@@ -110,7 +110,7 @@ fn check<R: Threads + Wait + Sync + Abort>(
     let filters = Filters::none(alloc);
     let options = walk_options(rt, *threads, 100, NO_LISTS, &filters);
     let report = report_of(rt, board.walk(rt, alloc, &gate, &options))?;
-    // Where memory is refused, for a thread or for the reserve, one worker lists after another, which finds the gate shut.
+    // If an allocation fails, for a thread or for the reserve, one worker lists after another, which finds the gate shut.
     if *threads > 1 && !report.faults.is_empty() {
         return Err(AllocError);
     }

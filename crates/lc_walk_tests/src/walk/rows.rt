@@ -160,7 +160,7 @@ const CASES: &[Case] = &[
         locked: &[0, 1, 2, 3],
         report: "path too deep",
     },
-    // a row that was refused memory after a post
+    // a row for which an allocation failed after a post
     Case {
         tree: "d/{ e/ }",
         is_broken: true,
