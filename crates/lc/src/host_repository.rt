@@ -1,4 +1,4 @@
-//! Finds the Git repository that a directory of the host lies in.
+//! Finds the Git repository that contains a directory of the host's file system.
 
 use lc_program::Repository;
 use std::alloc::{AllocError, Global};
@@ -9,7 +9,7 @@ use std::rt::Files;
 /// The greatest number of `..` in a path that names a repository's top directory.
 const MAX_STEPS: usize = 8;
 
-/// Returns whether a directory has an entry `.git`. The answer is no if the system can't say.
+/// Returns whether a directory has an entry `.git`. If the host can't read the entry's metadata, the answer is no.
 fn has_git<R: Files + AllocGlobal>(rt: &R, alloc: Global, directory: Path<'_>) -> bool {
     match directory.join(alloc, ".git") {
         Ok(git) => fs::symlink_metadata(rt, git.as_path()).is_ok(),

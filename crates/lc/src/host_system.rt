@@ -1,4 +1,4 @@
-//! The directories and files of the host.
+//! Gives the program the directories and files of the host, the machine on which the program runs.
 
 use crate::host_repository::repository_above;
 use crate::progress::Progress;
@@ -13,8 +13,8 @@ use std::io::ErrorKind;
 use std::rt::Files;
 use std::time::Clock;
 
-/// The directories and files of the host. The contracts allow any answer for any name, but a listing of a directory is made from names that
-/// were read and from metadata.
+/// The `System` with the directories and files of the host. The contracts allow any answer about any name. Only a listing of a directory is
+/// restricted: it is made from the names that were read and from metadata.
 #[derive(Drop)]
 pub(crate) struct HostSystem<'a, R> {
     pub(crate) rt: &'a R,

@@ -1,8 +1,8 @@
 //! The program `lc` counts the files and lines of a directory, skips what Git would ignore, and shows which rule decides a path.
 //!
-//! `lc_program` has most of the program. This crate adds its arguments, its streams, and the directories and files of the host
-//! (`host_system`, with `unread` and `host_repository`). It also adds the progress line that a long count shows on a terminal (`progress`,
-//! `watched_tree` and `watched_sink`).
+//! Most of the program is in the function `lc_program::program`. This crate calls the function with the arguments, the streams, and the
+//! directories and files of the host (`host_system`, with `unread` and `host_repository`). This crate also shows the progress line of a
+//! long count on a terminal (`progress`, `watched_tree` and `watched_sink`).
 #![tactic(auto)]
 
 mod host_repository;

@@ -20,12 +20,12 @@ pub(crate) struct Progress {
     terminal: Stderr,
     directories: AtomicU64,
     files: AtomicU64,
-    /// When the next update of the progress line is due, in milliseconds of the clock.
+    /// The time of the monotonic clock, in milliseconds, at which the next update of the progress line is due.
     due: AtomicU64,
     is_shown: AtomicBool,
 }
 
-/// Returns the clock's time in milliseconds, if it can be read.
+/// Returns the time of the monotonic clock in milliseconds, if the clock can be read.
 fn milliseconds(clock: &impl Clock) -> Option<u64> {
     let time = clock.monotonic().ok()?;
     u64::try_from(time.as_millis()).ok()

@@ -1,4 +1,4 @@
-//! Why a path of the host could not be read.
+//! Finds out why a directory or a file of the host's file system can't be read.
 
 use lc_program::UnreadReason;
 use std::alloc::{AllocError, Global};
@@ -24,7 +24,7 @@ fn with_slash(alloc: Global, directory: &str) -> Result<String, AllocError> {
     Ok(path)
 }
 
-/// Returns whether a path is that of a file. A link to a file is not one, since a count skips links.
+/// Returns whether a path is that of a regular file. For the path of a symbolic link the answer is no, since a count skips links.
 fn is_file(rt: &impl Files, path: &str) -> Result<bool, AllocError> {
     match fs::symlink_metadata(rt, path) {
         Ok(metadata) => Ok(metadata.is_file()),

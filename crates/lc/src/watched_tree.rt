@@ -1,4 +1,4 @@
-//! A directory of the host as a tree that counts what is opened, for a progress line on a terminal.
+//! A tree of a directory on the host. It counts each directory and file that it opens, for the progress line on a terminal.
 
 use crate::progress::Progress;
 use lc_census::{Source, StdSource};
@@ -8,7 +8,7 @@ use std::marker::Model;
 use std::rt::Files;
 use std::time::Clock;
 
-/// A directory of the host as a tree. It returns what its field `tree` returns.
+/// A tree of a directory on the host. Each method returns what the same method of the field `tree` returns.
 #[derive(Drop)]
 pub(crate) struct WatchedTree<'a, R> {
     pub(crate) tree: SysTree<'a, R>,
