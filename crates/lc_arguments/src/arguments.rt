@@ -1,4 +1,4 @@
-//! Makes clap's arguments from the table of options, and clap commands that have no arguments yet.
+//! Makes clap's arguments from the table of options, and clap commands that have a name and help but no arguments.
 
 ghost use Rattle.std.specs.Prelude.{◌≡◌, IfOk, map, option_map, true};
 ghost use Rattle.std.specs.List.{list_all};
@@ -83,7 +83,7 @@ fn arg<'a>(alloc: Global, row: &'static OptionRow) -> Arg<'a>
     with_help(arg, row)
 }
 
-/// Makes the clap arguments for those of the rows that belong to a command.
+/// Makes a clap argument for each of these rows that belongs to a command.
 fn args_of<'a>(
     alloc: Global,
     command: Subcommand,
@@ -108,7 +108,7 @@ pub(crate) fn args<'a>(alloc: Global, command: Subcommand) -> Result<Vec<Arg<'a>
     args_of(alloc, command, options())
 }
 
-/// Makes a clap command that has no arguments yet. The words that the command parses begin after its own name.
+/// Makes a clap command that has a name and help, but no arguments. The words that the command parses begin after the command's own name.
 pub(crate) fn bare<'a>(
     alloc: Global,
     name: &'a str,

@@ -10,7 +10,8 @@ use crate::table::TableRequest;
 use crate::walk_request::WalkRequest;
 use lc_sheet::{Columns, Format, Order};
 
-/// Returns whether the format of `--format` can show each row's share of the total. Without `--format`, `--share` means a table, which can.
+/// Returns whether the format of `--format` can show each row's share of the total. Without `--format`, `--share` selects the format
+/// `Table`, which can show shares.
 fn shows_shares(format: Option<Format>) -> bool
     ensures { result ≡ shows_shares format }
 {

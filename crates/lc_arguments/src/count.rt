@@ -27,7 +27,7 @@ use std::convert::AsStr;
 pub struct CountRequest<'w> {
     /// How to count the directories.
     pub walk: WalkRequest<'w>,
-    /// List each skipped entry, and print the number of entries.
+    /// List each skipped entry, and print the number of all entries, skipped ones included.
     pub left_out: bool,
     /// How the table is printed.
     pub table: TableRequest,
@@ -35,8 +35,8 @@ pub struct CountRequest<'w> {
     pub conditions: Vec<Condition<'w>>,
     /// Exit with status 4 if a file is counted and meets the conditions.
     pub fail_if_any: bool,
-    /// The paths of the DIRs as they were typed, in their order, none twice. If no DIR was typed, the only path is `.`, the directory that
-    /// the program runs in.
+    /// The paths of the DIRs in their order, as they were typed. No two paths are the same, even without the slashes at their end. If no
+    /// DIR was typed, the only path is `.`, the directory that the program runs in.
     pub directories: Vec<&'w str>,
 }
 

@@ -30,7 +30,7 @@ pub struct DiffRequest<'w> {
     pub table: TableRequest,
     /// Compare only files that meet all of these conditions.
     pub conditions: Vec<Condition<'w>>,
-    /// Exit with status 4 if a row or a file differs.
+    /// Exit with status 4 if a row, or a listed file, differs between OLD and NEW.
     pub fail_if_any: bool,
     /// Also print rows in which nothing changed.
     pub all: bool,

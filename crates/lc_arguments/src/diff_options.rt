@@ -1,4 +1,4 @@
-//! The rows in the table of options for `lc diff` alone: options that no other command has, or whose help differs for `lc diff`.
+//! The rows of the table of options that belong to `lc diff` alone: options that only `lc diff` has, or whose help differs for it.
 
 use crate::option_row::{Completes, DIFF, FLAG, Kind, OptionRow};
 use crate::options_table::WHAT_IS_PRINTED;

@@ -12,7 +12,7 @@ use crate::request::{ParseExit, unfit};
 use clap::ArgMatches;
 use std::alloc::{AllocError, Global};
 
-/// Returns the path of a directory without the slashes at its end. The path of `/` becomes empty.
+/// Returns the path of a directory without the slashes at the path's end. The path `/` becomes empty.
 ///
 /// ```
 /// assert!(rt; unslashed("../lib//") == b"../lib");
@@ -88,7 +88,7 @@ fn distinct<'w>(alloc: Global, directories: Vec<&'w str>) -> Result<Vec<&'w str>
     }
 }
 
-/// Reads the directories from clap's values, in their order. If there are none, the only one is `.`, the current directory.
+/// Reads the directories from clap's values, in their order. If clap has none, the only directory is `.`, the current directory.
 pub(crate) fn directories_in<'w>(
     alloc: Global,
     matches: &ArgMatches<'w>,

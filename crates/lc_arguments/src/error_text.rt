@@ -103,7 +103,7 @@ fn number_refusal(
     Ok(Some(text))
 }
 
-/// Makes the text that refuses a number, from the text in which clap refuses the number. Any other text is copied.
+/// Makes the text that refuses a number, from the text in which clap refuses the number. A text that refuses no number is copied.
 ///
 /// ```
 /// let text = "error: invalid value 'x' for '--threads <N>': invalid digit found in string\n";

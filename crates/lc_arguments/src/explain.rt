@@ -18,7 +18,7 @@ use std::convert::AsStr;
 /// The options of `lc explain`, as in `lc explain . a.log src/m.c`.
 #[derive(Drop)]
 pub struct ExplainRequest<'w> {
-    /// What to skip besides what the directory's own rules ignore.
+    /// The options that decide, together with the rule files in DIR, which entries are skipped.
     pub filters: FilterRequest<'w>,
     /// Each path on standard input ends with NUL.
     pub null: bool,

@@ -1,4 +1,4 @@
-//! The options that skip entries besides those that a directory's own rules ignore.
+//! The options that decide, together with the rule files in a directory, which entries are skipped.
 
 ghost use Rattle.clap.specs.Matches.{found_of};
 ghost use Rattle.clap.specs.Walk.{rows_of};
@@ -9,18 +9,21 @@ use crate::request::ParseExit;
 use clap::ArgMatches;
 use std::alloc::Global;
 
-/// What to skip besides what a directory's own rules ignore, as in `--exclude '*.log' --without linguist-vendored`.
+/// The options that decide, together with the rule files in a directory, which entries are skipped, as in
+/// `--exclude '*.log' --without linguist-vendored`.
 #[derive(Drop)]
 pub struct FilterRequest<'w> {
     /// The path of an ignore file for the whole tree, as it was typed: relative to the directory that the program runs in.
     pub exclude_from: Option<&'w str>,
     /// Skip entries that have the attribute `export-ignore`.
     pub archive: bool,
-    /// Skip entries that have one of these attributes. `ATTR` means that the attribute is Set, and `ATTR=VALUE` that it has this value.
+    /// Skip entries that have one of these attributes. `ATTR` requires that the attribute is set, and `ATTR=VALUE` that it has exactly this
+    /// value.
     pub without: Vec<&'w str>,
-    /// The lines of an ignore file that takes precedence over all others. None has a line feed.
+    /// The patterns of `--exclude`: lines of an ignore file that overrides every rule file. No pattern has a line feed.
     pub exclude: Vec<&'w str>,
-    /// Skip files unless one of these patterns matches the file or a directory above it. None has a line feed or begins with `!`.
+    /// Skip files unless one of these patterns matches the file or a directory above it. No pattern has a line feed or
+    /// begins with `!`.
     pub include: Vec<&'w str>,
     /// Read neither a `.gitignore` nor `.git/info/exclude`.
     pub no_ignore: bool,

@@ -32,9 +32,9 @@ fn begins_count(word: &str) -> bool
     (begins_with_hyphen(word) && !is_own_option(word)) || is_plain_path(word)
 }
 
-/// Returns the arguments of a count if the arguments of the program mean a count. They are the arguments after `count`, or all arguments if
-/// the first is an option, `.` or `..`, or has a slash. The options `-h`, `--help`, `-V` and `--version` belong to the program and begin no
-/// count.
+/// Returns the arguments of `lc count`, or `None` if the program's arguments request no count. If the first argument is `count`, the
+/// function returns the arguments after it. If the first argument is an option, `.` or `..`, or has a slash, the function returns all
+/// arguments. The options `-h`, `--help`, `-V` and `--version` are the program's own, and begin no count.
 ///
 /// ```
 /// assert!(rt; count_words(&["count", "src"]) == Some(["src"].as_slice()));

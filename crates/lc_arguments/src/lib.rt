@@ -1,17 +1,18 @@
 //! The command line, which clap reads.
 //!
-//! - `request`: what the program is to do, or why it does nothing; arguments that name no command
+//! - `request`: the request that the arguments make, or why they make none, also for arguments that name no command
 //! - `first_word`: the meaning of the first argument
 //! - `count`, `sum`, `diff`, `check`, `explain`: the options of each command; `table`: the options of the table
-//! - `walk_request`: how to count directories; `paths`: the paths of `--only`; `directories`: DIR; `reports`: REPORT
+//! - `walk_request`: how to count directories; `paths`: the paths of `--only`; `directories`: the arguments DIR; `reports`: the
+//!   arguments REPORT
 //! - `numbers`: the values of options that take numbers; `combinations`: options that can't be combined
 //! - `filter_request`: which entries counts and explanations skip; `repeated`: options that may be used several times
 //! - `conditions`: the conditions of `--where` and `--no-binary`; `condition_text`: a condition, as it is typed
-//! - `options_table`: the table of options, with `diff_options`: its rows for `lc diff` alone; `option_row`: the rows of the table;
+//! - `options_table`: the table of options, with `diff_options`: the rows that belong to `lc diff` alone; `option_row`: the type of a row;
 //!   `arguments`: clap's arguments, made from the rows
 //! - `refusals`: usage errors, escaped for a terminal; `error_text`: the texts of usage errors
-//! - `naming`: checks that help and usage errors name arguments
-//! - `suggestions`: what refused arguments may have meant; `near`: known names that are close to a word
+//! - `naming`: checks that the help of a command names each of its arguments, and that a usage error names an argument
+//! - `suggestions`: commands that refused arguments may have meant; `near`: names of commands and options that are close to a typed word
 //! - `limits`: the largest values of options; `help`, `long_help`: the texts of help and of the version
 #![tactic(auto)]
 

@@ -3,11 +3,11 @@
 /// The greatest number of rows and files that `--top` can limit a table to.
 pub(crate) const MAX_TOP: u32 = u32::MAX;
 
-/// The greatest value of `--depth`: the number of segments to which the directories of `--by dir` are cut.
+/// The greatest value of `--depth`, the option that cuts the directories of `--by dir` to a number of segments.
 pub(crate) const MAX_DEPTH: u32 = 256;
 
-/// The greatest value of `--threads`: the number of threads of a count.
+/// The greatest value of `--threads`, the option that sets the number of threads of a count.
 pub const MAX_THREADS: u32 = 16;
 
-/// The greatest value of `--max-dirs`: the limit of directories in each DIR, DIR included.
+/// The greatest value of `--max-dirs`, the option that limits the number of directories in each DIR, DIR included.
 pub const MAX_DIRS: u32 = 1_048_576;

@@ -1,4 +1,4 @@
-//! The texts of `--help` about the options, by their names and headings.
+//! The texts that `--help` shows about the options. An option's name and heading select its text.
 //!
 //! These texts are not in the table of options, because proofs about the table compute with everything in the table.
 
@@ -215,8 +215,8 @@ fn texts(of: Commands) -> &'static [(&'static str, &'static str, &'static str)] 
 }
 
 impl OptionRow {
-    /// Returns the text of `--help` about the option, without a full stop at its end. An option without a text for `--help` gets its text
-    /// of `-h`.
+    /// Returns the text that `--help` shows about the option, without a full stop at its end. For an option that has no such text, this is
+    /// the text that `-h` shows.
     pub fn long_help(&self) -> &'static str {
         for (name, heading, text) in texts(self.of) {
             if *name == self.name && *heading == self.heading {

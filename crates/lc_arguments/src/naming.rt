@@ -1,5 +1,5 @@
-//! Checks that help and usage errors name arguments. No contract describes clap's texts, so the program checks the texts before it writes
-//! them.
+//! Checks that the help of a command names each of its arguments, and that a usage error names an argument. No contract describes clap's
+//! texts, so the program checks the texts before it writes them.
 
 ghost use Rattle.std.specs.Prelude.{◌≡◌, ◌++◌, IfOk, OnOk, codes, map, string_bytes, true};
 ghost use Rattle.std.specs.Str.Iter.{HasSubslice};

@@ -1,4 +1,4 @@
-//! Known names that are close to a word.
+//! Finds the name of a command or an option that is close to a typed word.
 
 use std::alloc::{AllocError, Global};
 use strsim::osa_distance;
@@ -7,8 +7,8 @@ use strsim::osa_distance;
 const MAX_WORD: usize = 32;
 
 /// Returns whether a name is so close to a word that the user probably meant the name. `edits` may be at most a third of the longer length.
-/// If `edits` is more than 1, both must begin with the same letter. So `sorted` is near `sort`, but `include-from` is not near
-/// `exclude-from`.
+/// If `edits` is more than 1, the name and the word must begin with the same letter. So `sorted` is near `sort`, but `include-from` is not
+/// near `exclude-from`.
 fn is_near(word: &str, name: &str, edits: usize) -> bool {
     let longer = word.len().max(name.len());
     let begins_alike = word.as_bytes().first() == name.as_bytes().first();

@@ -18,7 +18,7 @@ pub(crate) enum Subcommand {
     Diff,
 }
 
-/// A set of commands: those that have a certain argument.
+/// The set of the commands that have a certain argument.
 #[derive(Clone, Copy)]
 pub struct Commands {
     /// Whether `lc count` has the argument.
@@ -123,15 +123,15 @@ pub(crate) const TABLES: Commands = Commands {
 pub enum Kind {
     /// An option without a value.
     Flag,
-    /// An option with a text.
+    /// An option whose value is a text.
     Text,
-    /// An option with a text. The option may be repeated.
+    /// An option whose value is a text. The option may be repeated.
     Texts,
-    /// An option with a number from 1 to this number.
+    /// An option whose value is a number from 1 to this maximum.
     Number(u32),
-    /// A required argument without a hyphen.
+    /// A required positional argument, such as `FILE`.
     Word,
-    /// Any number of arguments without a hyphen. There may be a default.
+    /// Any number of positional arguments, such as `DIR`. If none is typed, the row's `default` is used, if there is one.
     Words,
 }
 
@@ -150,10 +150,11 @@ pub enum Completes {
     List(&'static [&'static str]),
 }
 
-/// An argument of some commands: what clap reads, and what help, usage errors, the manual page and completions show.
+/// An option or a positional argument of one or more commands: how clap reads it, and what help, usage errors, the manual page and
+/// completions show about it.
 #[derive(Clone, Copy)]
 pub struct OptionRow {
-    /// The long name without its hyphens, or the name of an argument without a hyphen.
+    /// The long name of an option without the hyphens, or the name of a positional argument, such as `DIR`.
     pub name: &'static str,
     /// The letter of the short name.
     pub short: Option<char>,
@@ -165,13 +166,13 @@ pub struct OptionRow {
     pub default: Option<&'static str>,
     /// The commands that have the argument.
     pub of: Commands,
-    /// The heading above the argument in help. An argument without a hyphen has none.
+    /// The heading above the option in help. The text is empty for a positional argument.
     pub heading: &'static str,
     /// The line that `-h` shows about the argument.
     pub help: &'static str,
     /// The text that completions show next to the option. If the text is empty, completions show `help`.
     pub brief: &'static str,
-    /// The command that usage errors of `lc count` suggest for this option.
+    /// The command that `lc count` suggests if the name of an unknown option is close to the name of this option.
     pub example: &'static str,
     /// What a shell offers to complete the value.
     pub completes: Completes,

@@ -1,4 +1,4 @@
-//! The text of usage errors, escaped so that no control character that was typed reaches a terminal.
+//! Escapes the texts of usage errors, so that no typed control character reaches a terminal.
 
 ghost use Rattle.std.specs.Prelude.{◌≡◌, ◌++◌, IfOk, OnOk, chars, flat_map, string_bytes};
 ghost use Rattle.lc_arguments.specs.Refusals.{IsMessage, message_char};

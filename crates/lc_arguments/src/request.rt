@@ -244,7 +244,7 @@ fn naming_text<W: AsStr>(alloc: Global, words: &[W], text: String) -> Result<Str
 impl<'w> Request<'w> {
     /// Reads the arguments after the program's name.
     ///
-    /// A refusal quotes the arguments as a terminal shows them ([`push_visible`](lc_text::push_visible)).
+    /// A refusal quotes the arguments in a form that a terminal can show safely ([`push_visible`](lc_text::push_visible)).
     pub fn read<W: AsStr>(alloc: Global, words: &'w [W]) -> Result<Request<'w>, ParseExit>
         ensures answers { AnswersWords (map W.text words.entry.now) result }
         ensures visible { IfErr result IsRefusedVisibly }

@@ -1,4 +1,4 @@
-//! Suggestions of what refused arguments may have meant. Each suggested command works wherever it is typed.
+//! Suggests a command that refused arguments may have meant. The program accepts the arguments of each suggested command.
 
 use crate::near::near_name;
 use crate::option_row::{Completes, Subcommand};

@@ -25,7 +25,7 @@ use std::convert::AsStr;
 /// The options of `lc sum`, as in `lc sum --by dir v1=v1.json v2=v2.json`.
 #[derive(Drop)]
 pub struct SumRequest<'w> {
-    /// List each entry that is skipped, and print the number of entries.
+    /// List each skipped entry, and print the number of all entries, skipped ones included.
     pub left_out: bool,
     /// How the table is printed.
     pub table: TableRequest,

@@ -20,9 +20,9 @@ use std::alloc::Global;
 /// The table that a command prints, as in `--format table --by ext --sort lines`.
 #[derive(Clone, Copy)]
 pub struct TableRequest {
-    /// The format, if one is named. If none is named, shares are shown in the format `Table`.
+    /// The format, if `--format` names one. Without `--format`, `--share` selects the format `Table`.
     pub format: Option<Format>,
-    /// The columns of `--by`, if they are named.
+    /// The columns that `--by` names, if the option is used.
     pub by: Option<Columns>,
     /// The order of rows and files, if one is named.
     pub sort: Option<Order>,
@@ -41,7 +41,7 @@ fn is_for_reading(format: Format) -> bool
     matches!(format, Format::Table | Format::Markdown)
 }
 
-/// Returns the default order: by lines if the table shows only the first rows or its format is for reading, and otherwise by name.
+/// Returns the default order: by lines if the table shows only the first rows or its format is human-readable, and otherwise by name.
 fn default_order(format: Format, top: Option<u32>) -> Order
     ensures { result ≡ default_order format top }
 {
@@ -78,9 +78,9 @@ impl TableRequest {
         self.sort.unwrap_or(default_order(format, self.top))
     }
 
-    /// Returns the options of the table. If no format is named and no shares are shown, the format is `other`. If no columns are named,
-    /// they are `columns`. If no order is named, rows and files are sorted by lines if there is a `--top` or the format is for reading, and
-    /// otherwise by their names.
+    /// Returns the options of the table. `other` is the format if the request names no format and shows no shares. `columns` are the
+    /// columns if the request names none. If the request names no order, rows and files are sorted by lines if `--top` is used or the
+    /// format is `Table` or `Markdown`, and otherwise by name.
     pub fn options(self, other: Format, columns: Columns) -> TableOptions
         ensures { result ≡ options_in other columns self }
     {

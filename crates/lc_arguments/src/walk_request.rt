@@ -18,10 +18,10 @@ pub struct WalkRequest<'w> {
     pub threads: u32,
     /// The greatest number of directories in each DIR, DIR included: 1 to [`MAX_DIRS`](crate::MAX_DIRS), by default 65,536.
     pub max_dirs: u32,
-    /// What to skip besides what the directory's own rules ignore.
+    /// The options that decide, together with the rule files in DIR, which entries are skipped.
     pub filters: FilterRequest<'w>,
-    /// The paths to count, relative to DIR, without `./` at the beginning and without a slash at the end. `.` is all of DIR. All of DIR is
-    /// also counted if there are no paths here and no `only_from`.
+    /// The paths of `--only`, relative to DIR, without `./` at the beginning and without a slash at the end. The path `.` means all of DIR.
+    /// If this list is empty and `only_from` is `None`, all of DIR is counted.
     pub only: Vec<&'w [u8]>,
     /// The path of a file with further paths to count, as it was typed. `-` is standard input.
     pub only_from: Option<&'w str>,
