@@ -12,13 +12,13 @@ use lc_walk::{FaultLine, Report};
 pub(crate) enum Answered {
     /// A check of paths. Its answer never has errors.
     Checked,
-    /// An explanation of paths, and whether it has errors.
+    /// An explanation of paths. The outcome says whether the explanation has errors.
     Explained(Outcome),
-    /// A count: the report that was printed, and lines about attributes that no attribute file names.
+    /// A count: the printed report, and the lines for standard error about attributes of `--without` that no attribute file names.
     Counted(Report, String),
-    /// A sum of reports: the report that was printed.
+    /// A sum of reports: the printed report.
     Summed(Report),
-    /// A comparison: what was compared, and lines about attributes that no attribute file names.
+    /// A comparison, and the lines for standard error about attributes of `--without` that no attribute file names.
     Compared(Comparison, String),
 }
 

@@ -23,9 +23,10 @@ pub enum Cause {
     TooManyDirs,
     /// A counted directory has an entry that is too deep.
     TooDeep,
-    /// What the workers found does not make one tree: the directory with this number does not fit. No count ends with this error.
+    /// The directories that the workers found make no tree, because of the directory with this number on the board. No count ends with this
+    /// error.
     Torn(u32),
-    /// The worker with this number and the board that all workers share have different records. No count ends with this error.
+    /// The board that all workers share, and the worker with this number, recorded different events. No count ends with this error.
     Mismatch(u32),
     /// The rule file that the command line names could not be read.
     UnreadRules,
@@ -35,8 +36,8 @@ pub enum Cause {
     UnreadPaths(Option<UnreadReason>),
     /// The list of paths has too many bytes.
     PathsTooLong,
-    /// The list of paths is empty, or has a path that no entry can have. The text is the line for standard error, which names the list, and
-    /// the path if there is one.
+    /// The list of paths is empty, or has a path that no entry can have. The text is the line for standard error. The line names the list
+    /// and, if the list is not empty, the wrong path.
     BadPaths(String),
     /// Standard input could not be read.
     UnreadInput,
@@ -46,8 +47,8 @@ pub enum Cause {
     Nested(String),
     /// The walk of one of several directories ended without a report. The text is the line for standard error, which names the directory.
     InDirectory(String),
-    /// A report, or a directory of a comparison, can't be read or used. The text is the line for standard error, which names it and says
-    /// why.
+    /// A report, or a directory of a comparison, can't be read or used. The text is the line for standard error, which says what is wrong
+    /// and where.
     InReport(String),
     /// Several reports have no column in common.
     NoSharedColumn,

@@ -1,4 +1,4 @@
-//! Refusing options that choose files of a directory, if no side of a comparison is a directory.
+//! Refuses a comparison of two reports if an option chooses files of a directory.
 
 ghost use Rattle.std.specs.Prelude.{◌≡◌, ◌++◌, option_map, string_bytes, IfOk, OnOk};
 ghost use Rattle.lc_program.specs.Choices.{AnswersChoices, are_reports, choice_line, first_choice};

@@ -1,4 +1,4 @@
-//! The commands that lines on standard error suggest.
+//! The commands that the program suggests on standard error.
 
 ghost use Rattle.std.specs.Prelude.{◌≡◌, ◌++◌, flat_map, map, string_bytes, IfOk, OnOk};
 ghost use Rattle.lc_program.specs.Commands.{count_of, count_of_file, file_count, is_typed, only_of, or_here};

@@ -1,4 +1,4 @@
-//! What remains of a comparison after it was printed.
+//! The result of a printed comparison: the two reports, and whether they differ.
 
 use lc_walk::Report;
 
@@ -9,6 +9,6 @@ pub(crate) struct Comparison {
     pub(crate) old: Report,
     /// The new report.
     pub(crate) new: Report,
-    /// Whether a row differs, or a file if files are listed.
+    /// Whether the reports differ in a row, or in a file if files are listed.
     pub(crate) differ: bool,
 }

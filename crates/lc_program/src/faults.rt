@@ -198,7 +198,7 @@ fn fault_lines<Y: System>(
 }
 
 /// Writes to standard error what a count or a sum could not read. Each counted directory that could not be listed has a line. For CSV and
-/// HTML each other path has a line too; for any other format one line says where the output lists these paths.
+/// HTML, each unread path inside the directories has a line too. For any other format, one line says where the output lists these paths.
 pub(crate) fn tell_faults<Y: System, E: Sink>(
     alloc: Global,
     system: &Y,

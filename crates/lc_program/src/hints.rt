@@ -12,7 +12,7 @@ use lc_arguments::Request;
 use lc_text::{Sink, print, push_visible};
 use std::alloc::{AllocError, Global};
 
-/// Collects the directories that lie in the repository with this top. Each is given by its path in the repository.
+/// Returns the paths of the directories that lie in the repository with this top. Each path is relative to the top.
 fn paths_in<'r>(
     alloc: Global,
     top: &str,

@@ -75,7 +75,7 @@ fn places_of<'w, Y: System>(
     Ok(places)
 }
 
-/// Sorts directories by their canonical paths, which brings the directories inside another right behind that one.
+/// Sorts directories by their canonical paths. The directories that lie in another directory then come right behind that directory.
 fn sort(places: &mut Vec<Place<'_>>)
     ensures same { IsPermutation places.old.items places.new.items }
     ensures order { IsSortedByKey (λ (p : PlaceModel). p.path) bytes_cmp places.new.items }

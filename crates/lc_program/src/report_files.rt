@@ -114,8 +114,8 @@ pub(crate) fn read_one<'w, Y: System, S: Source>(
     read_parts(alloc, system, NamedReport { name: None, report }, input)
 }
 
-/// Reads the reports that the command line names, in their order. The first text that can't be read, or is refused, ends this with an
-/// error.
+/// Reads the reports that the command line names, in their order. If a text can't be read or is refused, the function returns the error of
+/// the first such text.
 pub(crate) fn read_all<'w, Y: System, S: Source>(
     alloc: Global,
     system: &Y,

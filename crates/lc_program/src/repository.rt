@@ -1,9 +1,9 @@
 //! The repository above a directory.
 
-/// The repository in which a directory lies, below the repository's top.
+/// The repository that contains a directory. The directory is under the repository's top directory, and is not the top itself.
 #[derive(Drop)]
 pub struct Repository {
-    /// A path of the repository's top, by which a command line may name it.
+    /// A path of the repository's top directory that a command line can use, such as `..`.
     pub top: String,
     /// The path of the directory, relative to the repository's top.
     pub path: String,

@@ -1,4 +1,4 @@
-//! The program: it carries out its arguments over the directories and files of a system, and writes to its streams.
+//! Runs the program: carries out the request of the arguments with the directories and files of a `System`, and writes to the streams.
 
 ghost use Rattle.std.specs.Prelude.{◌≡◌, ◌&&◌, map, nat_lt};
 ghost use Rattle.lc_program.specs.Program.{Advises, Comments, Ends, TellsUnread, status_of, streams_may};
@@ -184,23 +184,25 @@ fn end_of<R: Threads + Wait + Sync + AllocGlobal, Y: System, W: AsStr, S: Source
 }
 
 /// Runs the program with these arguments and streams, and returns its exit status. The status is 0 for success, 1 for an answer with
-/// errors, 2 for refused arguments, and 3 if the program stopped with an error, with one line on `err`. It is 4 if `--fail-if-any` is used,
-/// and a file is counted or the sides of a comparison differ.
+/// errors, 2 for refused arguments, and 3 if the program stopped with an error, with one line on `err`. The status is 4 if `--fail-if-any`
+/// is used, and a file is counted or the sides of a comparison differ.
 ///
-/// - no arguments: the input has the lines of an ignore file, then a line `--`, then paths ([`check_joined`](lc_paths::check_joined));
-/// - `check FILE`: checks the paths of the input by the rules of the file with this name, which is read first ([`check`](lc_paths::check);
-///   with `--explain` [`check_explained`](lc_paths::check_explained));
-/// - `count DIR`: prints the table of the directory with this name ([`run`](crate::runs::run)); the file of `--exclude-from` is read before
-///   the walk;
-/// - `explain DIR`: shows which rule of the directory with this name decides each path of the input or of the arguments
+/// The arguments decide what the program does:
+///
+/// - no arguments: reads the lines of an ignore file, a line `--`, and paths from the input, and checks the paths
+///   ([`check_joined`](lc_paths::check_joined));
+/// - `check FILE`: reads the rules in FILE, then checks the paths of the input by these rules ([`check`](lc_paths::check); with `--explain`
+///   [`check_explained`](lc_paths::check_explained));
+/// - `count DIR`: reads the file of `--exclude-from`, then counts the directory DIR and prints the table ([`run`](crate::runs::run));
+/// - `explain DIR`: shows which rule of the directory DIR decides each path of the input or of the arguments
 ///   ([`explain`](lc_paths::explain));
-/// - `sum REPORT`: prints the table of the sum of the reports with these names ([`summed`](lc_sums::summed)); all of them are read first;
+/// - `sum REPORT`: reads all reports, then prints the table of their sum ([`summed`](lc_sums::summed));
 /// - `diff OLD NEW`: prints the changes from one directory or report to another ([`ShownChanges`](lc_changes::ShownChanges)).
 ///
-/// If standard input is a terminal and is read, a line on `err` says so first. If standard output is a terminal, checks and explanations
-/// escape paths and patterns that a terminal would not show safely, and a table without a named format is printed in columns. If standard
-/// error is a terminal, a hint may follow the table of a count. `err` also gets lines about paths that a count could not read, the reason
-/// why a directory could not be read, and the patterns of the arguments that can match nothing.
+/// If standard input is a terminal and the program reads it, a line on `err` says this first. If standard output is a terminal, checks and
+/// explanations escape paths and patterns that a terminal would not show safely. A table is printed in columns on a terminal if no format
+/// is named. If standard error is a terminal, a hint may follow the table of a count. `err` also gets lines about paths that a count could
+/// not read, the reason why a directory could not be read, and lines about patterns of the arguments that can match nothing.
 pub fn program<
     R: Threads + Wait + Sync + AllocGlobal,
     Y: System,

@@ -50,9 +50,10 @@ impl From<PrintFault> for RunFault {
     }
 }
 
-/// Walks a tree, and writes the table of the part of its report that meets the conditions ([`table`]). Returns this part of the report.
+/// Walks a tree, drops from its report the files that do not meet the conditions, and writes the table of the remaining report ([`table`]).
+/// Returns the remaining report.
 ///
-/// Rows by directory and a condition on a number need the list of files.
+/// If rows are grouped by directory, or a condition is on a number, `options` must request the list of files.
 ///
 /// ```
 /// let tree = SysTree::new(&rt, rt.alloc(), "src", FileSystems::All)?;

@@ -67,10 +67,11 @@ pub(crate) fn text_with(
     }
 }
 
-/// Makes the text of a report, or for HTML the page of its picture. `counted` is what was counted, which is the heading of the page.
+/// Makes the text of a report. In the format `Html` the text is a page with a picture. The heading of this page is `counted`, which says
+/// what was counted.
 ///
-/// The order of the report's files may change in place. Rows by directory and a picture are made from these files, so the report must have
-/// them. An error means that an allocation failed, or that sums or shares overflow. The sums and shares of a walk never overflow.
+/// The function may sort the report's list of files. For rows by directory and for a picture, the report must have this list. An error
+/// means that an allocation failed, or that sums or shares overflow. The sums and shares of a walk never overflow.
 pub fn report_text(
     alloc: Global,
     counted: &[u8],
@@ -85,7 +86,7 @@ pub fn report_text(
     text_with(alloc, counted, report, classes, options)
 }
 
-/// Makes the text of the part of a report that meets the conditions ([`report_text`]), and drops the rest from the report.
+/// Drops from a report the files that do not meet the conditions, and makes the text of the remaining report ([`report_text`]).
 fn part_text(
     alloc: Global,
     report: &mut Report,
@@ -100,9 +101,9 @@ fn part_text(
     Ok(text)
 }
 
-/// Makes the text of the part of a report that meets the conditions ([`report_text`]), and writes it.
+/// Drops from a report the files that do not meet the conditions, and writes the text of the remaining report ([`report_text`]).
 ///
-/// The rest is dropped from the report. The order of the remaining files may change in place.
+/// The function may sort the remaining files.
 pub fn table<O: Sink>(
     alloc: Global,
     report: &mut Report,

@@ -108,7 +108,7 @@ fn classes_kept(
     ClassSums::of_all(&part.rows)
 }
 
-/// Makes the text of the part of a sum that meets the conditions, and drops the rest from the report.
+/// Drops from a sum the files that do not meet the conditions, and makes the text of the remaining report.
 fn part_text(
     alloc: Global,
     report: &mut Report,
@@ -125,7 +125,7 @@ fn part_text(
     Ok(text)
 }
 
-/// Makes the text of the part of a sum that meets the conditions, and writes it. The rest is dropped from the report.
+/// Drops from a sum the files that do not meet the conditions, and writes the text of the remaining report.
 fn table<O: Sink>(
     alloc: Global,
     report: &mut Report,

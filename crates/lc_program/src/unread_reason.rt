@@ -6,17 +6,17 @@ ghost use Rattle.lc_program.specs.Reasons.{reason_text};
 /// Why a directory or a file could not be read.
 #[derive(Clone, Copy)]
 pub enum UnreadReason {
-    /// Nothing has this name.
+    /// There is nothing at the path of the directory or file.
     Missing,
     /// The system does not permit the program to read the directory or the file.
     Denied,
-    /// The name is that of a directory, but a file is expected.
+    /// There is a directory at the path, but a file is expected.
     IsDirectory,
-    /// The name is that of a file, but a directory is expected.
+    /// There is a file at the path, but a directory is expected.
     IsFile,
-    /// The name is that of neither a directory nor a file, or its path leads through something that is not a directory.
+    /// There is neither a directory nor a file at the path, or the path leads through something that is not a directory.
     NotDirectory,
-    /// Any other reason. The program has no text for it.
+    /// A reason that the other variants do not describe. The program prints no text for this reason.
     Other,
 }
 
