@@ -20,7 +20,7 @@ pub(super) type Entry = (&'static [u8], Sketch<'static>);
 pub(super) struct Case<'a> {
     pub(super) name: &'a str,
     pub(super) top: Sketch<'a>,
-    /// The directory `top` as a walk sees it that enters one file system alone.
+    /// The directory `top` for a walk that enters one file system alone.
     pub(super) bounded: Sketch<'a>,
     pub(super) files: Sketch<'a>,
     pub(super) words: &'a [&'a str],
@@ -40,7 +40,7 @@ pub(super) const NO_TERMINALS: Terminals = Terminals {
     error: false,
 };
 
-/// A run without arguments, in which `top` can't be listed and there are no files. Other cases change parts of this one.
+/// A run without arguments, in which `top` can't be listed and there are no files. Other cases change fields of this case.
 pub(super) const EMPTY: Case<'static> = Case {
     name: "",
     top: Sketch::Closed,

@@ -1,4 +1,4 @@
-//! Calls of the other public functions of the program, each once.
+//! Tests of single calls: methods of a `System`, and the functions `misuse` and `give_up`.
 
 use crate::runs::mem_system::MemSystem;
 use lc_census::Source;

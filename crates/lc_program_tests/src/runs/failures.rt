@@ -1,4 +1,4 @@
-//! Runs that end with status 4 if a file is counted.
+//! Runs with `--fail-if-any`, which end with status 4 if a file is counted.
 
 use crate::runs::asking::{Case, EMPTY, compare_by_threads};
 use lc_tests::Sketch;

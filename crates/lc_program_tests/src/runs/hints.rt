@@ -22,7 +22,7 @@ const UNTOLD: Case<'static> = Case {
     ..EMPTY
 };
 
-/// A count with `--without`, of attributes that an attribute file names and of others.
+/// A count with `--without`, for an attribute that an attribute file names and for attributes that none names.
 const NAMED: Case<'static> = Case {
     name: "attributes_that_no_file_names",
     words: &[
@@ -45,7 +45,7 @@ const NAMED: Case<'static> = Case {
     ..EMPTY
 };
 
-/// A count with patterns that can match nothing, and with other patterns.
+/// A count with patterns that can match nothing, and with patterns that can match.
 const UNMATCHED: Case<'static> = Case {
     name: "patterns_that_can_match_nothing",
     words: &[

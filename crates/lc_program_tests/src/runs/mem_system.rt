@@ -1,4 +1,4 @@
-//! Directories and files in memory, in place of those of the system.
+//! A `System` whose directories and files are in memory.
 
 ghost use Rattle.std.specs.Prelude.{◌≡◌};
 
@@ -6,7 +6,7 @@ use lc_program::{Repository, System, UnreadReason};
 use lc_tree::{FileSystems, MemFile, MemTree, Node, ReadFault, Tree};
 use std::alloc::{AllocError, Global};
 
-/// Directories and files in memory, in place of those of the system.
+/// A `System` whose directories and files are in memory.
 #[derive(Drop)]
 pub(super) struct MemSystem<'a> {
     /// The directories that a command line may name, each with its name.
@@ -17,7 +17,7 @@ pub(super) struct MemSystem<'a> {
     pub(super) absent: &'a Node,
     /// The directory with the files that a command line may name.
     pub(super) files: &'a Node,
-    /// The reason that the system gives why a directory or a file can't be read.
+    /// The reason that the system gives if a directory or a file can't be read.
     pub(super) why: Option<UnreadReason>,
     /// The repository in which every directory lies, if there is one: its top, and the directory's path in it.
     pub(super) above: Option<(&'static str, &'static str)>,
