@@ -53,7 +53,7 @@ impl From<PrintFault> for RunFault {
 /// Walks a tree, drops from its report the files that do not meet the conditions, and writes the table of the remaining report ([`table`]).
 /// Returns the remaining report.
 ///
-/// If rows are grouped by directory, or a condition is on a number, `options` must request the list of files.
+/// Rows by directory require that `options` request the list of files. A condition on a number is tested on the files of this list.
 ///
 /// ```
 /// let tree = SysTree::new(&rt, rt.alloc(), "src", FileSystems::All)?;
