@@ -3,7 +3,7 @@
 /// One event of a board: what a worker did with a directory's number. Most events carry the job or the row of that number.
 #[derive(PartialEq, Eq, Debug, Drop)]
 pub enum Event<J, R> {
-    /// The worker opened a new directory's number with this job, under its claim of the number `parent`.
+    /// Under its claim of the number `parent`, the worker opened the unused number `number` with this job.
     Post {
         worker: u32,
         parent: u32,
@@ -22,7 +22,7 @@ pub enum Event<J, R> {
         number: u32,
         row: R,
     },
-    /// The worker ended its claim of the number and added the row of an error.
+    /// The worker ended its claim of the number and added this row, which reports an error.
     Fault {
         worker: u32,
         number: u32,

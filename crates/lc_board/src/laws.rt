@@ -1,5 +1,5 @@
-//! Laws of every legal history of a board, for proofs about boards. A law has no code: its contract is a theorem, which the prover checks.
-//! A history is the list of the events of all workers.
+//! Laws about the legal histories of a board. A history is the list of the events of all workers. It is legal if each event was allowed
+//! when it came. A law has no code: its contract is a theorem, which the prover checks.
 ghost use Rattle.lc_board.specs.Laws.{NumbersOnce, PartSaysWhole, PartTellsClaim, PostedNothing, OverStays, EndedHasRow, EndedStays};
 ghost use Rattle.lc_board.specs.{Laws.{PostedOnce, StaysLegal, FewNumbers, FewEnds, RowsAreEnds, SumsOfRows}, Scripts.ScriptsAreLegal};
 ghost use Rattle.lc_board.specs.Limits.{capacity_limit, workers_limit};
@@ -13,8 +13,8 @@ pub fn numbers_once<J, R>()
     ensures { NumbersOnce J R }
 {}
 
-/// The law that a worker's own events agree with the whole history about each directory's number that the worker claimed: its posts, job
-/// and row.
+/// The law that a worker's own events agree with the whole history about each directory's number that the worker claimed: about the posts
+/// under the claim, the job and the row.
 #[tactic(auto, using(crate::proofs::PartsOfWhole::part_says_whole))]
 pub fn part_says_whole<J, R>()
     ensures { PartSaysWhole J R }
@@ -40,7 +40,7 @@ pub fn ended_has_row<J, R>()
     ensures { EndedHasRow J R }
 {}
 
-/// The law that the posts, the job and the row of a directory's number never change once the number has ended.
+/// The law that once a directory's number has ended, its job, its row and the posts under its claim never change.
 #[tactic(auto, using(crate::proofs::EndedNumbers::ended_stays))]
 pub fn ended_stays<J, R>()
     ensures { EndedStays J R }
@@ -65,21 +65,21 @@ pub fn few_numbers<J, R>()
     ensures ends { FewEnds J R }
 {}
 
-/// The law that the rows of a closed board are the rows that all workers added, each exactly once. So a sum over these rows is the sum of
-/// the workers' sums.
+/// The law that a closed board, with each row at the index of its number, has exactly the rows that the workers added. A sum over all rows
+/// is the total of the sums over each worker's rows.
 #[tactic(auto, using(crate::proofs::RowsOfWorkers::rows_are_ends, crate::proofs::RowsOfWorkers::sums_of_rows))]
 pub fn rows_are_ends<J, R>()
     ensures rows { RowsAreEnds J R }
     ensures sums { SumsOfRows J R }
 {}
 
-/// The law that `MAX_CAPACITY` and `MAX_WORKERS` equal the limits in contracts.
+/// The law that `MAX_CAPACITY` and `MAX_WORKERS` equal `capacity_limit` and `workers_limit`, the limits that contracts cite.
 pub fn limits_are()
     ensures capacity { MAX_CAPACITY ≡ capacity_limit }
     ensures workers { MAX_WORKERS ≡ workers_limit }
 {}
 
-/// The law that the definitions of a legal history and its parts give the expected results for short histories.
+/// The law that the definitions about histories, such as `IsLegal`, give the expected results for a few short histories.
 #[tactic(auto, using(crate::proofs::ComputedScripts::scripts_are_legal))]
 pub fn scripts_are_legal()
     ensures { ScriptsAreLegal }

@@ -2,8 +2,8 @@
 //!
 //! The root directory has number 0. A worker claims an open number and gets its job: what the worker needs to visit the directory. Under
 //! that claim the worker may post further numbers, each with the job of a child directory; these numbers are then open. The worker ends its
-//! claim by a row: what it found in the directory. A board is over once no number is open or claimed. Closing the board returns the row of
-//! each number.
+//! claim by adding a row: what it found in the directory. A board is over once no number is open or claimed. Closing the board returns the
+//! row of each number.
 //!
 //! - `shared`: the trait of boards that threads share; `event`: the events that its calls add to the history; `answers`: what its calls
 //!   return; `limits`: the limits of a board

@@ -1,7 +1,7 @@
 //! A board that workers share under one lock.
 //!
-//! After a lock is taken, contracts know of the value under it only what the value's type states. So `close` compares the board's history
-//! with the events that each pass has stored.
+//! When a thread takes the lock, contracts guarantee only the invariant of the value under the lock. They do not say that the board's
+//! history has the events of the thread's pass. So `close` compares the history with the events that each pass has stored.
 ghost use Rattle.std.specs.Prelude.{◌≡◌, ◌≢◌, ℕ, ◌≤◌, Some, IfOk, IfErr, map, slice_get, vec_len};
 ghost use Rattle.lc_board.specs.{ClosedBoard.{Settled, RefusesClose}, LockedBoard.told, RecordedCalls.locked_promises};
 ghost use Rattle.lc_board.specs.Limits.{capacity_limit, workers_limit};

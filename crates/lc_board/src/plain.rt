@@ -118,7 +118,8 @@ impl<J: Drop, R: Drop> Plain<J, R> {
         self.end(worker, Ended::Returned(row));
     }
 
-    /// Ends the worker's claim by adding the row of an error. The worker must have posted nothing under the claim. Allocates nothing.
+    /// Ends the worker's claim by adding this row, which reports an error. The worker must have posted nothing under the claim. Allocates
+    /// nothing.
     pub fn fault(&mut self, worker: u32, row: R)
         requires worker { worker < workers_of self.old }
         requires holds { held_by self.old worker ≢ None }

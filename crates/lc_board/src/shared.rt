@@ -1,8 +1,8 @@
 //! The trait of boards that threads share.
 //!
 //! Each worker has a pass, which gives it access to the board. With the pass the worker claims a number, posts further jobs under that
-//! claim, and ends the claim by a row. The calls of all workers form one legal history: each call was allowed when it came. Each pass has
-//! the events of its worker. The clauses of `close` state this for all passes together.
+//! claim, and ends the claim by adding a row. The pass has the worker's events. If `close` succeeds, its contract states that the events of
+//! all passes form one legal history, in which each event was allowed when it came.
 ghost use Rattle.std.specs.Prelude.{◌≡◌, ◌≢◌, ℕ, ◌≤◌, Some, None, IfOk, IfErr, slice_get, vec_len, map};
 ghost use Rattle.lc_board.specs.Pass.{Pass, holding, posted, new_pass, after_claim, after_post, after_give, after_fault, job_back};
 ghost use Rattle.lc_board.specs.{ClosedBoard.{Promises, Settled, RefusesClose}, Limits.{capacity_limit, workers_limit}};
@@ -29,8 +29,8 @@ pub trait Token<J, R> {
         ensures { result ≡ posted (view self.now) };
 }
 
-/// A board that workers share. The clauses of a call that may wait for another thread hold only if the call returns. The trait includes
-/// what every caller needs to share the board between threads and to drop it. So the bound `B: Shared<J, R>` is enough for a worker.
+/// A board that workers share. If a call may wait for another thread, its `ensures` clauses hold only if the call returns. The supertraits
+/// let callers share the board between threads and drop it. So the bound `B: Shared<J, R>` is enough for a worker.
 pub trait Shared<J, R>: Sized + Sync + Drop {
     type Pass: Token<J, R> + Send + Drop;
 
@@ -86,7 +86,7 @@ pub trait Shared<J, R>: Sized + Sync + Drop {
         ensures pass { owns self.now pass.new }
         ensures mine { Self.Pass.view pass.new ≡ after_give (Self.Pass.view pass.old) row };
 
-    /// Ends the claim of the pass by adding the row of an error. The worker must have posted nothing under the claim.
+    /// Ends the claim of the pass by adding this row, which reports an error. The worker must have posted nothing under the claim.
     fn fault<W: Wait>(&self, rt: &W, pass: &mut Self::Pass, row: R)
         requires pass { owns self.now pass.old }
         requires holds { holding (Self.Pass.view pass.old) ≢ None }

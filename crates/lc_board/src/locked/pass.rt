@@ -9,7 +9,8 @@ use std::snapshot::Snapshot;
 
 mod noting;
 
-/// A worker's pass for a locked board. It stores the worker's events, but not their jobs and rows, which only contracts mention.
+/// A worker's pass for a locked board. It stores the worker's events. The job or row of an event is a `Snapshot`, which only contracts can
+/// read.
 #[derive(Drop)]
 pub struct LockedPass<J, R> {
     worker: u32,

@@ -51,7 +51,8 @@ impl<J: Drop, R: Drop> Recorded<J, R> {
         })
     }
 
-    /// Claims a number for a worker. First reserves memory in the history for this event, and for the event that ends each worker's claim.
+    /// Claims a number for a worker. First reserves memory in the history for this event and, for each worker, for one event that ends the
+    /// worker's claim.
     pub fn claim(&mut self, worker: u32) -> Claim<J>
         ensures { RecordsClaim worker self.old result self.new }
     {
@@ -83,8 +84,8 @@ impl<J: Drop, R: Drop> Recorded<J, R> {
         self.plain.is_full()
     }
 
-    /// Posts the job under the worker's claim of the parent. Keeps memory reserved for the event that ends each worker's claim. If all
-    /// numbers are used, the error is `PostFault::Full`, even if memory has also run out.
+    /// Posts the job under the worker's claim of the number `parent`. Reserves memory in the history as `claim` does. If all numbers are
+    /// used, the error is `PostFault::Full`, even if memory has also run out.
     pub fn post(&mut self, worker: u32, parent: u32, job: J) -> Result<u32, PostFault<J>>
         ensures { RecordsPost worker parent self.old job result self.new }
     {
@@ -120,8 +121,8 @@ impl<J: Drop, R: Drop> Recorded<J, R> {
         true
     }
 
-    /// Ends the worker's claim of the number by adding the row of an error. Returns false if the worker has not claimed the number, or has
-    /// posted under the claim.
+    /// Ends the worker's claim of the number by adding this row, which reports an error. Returns false if the worker has not claimed the
+    /// number, or has posted jobs under the claim.
     pub fn fault(&mut self, worker: u32, number: u32, row: R) -> bool
         ensures { RecordsEnd (MayFault worker number self.old.board) self.old (Fault worker number row) result self.new }
     {

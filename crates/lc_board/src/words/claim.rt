@@ -1,10 +1,10 @@
-//! Claims on a board of words. A claim first tries the number that its pass posted last, by one atomic exchange. If that fails, the claim
-//! reads the words of the numbers once, in ascending order.
+//! Claims on a board of words. A claim first tries the number that its pass posted last, by one atomic exchange. If the claim does not get
+//! that number, it reads the words of the numbers once, in ascending order.
 //!
-//! The reading begins at the pass's low mark, below which all numbers have ended, and continues over numbers that have ended. If it meets a
-//! busy number, which a worker has claimed or is about to open, it jumps to the mark of the taken numbers. Each number below that mark has
-//! ended or is claimed. From there the claim reads up to the first number that is open or unused. So a claim takes at most two steps on
-//! each word. A number that it tried in vain is never open again, and its word is read only once more.
+//! The claim begins to read at the pass's low mark, below which all numbers have ended, and continues over numbers that have ended. A
+//! number is busy if a worker has claimed it or is about to open it. If the claim meets a busy number, it jumps to the mark of the taken
+//! numbers, below which each number has ended or is claimed. From there the claim reads up to the first number that is open or unused. So a
+//! claim takes at most two steps on each word, a read and an exchange, and one more step on the number that it tried first.
 ghost use Rattle.std.specs.Prelude.{◌≡◌, ◌+◌, ◌<◌, None, IfSome, IfNone, cond};
 ghost use Rattle.lc_board.specs.{Limits.capacity_limit, WordSteps.{Extends, is_last_word, larger}};
 ghost use Rattle.lc_board.specs.WordsBoard.{AnswersWordsClaim, IsPassOf, IsSamePass, TriesClaim, known};
@@ -51,8 +51,8 @@ impl<J, R> Words<J, R> {
         self.try_claim(pass, number)
     }
 
-    /// Claims the highest number in the pass's list of newest numbers, if that number is open. If it is not open, other workers have begun
-    /// to claim these numbers, and the list is emptied.
+    /// Claims the highest number in the pass's list of newest numbers, if that number is open. If it is not open, the list is emptied,
+    /// since other workers have probably begun to claim its numbers.
     fn claim_newest(&self, pass: &mut WordsPass<J, R>) -> Option<Claim<J>>
         requires board { IsPassOf self.now pass.old }
         requires free { pass.old.holding ≡ None }
@@ -100,8 +100,8 @@ impl<J, R> Words<J, R> {
         Claim::Later
     }
 
-    /// Claims an open directory's number, and returns it with its job. Takes at most two steps on each word, waits for no thread, allocates
-    /// nothing and never returns `Claim::Memory`.
+    /// Claims an open directory's number, and returns it with its job. Takes at most three steps on each word, waits for no thread,
+    /// allocates nothing and never returns `Claim::Memory`.
     pub fn claim(&self, pass: &mut WordsPass<J, R>) -> Claim<J>
         requires board { IsPassOf self.now pass.old }
         requires free { pass.old.holding ≡ None }

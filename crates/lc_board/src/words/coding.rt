@@ -14,7 +14,7 @@ pub enum Word {
     Open,
     /// The claim of the directory's number was ended by a row, which is in the slot.
     Returned,
-    /// The claim of the directory's number was ended by the row of an error, which is in the slot.
+    /// The claim of the directory's number was ended by a row that reports an error. The row is in the slot.
     Faulted,
     /// This worker has reserved the directory's number for a post, and is about to open it.
     Drawn(u64),
@@ -63,7 +63,7 @@ pub fn ended_by<R>(ended: &Ended<R>) -> u64
 }
 
 impl Word {
-    /// Returns the word that a code stands for.
+    /// Returns the state for which a code stands.
     pub fn of(code: u64) -> Word
         ensures { result ≡ word_of code }
     {

@@ -16,8 +16,8 @@ impl Newest {
         Newest { start: 0, end: 0 }
     }
 
-    /// Notes a number that was posted. The first number under a claim replaces the numbers that are left in the list. A later number is
-    /// added on top of them, with the numbers that others have posted in between.
+    /// Notes a number that the worker posted. The first number posted under a claim replaces the list. Each later number extends the list
+    /// up to this number, so the list also has the numbers that other workers posted in between.
     pub fn note(&mut self, number: u32, is_first: bool)
         requires { number < capacity_limit }
     {
@@ -36,7 +36,7 @@ impl Newest {
         Some(self.end)
     }
 
-    /// Drops all numbers, since other workers have begun to claim them.
+    /// Drops all numbers, since other workers have probably begun to claim them.
     pub fn clear(&mut self) {
         self.end = self.start;
     }

@@ -1,4 +1,5 @@
-//! Posts on a board of words. A post tries numbers from the front of its pass up; each number below the front is used.
+//! Posts on a board of words. Each pass has a front, below which all numbers are used. A post tries the numbers from the front upward, one
+//! after another.
 ghost use Rattle.std.specs.Prelude.{◌≡◌, ◌+◌, ◌<◌, MatchBool, IsSome};
 ghost use Rattle.lc_board.specs.{WordSteps.ExtendsFairly, WordsBoard.{AnswersWordsPost, IsPassOf, IsSamePass, TriesPost, known}};
 
@@ -30,7 +31,7 @@ impl<J, R> Words<J, R> {
     }
 
     /// Draws the number at the pass's front, that is, reserves it for this post, and opens it with the job. If another worker draws the
-    /// number first, the error returns the job.
+    /// number first, returns the job as the error.
     fn draw_and_open(&self, pass: &mut WordsPass<J, R>, job: J) -> Result<u32, J>
         requires board { IsPassOf self.now pass.old }
         requires holds { IsSome pass.old.holding }
@@ -51,7 +52,7 @@ impl<J, R> Words<J, R> {
         Ok(number)
     }
 
-    /// Tries to post the job with the number at the pass's front. If that number is used, the error returns the job. The word is read
+    /// Tries to post the job with the number at the pass's front. If that number is used, returns the job as the error. The word is read
     /// first, because even a failed exchange takes the word's cache line from the other cores.
     fn try_post(&self, pass: &mut WordsPass<J, R>, job: J) -> Result<u32, J>
         requires board { IsPassOf self.now pass.old }
@@ -69,8 +70,9 @@ impl<J, R> Words<J, R> {
         }
     }
 
-    /// Posts the job with the least unused number at or above the pass's front. If all numbers are used, the error returns the job. Waits
-    /// for no thread, allocates nothing and never returns `PostFault::Memory`.
+    /// Posts the job: opens an unused number with this job, and returns the number. Tries the numbers from the pass's front upward, since
+    /// all numbers below the front are used. If all numbers are used, the error is `PostFault::Full` with the job. Waits for no thread,
+    /// allocates nothing and never returns `PostFault::Memory`.
     pub fn post(&self, pass: &mut WordsPass<J, R>, mut job: J) -> Result<u32, PostFault<J>>
         requires board { IsPassOf self.now pass.old }
         requires holds { IsSome pass.old.holding }

@@ -1,4 +1,5 @@
-//! The invariant of the words of a board, and the steps on a word: what a pass learns from each step.
+//! The invariant of a board's words, and the steps that workers take on a word. Each step's definition states what the worker's pass knows
+//! after the step.
 ghost use Rattle.std.specs.Prelude.{Some};
 ghost use Rattle.lc_board.specs.WordRow.{IsRow};
 ghost use Rattle.lc_board.specs.WordSteps.{looked, stepped_over, drew, opened, claimed, ended, put_down};
@@ -15,7 +16,7 @@ pub struct BoardSetup<J> {
     pub workers: u32,
 }
 
-/// The invariant that the words of a board show the state of one legal history of events.
+/// The invariant of a board of words: the words show the state of the board after one legal history of events.
 pub struct OneHistory;
 
 impl<J, R> TableRule<Slot<J, R>, View<J, R>, BoardSetup<J>> for OneHistory {

@@ -89,7 +89,8 @@ impl<J, R> Words<J, R> {
         self.end(pass, Ended::Returned(row));
     }
 
-    /// Ends the claim of the pass by adding the row of an error. Like `give`, but the pass must have posted nothing under the claim.
+    /// Ends the claim of the pass by adding this row, which reports an error. The pass must have posted nothing under the claim. Waits for
+    /// no thread, allocates nothing and never fails.
     pub fn fault(&self, pass: &mut WordsPass<J, R>, row: R)
         requires board { IsPassOf self.now pass.old }
         requires holds { IsSome pass.old.holding × (pass.old.posted ≡ 0) }

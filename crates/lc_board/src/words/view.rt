@@ -26,13 +26,13 @@ pub struct View<J, R> {
     pub seen: LinkedList<Event<J, R>>,
     /// The events of the pass's own worker.
     pub mine: LinkedList<Event<J, R>>,
-    /// While the worker has reserved a directory's number for a post and has not opened it yet: that number plus 1. Otherwise 0.
+    /// The directory's number that the worker has reserved for a post and not opened yet, plus 1. If there is no such number, 0.
     pub drawn: u64,
     /// The low mark: each directory's number below it has ended.
     pub low: u64,
     /// The front, where posts begin: each directory's number below it is used.
     pub front: u64,
-    /// How many passes have been made, if this pass makes the other passes. Otherwise 0.
+    /// In the pass from which all other passes are split off: how many passes have been made. In the other passes: 0.
     pub made: u64,
     /// The workers whose passes were merged into this pass, with the events of each worker.
     pub joined: LinkedList<(u32, LinkedList<Event<J, R>>)>,

@@ -1,4 +1,4 @@
-//! Methods that store the events of a worker's calls in its pass of a locked board.
+//! Methods that store the events of a worker's calls in the worker's pass for a locked board.
 ghost use Rattle.std.specs.Prelude.{◌≡◌, ◌≢◌, ℕ, ◌<◌, ◌≤◌, ◌+◌, None, OnOk, Ok, vec_len, vec_capacity};
 ghost use Rattle.lc_board.specs.Pass.{holding, new_pass, filled, refusing, after_claim, after_post, after_give, after_fault};
 ghost use Rattle.lc_board.specs.{LockedBoard.told, Limits.capacity_limit};
@@ -118,7 +118,7 @@ impl<J, R> LockedPass<J, R> {
         self.posts = 0;
     }
 
-    /// Records the event that ends the claim by adding the row of an error.
+    /// Records the event that ends the claim by adding this row, which reports an error.
     #[tactic(auto, using(crate::proofs::NewestFirst::mine_push))]
     pub(crate) fn note_fault(&mut self, row: &R)
         requires held { holding (told self.old) ≢ None }
