@@ -1,4 +1,4 @@
-//! Tests in which worker threads fill a board with jobs. All jobs share two values, each behind an `Arc`.
+//! Tests in which worker threads fill a board with jobs. All jobs share the same two `Rules` values, each through an `Arc`.
 ghost use Rattle.std.specs.Prelude.{◌≡◌, ◌≢◌, ◌≤◌, ◌<◌, ℕ, None, IfOk, slice_index_or, vec_len};
 ghost use Rattle.lc_board.specs.Pass.{holding};
 ghost use Rattle.lc_board.specs.Limits.{capacity_limit, workers_limit};

@@ -1,4 +1,4 @@
-//! Tests that run the scripts on a single-threaded board. They keep track of each worker's claim by what the board's calls return.
+//! Tests that run the scripts of the module `script` on a single-threaded board. They learn each worker's claim from what the calls return.
 ghost use Rattle.std.specs.Prelude.{◌≡◌, ◌≤◌};
 ghost use Rattle.lc_board.specs.Limits.{capacity_limit, workers_limit};
 

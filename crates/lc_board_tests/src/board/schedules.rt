@@ -1,5 +1,5 @@
-//! Tests in which two workers make calls on a board with three numbers. The bits of a number, the schedule, say in which order the workers
-//! make their first calls. All schedules are tried.
+//! Tests in which two workers make calls on a board with three numbers. A schedule is an integer: its bits say which worker makes each of
+//! the first calls. All schedules are tried.
 ghost use Rattle.std.specs.Prelude.{◌≡◌, ◌<◌};
 
 use crate::board::script::{Call, ROOT, Told};

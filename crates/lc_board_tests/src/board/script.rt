@@ -146,7 +146,7 @@ const FULL: &[(Call, Told)] = &[
     (Call::Claim(0), Told::Over),
 ];
 
-/// A script in which a worker ends its claim of the root with the row of an error.
+/// A script in which a worker ends its claim of the root with a row that reports an error.
 pub const FAULT: &[(Call, Told)] = &[
     (Call::Claim(0), Told::Got(0, ROOT)),
     (Call::Fault(0, 10), Told::Done),
@@ -214,7 +214,8 @@ pub const SCRIPTS: &[Script] = &[
 /// A capacity that does not fit in 16 bits.
 pub const MANY: u32 = 65_537;
 
-/// Makes a script in which one worker posts a directory for each unused number and then one more, and ends only the first directory.
+/// Makes a script in which one worker claims the root, posts a job for each unused number, and then posts one job too many. The worker ends
+/// only its claim of the root.
 pub fn filling(alloc: Global, capacity: u32) -> Result<Vec<(Call, Told)>, AllocError> {
     let mut script = Vec::new(alloc);
     script.push((Call::Claim(0), Told::Got(0, ROOT)))?;

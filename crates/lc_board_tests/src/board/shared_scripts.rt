@@ -1,4 +1,4 @@
-//! Tests that run the scripts on boards that workers share.
+//! Tests that run the scripts of the module `script` on boards that workers share.
 ghost use Rattle.std.specs.Prelude.{◌≡◌, ◌≤◌, ◌<◌, Some};
 ghost use Rattle.lc_board.specs.Limits.{capacity_limit, workers_limit};
 
