@@ -6,7 +6,7 @@ use thiserror::Error;
 /// Why several reports can't be joined.
 #[derive(Debug, Clone, Copy, PartialEq, Eq, Error)]
 pub enum JoinFault {
-    /// An allocation for the lists of the joined report failed. Each sum fits its type.
+    /// Each sum fits its type, but an allocation for the lists of the joined report failed.
     #[error("out of memory")]
     Memory,
     /// A sum does not fit its type. There are at least 2^64 files, directories or entries, or 2^128 lines, blank lines or bytes.

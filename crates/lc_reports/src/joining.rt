@@ -8,7 +8,7 @@ use crate::line_order::{compare_faults, compare_skipped};
 use lc_walk::{FaultLine, Report, SkippedLine, added_up, sort_lines};
 use std::alloc::Global;
 
-/// Sorts errors, and keeps only one of those with the same path and word.
+/// Sorts errors. Of several errors with the same path and word, keeps only one.
 fn unite_faults(faults: &mut Vec<FaultLine>)
     ensures { IsUnited fault_cmp faults.old.items faults.new.items }
 {
@@ -16,7 +16,7 @@ fn unite_faults(faults: &mut Vec<FaultLine>)
     faults.dedup_by(|a, b| compare_faults(a, b).is_eq());
 }
 
-/// Sorts skipped entries, and keeps only one of those with the same path, reason and kind.
+/// Sorts skipped entries. Of several entries with the same path, reason and kind, keeps only one.
 fn unite_skipped(skipped: &mut Vec<SkippedLine>)
     ensures { IsUnited skipped_cmp skipped.old.items skipped.new.items }
 {

@@ -2,9 +2,9 @@
 //!
 //! - `naming`: putting a name in front of the paths of a report
 //! - `joining`: joining several reports; `gathered`: gathering the numbers and lines of several reports; `line_order`: the order of errors
-//!   and skipped entries, of which several may have one path
+//!   and the order of skipped entries, also if several have the same path
 //! - `join_fault`: why several reports can't be joined
-//! - `laws`: laws of the definitions that the contracts cite
+//! - `laws`: theorems about the definitions that contracts cite
 #![tactic(auto)]
 
 mod gathered;

@@ -126,8 +126,8 @@ fn named_lines<L: PathLine + Drop>(
 /// Puts a name and a slash in front of each path of a report, and in front of the file of each rule. The empty path becomes the name. Rules
 /// of `--exclude` and `--exclude-from` stay as they are, and so do all numbers.
 ///
-/// The directory `/` has the empty name, so the paths of its report begin with a slash, and the empty path becomes `/`. For a name of 2^32
-/// segments or more, the call returns the error of a failed allocation.
+/// For the directory `/` the name is empty: the paths of its report then begin with a slash, and the empty path becomes `/`. For a name of
+/// 2^32 segments or more, the call returns the error of a failed allocation.
 ///
 /// ```
 /// let report = named(alloc, b"../lib", report)?; // x.c is ../lib/x.c
