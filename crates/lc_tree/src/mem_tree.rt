@@ -11,9 +11,9 @@ use std::marker::Model;
 
 /// A tree in memory. Each path always has the same listing or the same contents, unless an allocation fails.
 ///
-/// If a path does not exist, or is not a directory to list or a file to open, the error is `ReadFault::Failed`. If `Listing::new` refuses
-/// the entries of a directory, listing the directory returns the corresponding `ReadFault`. If two entries have the same name, a path with
-/// this name means the first entry.
+/// The error is `ReadFault::Failed` if a path does not exist, if a path to be listed is no directory, or if a path to be opened is no file.
+/// If `Listing::new` refuses the entries of a directory, listing the directory returns the corresponding `ReadFault`. If two entries have
+/// the same name, a path with this name means the first entry.
 #[derive(Debug, Drop)]
 pub struct MemTree<'a> {
     top: &'a Node,

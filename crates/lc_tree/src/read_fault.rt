@@ -9,7 +9,7 @@ pub enum ReadFault {
     /// The system reported an error, or the path names no directory to list, or no file to open.
     #[error("cannot be read")]
     Failed,
-    /// A name of the directory is not UTF-8.
+    /// A name in the directory is not UTF-8.
     #[error("a name is no text")]
     Unnamed,
     /// A name in the directory is empty, `.` or `..`, or has a slash or a NUL byte.
