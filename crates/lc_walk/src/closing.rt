@@ -1,4 +1,4 @@
-//! The end of a walk over any shared board: closing the board, and making the report from its rows.
+//! The end of a walk: closing the board, which may be of any type that workers can share, and making the report from the board's rows.
 ghost use Rattle.std.specs.Prelude.{◌≡◌, [], map};
 ghost use Rattle.lc_walk.specs.Passes.{HaveWorked, IsClosable, asked};
 ghost use Rattle.lc_level.specs.Filters.{FiltersModel};

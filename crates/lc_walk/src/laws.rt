@@ -1,4 +1,4 @@
-//! Laws of the definitions that the contracts cite. The functions do nothing: their contracts are what is proved.
+//! Laws: functions that do nothing, whose contracts are theorems about the definitions that other contracts cite.
 ghost use Rattle.std.specs.Prelude.{List};
 ghost use Rattle.std.specs.List.Sorted.{IsPermutation};
 ghost use Rattle.lc_walk.specs.Accounts.{EntriesLaw, RuleLaw};
@@ -23,29 +23,31 @@ pub fn a_tally_has_no_order()
         → IsPermutation files moved → StandsFor tally files → StandsFor tally moved }
 {}
 
-/// The law that the rows of a closed board hold exactly what one recursive walk finds, under any scheduling of the workers. The recursive
-/// walk visits the tree that the rows make, in which each directory's number occurs once.
+/// The law about the tree that the rows of a closed board make, in which a directory's children are the child directories that its row
+/// names. Under any scheduling of the workers, the recursive walk of this tree finds exactly what the directories of the rows contribute.
+/// Each directory's number occurs in the tree once. The law requires that each row is true of its directory, and that no row is
+/// `Row::Broken`.
 pub fn rows_are_the_walk_of_their_tree()
     ensures found { CoreLaw }
     ensures numbers { NumbersLaw }
 {}
 
-/// The law that the rows of a closed board hold exactly what the recursive walk of a tree finds. Each row must have what its directory
-/// contributes in this tree.
+/// The law that the recursive walk of a tree finds exactly what the directories of a closed board's rows contribute. The law requires that
+/// each row is true of its directory in this tree, and that no row is `Row::Broken`.
 pub fn rows_are_the_walk_of_one_tree()
     ensures { OneAnswerLaw }
 {}
 
-/// The law that the report of a walk is that of the recursive walk over some answers that the tree may give: listings and file contents.
-/// These answers have a listing for each directory that the recursive walk reaches.
+/// The law that each report of a walk is the report of the recursive walk over some answers that the tree may give: listings and file
+/// contents. In each listing that the recursive walk reads, the names are good, distinct and in order, as in a `Listing`.
 pub fn reports_are_by_given_answers<T: Tree>(tree: &T)
     ensures { ByAnswersLaw (T.lists tree.now) (T.gives tree.now) }
 {
     let _tree = tree;
 }
 
-/// The law that a walk of an in-memory tree makes the report of the recursive walk of the tree that its node describes. Each file must have
-/// less than 2^47 bytes.
+/// The law that a walk of an in-memory tree makes the report of the recursive walk of the tree that its top `Node` describes. The law
+/// requires that each file has less than 2^47 bytes, and that the board returns each row at the index of its number.
 pub fn reports_of_memory_are_those_of_its_node()
     ensures one_answer { NodeOneAnswerLaw }
     ensures report { NodeReportLaw }
@@ -53,21 +55,22 @@ pub fn reports_of_memory_are_those_of_its_node()
     a_node_is_one_tree();
 }
 
-/// The law that a row that is lawful by the events of its worker is lawful in the history of all workers. A lawful row is true of its
-/// directory and of the child directories that were posted.
+/// The law that a row that is lawful in one worker's part of a legal history is lawful in the whole history. The part is the list of the
+/// worker's events. A row is lawful if it is true of its directory and of the child directories that were posted under its claim.
 pub fn lawful_in_part_is_lawful()
     ensures { PartLaw }
 {}
 
-/// The law that the recursive walk of a tree finds what the directories that it reaches contribute, and nothing else. It reaches a
-/// directory if each directory above was listed without an error, and has the next one as an entry to descend into. A directory
-/// contributes itself, its counted files, its errors and its skipped entries.
+/// The law that the recursive walk of a tree finds exactly what the directories that it reaches contribute: the directory itself, its
+/// counted files, its errors and its skipped entries. The walk reaches the top. If it reads a directory's listing and rule files without an
+/// error, it also reaches the child directories there that the requested paths select and that are not skipped.
 pub fn all_that_is_found_is_given()
     ensures { FoundLaw }
 {}
 
-/// The law that each entry that a report counts is a counted file, an error other than `absent`, a listed directory or a skipped entry. The
-/// report must list its skipped entries. Of all these, only the top is not an entry. Each error `absent` is about a requested path.
+/// The law about the entries in a walk's report, if the report lists its skipped entries. The counted files, the listed directories, the
+/// skipped entries and the errors other than `absent` are together one more than the entries, because the top is not an entry. Each error
+/// `absent` is about a requested path.
 pub fn entries_are_accounted_for<T: Tree>(tree: &T)
     ensures { EntriesLaw (T.lists tree.now) (T.gives tree.now) }
 {
@@ -82,21 +85,22 @@ pub fn totals_of_a_report_add_up<T: Tree>(tree: &T)
     let _tree = tree;
 }
 
-/// The law that a walk of some paths finds a part of what the walk of the whole tree finds. The part is what is at or below these paths,
-/// the directories above them, and the errors on the way. The walk also reports the paths that are absent. The same is true of two walks of
-/// a tree that changes, if each directory that both walks read gave both the same answers.
+/// The law that a walk of some well-formed requested paths finds a part of what the walk of the whole tree finds. The part is what is at or
+/// below the requested paths, the directories above them, and the errors of these directories. The walk of the requested paths also reports
+/// which of them are absent. The tree may change between the two walks, if each directory that both walks read gave both the same answers.
 pub fn a_part_is_the_whole_filtered()
     ensures two_walks { TwoWalksLaw }
     ensures one_tree { PartOfWalkLaw }
 {}
 
-/// The law that a walk with `include` patterns counts exactly the files that the walk without these patterns counts and that a pattern
-/// includes. Both walks list the same directories.
+/// The law about a walk with `include` patterns and the walk without them. Of the files that the second walk counts, the first counts
+/// exactly the files that the patterns include. Both walks list the same directories.
 pub fn included_files_are_the_whole_filtered()
     ensures { IncludeLaw }
 {}
 
-/// The law that the rule of a skipped entry in a report is the last rule that matches the entry, and ignores it.
+/// The law about an entry that a report shows as skipped by a rule. Of the rules that apply in the entry's directory, this rule is the last
+/// that matches the entry. The rule ignores the entry.
 pub fn the_rule_of_a_line_ignores_it()
     ensures { RuleLaw }
 {

@@ -1,5 +1,5 @@
-//! The walk over a directory tree: its workers, what each worker finds, and the report of all. The workers share a board of `lc_board`, on
-//! which each directory has a number: they claim directories from the board, and post child directories to it.
+//! The walk over a directory tree: its workers, what each worker finds, and the report of the whole walk. The workers share a board of
+//! `lc_board`, on which each directory has a number: they claim directories from the board, and post child directories to it.
 //!
 //! - `row`: the row that a worker returns for a directory; `served_job`: what a row keeps of the directory's job; `broken_cause`: why a
 //!   worker stopped work on a directory
@@ -8,7 +8,7 @@
 //! - `worker`, with the modules below it: one worker; `workers`: running all workers at the same time
 //! - `closing`: the end of a walk; `walking`: the whole walk; `walk_fault`: why a walk returns no report
 //! - `options`: the options of a walk
-//! - `laws`: laws of the definitions that the contracts cite
+//! - `laws`: theorems about the definitions that contracts cite
 #![tactic(auto)]
 
 mod broken_cause;

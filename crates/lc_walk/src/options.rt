@@ -28,7 +28,8 @@ pub struct Options<'o> {
     pub lists: ReportLists,
     /// The filters, which decide besides the tree's own rules which entries are skipped.
     pub filters: &'o Filters<'o>,
-    /// If present, the walk notes here which of its attributes the attribute files of the tree name. The notes do not change the report.
+    /// If present, the walk notes in this list which of the list's attributes the attribute files of the tree name. The notes do not change
+    /// the report.
     pub named: Option<&'o NamedAttributes>,
 }
 

@@ -29,7 +29,8 @@ pub struct Report {
     pub totals: Sums,
     /// The number of directories whose listing and rule files were read, the top included.
     pub directories: u64,
-    /// The number of entries of these directories, skipped ones included. With `--only`, only the entries that its paths select count.
+    /// The number of entries of the listed directories, skipped entries included. With `--only`, entries that the paths of `--only` do not
+    /// select are not counted.
     pub entries: u64,
     /// Which optional lists the report has.
     pub lists: ReportLists,

@@ -28,7 +28,8 @@ impl Model for Child {
 pub struct ListedParts {
     /// The directory that was listed.
     pub job: ServedJob,
-    /// The number of entries of the directory, skipped ones included. With `--only`, only the entries that its paths select count.
+    /// The number of entries of the directory, skipped entries included. With `--only`, entries that the paths of `--only` do not select
+    /// are not counted.
     pub entries: u32,
     /// The counted files, in the order of their names, if the report lists them.
     pub files: Vec<FileLine>,
@@ -131,7 +132,8 @@ impl ListedRow {
         }
     }
 
-    /// Returns the number of entries of the directory, skipped ones included. With `--only`, only the entries that its paths select count.
+    /// Returns the number of entries of the directory, skipped entries included. With `--only`, entries that the paths of `--only` do not
+    /// select are not counted.
     pub fn entries(&self) -> u32
         ensures { result ≡ self.now.entries }
     {

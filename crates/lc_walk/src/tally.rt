@@ -80,8 +80,9 @@ impl Tally {
         self.totals
     }
 
-    /// Adds a file with an extension, a text state and a census. Only a key that no earlier file had needs memory, for a row and the
-    /// extension's bytes. If that allocation fails, the tally stays as it was.
+    /// Adds a file with an extension, a text state and a census, which has the file's lines, blank lines, bytes and line ends. The call
+    /// fails only if no earlier file had the file's key, and an allocation for a row or the extension's bytes fails. After a failure the
+    /// tally is as it was.
     pub fn add(
         &mut self,
         ext: Option<&[u8]>,
@@ -139,8 +140,9 @@ impl Tally {
         rows.into_sorted()
     }
 
-    /// Adds the sums of some files that have one key. It fails if an allocation fails, and for sums that the files of no walk have. These
-    /// are more than 2^63 files in the tally, or an average of more than 2^64 - 1 lines, blank lines or bytes for each added file.
+    /// Adds the sums of some files that have one key. The call fails if an allocation fails, or if the tally would have more than 2^63
+    /// files. It also fails if the added files have on average more than 2^64 - 1 lines, blank lines or bytes. No walk finds so many files
+    /// or such large sums.
     pub fn add_sums(&mut self, key: &KeyRef<'_>, more: Sums) -> Result<(), AllocError>
         ensures grows { OnOk result (Grows self.old self.new key.now more) }
         ensures unchanged { OnErr result (self.new ≡ self.old) }

@@ -92,7 +92,7 @@ pub fn walk_on<B: Shared<Job, Row>, T: Tree, R: Threads + Wait + Sync>(
     walk_by::<B, T, R>(rt, alloc, tree, options, 1)
 }
 
-/// Walks a tree with up to `options.threads` threads. The report is the one that a recursive walk makes from some answers that the tree may
+/// Walks a tree with up to `options.threads` threads. The report is the report of a recursive walk over some answers that the tree may
 /// give: listings, metadata and file contents.
 ///
 /// ```

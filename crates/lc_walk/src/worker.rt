@@ -44,7 +44,7 @@ pub struct WorkerResult<P> {
     pub tally: Option<Tally>,
 }
 
-/// A worker of a walk. It claims directories from the board, and lists and counts each.
+/// A worker of a walk. It claims directories from the board, lists each directory, and counts the directory's files.
 ///
 /// ```
 /// let options = Options::new(1, 65_536, &filters);
@@ -65,8 +65,8 @@ pub struct Worker<'w, 'o, B, T, W> {
 }
 
 impl<'w, 'o, B, T, W> Worker<'w, 'o, B, T, W> {
-    /// Makes a worker. `idle` is the count of idle workers, which all workers share, and already counts this worker. Idle workers help
-    /// another one with a large directory.
+    /// Makes a worker. All workers share `idle`, the count of idle workers, which already counts this worker as idle. Idle workers help a
+    /// worker that has a large directory.
     pub fn new(
         rt: &'w W,
         alloc: Global,

@@ -20,8 +20,8 @@ pub fn row_of(ended: &Ended<Row>) -> &Row
     }
 }
 
-/// Appends the lines that were found in a directory. Their paths are relative to the directory; those of the appended lines are relative to
-/// the top.
+/// Appends the lines that were found in a directory. The found lines have paths relative to the directory, and the appended lines have
+/// paths relative to the top.
 fn push_below<L: Line + Drop>(
     alloc: Global,
     directory: &[u8],

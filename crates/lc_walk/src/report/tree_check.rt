@@ -155,8 +155,9 @@ fn link_all(alloc: Global, rows: &[Ended<Row>]) -> Result<Vec<bool>, TreeFault>
     Ok(linked)
 }
 
-/// Checks that the rows make a tree. The top's path must be empty. Each other directory must be the child of exactly one directory, which
-/// has a lower number and the parent path. The error `Torn` has the number of a directory for which this is false.
+/// Checks that the rows make a tree: the top's path is empty, and each other directory is the child of exactly one directory, which has a
+/// lower number and the parent path. If the rows make no tree, the error `Torn` has the number of a directory that does not meet these
+/// conditions.
 pub fn check_tree(alloc: Global, rows: &[Ended<Row>]) -> Result<(), TreeFault>
     requires few { length rows.now ≤ 2 ^ 32 }
     ensures placed { IfOk result (λ _. (k : ℕ) → IsPlaced rows.now k) }
