@@ -1,5 +1,5 @@
-//! Worked cases of extensions, tallies and walks, which also show that each call can succeed. The modules `walked`, `told` and `drawn` have
-//! what the others share: running walks, reports as text, and trees made from a seed.
+//! Worked cases of extensions, tallies and walks. They also show that each call can succeed. The other modules share the modules `walked`
+//! for running walks, `told` for reports as text, and `drawn` for trees made from a seed.
 
 mod drawn;
 mod failures;

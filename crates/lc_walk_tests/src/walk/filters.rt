@@ -1,4 +1,4 @@
-//! Tests of the filters of a walk: the command line's patterns, unread ignore files, values of attributes, and included files.
+//! Tests of the filters of a walk: the command line's patterns, walks that read no ignore files, values of attributes, and included files.
 
 use crate::walk::walked::{Part, check_parts};
 use std::test::Fail;

@@ -1,4 +1,4 @@
-//! Tests of the rows that a single worker returns, over both shared boards.
+//! Tests of the rows that a single worker returns, on both types of board that workers can share: `Words` and `Locked`.
 ghost use Rattle.std.specs.Prelude.{◌≡◌, None, IfOk, OnOk};
 ghost use Rattle.lc_board.specs.Pass.{holding, new_pass};
 

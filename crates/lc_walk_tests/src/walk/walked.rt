@@ -1,4 +1,4 @@
-//! Walks of in-memory trees, over both shared boards, with 1, 2 and 16 workers.
+//! Walks of in-memory trees with 1, 2 and 16 workers, on both types of board that workers can share: `Words` and `Locked`.
 ghost use Rattle.lc_walk.specs.WalkOptions.{AreWithinLimits};
 
 use crate::walk::told::report_text;
