@@ -10,13 +10,13 @@ use lc_sheet::Number;
 use lc_walk::Sums;
 use std::marker::Model;
 
-/// A row of a comparison: the sums of both reports over the files that have the same values in the table's columns. A report without such
-/// files has sums of zero.
+/// A row of a comparison: the sums of both reports over the files with one key. The key is the values of these files in the columns that
+/// rows are grouped by. If a report has no file with this key, its sums are zero.
 #[derive(Drop)]
 pub struct ChangedRow<'a> {
-    /// The row of the new report.
+    /// The key, and the sums of the new report over the files with this key.
     pub new_row: ShownRow<'a>,
-    /// The sums of the old report over the files with the same values.
+    /// The sums of the old report over the files with this key.
     pub old_sums: Sums,
 }
 

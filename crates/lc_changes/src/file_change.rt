@@ -10,7 +10,7 @@ use lc_sheet::Number;
 use lc_walk::FileLine;
 use std::marker::Model;
 
-/// A file of a comparison: the files that the two reports have at the same path.
+/// A file of a comparison: what the two reports have at one path.
 #[derive(Drop)]
 pub struct FileChange<'a> {
     /// The old report's file at the path, or `None` if the report has no file there.
@@ -39,7 +39,7 @@ fn are_same_counts(a: &FileLine, b: &FileLine) -> bool
         && a.count.bytes == b.count.bytes
 }
 
-/// Returns a number of a file, or 0 if there is no file.
+/// Returns a number of a file in one report, or 0 if the report lacks the file.
 pub(crate) fn side_number(number: Number, file: Option<&FileLine>) -> u128
     ensures { result ≡ side_number number (option_map (λ f. f.now) file.entry) }
 {

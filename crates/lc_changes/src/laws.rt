@@ -7,14 +7,14 @@ pub fn a_report_does_not_differ_from_itself()
     ensures { SelfLaw }
 {}
 
-/// The law that a row of a comparison has the sums that the tables of both reports show for its key, and that each row of these tables is
-/// in a row of the comparison. So all rows together add up to the same sums as both tables.
+/// The law that each row of a comparison has, for its key, the sums that the tables of both reports show. Each key of one of these tables
+/// has a row in the comparison. Over all rows, the sums of each report add up to the sums over the rows of this report's table.
 pub fn rows_of_a_comparison_are_those_of_tables()
     ensures { TablesLaw }
 {}
 
-/// The law that each shown change is from the number of the old report to the number of the new report, in each line of rows, of sums and
-/// of files. If a report lacks a file, the numbers of the file in that report are 0.
+/// The law that each shown change is the difference from the old report's number to the new report's number. This holds in each line,
+/// whether the line shows a row, sums or a file. If a report lacks a file, the file's numbers in that report are 0.
 pub fn old_numbers_and_changes_add_up_to_new_ones()
     ensures { DifferencesLaw }
 {}

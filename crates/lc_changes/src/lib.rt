@@ -1,7 +1,7 @@
 //! The changes from one report to another: the rows and the files in which they differ, and what is shown of them.
 //!
 //! - `options`: the options of a comparison
-//! - `pairs`: a step through two sorted lists side by side
+//! - `pairs`: stepping through two sorted lists side by side
 //! - `changed_row`: a row with the sums of both reports; `rows`: the rows of two reports side by side
 //! - `file_change`: a file in two reports; `files`: the files of two reports side by side; `file_refs`: the files of one report, by their
 //!   paths

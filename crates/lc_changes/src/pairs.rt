@@ -1,4 +1,4 @@
-//! A step through two sorted lists side by side.
+//! Stepping through two sorted lists side by side: what is left of each list after a step.
 
 ghost use Rattle.std.specs.Prelude.{◌≡◌};
 ghost use Rattle.lc_changes.specs.Pairs.{left_of};

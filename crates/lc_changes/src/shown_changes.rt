@@ -118,8 +118,8 @@ fn cut_files(top: Option<u32>, files: &mut Vec<FileChange<'_>>)
 }
 
 impl<'a> ShownChanges<'a> {
-    /// Compares two reports. Sums the rows of both, drops the rows in which no number changed unless all are shown, sorts and cuts the
-    /// rows, and lists the files that differ if these are listed.
+    /// Compares two reports. Adds up the rows of both reports, and drops the rows in which no number changed, unless `options.all` is true.
+    /// If `options.files` is true, finds the files that differ. Sorts and cuts the rows and the files.
     ///
     /// Rows by directory, and the list of files, are made of the files, which both reports must have. An error means that an allocation
     /// failed or that sums overflow. The sums of a walk's rows never overflow. The time is that of sorting rows and files. Each row of both

@@ -1,4 +1,4 @@
-//! The lines of sums of a comparison's sheet, and their values in its columns.
+//! The lines that show sums in a comparison's sheet, such as the total, and their values in the sheet's columns.
 
 ghost use Rattle.std.specs.Prelude.{◌≡◌};
 ghost use Rattle.lc_changes.specs.ChangeValues.{changed_sums_value};
