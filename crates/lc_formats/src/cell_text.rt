@@ -1,4 +1,4 @@
-//! The texts of values in formats for reading.
+//! The texts of values in human-readable formats.
 
 ghost use Rattle.std.specs.Prelude.{◌≡◌, ◌++◌, IfOk, OnOk, string_bytes};
 ghost use Rattle.lc_formats.specs.Cells.{shown_text};

@@ -126,8 +126,8 @@ fn push_section<L: Lines>(
     push_lines::<L>(text, fields, form, columns, lines)
 }
 
-/// Appends the records of one section: of the files if the sheet lists files, otherwise of the skipped entries if the sheet counts entries,
-/// and otherwise of the rows.
+/// Appends the records of one section: of the files if the sheet lists files, otherwise of the skipped entries if the sheet has the number
+/// of entries, and otherwise of the rows.
 fn push_records<R: Lines, T: Lines, F: Lines, S: Lines, E: Lines>(
     text: &mut CsvText,
     fields: &mut Fields,
@@ -146,8 +146,8 @@ fn push_records<R: Lines, T: Lines, F: Lines, S: Lines, E: Lines>(
 
 /// Makes the text of a sheet as CSV (RFC 4180): records of one kind below their headings.
 ///
-/// A record is for a file if the sheet lists files, otherwise for a skipped entry if the sheet counts entries, and otherwise for a row.
-/// Bytes stay as they are. A field that needs quotes has them.
+/// Each record is a file if the sheet lists files. Otherwise each record is a skipped entry if the sheet has the number of entries, and a
+/// row if the sheet lacks this number. Bytes stay as they are. A field that needs quotes has them.
 pub fn csv_text<R: Lines, T: Lines, F: Lines, S: Lines, E: Lines>(
     alloc: Global,
     sheet: &Sheet<'_, R, T, F, S, E>,

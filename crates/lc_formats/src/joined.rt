@@ -1,4 +1,4 @@
-//! Names as bytes, for formats that programs read.
+//! Joining the bytes of a name with what is printed before and after them, in formats that programs read.
 
 ghost use Rattle.std.specs.Prelude.{◌≡◌, ◌++◌, IsTrue, OnOk};
 ghost use Rattle.lc_text.specs.Names.{line_end, name_model, named};

@@ -5,8 +5,8 @@
 //! - `csv_sheet`: CSV, which `csv_records` writes record by record
 //! - `json_sheet` and `json_comparison`: JSON, with `json_values` and `json_writer`
 //! - `markdown`: Markdown, with `markdown_line` and `markdown_escape`
-//! - `table`: columns for reading, with `section_lines` and `widths`
-//! - `joined`: names as bytes, with what is before and after them, for CSV and JSON
+//! - `table`: human-readable columns, with `section_lines` and `widths`
+//! - `joined`: joining the bytes of a name with what is printed before and after them, in CSV and JSON
 //! - `cells`: the cells of a line; `cell_text`, `numbers`, `shares`: the texts in them
 //! - `csv_laws`, `markdown_laws`, `table_laws`: what is true of the definitions that the contracts cite
 #![tactic(auto)]

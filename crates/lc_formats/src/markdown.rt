@@ -144,7 +144,7 @@ fn push_counts(
 /// Makes the text of a sheet as Markdown.
 ///
 /// Lists of files and of skipped entries come first. Then come the rows with their sums in bold, the number of directories, and last what
-/// could not be read. Names are escaped like [`push_visible`](lc_text::push_visible) does.
+/// could not be read. Names are escaped as by [`push_visible`](lc_text::push_visible).
 pub fn markdown_text<R: Lines, T: Lines, F: Lines, S: Lines, E: Lines>(
     alloc: Global,
     sheet: &Sheet<'_, R, T, F, S, E>,
@@ -165,7 +165,7 @@ pub fn markdown_text<R: Lines, T: Lines, F: Lines, S: Lines, E: Lines>(
 
 /// Makes the text of a comparison as Markdown.
 ///
-/// A list of files comes first, then the rows with their sums in bold. Names are escaped like [`push_visible`](lc_text::push_visible) does.
+/// A list of files comes first, then the rows with their sums in bold. Names are escaped as by [`push_visible`](lc_text::push_visible).
 pub fn markdown_changes<R: Lines, T: Lines, F: Lines>(
     alloc: Global,
     sheet: &ComparisonSheet<'_, R, T, F>,

@@ -2,8 +2,8 @@
 
 ghost use Rattle.lc_formats.specs.MarkdownLaws.{BlankLaw, EscapedLaw, LinkLaw, UnescapedLaw};
 
-/// The law of names in Markdown: each markup byte is escaped, no address becomes a link, no blank at an end is dropped, and what a reader
-/// of the Markdown sees is the name.
+/// The law of names in a Markdown table: each markup byte is escaped, and no address becomes a link. No blank at the beginning or the end
+/// of a name is dropped. A reader of the Markdown sees the name itself.
 pub fn markdown_has_no_markup_of_names()
     ensures reads_back { UnescapedLaw }
     ensures escaped { EscapedLaw }

@@ -1,4 +1,4 @@
-//! Numbers in digits, for programs and for reading.
+//! Numbers in digits: plain for programs, and with commas for people.
 
 ghost use Rattle.std.specs.Prelude.{◌≡◌, ◌++◌, IsAscii, OnOk, decimal, string_bytes};
 ghost use Rattle.lc_formats.specs.CellWords.{change_word, comma, sign, with_commas};

@@ -1,4 +1,4 @@
-//! The lines of a section as text in columns, for reading.
+//! The lines of a section as text in human-readable columns.
 
 ghost use Rattle.std.specs.Prelude.{◌≡◌, ◌∷◌, ◌++◌, ◌==◌, length, OnOk, string_bytes};
 ghost use Rattle.lc_formats.specs.Cells.{heading_cells, section_cells};

@@ -1,4 +1,4 @@
-//! The text of a sheet in columns, for reading.
+//! The text of a sheet in human-readable columns.
 
 ghost use Rattle.std.specs.Prelude.{◌≡◌, ◌++◌, [], ◌∷◌, IfOk, OnOk, string_bytes};
 ghost use Rattle.lc_formats.specs.Cells.{cells_of};
@@ -142,10 +142,10 @@ fn push_files<F: Lines>(
     }
 }
 
-/// Makes the text of a sheet in columns, for reading.
+/// Makes the text of a sheet in human-readable columns.
 ///
-/// Lists come first, and the rows with their sums last, so that a terminal shows them. Paths are escaped like
-/// [`push_visible`](lc_text::push_visible) does.
+/// The lists of files, of skipped entries and of errors come first. The rows with their sums come last, because a terminal shows the end of
+/// a long text. Paths are escaped as by [`push_visible`](lc_text::push_visible).
 pub fn table_text<R: Lines, T: Lines, F: Lines, S: Lines, E: Lines>(
     alloc: Global,
     sheet: &Sheet<'_, R, T, F, S, E>,
@@ -177,10 +177,10 @@ pub fn table_text<R: Lines, T: Lines, F: Lines, S: Lines, E: Lines>(
     Ok(text.into_bytes())
 }
 
-/// Makes the text of a comparison in columns, for reading.
+/// Makes the text of a comparison in human-readable columns.
 ///
-/// The files come first, and the rows with their sums last, so that a terminal shows them. Paths are escaped like
-/// [`push_visible`](lc_text::push_visible) does.
+/// The list of files comes first. The rows with their sums come last, because a terminal shows the end of a long text. Paths are escaped as
+/// by [`push_visible`](lc_text::push_visible).
 pub fn table_changes<R: Lines, T: Lines, F: Lines>(
     alloc: Global,
     sheet: &ComparisonSheet<'_, R, T, F>,

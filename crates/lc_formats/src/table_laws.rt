@@ -1,29 +1,34 @@
-//! Laws of texts in columns, for reading. The functions do nothing: their contracts are what is proved.
+//! Laws of texts in human-readable columns. The functions do nothing: their contracts are what is proved.
 
 ghost use Rattle.lc_formats.specs.ChangeLaws.{ChangeLaw, ComparisonEndsLaw, ComparisonWidthLaw, NoChangeLaw};
 ghost use Rattle.lc_formats.specs.CommaLaws.{CommasLaw};
 ghost use Rattle.lc_formats.specs.ShareLaws.{BarLengthLaw, NearestLaw, PartsLaw, WholeLaw};
 ghost use Rattle.lc_formats.specs.WidthLaws.{CountsWidthLaw, LineEndsLaw, ListingWidthLaw, SummaryWidthLaw};
 
-/// The law that in a text for reading, the digits of a number without the commas have the value of the number.
+/// The law of a number below 2^128 that is printed with commas, such as `41,203`. If the commas are removed, the digits have the value of
+/// the number.
 pub fn numbers_with_commas_read_back()
     ensures { CommasLaw }
 {}
 
-/// The law that in a text for reading, the lines of one table or list are padded to one width, and printed without the blanks at their
-/// ends. In a list whose last column is not padded, what is before this column is equally wide in all lines.
+/// The law of the widths of lines in the text of a readable sheet: its words are printable, and its rows and sums have the same columns.
+/// The lines of the table are padded to one width, and so are the lines with the numbers of directories and of entries. The text has these
+/// lines without the blanks at their ends. In a list whose last column is not padded, the part of a line before this column has the same
+/// width in all lines.
 pub fn lines_of_a_part_are_as_wide()
     ensures summary { SummaryWidthLaw }
     ensures counts { CountsWidthLaw }
     ensures listing { ListingWidthLaw }
 {}
 
-/// The law that in a text for reading, no line ends with a blank, unless the last value of a line in a list does.
+/// The law that no line ends with a blank in the text of a readable sheet, as in [`lines_of_a_part_are_as_wide`]. The law requires that in
+/// each list, no line has a last value that is empty or ends with a blank.
 pub fn lines_end_without_blanks()
     ensures { LineEndsLaw }
 {}
 
-/// The law that shares are rounded half up, that the whole has 100.0 per cent, and that no part has more.
+/// The law of shares in a whole above 0: they are rounded half up, the share of the whole is 100.0 per cent, and no part has a larger
+/// share.
 pub fn shares_are_of_the_whole()
     ensures nearest { NearestLaw }
     ensures whole { WholeLaw }
@@ -35,15 +40,15 @@ pub fn bars_are_as_long_as_their_cells()
     ensures { BarLengthLaw }
 {}
 
-/// The law that in a text for reading, an old number and its change add up to the new number, and that an unchanged number has a zero as
+/// The law that in a human-readable text, an old number and its change add up to the new number, and that an unchanged number has a zero as
 /// its change.
 pub fn changes_add_up_to_new_numbers()
     ensures change { ChangeLaw }
     ensures none { NoChangeLaw }
 {}
 
-/// The law that in a comparison for reading, rows and sums are padded to one width. No line ends with a blank, unless the path of a file
-/// does.
+/// The law of the lines of a comparison with printable words, whose rows and sums have the same columns. The rows and sums are padded to
+/// one width. No line ends with a blank if, in the list of files, no line has a last value that is empty or ends with a blank.
 pub fn lines_of_comparisons_are_as_wide()
     ensures summary { ComparisonWidthLaw }
     ensures ends { ComparisonEndsLaw }

@@ -1,4 +1,4 @@
-//! Tables that show their first rows and files, and files that are sorted.
+//! Tables that show only their first rows and files, and tables whose files are sorted.
 
 use crate::table::asking::{HEADER, TSV};
 use crate::table::tables::{Case, NONE, compare_all};

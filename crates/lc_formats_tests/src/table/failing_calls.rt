@@ -1,5 +1,5 @@
-//! The tables of runs with one worker in which one call of the tree fails: each call fails in one of the runs. Also the tables of runs over
-//! a tree with a file whose reads fail.
+//! The tables of runs with one worker over a tree in which one call fails, such as a listing or a read. Each call fails in one of the runs.
+//! Also the tables of runs over a tree with a file whose reads fail.
 
 use crate::table::asking::{Case, compare, compare_all};
 use crate::table::runs::{BUILD, FIRST_CASE, IGNORE, KEPT, LOG, RULES, SRC};
@@ -20,7 +20,7 @@ const LOG_UNCOUNTED: &[u8] =
 const C_UNCOUNTED: &[u8] =
     b"-\t-\tlf\t1\t3\t0\t24\n.log\t-\tlf\t1\t1\t0\t2\ntotal\t*\t*\t2\t4\t0\t26\ndirectories\t3\nfault\tread\tsrc/build/y.c\n";
 
-/// Calls of the tree that serve one purpose: the number of the first call, the number after the last call, a name, and the lines of the
+/// Calls to the tree that serve one purpose: the number of the first call, the number after the last call, a name, and the lines of the
 /// table if one of these calls fails.
 type Step = (u64, u64, &'static str, &'static [u8]);
 

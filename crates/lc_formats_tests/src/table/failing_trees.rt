@@ -1,4 +1,4 @@
-//! Runs over a tree of which one call fails. Each call of the tree fails in one of the runs.
+//! Runs over a tree in which one call fails, such as a listing or a read. Each call fails in one of the runs.
 
 ghost use Rattle.std.specs.Prelude.{◌≤◌};
 

@@ -1,4 +1,4 @@
-//! Tables for reading, as a terminal shows them.
+//! Human-readable tables, as a terminal shows them.
 
 use crate::table::asking::TSV;
 use crate::table::tables::{Case, NONE, compare_all};
