@@ -53,8 +53,8 @@ pub fn check<S: Source, O: Sink>(
 /// highest ignored directory above the path. If no rule decides, the second field and the third are dashes. Name, text and path are printed
 /// in the style of `format`.
 ///
-/// The text is written in blocks while it is made ([`Block`](lc_text::Block)). After an error of the input nothing was written, and after
-/// any other error a prefix of the text.
+/// The text is written in blocks while it is made ([`Block`](lc_text::Block)). After an error of the input, nothing was written. After any
+/// other error, a prefix of the text was written.
 pub fn check_explained<S: Source, O: Sink>(
     alloc: Global,
     name: &[u8],

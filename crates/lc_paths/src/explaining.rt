@@ -29,21 +29,22 @@ use printing::print_paths;
 pub use stack_cache::MAX_KEPT;
 use std::alloc::Global;
 
-/// Reads paths to the end of the input, at most [`MAX_INPUT`](lc_text::MAX_INPUT) bytes, and writes which rule of a tree decides each.
+/// Reads paths to the end of the input, at most [`MAX_INPUT`](lc_text::MAX_INPUT) bytes, and writes which rule of a tree decides each path.
 ///
 /// A line of the output has four fields, separated by tabs: a word, the source of the rule, its pattern, and the path as it was read. Paths
 /// and patterns are printed in the style of the options. `./` at the beginning of a path is ignored. `.` alone is the tree's top directory,
-/// which no rule decides: its word is `none`. A path that ends with one slash is a directory. For any other path the tree shows the kind,
-/// and a path that does not exist counts as a file. The word is the first of these that holds, from the top directory down to the path:
+/// which no rule decides: its word is `none`. A path that ends with one slash counts as a directory. Any other path is what the entry at
+/// the path is, or a file if there is no such entry. The word is the first of these that holds, from the top directory down to the path:
 ///
 /// - `bad`: no entry of a tree can have this path, or it has over 4,096 bytes;
 /// - `fault`: a directory above the path could not be listed, or a rule file could not be read. The next fields are the word of the error,
 ///   a dash and the path that could not be read;
 /// - `below`: a rule ignores a directory above the path; the line names the rule of the highest such directory;
-/// - `ignored`, `included`, `none`: the last rule that matches the path, or that no rule matches;
-/// - `left`: a walk skips the path, or a directory above it, for a reason that is no rule. What is skipped is named `.git` (`git`),
-///   whatever the rules are; or an attribute has a state for it (`attribute:WORD`); or it is a file that no pattern includes (`include`);
-///   or it is neither a file nor a directory (`other`).
+/// - `ignored`: the last rule that matches the path ignores it;
+/// - `left`: a walk skips the path, or a directory above it, for a reason that is no rule. The second field is this reason: `git` for the
+///   name `.git`, whatever the rules are; `attribute:WORD` if an attribute has the state that WORD requires; `include` for a file that no
+///   pattern includes; `other` for what is neither a file nor a directory; `filesystem` for a directory on another file system;
+/// - `included`, `none`: the last rule that matches the path includes it again, or no rule matches.
 ///
 /// The source of a rule is its file and the number of its line, such as `src/.gitignore:3`, or `--exclude:N` for the Nth pattern of the
 /// command line. The pattern is the text of that line.

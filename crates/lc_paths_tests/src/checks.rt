@@ -1,4 +1,4 @@
-//! Tests of checks, for what no contract states: worked cases, that calls succeed where there is memory, and streams that misbehave.
+//! Tests of checks, for what no contract states: worked cases, calls that succeed if no allocation fails, and streams that misbehave.
 
 mod blocks;
 mod explained;

@@ -1,4 +1,4 @@
-//! Tests of explanations, for what no contract states: worked cases, that calls succeed where there is memory, and trees and streams that
+//! Tests of explanations, for what no contract states: worked cases, calls that succeed if no allocation fails, and trees and streams that
 //! fail.
 
 mod asking;

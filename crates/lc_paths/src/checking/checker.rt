@@ -1,6 +1,6 @@
 //! Matching one path after another with the rules of a file.
 //!
-//! Paths come in runs that share their directories, so the rules are matched with these directories once for a run.
+//! Paths often come in runs that have the same directories above them. The rules are matched with these directories once for each run.
 
 ghost use Rattle.std.specs.Prelude.{◌≡◌, ℕ, ◌<◌, ◌≤◌, length, take, option_map, false, IfSome, MatchOption};
 ghost use Rattle.lc_paths.specs.Checks.CheckText.{file_verdict, is_ignored, is_ignored_parent, IsClearTo, path_word};
@@ -14,12 +14,12 @@ use lc_rules::{DirectoriesAbove, IgnoreFile, Rule, Verdict};
 use lc_text::is_bad_path;
 use memchr::memchr;
 
-/// The most names of a path for which the directories above it are matched one by one, even if a pattern has nested wildcards. Names that
-/// are known from the previous path are not counted.
+/// If a path has at most this many names, the directories above the path are matched one by one, even if a pattern has nested wildcards.
+/// Names that are known from the previous path are not counted.
 const FEW_NAMES: usize = 2;
 
-/// The most names of a path for which the directories above it are matched one by one, if no pattern has nested wildcards. With more names,
-/// most rules match all directories together sooner than one after another.
+/// If a path has at most this many names and no pattern has nested wildcards, the directories above the path are matched one by one. With
+/// more names, most rules match all directories together sooner than one after another.
 const SOME_NAMES: usize = 8;
 
 /// Returns the number of bytes that two paths share at their beginning.
@@ -101,7 +101,7 @@ pub(crate) struct Checker<'a> {
     rules: &'a IgnoreFile,
     directory: &'a [u8],
     excluded_by: Option<&'a Rule>,
-    /// The most names of a path for which the directories above it are matched one by one: `FEW_NAMES` or `SOME_NAMES`.
+    /// `FEW_NAMES` or `SOME_NAMES`: if a path has at most this many names, the directories above the path are matched one by one.
     few_names: usize,
     // no directory above this one is ignored, and the rule is the one that ignores this one
     ghost clear: { (k : ℕ) → k < length directory.now → is_ignored_parent (file_verdict rules.now) directory.now k ≡ false },

@@ -35,7 +35,8 @@ fn push_checked<'a>(
 ///
 /// - `bad`: no entry of a tree can have this path, or it has over 4,096 bytes;
 /// - `below`: some directory above the path is ignored, so that nothing can include it again (gitignore(5), PATTERN FORMAT);
-/// - `ignored`, `included` or `none`: what the last rule that matches the path says, or that no rule matches.
+/// - `ignored` or `included`: the last rule that matches the path ignores it, or includes it again;
+/// - `none`: no rule matches the path.
 pub fn check_text(
     alloc: Global,
     rules: &IgnoreFile,

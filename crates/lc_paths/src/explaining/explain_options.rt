@@ -11,8 +11,8 @@ use lc_text::PathStyle;
 /// ```
 #[derive(Drop)]
 pub struct ExplainOptions<'o> {
-    /// Which entries a walk skips, besides what the tree's own rules say. Every path may be explained: the paths of `--only` have no
-    /// effect.
+    /// What decides, besides the tree's own rules, which entries a walk skips. The paths of `--only` have no effect here: a path outside of
+    /// them is explained like any other.
     pub filters: &'o Filters<'o>,
     /// How paths and patterns are printed.
     pub style: PathStyle,

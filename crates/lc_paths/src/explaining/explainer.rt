@@ -70,7 +70,7 @@ fn place_before<'p>(path: &'p [u8], others: &[u8]) -> &'p [u8]
 enum Step<'p> {
     /// The path is explained.
     Found(Finding<'p>),
-    /// The next step is in a directory: its job, its path, and the rest of the path below that directory.
+    /// The next step is in a child directory: the job to visit this directory, its path, and the rest of the explained path below it.
     Into(Job, &'p [u8], &'p [u8]),
 }
 

@@ -1,4 +1,4 @@
-//! Tests with an unreadable directory above a path, and with trees of which one call fails.
+//! Tests with an unreadable directory above a path, and with trees in which one call fails, such as a listing or a read.
 
 use crate::explain::asking::{Case, check, for_a_pipe, plainly};
 use lc_level::Filters;

@@ -1,4 +1,5 @@
-//! Tests with paths that come back to directories. Each directory is listed once, and its rules are read once.
+//! Tests with a path in a directory of an earlier path. While the directory is in the cache, it is not listed again, and its rules are not
+//! read again.
 
 use crate::explain::asking::plainly;
 use lc_paths::MAX_KEPT;
