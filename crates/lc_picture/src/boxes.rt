@@ -20,7 +20,7 @@ use std::alloc::AllocError;
 /// The number of levels of directories whose boxes are open when the page is loaded. The boxes of the next level are folded, but also seen.
 const OPEN_LEVELS: usize = 7;
 
-/// Returns `left` without the number of the box `next` if this box is right in a box of depth `depth`, and `left` itself otherwise.
+/// Returns `left` without the number of the box `next` if this box is directly in a box of depth `depth`, and `left` itself otherwise.
 fn left_after(by: Number, depth: usize, left: u128, next: &DrawnBox<'_>) -> u128
     ensures { result ≡ (if next.now.depth == depth + 1 then left - number_in by next.now.sums else left) }
 {
@@ -31,7 +31,7 @@ fn left_after(by: Number, depth: usize, left: u128, next: &DrawnBox<'_>) -> u128
     }
 }
 
-/// Returns `number` without the numbers `by` of the boxes right in a box of depth `depth`. `after` has the boxes that follow that box,
+/// Returns `number` without the numbers `by` of the boxes directly in a box of depth `depth`. `after` has the boxes that follow that box,
 /// depth first.
 fn left_beside<'a>(by: Number, depth: usize, number: u128, after: &[DrawnBox<'a>]) -> u128
     ensures { result ≡ left_beside by depth number after.now }
@@ -46,8 +46,8 @@ fn left_beside<'a>(by: Number, depth: usize, number: u128, after: &[DrawnBox<'a>
     left
 }
 
-/// Returns the number `by`, such as lines, of the files right in a directory that have no boxes. This is what the directory has besides its
-/// small directories and the boxes right in it. `after` has the boxes that follow the directory's box.
+/// Returns the number `by`, such as lines, of the files directly in a directory that have no boxes. This is what the directory has besides
+/// its small directories and the boxes directly in its own box. `after` has the boxes that follow the directory's box.
 fn others_in<'a>(by: Number, drawn: &DrawnBox<'a>, after: &[DrawnBox<'a>]) -> u128
     ensures { result ≡ others_in by drawn.now after.now }
 {

@@ -1,4 +1,4 @@
-//! The boxes of directories: which directories have one, and its colour.
+//! The boxes of directories: which directories have a box, and the colour of this box.
 
 ghost use Rattle.std.specs.Prelude.{◌≡◌, [], ◌∷◌, ◌++◌, IfOk, OnOk, drop};
 ghost use Rattle.lc_rows.specs.ShownRows.{number_in};
@@ -62,8 +62,8 @@ fn push_drawn<'a>(
     Ok(place)
 }
 
-/// Returns the boxes of the directories whose number `by`, such as lines, is at least `least`. A box also has the sum of the smaller
-/// directories right in its directory.
+/// Returns the boxes of the directories whose number `by`, such as lines, is at least `least`. The box of a directory also has the sum of
+/// the smaller directories directly in this directory.
 ///
 /// The colours of the boxes come from the rows of `kinds`, by directory and extension, which have the directories in the same order.
 pub(crate) fn drawn_boxes<'a>(

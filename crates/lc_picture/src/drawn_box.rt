@@ -21,7 +21,7 @@ pub(crate) struct DrawnBox<'a> {
     pub(crate) colour: usize,
     /// The sums over the files in the directory and below it, or over the file alone.
     pub(crate) sums: Sums,
-    /// How many directories right in this directory are too small for boxes of their own, and the sum of their numbers, such as lines. A
+    /// How many directories directly in this directory are too small for boxes of their own, and the sum of their numbers, such as lines. A
     /// file has none.
     pub(crate) small: SmallDirectories,
     /// Whether the box shows a file.

@@ -99,7 +99,7 @@ pub(crate) fn large_files<'a>(
     Ok(boxes)
 }
 
-/// Appends the boxes of the files that are right in a directory.
+/// Appends the boxes of the files that are directly in a directory.
 fn push_files<'a>(
     boxes: &mut Vec<DrawnBox<'a>>,
     files: &[FileBox<'a>],
@@ -115,7 +115,7 @@ fn push_files<'a>(
     Ok(())
 }
 
-/// Returns the boxes of directories, depth first. After the box of each directory come the boxes of the files right in it.
+/// Returns the boxes of directories, depth first. After the box of each directory come the boxes of the files directly in the directory.
 ///
 /// Each directory is compared with each file that has a box. At most a thousand files have one.
 pub(crate) fn with_files<'a>(

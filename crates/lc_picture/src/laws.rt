@@ -5,24 +5,24 @@ ghost use Rattle.lc_picture.specs.Places.{FallingLaw};
 ghost use Rattle.lc_picture.specs.Laws.{ColoursLaw, DrawnLaw, LargeLaw, NestingLaw, OutlineLaw, ReportLaw, ShownLaw, TagLaw};
 ghost use Rattle.lc_picture.specs.Laws.{UnescapedLaw};
 
-/// The law that a name in the page begins and ends no tag and no attribute. With its character references decoded, it is the name as
-/// terminals show it.
+/// The law that a name in the page neither begins nor ends a tag or an attribute. If the character references in the name are decoded, the
+/// result is the name as terminals show it.
 pub fn names_are_never_markup()
     ensures no_tags { TagLaw }
     ensures reads_back { UnescapedLaw }
 {}
 
-/// The law that a page shows what was counted, the sums over all files, the errors, the rows of its sheet, the sums over the other rows,
-/// and each drawn directory and file with its sums. Each of these is shown once, and no other names or numbers are. In a report the rows
-/// are its extensions. The drawn directories are those with enough lines, or with enough of the number that is requested.
+/// The law of the names and numbers that a page shows. The page shows what was counted, the sums over all files, the number of errors and
+/// the first of them. It shows the rows of the chart, the sums over the other rows, and each drawn directory and file once, with its sums.
+/// The box of a directory also shows the numbers of what has no box there. No other names and numbers are shown. On the page of a report,
+/// each row of the chart is an extension. A directory is drawn exactly if its number, such as lines, is large enough.
 pub fn a_page_shows_each_directory_once()
     ensures shown { ShownLaw }
     ensures report { ReportLaw }
     ensures drawn { DrawnLaw }
 {}
 
-/// The law that each file with enough lines, or with enough of the number that is requested, has a box, if the directory that holds it has
-/// one.
+/// The law that each file whose number, such as lines, is large enough has a box, if the directory that holds the file has a box.
 pub fn large_files_have_boxes()
     ensures { LargeLaw }
 {}
@@ -43,7 +43,7 @@ pub fn a_box_opens_inside_that_of_its_parent()
     ensures { InsideLaw }
 {}
 
-/// The law that the first of two boxes has the larger number, or the same number, if both are right in the same directory.
+/// The law that of two boxes directly in the same box, the first has the larger number, or both have the same number.
 pub fn larger_boxes_come_first()
     ensures { FallingLaw }
 {}

@@ -3,7 +3,7 @@
 //! - `escaping`: texts, escaped for HTML; `style`: the fixed parts of a page
 //! - `boxes`, `drawn_box`: the boxes of directories and files, each inside the box of the directory above it; `directory_box`, `file_box`:
 //!   which directories and files have boxes; `small_directories`, `space`: the directories that are too small for boxes of their own, and
-//!   what a box shows for directories and files that have none
+//!   what a box shows for directories and files without boxes
 //! - `largest_first`, `places`: the order of boxes
 //! - `colours`: the colours of extensions and of directories
 //! - `faults`: the errors at the top of a page

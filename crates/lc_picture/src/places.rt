@@ -1,4 +1,5 @@
-//! The places of directories and files in the picture. Of those right in the same directory, the largest comes first.
+//! The places of directories and files in the picture. Directories and files that are directly in the same directory come in the order of
+//! their numbers, the largest first.
 
 ghost use Rattle.std.specs.Prelude.{◌≡◌};
 ghost use Rattle.std.specs.Cmp.Lexicographic.{slice_cmp};
@@ -10,7 +11,7 @@ use lc_sheet::Number;
 use std::cmp::Ordering;
 use std::marker::Model;
 
-/// The place of a directory or a file among those right in the same directory: largest number first, equal numbers by name.
+/// The place of a directory or a file among those directly in the same directory: largest number first, equal numbers by name.
 #[derive(Drop)]
 pub(crate) struct Place<'a> {
     number: u128,

@@ -1,4 +1,4 @@
-//! Directories that are too small for boxes of their own. One box shows all of them that are right in the same directory.
+//! Directories that are too small for boxes of their own. In each directory, one box shows all its small child directories.
 
 ghost use Rattle.std.specs.Prelude.{◌≡◌, ◌+◌, ◌==◌, ◌&&◌, ℕ, nat_le, nat_lt, if◌then◌else◌, length, IfOk, OnOk, ◌∷◌, List};
 ghost use Rattle.std.specs.Option.{IfSome};
@@ -83,8 +83,8 @@ fn add_to_last(
     Ok(())
 }
 
-/// Returns the small directories right in the directory of `row`. If this directory is small itself, it is added to those right in its
-/// parent.
+/// Returns the small directories directly in the directory of `row`. If this directory is small itself, it is added to the small
+/// directories directly in its parent.
 ///
 /// `pending` has an element for each depth: the small directories after `row` whose parent has that depth and is not after `row`.
 fn next_small(
@@ -105,8 +105,8 @@ fn next_small(
     Ok(small)
 }
 
-/// Returns, for each directory of `rows`, the small directories right in it. The rows are depth first, and are read once, from the last to
-/// the first.
+/// Returns, for each directory of `rows`, the small directories directly in this directory. The rows are depth first, and are read once,
+/// from the last to the first.
 pub(crate) fn smalls_of(
     alloc: Global,
     by: Number,
