@@ -1,4 +1,4 @@
-//! Comparing the sums over parts of a report with its total.
+//! Comparing the sums over the parts of a report, such as its rows, with the report's total.
 
 ghost use Rattle.std.specs.Prelude.{◌≡◌, IfOk, IfSome, IsTrue, map};
 ghost use Rattle.lc_reading.specs.Reports.{nul_part};

@@ -1,4 +1,4 @@
-//! Making a report from its JSON object, which was read.
+//! Making a report from the members that were read from its JSON object.
 
 ghost use Rattle.std.specs.Prelude.{◌≡◌, [], false, IfOk, List, MatchOption, None, Some, option_map};
 ghost use Rattle.lc_reading.specs.Members.{Member};
@@ -106,7 +106,7 @@ fn finished(
     })
 }
 
-/// Makes a report from its object, or returns why the object is no report.
+/// Makes a report from its JSON object, or returns why the object is no report.
 pub(crate) fn report_of(alloc: Global, object: Object<'_>) -> Result<ReadReport, ReadFault>
     ensures { IfOk result (λ report. (ms : List Member) → IsObjectOf ms object.entry → IsReportOf ms report) }
 {

@@ -8,7 +8,7 @@ use std::alloc::{AllocError, AllocFailed};
 use std::fmt;
 use thiserror::Error;
 
-/// Why no reports are read from a text. The error is printed behind the name of the input.
+/// Why no reports are read from a text. The error's message is printed after the name of the input.
 #[derive(Clone, Copy, Debug, Drop, PartialEq, Eq, Error)]
 pub enum ReadFault {
     /// An allocation failed.
@@ -31,7 +31,7 @@ pub enum NoReport {
     /// The text is empty, or has only white space.
     #[error("it is empty")]
     Empty,
-    /// At about this byte there is no JSON object.
+    /// A JSON object is expected at the byte with about this index, but there is none.
     #[error("no JSON object at byte {0}")]
     NoObject(usize),
     /// An object lacks the member with this name.

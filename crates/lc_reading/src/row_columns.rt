@@ -14,7 +14,7 @@ pub struct RowColumns {
 }
 
 impl RowColumns {
-    /// Returns every column.
+    /// Returns the `RowColumns` that have every column.
     pub fn all() -> RowColumns
         ensures { result ≡ record { ext = true; text = true; eol = true } }
     {

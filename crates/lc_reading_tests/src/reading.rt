@@ -1,7 +1,7 @@
 //! Tests of texts of reports: what is read from them, and which are refused.
 //!
 //! - `printed`: reports that are read and printed again
-//! - `other_texts`: reports that are written in other ways, such as with other white space
+//! - `other_texts`: reports whose JSON differs from what `lc` prints, such as in white space
 //! - `refusals`: texts that are no reports; `sums`: reports whose sums do not agree
 
 mod other_texts;

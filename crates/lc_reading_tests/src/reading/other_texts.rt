@@ -1,4 +1,5 @@
-//! Tests of reports that are written in other ways: white space, other orders, members of no meaning, escapes, several reports in one text.
+//! Tests of reports whose JSON differs from what `lc` prints: it has more white space, another order, members that no report has, escapes,
+//! or several reports in one text.
 
 use crate::reading::printed::{BY_EXT, is_printed_as, reports_of};
 use lc_sheet::Columns;
