@@ -24,7 +24,7 @@ fn directory_before(front: &[u8]) -> &[u8]
     }
 }
 
-/// Splits the path of a file into its directory and its name. The directory is the empty path if the file is right in the top directory.
+/// Splits the path of a file into its directory and its name. The directory is the empty path if the file is directly in the top directory.
 pub(crate) fn split_path(path: &[u8]) -> (&[u8], &[u8])
     ensures parent { result.0.now ≡ parent_of path.now }
     ensures name { result.1.now ≡ name_of path.now }
@@ -85,7 +85,7 @@ pub(crate) fn first_names(number: usize, path: &[u8]) -> &[u8]
     }
 }
 
-/// Returns the directory of a file, cut after its first `number` names. It is the empty path if the file is right in the top directory.
+/// Returns the directory of a file, cut after its first `number` names. It is the empty path if the file is directly in the top directory.
 ///
 /// The empty segment, `.` and `..` do not count as names.
 ///
@@ -123,8 +123,8 @@ pub fn level_of(directory: &[u8]) -> usize
     }
 }
 
-/// Returns the part of a directory's path that follows its parent directory: its last name, and the segments
-/// right before it that are no names, such as `..`.
+/// Returns what the path of a directory has after the path of its parent directory: the last segment, and the segments right before it that
+/// are no names, such as `..`.
 ///
 /// ```
 /// assert!(rt; own_part(b"../lib/a") == b"a".as_slice() && own_part(b"../lib") == b"../lib".as_slice());

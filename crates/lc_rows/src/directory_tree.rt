@@ -133,7 +133,7 @@ fn with_rows_above<'a>(
     Ok(all)
 }
 
-/// Adds up the files that are right in each directory, into one row for each key.
+/// Adds up the files that are directly in each directory, into one row for each key.
 fn rows_with_files<'a>(
     alloc: Global,
     files: &'a [FileLine],
@@ -170,8 +170,8 @@ fn sort(rows: &mut Vec<ShownRow<'_>>)
 /// If rows are also grouped by other columns, a directory has a row for each key of the files in it and below it. The value of `by.dir`
 /// makes no difference. An error means that an allocation failed or that sums overflow.
 ///
-/// The function takes 56 bytes of memory for each file. The files of a directory are added up before they are added to the directory above
-/// it, so depth costs something for each directory, but nothing for each file.
+/// The function takes 56 bytes of memory for each file. The files of a directory are first added up in this directory. Only the sums are
+/// added to the directory above. So a deep tree takes more time for each directory, but not for each file.
 pub fn tree_rows<'a>(
     alloc: Global,
     files: &'a [FileLine],

@@ -36,9 +36,10 @@ fn sort(by: Number, files: &mut Vec<FileLine>)
     files.sort_unstable_by(|a, b| compare(by, a, b));
 }
 
-/// Sorts the files of a report in place as a table lists them: by the number, largest first, and files with equal numbers by their paths.
+/// Sorts the files of a report in place, in the order in which a table lists them. Files with a larger number `by`, such as lines, come
+/// first. Files with equal numbers are in the order of their paths.
 ///
-/// Without a number the files keep their order.
+/// If `by` is `None`, the files keep their order.
 pub fn sort_files(by: Option<Number>, files: &mut Vec<FileLine>)
     ensures { AreFilesSorted by files.old.items files.new.items }
 {

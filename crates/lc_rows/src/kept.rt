@@ -164,11 +164,12 @@ fn keep_by_rows(conditions: &[Condition<'_>], report: &mut Report) -> Result<(),
     Ok(())
 }
 
-/// Keeps the part of a report that meets all conditions, in place. The function drops the other files. Then it drops the other rows, or
-/// makes the rows anew from the files that are left.
+/// Keeps the part of a report that meets all conditions, in place. The function drops the files that do not meet the conditions. If a
+/// condition is on a number, such as `lines>1000`, the rows are then made anew from the files that are left. Otherwise the function drops
+/// the rows that do not meet the conditions. The totals are added up anew. If there are no conditions, the whole report is kept.
 ///
 /// Skipped entries, errors and the numbers of directories and entries stay as they are. For a condition on a number, the report must have
-/// its files, and an allocation may fail. Any other error means that the sums are larger than those of any walk.
+/// its files, and an allocation may fail. If no allocation failed, an error means that the sums are larger than those of any walk.
 pub fn keep(
     alloc: Global,
     conditions: &[Condition<'_>],

@@ -21,8 +21,8 @@ pub fn conditions_keep_totals()
 {}
 
 /// The law that the totals with a condition and the totals with its opposite add up to the totals without the condition. Opposites are `=`
-/// and `!=`, or `>` and `<=`. The law is true of the report of a walk. It is also true of any report whose totals are the sums over its
-/// rows or, if the condition is on a number, over its files. For a condition on a number, the walk must list its files.
+/// and `!=`, `<` and `>=`, and `>` and `<=`. The law is true of the report of a walk. It is also true of any report whose totals are the
+/// sums over its rows or, if the condition is on a number, over its files. For a condition on a number, the walk must list its files.
 pub fn opposite_conditions_add_up<T: Tree>(tree: &T)
     ensures any { OppositesLaw }
     ensures walked { WalkedOppositesLaw (T.lists tree.now) (T.gives tree.now) }

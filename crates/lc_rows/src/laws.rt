@@ -3,7 +3,7 @@
 ghost use Rattle.lc_rows.specs.Laws.{ChildrenLaw, ClassesLaw, CutTotalsLaw, DirectoriesLaw, FirstFilesLaw, NamesLaw, OneRowLaw};
 ghost use Rattle.lc_rows.specs.Laws.{PermutationLaw, SortedFilesLaw, TotalsLaw, TreeLaw, WholeLaw};
 
-/// The law that the sorted rows of a table are the summed rows, each once.
+/// The law that sorting the rows of a table changes only their order: the sorted rows are the summed rows, each once.
 pub fn shown_rows_are_the_summed_ones()
     ensures { PermutationLaw }
 {}
@@ -14,7 +14,7 @@ pub fn shown_rows_keep_the_totals()
     ensures { TotalsLaw }
 {}
 
-/// The law that, in a table with all columns, adding up rows that are in the order of their keys changes no row.
+/// The law that adding up rows by all columns changes no row, if the rows are in the order of their keys and no two rows have the same key.
 pub fn whole_keys_add_up_to_themselves()
     ensures { WholeLaw }
 {}
@@ -36,13 +36,13 @@ pub fn directories_of_names_are_their_first_segments()
     ensures { NamesLaw }
 {}
 
-/// The law that, for each directory and key, the rows of a tree have the sums over the files with that key in the directory and below it.
-/// So a file counts once in each directory above it.
+/// The law that, for each key and each directory no deeper than the cut, the rows of a tree have the sums over the files with that key in
+/// the directory and below it. So a file counts once in each directory above it.
 pub fn rows_of_a_tree_are_the_sums_of_what_is_below()
     ensures { TreeLaw }
 {}
 
-/// The law that, for each directory and key, a row of a tree is the sum of the files right in the directory and of the rows of its child
+/// The law that, for each directory and key, a row of a tree is the sum of the files directly in the directory and of the rows of its child
 /// directories.
 pub fn a_directory_is_its_files_and_its_children()
     ensures { ChildrenLaw }

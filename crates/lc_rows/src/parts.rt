@@ -18,11 +18,11 @@ use std::marker::Model;
 /// Where the sums of a part are stored.
 #[derive(Clone, Copy)]
 pub(crate) enum Source<'s> {
-    /// In the counts of a file.
+    /// The part is this file, and its sums are the file's counts.
     File(&'s FileLine),
-    /// In a row of the report.
+    /// The part is this row of the report, and its sums are the row's sums.
     Row(&'s TallyRow),
-    /// In the sums of a row of a table.
+    /// The part is a row of a table, and these are the row's sums.
     Shown(&'s Sums),
 }
 

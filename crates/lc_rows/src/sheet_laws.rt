@@ -5,25 +5,27 @@ ghost use Rattle.lc_rows.specs.SheetLaws.{WalkedSheetLaw};
 
 use lc_tree::Tree;
 
-/// The law that the shown rows, and the sums over the rows that are cut off, add up to the total in each column of numbers.
+/// The law that the shown rows, and the sums over the rows that are cut off, add up to the total in each column of numbers. The law
+/// requires that the report's totals are the sums over its rows, or over its files if rows are by directory.
 pub fn rows_of_a_sheet_add_up()
     ensures { SheetTotalsLaw }
 {}
 
-/// The law that text and binary files add up to the total in each column of numbers.
+/// The law that text and binary files add up to the total in each column of numbers, if their sums add up to the report's totals.
 pub fn classes_of_a_sheet_add_up()
     ensures { SheetClassesLaw }
 {}
 
-/// The law that no line of rows or of sums has a share larger than the total, or a bar longer than the bar of the largest number.
+/// The law that no line of rows or of sums has a share larger than the total, or a bar longer than the bar of the largest number. The law
+/// requires of the report's totals what [`rows_of_a_sheet_add_up`] and [`classes_of_a_sheet_add_up`] require.
 pub fn no_line_of_a_sheet_is_over_its_whole()
     ensures rows { SheetPartsLaw }
     ensures totals { ClassPartsLaw }
 {}
 
-/// The law that three other laws are true of each sheet of a walk's report. The rows and the sums over the rows that are cut off add up to
-/// the total, text and binary files do too, and no share or bar is over its whole. The law is also true of the part of a walk's report that
-/// meets conditions. For rows by directory, the walk must list its files.
+/// The law about each sheet of a walk's report, or of the part of a walk's report that meets conditions. The shown rows, and the sums over
+/// the rows that are cut off, add up to the total. The sums over text files and over binary files add up to the total. No share and no bar
+/// is over its whole. For rows by directory, the walk must list its files.
 pub fn sheets_of_walks_add_up<T: Tree>(tree: &T)
     ensures { WalkedSheetLaw (T.lists tree.now) (T.gives tree.now) }
 {

@@ -52,7 +52,7 @@ pub fn added_rows<'a>(
     Ok(added)
 }
 
-/// Returns the number that `by` names in some sums, such as the number of lines.
+/// Returns the number in `sums` that `by` names, such as the number of lines.
 pub fn number_in(by: Number, sums: Sums) -> u128
     ensures { result ≡ number_in by sums }
 {

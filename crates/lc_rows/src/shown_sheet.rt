@@ -172,8 +172,8 @@ impl<'a> Shown<'a> {
         Ok(shown)
     }
 
-    /// Like [`of`](Shown::of), but shows these sums over text files and over binary files, for a report whose rows do not keep the two
-    /// apart.
+    /// Like [`of`](Shown::of), but shows the sums in `classes` over text files and over binary files. This is for a report whose rows do
+    /// not keep text files and binary files apart.
     pub fn with_classes(
         alloc: Global,
         report: &'a Report,
@@ -188,8 +188,8 @@ impl<'a> Shown<'a> {
         Ok(shown)
     }
 
-    /// Shows these rows of a report, which [`shown_rows`] summed and sorted. Cuts them, and adds up the rows that are cut off, and the
-    /// report's rows of text files and of binary files.
+    /// Like [`of`](Shown::of), but shows the given `rows` of the report, which [`shown_rows`] summed and sorted. Cuts these rows, and adds
+    /// up the rows that are cut off. Also adds up the report's rows of text files and of binary files.
     pub fn with_rows(
         alloc: Global,
         report: &'a Report,

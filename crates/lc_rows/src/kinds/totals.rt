@@ -1,4 +1,4 @@
-//! The lines of sums of a report's sheet, and their values in its columns.
+//! The lines that show sums in a report's sheet, such as the total, and their values in the sheet's columns.
 
 ghost use Rattle.std.specs.Prelude.{◌≡◌};
 ghost use Rattle.lc_sheet.specs.Values.{value_model};

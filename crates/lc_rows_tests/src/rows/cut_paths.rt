@@ -43,7 +43,7 @@ fn directories_of_paths(rt: HostRuntime) -> Result<(), Fail> {
     Ok(())
 }
 
-/// A directory, the number of directories above it in a tree, and the part of its path that follows the directory right above it.
+/// A directory, the number of directories above it in a tree, and what its path has after the path of its parent directory.
 const LEVELS: &[(&[u8], usize, &[u8])] = &[
     (b"", 0, b""),
     (b"src", 1, b"src"),
