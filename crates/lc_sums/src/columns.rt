@@ -1,4 +1,4 @@
-//! Comparing the columns of reports with the needed ones.
+//! The columns that reports have. Reports that lack a column that the sum needs are refused.
 
 ghost use Rattle.std.specs.Prelude.{◌≡◌, MatchResult};
 ghost use Rattle.std.specs.List.{find, list_all};

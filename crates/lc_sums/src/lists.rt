@@ -1,4 +1,4 @@
-//! Comparing the lists of reports with the needed ones.
+//! Refusing reports that lack a list that the sum needs.
 
 ghost use Rattle.std.specs.Prelude.{◌≡◌, MatchResult};
 ghost use Rattle.std.specs.List.{find};
@@ -36,7 +36,7 @@ fn refuse_files<'n>(needs: Needs, parts: &[Part<'n>]) -> Result<(), SumFault<'n>
     Ok(())
 }
 
-/// Refuses reports if one lacks a needed list. The list of files is tested before that of skipped entries.
+/// Refuses reports if one lacks a needed list. The list of files is tested before the list of skipped entries.
 pub(crate) fn refuse_lists<'n>(needs: Needs, parts: &[Part<'n>]) -> Result<(), SumFault<'n>>
     ensures { MatchResult result (λ done. HaveLists needs parts.now) (LacksLists needs parts.now) }
 {

@@ -104,9 +104,10 @@ fn by_directory(by: Option<Columns>) -> bool
 }
 
 impl Needs {
-    /// Returns what is needed to sum reports by these columns, to test these conditions, and to show these lists.
+    /// Returns what is needed to sum reports by the columns `by` and to test these conditions. If `files` is true, the sum also lists
+    /// files. If `left_out` is true, it also lists skipped entries.
     ///
-    /// Rows by directory and conditions on a number also need files. If `by` is `None`, any shared columns will do.
+    /// Rows by directory and conditions on a number also need files. If `by` is `None`, the reports need some column in common.
     pub fn of(
         by: Option<Columns>,
         conditions: &[Condition<'_>],

@@ -6,10 +6,10 @@ use lc_walk::{Report, Sums};
 /// The sum of several reports, with facts that the report of a walk does not have.
 #[derive(Debug, Drop)]
 pub struct Sum {
-    /// The report into which the reports are joined, with the needed lists alone.
+    /// The report into which the reports are joined. It has only the lists that are needed.
     ///
-    /// Two of its rows may differ only in a column that some of the reports lack. So the rows must be summed by columns among `columns`,
-    /// and over all others.
+    /// Two rows of this report may differ only in a column that some of the joined reports lack. So a table of this report must group rows
+    /// only by columns that are in `columns`.
     pub report: Report,
     /// The columns that all of the reports have.
     pub columns: RowColumns,

@@ -10,7 +10,7 @@ use std::alloc::AllocError;
 /// Why reports are not summed. The `&str` in a variant is the name of the first report that has the error.
 #[derive(Debug, Drop)]
 pub enum SumFault<'n> {
-    /// An allocation failed. Each report has the needed columns and lists.
+    /// An allocation failed. Memory is allocated only after each report was found to have the needed columns and lists.
     Memory,
     /// A report lists no files, and its rows lack a column that is needed: `Ext`, `Text` or `Eol`, the first of them in this order.
     NoColumn(&'n str, Column),

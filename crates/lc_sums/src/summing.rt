@@ -16,7 +16,7 @@ use lc_reports::joined;
 use lc_walk::{Report, ReportLists};
 use std::alloc::{AllocError, Global};
 
-/// Returns a report with the needed lists alone.
+/// Returns a report with only the lists that are needed.
 fn needed_report(needs: Needs, part: Part<'_>) -> Report
     ensures { result ≡ needed_report needs part.entry }
 {
@@ -53,7 +53,7 @@ fn refuse<'n>(alloc: Global, needs: Needs, parts: &[Part<'n>]) -> Result<(), Sum
     Ok(())
 }
 
-/// Joins the reports, with the needed lists alone.
+/// Joins the reports, with only the lists that are needed.
 fn join<'n>(alloc: Global, needs: Needs, parts: Vec<Part<'n>>) -> Result<Report, SumFault<'n>>
     ensures { MatchResult result (IsJoined (needed_reports needs parts.entry.items)) (IsUnjoined needs parts.entry.items) }
 {
@@ -83,12 +83,12 @@ fn sum_of<'n>(alloc: Global, needs: Needs, parts: Vec<Part<'n>>) -> Result<Sum, 
 
 /// Sums reports, or finds out why they can't be summed.
 ///
-/// The sum is the joined report ([`joined`]) with the needed lists alone. It has the columns that each report has, and its `text` and
-/// `binary` are the sums of those of the reports.
+/// The sum has the report that [`joined`] makes of the reports, with only the lists that are needed. Its `columns` are the columns that all
+/// reports have. Its `text` is the sum of the reports' `text`, and its `binary` the sum of the reports' `binary`.
 ///
-/// Errors other than `Memory` are tested in the order of the variants of [`SumFault`], each over all reports. So a report without a needed
-/// column is refused before another without files. Two listed files with the same path are refused whether or not files are needed: they
-/// may be one file, which would be counted twice.
+/// The function looks for errors other than `Memory` in the order of the variants of [`SumFault`]. All reports are tested for one error
+/// before any is tested for the next. So a report without a needed column is refused before a report without files. Two listed files with
+/// the same path are refused whether or not files are needed: they may be one file, which would be counted twice.
 ///
 /// The function allocates memory for references to the paths and for the lists of the sum, but not for paths.
 ///
