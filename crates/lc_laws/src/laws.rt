@@ -1,9 +1,10 @@
 //! Laws of the definitions that the contracts cite. The functions do nothing: their contracts are what is proved.
 //!
-//! The clauses `answers` are about given answers of a tree: one state of its directories for a count, and one for an explanation. Each
-//! report and each explanation is made from such answers, which its tree may give (`lc_walk::reports_are_by_given_answers`,
-//! [`explanations_are_by_given_answers`]). The clauses `tree` are about a tree that always answers a question in the same way, such as an
-//! in-memory tree.
+//! The clauses `answers` are about fixed answers of a tree: a listing of each directory, and file contents. A count and an explanation may
+//! have different answers. Each report and each explanation is made from some answers that its tree may give
+//! (`lc_walk::reports_are_by_given_answers`, [`explanations_are_by_given_answers`]). The clauses `tree` are about a tree that always
+//! answers a question in the same way, such as an in-memory tree. The clause `tree` of [`no_ignore_file_of_the_tree_skips_an_entry`] is
+//! about any tree.
 
 ghost use Rattle.lc_laws.specs.ByAnswers.{SaidByAnswersLaw};
 ghost use Rattle.lc_laws.specs.CountsChecked.{AnswersCheckedLaw, CheckedLaw};
@@ -25,7 +26,8 @@ pub fn explanations_are_by_given_answers<T: Tree>(tree: &T)
     let _tree = tree;
 }
 
-/// The law that two explanations of a path are the same if the same was read from each directory on the way to the path.
+/// The law that two explanations of a path by the same options are equal, if both read the same entries and the same rule files in each
+/// directory on the way to the path.
 pub fn one_answer_is_one_explanation<T: Tree>(tree: &T)
     ensures answers { AnswersOneExplanationLaw }
     ensures tree { OneExplanationLaw (T.lists tree.now) (T.gives tree.now) }
@@ -41,9 +43,10 @@ pub fn slashes_of_directories_say_nothing<T: Tree>(tree: &T)
     let _tree = tree;
 }
 
-/// The law that a count and an explanation agree on each path if the same was read from each directory on the way to the path. A counted
-/// file is explained as one that is not skipped, and a skipped entry by the reason in the report. The explanation of an entry shows in
-/// which list the report has the entry.
+/// The law that a count and an explanation agree on a path. The law requires that both use the same filters, and read the same entries and
+/// the same rule files in each directory on the way to the path. The count must be of the whole tree, and list files and skipped entries.
+/// If a file is counted, its explanation says that it is not skipped. If an entry is skipped, its explanation has the reason that is in the
+/// report. Conversely, the explanation of an entry shows whether the report skips the entry or a directory above it.
 pub fn counts_are_as_explained<T: Tree>(tree: &T)
     ensures answers { AnswersExplainedLaw }
     ensures tree { ExplainedLaw (T.lists tree.now) (T.gives tree.now) }
@@ -52,9 +55,10 @@ pub fn counts_are_as_explained<T: Tree>(tree: &T)
     entries_are_explained_as_decided();
 }
 
-/// The law that a count and a check agree if the count uses the tree's rules alone, had no errors and read no ignore file but the top's
-/// `.gitignore`. A check by that file answers `ignored` or `below` for an entry exactly if the count skips the entry, or a directory above
-/// it, by a rule.
+/// The law that a count and a check agree on an entry. The law requires that the count uses only the rules of the tree, lists what it
+/// skips, and has no errors. The `.gitignore` of the top directory must be the only ignore file. A check by this file prints `ignored` or
+/// `below` for the entry exactly if the count skips the entry, or a directory above it, by a rule. The law is not about bad paths, and not
+/// about paths with a name `.git`.
 pub fn counts_are_as_checked<T: Tree>(tree: &T)
     ensures answers { AnswersCheckedLaw }
     ensures tree { CheckedLaw (T.lists tree.now) (T.gives tree.now) }

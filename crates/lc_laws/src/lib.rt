@@ -1,8 +1,8 @@
-//! Laws that relate a count, an explanation and a check to each other, and a report to its texts, in the terms of the callers.
+//! Laws that relate a count, an explanation and a check to each other, and a report to its printed texts.
 //!
-//! - `laws`: a count agrees on each path with an explanation of the tree, and with a check by the top's `.gitignore`. A path has one
-//!   explanation, with or without a slash at the end of a directory's path. Two laws are about a count that reads no ignore file of the
-//!   tree, and about a count of included files.
+//! - `laws`: a count agrees on each path with an explanation of the tree, and with a check by the `.gitignore` of the top directory. A path
+//!   has one explanation, with or without a slash at the end of a directory's path. Two laws are about a count that reads no ignore file of
+//!   the tree, and about a count of included files.
 //! - `printed_laws`: the sheet of a report, from which its texts are made, has what the laws of these texts require. No printed share of a
 //!   total is over 100.0 per cent.
 //! - `reading_laws`: a report is the same after it was printed as JSON and read again

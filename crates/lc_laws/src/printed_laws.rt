@@ -6,8 +6,8 @@ ghost use Rattle.lc_laws.specs.SheetReadable.{ReadableSheetLaw, SheetRecordsLaw}
 
 use lc_tree::Tree;
 
-/// The law that the sheet of a report satisfies what the laws of texts in the format `table` require, if each name in the sheet consists of
-/// bytes.
+/// The law that the sheet of a report in the format `table` satisfies what the laws of texts in this format require. The law requires that
+/// names consist of numbers below 256, as the names in a program do.
 pub fn sheets_of_reports_are_readable()
     ensures { ReadableSheetLaw }
 {}
@@ -17,8 +17,8 @@ pub fn sheets_of_reports_have_records()
     ensures { SheetRecordsLaw }
 {}
 
-/// The law that each share of a total in a text for reading is at most 100.0 per cent. This holds for the report of a walk and for the part
-/// of the report that meets conditions. For rows by directory the walk must list its files.
+/// The law that each share of a total in a human-readable text is at most 100.0 per cent. This holds for the report of a walk and for the
+/// part of the report that meets conditions. For rows by directory the walk must list its files.
 pub fn printed_shares_are_at_most_the_whole<T: Tree>(tree: &T)
     ensures { PrintedSharesLaw (T.lists tree.now) (T.gives tree.now) }
 {
