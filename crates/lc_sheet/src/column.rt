@@ -17,7 +17,7 @@ pub enum Number {
     Bytes,
 }
 
-/// Which value of a file or of a row is compared in two reports: a word or a number of a file, or a number of a row.
+/// Which value is compared in two reports. Of a file, this is a word (`Text` or `Eol`) or a number. Of a row, this is always a number.
 #[derive(Debug, Clone, Copy, PartialEq, Eq)]
 pub enum Compared {
     /// The state of the attribute `text` for the file.
@@ -54,7 +54,7 @@ pub enum Column {
     Number(Number),
     /// The line's share of the total.
     Share,
-    /// A bar whose length shows how large the line's number is.
+    /// A bar whose length shows a number of the line, such as bytes. The `number` of `Shares` says which number this is.
     Bar,
     /// The path of a file, or of a skipped entry.
     Path,

@@ -7,7 +7,7 @@ use std::marker::Model;
 /// What is shown of a comparison of two reports: its rows, sums and files.
 #[derive(Drop)]
 pub struct ComparisonSheet<'a, R: Lines, T: Lines, F: Lines> {
-    /// The rows of the comparison's table that are shown.
+    /// The shown rows of the comparison's table.
     pub rows: Section<'a, R>,
     /// The sums over the rows that are cut off: one line, or no line if no row is cut off.
     pub others: Section<'a, T>,

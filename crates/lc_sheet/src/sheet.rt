@@ -7,7 +7,7 @@ use std::marker::Model;
 /// What is shown of a report: its rows, sums, files, skipped entries and errors.
 #[derive(Drop)]
 pub struct Sheet<'a, R: Lines, T: Lines, F: Lines, S: Lines, E: Lines> {
-    /// The rows of the report's table that are shown.
+    /// The shown rows of the report's table.
     pub rows: Section<'a, R>,
     /// The sums over the rows that are cut off: one line, or no line if no row is cut off.
     pub others: Section<'a, T>,

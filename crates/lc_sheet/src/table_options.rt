@@ -69,7 +69,8 @@ pub struct TableOptions {
     pub sort: Option<Number>,
     /// The largest number of rows, and of files, that the table shows. If this is `None`, the table shows all of them.
     pub top: Option<u32>,
-    /// Whether the table lists the files. For rows by directory, a report may list files that its table does not list.
+    /// Whether the table lists the files. If this is false, the report may still list its files, because rows by directory are sums over
+    /// these files.
     pub files: bool,
     /// Whether each row shows its share of the total. The formats `Tsv`, `Json` and `Csv` never show shares.
     pub share: bool,
