@@ -29,12 +29,12 @@ impl From<AllocError> for CensusFault {
     }
 }
 
-/// The greatest number of reads of `count`, and the greatest limit that `count_within` and `count_source` accept: 2^32.
+/// The greatest number of reads that `count` makes, and the greatest limit that `count_within` and `count_source` accept: 2^32.
 pub const MAX_TURNS: u64 = 4_294_967_296;
 
 /// Counts the lines and bytes of a reader up to its end, in at most `turns` reads into the caller's buffer.
 ///
-/// A worker of a walk lends one buffer for all its files. Nothing is allocated, so the error is never `Memory`.
+/// A thread that counts many files can lend one buffer for all of them. Nothing is allocated, so the error is never `Memory`.
 ///
 /// ```
 /// let mut buffer = new_buffer(alloc)?;

@@ -1,4 +1,4 @@
-//! Laws of the definitions that the contracts cite. The functions do nothing: their contracts are what is proved.
+//! Laws: theorems about the definitions that the contracts cite. Each law is the contract of a function that does nothing.
 ghost use Rattle.std.specs.Prelude.{◌≡◌, List, ℕ};
 ghost use Rattle.lc_census.specs.Cutting.{HasOneCutting};
 ghost use Rattle.lc_census.specs.Limits.{max_turns};
@@ -10,7 +10,7 @@ pub fn bytes_have_one_cutting()
     ensures { (bytes : List ℕ) → HasOneCutting bytes }
 {}
 
-/// The law that the constant `MAX_TURNS` is the limit `max_turns` of the definitions.
+/// The law that the constant `MAX_TURNS` equals `max_turns`, the limit in the definitions that the contracts cite.
 pub fn the_limit_is_this_number()
     ensures { MAX_TURNS ≡ max_turns }
 {}

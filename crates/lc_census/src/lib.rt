@@ -3,8 +3,9 @@
 //! - `line_count`: what a census counts: lines, blank lines, bytes and the kind of the line ends
 //! - `census`: the census of bytes that come piece by piece
 //! - `counting`: the census of all of a reader's bytes
-//! - `scan`, `scalar`, `simd`: the state of a census between two bytes, and two functions that advance it under one contract, by bytes and
-//!   by vectors; they are public for benchmarks alone
+//! - `scan`: the state of a scan between two bytes
+//! - `scalar`, `simd`: two functions with the same contract that advance this state, byte by byte and by vectors of 64 bytes. These
+//!   functions and the state are public only for benchmarks
 //! - `laws`: what is true of the definitions that the contracts cite
 #![tactic(auto)]
 

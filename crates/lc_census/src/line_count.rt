@@ -1,9 +1,9 @@
-//! The counts of a census. This module is not named `count`, since a module may not have the name of a function in the same place.
+//! The counts of a census. This module is not named `count`, since the crate's root already has a function of that name.
 
 ghost use Rattle.std.specs.Prelude.{◌≡◌};
 ghost use Rattle.lc_census.specs.EolWords.{eol_word};
 
-/// How the lines of some bytes end.
+/// The kind of the line ends in the bytes that were counted.
 #[derive(Clone, Copy, Debug, Drop, PartialEq, Eq)]
 pub enum Eol {
     /// There is no line end.
@@ -36,9 +36,9 @@ impl Eol {
     }
 }
 
-/// The counts of some bytes: of lines, blank lines and bytes, and how the lines end.
+/// The result of a census: the numbers of lines, blank lines and bytes, and how the lines end.
 ///
-/// A line ends at LF, at CR LF, or at a CR that no LF follows; bytes after the last end are one more line.
+/// A line ends at LF, at CR LF, or at a CR that no LF follows. Bytes after the last line end are one more line.
 #[derive(Clone, Copy, Debug, Drop, PartialEq, Eq)]
 pub struct Count {
     /// The number of lines.

@@ -1,4 +1,4 @@
-//! The scan byte by byte.
+//! The scan that reads one byte at a time.
 ghost use Rattle.std.specs.Prelude.{◌≡◌, length};
 ghost use Rattle.lc_census.specs.Scan.{after, after_all, HasRoom};
 
@@ -43,7 +43,7 @@ fn scan_byte(scan: Scan, byte: u8) -> Scan
     next
 }
 
-/// Returns the state of the scan after these bytes. It reads them one at a time.
+/// Returns the state of the scan after these bytes, which the function reads one at a time.
 pub fn scan_scalar(scan: Scan, bytes: &[u8]) -> Scan
     requires { HasRoom scan (length bytes.now) }
     ensures { result ≡ after_all scan bytes.now }

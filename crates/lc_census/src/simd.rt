@@ -1,4 +1,4 @@
-//! The scan by vectors of 64 bytes. Each comparison of a vector gives a word, which has one bit for each byte.
+//! The scan that reads vectors of 64 bytes. Each comparison of a vector gives a word, which has one bit for each byte.
 ghost use Rattle.std.specs.Prelude.{◌≡◌, ◌≤◌, ◌||◌, ◌==◌, length};
 ghost use Rattle.std.specs.Int.RustNames.{count_ones};
 ghost use Rattle.lc_census.specs.Bytes.{is_lf, is_cr, is_end, is_space, is_nul};
@@ -92,7 +92,8 @@ fn scan_block(scan: &mut Scan, v: u8x64)
     }
 }
 
-/// Returns the state of the scan after these bytes. It reads them 64 at a time, and the last few one at a time.
+/// Returns the state of the scan after these bytes. The function reads 64 bytes at a time, and the last bytes, fewer than 64, one at a
+/// time.
 pub fn scan_simd(scan: Scan, bytes: &[u8]) -> Scan
     requires { HasRoom scan (length bytes.now) }
     ensures { result ≡ after_all scan bytes.now }

@@ -1,4 +1,4 @@
-//! Tests of what no contract shows: worked cases, calls that succeed where there is memory, and readers that misbehave.
+//! Tests of what no contract shows: worked examples, calls that succeed if there is enough memory, and readers that misbehave.
 
 mod bodies;
 mod pieces;

@@ -1,4 +1,4 @@
-//! The tests of counting lines, and of the readers that are counted.
+//! The tests of counting lines, and of the readers that the tests count.
 #![tactic(auto)]
 
 #[cfg(test)]
