@@ -53,7 +53,7 @@ impl Block {
         Ok(())
     }
 
-    /// Writes what is left in the block, after the end of the text was appended.
+    /// Writes what is left in the block. Call `print_rest` after the last line of the text was appended.
     pub fn print_rest<O: Sink>(self, out: &mut O) -> Result<(), PrintFault>
         ensures answers { AnswersPrint O.may_take out.old self.text.items result out.new }
         ensures no_memory { result ≢ Err Memory }

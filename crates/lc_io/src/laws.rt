@@ -1,4 +1,4 @@
-//! Laws of the definitions that the contracts cite. The functions do nothing: their contracts are what is proved.
+//! Laws: theorems about the definitions that the contracts cite. Each law is the contract of a function that does nothing.
 ghost use Rattle.std.specs.Prelude.{◌≡◌, ◌++◌, ℕ, List, Vec};
 ghost use Rattle.std.specs.Global.{Global};
 ghost use Rattle.lc_io.specs.Buffers.{buffer_len};
@@ -9,7 +9,7 @@ ghost use Rattle.lc_io.specs.Writes.{AppendsAll, Writes};
 use crate::buffer::BUFFER_LEN;
 use crate::source::Source;
 
-/// The law that reads of a slice up to its end return the slice's bytes, in whatever pieces, and that none of them fails.
+/// The law that the reads of a slice up to its end return the slice's bytes, in whatever pieces, and that no read of a slice fails.
 pub fn a_slice_gives_its_bytes()
     ensures whole { (old new : _) (bytes : List ℕ)
         → GivesBytes ⟦<&'static [u8] as Source>⟧.may_give AnyRoom old bytes at_end new → bytes ≡ old.now }
@@ -24,7 +24,7 @@ pub fn a_vector_takes_the_text()
         → new.items ≡ old.items ++ text }
 {}
 
-/// The law that the constant `BUFFER_LEN` is the length `buffer_len` of the definitions.
+/// The law that the constant `BUFFER_LEN` equals `buffer_len`, the length in the definitions that the contracts cite.
 pub fn the_buffer_has_this_length()
     ensures { BUFFER_LEN ≡ buffer_len }
 {}

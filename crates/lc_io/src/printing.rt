@@ -9,7 +9,7 @@ use crate::source::Failed;
 use std::alloc::AllocError;
 use thiserror::Error;
 
-/// Why a text was not written, or not whole.
+/// Why a text was not written, or was written only in part.
 #[derive(Debug, Clone, Copy, PartialEq, Eq, Error)]
 pub enum PrintFault {
     /// A write failed, or accepted no byte. What was written is a prefix of the text.

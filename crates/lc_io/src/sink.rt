@@ -39,7 +39,8 @@ impl Sink for Vec<u8> {
 /// A sink over a writer of std, such as a file or standard output.
 ///
 /// A `write` that a signal interrupts has written nothing, and is tried again, up to `MAX_TRIES` times in all. Every other error of the
-/// writer is a failure. If the bytes that the writer holds are known, as for a vector, each write appends the written bytes to them.
+/// writer is a failure. If the writer's contract states which bytes the writer holds, as for a vector, each write appends the written bytes
+/// to these.
 #[derive(Drop)]
 pub struct StdSink<W>(pub W);
 

@@ -15,7 +15,7 @@ pub const MAX_TRIES: u32 = 65_536;
 /// A source over a reader of std, such as a file or standard input.
 ///
 /// A `read` that a signal interrupts is tried again, up to `MAX_TRIES` times in all. Every other error of the reader is a failure. If the
-/// remaining bytes of the reader are known, as for a slice, the reads return these bytes.
+/// reader's contract states which bytes remain, as for a slice, the reads return these bytes.
 ///
 /// ```
 /// let mut reader = StdSource(fs::open(rt, "notes.txt")?);

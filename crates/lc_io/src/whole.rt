@@ -15,10 +15,10 @@ pub enum WholeFault {
     Memory,
 }
 
-/// Reads all bytes of a reader into a vector, or all up to the first byte past the limit.
+/// Reads all bytes of a reader into a vector. If the reader has more bytes than `limit`, stops after the first byte past the limit.
 ///
-/// The caller lends the buffer and the vector. A worker of a walk lends the same two for all its files. The vector is cleared first. After
-/// an error, it has the bytes that were read before the error.
+/// The caller lends the buffer and the vector, and may lend both again for the next reader. The vector is cleared first. After an error,
+/// the vector has the bytes that were added before the error.
 ///
 /// ```
 /// let mut buffer = new_buffer(alloc)?;
