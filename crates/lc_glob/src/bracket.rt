@@ -88,7 +88,7 @@ fn class_at(name: &[u8]) -> Option<&'static [(u8, u8)]>
 enum Colon {
     /// A class, such as `[:alpha:]`: its ranges, and how many bytes it has after its first `[`.
     Class(&'static [(u8, u8)], usize),
-    /// A class with an unknown name, which makes the pattern dead.
+    /// A class with an unknown name. The pattern is dead: it matches nothing.
     Unknown,
     /// Not a class, so the `[` is an ordinary byte.
     Ordinary,

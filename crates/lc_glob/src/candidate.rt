@@ -16,8 +16,8 @@ const MANY_PATTERNS: usize = 64;
 
 /// A path that is matched with many patterns. The beginning of its last segment is searched once.
 ///
-/// Making a candidate searches for a slash from the end of the path, and passes once over a path whose segments are measured. It allocates
-/// nothing.
+/// Making a candidate searches for the last slash, from the end of the path. `for_patterns` may also measure the path's segments, in one
+/// pass over the path. Nothing is allocated.
 ///
 /// ```
 /// let candidate = Candidate::new(b"src/main.c");
@@ -53,9 +53,9 @@ impl<'a> Candidate<'a> {
         Self::measured_from(path, usize::MAX)
     }
 
-    /// Makes the candidate of a path that is matched with this many patterns. For many patterns, the lengths of a long path's segments are
-    /// measured. They can reject a pattern without comparing bytes, if one of its segments is too long or too short for all segments of the
-    /// path.
+    /// Makes the candidate of a path that is matched with this many patterns. If the patterns are many and the path is long, measures all
+    /// segments of the path but the last. A pattern with a segment that is too long or too short for all measured segments can be rejected
+    /// without reading their bytes.
     pub fn for_patterns(path: &'a [u8], patterns: usize) -> Self
         ensures { result ≡ path.now }
     {

@@ -5,7 +5,8 @@ ghost use Rattle.lc_glob.specs.Pieces.{is_byte, pieces_of, pieces_left};
 
 use memchr::memchr;
 
-/// Splits bytes at the first `byte`: the bytes before it, and those after it. Without that byte it returns all bytes and `None`.
+/// Splits `bytes` at the first occurrence of `byte`, into the bytes before and the bytes after this occurrence. If there is no occurrence,
+/// it returns all bytes and `None`.
 ///
 /// It reads the bytes before the cut once, and allocates nothing.
 ///

@@ -1,4 +1,4 @@
-//! The elements of a pattern: the bytes of a simple pattern, or the tokens that another pattern was read as.
+//! The elements of a pattern: its bytes if the pattern is simple (`simple_pattern`), and otherwise its tokens.
 
 ghost use Rattle.std.specs.Prelude.{◌≡◌, ◌∷◌, ◌++◌, [], not, ◌==◌, Bool, List, map, count_by, MatchOption, IfSome, IsTrue};
 ghost use Rattle.std.specs.List.{list_any, slice_split};
@@ -40,13 +40,13 @@ pub(crate) trait Element: Copy {
     fn least_bytes(elements: &[Self]) -> usize
         ensures { result ≡ least_bytes (tokens_in elements.now) };
 
-    /// Splits elements at the first separator: the elements before it, and those after it. Without a separator it returns all elements and
-    /// `None`.
+    /// Splits elements at the first separator, into the elements before and the elements after the separator. If there is no separator, it
+    /// returns all elements and `None`.
     fn cut_at_first_separator<'p>(elements: &'p [Self]) -> (&'p [Self], Option<&'p [Self]>)
         ensures { slice_split separates elements.now ≡ result.0.now ∷ cuts_left separates result.1 };
 
-    /// Splits elements at the last separator: the elements before it, and those after it. Without a separator it returns `None` and all
-    /// elements.
+    /// Splits elements at the last separator, into the elements before and the elements after the separator. If there is no separator, it
+    /// returns `None` and all elements.
     fn cut_at_last_separator<'p>(elements: &'p [Self]) -> (Option<&'p [Self]>, &'p [Self])
         ensures { slice_split separates elements.now ≡ cuts_left separates result.0 ++ result.1.now ∷ [] };
 }

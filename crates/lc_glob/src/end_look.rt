@@ -1,5 +1,6 @@
 //! Compares one byte at an end of a path with the elements of a pattern. This rejects most paths that the pattern doesn't match. The bound
-//! on the number of byte tests covers this test too, since a match always needs fewer tests than the bound allows.
+//! of `Pattern::matches_counted` on the number of byte tests includes this test, since the rest of a match takes fewer tests than the
+//! bound.
 
 ghost use Rattle.std.specs.Prelude.{◌≡◌, ◌≤◌, ◌+◌, ◌⊎◌, IsFalse};
 ghost use Rattle.lc_glob.specs.EndLooks.{DiffersAtEnd, HasLiteralEnd};

@@ -10,7 +10,7 @@
 //! | `?` | one byte, but not a slash |
 //! | `[a-z]`, `[!a-z]`, `[[:digit:]]` | one byte of a set; after `!`, one byte that is neither in the set nor a slash |
 //! | `\` and a byte | that byte |
-//! | `/` | the end of a segment; one at the end makes the pattern match directories only, and any other one whole paths only |
+//! | `/` | the end of a segment; a last `/` limits the pattern to directories; with any other `/` it must match the whole path |
 //! | `**` between separators | any run of segments, also an empty one; as the last segment, one segment or more |
 //!
 //! A pattern that can't be read is dead and matches nothing. Such a pattern ends in a single backslash, has a bracket without its closing
@@ -26,11 +26,11 @@
 //! are measured once (`lengths`). A pattern with a segment that fits none of these lengths can be rejected without a byte test.
 //!
 //! - `pattern`, `pattern_set`, `candidate`: a pattern; many patterns in order; a path that is matched with many patterns
-//! - `reading`, `bracket`, `byte_set`, `token`, `scope`: bytes read as a pattern, and what the slashes in it mean
-//! - `simple_pattern`, `token_pattern`, `pattern_ref`, `pattern_view`: the two forms of patterns, bytes and tokens
-//! - `element`, `segment_ref`, `segments_left`, `path_segment`: segments of patterns and of paths, from either end
-//! - `match_path`, `match_segment`, `match_tokens`, `cursor`: matching a path; `match_above`: matching all directories above it
-//! - `path`, `cut`: paths and names, for all crates; bytes cut at a byte
+//! - `reading`, `bracket`, `byte_set`, `token`, `scope`: reading bytes as a pattern, and what the slashes of the pattern mean
+//! - `simple_pattern`, `token_pattern`, `pattern_ref`, `pattern_view`: the two forms in which a pattern is stored: bytes and tokens
+//! - `element`, `segment_ref`, `segments_left`, `path_segment`: the segments of patterns and of paths, one by one from either end
+//! - `match_path`, `match_segment`, `match_tokens`, `cursor`: matching a path; `match_above`: matching all directories above a path
+//! - `path`: paths and names, for all crates; `cut`: splitting bytes at a byte
 #![tactic(auto)]
 
 mod bracket;

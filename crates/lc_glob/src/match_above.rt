@@ -1,7 +1,7 @@
-//! Finds which of the directories above a path a pattern matches, in one pass over the pattern's segments.
+//! Matching a pattern with all directories above a path, in one pass over the pattern's segments.
 //!
-//! Each name on the way down to the path has a flag. After each segment of the pattern, a flag shows whether the segments so far match the
-//! path above its name. So no segment is compared twice with a name, however many double stars precede the segment.
+//! Each name on the way down has a flag. After each segment of the pattern, the flag of a name shows whether the segments so far match the
+//! names before this name. So a segment is compared at most once with each name, however many double stars precede the segment.
 
 ghost use Rattle.std.specs.Prelude.{◌≡◌, ◌↔◌, ◌≤◌, ◌+◌, ◌*◌, IsTrue, false, length, take, slice_index_or, []};
 ghost use Rattle.lc_glob.specs.{Above.{names_of, IsSet, AreSet, Before, UpTo, has_nested_after}, Costs.{bytes_with_ends, full_cost}};

@@ -1,8 +1,9 @@
-//! Matching a pattern's segments with those of a path.
+//! Matching the segments of a pattern with the segments of a path.
 //!
-//! The segments after the last double star are compared from the end of the path, each with one segment. The segments before it are
-//! searched from the front. A shortest match of what precedes a double star leaves the most for the rest. So the search goes back only to
-//! the last double star that was passed.
+//! First, the pattern's segments after its last double star are compared one by one with the last segments of the path, from the end.
+//! Second, the rest of the pattern is matched from the front. If a segment does not match there, the search goes back to the last double
+//! star that it passed, but no further. A shortest match of the segments before a double star leaves the most segments of the path for the
+//! rest of the pattern.
 
 ghost use Rattle.std.specs.Prelude.{◌↔◌, ◌≤◌, ◌+◌, ◌-◌, IsTrue};
 ghost use Rattle.lc_glob.specs.{Matches.MatchesPath, Path.{segments_of, segments_left}};

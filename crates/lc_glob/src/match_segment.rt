@@ -1,4 +1,4 @@
-//! Matching tokens of each form with a segment of a path.
+//! Matching the tokens of a pattern's segment with a segment of a path, for each form of the tokens (`TokensRef`).
 
 ghost use Rattle.std.specs.Prelude.{◌↔◌, ◌<◌, ◌+◌, ◌*◌, IsTrue, length};
 ghost use Rattle.lc_glob.specs.{Fits.Fits, Simple.end_tokens, Views.tokens_ref_model};

@@ -1,7 +1,8 @@
-//! Matching the tokens of a segment, of any form, with a segment of a path.
+//! Matching the tokens of a pattern's segment with a segment of a path, whether the pattern is stored as bytes or as tokens.
 //!
-//! The tokens after the last star are compared from the end, once. The tokens before it are searched from the front. A shortest match of
-//! what precedes a star leaves the most for the rest, so the search goes back only to the last star that was passed.
+//! First, the tokens after the last star are compared once with the last bytes of the segment, from the end. Second, the rest of the tokens
+//! is matched from the front. If a token does not match there, the search goes back to the last star that it passed, but no further. A
+//! shortest match of the tokens before a star leaves the most bytes for the rest of the tokens.
 
 ghost use Rattle.std.specs.Prelude.{◌≡◌, ◌↔◌, ◌≤◌, ◌+◌, IsTrue, length};
 ghost use Rattle.lc_glob.specs.Steps.{FitsAt, cost_at, cost_after, FrontStepIs, EndStepIs};

@@ -1,7 +1,7 @@
-//! Segments of a path, whose bytes are read only by counted tests.
+//! Segments of a path. Only byte tests read the bytes of a segment, and each byte test is counted.
 //!
-//! Other modules get a path as `PathSegment`s, `PathLeft`s and `PathNames`, whose bytes they cannot read. The search for slashes is not
-//! counted.
+//! Other modules get a path as `PathSegment`s, `PathLeft`s and `PathNames`, whose bytes they cannot read. The search for slashes reads
+//! bytes too, but is not counted.
 
 ghost use Rattle.std.specs.Prelude.{◌≡◌, ◌↔◌, ◌==◌, ◌<◌, ◌∷◌, ◌++◌, [], nat_le, nat_lt, IsTrue, MatchOption, length, bytes_eq, nat_eq};
 ghost use Rattle.std.specs.{Prelude.slice_index_or, List.ends_with};

@@ -28,7 +28,7 @@ pub struct Pattern {
     pub(crate) kind: PatternKind,
 }
 
-/// What a pattern is matched from: bytes if it is simple, and else tokens. A short simple pattern allocates nothing.
+/// The form in which a pattern is stored: bytes if it is simple, and otherwise tokens. A short simple pattern allocates nothing.
 #[derive(Drop)]
 pub(crate) enum PatternKind {
     Simple(SimpleForm, SmallVec<u8, 16>),
@@ -60,7 +60,7 @@ impl Pattern {
         read_pattern(alloc, bytes)
     }
 
-    /// Returns whether the bytes could not be read, so that the pattern matches nothing, such as `[a` and `a//b`.
+    /// Returns whether the pattern is dead: it matches nothing, since its bytes are no valid pattern, such as `[a` and `a//b`.
     pub fn is_dead(&self) -> bool
         ensures { result ≡ self.now.is_dead }
     {
@@ -129,8 +129,8 @@ impl Pattern {
         (found, tests.made())
     }
 
-    /// Finds in one pass which of the directories above a path the pattern matches. It sets `flags[k]` to whether the pattern matches the
-    /// directory whose path has the names up to `names[k]`. It allocates nothing.
+    /// Matches the pattern with several nested directories in one pass. `names` has their names from the top down. Sets `flags[k]` to
+    /// whether the pattern matches the directory whose path has the names up to `names[k]`. Allocates nothing.
     ///
     /// ```
     /// let mut flags = [false; 3];
@@ -146,8 +146,8 @@ impl Pattern {
             .match_directories(PathNames::new(names), flags);
     }
 
-    /// Like `match_directories`, but also counts byte tests. For all directories together, the number has the same bound as one match with
-    /// the whole path.
+    /// Like `match_directories`, but also counts byte tests. For all directories together, the number is at most `(p + 1) * (q + 1)`, if
+    /// the pattern has `p` bytes and the path with all these names has `q` bytes.
     ///
     /// ```
     /// let mut flags = [false; 2];
@@ -192,8 +192,8 @@ impl Pattern {
     }
 }
 
-/// The law that the two definitions of a match agree: `is_match`, which computes, is true exactly if the relation `Matches` holds. The
-/// function does nothing when it runs.
+/// The law that the two definitions of a match agree: the function `is_match` of the definitions gives true exactly if the relation
+/// `Matches` holds. `is_match_decides` does nothing when it runs.
 pub fn is_match_decides()
     ensures { IsMatchDecides }
 {}

@@ -15,7 +15,7 @@ use crate::token_pattern::TokenPattern;
 use std::alloc::{AllocError, Global};
 use std::marker::Model;
 
-/// What is stored of a pattern besides the bytes or the tokens that it is matched from.
+/// What is stored of a pattern besides its bytes or tokens.
 #[derive(Clone, Copy)]
 pub(crate) enum PatternForm {
     Simple(SimpleForm),
@@ -26,7 +26,7 @@ pub(crate) enum PatternForm {
 #[derive(Clone, Copy)]
 pub(crate) struct PatternSpan {
     form: PatternForm,
-    /// The index in the set's bytes or tokens at which those of the pattern begin.
+    /// The index at which the pattern's bytes begin in the set's bytes, or the pattern's tokens in the set's tokens.
     start: u32,
     /// The number of the pattern's bytes or tokens.
     len: u32,
@@ -46,7 +46,8 @@ impl PatternSpan {
 
 /// Patterns in order, such as those of an ignore file's rules. A path is matched with all of them in one call.
 ///
-/// A pattern takes 12 bytes besides the bytes or tokens that it is matched from, which are stored side by side.
+/// A pattern takes 12 bytes in addition to its own bytes or tokens. The bytes of all patterns are stored side by side, and so are the
+/// tokens.
 ///
 /// ```
 /// let mut set = PatternSet::new(alloc);
@@ -84,8 +85,8 @@ impl PatternSet {
         }
     }
 
-    /// Adds a copy of a pattern at the end. If an allocation fails, or if the copy's start or length exceeds `u32::MAX`, the set stays as
-    /// it was.
+    /// Adds a copy of a pattern at the end. If an allocation fails, or if the index or the number of the copied bytes or tokens exceeds
+    /// `u32::MAX`, returns an error and leaves the set as it was.
     pub fn push(&mut self, pattern: &Pattern) -> Result<(), AllocError>
         ensures ok { OnOk result (self.new ≡ self.old ++ pattern.now ∷ []) }
         ensures err { OnErr result (self.new ≡ self.old) }
@@ -195,7 +196,7 @@ impl PatternSet {
         self.pattern(index).is_dir_only()
     }
 
-    /// Finds the directories above a path that the pattern at an index matches, as `Pattern::match_directories` does.
+    /// Matches the pattern at an index with several nested directories in one pass, as `Pattern::match_directories` does.
     pub fn match_directories(&self, index: usize, names: &[&[u8]], flags: &mut [bool])
         requires within { index < length self.now }
         requires len { length names.now ≡ length flags.old }

@@ -21,11 +21,11 @@ pub(crate) struct PatternView<'p> {
 /// The part of a path that a pattern is matched with, and the tokens or segments that this part must match.
 #[derive(Clone, Copy)]
 pub(crate) enum KindRef<'p> {
-    /// Nothing, since the pattern is dead.
+    /// The pattern is dead: it matches no path.
     Dead,
-    /// The last segment alone.
+    /// The pattern is matched with the last segment of a path alone, which must fit these tokens.
     LastSegment(TokensRef<'p>),
-    /// All segments.
+    /// The pattern is matched with all segments of a path, which must match these segments.
     WholePath(SegmentsRef<'p>),
 }
 

@@ -1,4 +1,4 @@
-//! Reading bytes as a pattern: their tokens, and the form in which these are stored.
+//! Reading bytes as a pattern: finding its tokens, and choosing the form in which it is stored.
 
 ghost use Rattle.std.specs.Prelude.{◌≡◌, ◌≤◌, ◌∷◌, [], length, false, MatchOption, IfOk, IfSome, Some, None};
 ghost use Rattle.lc_glob.specs.{Elements.parts_in, TokenLists.{is_separator, literal_tokens, tokens_model}, Patterns.{dead, plain}};

@@ -16,7 +16,7 @@ pub(crate) enum TokensRef<'p> {
     Literal(&'p [u8]),
     /// A star and then literals alone.
     Suffix(&'p [u8]),
-    /// Any tokens of a simple pattern, as its bytes.
+    /// Any tokens of a simple pattern's segment, as the bytes of the segment.
     Bytes(&'p [u8]),
     /// The tokens of a pattern that isn't simple.
     Tokens(&'p [Token]),

@@ -1,5 +1,5 @@
-//! Simple patterns, which are matched from their bytes. Each byte is a token or a separator, since no byte is quoted and no byte opens a
-//! bracket. Most patterns are simple.
+//! Simple patterns, in which no byte is quoted and no byte opens a bracket. So each byte is a token or a separator, and a simple pattern is
+//! stored and matched as bytes. Most patterns are simple.
 
 ghost use Rattle.std.specs.Prelude.{◌≡◌, true, length, map, false, Bool, MatchOption, [], ◌∷◌, ◌≤◌, ◌<◌, ◌+◌, ◌-◌, ◌↔◌, IsTrue};
 ghost use Rattle.std.specs.List.{list_all};
@@ -53,8 +53,7 @@ pub(crate) struct SimpleForm {
     pub(crate) kind: SimpleKind,
 }
 
-/// A simple pattern: its form, and the bytes that it is matched from. The bytes have no separators at their ends. The bytes of a `Suffix`
-/// do not include the star.
+/// A simple pattern: its form and its bytes. The bytes have no separators at their ends. The bytes of a `Suffix` do not include the star.
 #[derive(Clone, Copy)]
 pub(crate) struct SimplePattern<'p> {
     pub(crate) form: SimpleForm,

@@ -1,4 +1,4 @@
-//! Patterns that are not simple, which are matched from their tokens.
+//! Patterns that are not simple: a byte is quoted or opens a bracket. These patterns are stored and matched as tokens.
 
 ghost use Rattle.std.specs.Prelude.{◌≡◌, ◌≤◌, ◌+◌, ◌↔◌, IsTrue};
 ghost use Rattle.lc_glob.specs.{Costs.match_cost, Matches.Matches, Views.token_pattern_model};

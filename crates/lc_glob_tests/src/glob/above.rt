@@ -1,4 +1,4 @@
-//! Tests of finding, in one call, the directories above a path that a pattern matches.
+//! Tests of matching a pattern, in one call, with all directories above a path.
 
 use lc_glob::Pattern;
 use std::test::Fail;

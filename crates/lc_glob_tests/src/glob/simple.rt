@@ -1,4 +1,4 @@
-//! Tests of sets that have patterns of each kind.
+//! Tests of pattern sets that have patterns of each kind.
 
 use lc_glob::{Candidate, Pattern, PatternSet};
 use std::test::Fail;
