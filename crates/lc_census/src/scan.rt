@@ -4,7 +4,7 @@ ghost use Rattle.std.specs.Prelude.{◌≡◌};
 /// The state of a scan: the counts so far, and what the scan must know of the bytes before the next one.
 ///
 /// A line is counted at its LF or its CR. An LF right after a CR belongs to that CR's line end, and adds to `lf` and `crlf` but to no other
-/// count. So the scan counts each byte without the next one, and a piece may end anywhere.
+/// count. So the scan never needs the next byte to count this one, and a piece may end anywhere.
 #[derive(Clone, Copy, Debug, Drop, PartialEq, Eq)]
 pub struct Scan {
     /// The number of line feeds, also of those after a CR.

@@ -1,4 +1,4 @@
-//! The tests of counting lines, and of the readers that the tests count.
+//! The tests of counting lines, and of the readers that these tests use.
 #![tactic(auto)]
 
 #[cfg(test)]
