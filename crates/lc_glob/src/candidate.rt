@@ -54,8 +54,8 @@ impl<'a> Candidate<'a> {
     }
 
     /// Makes the candidate of a path that is matched with this many patterns. If the patterns are many and the path is long, measures all
-    /// segments of the path but the last. A pattern with a segment that is too long or too short for all measured segments can be rejected
-    /// without reading their bytes.
+    /// segments of the path but the last. Their lengths can reject a pattern that has a segment too long or too short for all measured
+    /// segments.
     pub fn for_patterns(path: &'a [u8], patterns: usize) -> Self
         ensures { result ≡ path.now }
     {

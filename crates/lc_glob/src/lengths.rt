@@ -1,5 +1,5 @@
-//! The shortest and the longest length of a path's segments. A pattern can be rejected by these two lengths alone, if a segment of the
-//! pattern is too long or too short for all measured segments of the path.
+//! The shortest and the longest length of a path's segments. These two lengths can reject a pattern that has a segment too long or too
+//! short for all measured segments of the path.
 
 ghost use Rattle.std.specs.{Prelude.{◌≡◌, ◌≤◌, ℕ, List, IsTrue, length}, List.All};
 ghost use Rattle.lc_glob.specs.{Leads.Leads, Lengths.{AreBetween, FitsSome}, Path.segments_left, Patterns.plain};

@@ -1,6 +1,6 @@
 //! Matching a pattern with all directories above a path, in one pass over the pattern's segments.
 //!
-//! Each name on the way down has a flag. After each segment of the pattern, the flag of a name shows whether the segments so far match the
+//! Each name in the path has a flag. After each segment of the pattern, the flag of a name shows whether the segments so far match the
 //! names before this name. So a segment is compared at most once with each name, however many double stars precede the segment.
 
 ghost use Rattle.std.specs.Prelude.{◌≡◌, ◌↔◌, ◌≤◌, ◌+◌, ◌*◌, IsTrue, false, length, take, slice_index_or, []};
