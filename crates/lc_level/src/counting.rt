@@ -80,8 +80,8 @@ impl<T: Tree> LevelReader<'_, T> {
         }
     }
 
-    /// Counts the files with these names in the job's directory, in order. The result has the errors in `absent` before the errors of
-    /// files. `scratch` must have the path of this directory.
+    /// Counts the files with these names in the job's directory, in order. The errors of the result are those in `absent`, followed by the
+    /// errors of the files. Requires that `scratch` has the path of the directory.
     pub fn count(
         &self,
         job: &Job,

@@ -5,7 +5,8 @@ ghost use Rattle.lc_level.specs.SitePaths.{site_path};
 use crate::paths::path_in;
 use std::alloc::{AllocError, Global};
 
-/// What could not be read: the directory itself, or one of its rule files. Only the top has the variants in `.git`.
+/// What could not be read: a directory itself, or one of its rule files. The variants for `.git` and for what is in it occur only for the
+/// top of a tree.
 #[derive(Clone, Copy, PartialEq, Eq, Debug, Drop)]
 pub enum FaultSite {
     /// The directory itself.
@@ -25,7 +26,8 @@ pub enum FaultSite {
 }
 
 impl FaultSite {
-    /// Returns the path that could not be read, relative to the top of the tree. `directory` is the path of the directory.
+    /// Returns the path of what could not be read, relative to the top of the tree. `directory` is the path of the directory that could not
+    /// be opened.
     pub fn path(self, alloc: Global, directory: &[u8]) -> Result<Vec<u8>, AllocError>
         ensures { IfOk result (λ path. path.items ≡ site_path directory.now self) }
     {

@@ -10,7 +10,7 @@ use lc_tree::ReadFault;
 pub enum FaultWord {
     /// A listing, an open or a read failed.
     Read,
-    /// A listing has a bad name, or one that is not UTF-8.
+    /// A listing has a name that is not UTF-8, or a name that no entry can have, such as `a/b`.
     Name,
     /// A listing has a name twice.
     Twice,

@@ -19,7 +19,8 @@ use std::alloc::{AllocError, Global};
 use std::marker::Model;
 use std::sync::Arc;
 
-/// What decides, besides a tree's own rule files, which entries are skipped. One value is made, and all that read the tree borrow it.
+/// What decides, besides a tree's own rule files, which entries are skipped. One value is made for a tree, and each `LevelReader` of the
+/// tree borrows this value.
 ///
 /// ```
 /// let as_it_is = Filters::none(alloc);
@@ -34,14 +35,15 @@ pub struct Filters<'p> {
     pub exclude_from: Option<RuleText>,
     /// The patterns of the command line, one a line, which override the rules of all files (gitignore(5)).
     pub exclude: Option<RuleText>,
-    /// The patterns for files, one a line and none negated; if there are none, all files stay. A file stays only if a pattern matches the
-    /// file, or a directory that is above it and below the top. Directories are visited, whether or not a pattern matches them.
+    /// The patterns for files, one a line. No pattern is negated. If this field is `None`, all files stay. Otherwise a file stays only if a
+    /// pattern matches the file, or a directory that is above the file and below the top. Directories are visited, whether or not a pattern
+    /// matches them.
     pub include: Option<RuleText>,
     /// Whether no ignore file of the tree is read: no `.gitignore`, and no `.git/info/exclude`.
     pub no_ignore: bool,
     /// The attributes for which files and directories are skipped, each as a word `ATTR` or `ATTR=VALUE` (gitattributes(5)). With `ATTR`,
     /// such as `linguist-vendored`, the attribute must be Set. With `ATTR=VALUE`, such as `linguist-generated=true`, it must have exactly
-    /// this value. `git archive` skips what has `export-ignore`.
+    /// this value. `export-ignore` is the attribute by which `git archive` skips entries.
     pub without: Vec<Vec<u8>>,
     /// The paths of `--only`: only these stay, with what is under them and the directories above them. If there are none, everything stays.
     pub only: OnlyPaths<'p>,

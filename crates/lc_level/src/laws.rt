@@ -16,8 +16,8 @@ pub fn work_is_a_level<T: Tree>(tree: &T)
     let _tree = tree;
 }
 
-/// The law that each directory of a tree has only one level if the tree gives only one answer to each question: each listing, each count
-/// and each reading of a rule file.
+/// The law about a tree that gives only one answer to each question: each listing, each count and each reading of a rule file. For given
+/// filters and a given job, a directory of this tree has only one level, which is what the directory contributes to a walk.
 pub fn one_answer_is_one_level<T: Tree>(tree: &T)
     ensures { OneLevelLaw (T.lists tree.now) (T.gives tree.now) }
 {
@@ -42,8 +42,9 @@ pub fn trees_of_memory_give_one()
     files_of_memory_are_read_once();
 }
 
-/// The law that a `Node` defines one value with an answer for each path, and that the tree in memory of this node may give these answers.
-/// If each file has under 2^47 bytes, each directory has only the level that these answers give.
+/// The law about the answers that the definition `tree_of_node` derives from a `Node`: for each directory, its listing and the results of
+/// reading its files. The tree in memory of the node may give these answers. The names of each listing are good, distinct and in order. If
+/// each file has under 2^47 bytes, each directory has only the level that these answers give.
 pub fn a_node_is_one_tree()
     ensures answers { NodeAnswersLaw }
     ensures levels { NodeLevelsLaw }

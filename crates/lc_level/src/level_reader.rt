@@ -1,11 +1,11 @@
-//! The reader of a tree's directories. Most of its methods are in other modules, by what they read.
+//! The reader of a tree's directories. Most of its methods are in other modules, such as `opening` and `counting`.
 ghost use Rattle.std.specs.Prelude.{◌≡◌};
 
 use crate::filters::Filters;
 use crate::named_attributes::NamedAttributes;
 use std::alloc::Global;
 
-/// What a reader keeps besides what a count needs. Options that are off cost nothing.
+/// What a `LevelReader` keeps besides what a count needs. Options that are off cost nothing.
 #[derive(Clone, Copy, Drop)]
 pub struct ReaderOptions<'n> {
     /// Whether to keep the skipped entries, with their reasons.
@@ -36,7 +36,7 @@ pub struct LevelReader<'t, T> {
 }
 
 impl<'t, T> LevelReader<'t, T> {
-    /// Makes the reader of a tree, by these filters. It reads nothing yet.
+    /// Makes a reader of a tree, which skips entries by these filters. It reads nothing yet.
     pub fn new(
         alloc: Global,
         tree: &'t T,

@@ -1,17 +1,18 @@
 //! One directory: its listing, its rule files, and what happens to its entries.
 //!
 //! - `job`: a directory to be visited; `filters`: what decides, besides a tree's own rules, which entries are skipped
-//! - `fault_site`: where an error is
-//! - `listing`: listing a directory; `entering`: reading its rule files too; `opening`: deciding which of its entries stay
-//! - `rule_files`: the rule files of a directory, and its chains
-//! - `entry_looks`: searching entries; `classify`: deciding which of them stay; `skip_reason`, `reason`: why the others are skipped
+//! - `fault_site`: which file or directory could not be read
+//! - `listing`: listing a directory; `entering`: also reading its rule files; `opening`: also deciding which of its entries stay
+//! - `rule_files`: reading the rule files of a directory, and adding them to its chains
+//! - `entry_looks`: searching the entries of a directory; `classify`: deciding which entries stay; `skip_reason`, `reason`: why an entry is
+//!   skipped
 //! - `narrowing`: which entries the paths of `--only` select; `named_attributes`: which attributes a tree's attribute files name
-//! - `lines`: the files, errors and skipped entries of a report; `counting`: counting files; `threads`: counting them with several threads
-//! - `files`, `content_fault`: opening one file, to count it or to read it as rules, and why that failed
-//! - `paths`: the path of a name in a directory, and a path relative to a directory
+//! - `lines`: the files, errors and skipped entries of a report; `counting`: counting files; `threads`: counting files with several threads
+//! - `files`: opening one file, to count it or to read it as rules; `content_fault`: why a file could not be read or counted
+//! - `paths`: joining a directory's path and an entry's name, and making a path relative to a directory
 //! - `level_reader`: the type that has the methods of all these modules; `scratch`: the buffers of a worker; `path_buffer`: a buffer for
 //!   the path of one entry at a time
-//! - `open_fault`: why a directory contributes nothing; `fault_word`: the words by which a report names errors
+//! - `open_fault`: why a directory contributes none of its entries; `fault_word`: the words by which a report names errors
 //! - `laws`: theorems, such as that opening a directory and counting its files give what the definitions say of the directory
 #![tactic(auto)]
 

@@ -31,7 +31,7 @@ pub trait Line: Sized {
 /// A counted file.
 #[derive(Debug, Drop)]
 pub struct FileLine {
-    /// The names down to the file, joined by slashes.
+    /// The path of the file, relative to a directory or to the top of a tree.
     pub path: Vec<u8>,
     /// The state of the attribute `text` for the file.
     pub text: TextState,
@@ -68,7 +68,8 @@ impl Line for FileLine {
 /// A file or a directory that was not counted, and why.
 #[derive(Debug, Drop)]
 pub struct FaultLine {
-    /// The names down to the file or directory, joined by slashes. For the directory that the path is relative to, the path is empty.
+    /// The path of the file or directory, relative to a directory or to the top of a tree. The path of that directory or top itself is
+    /// empty.
     pub path: Vec<u8>,
     /// Why the file or directory was not counted.
     pub word: FaultWord,
@@ -102,7 +103,7 @@ impl Line for FaultLine {
 /// A skipped entry of a listed directory, and why it was skipped.
 #[derive(Debug, Drop)]
 pub struct SkippedLine {
-    /// The names down to the entry, joined by slashes.
+    /// The path of the entry, relative to a directory or to the top of a tree.
     pub path: Vec<u8>,
     /// Whether the entry is a file, a directory or something else.
     pub kind: Kind,

@@ -8,11 +8,11 @@ use memchr::memmem;
 use std::alloc::{AllocError, Global};
 use std::sync::atomic::{AtomicBool, Ordering};
 
-/// The attributes that a command line names, and which of them the attribute files of a tree contain. Workers note these as they read the
-/// files.
+/// The attributes that a command line names. For each attribute, workers note whether an attribute file of the tree contains its name, as
+/// they read the files.
 ///
-/// No contract says which attributes the files contain, so this is only good for a hint. The name of an attribute also counts if it is a
-/// part of another word, or is in a comment.
+/// No contract says which attributes the files contain, so the notes are only good for a hint. A name that is a part of another word, or
+/// that is in a comment, counts as contained too.
 ///
 /// ```
 /// let named = NamedAttributes::new(alloc, &["linguist-generated=true"])?;
@@ -60,7 +60,7 @@ impl NamedAttributes {
         Ok(NamedAttributes { words: noted })
     }
 
-    /// Returns the attributes that none of the attribute files that were read contains, in the order of the words.
+    /// Returns the attributes whose names were not found in any attribute file so far, in the order of the words.
     pub fn unnamed(&self, alloc: Global) -> Result<Vec<Vec<u8>>, AllocError>
         ensures { IfOk result (λ told. AreSomeAttributes (noted self.now) told.items) }
     {

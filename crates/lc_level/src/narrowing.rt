@@ -1,4 +1,4 @@
-//! Deciding which entries of a directory stay by the paths of `--only`, and which of these paths are absent.
+//! Deciding which entries of a directory the paths of `--only` select, and which of these paths are absent.
 ghost use Rattle.std.specs.Prelude.{◌≡◌, ◌∷◌, ◌++◌, [], IfOk, map};
 ghost use Rattle.std.specs.List.{filter, list_any};
 ghost use Rattle.lc_level.specs.Level.{absent_faults};

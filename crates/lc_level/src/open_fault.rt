@@ -9,7 +9,8 @@ use crate::{FaultSite, FaultWord};
 /// Why a directory contributes none of its entries.
 #[derive(Clone, Copy, Debug, Drop, PartialEq, Eq)]
 pub enum OpenFault {
-    /// The listing or one of the rule files could not be read. The site says which, and the report names the reason by this word.
+    /// The listing or one of the rule files could not be read. The `FaultSite` says which of these, and reports name the reason by the
+    /// `FaultWord`.
     Faulted(FaultSite, FaultWord),
     /// An allocation failed.
     Memory,

@@ -25,9 +25,10 @@ pub struct Opened {
     pub children: Vec<ChildDirectory>,
     /// The skipped entries, in the order of the listing. The list is empty unless the reader's options say to keep them.
     pub skipped: Vec<SkippedLine>,
-    /// An error for each path of `--only` that is absent, relative to the directory.
+    /// An error for each path of `--only` that is absent. The path in the error is relative to the directory.
     pub absent: Vec<FaultLine>,
-    /// The number of the directory's entries that the paths of `--only` select. Without such paths, all are selected.
+    /// The number of the directory's entries that the paths of `--only` select. If there are no paths of `--only`, all entries are
+    /// selected.
     pub entries: u32,
 }
 
@@ -68,8 +69,8 @@ impl<T: Tree> LevelReader<'_, T> {
         }
     }
 
-    /// Lists the directory of a job, reads its rule files and decides which entries stay. Stops at the first error, and at an entry that is
-    /// too deep for a walk. On success `scratch` has the path of this directory.
+    /// Lists the directory of a job, reads its rule files and decides which entries stay. Stops at the first error, and at an entry whose
+    /// path is too long or too deep (`OpenFault::TooDeep`). On success `scratch` has the path of this directory.
     pub fn open(&self, job: &Job, scratch: &mut Scratch) -> Result<Opened, OpenFault>
         ensures at { IfOk result (λ o. scratch.new.path.directory ≡ o.job.path) }
         ensures opens { OpensLevel (T.lists self.now.tree.now) (T.gives self.now.tree.now) self.now.options.left_out

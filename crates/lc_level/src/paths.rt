@@ -4,7 +4,7 @@ ghost use Rattle.lc_glob.specs.Path.{path_in};
 
 use std::alloc::{AllocError, Global};
 
-/// Returns the path of a name in a directory. `lc_glob::path::push_name` adds the name in place.
+/// Returns the path of the entry with this name in a directory. `lc_glob::path::push_name` changes the directory's path in place instead.
 pub fn path_in(alloc: Global, directory: &[u8], name: &[u8]) -> Result<Vec<u8>, AllocError>
     ensures { IfOk result (λ p. p.items ≡ path_in directory.now name.now) }
 {
@@ -16,8 +16,8 @@ pub fn path_in(alloc: Global, directory: &[u8], name: &[u8]) -> Result<Vec<u8>, 
     Ok(path)
 }
 
-/// Returns a path relative to a directory, or `None` if the path is not below the directory: `a/b/c` is `c` from `a/b`. From the top every
-/// path stays as it is.
+/// Returns a path relative to a directory, or `None` if the path is not below the directory. For example, `a/b/c` relative to `a/b` is `c`.
+/// Relative to the top, every path stays as it is.
 ///
 /// ```
 /// assert_eq!(relative_to(b"a/b", b"a/b/c"), Some(b"c"));

@@ -15,7 +15,7 @@ pub enum Reason {
     Git,
     /// The last rule that matches the entry ignores it. The rule is in the file of this source, on the line with this number, from 1.
     Rule { source: RuleSource, line: u32 },
-    /// An attribute has for the entry the state that this word of the filters requires. The word is `ATTR` or `ATTR=VALUE`.
+    /// An attribute of the entry has the state that this word of the filters requires. The word is `ATTR` or `ATTR=VALUE`.
     Attribute(Vec<u8>),
     /// The entry is a file, and no pattern of the filters includes it.
     NotIncluded,

@@ -6,7 +6,7 @@ use crate::path_buffer::PathBuffer;
 use lc_census::new_buffer;
 use std::alloc::{AllocError, Global};
 
-/// The buffers that a worker lends to all its directories, so that a directory allocates only what it keeps.
+/// The buffers of a worker, which it uses again for each directory instead of allocating new ones.
 #[derive(Drop)]
 pub struct Scratch {
     // Of one read of a file.
@@ -19,7 +19,7 @@ pub struct Scratch {
 }
 
 impl Scratch {
-    /// Makes empty buffers, and one of `BUFFER_LEN` bytes for reads.
+    /// Makes the buffers. The buffer for reads has `BUFFER_LEN` bytes, and the others are empty.
     pub fn new(alloc: Global) -> Result<Scratch, AllocError> {
         Ok(Scratch {
             buffer: new_buffer(alloc)?,

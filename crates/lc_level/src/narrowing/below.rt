@@ -1,4 +1,4 @@
-//! Testing whether a path is below another, and finding the rest of the path from there.
+//! Testing whether a path is below another path, and making a path relative to a directory above it.
 ghost use Rattle.std.specs.Prelude.{◌≡◌, ◌∷◌, ◌++◌, [], None, option_map};
 ghost use Rattle.std.specs.Ordering.{is_lt};
 ghost use Rattle.lc_glob.specs.Bytes.{slash};
@@ -24,8 +24,8 @@ pub(crate) fn stands_below(path: &[u8], other: &[u8]) -> bool
     }
 }
 
-/// Returns a path relative to a directory, if the path is below the directory and not the directory itself: `a/b/c` is `c` from `a/b`, and
-/// the empty path is below no directory.
+/// Returns a path relative to a directory, if the path is below the directory and not the directory itself. For example, `a/b/c` relative
+/// to `a/b` is `c`. The empty path is below no directory.
 pub(crate) fn rest_from<'p>(directory: &[u8], path: &'p [u8]) -> Option<&'p [u8]>
     ensures { option_map (λ rest. rest.now) result ≡ rest_from directory.now path.entry.now }
 {

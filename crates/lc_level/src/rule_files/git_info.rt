@@ -1,4 +1,4 @@
-//! The rule files of `.git/info`: gitignore(5), DESCRIPTION, and gitattributes(5), DESCRIPTION.
+//! Reading the rule files `exclude` and `attributes` of `.git/info`. See gitignore(5), DESCRIPTION, and gitattributes(5), DESCRIPTION.
 ghost use Rattle.std.specs.Prelude.{◌≡◌, codes};
 ghost use Rattle.lc_level.specs.EntryLooks.{has_dir};
 ghost use Rattle.lc_level.specs.GitInfo.{ReadsGit};

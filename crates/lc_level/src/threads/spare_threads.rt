@@ -11,7 +11,7 @@ use lc_tree::IdleThreads;
 /// ```
 #[derive(Drop)]
 pub struct SpareThreads<'h, R> {
-    /// The runtime, which starts a thread for each part but one.
+    /// The runtime that starts the threads that help.
     pub rt: &'h R,
     /// How many threads are idle.
     pub idle: &'h IdleThreads,
