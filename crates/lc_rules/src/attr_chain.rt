@@ -121,8 +121,9 @@ impl AttrChain {
         Ok(AttrChain { files, info })
     }
 
-    /// Returns the chain with the file `.git/info/attributes`, or a copy if `file` is `None`. The file is one that was read with `top`. It
-    /// overrides every other file of the chain, also files that are added later, and replaces an earlier file of `.git/info`.
+    /// Returns the chain with the file `.git/info/attributes`, or a copy if `file` is `None`. This file overrides every other file of the
+    /// chain, also files that are added later, and replaces an earlier file of `.git/info`. The caller reads the file with `top`, so that
+    /// it may define macros.
     pub fn with_info(
         &self,
         alloc: Global,
@@ -139,7 +140,7 @@ impl AttrChain {
         Ok(AttrChain { files, info })
     }
 
-    /// Returns the state of an attribute for a path. A name that no assignment decides is unspecified.
+    /// Returns the state of an attribute for a path. If no assignment decides the attribute, its state is unspecified.
     pub fn state(
         &self,
         alloc: Global,

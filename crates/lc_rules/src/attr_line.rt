@@ -14,7 +14,7 @@ use std::alloc::{AllocError, Global};
 /// The bytes of a line's pattern.
 #[derive(Drop)]
 pub(crate) enum PatternText<'a> {
-    /// The bytes as they are in the line.
+    /// The bytes of the pattern as they are in the line.
     Written(&'a [u8]),
     /// The bytes of a quoted pattern, without its quotation marks and with its escapes replaced.
     Unquoted(Vec<u8>),

@@ -1,4 +1,4 @@
-//! The files of a chain, which are ignore files or attribute files.
+//! The files of a chain of rule files: all are ignore files, or all are attribute files.
 
 ghost use Rattle.std.specs.Prelude.{◌≡◌, ◌∷◌, [], IfOk, MatchOption};
 ghost use Rattle.std.specs.List.{filter_map};

@@ -19,8 +19,9 @@ use std::marker::Model;
 
 /// A path and the directories above it, with the rules of one ignore file that decide them.
 ///
-/// Each rule is matched with all directories in one pass, from the last rule to the first, until the highest ignored directory is known.
-/// Directories below that one, and below the first `MAX_DEPTH`, are matched one by one when they are needed.
+/// The rules are matched from the last to the first, each with all directories in one pass, until the highest ignored directory is known. A
+/// directory below the highest ignored one, or with a path of `MAX_DEPTH` names or more, is matched alone when `last_match` is called for
+/// this directory.
 ///
 /// ```
 /// let file = IgnoreFile::read(alloc, b"**/b/\n!/a\n")?;
@@ -32,7 +33,7 @@ pub struct DirectoriesAbove<'a> {
     file: &'a IgnoreFile,
     path: &'a [u8],
     is_dir: bool,
-    /// The index in the path at which each directory above the path ends, the highest directory first.
+    /// For each directory above the path, the highest first, the length of the directory's path.
     ends: [usize; MAX_DEPTH],
     /// For each directory above the path, the highest first, the last rule that matches it. Only the first `count` are known.
     found: [Option<&'a Rule>; MAX_DEPTH],
@@ -83,8 +84,8 @@ impl<'a> DirectoriesAbove<'a> {
         }
     }
 
-    /// Returns the last rule of the file that matches the directory whose path is the first `len` bytes of the path. `place` is the number
-    /// of directories above that directory.
+    /// Returns the last of the file's rules that match a directory above the path. The directory's path is the first `len` bytes of the
+    /// path. `place` is the number of directories above this directory, without the top.
     pub fn last_match(&self, place: usize, len: usize) -> Option<&'a Rule>
         requires { len ≤ length self.now.path }
         ensures { option_map (λ r. (Gitignore 0, r.now)) result ≡ last_match (at_depth 0 self.now.rules) (take len self.now.path) true }
@@ -96,7 +97,7 @@ impl<'a> DirectoriesAbove<'a> {
         self.file.last_match(&self.path[..len], true)
     }
 
-    /// Returns the last rule of the file that matches the path itself.
+    /// Returns the last of the file's rules that match the path itself.
     pub fn last_match_of_path(&self) -> Option<&'a Rule>
         ensures { option_map (λ r. (Gitignore 0, r.now)) result ≡ last_match (at_depth 0 self.now.rules) self.now.path self.now.is_dir }
     {

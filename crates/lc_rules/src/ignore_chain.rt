@@ -85,7 +85,8 @@ impl Chain {
         }
     }
 
-    /// Returns the chain, marked with whether a walk skips the tree's ignore files: if `no_ignore` is true, the walk does not read them.
+    /// Returns the chain with the flag `no_ignore` set to this value. If the flag is true, a walk does not read the ignore files of the
+    /// tree.
     pub fn with_no_ignore(self, no_ignore: bool) -> Chain
         ensures { result ≡ with_no_ignore self no_ignore }
     {

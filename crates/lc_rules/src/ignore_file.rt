@@ -77,7 +77,7 @@ impl IgnoreFile {
     }
 
     /// Returns whether some rule's pattern has nested wildcards (`lc_glob::Pattern::has_nested_wildcards`), so that matching one directory
-    /// after another repeats work. If so, `DirectoriesAbove` costs less for all directories above a path.
+    /// after another repeats work. If so, matching all directories above a path costs less with `DirectoriesAbove`.
     pub fn has_nested_wildcards(&self) -> bool
         ensures { result ≡ list_any has_nested_wildcards (patterns_of self.now) }
     {
@@ -94,7 +94,7 @@ impl IgnoreFile {
         }
     }
 
-    /// Returns the last rule of the file that matches a path below its directory.
+    /// Returns the last of the file's rules that match a path below the file's directory.
     ///
     /// ```
     /// let file = IgnoreFile::read(alloc, b"*.log\n\n!keep.log\n")?;

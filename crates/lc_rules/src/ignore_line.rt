@@ -10,12 +10,12 @@ use std::alloc::{AllocError, Global};
 use std::marker::Model;
 use std::snapshot::Snapshot;
 
-/// A rule of an ignore file without its pattern, which the `IgnoreFile` stores.
+/// A rule of an ignore file, without its pattern. The `IgnoreFile` stores the patterns of its rules.
 #[derive(Drop)]
 pub struct Rule {
     line: u32,
     is_negated: bool,
-    /// The pattern, for contracts alone. The code keeps it in the set of the file's patterns.
+    /// The pattern as contracts see it, which takes no memory. The code reads the pattern from the `IgnoreFile`.
     pattern: Snapshot<Pattern>,
 }
 
@@ -86,8 +86,8 @@ fn without_spaces<'a>(line: &'a [u8]) -> &'a [u8]
     &line[..kept]
 }
 
-/// Returns the part of a line of an ignore file that is read as a rule: the line without one carriage return at its end, and then without
-/// the spaces at its end that no backslash quotes.
+/// Returns the part of a line of an ignore file that is read as a rule. First one carriage return at the end of the line is dropped, then
+/// all spaces at the end that no backslash quotes.
 ///
 /// ```
 /// assert!(rt; text_of_line(b"!*.log  \r") == b"!*.log".as_slice());

@@ -1,10 +1,10 @@
-//! Laws of the definitions of ignore files that the contracts cite. The functions do nothing: their contracts are what is proved.
+//! Laws: theorems about the definitions of ignore files that the contracts cite. Each law is the contract of a function that does nothing.
 
 ghost use Rattle.lc_rules.specs.CanMatch.{CanMatchLaw};
 ghost use Rattle.lc_rules.specs.IgnoreLaws.{CommandLineLaw, LastMatchLaw, LinesLaw};
 
-/// The law that the deciding rule is among the rules and matches, that no later rule matches, and that no other rule has this property. If
-/// no rule decides, none matches.
+/// The law about the rule that decides a path: it is one of the given rules, it matches the path, and no later rule matches the path. No
+/// other rule meets these three conditions. If no rule decides the path, no rule matches the path.
 pub fn the_last_match_decides()
     ensures { LastMatchLaw }
 {}
@@ -14,12 +14,12 @@ pub fn the_command_line_decides()
     ensures { CommandLineLaw }
 {}
 
-/// The law that each rule of a file is read from the line of the file that has the rule's number.
+/// The law that each rule of a file is read from the line of this file whose number the rule has.
 pub fn rules_stand_on_their_lines()
     ensures { LinesLaw }
 {}
 
-/// The law about lines for which `can_match` is false: such a line gives no rule, or one that matches no path of an entry.
+/// The law that a line for which `can_match` is false gives no rule, or a rule that matches no path of an entry.
 pub fn what_cannot_match_gives_nothing()
     ensures { CanMatchLaw }
 {}

@@ -1,6 +1,7 @@
-//! The rules of a tree: ignore files and attribute files, chains of both, and which rule decides a path or the state of its attribute.
+//! The rules of a tree: ignore files, attribute files, and chains of each. They decide whether a path is ignored, and which state an
+//! attribute has for a path.
 //!
-//! The formats are those of gitignore(5) and gitattributes(5); `docs/RULES.md` has each rule with an example.
+//! The formats are those of gitignore(5) and gitattributes(5); `docs/RULES.md` explains each rule of these formats.
 //!
 //! - `ignore_line`, `ignore_file`, `ignore_chain`: a rule, an ignore file, and the chain of the ignore files that apply to a path
 //! - `matchable`: which lines give a rule that can match a path
@@ -10,7 +11,7 @@
 //! - `lines`, `chain_files`, `paths`: what ignore files and attribute files share
 //! - `directories_above`: the last rule that matches each directory above a path
 //! - `verdicts`, `rule_source`: what a rule says of a path, and the file that the rule was read from
-//! - `faults`: why a file can't be read as rules; `laws`: laws of which rule decides a path
+//! - `faults`: why a file can't be read as rules; `laws`: theorems about the rule that decides a path
 #![tactic(auto)]
 
 mod assignment;

@@ -90,8 +90,8 @@ impl LineTable {
         &self.patterns
     }
 
-    /// Returns the bytes that hold the assignments of the line at an index of the table. Skipping the line's pattern allocates if it is
-    /// quoted.
+    /// Returns the bytes that hold the assignments of the line at an index of the table. Skipping the line's pattern allocates memory if
+    /// the pattern is quoted.
     pub(crate) fn assignments_at<'a>(
         &'a self,
         alloc: Global,

@@ -35,7 +35,7 @@ impl<'a> Lines<'a> {
         }
     }
 
-    /// Returns the first line, and the others.
+    /// Returns the first line and the lines after it, or `None` if no line is left.
     pub fn split_first(self) -> Option<(&'a [u8], Lines<'a>)>
         ensures { MatchOption result (self.entry ≡ []) (λ p. self.entry ≡ p.0.now ∷ p.1) }
     {

@@ -52,10 +52,12 @@ fn pattern_text(text: &[u8]) -> &[u8]
     }
 }
 
-/// Returns whether a line of an ignore file gives a rule that can match a path, as far as is known.
+/// Returns whether a line of an ignore file may give a rule that matches a path. If the result is false, the line gives no rule, or a rule
+/// that matches no path of an entry. If the result is true, nothing is known.
 ///
 /// The result is false for an empty line, a comment, and a pattern that can't be read, such as `[a`. It is also false for a pattern with a
-/// segment `.` or `..`, such as `./a`, since no entry has such a name. Segments after the first bracket or backslash may be anything.
+/// segment `.` or `..`, such as `./a`, since no entry has such a name. The search for `.` and `..` ends at the first segment that has a
+/// bracket or a backslash.
 ///
 /// ```
 /// assert!(rt; can_match(alloc, b"*.o")? && !can_match(alloc, b"./src")?);

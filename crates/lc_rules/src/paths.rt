@@ -8,8 +8,8 @@ ghost use Rattle.lc_rules.specs.Verdicts.{below};
 
 use lc_glob::cut_at_first;
 
-/// A path, and the rest of it after its first `depth` segments. Files of a chain are matched from the top down, and each goes on where the
-/// file before it stopped. So a path is read once for all of them.
+/// A path, and the rest of it after its first `depth` segments. The files of a chain are matched from the top down, and `at` moves on from
+/// the directory of one file to the directory of the next file. So a path is read once for all files of the chain.
 #[derive(Clone, Copy)]
 pub(crate) struct PathBelow<'a> {
     pub(crate) path: &'a [u8],

@@ -164,9 +164,10 @@ pub(crate) fn decide_by_lines<'a>(
     Ok(None)
 }
 
-/// The law that three equations determine which state a list of assignments gives each name; `AttrChain::state` returns the state of one
-/// name. An empty list changes nothing. A name that is decided stays so. The first assignment of a name decides it; if it sets a macro, the
-/// macro's assignments are read before the rest of the list.
+/// The law that three equations determine the definition `decide`, which says what state a list of assignments gives each name.
+/// `AttrChain::state` returns this state for one name. First, an empty list decides no further name. Second, an assignment of a name that
+/// is already decided is skipped. Third, the first assignment of a name decides the name. If this assignment sets a macro, the macro's
+/// assignments are read before the rest of the list.
 pub fn decides_by_equations()
     ensures { DecidesByEquations }
 {}

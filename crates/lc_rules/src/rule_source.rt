@@ -1,12 +1,13 @@
 //! The file that a rule was read from.
 
-/// The file that a rule was read from, or the command line, from the lowest precedence to the highest: gitignore(5), DESCRIPTION.
+/// Where a rule comes from: a file or the command line. The variants are in the order of precedence, the lowest first (gitignore(5),
+/// DESCRIPTION).
 #[derive(Debug, Clone, Copy, PartialEq, Eq)]
 pub enum RuleSource {
     /// The file of `--exclude-from`, which holds for the whole tree.
     ExcludeFrom,
-    /// The `.git/info/exclude` of the directory whose path has this number of segments: 0 in a walk, which reads only that of the top
-    /// directory.
+    /// The `.git/info/exclude` of the directory whose path has this number of segments. The number is 0 in a walk, which reads only the
+    /// `.git/info/exclude` of the top directory.
     InfoExclude(u32),
     /// The `.gitignore` of the directory whose path has this number of segments.
     Gitignore(u32),

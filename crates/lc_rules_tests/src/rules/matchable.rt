@@ -4,7 +4,7 @@ use lc_rules::can_match;
 use std::process::Abort;
 use std::test::Fail;
 
-/// Lines that give no rule, or one that matches nothing.
+/// Lines that give no rule, or a rule that matches nothing.
 const NEVER: &[&[u8]] = &[
     b"",
     b"\r",
@@ -35,7 +35,7 @@ const NEVER: &[&[u8]] = &[
     b"a/..\r",
 ];
 
-/// Lines that give a rule, and so each may match some path, as far as is known.
+/// Lines for which `can_match` is true: each gives a rule that may match a path.
 const PERHAPS: &[&[u8]] = &[
     b"a", b"\\#x", b"\\!x", b"!a", b"*", b"**", b"a/", b"/a", b"a/**/b", b"...", b".a", b"..a",
     b"a.", b"a/.b", b"\\ ", b"[ab]", b"x[/../]", b"x[/./]", b"a b", b"a\t",
