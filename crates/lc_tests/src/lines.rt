@@ -40,7 +40,7 @@ pub fn text_word(text: TextState) -> &'static str {
     }
 }
 
-/// Returns the word for line ends.
+/// Returns the word for a kind of line ends, such as `crlf`.
 pub fn eol_word(eol: Eol) -> &'static str {
     match eol {
         Eol::NoEnd => "none",
@@ -52,7 +52,7 @@ pub fn eol_word(eol: Eol) -> &'static str {
     }
 }
 
-/// Adds a name or a path. The empty path is written as `.`, and bytes that are not UTF-8 as a list of numbers.
+/// Appends a name or a path to a text. The empty path is written as `.`, and bytes that are not UTF-8 as a list of numbers.
 pub fn push_name(text: &mut String, name: &[u8]) -> Result<(), AllocError> {
     if name.is_empty() {
         return text.push_str(".");
@@ -63,7 +63,7 @@ pub fn push_name(text: &mut String, name: &[u8]) -> Result<(), AllocError> {
     }
 }
 
-/// Adds the mark that shows the kind of an entry after its name.
+/// Appends to a text the mark that follows an entry's name and shows the entry's kind.
 pub fn push_kind(text: &mut String, kind: Kind) -> Result<(), AllocError> {
     match kind {
         Kind::Dir => text.push_str("/"),
@@ -73,7 +73,7 @@ pub fn push_kind(text: &mut String, kind: Kind) -> Result<(), AllocError> {
     }
 }
 
-/// Adds a file's name, with `*/` before it for each directory above.
+/// Appends a file's name to a text, after a `*/` for each directory above the file.
 fn push_below(text: &mut String, depth: u32, name: &str) -> Result<(), AllocError> {
     for _ in 0..depth {
         text.push_str("*/")?;
@@ -81,7 +81,7 @@ fn push_below(text: &mut String, depth: u32, name: &str) -> Result<(), AllocErro
     text.push_str(name)
 }
 
-/// Adds the file of a rule, with `*/` for each directory above.
+/// Appends the name of a rule's file to a text, after a `*/` for each directory above the file.
 fn push_source(text: &mut String, source: RuleSource) -> Result<(), AllocError> {
     match source {
         RuleSource::ExcludeFrom => text.push_str("--exclude-from"),
@@ -91,7 +91,7 @@ fn push_source(text: &mut String, source: RuleSource) -> Result<(), AllocError> 
     }
 }
 
-/// Adds the reason why an entry is skipped.
+/// Appends to a text the reason for which an entry is skipped.
 pub fn push_reason(text: &mut String, reason: &Reason) -> Result<(), AllocError> {
     match reason {
         Reason::Git => text.push_str("git"),

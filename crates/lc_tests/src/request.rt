@@ -13,7 +13,7 @@ pub struct Asked<'a> {
     /// Whether each word of the request is a known option or a path of `--only`.
     pub is_known: bool,
     exclude_from: Option<Vec<u8>>,
-    /// The patterns of `--exclude`, each followed by a line feed. `include` has those of `--include` in this form.
+    /// The patterns of `--exclude`, each followed by a line feed. `include` has the patterns of `--include` in this form.
     exclude: Vec<u8>,
     include: Vec<u8>,
     no_ignore: bool,
@@ -22,8 +22,9 @@ pub struct Asked<'a> {
 }
 
 impl<'a> Asked<'a> {
-    /// Reads a request from words: options of `lc count`, with `=` before their values, and the paths of `--only`. The value of
-    /// `--exclude-from` is the contents of the file, written as in a sketch. The limit is 100 directories without `--max-dirs`.
+    /// Reads a request from words. A word is an option of `lc count`, with `=` before its value, or a path of `--only`. The value of
+    /// `--exclude-from` is the contents of the file, written as in a sketch (`tree`). If there is no `--max-dirs`, a walk may visit 100
+    /// directories.
     pub fn read(alloc: Global, words: &'a str) -> Result<Asked<'a>, AllocError> {
         let mut asked = Asked {
             files: false,

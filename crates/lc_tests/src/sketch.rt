@@ -1,4 +1,4 @@
-//! In-memory trees from sketches.
+//! Making in-memory trees from sketches. A sketch is a text that lists the entries of a tree.
 
 use lc_tree::{Node, OtherKind};
 use std::alloc::{AllocError, Global};
@@ -52,7 +52,7 @@ fn put(open: &mut Vec<Open>, name: Vec<u8>, node: Node) -> Result<(), AllocError
     Ok(())
 }
 
-/// Closes the directory that was opened last, and adds it to the one in which it is.
+/// Closes the directory that was opened last, and adds it to its parent directory.
 fn close(open: &mut Vec<Open>) -> Result<(), AllocError> {
     match open.pop() {
         Some((name, entries)) => put(open, name, Node::Dir(entries)),

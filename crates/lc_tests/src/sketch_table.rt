@@ -21,8 +21,8 @@ pub enum Sketch<'a> {
 }
 
 impl Sketch<'_> {
-    /// Makes the tree that the sketch describes: each path has what the sketch has there. If a name occurs twice in a directory, the first
-    /// entry counts.
+    /// Makes the tree that the sketch describes: the tree has at each path what the sketch has at this path. If a name occurs twice in a
+    /// directory, the first entry counts.
     pub fn node(&self, alloc: Global) -> Result<Node, AllocError>
         ensures { IfOk result (λ node. IsTreeOf self.now node) }
     {

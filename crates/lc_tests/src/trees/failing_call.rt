@@ -4,7 +4,8 @@ ghost use Rattle.std.specs.Prelude.{◌≡◌};
 use std::marker::Model;
 use std::sync::atomic::{AtomicU64, Ordering};
 
-/// A count of the calls of all threads, one of which is to fail. Contracts see the number of the failing call, but not the count.
+/// A count of the calls that all threads make, with the number of the one call that is to fail. Contracts see this number, but not the
+/// count.
 #[derive(Drop)]
 pub struct FailingCall {
     begun: AtomicU64,
@@ -30,7 +31,7 @@ impl FailingCall {
         }
     }
 
-    /// Returns how many calls have begun. No clause describes a count that threads share, so tests compare it.
+    /// Returns how many calls have begun. No contract describes a count that threads share, so only tests check this result.
     pub fn begun(&self) -> u64 {
         self.begun.load(Ordering::SeqCst)
     }

@@ -4,7 +4,7 @@ ghost use Rattle.lc_tests.specs.FailingTrees.{MayFail};
 use super::failing_call::FailingCall;
 use lc_io::{Failed, Source};
 
-/// A file of another tree. One read of the file may fail, and later reads go on at the same place.
+/// A file of another tree. One read of the file may fail. Later reads go on as if the failed read had not been made.
 #[derive(Drop)]
 pub struct FailingFile<'a, F> {
     pub(super) file: F,
