@@ -9,7 +9,8 @@ use lc_rules::RuleFault;
 use std::alloc::AllocError;
 use thiserror::Error;
 
-/// Why the result of checking or explaining paths was not written, or only in part. An explanation never returns `RulesTooLong`.
+/// Why the result of checking or explaining paths was not written, or was written only in part. An explanation never returns
+/// `RulesTooLong`.
 #[derive(Debug, Clone, Copy, PartialEq, Eq, Error)]
 pub enum CheckFault {
     /// A read of the input failed.

@@ -52,7 +52,7 @@ fn push_each_escaped(text: &mut Vec<u8>, bytes: &[u8]) -> Result<(), AllocError>
     Ok(())
 }
 
-/// Appends bytes, escaped for a program: a backslash becomes two, a control byte `\x` and two hexadecimal digits.
+/// Appends bytes, escaped for a program: a backslash becomes two backslashes, and a control byte becomes `\x` and two hexadecimal digits.
 pub fn push_escaped(text: &mut Vec<u8>, bytes: &[u8]) -> Result<(), AllocError>
     ensures { OnOk result (text.new.items ≡ text.old.items ++ escape_bytes bytes.now) }
 {

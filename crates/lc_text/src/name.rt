@@ -13,8 +13,8 @@ use std::io::Write as _;
 
 /// Bytes of a path or of an extension, with what is printed before and after them.
 ///
-/// `.c` has the front `.` and the bytes `c`. `src/gen/` ends with `/`. `src/.gitignore:3` has the bytes `src/`, the end `.gitignore` and
-/// the line 3.
+/// `.c` has the front `.` and the bytes `c`. `src/gen/` has the bytes `src/gen` and the end `/`. `src/.gitignore:3` has the bytes `src/`,
+/// the end `.gitignore` and the line 3.
 ///
 /// ```
 /// let name = Name { front: ".", bytes: b"c", end: "", line: None };

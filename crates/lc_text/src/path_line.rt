@@ -5,7 +5,7 @@ ghost use Rattle.lc_text.specs.PathLines.{is_dir_line, path_of, is_bad_path, aft
 
 use lc_glob::path::{is_good_path, is_too_long};
 
-/// Returns the rest of a line without further slashes and further `./` at its beginning. `tail` is what follows the line's first `./`.
+/// Returns `tail` without the slashes and the `./` at its beginning. `tail` is what follows the first `./` of a line.
 fn after_dot(tail: &[u8]) -> &[u8]
     ensures { result.now ≡ after_dot tail.now }
 {
@@ -29,7 +29,8 @@ fn or_dot(path: &[u8]) -> &[u8]
     }
 }
 
-/// Returns a line without any `./` at its beginning, and without further slashes after these. If nothing is left, returns `.`.
+/// Drops each `./` at the beginning of a line, with all slashes after it, and returns the rest of the line. If nothing is left, returns
+/// `.`.
 ///
 /// ```
 /// assert!(rt; undotted(b".//./src/") == b"src/".as_slice() && undotted(b"./") == b".".as_slice());
@@ -50,7 +51,7 @@ pub fn is_top(path: &[u8]) -> bool
     matches!(path, [b'.'])
 }
 
-/// Splits a line into its path and whether the line ends with a slash, which means a directory.
+/// Returns the path of a line without the slash at its end, and whether the line has this slash. The slash means a directory.
 pub fn split_slash(line: &[u8]) -> (&[u8], bool)
     ensures path { result.0.now ≡ path_of line.now }
     ensures dir { result.1 ≡ is_dir_line line.now }
@@ -61,7 +62,7 @@ pub fn split_slash(line: &[u8]) -> (&[u8], bool)
     }
 }
 
-/// Returns whether no entry of a tree can have this path, or it has over 4,096 bytes.
+/// Returns whether a path is bad: it has over 4,096 bytes, or no entry of a tree can have it.
 pub fn is_bad_path(path: &[u8]) -> bool
     ensures { result ≡ is_bad_path path.now }
 {

@@ -36,7 +36,7 @@ fn above(path: &[u8], depth: u32) -> &[u8]
     &path[..path.len() - rest.len()]
 }
 
-/// Returns the directory of the file that has a rule for a path. This directory is the beginning of the path.
+/// Returns the directory of a rule's file. The rule decides `path`, so the directory is the beginning of `path`.
 ///
 /// The directory ends with a slash. It is empty for a file at the top, and for the rules of `--exclude` and `--exclude-from`.
 ///

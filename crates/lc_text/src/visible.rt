@@ -102,7 +102,8 @@ fn push_text(text: &mut String, shown: &str) -> Result<(), AllocError>
 }
 
 /// Appends bytes, escaped for a terminal. Like [`push_escaped`](crate::push_escaped), but also writes `\x` and two digits for each byte of
-/// a character that moves the cursor or turns the direction of text. If the bytes are not UTF-8, each byte from 128 on is written this way.
+/// a character that moves the cursor or turns the direction of text. If the bytes are not UTF-8, each byte of value 128 or more is written
+/// in this way too.
 pub fn push_visible(text: &mut String, bytes: &[u8]) -> Result<(), AllocError>
     ensures { OnOk result (string_bytes text.new ≡ string_bytes text.old ++ visible_bytes bytes.now) }
 {

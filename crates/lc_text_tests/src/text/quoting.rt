@@ -1,4 +1,4 @@
-//! Quoting words for a shell. `printf '%s\n'` in dash and in bash prints each word again from its expected text.
+//! Quoting words for a shell. In dash and in bash, the command `printf '%s\n'` followed by the expected text of a word prints this word.
 
 use lc_text::push_quoted;
 use std::process::Abort;
