@@ -1,4 +1,4 @@
-//! Laws of a text as Markdown. The functions do nothing: their contracts are what is proved.
+//! Laws of a text as Markdown. Each law is a theorem, which is the contract of a function that does nothing.
 
 ghost use Rattle.lc_formats.specs.MarkdownLaws.{BlankLaw, EscapedLaw, LinkLaw, UnescapedLaw};
 

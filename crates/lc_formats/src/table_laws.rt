@@ -1,4 +1,4 @@
-//! Laws of texts in human-readable columns. The functions do nothing: their contracts are what is proved.
+//! Laws of texts in human-readable columns. Each law is a theorem, which is the contract of a function that does nothing.
 
 ghost use Rattle.lc_formats.specs.ChangeLaws.{ChangeLaw, ComparisonEndsLaw, ComparisonWidthLaw, NoChangeLaw};
 ghost use Rattle.lc_formats.specs.CommaLaws.{CommasLaw};

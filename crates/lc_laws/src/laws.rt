@@ -1,4 +1,4 @@
-//! Laws of the definitions that the contracts cite. The functions do nothing: their contracts are what is proved.
+//! Laws: theorems about the definitions that the contracts cite. Each law is the contract of a function that does nothing.
 //!
 //! The clauses `answers` are about fixed answers of a tree: a listing of each directory, and file contents. A count and an explanation may
 //! have different answers. Each report and each explanation is made from some answers that its tree may give

@@ -1,5 +1,5 @@
-//! Laws that relate the sheet of a report, from which its texts are made, to the laws of these texts. The functions do nothing: their
-//! contracts are what is proved.
+//! Laws that relate the sheet of a report, from which its texts are made, to the laws of these texts. Each law is a theorem, which is the
+//! contract of a function that does nothing.
 
 ghost use Rattle.lc_laws.specs.PrintedShares.{PrintedSharesLaw};
 ghost use Rattle.lc_laws.specs.SheetReadable.{ReadableSheetLaw, SheetRecordsLaw};

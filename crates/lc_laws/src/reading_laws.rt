@@ -1,5 +1,4 @@
-//! The law that relates the JSON text of a report to what is read from that text. The function does nothing: its contract is what is
-//! proved.
+//! The law that relates the JSON text of a report to what is read from that text. The law is the contract of a function that does nothing.
 
 ghost use Rattle.lc_laws.specs.ReadBack.{ReadBackLaw};
 

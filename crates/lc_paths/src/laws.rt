@@ -1,4 +1,4 @@
-//! Laws of the definitions that the contracts cite. The functions do nothing: their contracts are what is proved.
+//! Laws: theorems about the definitions that the contracts cite. Each law is the contract of a function that does nothing.
 
 ghost use Rattle.lc_paths.specs.Checks.Laws.{WordLaw};
 ghost use Rattle.lc_paths.specs.Explanations.Laws.{EntryLaw, IntoLaw};

@@ -1,4 +1,4 @@
-//! Laws: functions that do nothing, whose contracts are theorems about the definitions that other contracts cite.
+//! Laws: theorems about the definitions that the contracts cite. Each law is the contract of a function that does nothing.
 ghost use Rattle.lc_reports.specs.Laws.{JoinGroupLaw, JoinOnceLaw, JoinOrderLaw, JoinTotalsLaw, NameTotalsLaw, NamedRulesLaw};
 
 /// The law that a joined report does not depend on the order of the reports.

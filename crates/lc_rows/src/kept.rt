@@ -141,7 +141,7 @@ fn keep_by_files(
     Ok(())
 }
 
-/// The law that sums fit their types. The function does nothing: its contract is what is proved.
+/// The law that sums fit their types. The law is the contract of this function, which does nothing.
 fn are_in_range(sums: Sums)
     ensures { IsInRange sums }
 {

@@ -1,4 +1,4 @@
-//! Laws of the parts of a report that meet conditions. The functions do nothing: their contracts are what is proved.
+//! Laws of the parts of a report that meet conditions. Each law is a theorem, which is the contract of a function that does nothing.
 
 ghost use Rattle.lc_rows.specs.KeptLaws.{KeptTotalsLaw, NoConditionLaw, OppositesLaw, OrderLaw, WalkedOppositesLaw};
 

@@ -1,4 +1,4 @@
-//! Laws of the sheet of a report. The functions do nothing: their contracts are what is proved.
+//! Laws of the sheet of a report. Each law is a theorem, which is the contract of a function that does nothing.
 
 ghost use Rattle.lc_rows.specs.SheetLaws.{ClassPartsLaw, SheetClassesLaw, SheetFilesLaw, SheetPartsLaw, SheetTotalsLaw};
 ghost use Rattle.lc_rows.specs.SheetLaws.{WalkedSheetLaw};

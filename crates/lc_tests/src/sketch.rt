@@ -83,6 +83,7 @@ fn put_word(alloc: Global, open: &mut Vec<Open>, word: &str) -> Result<(), Alloc
 /// | `a/{ b c }` | a directory with these entries |
 /// | `a/!` | a directory that can't be listed |
 /// | `a@` | neither a file nor a directory |
+/// | `a@/` | a directory on another file system, which a walk does not enter |
 ///
 /// The sketch `/!` is a top that can't be listed.
 pub fn tree(alloc: Global, sketch: &str) -> Result<Node, AllocError> {

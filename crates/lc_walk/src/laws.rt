@@ -1,4 +1,4 @@
-//! Laws: functions that do nothing, whose contracts are theorems about the definitions that other contracts cite.
+//! Laws: theorems about the definitions that the contracts cite. Each law is the contract of a function that does nothing.
 ghost use Rattle.std.specs.Prelude.{List};
 ghost use Rattle.std.specs.List.Sorted.{IsPermutation};
 ghost use Rattle.lc_walk.specs.Accounts.{EntriesLaw, RuleLaw};
