@@ -32,7 +32,7 @@ pub(crate) const LC: CommandHelp = CommandHelp {
     about: "Count files, lines and bytes in a source tree, skipping what .gitignore skips",
     after: "Example: lc .",
     after_long: "\
-The word count may be left out: lc counts if its first argument is an option of
+The word count may be omitted: lc counts if its first argument is an option of
 lc count, is . or .., or has a slash.
 
   lc .
@@ -97,7 +97,7 @@ Exit status:
   3  no table, or a part of it; standard error shows why
   4  --fail-if-any: the table was written, and a file was counted
 
-The word count may be left out before an option, . or .., or a path with a
+The word count may be omitted before an option, . or .., or a path with a
 slash: lc --by ext src.
 
 Examples:
