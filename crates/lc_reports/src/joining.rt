@@ -24,11 +24,12 @@ fn unite_skipped(skipped: &mut Vec<SkippedLine>)
     skipped.dedup_by(|a, b| compare_skipped(a, b).is_eq());
 }
 
-/// Joins several reports into one. It adds up the reports' rows and numbers. The joined report has an optional list only if each report has
-/// this list. An error or a skipped entry appears once if several reports have it with the same fields.
+/// Joins several reports into one. It adds up the reports' rows and numbers. The joined report lists counted files only if each report
+/// lists its counted files, and skipped entries only if each report lists its skipped entries. An error or a skipped entry appears once if
+/// several reports have it with the same fields.
 ///
-/// The time is that of a sort of all lines. The call allocates memory for the lists, but not for paths. Before any allocation, it finds out
-/// whether a sum is too large.
+/// The time is that of sorting the files, errors and skipped entries of all reports. The call allocates memory for the lists, but not for
+/// paths. Before any allocation, it finds out whether a sum is too large.
 ///
 /// ```
 /// let both = joined(alloc, reports)?;

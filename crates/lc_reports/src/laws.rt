@@ -30,8 +30,8 @@ pub fn names_change_no_number()
     ensures { NameTotalsLaw }
 {}
 
-/// The law that `named` puts the same name in front of a skipped entry's path and in front of the path of the rule's file. The law is about
-/// rules of files in the tree, such as `.gitignore`, not about rules of `--exclude` and `--exclude-from`.
+/// The law about an entry that is skipped by a rule of a file in the tree, such as `.gitignore`. `named` puts the same name in front of the
+/// entry's path and in front of the path of this file. The law is not about rules of `--exclude` and `--exclude-from`.
 pub fn rules_of_a_named_report_are_in_named_files()
     ensures { NamedRulesLaw }
 {}

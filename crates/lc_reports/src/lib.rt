@@ -1,8 +1,9 @@
 //! Reports of several trees, or of parts of one tree: putting a name in front of a report's paths, and joining several reports into one.
 //!
 //! - `naming`: putting a name in front of the paths of a report
-//! - `joining`: joining several reports; `gathered`: gathering the numbers and lines of several reports; `line_order`: the order of errors
-//!   and the order of skipped entries, also if several have the same path
+//! - `joining`: joining several reports into one
+//! - `gathered`: gathering the numbers of several reports, and their lines of files, errors and skipped entries
+//! - `line_order`: the order of a report's errors, and the order of its skipped entries
 //! - `join_fault`: why several reports can't be joined
 //! - `laws`: theorems about the definitions that contracts cite
 #![tactic(auto)]

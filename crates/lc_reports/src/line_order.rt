@@ -1,4 +1,5 @@
-//! The order of a report's errors, and the order of its skipped entries. These orders also decide between lines with the same path.
+//! The order of a report's errors, and the order of its skipped entries. If several errors or skipped entries have the same path, their
+//! other fields decide.
 ghost use Rattle.std.specs.Prelude.{◌≡◌};
 ghost use Rattle.lc_level.specs.Reasons.{reason_model};
 ghost use Rattle.lc_reports.specs.LineOrder.{attribute_word, fault_cmp, kind_place, reason_cmp, rule_depth, rule_line, rule_place};

@@ -123,8 +123,8 @@ fn named_lines<L: PathLine + Drop>(
     Ok(named)
 }
 
-/// Puts a name and a slash in front of each path of a report, and in front of the file of each rule. The empty path becomes the name. Rules
-/// of `--exclude` and `--exclude-from` stay as they are, and so do all numbers.
+/// Puts a name and a slash in front of each path of a report. If an entry is skipped by a rule, the path of the rule's file also gets the
+/// name and the slash. The empty path becomes the name. Rules of `--exclude` and `--exclude-from`, and all numbers, stay as they are.
 ///
 /// For the directory `/` the name is empty: the paths of its report then begin with a slash, and the empty path becomes `/`. For a name of
 /// 2^32 segments or more, the call returns the error of a failed allocation.

@@ -1,4 +1,4 @@
-//! Tests of reports with a name in front of their paths, and in front of the files of rules.
+//! Tests of reports with a name in front of their paths, and in front of the paths of files whose rules skip entries.
 
 use crate::reports::reading::report_of;
 use crate::reports::telling::report_text;
