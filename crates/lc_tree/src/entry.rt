@@ -32,7 +32,7 @@ impl Kind {
         matches!(self, Kind::File)
     }
 
-    /// Returns whether the entry is a directory, other than an `OtherKind::Mounted` one.
+    /// Returns whether the entry is a directory. Returns false for a directory of the kind `OtherKind::Mounted`.
     pub fn is_dir(self) -> bool
         ensures { result ≡ is_dir self }
     {

@@ -22,7 +22,7 @@ pub enum FileSystems {
 pub(crate) enum Bounds {
     /// The tree enters all directories.
     Everywhere,
-    /// The tree enters only directories on the device of this number.
+    /// The tree enters only directories on the device with this number.
     Device(u64),
     /// The tree enters only its top, because the device of the top could not be read.
     TopAlone,

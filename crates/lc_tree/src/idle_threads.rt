@@ -59,7 +59,7 @@ impl Model for Helpers {
 }
 
 impl Helpers {
-    /// Returns how many threads these are.
+    /// Returns the number of helpers.
     pub fn count(&self) -> u32
         ensures { result ≡ self.now }
     {

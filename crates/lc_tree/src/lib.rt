@@ -6,7 +6,8 @@
 //! - `file_systems`: the file systems whose directories a tree of the system enters
 //! - `sys_tree`, `sys_names`, `sys_entries`, `sys_looks`: a directory of the system as a tree
 //! - `system_call`: repeating system calls that a signal interrupts
-//! - `list_parts`: the listing of a large directory, with the help of idle threads; `idle_threads`: how many threads are idle
+//! - `list_parts`: the listing of a large directory, with the help of idle threads
+//! - `idle_threads`: how many threads are idle
 //! - `node`, `mem_tree`, `mem_file`: a tree in memory
 //! - `laws`: theorems about the definitions that contracts cite
 #![tactic(auto)]

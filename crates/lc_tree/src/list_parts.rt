@@ -128,7 +128,7 @@ fn look_at_runs<T: Tree, R: Threads + Sync>(
     thread::map_vec(rt, runs, &look)
 }
 
-/// Cuts a list of names into parts of nearly equal length, in order: one part for each helper, and one part more.
+/// Cuts a list of names into parts of nearly equal length, in order: one part for each helper, and one for the calling thread.
 pub fn cut_names(
     alloc: Global,
     names: Vec<Vec<u8>>,

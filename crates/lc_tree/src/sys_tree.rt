@@ -27,9 +27,9 @@ const NAME_ROOM: usize = 256;
 /// `ReadFault::Failed`. If a name is not UTF-8, listing its directory returns `ReadFault::Unnamed`. An entry that is removed while its
 /// directory is listed is not in the listing. A call that a signal interrupts is tried again, up to `MAX_TRIES` times in all.
 ///
-/// An entry whose path in the tree has over `MAX_PATH` bytes is `Kind::Other`, and its metadata are not read. The system would refuse the
-/// path, and a walk stops at the entry in any case. An entry's path may be shorter, and yet exceed 4,095 bytes with the path of the top
-/// before it. In this case, listing the entry's directory returns `ReadFault::Failed`.
+/// An entry whose path in the tree has over `MAX_PATH` bytes is `Kind::Other`. Its metadata are not read, since the system would refuse the
+/// path. If a shorter path exceeds 4,095 bytes together with the path of the top in front, the system also refuses the path. In this case,
+/// listing the entry's directory returns `ReadFault::Failed`.
 ///
 /// A file may be replaced after its metadata were read and before it is opened. `open_file` then opens what replaced the file, even through
 /// a symbolic link. If that is a named pipe, `open_file` waits for the pipe's writer.

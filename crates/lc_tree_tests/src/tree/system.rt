@@ -1,4 +1,4 @@
-//! A system for tests, whose calls are interrupted, and whose directory may have names that a test chooses.
+//! The files of a system for tests. Signals interrupt its calls, and a test may choose the names in its directory `top/`.
 ghost use Rattle.std.specs.Io.{ReadsAtMost};
 
 use std::alloc::Allocator;
