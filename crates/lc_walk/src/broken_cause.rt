@@ -1,11 +1,11 @@
-//! Why a worker stopped work on a directory.
+//! Why a worker stopped before it had finished the work on a directory.
 
-/// Why a worker stopped work on a directory.
+/// Why a worker stopped before it had finished the work on a directory.
 #[derive(Clone, Copy, Debug, Drop, PartialEq, Eq)]
 pub enum BrokenCause {
     /// An allocation failed.
     Memory,
-    /// The board has no number left for a child directory.
+    /// A child directory got no number on the board, because all numbers were used.
     TooManyDirs,
     /// An entry's path has more than 4,096 bytes, or a directory's path more than 256 segments.
     TooDeep,

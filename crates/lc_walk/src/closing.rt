@@ -1,4 +1,4 @@
-//! The end of a walk: closing the board, which may be of any type that workers can share, and making the report from the board's rows.
+//! The end of a walk: closing the board that the workers shared, and making the report from the board's rows, one row for each directory.
 ghost use Rattle.std.specs.Prelude.{◌≡◌, [], map};
 ghost use Rattle.lc_walk.specs.Passes.{HaveWorked, IsClosable, asked};
 ghost use Rattle.lc_level.specs.Filters.{FiltersModel};
@@ -32,7 +32,8 @@ impl From<CloseFault> for WalkFault {
     }
 }
 
-/// Closes a board after all its workers have stopped because no directory was left, and makes the report from its rows.
+/// Closes the board of a walk, and makes the report from the rows that the workers added, one row for each directory. The contract
+/// describes the result if all workers have stopped because no directory was left.
 pub fn finish<B: Shared<Job, Row>, T: Tree>(
     alloc: Global,
     board: B,

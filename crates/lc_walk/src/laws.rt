@@ -23,23 +23,24 @@ pub fn a_tally_has_no_order()
         → IsPermutation files moved → StandsFor tally files → StandsFor tally moved }
 {}
 
-/// The law about the tree that the rows of a closed board make, in which a directory's children are the child directories that its row
-/// names. Under any scheduling of the workers, the recursive walk of this tree finds exactly what the directories of the rows contribute.
-/// Each directory's number occurs in the tree once. The law requires that each row is true of its directory, and that no row is
-/// `Row::Broken`.
+/// The law about the rows that workers added to a board, one row for each directory. Each row names the directory's child directories, so
+/// the rows make a tree. Under any scheduling of the workers, the recursive walk of this tree finds exactly what the directories of the
+/// rows contribute. The recursive walk visits the directory of each row once. The law requires that each row is true of its directory. It
+/// also requires that no row is `Row::Broken`: no worker stopped before it had finished a directory.
 pub fn rows_are_the_walk_of_their_tree()
     ensures found { CoreLaw }
     ensures numbers { NumbersLaw }
 {}
 
-/// The law that the recursive walk of a tree finds exactly what the directories of a closed board's rows contribute. The law requires that
-/// each row is true of its directory in this tree, and that no row is `Row::Broken`.
+/// The law about a tree, and the rows that workers added to a board, one row for each directory. The recursive walk of the tree finds
+/// exactly what the directories of the rows contribute. The law requires that each row is true of its directory in this tree. It also
+/// requires that no row is `Row::Broken`: no worker stopped before it had finished a directory.
 pub fn rows_are_the_walk_of_one_tree()
     ensures { OneAnswerLaw }
 {}
 
-/// The law that each report of a walk is the report of the recursive walk over some answers that the tree may give: listings and file
-/// contents. In each listing that the recursive walk reads, the names are good, distinct and in order, as in a `Listing`.
+/// The law that each report of a walk is also the report of some recursive walk. This recursive walk reads only answers that the tree may
+/// give: listings and file contents. In each listing that it reads, the names are good, distinct and in order, as in a `Listing`.
 pub fn reports_are_by_given_answers<T: Tree>(tree: &T)
     ensures { ByAnswersLaw (T.lists tree.now) (T.gives tree.now) }
 {
@@ -47,7 +48,8 @@ pub fn reports_are_by_given_answers<T: Tree>(tree: &T)
 }
 
 /// The law that a walk of an in-memory tree makes the report of the recursive walk of the tree that its top `Node` describes. The law
-/// requires that each file has less than 2^47 bytes, and that the board returns each row at the index of its number.
+/// requires that each file has less than 2^47 bytes. It also requires that the closed board has each directory's row at the index of the
+/// directory's number.
 pub fn reports_of_memory_are_those_of_its_node()
     ensures one_answer { NodeOneAnswerLaw }
     ensures report { NodeReportLaw }
@@ -55,15 +57,17 @@ pub fn reports_of_memory_are_those_of_its_node()
     a_node_is_one_tree();
 }
 
-/// The law that a row that is lawful in one worker's part of a legal history is lawful in the whole history. The part is the list of the
-/// worker's events. A row is lawful if it is true of its directory and of the child directories that were posted under its claim.
+/// The law that if the events of one worker show that a directory's row is lawful, the events of all workers show it too. An event is what
+/// a worker did on the board, such as adding a row. A row is lawful if it is true of its directory, and of the child directories that its
+/// worker posted for any worker to visit. The law requires that the list of all events is legal: each event was allowed when it came.
 pub fn lawful_in_part_is_lawful()
     ensures { PartLaw }
 {}
 
-/// The law that the recursive walk of a tree finds exactly what the directories that it reaches contribute: the directory itself, its
-/// counted files, its errors and its skipped entries. The walk reaches the top. If it reads a directory's listing and rule files without an
-/// error, it also reaches the child directories there that the requested paths select and that are not skipped.
+/// The law that the recursive walk of a tree finds what each directory that it reaches contributes, and nothing else. A directory
+/// contributes its counted files, its errors and its skipped entries, and itself if it was listed. The walk reaches the top. If it reads a
+/// directory's listing and rule files without an error, it also reaches the child directories there that the requested paths select and
+/// that are not skipped.
 pub fn all_that_is_found_is_given()
     ensures { FoundLaw }
 {}
@@ -78,16 +82,17 @@ pub fn entries_are_accounted_for<T: Tree>(tree: &T)
 }
 
 /// The law that the totals of a walk's report are the sums of its rows. If the report lists its files, the totals are also the sums of the
-/// files, and each row has the sums of the files with its key.
+/// files. In this case, each row has the sums of the files that have the row's extension, text state and class of line ends.
 pub fn totals_of_a_report_add_up<T: Tree>(tree: &T)
     ensures { ReportTotalsLaw (T.lists tree.now) (T.gives tree.now) }
 {
     let _tree = tree;
 }
 
-/// The law that a walk of some well-formed requested paths finds a part of what the walk of the whole tree finds. The part is what is at or
-/// below the requested paths, the directories above them, and the errors of these directories. The walk of the requested paths also reports
-/// which of them are absent. The tree may change between the two walks, if each directory that both walks read gave both the same answers.
+/// The law that a walk of some requested paths finds a part of what the walk of the whole tree finds. The part is what is at or below the
+/// requested paths, the directories above these paths, and the errors of these directories. The walk of the requested paths also reports
+/// which of these paths are absent. The law requires that the requested paths and the listings are well-formed. The tree may change between
+/// the two walks. A directory that both walks read must give the same answers in both.
 pub fn a_part_is_the_whole_filtered()
     ensures two_walks { TwoWalksLaw }
     ensures one_tree { PartOfWalkLaw }

@@ -1,12 +1,17 @@
 //! The walk over a directory tree: its workers, what each worker finds, and the report of the whole walk. The workers share a board of
-//! `lc_board`, on which each directory has a number: they claim directories from the board, and post child directories to it.
+//! `lc_board`, on which each directory has a number. A worker claims a directory, posts its child directories for any worker to claim, and
+//! adds a row to the board: what the worker found in the directory.
 //!
-//! - `row`: the row that a worker returns for a directory; `served_job`: what a row keeps of the directory's job; `broken_cause`: why a
-//!   worker stopped work on a directory
+//! - `row`: the row that a worker adds to the board for a directory
+//! - `served_job`: what a row keeps of the job, which is what the worker needed to visit the directory
+//! - `broken_cause`: why a worker stopped before it had finished the work on a directory
 //! - `tally`: the sums over the counted files, with a row for each extension, text state and class of line ends
-//! - `report`: the report of a walk, made from the rows of a closed board
-//! - `worker`, with the modules below it: one worker; `workers`: running all workers at the same time
-//! - `closing`: the end of a walk; `walking`: the whole walk; `walk_fault`: why a walk returns no report
+//! - `report`: the report of a walk, made from the rows of all directories
+//! - `worker`: one worker
+//! - `workers`: running all workers at the same time
+//! - `closing`: the end of a walk
+//! - `walking`: the whole walk
+//! - `walk_fault`: why a walk returns no report
 //! - `options`: the options of a walk
 //! - `laws`: theorems about the definitions that contracts cite
 #![tactic(auto)]

@@ -26,10 +26,10 @@ pub struct Options<'o> {
     pub max_dirs: u32,
     /// Which optional lists the report has.
     pub lists: ReportLists,
-    /// The filters, which decide besides the tree's own rules which entries are skipped.
+    /// The filters. Together with the tree's own rules, they decide which entries are skipped.
     pub filters: &'o Filters<'o>,
-    /// If present, the walk notes in this list which of the list's attributes the attribute files of the tree name. The notes do not change
-    /// the report.
+    /// A list of attributes, or none. For each attribute of the list, the walk notes whether an attribute file of the tree contains the
+    /// attribute's name. The notes do not change the report.
     pub named: Option<&'o NamedAttributes>,
 }
 

@@ -1,7 +1,9 @@
 //! The report of a walk.
 //!
 //! - `findings`: what a walk found besides the sums over its files
-//! - `assembly`, with `row_lines` and `tree_check`: making the report from the rows of a closed board
+//! - `assembly`: making the report from the rows that the workers added to the board, one row for each directory
+//! - `row_lines`: making the report's lines of files, errors and skipped entries from the rows
+//! - `tree_check`: checking that the rows make one tree of directories
 ghost use Rattle.std.specs.Prelude.{map};
 ghost use Rattle.std.specs.List.Sorted.{IsPermutation, IsSortedByKey};
 ghost use Rattle.lc_walk.specs.Report.{IsReport};

@@ -1,4 +1,4 @@
-//! The row that a worker returns for a directory.
+//! The row that a worker adds to the board for a directory: what the worker found there.
 ghost use Rattle.std.specs.Prelude.{◌≡◌, IfOk, IfErr};
 ghost use Rattle.lc_walk.specs.RowParts.{listed_in};
 
@@ -8,7 +8,7 @@ use lc_level::{FaultLine, FaultSite, FaultWord, FileLine, SkippedLine};
 use std::alloc::Global;
 use std::marker::Model;
 
-/// A child directory that a worker posted to the board: its name, and its number on the board.
+/// A child directory that a worker posted to the board for any worker to claim: the directory's name, and its number on the board.
 #[derive(Drop)]
 pub struct Child {
     pub name: Vec<u8>,
@@ -23,7 +23,7 @@ impl Model for Child {
     ghost view = { λ c. record { name = c.name.items; number = c.number } };
 }
 
-/// The parts of the row of a listed directory.
+/// The parts of a `ListedRow`: what a worker found in a directory that it listed.
 #[derive(Drop)]
 pub struct ListedParts {
     /// The directory that was listed.
@@ -37,7 +37,7 @@ pub struct ListedParts {
     pub faults: Vec<FaultLine>,
     /// The skipped entries, in the order of their names, if the report lists them.
     pub skipped: Vec<SkippedLine>,
-    /// The posted child directories, in the order of their names.
+    /// The child directories that were posted for any worker to claim, in the order of their names.
     pub children: Vec<Child>,
 }
 
@@ -93,7 +93,7 @@ impl RowParts {
     }
 }
 
-/// The row of a directory that was listed. The row is one word long, so that it takes little room on a board.
+/// The row that a worker adds for a directory that it listed. The row has the size of one pointer, so that it takes little room on a board.
 #[derive(Drop)]
 pub struct ListedRow {
     parts: Box<RowParts, Global>,
@@ -173,7 +173,7 @@ impl ListedRow {
         }
     }
 
-    /// Returns the posted child directories, in the order of their names.
+    /// Returns the child directories that were posted for any worker to claim, in the order of their names.
     pub fn children(&self) -> &[Child]
         ensures { result.now ≡ self.now.children }
     {
@@ -184,7 +184,7 @@ impl ListedRow {
     }
 }
 
-/// The row of a directory whose listing or rule files could not be read.
+/// The row that a worker adds for a directory whose listing or rule files could not be read.
 #[derive(Drop)]
 pub struct FaultedRow {
     pub job: ServedJob,
@@ -192,14 +192,14 @@ pub struct FaultedRow {
     pub word: FaultWord,
 }
 
-/// The row of a directory on which a worker stopped work before the end.
+/// The row that a worker adds for a directory if the worker stops before it has finished the work on this directory.
 #[derive(Drop)]
 pub struct BrokenRow {
     pub job: ServedJob,
     pub cause: BrokenCause,
 }
 
-/// The row that a worker returns for a directory: what the worker found there.
+/// The row that a worker adds to the board for a directory: what the worker found there, or why it stopped.
 #[derive(Drop)]
 pub enum Row {
     Listed(ListedRow),

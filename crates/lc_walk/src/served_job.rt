@@ -1,4 +1,4 @@
-//! What a row keeps of its directory's job.
+//! What a row keeps of a job. A job is what a worker needs to visit a directory.
 ghost use Rattle.std.specs.Prelude.{◌≡◌};
 
 use lc_level::Job;
@@ -6,8 +6,8 @@ use std::alloc::Global;
 use std::marker::Model;
 use std::snapshot::Snapshot;
 
-/// What a row keeps of its directory's job: the path. The job's chains of rule files are dropped, unless another job shares them. Contracts
-/// still see the whole job.
+/// What a row keeps of a directory's job: the path. A job is what a worker needs to visit a directory: its path, and the rule files that
+/// apply there. The rule files are dropped, unless another job shares them. In contracts, the value is still the whole job.
 ///
 /// ```
 /// let served = ServedJob::of(job); // served.path() is what job.path() was

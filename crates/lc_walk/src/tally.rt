@@ -3,8 +3,9 @@
 //!
 //! - `extensions`: the extension of a file's name
 //! - `key`, `sums`, `tally_row`: a row of a tally, which has a key and the sums over the files with this key
-//! - `keyed_rows`: the rows of a tally, found by their keys; `row_hints`: the last known place of a key's row; `row_sums`: the sums over
-//!   rows of several tallies
+//! - `keyed_rows`: the rows of a tally, found by their keys
+//! - `row_hints`: the last known place of a key's row
+//! - `row_sums`: the sums over rows of several tallies
 ghost use Rattle.std.specs.Prelude.{◌≡◌, ◌+◌, ◌<◌, ◌≤◌, ◌^◌, List, [], ◌∷◌, ◌++◌, option_map, IfOk, IsOk, IsTrue, OnOk, OnErr};
 ghost use Rattle.lc_walk.specs.TallyRows.{AddsUp, has_row};
 ghost use Rattle.lc_walk.specs.Sums.{IsModest};

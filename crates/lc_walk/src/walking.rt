@@ -1,4 +1,4 @@
-//! The whole walk over a tree: starting a board, running the workers, and making the report.
+//! The whole walk over a tree: making the board that the workers share, running the workers, and making the report.
 ghost use Rattle.std.specs.Prelude.{◌≤◌};
 ghost use Rattle.lc_level.specs.TreeAnswers.{MayAnswer};
 ghost use Rattle.lc_walk.specs.BoardAnswers.{WalkAnswers};
@@ -71,8 +71,8 @@ fn walk_by_all<B: Shared<Job, Row>, T: Tree, R: Threads + Wait + Sync>(
     answer
 }
 
-/// Walks a tree with `options.threads` workers, which share a board of the type `B`. If an allocation fails, one worker alone walks the
-/// tree again, since the stacks of many threads use memory that this walk may need.
+/// Walks a tree with `options.threads` workers, which share a board of the type `B`. If a walk with several workers runs out of memory, one
+/// worker alone walks the tree again. The second walk needs no memory for the stacks of many threads.
 pub fn walk_on<B: Shared<Job, Row>, T: Tree, R: Threads + Wait + Sync>(
     rt: &R,
     alloc: Global,
@@ -92,7 +92,7 @@ pub fn walk_on<B: Shared<Job, Row>, T: Tree, R: Threads + Wait + Sync>(
     walk_by::<B, T, R>(rt, alloc, tree, options, 1)
 }
 
-/// Walks a tree with up to `options.threads` threads. The report is the report of a recursive walk over some answers that the tree may
+/// Walks a tree with up to `options.threads` threads. The report is that of a recursive walk that reads only answers which the tree may
 /// give: listings, metadata and file contents.
 ///
 /// ```

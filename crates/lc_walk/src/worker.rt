@@ -1,8 +1,9 @@
 //! A worker of a walk.
 //!
-//! - `serving`: the work on a directory that the worker has claimed, up to the directory's row
-//! - `posting`: posting the child directories to the board; `adding`: adding the counted files to the worker's tally
-//! - `backoff`: waiting while there is nothing to claim
+//! - `serving`: the work on a directory that the worker has claimed, and adding a row to the board: what the worker found there
+//! - `posting`: posting the child directories to the board, so that any worker may claim them
+//! - `adding`: adding the counted files to the worker's tally
+//! - `backoff`: waiting while there is no directory to claim
 ghost use Rattle.std.specs.Prelude.{◌≡◌};
 ghost use Rattle.lc_level.specs.TreeAnswers.{MayAnswer};
 ghost use Rattle.lc_walk.specs.BoardPasses.{IsFree, IsPassOf};
@@ -29,7 +30,7 @@ use std::thread::Threads;
 /// Why a worker has stopped.
 #[derive(Clone, Copy, Debug, Drop, PartialEq, Eq)]
 pub enum StopReason {
-    /// The worker found the board over: no directory waited on the board, and no worker had claimed one.
+    /// The worker found the board over: no directory waited to be claimed, and no worker was working on a directory.
     Over,
     /// An allocation failed while the worker tried to claim a directory.
     Memory,
@@ -44,7 +45,7 @@ pub struct WorkerResult<P> {
     pub tally: Option<Tally>,
 }
 
-/// A worker of a walk. It claims directories from the board, lists each directory, and counts the directory's files.
+/// A worker of a walk. It claims directories from the board that all workers share, lists each directory, and counts the directory's files.
 ///
 /// ```
 /// let options = Options::new(1, 65_536, &filters);

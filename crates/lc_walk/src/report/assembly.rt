@@ -1,4 +1,4 @@
-//! Assembling the report of a walk from the rows of its closed board.
+//! Making the report of a walk from the rows that the workers added to the board, one row for each directory.
 ghost use Rattle.std.specs.Prelude.{◌≡◌, ℕ, ◌<◌, ◌≤◌, ◌^◌, true, false, slice_get, Some, vec_len};
 ghost use Rattle.lc_walk.specs.Rows.{row_of};
 ghost use Rattle.lc_walk.specs.Assembled.{IsBrokenBy, SomeBroken, Assembles};
@@ -51,7 +51,8 @@ fn fault_of_tree(fault: TreeFault) -> WalkFault
     }
 }
 
-/// Makes the report of a walk from the rows of its closed board and the tally of all its counted files. On an error, both are dropped.
+/// Makes the report of a walk from the closed board, which has a row for each directory, and from the tally of all counted files. On an
+/// error, the rows and the tally are dropped.
 pub fn assemble(
     alloc: Global,
     closed: Closed<Row>,

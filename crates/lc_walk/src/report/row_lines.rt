@@ -1,4 +1,4 @@
-//! Making the lines of a report from the rows of a closed board.
+//! Making a report's lines of files, errors and skipped entries from the rows that workers added, one row for each directory.
 ghost use Rattle.std.specs.Prelude.{◌≡◌, ℕ, ◌+◌, ◌≤◌, ◌<◌, ◌^◌, List, ◌++◌, map, length, IfOk, OnOk};
 ghost use Rattle.lc_walk.specs.Rows.{row_of};
 ghost use Rattle.lc_walk.specs.Assembled.{directories_by_row, entries_by_row, files_by_row, faults_by_row, skipped_by_row};
@@ -10,7 +10,7 @@ use lc_board::Ended;
 use lc_level::Line;
 use std::alloc::{AllocError, Global};
 
-/// Returns the row of a directory, whether its worker returned the row or reported an error with it.
+/// Returns the row that a worker added for a directory, whether or not the row reports an error.
 pub fn row_of(ended: &Ended<Row>) -> &Row
     ensures { result.now ≡ row_of ended.now }
 {
@@ -38,7 +38,8 @@ fn push_below<L: Line + Drop>(
     Ok(())
 }
 
-/// Adds the lines and the numbers of one directory's row to the findings.
+/// Adds the files, errors and skipped entries of one directory's row to the findings. It also counts the directory and its entries if the
+/// directory was listed.
 pub fn push_row(alloc: Global, row: &Row, found: &mut Findings) -> Result<(), AllocError>
     requires directories { found.old.directories ≤ 2 ^ 62 }
     requires entries { found.old.entries + 2 ^ 32 ≤ 2 ^ 64 }
@@ -69,7 +70,7 @@ pub fn push_row(alloc: Global, row: &Row, found: &mut Findings) -> Result<(), Al
     Ok(())
 }
 
-/// Collects the lines and the numbers of all rows of a board.
+/// Collects the findings of a walk from the rows that workers added, one row for each directory.
 pub fn findings_of(alloc: Global, rows: &[Ended<Row>]) -> Result<Findings, AllocError>
     requires { length rows.now ≤ 2 ^ 32 }
     ensures { IfOk result (AreFindings rows.now) }

@@ -1,4 +1,4 @@
-//! Checking that the rows of a closed board make one tree of directories.
+//! Checking that the rows that workers added to a board, one row for each directory, make one tree of directories.
 ghost use Rattle.std.specs.Prelude.{◌≡◌, ◌≢◌, ℕ, ◌+◌, ◌<◌, ◌≤◌, ◌^◌, List, true, false, length, slice_get, slice_set, replicate, Some};
 ghost use Rattle.std.specs.Prelude.{IfOk, IfErr, OnOk, OnErr};
 ghost use Rattle.lc_walk.specs.Rows.{row_of, job_of, children_in};
@@ -12,12 +12,13 @@ use lc_board::Ended;
 use lc_level::relative_to;
 use std::alloc::{AllocError, Global};
 
-/// Why the check of a board's rows failed.
+/// Why `check_tree` returns an error for the rows of a board.
 #[derive(Clone, Copy, PartialEq, Eq, Debug, Drop)]
 pub enum TreeFault {
     /// An allocation failed.
     Memory,
-    /// The rows make no tree: the directory with this number has a wrong path, or not exactly one parent with a lower number.
+    /// The rows make no tree: the directory with this number on the board has no row, a wrong path, or not exactly one parent with a lower
+    /// number.
     Torn(u32),
 }
 
@@ -155,9 +156,9 @@ fn link_all(alloc: Global, rows: &[Ended<Row>]) -> Result<Vec<bool>, TreeFault>
     Ok(linked)
 }
 
-/// Checks that the rows make a tree: the top's path is empty, and each other directory is the child of exactly one directory, which has a
-/// lower number and the parent path. If the rows make no tree, the error `Torn` has the number of a directory that does not meet these
-/// conditions.
+/// Checks that the rows make a tree. The path of the top must be empty. Each other directory must be the child of exactly one directory,
+/// which must have a lower number on the board. The child's path must be the path of this parent followed by the child's name. If the rows
+/// make no tree, the error `Torn` has the number of a directory that breaks one of these conditions.
 pub fn check_tree(alloc: Global, rows: &[Ended<Row>]) -> Result<(), TreeFault>
     requires few { length rows.now ≤ 2 ^ 32 }
     ensures placed { IfOk result (λ _. (k : ℕ) → IsPlaced rows.now k) }

@@ -20,8 +20,8 @@ const FEW: usize = 64;
 /// The rows of a tally, which are found by their keys. Adding a file costs on average as much as a sort costs for one row.
 ///
 /// A search tries the row of the key's hint first, and then the sorted rows in front. If none of them has the key, a row is pushed, so
-/// several of the unsorted rows may have one key. Once more than half of the rows are unsorted, and there are more than 64 rows, all are
-/// sorted, and the rows of each key become one.
+/// several of the unsorted rows may have one key. All rows are sorted as soon as there are more than 64 rows, of which more than half are
+/// unsorted. The rows of each key then become one row.
 #[derive(Drop)]
 pub(crate) struct KeyedRows {
     rows: Vec<TallyRow>,

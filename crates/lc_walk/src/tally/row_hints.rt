@@ -1,4 +1,4 @@
-//! Hints where a tally has the rows of some keys. A hint may be stale, so a search always checks it.
+//! Hints that show at which index a tally has the row of a key. A hint may be wrong, so a search always checks it.
 ghost use Rattle.std.specs.Prelude.{◌<◌};
 
 use crate::tally::key::{KeyRef, eol_rank, text_rank};

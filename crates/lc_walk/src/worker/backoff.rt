@@ -1,4 +1,4 @@
-//! The waits of a worker that finds nothing to claim.
+//! The waits of a worker that finds no directory to claim.
 
 use lc_tree::IdleThreads;
 use std::sync::Wait;

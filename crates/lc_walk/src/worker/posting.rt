@@ -1,4 +1,4 @@
-//! Posting the child directories of a directory to the board.
+//! Posting the child directories of a directory to the board, so that any worker may claim them.
 ghost use Rattle.std.specs.Prelude.{◌∷◌, []};
 ghost use Rattle.lc_walk.specs.BoardPasses.{HoldsClaim, IsPassOf};
 ghost use Rattle.lc_walk.specs.Posting.{PostsMore, PostsChildren};

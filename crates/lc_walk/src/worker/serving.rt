@@ -1,4 +1,4 @@
-//! The work on a directory that a worker has claimed, up to the directory's row.
+//! The work on a directory that a worker has claimed. At the end, the worker adds a row to the board: what it found in the directory.
 ghost use Rattle.std.specs.Prelude.{◌≡◌, [], if◌then◌else◌};
 ghost use Rattle.lc_board.specs.Pass.{after_give};
 ghost use Rattle.lc_level.specs.Opens.{IsOpened};

@@ -13,7 +13,7 @@ use std::test::Fail;
 use std::thread;
 use std::thread::Threads;
 
-/// A tree that lists a directory below the top only once listings of all these directories have begun.
+/// A tree that lists a directory below the top only after listings of all these directories have begun.
 #[derive(Drop)]
 struct Gate<'a> {
     tree: MemTree<'a>,

@@ -1,4 +1,4 @@
-//! Tests that a walk notes which attributes the attribute files of its tree name.
+//! Tests that a walk notes, for each attribute of a list, whether an attribute file of the tree contains the attribute's name.
 
 ghost use Rattle.lc_walk.specs.WalkOptions.{AreWithinLimits};
 
@@ -12,7 +12,7 @@ use std::test::Fail;
 
 const WORDS: &[&str] = &["generated", "vendored=true"];
 
-/// Returns the options of a walk that notes in `named` which attributes the attribute files of its tree name.
+/// Returns the options of a walk that notes in `named` which of its attributes occur in the attribute files of the tree.
 fn noting<'o>(rt: &impl Abort, filters: &'o Filters<'_>, named: &'o NamedAttributes) -> Options<'o>
     ensures { AreWithinLimits result }
 {

@@ -1,4 +1,4 @@
-//! Tests of the rows that a single worker returns, on both types of board that workers can share: `Words` and `Locked`.
+//! Tests of the rows that a single worker adds to a board, one row for each directory. The board has the type `Words` or `Locked`.
 ghost use Rattle.std.specs.Prelude.{◌≡◌, None, IfOk, OnOk};
 ghost use Rattle.lc_board.specs.Pass.{holding, new_pass};
 

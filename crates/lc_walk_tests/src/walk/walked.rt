@@ -1,4 +1,4 @@
-//! Walks of in-memory trees with 1, 2 and 16 workers, on both types of board that workers can share: `Words` and `Locked`.
+//! Walks of in-memory trees with 1, 2 and 16 workers, which share a board of the type `Words` or `Locked`.
 ghost use Rattle.lc_walk.specs.WalkOptions.{AreWithinLimits};
 
 use crate::walk::told::report_text;
