@@ -1,6 +1,8 @@
 //! The kinds of lines of a comparison's sheet.
 //!
-//! - `rows`, `sums`, `files`: the value of a line of each kind in each column
+//! - `rows`: the value of a row in each column
+//! - `sums`: the value of a line of sums, such as the total, in each column
+//! - `files`: the value of a file in each column
 
 mod files;
 mod rows;

@@ -2,13 +2,13 @@
 
 ghost use Rattle.lc_changes.specs.Laws.{DifferencesLaw, OneComparisonLaw, SelfLaw, TablesLaw};
 
-/// The law that a report differs from itself in no row and in no file, if no path is in it twice.
+/// The law that a report differs from itself in no row and in no file, if the report has no path twice.
 pub fn a_report_does_not_differ_from_itself()
     ensures { SelfLaw }
 {}
 
-/// The law that each row of a comparison has, for its key, the sums that the tables of both reports show. Each key of one of these tables
-/// has a row in the comparison. Over all rows, the sums of each report add up to the sums over the rows of this report's table.
+/// The law that a comparison has a row for each key in the table of either report, and no other row. For each report, the row has the sums
+/// that the report's table shows for this key. Over all rows, these sums add up to the sums over the rows of the report's table.
 pub fn rows_of_a_comparison_are_those_of_tables()
     ensures { TablesLaw }
 {}

@@ -1,14 +1,18 @@
-//! The changes from one report to another: the rows and the files in which they differ, and what is shown of them.
+//! The comparison of two reports: the rows and the files in which the reports differ, and the sheet of the comparison.
 //!
 //! - `options`: the options of a comparison
-//! - `pairs`: stepping through two sorted lists side by side
-//! - `changed_row`: a row with the sums of both reports; `rows`: the rows of two reports side by side
-//! - `file_change`: a file in two reports; `files`: the files of two reports side by side; `file_refs`: the files of one report, by their
-//!   paths
-//! - `sorting`: the order of rows and of files; `sums`: the sums over rows
-//! - `kinds`: the value of a line in a column; `columns`: the columns of each section; `shown_changes`: what a comparison shows, and its
-//!   sheet
-//! - `laws`: laws of the definitions that the contracts cite
+//! - `pairs`: a step through two sorted lists side by side
+//! - `changed_row`: a row with the sums of both reports
+//! - `rows`: the rows of both reports, paired by their keys
+//! - `file_change`: the files that the two reports have at one path
+//! - `file_refs`: the files of one report, in the order of their paths
+//! - `files`: the files of both reports, paired by their paths
+//! - `sorting`: the order of rows and of files
+//! - `sums`: the sums over the rows of a comparison
+//! - `kinds`: the value of a row, of a line of sums or of a file in each column
+//! - `columns`: the columns of rows, of sums and of files in each format
+//! - `shown_changes`: what a comparison shows, and its sheet
+//! - `laws`: theorems about the definitions that the contracts cite
 #![tactic(auto)]
 
 mod changed_row;

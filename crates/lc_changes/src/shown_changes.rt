@@ -121,9 +121,9 @@ impl<'a> ShownChanges<'a> {
     /// Compares two reports. Adds up the rows of both reports, and drops the rows in which no number changed, unless `options.all` is true.
     /// If `options.files` is true, finds the files that differ. Sorts and cuts the rows and the files.
     ///
-    /// Rows by directory, and the list of files, are made of the files, which both reports must have. An error means that an allocation
-    /// failed or that sums overflow. The sums of a walk's rows never overflow. The time is that of sorting rows and files. Each row of both
-    /// reports takes memory while they are compared.
+    /// If rows are by directory, or if `options.files` is true, both reports must list their files. An error means that an allocation
+    /// failed or that sums overflow. The sums of a walk's rows never overflow. The function takes about as long as sorting the rows and the
+    /// files of both reports. Each row of both reports takes memory while the reports are compared.
     ///
     /// ```
     /// let changes = ShownChanges::of(alloc, &old, &new, &options)?;

@@ -1,4 +1,4 @@
-//! Tests of what no contract states: worked comparisons, and that calls succeed if no allocation fails.
+//! Tests of what no contract states: two given reports have the expected comparison, and calls succeed if no allocation fails.
 
 mod files;
 mod formats;
