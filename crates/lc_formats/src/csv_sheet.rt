@@ -144,10 +144,10 @@ fn push_records<R: Lines, T: Lines, F: Lines, S: Lines, E: Lines>(
     push_section(text, fields, &sheet.rows)
 }
 
-/// Makes the text of a sheet as CSV (RFC 4180): records of one kind below their headings.
+/// Makes the text of a sheet as CSV (RFC 4180): the names of columns, and below them records of one kind.
 ///
-/// Each record is a file if the sheet lists files. Otherwise each record is a skipped entry if the sheet has the number of entries, and a
-/// row if the sheet lacks this number. Bytes stay as they are. A field that needs quotes has them.
+/// If the sheet lists files, each file is a record. If the sheet lists no files but has the number of entries, each skipped entry is a
+/// record. Otherwise each row is a record. Names and paths are not escaped. Fields are quoted where necessary.
 pub fn csv_text<R: Lines, T: Lines, F: Lines, S: Lines, E: Lines>(
     alloc: Global,
     sheet: &Sheet<'_, R, T, F, S, E>,
@@ -175,9 +175,10 @@ fn push_changes<R: Lines, T: Lines, F: Lines>(
     push_section(text, fields, &sheet.rows)
 }
 
-/// Makes the text of a comparison as CSV (RFC 4180): records of one kind below their headings.
+/// Makes the text of a comparison as CSV (RFC 4180): the names of columns, and below them records of one kind.
 ///
-/// A record is for a file if the comparison lists files, otherwise for a row. Bytes stay as they are. A field that needs quotes has them.
+/// If the comparison lists files, each file is a record. Otherwise each row is a record. Names and paths are not escaped. Fields are quoted
+/// where necessary.
 pub fn csv_changes<R: Lines, T: Lines, F: Lines>(
     alloc: Global,
     sheet: &ComparisonSheet<'_, R, T, F>,

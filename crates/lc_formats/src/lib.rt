@@ -1,14 +1,23 @@
-//! The formats in which a sheet is printed: the sheet of one report, or the sheet of a comparison of two reports. A format knows values,
-//! columns and sections, but not the reports that they come from.
+//! The formats in which the sheet of a report, or the sheet of a comparison of two reports, is printed. A format uses the values, columns
+//! and sections of a sheet, but not the reports that the sheet is made from.
 //!
-//! - `tsv`: fields with tabs between them
-//! - `csv_sheet`: CSV, which `csv_records` writes record by record
-//! - `json_sheet` and `json_comparison`: JSON, with `json_values` and `json_writer`
-//! - `markdown`: Markdown, with `markdown_line` and `markdown_escape`
-//! - `table`: human-readable columns, with `section_lines` and `widths`
+//! - `tsv`: the text of a sheet as lines of fields, with tabs between the fields
+//! - `csv_sheet`: the text of a sheet as CSV
+//! - `csv_records`: a CSV text, written record by record
+//! - `json_sheet`, `json_comparison`: the text of a sheet as JSON, for a report and for a comparison
+//! - `json_values`: values, lines and sections as JSON
+//! - `json_writer`: a JSON text, written a token at a time
 //! - `joined`: joining the bytes of a name with what is printed before and after them, in CSV and JSON
-//! - `cells`: the cells of a line; `cell_text`, `numbers`, `shares`: the texts in them
-//! - `csv_laws`, `markdown_laws`, `table_laws`: what is true of the definitions that the contracts cite
+//! - `markdown`: the text of a sheet as Markdown
+//! - `markdown_line`, `markdown_escape`: the lines of a Markdown table, and the escaping of texts in its cells
+//! - `table`: the text of a sheet in human-readable columns
+//! - `section_lines`, `widths`: the lines of a section in these columns, and the width of each column
+//! - `cells`, `cell_text`: the cells of a line in a human-readable table, and the texts of their values
+//! - `numbers`: numbers as digits, with and without commas
+//! - `shares`: shares in per cent, and bars
+//! - `csv_laws`: the laws that CSV reads back as the printed records
+//! - `markdown_laws`: the law that no name in a Markdown table acts as markup
+//! - `table_laws`: laws of human-readable columns, numbers, shares and changes
 #![tactic(auto)]
 
 mod cell_text;

@@ -143,8 +143,8 @@ fn push_counts(
 
 /// Makes the text of a sheet as Markdown.
 ///
-/// Lists of files and of skipped entries come first. Then come the rows with their sums in bold, the number of directories, and last what
-/// could not be read. Names are escaped as by [`push_visible`](lc_text::push_visible).
+/// The lists of files and of skipped entries come first. Then come the rows with their sums in bold, and the number of directories. The
+/// list of errors comes last. Names are escaped as [`push_visible`](lc_text::push_visible) escapes them.
 pub fn markdown_text<R: Lines, T: Lines, F: Lines, S: Lines, E: Lines>(
     alloc: Global,
     sheet: &Sheet<'_, R, T, F, S, E>,
@@ -165,7 +165,8 @@ pub fn markdown_text<R: Lines, T: Lines, F: Lines, S: Lines, E: Lines>(
 
 /// Makes the text of a comparison as Markdown.
 ///
-/// A list of files comes first, then the rows with their sums in bold. Names are escaped as by [`push_visible`](lc_text::push_visible).
+/// A list of files comes first, then the rows with their sums in bold. Names are escaped as [`push_visible`](lc_text::push_visible) escapes
+/// them.
 pub fn markdown_changes<R: Lines, T: Lines, F: Lines>(
     alloc: Global,
     sheet: &ComparisonSheet<'_, R, T, F>,

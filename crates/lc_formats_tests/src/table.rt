@@ -1,4 +1,5 @@
-//! Tests of what no contract states: worked cases, runs that succeed if no allocation fails, and trees whose calls fail.
+//! Tests of what no contract states: runs print the expected tables of given trees, runs succeed if no allocation fails, and runs report
+//! calls to a tree that fail.
 
 mod asking;
 mod cuts;

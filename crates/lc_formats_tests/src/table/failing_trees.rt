@@ -1,4 +1,4 @@
-//! Runs over a tree in which one call fails, such as a listing or a read. Each call fails in one of the runs.
+//! Runs in which one call to the tree fails, such as a listing or a read. Each call that a walk makes fails in one of the runs.
 
 ghost use Rattle.std.specs.Prelude.{◌≤◌};
 
