@@ -1,10 +1,10 @@
 //! Laws: theorems about the definitions that the contracts cite. Each law is the contract of a function that does nothing.
 //!
-//! The clauses `answers` are about fixed answers of a tree: a listing of each directory, and file contents. A count and an explanation may
-//! have different answers. Each report and each explanation is made from some answers that its tree may give
-//! (`lc_walk::reports_are_by_given_answers`, [`explanations_are_by_given_answers`]). The clauses `tree` are about a tree that always
-//! answers a question in the same way, such as an in-memory tree. The clause `tree` of [`no_ignore_file_of_the_tree_skips_an_entry`] is
-//! about any tree.
+//! In the clauses `answers`, reports and explanations follow from fixed answers of a tree: a listing of each directory, and contents of
+//! files. A report and an explanation may follow from different answers. Each report and each explanation follows from some answers that
+//! its tree may give (`lc_walk::reports_are_by_given_answers`, [`explanations_are_by_given_answers`]). In the clauses `tree`, the tree
+//! always answers a question in the same way, as an in-memory tree does. The clause `tree` of [`no_ignore_file_of_the_tree_skips_an_entry`]
+//! is about any tree.
 
 ghost use Rattle.lc_laws.specs.ByAnswers.{SaidByAnswersLaw};
 ghost use Rattle.lc_laws.specs.CountsChecked.{AnswersCheckedLaw, CheckedLaw};
@@ -19,14 +19,15 @@ use lc_rules::the_last_match_decides;
 use lc_tree::Tree;
 use lc_walk::{all_that_is_found_is_given, the_rule_of_a_line_ignores_it};
 
-/// The law that each explanation of a path follows from some answers that the tree may give, one for each directory that is entered.
+/// The law that each explanation of a path follows from fixed answers that the tree may give. These answers are a listing and rule files
+/// for each directory that the explanation enters.
 pub fn explanations_are_by_given_answers<T: Tree>(tree: &T)
     ensures { SaidByAnswersLaw (T.lists tree.now) (T.gives tree.now) }
 {
     let _tree = tree;
 }
 
-/// The law that two explanations of a path by the same options are equal, if both read the same entries and the same rule files in each
+/// The law that two explanations of a path with the same options are equal, if both read the same entries and the same rule files in each
 /// directory on the way to the path.
 pub fn one_answer_is_one_explanation<T: Tree>(tree: &T)
     ensures answers { AnswersOneExplanationLaw }
@@ -35,7 +36,8 @@ pub fn one_answer_is_one_explanation<T: Tree>(tree: &T)
     let _tree = tree;
 }
 
-/// The law that a slash at the end of a directory's path does not change the explanation, if the tree's answers are the same.
+/// The law that the explanation of a directory's path with a slash at its end is also the explanation of the path without this slash. The
+/// law requires that both explanations follow from the same answers of the tree.
 pub fn slashes_of_directories_say_nothing<T: Tree>(tree: &T)
     ensures answers { AnswersSlashLaw }
     ensures tree { SlashLaw (T.lists tree.now) (T.gives tree.now) }
@@ -78,8 +80,9 @@ pub fn no_ignore_file_of_the_tree_skips_an_entry<T: Tree>(tree: &T)
     the_rule_of_a_line_ignores_it();
 }
 
-/// The law that the errors of a walk of included files, as with `--include`, are those of directories and of included files. Such a walk
-/// skips what the walk of all files skips, for the same reasons, and also the files that are not included.
+/// The law that a walk with `--include` reports exactly these errors: the errors of directories and of their rule files, of requested paths
+/// that are absent, and of included files. The walk skips what a walk of all files skips, for the same reasons, and also the files that are
+/// not included.
 pub fn errors_and_skipped_entries_are_those_of_included_files()
     ensures { IncludedEntriesLaw }
 {

@@ -1,10 +1,9 @@
-//! Laws that relate a count, an explanation and a check to each other, and a report to its printed texts.
+//! Laws that relate counts, explanations and checks to each other, and reports to their printed texts.
 //!
-//! - `laws`: a count agrees on each path with an explanation of the tree, and with a check by the `.gitignore` of the top directory. A path
-//!   has one explanation, with or without a slash at the end of a directory's path. Two laws are about a count that reads no ignore file of
-//!   the tree, and about a count of included files.
-//! - `printed_laws`: the sheet of a report, from which its texts are made, has what the laws of these texts require. No printed share of a
-//!   total is over 100.0 per cent.
+//! - `laws`: a count agrees with an explanation of the same tree, and with a check by the `.gitignore` of the top directory. Other laws are
+//!   about a slash at the end of a directory's path, about `--no-ignore` and about `--include`.
+//! - `printed_laws`: the sheet of a report meets the requirements of the laws about its printed texts. No printed share of a total is over
+//!   100.0 per cent.
 //! - `reading_laws`: a report is the same after it was printed as JSON and read again
 #![tactic(auto)]
 
