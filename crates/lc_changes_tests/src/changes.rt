@@ -1,4 +1,4 @@
-//! Tests of what no contract states: two given reports have the expected comparison, and calls succeed if no allocation fails.
+//! Tests of comparisons: two given reports have the expected comparison. Calls succeed if no allocation fails, which no contract states.
 
 mod files;
 mod formats;

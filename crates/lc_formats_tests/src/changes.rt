@@ -1,4 +1,4 @@
-//! Tests of what no contract states: given comparisons have the expected text in each format.
+//! Tests of the texts of comparisons: given comparisons have the expected text in each format.
 
 mod comparing;
 mod files;

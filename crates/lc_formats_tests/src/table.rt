@@ -1,5 +1,5 @@
-//! Tests of what no contract states: runs print the expected tables of given trees, runs succeed if no allocation fails, and runs report
-//! calls to a tree that fail.
+//! Tests of runs that print tables: given trees have the expected tables, and runs report the calls to a tree that fail. Runs succeed if no
+//! allocation fails, which no contract states.
 
 mod asking;
 mod cuts;

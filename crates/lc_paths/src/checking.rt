@@ -1,8 +1,10 @@
 //! Checks of paths by the rules of one file. The input is read to its end before anything is written.
 //!
-//! - `joined`: rules and paths in one input; `text`: the output of a check; `explained`: the output with the deciding rules, written while
-//!   it is made
-//! - `checker`: matching one path after another; `finding`: what the rules decide about a path
+//! - `joined`: splitting one input into rules and paths
+//! - `text`: the output of a check, a line for each path
+//! - `explained`: the output of a check that also shows the deciding rules
+//! - `checker`: matching one path after another with the rules
+//! - `finding`: what the rules decide about a path
 
 ghost use Rattle.lc_paths.specs.Checks.Answers.{AnswersCheck, AnswersExplainedCheck, no_rules};
 ghost use Rattle.lc_paths.specs.Checks.CheckText.{text_by};

@@ -1,10 +1,14 @@
 //! Explanations of paths: which rule of a tree decides a path, as `git check-ignore -v -n` shows it.
 //!
-//! - `explain_options`: the options besides the paths; `top_text`: the text of rules that the options give for the whole tree
-//! - `open_dir`, `dir_stack`: the directories that were opened on the way to a path; `stack_cache`: the stacks of directories of earlier
-//!   paths
-//! - `finding`: the explanation of a path; `explainer`: finding it, from the top of the tree down
-//! - `output`: the text of an explanation; `printing`: writing the explanations of many paths
+//! - `explain_options`: the options of an explanation
+//! - `top_text`: the text of the rules of `--exclude` and `--exclude-from`
+//! - `open_dir`: a directory that was opened to explain a path below it
+//! - `dir_stack`: the opened directories from the top down to one directory
+//! - `stack_cache`: a cache of these stacks, so that a directory is not opened again for a later path
+//! - `finding`: the explanation of a path, before it is printed
+//! - `explainer`: explaining one path, from the top of the tree down
+//! - `output`: the text of an explanation
+//! - `printing`: explaining many paths, and writing the text in blocks
 
 ghost use Rattle.std.specs.Prelude.{map};
 ghost use Rattle.lc_paths.specs.Explanations.Answers.{MaySay, AnswersLines, AnswersExplain};
@@ -33,8 +37,9 @@ use std::alloc::Global;
 ///
 /// A line of the output has four fields, separated by tabs: a word, the source of the rule, its pattern, and the path as it was read. Paths
 /// and patterns are printed in the style of the options. `./` at the beginning of a path is ignored. `.` alone is the tree's top directory,
-/// which no rule decides: its word is `none`. A path that ends with one slash counts as a directory. Any other path is what the entry at
-/// the path is, or a file if there is no such entry. The word is the first of these that holds, from the top directory down to the path:
+/// which no rule decides: its word is `none`. A path that ends with one slash counts as a directory. Any other path has the kind of its
+/// entry, or counts as a file if the tree has no such entry. The word is the first of these that holds, from the top directory down to the
+/// path:
 ///
 /// - `bad`: no entry of a tree can have this path, or it has over 4,096 bytes;
 /// - `fault`: a directory above the path could not be listed, or a rule file could not be read. The next fields are the word of the error,
@@ -52,8 +57,9 @@ use std::alloc::Global;
 /// The text is written in blocks while it is made ([`Block`](lc_text::Block)). If the input can't be read, nothing was written. After any
 /// other error a prefix of the text was written, perhaps all of it.
 ///
-/// Each directory is listed once and its rules are read once, in any order of the paths, as long as the opened directories use no more than
-/// about [`MAX_KEPT`](crate::MAX_KEPT) bytes. Past that limit this holds only for paths in the order in which a walk visits them.
+/// Each directory is listed once, and its rules are read once, if the opened directories use no more than about
+/// [`MAX_KEPT`](crate::MAX_KEPT) bytes. The order of the paths makes no difference. If the opened directories use more, this holds only for
+/// paths in the order in which a walk visits them.
 ///
 /// ```
 /// let tree = SysTree::new(&rt, rt.alloc(), ".", FileSystems::All)?;

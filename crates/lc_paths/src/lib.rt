@@ -1,9 +1,10 @@
-//! Answers about paths: which rule of one file, or of a tree, decides a path.
+//! Checks and explanations of paths: which rule of one file, or of a whole tree, decides each path.
 //!
 //! - `checking`: checks of paths by the rules of one file, a line for each path
 //! - `explaining`: explanations of the paths of a tree, a line for each path
-//! - `paths`: the paths of an input or of arguments; `answer_line`: the output line for a path
-//! - `laws`: laws of the definitions that the contracts cite
+//! - `paths`: the paths of an input or of arguments
+//! - `answer_line`: the output line for a path
+//! - `laws`: theorems about the definitions that the contracts cite
 #![tactic(auto)]
 
 mod answer_line;

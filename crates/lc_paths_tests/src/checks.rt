@@ -1,4 +1,5 @@
-//! Tests of checks, for what no contract states: worked cases, calls that succeed if no allocation fails, and streams that misbehave.
+//! Tests of checks of given paths by given rules, and of checks whose readers or writers misbehave. Calls succeed if no allocation fails,
+//! which no contract states.
 
 mod blocks;
 mod explained;

@@ -1,5 +1,5 @@
-//! Tests of explanations, for what no contract states: worked cases, calls that succeed if no allocation fails, and trees and streams that
-//! fail.
+//! Tests of explanations of given paths in given trees, and of explanations for which a tree, an input or a writer fails. Calls succeed if
+//! no allocation fails, which no contract states.
 
 mod asking;
 mod blocks;

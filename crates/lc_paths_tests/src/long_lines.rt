@@ -1,4 +1,4 @@
-//! Lines of about 1 KiB, so that the output for many paths is longer than a block.
+//! Lines of about 1 KiB. The output for many paths with such lines is longer than the blocks in which output is written.
 
 use std::alloc::{AllocError, Global};
 

@@ -197,8 +197,8 @@ impl<'t, T: Tree> Explainer<'t, T> {
         }
     }
 
-    /// Explains a path by the first name of `rest`, its part below the directory `here`, or returns the child directory of this name to go
-    /// on in.
+    /// Takes one step to the explanation of a path, by the first name of `rest`, which is the part of the path below the directory `here`.
+    /// Returns the explanation, or the child directory for the next step.
     fn step<'p>(
         &self,
         here: &OpenDir,

@@ -18,7 +18,7 @@ use std::marker::Model;
 /// The memory that opened directories may use before some of them are dropped: about 96 MiB.
 ///
 /// The directories above the path that is being explained are kept however large they are. If all other opened directories together use
-/// more than this, opening one more directory drops these others.
+/// more than this, opening one more directory drops all directories that are not above this path.
 pub const MAX_KEPT: usize = 96 * 1024 * 1024;
 
 /// A cached stack whose last directory is above a path, and the rest of the path below that directory.

@@ -1,4 +1,4 @@
-//! The text of the rules that options give for a whole tree.
+//! The text of the rules that `--exclude` and `--exclude-from` give for a whole tree.
 
 ghost use Rattle.std.specs.Prelude.{◌≡◌, []};
 ghost use Rattle.lc_paths.specs.Explanations.OpenDirs.{text_or_none, text_in};

@@ -1,4 +1,5 @@
-//! Tests of explained checks whose text is longer than a block. The text is written as it is made, and what was written is a prefix of it.
+//! Tests of `check_explained` with a text that is longer than a block of output. The text is written block by block. If the writer stops, a
+//! prefix of the text was written.
 
 use crate::checks::BY_LINES;
 use crate::long_lines::{expected, long_pattern, repeated};
@@ -11,7 +12,7 @@ use std::alloc::{AllocError, Global};
 use std::process::Abort;
 use std::test::Fail;
 
-/// Makes an explained check of `LINES` paths by the long pattern.
+/// Runs `check_explained` for `LINES` paths and the long pattern.
 fn check_long<O: Sink>(alloc: Global, out: &mut O) -> Result<(), CheckFault> {
     let pattern = long_pattern(alloc)?;
     let Ok(rules) = read_rule_text(alloc, &mut pattern.as_slice()) else {

@@ -1,4 +1,4 @@
-//! Tests of the text of an explained check of given paths by given rules.
+//! Tests of the text that `check_explained` writes for given rules and paths.
 
 use crate::checks::{BY_LINES, BY_NUL, SHOWN_BY_LINES};
 use lc_level::{RuleText, read_rule_text};
@@ -118,7 +118,7 @@ fn read_rules(alloc: Global, mut file: &[u8]) -> Result<RuleText, AllocError> {
     }
 }
 
-/// Returns whether the explained check of a case, by a file of rules with this name, writes the expected text in this format.
+/// Returns whether `check_explained` writes the expected text of a case, for a file of rules with this name and in this format.
 fn has_text(
     alloc: Global,
     name: &[u8],

@@ -1,4 +1,5 @@
-//! Tests of explanations that are longer than a block. The text is written as it is made, and what was written is a prefix of it.
+//! Tests of explanations with a text that is longer than a block of output. The text is written block by block. If the writer stops, a
+//! prefix of the text was written.
 
 use crate::explain::asking::for_a_pipe;
 use crate::long_lines::{LINES, expected, long_pattern, repeated};

@@ -1,5 +1,5 @@
-//! Tests with a path in a directory of an earlier path. While the directory is in the cache, it is not listed again, and its rules are not
-//! read again.
+//! Tests of the cache of directories. If the directory of a path was opened for an earlier path and is still cached, the directory is not
+//! listed again, and its rules are not read again.
 
 use crate::explain::asking::plainly;
 use lc_paths::MAX_KEPT;
