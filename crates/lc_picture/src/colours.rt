@@ -6,7 +6,7 @@ ghost use Rattle.lc_picture.specs.Colours.{colour_of, main_colour, path_of, plac
 use lc_rows::{ShownRow, number_in};
 use lc_sheet::Number;
 
-/// The colour that all extensions share that are not among the first eight of the chart.
+/// The colour of all extensions that are not among the first eight of the chart.
 pub(crate) const SHARED_COLOUR: usize = 8;
 
 /// Returns the path of a row's directory, or the empty path if the row has no directory.

@@ -12,10 +12,11 @@ pub fn names_are_never_markup()
     ensures reads_back { UnescapedLaw }
 {}
 
-/// The law of the names and numbers that a page shows. The page shows what was counted, the sums over all files, the number of errors and
-/// the first of them. It shows the rows of the chart, the sums over the other rows, and each drawn directory and file once, with its sums.
-/// The box of a directory also shows the numbers of what has no box there. No other names and numbers are shown. On the page of a report,
-/// each row of the chart is an extension. A directory is drawn exactly if its number, such as lines, is large enough.
+/// The law that a page shows the following names and numbers, and no others. At the top are what was counted, the sums over all files, the
+/// number of errors, and the first errors. Then come the rows of the chart, the sums over the other rows, and each drawn directory and file
+/// once, with its sums and its share. The box of a directory also has the numbers of the directories and files in it without boxes of their
+/// own. On the page of a report, each row of the chart is an extension. A directory is drawn exactly if its number, such as lines, is large
+/// enough.
 pub fn a_page_shows_each_directory_once()
     ensures shown { ShownLaw }
     ensures report { ReportLaw }
@@ -37,8 +38,8 @@ pub fn boxes_are_nested()
     ensures { NestingLaw }
 {}
 
-/// The law that boxes, which come depth first, open inside the boxes of the directories above them. A reader who joins the names of the
-/// open boxes finds the path of each directory and file.
+/// The law that the box of a directory or file opens inside the box of the directory above it, if the boxes come depth first. A reader who
+/// joins the names of the open boxes finds the path of each directory and file.
 pub fn a_box_opens_inside_that_of_its_parent()
     ensures { InsideLaw }
 {}

@@ -1,17 +1,20 @@
 //! The picture of a tree: a page of HTML with the sums of a report, a bar chart of its extensions, and boxes of directories and files.
 //!
-//! - `escaping`: texts, escaped for HTML; `style`: the fixed parts of a page
-//! - `boxes`, `drawn_box`: the boxes of directories and files, each inside the box of the directory above it; `directory_box`, `file_box`:
-//!   which directories and files have boxes; `small_directories`, `space`: the directories that are too small for boxes of their own, and
-//!   what a box shows for directories and files without boxes
+//! - `report_page`: the page of a report
+//! - `head`: what was counted, and the sums over all files
+//! - `faults`: the errors at the top of a page
+//! - `chart`, `cells`: the bar chart of a sheet, and the cells of its lines
+//! - `boxes`, `drawn_box`: the boxes of directories and files, each inside the box of the directory above it
+//! - `directory_box`, `file_box`: which directories and which files have boxes
+//! - `small_directories`: the directories that are too small for boxes of their own
+//! - `space`: what the box of a directory shows for the directories and files in it without boxes of their own
 //! - `largest_first`, `places`: the order of boxes
 //! - `colours`: the colours of extensions and of directories
-//! - `faults`: the errors at the top of a page
-//! - `head`: what was counted, and the sums over all files; `chart`, `cells`: the bar chart of a sheet, and the cells of its lines
-//! - `sums`: sums as text, such as `lines 7, files 1`; `percents`: shares; `scale`: which number a picture draws, such as lines, and the
-//!   sum of that number over all files
-//! - `report_page`: the page of a report
-//! - `laws`: laws of the definitions that the contracts cite
+//! - `scale`: which number a picture draws, such as lines, and the sum of that number over all files
+//! - `sums`, `percents`: sums as text, such as `lines 7, files 1`, and shares as text
+//! - `escaping`: texts, names and paths, escaped for HTML
+//! - `style`: the parts of a page that are the same for every report
+//! - `laws`: theorems about the definitions that the contracts cite
 #![tactic(auto)]
 
 mod boxes;

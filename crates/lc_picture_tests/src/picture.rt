@@ -1,4 +1,4 @@
-//! Tests of what no contract states: the pages of worked examples, and that calls succeed if no allocation fails.
+//! Tests of pages: given reports have the expected page. Calls succeed if no allocation fails, which no contract states.
 
 mod faults;
 mod pages;
