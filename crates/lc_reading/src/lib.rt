@@ -1,14 +1,23 @@
 //! Reading the reports that `lc count --format json` printed.
 //!
-//! - `reading`: the reports of a text, which `cutter` cuts after each JSON object
-//! - `object`, `top_member`: the members of a report; `lists`: the lists of a report, which are read line by line
-//! - `rows`, `file_lines`, `skipped_lines`, `fault_lines`: a line of each list, by the parts in `lines`; `rule_places`: the file that a
-//!   rule was read from
-//! - `sums`, `numbers_of`: the sums and the numbers of a report
-//! - `building`: making a report from its object; `kept_files`: the rows and files of the report; `adding`: whether sums agree with their
-//!   total
-//! - `members`, `member_name`, `values`, `numbers`, `words`: the members of an object, and their values
-//! - `read_report`, `row_columns`: a report that was read; `read_fault`: why no report is read
+//! - `reading`: reading the reports in a text
+//! - `cutter`: cutting a text after each JSON object
+//! - `object`: reading the JSON object of a report, member by member
+//! - `top_member`: finding a member of a report by its name
+//! - `lists`: the lists of a report, which are read line by line
+//! - `rows`, `file_lines`: reading the rows and the listed files of a report
+//! - `skipped_lines`, `fault_lines`: reading the skipped entries and the errors of a report
+//! - `lines`: reading the values that lines of several lists have, such as paths
+//! - `rule_places`: finding the file that a rule was read from, by its path
+//! - `sums`, `numbers_of`: reading sums, and all members of a report that are not lists
+//! - `building`: making a report from the members of its JSON object
+//! - `kept_files`: the rows and the files of a report that was read
+//! - `adding`: comparing the sums over parts of a report with the report's total
+//! - `members`, `member_name`: the members of a JSON object, and their names
+//! - `values`, `numbers`: reading numbers, texts and bytes
+//! - `words`: finding the kind of line end, the error or the state that a word names
+//! - `read_report`, `row_columns`: a report that was read, and the columns of its rows
+//! - `read_fault`: why no report is read
 #![tactic(auto)]
 
 mod adding;

@@ -1,4 +1,4 @@
-//! Reading the parts that several lists of a report have in their lines.
+//! Reading the values that lines of several lists have, such as paths.
 
 ghost use Rattle.std.specs.Prelude.{◌≡◌, ◌==◌, ◌-◌, true, length, slice_get, IfOk, OnErr};
 ghost use Rattle.std.specs.List.{list_any};

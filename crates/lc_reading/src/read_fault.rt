@@ -17,10 +17,10 @@ pub enum ReadFault {
     /// The text is not a report.
     #[error("is no report: {0}")]
     NoReport(NoReport),
-    /// The report lacks rows or files that it counts.
+    /// The report lacks rows or files that its totals count, as with `--top`.
     #[error("was cut by --top")]
     CutByTop,
-    /// The sums of this part of the report differ from its total.
+    /// The sums of this part of the report differ from the report's total.
     #[error("is no report: its {0} do not add up to its total")]
     DoNotAddUp(Part),
 }
@@ -37,7 +37,7 @@ pub enum NoReport {
     /// An object lacks the member with this name.
     #[error("no member {0}")]
     Missing(MemberName),
-    /// An object has two members with this name, or two values for it.
+    /// An object has two members with this name, or two forms of one member, such as `path` and `path_bytes`.
     #[error("{0} twice")]
     Twice(MemberName),
     /// No report can have the value of this member.
@@ -45,7 +45,7 @@ pub enum NoReport {
     Bad(MemberName),
 }
 
-/// A part of a report whose sums must be those of its total.
+/// A part of a report whose sums must add up to the report's total.
 #[derive(Clone, Copy, Debug, Drop, PartialEq, Eq, Error)]
 pub enum Part {
     /// The rows.

@@ -3,7 +3,7 @@
 use crate::row_columns::RowColumns;
 use lc_walk::{Report, Sums};
 
-/// A report that was read, with facts that the report of a walk does not have.
+/// A report that was read, with the columns of its rows, and with its sums over text and over binary files.
 #[derive(Debug, Drop)]
 pub struct ReadReport {
     /// The report. If it has no files, its rows have a fixed value in each column that they lack: no extension, the state `Unspecified`, or

@@ -2,7 +2,8 @@
 //!
 //! - `printed`: reports that are read and printed again
 //! - `other_texts`: reports whose JSON differs from what `lc` prints, such as in white space
-//! - `refusals`: texts that are no reports; `sums`: reports whose sums do not agree
+//! - `refusals`: texts that are no reports
+//! - `sums`: reports that were cut, or whose sums do not agree
 
 mod other_texts;
 mod printed;
