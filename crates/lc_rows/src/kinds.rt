@@ -1,6 +1,9 @@
 //! The kinds of lines of a report's sheet.
 //!
-//! - `rows`, `totals`, `files`, `skipped`, `faults`: the value of a line of each kind in each column
+//! - `rows`: the value of a row in each column
+//! - `totals`: the value of a line of sums, such as the total, in each column
+//! - `files`: the value of a file in each column
+//! - `skipped`, `faults`: the value of a skipped entry, and of an error, in each column
 
 mod faults;
 mod files;

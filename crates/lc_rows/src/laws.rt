@@ -19,8 +19,8 @@ pub fn whole_keys_add_up_to_themselves()
     ensures { WholeLaw }
 {}
 
-/// The law that, for each directory and key, a table by directory shows the sums over the files that have this key, and whose own directory
-/// is cut to this directory.
+/// The law that a row of a table by directory has the sums over the files with the row's key. The directory in the key of a file is the
+/// directory that holds the file, cut after some of its names.
 pub fn rows_of_a_directory_are_the_sums_of_its_files()
     ensures { DirectoriesLaw }
 {}
@@ -30,20 +30,20 @@ pub fn each_file_is_in_one_row()
     ensures { OneRowLaw }
 {}
 
-/// The law that cutting the directory of a path in a tree after n names keeps the first n segments of the path, but never the last one,
-/// which is the file's name. All segments of a path in a tree are names.
+/// The law that cutting the directory of a file after n names keeps the first n segments of the directory's path, or all segments if there
+/// are fewer. The file must be in a tree, so that all segments of its path are names.
 pub fn directories_of_names_are_their_first_segments()
     ensures { NamesLaw }
 {}
 
-/// The law that, for each key and each directory no deeper than the cut, the rows of a tree have the sums over the files with that key in
-/// the directory and below it. So a file counts once in each directory above it.
+/// The law that in a tree of directories, the row of a directory has the sums over the files with the row's key in the directory and below
+/// it. So a file counts once in each directory above it. The law requires that the directory is not deeper than the cut.
 pub fn rows_of_a_tree_are_the_sums_of_what_is_below()
     ensures { TreeLaw }
 {}
 
-/// The law that, for each directory and key, a row of a tree is the sum of the files directly in the directory and of the rows of its child
-/// directories.
+/// The law that in a tree of directories, a directory's row adds up the files directly in the directory and the rows of its child
+/// directories. For each key, only the files and rows with this key are added up.
 pub fn a_directory_is_its_files_and_its_children()
     ensures { ChildrenLaw }
 {}
@@ -58,7 +58,7 @@ pub fn sorted_files_are_the_files()
     ensures { SortedFilesLaw }
 {}
 
-/// The law that no file that is cut off has a larger number than a listed file.
+/// The law that if files are sorted by a number, such as lines, no file that is cut off has a larger number than a listed file.
 pub fn the_first_files_are_the_largest()
     ensures { FirstFilesLaw }
 {}

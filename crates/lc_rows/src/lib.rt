@@ -1,15 +1,21 @@
 //! What a table shows of a report: its rows and files, summed, sorted and cut, and the sheet that the formats print.
 //!
 //! - `shown`: the rows of a table, summed over the columns that the table lacks, and sorted
-//! - `shown_row`, `row_key`: a row of a table, and its key; `parts`: the files or rows that a row adds up; `adding_up`: adding up these
-//!   parts
-//! - `directories`: the directories of files; `directory_tree`, `depth_first`: the rows of a tree of directories, and their order
-//! - `files`: the listed files, sorted; `cut`: the first rows and files of a table, and the sums over the other rows
+//! - `shown_row`, `row_key`: a row of a table, and its key
+//! - `parts`, `adding_up`: the files or rows that a row of a table adds up, and adding these up
+//! - `directories`: the directories that hold files, and how their paths are cut
+//! - `directory_tree`, `depth_first`: the rows of a tree of directories, and their order
+//! - `files`: the files that a table lists, sorted
+//! - `cut`: the first rows or files of a table, and the sums over the other rows
 //! - `kept`: the part of a report that meets some conditions
-//! - `classes`: the sums over all files, over binary files and over text files
-//! - `kinds`: the kinds of lines of a sheet, with the value of a line in a column; `values`: values that several kinds share; `words`: the
-//!   words of skipped entries; `columns`: the columns of each section; `shown_sheet`: the shown part of a report, and its sheet
-//! - `laws`, `sheet_laws`, `kept_laws`: laws of the definitions that the contracts cite
+//! - `classes`: the sums over binary files and over text files
+//! - `kinds`: the value of a row, a file or another line in each column of a sheet
+//! - `values`: values of columns that several kinds of lines share
+//! - `words`: the words that are printed of a skipped entry
+//! - `columns`: the columns of each section of a sheet in each format
+//! - `shown_sheet`: the shown part of a report, and its sheet
+//! - `laws`, `sheet_laws`: theorems about the rows of a table, and about the sheet of a report
+//! - `kept_laws`: theorems about the part of a report that meets some conditions
 #![tactic(auto)]
 
 mod adding_up;

@@ -16,16 +16,17 @@ pub fn classes_of_a_sheet_add_up()
     ensures { SheetClassesLaw }
 {}
 
-/// The law that no line of rows or of sums has a share larger than the total, or a bar longer than the bar of the largest number. The law
-/// requires of the report's totals what [`rows_of_a_sheet_add_up`] and [`classes_of_a_sheet_add_up`] require.
+/// The law that in the rows and sums of a sheet, no share is larger than the total, and no bar is longer than the bar of the largest
+/// number. The report's totals must meet the requirements of [`rows_of_a_sheet_add_up`] and of [`classes_of_a_sheet_add_up`].
 pub fn no_line_of_a_sheet_is_over_its_whole()
     ensures rows { SheetPartsLaw }
     ensures totals { ClassPartsLaw }
 {}
 
-/// The law about each sheet of a walk's report, or of the part of a walk's report that meets conditions. The shown rows, and the sums over
-/// the rows that are cut off, add up to the total. The sums over text files and over binary files add up to the total. No share and no bar
-/// is over its whole. For rows by directory, the walk must list its files.
+/// The law that each sheet of a walk's report adds up. The shown rows, and the sums over the rows that are cut off, add up to the total.
+/// The sums over text files and over binary files add up to the total. No share is larger than the total, and no bar is longer than the bar
+/// of the largest number. All this is also true of the part of a walk's report that meets conditions such as `lines>1000`. If rows are by
+/// directory, the walk must list its files.
 pub fn sheets_of_walks_add_up<T: Tree>(tree: &T)
     ensures { WalkedSheetLaw (T.lists tree.now) (T.gives tree.now) }
 {

@@ -1,4 +1,4 @@
-//! Tests of what no contract states: worked cases, and that calls succeed if no allocation fails.
+//! Tests of tables: given reports have the expected rows, files and sheets. Calls succeed if no allocation fails, which no contract states.
 
 mod by_directory;
 mod conditions;
