@@ -17,7 +17,8 @@ pub enum Number {
     Bytes,
 }
 
-/// Which value is compared in two reports. Of a file, this is a word (`Text` or `Eol`) or a number. Of a row, this is always a number.
+/// Which value is compared in two reports. For a file, the value is a word (`Text` or `Eol`) or a number. For a row, the value is always a
+/// number.
 #[derive(Debug, Clone, Copy, PartialEq, Eq)]
 pub enum Compared {
     /// The state of the attribute `text` for the file.

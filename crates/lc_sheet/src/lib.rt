@@ -1,11 +1,14 @@
 //! The sheet of a report: what every format shows of the report, as sections of lines with a value in each column. The crate also has the
 //! options of a table.
 //!
-//! - `column`: the columns; `value`: the value of a line in a column
-//! - `form`: what the values of all lines of a section depend on; `lines`: the trait of a kind of lines; `section`: lines of one kind in
-//!   columns; `sheet`: the sections of a report; `comparison_sheet`: the sections of a comparison of two reports
+//! - `column`: the columns of a sheet
+//! - `value`: the value of a line in a column
+//! - `form`: what the values of a section's lines depend on, besides the line and the column
+//! - `lines`: the trait of a kind of lines, such as rows or files
+//! - `section`: lines of one kind, and the columns in which they are shown
+//! - `sheet`, `comparison_sheet`: the sections of a report, and the sections of a comparison of two reports
 //! - `table_options`: the format of a table, its columns, its order, and where it is cut
-//! - `condition`: which files a table shows
+//! - `condition`: conditions on files, such as `lines>1000`
 #![tactic(auto)]
 
 mod column;

@@ -1,10 +1,13 @@
 //! The sum of several reports that were read.
 //!
-//! - `summing`: summing reports, or refusing them; `sum`: the sum; `sum_fault`: why reports are refused
-//! - `part`: a report with its name; `needs`: what is needed of each report
-//! - `columns`, `lists`, `paths`: refusing reports that lack a column or a list, or that list files with the same path
-//! - `class_totals`: the sums over text and over binary files
-//! - `laws`: a law of the definitions that the contracts cite
+//! - `summing`: summing reports, or finding out why they can't be summed
+//! - `sum`, `sum_fault`: the sum of several reports, and why reports are not summed
+//! - `part`: a report with its name
+//! - `needs`: what a sum needs of each report
+//! - `columns`, `lists`: refusing reports that lack a needed column or a needed list
+//! - `paths`: refusing reports that list two files with the same path
+//! - `class_totals`: the sums over text and over binary files of several reports
+//! - `laws`: a theorem about the definitions that the contracts cite
 #![tactic(auto)]
 
 mod class_totals;

@@ -3,13 +3,13 @@
 use lc_reading::RowColumns;
 use lc_walk::{Report, Sums};
 
-/// The sum of several reports, with facts that the report of a walk does not have.
+/// The sum of several reports, with the columns that they have in common, and with the sums over text and over binary files.
 #[derive(Debug, Drop)]
 pub struct Sum {
     /// The report into which the reports are joined. It has only the lists that are needed.
     ///
-    /// Two rows of this report may differ only in a column that some of the joined reports lack. So a table of this report must group rows
-    /// only by columns that are in `columns`.
+    /// If a joined report lacks a column, its rows have a fixed value in this column. So a table of the sum must group rows only by columns
+    /// that are in `columns`.
     pub report: Report,
     /// The columns that all of the reports have.
     pub columns: RowColumns,

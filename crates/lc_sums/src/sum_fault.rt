@@ -12,7 +12,8 @@ use std::alloc::AllocError;
 pub enum SumFault<'n> {
     /// An allocation failed. Memory is allocated only after each report was found to have the needed columns and lists.
     Memory,
-    /// A report lists no files, and its rows lack a column that is needed: `Ext`, `Text` or `Eol`, the first of them in this order.
+    /// A report lists no files, and its rows lack a needed column. The `Column` is the first needed one that the rows lack, in the order
+    /// `Ext`, `Text`, `Eol`.
     NoColumn(&'n str, Column),
     /// No column is in every report. This is an error only if no columns were requested.
     NoSharedColumn,

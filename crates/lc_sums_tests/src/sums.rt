@@ -1,7 +1,10 @@
 //! Tests of the sum of several reports, and of why some reports are not summed.
 //!
-//! - `texts`: reports in JSON, which several tests share; `reading`: reading these texts as parts of a sum
-//! - `summed`: reports that are summed; `refusals`: reports that are refused; `needs`: what a sum needs of each report
+//! - `texts`: reports in JSON, which several tests share
+//! - `reading`: reading these reports from JSON
+//! - `summed`: reports that are summed
+//! - `refusals`: reports that are refused
+//! - `needs`: what a sum needs of each report
 
 mod needs;
 mod reading;

@@ -1,4 +1,4 @@
-//! Reading the parts of a sum from JSON.
+//! Reading reports from JSON, with the names of their inputs.
 
 use lc_reading::{ReadFault, read_reports};
 use lc_sums::Part;
