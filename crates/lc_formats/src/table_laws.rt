@@ -48,9 +48,9 @@ pub fn changes_add_up_to_new_numbers()
     ensures none { NoChangeLaw }
 {}
 
-/// The law that the headings, rows and sums of a comparison are padded to one width in a human-readable text, and that no line of the text
-/// ends with a blank. The law requires of rows and sums what [`lines_of_a_part_are_as_wide`] requires. The claim about blanks also requires
-/// of the list of files what [`lines_end_without_blanks`] requires of each list.
+/// The law that the headings, rows and sums of a comparison are padded to one width in a human-readable text. No line of the text ends with
+/// a blank. The law requires of rows and sums what [`lines_of_a_part_are_as_wide`] requires. The claim about blanks also requires of the
+/// list of files what [`lines_end_without_blanks`] requires of each list.
 pub fn lines_of_comparisons_are_as_wide()
     ensures summary { ComparisonWidthLaw }
     ensures ends { ComparisonEndsLaw }

@@ -80,9 +80,9 @@ pub fn no_ignore_file_of_the_tree_skips_an_entry<T: Tree>(tree: &T)
     the_rule_of_a_line_ignores_it();
 }
 
-/// The law that a walk with `--include` reports exactly these errors: the errors of directories and of their rule files, of requested paths
-/// that are absent, and of included files. The walk skips what a walk of all files skips, for the same reasons, and also the files that are
-/// not included.
+/// The law that a walk with `--include` reports exactly the errors of directories, of requested paths that are absent, and of included
+/// files. The errors of a directory include those of its rule files. The walk skips what a walk of all files skips, for the same reasons,
+/// and also the files that are not included.
 pub fn errors_and_skipped_entries_are_those_of_included_files()
     ensures { IncludedEntriesLaw }
 {
