@@ -1,42 +1,44 @@
-//! What calls on a board return.
+//! What the calls on a board return. A board hands the directories of a tree to worker threads.
 ghost use Rattle.std.specs.Prelude.{◌≡◌};
 ghost use Rattle.lc_board.specs.Ending.{row_in};
 
-/// What a call of `claim` returns.
+/// What `claim` returns to a worker that asks the board for a directory.
 #[derive(PartialEq, Eq, Debug, Drop)]
 pub enum Claim<J> {
-    /// The directory's number that was claimed, and its job.
+    /// The number of the directory that the worker has claimed, and the directory's job: what a visit of the directory needs.
     Got(u32, J),
-    /// None of the directories' numbers that this worker has seen posted is open. Another worker may still post a number, so claim again
-    /// later.
+    /// None of the directories that this worker knows to be on the board waits for a worker. Another worker may still add a directory to
+    /// the board, so claim again later.
     Later,
-    /// No directory's number is open or claimed, and no number ever will be: the work is done.
+    /// All directories on the board are finished, and no directory can be added any more: the work is done.
     Over,
     /// An allocation failed, and the board did not change.
     Memory,
 }
 
-/// Why a job was not posted. Each variant gives the job back to the caller.
+/// Why `post` added no child directory to the board. Each variant returns the directory's job to the caller.
 #[derive(PartialEq, Eq, Debug, Drop)]
 pub enum PostFault<J> {
-    /// The board has used all numbers that it has for directories.
+    /// The board has no unused number left for another directory.
     Full(J),
-    /// An allocation failed. The board and the worker's pass did not change.
+    /// An allocation failed. The board did not change, nor did the pass, which gives the worker access to the board.
     Memory(J),
 }
 
 /// Why a board was not closed. If several variants apply, the first of them is returned.
 #[derive(Clone, Copy, PartialEq, Eq, Debug, Drop)]
 pub enum CloseFault {
-    /// Some directory's number is still open or claimed. The field is the least such number.
+    /// Some directory still waits for a worker, or a worker has claimed it but not finished it. The field is the least number of such a
+    /// directory.
     Unfinished(u32),
-    /// A worker's events in the board's history differ from the events in the worker's pass. The field is the index of this worker.
+    /// The board and a worker's pass have recorded different events of this worker. The field is the worker's index.
     Mismatch(u32),
     /// An allocation for the rows failed.
     Memory,
 }
 
-/// The row that a worker added when it ended its claim of a directory's number. `Faulted` has a row that reports an error.
+/// The row that a worker added to the board when it finished a directory: what the worker found there. `Faulted` has a row that reports an
+/// error.
 #[derive(PartialEq, Eq, Debug, Drop)]
 pub enum Ended<R> {
     Returned(R),
@@ -54,7 +56,7 @@ impl<R> Ended<R> {
     }
 }
 
-/// The rows of a closed board, one for each directory's number. The index of a row is the number.
+/// The rows of a closed board, one for each directory on it. The index of a row is the directory's number.
 #[derive(PartialEq, Eq, Debug, Drop)]
 pub struct Closed<R> {
     pub rows: Vec<Ended<R>>,

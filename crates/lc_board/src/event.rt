@@ -1,38 +1,40 @@
-//! The events of a board: what workers do with its numbers.
+//! The events of a board: what worker threads do with the directories on the board.
 
-/// One event of a board: what a worker did with a directory's number. Most events carry the job or the row of that number.
+/// One event of a board: what a worker did with a directory. Most events carry the directory's job, which a visit needs, or its row, which
+/// has what was found.
 #[derive(PartialEq, Eq, Debug, Drop)]
 pub enum Event<J, R> {
-    /// Under its claim of the number `parent`, the worker opened the unused number `number` with this job.
+    /// The worker added a child directory with this number and this job to the board. It had claimed the parent directory, which has the
+    /// number `parent`.
     Post {
         worker: u32,
         parent: u32,
         number: u32,
         job: J,
     },
-    /// The worker claimed the number and got its job.
+    /// The worker claimed the directory with this number and got its job.
     Claim {
         worker: u32,
         number: u32,
         job: J,
     },
-    /// The worker ended its claim of the number and added this row.
+    /// The worker finished the directory with this number by adding this row.
     Return {
         worker: u32,
         number: u32,
         row: R,
     },
-    /// The worker ended its claim of the number and added this row, which reports an error.
+    /// The worker finished the directory with this number by adding this row, which reports an error.
     Fault {
         worker: u32,
         number: u32,
         row: R,
     },
-    /// The worker found that no number of the board is open or claimed.
+    /// The worker found that all directories on the board are finished.
     Over {
         worker: u32,
     },
 }
 
-/// An event without its job or row.
+/// An event of a board, without its job or row.
 pub type BareEvent = Event<(), ()>;

@@ -1,5 +1,6 @@
-//! Laws about the legal histories of a board. A history is the list of the events of all workers. It is legal if each event was allowed
-//! when it came. A law has no code: its contract is a theorem, which the prover checks.
+//! Laws about the legal histories of a board, which hands directories to worker threads. A history is the list of what all workers did:
+//! their events. It is legal if the rules of the board (`IsAllowed`) allow each event after the events before it. A law has no code: its
+//! contract is a theorem, which the prover checks.
 ghost use Rattle.lc_board.specs.Laws.{NumbersOnce, PartSaysWhole, PartTellsClaim, PostedNothing, OverStays, EndedHasRow, EndedStays};
 ghost use Rattle.lc_board.specs.{Laws.{PostedOnce, StaysLegal, FewNumbers, FewEnds, RowsAreEnds, SumsOfRows}, Scripts.ScriptsAreLegal};
 ghost use Rattle.lc_board.specs.Limits.{capacity_limit, workers_limit};
@@ -7,46 +8,49 @@ ghost use Rattle.std.specs.Prelude.{◌≡◌};
 
 use crate::limits::{MAX_CAPACITY, MAX_WORKERS};
 
-/// The law that no directory's number is handed out twice: each number is posted, claimed and ended at most once.
+/// The law that a board hands out no directory's number twice. In a legal history, a directory's number is added to the board, claimed and
+/// finished at most once each.
 #[tactic(auto, using(crate::proofs::NumbersOnce::numbers_once))]
 pub fn numbers_once<J, R>()
     ensures { NumbersOnce J R }
 {}
 
-/// The law that a worker's own events agree with the whole history about each directory's number that the worker claimed: about the posts
-/// under the claim, the job and the row.
+/// The law that a worker's own events agree with the whole legal history about each directory that this worker claimed: about the
+/// directory's job, the child directories that were added under it, and its row.
 #[tactic(auto, using(crate::proofs::PartsOfWhole::part_says_whole))]
 pub fn part_says_whole<J, R>()
     ensures { PartSaysWhole J R }
 {}
 
-/// The law that a worker's own events determine which directory's number the worker has claimed, with which job, and what was posted under
-/// that claim.
+/// The law that a worker's own events show which directory the worker has claimed and not finished. They also show its job, and the child
+/// directories that the worker has added to the board under this claim.
 #[tactic(auto, using(crate::proofs::HeldClaims::part_tells_claim, crate::proofs::HeldClaims::posted_nothing))]
 pub fn part_tells_claim<J, R>()
     ensures claim { PartTellsClaim J R }
     ensures nothing { PostedNothing J R }
 {}
 
-/// The law that once a worker has found no directory's number open or claimed, no number is open or claimed again.
+/// The law that the work never starts again. If a worker's last event in a legal history is `Over`, all directories on the board are
+/// finished at the end of this history.
 #[tactic(auto, using(crate::proofs::OverHistories::over_stays))]
 pub fn over_stays<J, R>()
     ensures { OverStays J R }
 {}
 
-/// The law that a directory's number on a board has a row exactly if the number has ended.
+/// The law that in a legal history a directory has a row exactly if a worker has finished the directory.
 #[tactic(auto, using(crate::proofs::NumbersOnce::ended_has_row))]
 pub fn ended_has_row<J, R>()
     ensures { EndedHasRow J R }
 {}
 
-/// The law that once a directory's number has ended, its job, its row and the posts under its claim never change.
+/// The law that after a worker has finished a directory, the directory's job, row and child directories on the board never change.
 #[tactic(auto, using(crate::proofs::EndedNumbers::ended_stays))]
 pub fn ended_stays<J, R>()
     ensures { EndedStays J R }
 {}
 
-/// The law that each directory's number in use was posted exactly once, except number 0, the root, which is never posted.
+/// The law that in a legal history each directory on the board was added by exactly one `Post` event, except the root, number 0. The root
+/// is on the board from the start, and no event adds it.
 #[tactic(auto, using(crate::proofs::RowsOfWorkers::posted_once))]
 pub fn posted_once<J, R>()
     ensures { PostedOnce J R }
@@ -58,15 +62,15 @@ pub fn stays_legal<J, R>()
     ensures { StaysLegal J R }
 {}
 
-/// The law that a board has at most as many numbers, and at most as many ended claims, as its capacity.
+/// The law that a legal history has at most as many directories, and at most as many rows, as the capacity of the board.
 #[tactic(auto, using(crate::proofs::RowsOfWorkers::few_numbers, crate::proofs::RowsOfWorkers::few_ends))]
 pub fn few_numbers<J, R>()
     ensures numbers { FewNumbers J R }
     ensures ends { FewEnds J R }
 {}
 
-/// The law that a closed board, with each row at the index of its number, has exactly the rows that the workers added. A sum over all rows
-/// is the total of the sums over each worker's rows.
+/// The law that a closed board has exactly the rows that its workers added, if each row is at the index of its directory's number. If each
+/// worker sums over its own rows, the total of these sums is the sum over all rows of the board.
 #[tactic(auto, using(crate::proofs::RowsOfWorkers::rows_are_ends, crate::proofs::RowsOfWorkers::sums_of_rows))]
 pub fn rows_are_ends<J, R>()
     ensures rows { RowsAreEnds J R }
@@ -79,7 +83,8 @@ pub fn limits_are()
     ensures workers { MAX_WORKERS ≡ workers_limit }
 {}
 
-/// The law that the definitions about histories, such as `IsLegal`, give the expected results for a few short histories.
+/// The law that tests the definitions about histories of a board, such as `IsLegal`: they give the expected results for a few short
+/// histories.
 #[tactic(auto, using(crate::proofs::ComputedScripts::scripts_are_legal))]
 pub fn scripts_are_legal()
     ensures { ScriptsAreLegal }

@@ -1,15 +1,16 @@
-//! The board that the worker threads of a walk share. It has a number for each directory.
+//! The board through which the worker threads of a walk share the directories of a tree. Each directory on the board has a number.
 //!
-//! The root directory has number 0. A worker claims an open number and gets its job: what the worker needs to visit the directory. Under
-//! that claim the worker may post further numbers, each with the job of a child directory; these numbers are then open. The worker ends its
-//! claim by adding a row: what it found in the directory. A board is over once no number is open or claimed. Closing the board returns the
-//! row of each number.
+//! The root directory has number 0. A directory is open while it waits for a worker. A worker claims an open directory and gets its job:
+//! what the worker needs to visit the directory. Under this claim the worker may post child directories, that is, add them to the board,
+//! each with its own job. The worker ends its claim, and so finishes the directory, by adding a row: what it found there. A board is over
+//! when all directories on it are finished. Closing the board returns the row of each directory.
 //!
-//! - `shared`: the trait of boards that threads share; `event`: the events that its calls add to the history; `answers`: what its calls
-//!   return; `limits`: the limits of a board
-//! - `words`: the board of the program, which stores the state of each number in one atomic word
-//! - `locked`: a board under a lock, which tests compare with `words`; `plain`: the single-threaded board under that lock
-//! - `laws`: theorems about all legal histories of a board; a history is the list of the events of all workers
+//! - `shared`: the trait of boards that threads share
+//! - `event`: what a worker did with a directory; `answers`: what calls on a board return
+//! - `limits`: how many directories and workers a board can have
+//! - `words`: the board that `lc` uses, which stores the state of each directory in one atomic word
+//! - `locked`: a board under one lock, which tests and benchmarks compare with `words`; `plain`: the single-threaded board under that lock
+//! - `laws`: theorems about the histories of a board; a history is the list of what all workers did
 #![tactic(auto)]
 
 mod answers;

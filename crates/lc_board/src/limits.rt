@@ -1,6 +1,6 @@
-//! The limits of a board.
+//! How many directories and how many workers a board can have.
 
-/// The maximum capacity of a board: how many numbers it can have, one for each directory.
+/// The maximum capacity of a board, that is, how many directories it can have.
 pub const MAX_CAPACITY: u32 = 1_048_576;
 
 /// The maximum number of workers that share a board.

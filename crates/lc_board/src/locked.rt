@@ -1,7 +1,9 @@
-//! A board that workers share under one lock.
+//! A board that worker threads share under one lock.
 //!
-//! When a thread takes the lock, contracts guarantee only the invariant of the value under the lock. They do not say that the board's
-//! history has the events of the thread's pass. So `close` compares the history with the events that each pass has stored.
+//! The value under the lock has the board's history: the events of all workers. Each worker also has a pass, which gives it access to the
+//! board and stores the worker's own events. When a thread takes the lock, contracts guarantee only the invariant of the value under the
+//! lock. They do not say that the history has the events in the thread's pass. So `close` compares the history with the events in each
+//! pass.
 ghost use Rattle.std.specs.Prelude.{◌≡◌, ◌≢◌, ℕ, ◌≤◌, Some, IfOk, IfErr, map, slice_get, vec_len};
 ghost use Rattle.lc_board.specs.{ClosedBoard.{Settled, RefusesClose}, LockedBoard.told, RecordedCalls.locked_promises};
 ghost use Rattle.lc_board.specs.Limits.{capacity_limit, workers_limit};
@@ -19,7 +21,7 @@ mod recorded;
 use pass::LockedPass;
 use recorded::Recorded;
 
-/// A board under one lock. Its contracts do not promise that each returned row is at the index of its number.
+/// A board under one lock. Its contracts do not promise that `close` returns each row at the index of its directory's number.
 #[derive(Drop)]
 pub struct Locked<J, R> {
     alloc: Global,

@@ -1,4 +1,4 @@
-//! A single-threaded board. Each call names the worker for which it acts.
+//! A single-threaded board of directories. The calls `claim`, `post`, `give` and `fault` name the worker for which they act.
 ghost use Rattle.std.specs.Prelude.{◌≡◌, ◌≢◌, ℕ, ◌<◌, ◌≤◌, ◌^◌, [], None, map, slice_set, true, false, IfOk, IfErr, IfSome, IfNone};
 ghost use Rattle.std.specs.Prelude.{MatchBool};
 ghost use Rattle.lc_board.specs.{Ending.{MayEnd, end_event}, LegalHistory.IsOver, RowsInPlace.InPlace};
@@ -18,14 +18,14 @@ use cell::Cell;
 use scans::{all_ended, first_left, is_any_held};
 
 /// A single-threaded board, which has a number for each directory. In contracts its value is the capacity, the number that each worker has
-/// claimed, and the cell of each number.
+/// claimed, and each number's cell. A cell stores what happened to the directory with its number.
 #[derive(Drop)]
 pub struct Plain<J, R> {
     capacity: u32,
-    /// The number that each worker has claimed, at the worker's index.
+    /// For each worker, at the worker's index: the number of the directory that the worker has claimed and not finished.
     held: Vec<Option<u32>>,
     cells: Vec<Cell<J, R>>,
-    /// The least open number. If no number is open, the least unused number.
+    /// The least number of a directory that waits for a worker. If no directory waits, the least unused number.
     next: u32,
 }
 
@@ -42,7 +42,8 @@ impl<J, R> Model for Plain<J, R> {
 }
 
 impl<J: Drop, R: Drop> Plain<J, R> {
-    /// Makes a board on which number 0 is open with the root's job. If an allocation fails, the root's job is dropped.
+    /// Makes a board on which only the root directory, number 0, waits for a worker, with the job `root`. If an allocation fails, the job
+    /// is dropped.
     pub fn start(
         alloc: Global,
         capacity: u32,
@@ -67,8 +68,8 @@ impl<J: Drop, R: Drop> Plain<J, R> {
         })
     }
 
-    /// Claims the least directory's number that is open, for a worker that has no claim. Allocates nothing, and never returns
-    /// `Claim::Memory`.
+    /// Claims a directory for a worker that has no claim: of the directories that wait for a worker, the one with the least number.
+    /// Allocates nothing, and never returns `Claim::Memory`.
     pub fn claim(&mut self, worker: u32) -> Claim<J>
         requires worker { worker < workers_of self.old }
         requires free { held_by self.old worker ≡ None }
@@ -87,7 +88,8 @@ impl<J: Drop, R: Drop> Plain<J, R> {
         Claim::Over
     }
 
-    /// Posts the job under the worker's claim: opens the least unused number with this job, and returns the number.
+    /// Adds a child directory with this job to the board, under the worker's claim. Returns the child directory's number: the least unused
+    /// number.
     pub fn post(&mut self, worker: u32, job: J) -> Result<u32, PostFault<J>>
         requires worker { worker < workers_of self.old }
         requires holds { held_by self.old worker ≢ None }
@@ -108,7 +110,7 @@ impl<J: Drop, R: Drop> Plain<J, R> {
         Ok(number as u32)
     }
 
-    /// Ends the worker's claim by adding this row. Allocates nothing.
+    /// Finishes the directory that the worker has claimed, by adding this row. Allocates nothing.
     pub fn give(&mut self, worker: u32, row: R)
         requires worker { worker < workers_of self.old }
         requires holds { held_by self.old worker ≢ None }
@@ -118,8 +120,8 @@ impl<J: Drop, R: Drop> Plain<J, R> {
         self.end(worker, Ended::Returned(row));
     }
 
-    /// Ends the worker's claim by adding this row, which reports an error. The worker must have posted nothing under the claim. Allocates
-    /// nothing.
+    /// Finishes the directory that the worker has claimed, by adding this row, which reports an error. The worker must have added no child
+    /// directory under the claim. Allocates nothing.
     pub fn fault(&mut self, worker: u32, row: R)
         requires worker { worker < workers_of self.old }
         requires holds { held_by self.old worker ≢ None }
@@ -130,7 +132,7 @@ impl<J: Drop, R: Drop> Plain<J, R> {
         self.end(worker, Ended::Faulted(row));
     }
 
-    /// Ends the worker's claim by adding a row, which says whether the claim ended with an error. Allocates nothing.
+    /// Finishes the directory that the worker has claimed, by adding the row in `ended`. Allocates nothing.
     pub(crate) fn end(&mut self, worker: u32, ended: Ended<R>)
         requires worker { worker < workers_of self.old }
         requires holds { held_by self.old worker ≢ None }
@@ -145,7 +147,7 @@ impl<J: Drop, R: Drop> Plain<J, R> {
         self.held[worker as usize] = None;
     }
 
-    /// Returns whether no directory's number is open or claimed.
+    /// Returns whether all directories on the board are finished.
     pub fn is_over(&self) -> bool
         ensures over { result ≡ true → NoneOpen self.now × NoneHeld self.now }
         ensures left { result ≡ false → (k : ℕ) × IsLeft (cell_at self.now k) }
@@ -156,7 +158,7 @@ impl<J: Drop, R: Drop> Plain<J, R> {
         !is_any_held(&self.held)
     }
 
-    /// Returns the row of each number. On an error the rows are dropped.
+    /// Returns the row of each directory, at the index of the directory's number. On an error the rows are dropped.
     pub fn into_rows(self, alloc: Global) -> Result<Closed<R>, CloseFault>
         ensures rows { IfOk result (λ c. map cell_of c.rows.items ≡ self.cells) }
         ensures placed { IfOk result (λ c. (root : J) (h : _) → IsAfter root h self → IsOver h × InPlace root h c.rows.items) }
@@ -179,7 +181,7 @@ impl<J: Drop, R: Drop> Plain<J, R> {
         self.held.len() as u32
     }
 
-    /// Returns whether all numbers are used that the board's capacity allows.
+    /// Returns whether the board has as many directories as its capacity allows.
     pub(crate) fn is_full(&self) -> bool
         ensures { MatchBool result (IsFull self.now) (¬ IsFull self.now) }
     {
@@ -192,7 +194,7 @@ impl<J: Drop, R: Drop> Plain<J, R> {
         self.capacity
     }
 
-    /// Returns the directory's number that a worker has claimed.
+    /// Returns the number of the directory that a worker has claimed and not finished.
     pub(crate) fn held_by(&self, worker: u32) -> Option<u32>
         requires { worker < workers_of self.now }
         ensures { result ≡ held_by self.now worker }
@@ -200,7 +202,7 @@ impl<J: Drop, R: Drop> Plain<J, R> {
         self.held[worker as usize]
     }
 
-    /// Returns how many jobs a worker has posted under its present claim.
+    /// Returns how many child directories a worker has added to the board under its present claim.
     pub(crate) fn posts_by(&self, worker: u32) -> u32
         requires worker { worker < workers_of self.now }
         requires holds { held_by self.now worker ≢ None }
@@ -212,7 +214,7 @@ impl<J: Drop, R: Drop> Plain<J, R> {
         self.cells[number as usize].posts()
     }
 
-    /// Returns the least number that is open or claimed.
+    /// Returns the least number of a directory that is not finished: it waits for a worker, or a worker has claimed it.
     pub(crate) fn first_left(&self) -> Option<u32>
         ensures some { IfSome result (IsLeftLeast self.now) }
         ensures none { IfNone result (NoneLeft self.now) }

@@ -1,8 +1,8 @@
-//! The board of words: each number has an atomic word with its state, and a slot with its job and later its row.
+//! The board of words: for each directory, an atomic word stores the directory's state, and a memory slot has its job and later its row.
 //!
 //! Workers change a word only by atomic exchanges. The methods `claim`, `post`, `give` and `fault` of `Words` wait for no thread and
-//! allocate nothing. The worker that has claimed a number takes the job out of its slot, and later puts the row in. If jobs and rows are
-//! boxes, a slot takes 16 bytes.
+//! allocate nothing. A worker that claims a directory takes the job out of the directory's slot, and later puts the row in. If jobs and
+//! rows are boxes, a slot takes 16 bytes.
 ghost use Rattle.std.specs.Prelude.{◌≡◌, ◌≤◌};
 ghost use Rattle.lc_board.specs.Limits.{capacity_limit, workers_limit};
 
@@ -24,8 +24,7 @@ mod start;
 mod steps;
 pub mod view;
 
-/// A board with one atomic word for each directory's number. After the board is closed, the row of each number is at the index of that
-/// number.
+/// A board that stores the state of each directory in one atomic word. `close` returns each row at the index of its directory's number.
 #[derive(Drop)]
 pub struct Words<J, R> {
     pub(crate) table: Table<Slot<J, R>, View<J, R>, BoardSetup<J>, OneHistory, Global>,

@@ -1,4 +1,4 @@
-//! Comparisons of the stored history of a locked board with the events that its passes have stored.
+//! Functions that compare the history of a locked board with the events that are stored in the workers' passes.
 ghost use Rattle.std.specs.Prelude.{◌≡◌, ◌≢◌, ℕ, ◌≤◌, length, true, false, IfSome, IfNone, Some, slice_get};
 ghost use Rattle.lc_board.specs.{Part.worker_of, Bare.bare, Notes.valued, ComparedPass.IsSame, Limits.workers_limit};
 
@@ -18,7 +18,7 @@ fn worker_in(event: &BareEvent) -> u32
     }
 }
 
-/// Returns the event that a pass has stored, without its job or row.
+/// Returns an event that a worker's pass has stored, without the event's job or row.
 fn event_in<J, R>(note: &Event<Snapshot<J>, Snapshot<R>>) -> BareEvent
     ensures { result ≡ bare (valued note.now) }
 {
@@ -60,7 +60,8 @@ fn is_same_event(a: &BareEvent, b: &BareEvent) -> bool
     *a == *b
 }
 
-/// Returns whether the events of this worker in the history are the events in `notes`, which the worker's pass has stored.
+/// Returns whether this worker's events in the board's history are the events in `notes`, which the worker's pass has stored. Jobs and rows
+/// are not compared.
 fn matches<J, R>(
     history: &[BareEvent],
     notes: &[Event<Snapshot<J>, Snapshot<R>>],
@@ -86,7 +87,8 @@ fn matches<J, R>(
     own.is_empty()
 }
 
-/// Returns the first worker whose events in the history differ from the events that its pass has stored.
+/// Returns the lowest index of a worker whose events in the board's history differ from the events in the worker's pass. Jobs and rows are
+/// not compared.
 pub fn first_mismatch<J, R>(history: &[BareEvent], passes: &[LockedPass<J, R>]) -> Option<u32>
     requires { length passes.now ≤ workers_limit }
     ensures some { IfSome result (λ w. (p : _) × (slice_get passes.now w ≡ Some p) × (¬ IsSame w history.now p.notes.items)) }

@@ -9,8 +9,8 @@ use std::snapshot::Snapshot;
 
 mod noting;
 
-/// A worker's pass for a locked board. It stores the worker's events. The job or row of an event is a `Snapshot`, which only contracts can
-/// read.
+/// A worker's pass, which gives the worker access to a locked board and stores the worker's events. In these events each job or row is a
+/// `Snapshot`, which only contracts can read.
 #[derive(Drop)]
 pub struct LockedPass<J, R> {
     worker: u32,

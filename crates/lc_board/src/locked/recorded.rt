@@ -1,4 +1,4 @@
-//! The value under the lock of a locked board: a single-threaded board, and the history of its events.
+//! The value under the lock of a locked board: a single-threaded board and its history, the list of the events of all workers.
 ghost use Rattle.std.specs.Prelude.{◌≡◌, ℕ, ◌≤◌, [], IfOk, IfErr, MatchBool, map, length};
 ghost use Rattle.lc_board.specs.{LockedBoard.told, Bare.bare, Ending.{MayEnd, end_event}, PlainBoard.{first_board, posts_by, IsFull}};
 ghost use Rattle.lc_board.specs.RecordedCalls.{Holds, MayFault, Records, RefusesRecorded, locked_promises, RecordsClaim, RecordsPost};
@@ -14,7 +14,7 @@ use crate::shared::Token;
 use std::alloc::{AllocError, Global};
 use std::marker::Model;
 
-/// A single-threaded board with its history, that is, the list of its events. In contracts the newest event is the first of the list.
+/// A single-threaded board with its history, the list of the events of all workers. In contracts the newest event is the first of the list.
 #[derive(Drop)]
 pub struct Recorded<J, R> {
     plain: Plain<J, R>,
@@ -33,7 +33,7 @@ impl<J, R> Model for Recorded<J, R> {
 }
 
 impl<J: Drop, R: Drop> Recorded<J, R> {
-    /// Makes a board on which number 0 is open with the root's job, and an empty history.
+    /// Makes a board on which only the root directory, number 0, waits for a worker, with the job `root`. The history is empty.
     pub fn start(
         alloc: Global,
         capacity: u32,
@@ -51,8 +51,8 @@ impl<J: Drop, R: Drop> Recorded<J, R> {
         })
     }
 
-    /// Claims a number for a worker. First reserves memory in the history for this event and, for each worker, for one event that ends the
-    /// worker's claim.
+    /// Claims a directory for a worker. First reserves memory in the history: for the event of this claim, and for each worker for the
+    /// event that finishes the worker's claimed directory.
     pub fn claim(&mut self, worker: u32) -> Claim<J>
         ensures { RecordsClaim worker self.old result self.new }
     {
@@ -77,15 +77,15 @@ impl<J: Drop, R: Drop> Recorded<J, R> {
         answer
     }
 
-    /// Returns whether all numbers are used that the board's capacity allows.
+    /// Returns whether the board has as many directories as its capacity allows.
     pub(crate) fn is_full(&self) -> bool
         ensures { MatchBool result (IsFull self.now.board) (¬ IsFull self.now.board) }
     {
         self.plain.is_full()
     }
 
-    /// Posts the job under the worker's claim of the number `parent`. Reserves memory in the history as `claim` does. If all numbers are
-    /// used, the error is `PostFault::Full`, even if memory has also run out.
+    /// Adds a child directory with this job to the board, under the worker's claim of the directory with the number `parent`. Reserves
+    /// memory in the history as `claim` does. If the board is full, the error is `PostFault::Full`, even if memory has also run out.
     pub fn post(&mut self, worker: u32, parent: u32, job: J) -> Result<u32, PostFault<J>>
         ensures { RecordsPost worker parent self.old job result self.new }
     {
@@ -110,7 +110,7 @@ impl<J: Drop, R: Drop> Recorded<J, R> {
         }
     }
 
-    /// Ends the worker's claim of the number by adding this row. Returns false if the worker has not claimed the number.
+    /// Finishes the claimed directory with this number by adding this row. Returns false if the worker has not claimed the directory.
     pub fn give(&mut self, worker: u32, number: u32, row: R) -> bool
         ensures { RecordsEnd (Holds worker number self.old.board) self.old (Return worker number row) result self.new }
     {
@@ -121,8 +121,8 @@ impl<J: Drop, R: Drop> Recorded<J, R> {
         true
     }
 
-    /// Ends the worker's claim of the number by adding this row, which reports an error. Returns false if the worker has not claimed the
-    /// number, or has posted jobs under the claim.
+    /// Finishes the claimed directory with this number by adding this row, which reports an error. Returns false if the worker has not
+    /// claimed the directory, or has added child directories under the claim.
     pub fn fault(&mut self, worker: u32, number: u32, row: R) -> bool
         ensures { RecordsEnd (MayFault worker number self.old.board) self.old (Fault worker number row) result self.new }
     {
@@ -133,7 +133,7 @@ impl<J: Drop, R: Drop> Recorded<J, R> {
         true
     }
 
-    /// Returns the event that ends the worker's claim of the number, without the row.
+    /// Returns the event that the worker finished the directory with this number, without the row.
     fn event_of_end(worker: u32, number: u32, ended: &Ended<R>) -> BareEvent
         ensures { result ≡ bare {J = J} {R = R} (end_event worker number ended.now) }
     {
@@ -151,7 +151,7 @@ impl<J: Drop, R: Drop> Recorded<J, R> {
         }
     }
 
-    /// Ends the worker's claim of the number by adding the row, and adds the event to the history.
+    /// Finishes the worker's claimed directory, which has this number, by adding the row in `ended`. Adds the event to the history.
     fn end(&mut self, worker: u32, number: u32, ended: Ended<R>)
         requires holds { Holds worker number self.old.board }
         requires may { MayEnd (posts_by self.old.board worker) ended }
@@ -162,15 +162,15 @@ impl<J: Drop, R: Drop> Recorded<J, R> {
         self.history.push_reserved(event);
     }
 
-    /// Returns whether the worker is one of the board's workers and has claimed this number.
+    /// Returns whether the worker is one of the board's workers and has claimed the directory with this number.
     fn holds(&self, worker: u32, number: u32) -> bool
         ensures { MatchBool result (Holds worker number self.now.board) (¬ Holds worker number self.now.board) }
     {
         worker < self.plain.workers() && self.plain.held_by(worker) == Some(number)
     }
 
-    /// Closes the board and returns the row of each number. Fails if some number has not ended, or if the history and a pass have different
-    /// events of the pass's worker.
+    /// Closes the board and returns the row of each directory. Fails if some directory is not finished, or if a worker's events in the
+    /// history differ from the events in the worker's pass.
     pub fn close(
         self,
         alloc: Global,

@@ -1,4 +1,4 @@
-//! What a single-threaded board stores for one directory's number.
+//! What a single-threaded board stores for one directory.
 ghost use Rattle.std.specs.Prelude.{◌≡◌, ℕ, ◌+◌, ◌<◌, Some, MatchBool};
 ghost use Rattle.lc_board.specs.{PlainBoard.posts_in, PlainCalls.{IsOpen, IsHeld, IsLeft, cell_of}};
 ghost use Rattle.lc_board.specs.{declared.plain.cell.Cell.TheVariants.{Waiting, Held}, Limits.capacity_limit};
@@ -6,19 +6,19 @@ ghost use Rattle.lc_board.specs.{declared.plain.cell.Cell.TheVariants.{Waiting, 
 use crate::answers::Ended;
 use std::mem;
 
-/// What a single-threaded board stores for one directory's number: its state, with the job or the row.
+/// What a single-threaded board stores for one directory: its state, with the directory's job or its row.
 #[derive(Drop)]
 pub enum Cell<J, R> {
-    /// The directory's number is open, with this job.
+    /// The directory waits for a worker. The field is the directory's job.
     Waiting(J),
-    /// The directory's number is claimed by this worker, which has posted this many numbers under the claim.
+    /// This worker has claimed the directory, and has added this many child directories to the board under its claim.
     Held { worker: u32, posts: u32 },
-    /// The directory's number has ended, with this row.
+    /// A worker has finished the directory and added this row.
     Done(Ended<R>),
 }
 
 impl<J: Drop, R: Drop> Cell<J, R> {
-    /// Claims this open number for the worker, and returns the number's job.
+    /// Claims the directory of this cell for the worker, and returns the directory's job. The directory must wait for a worker (`Waiting`).
     pub(crate) fn take_job(&mut self, worker: u32) -> J
         requires { IsOpen (Some self.old) }
         ensures here { self.old ≡ Waiting result }
@@ -31,7 +31,7 @@ impl<J: Drop, R: Drop> Cell<J, R> {
         }
     }
 
-    /// Adds 1 to the count of posts under the claim of this number.
+    /// Adds 1 to the count of child directories that were added under the claim of this directory. The directory must be claimed (`Held`).
     pub(crate) fn count_post(&mut self)
         requires held { IsHeld (Some self.old) }
         requires few { posts_in (Some self.old) < capacity_limit }
@@ -44,7 +44,7 @@ impl<J: Drop, R: Drop> Cell<J, R> {
         }
     }
 
-    /// Returns the row of this number, which must have ended.
+    /// Returns the row of the directory of this cell. The directory must be finished (`Done`).
     pub(crate) fn into_row(self) -> Ended<R>
         requires { ¬ IsLeft (Some self) }
         ensures { cell_of result ≡ self }
@@ -58,7 +58,7 @@ impl<J: Drop, R: Drop> Cell<J, R> {
 }
 
 impl<J, R> Cell<J, R> {
-    /// Returns how many posts there were under the claim of this number.
+    /// Returns how many child directories were added under the claim of this directory. The directory must be claimed (`Held`).
     pub(crate) fn posts(&self) -> u32
         requires { IsHeld (Some self.now) }
         ensures { result ≡ posts_in (Some self.now) }
@@ -70,7 +70,7 @@ impl<J, R> Cell<J, R> {
         }
     }
 
-    /// Returns whether the number is open or claimed.
+    /// Returns whether the directory is not finished: it waits for a worker, or a worker has claimed it.
     pub(crate) fn is_left(&self) -> bool
         ensures { MatchBool result (IsLeft (Some self.now)) (¬ IsLeft (Some self.now)) }
     {

@@ -1,4 +1,4 @@
-//! Searches through all cells of a single-threaded board, and through the claims of its workers.
+//! Searches through the directories of a single-threaded board, and through the claims of its workers.
 ghost use Rattle.std.specs.Prelude.{◌≡◌, ◌≢◌, ℕ, ◌<◌, ◌≤◌, false, true, Some, IfOk, IfSome, IfNone, length, map, slice_get};
 ghost use Rattle.lc_board.specs.{PlainCalls.{IsLeft, cell_of}, Limits.capacity_limit};
 
@@ -6,7 +6,7 @@ use crate::answers::Ended;
 use crate::plain::cell::Cell;
 use std::alloc::{AllocError, Global};
 
-/// Returns whether some worker has claimed a number.
+/// Returns whether some worker has claimed a directory and not finished it. `held` has the number of each worker's claimed directory.
 pub fn is_any_held(held: &[Option<u32>]) -> bool
     ensures some { result ≡ true → (w i : ℕ) × (slice_get held.now w ≡ Some (Some i)) }
     ensures none { result ≡ false → (w i : ℕ) → slice_get held.now w ≢ Some (Some i) }
@@ -19,7 +19,8 @@ pub fn is_any_held(held: &[Option<u32>]) -> bool
     false
 }
 
-/// Returns the least number that is open or claimed. The index of a cell is its number.
+/// Returns the least number of a directory that is not finished: it waits for a worker, or a worker has claimed it. The index of a cell is
+/// the number of its directory.
 pub fn first_left<J, R>(cells: &[Cell<J, R>]) -> Option<u32>
     requires { length cells.now ≤ capacity_limit }
     ensures some { IfSome result (λ n. IsLeft (slice_get cells.now n) × ((k : ℕ) → k < n → ¬ IsLeft (slice_get cells.now k))) }
@@ -33,7 +34,7 @@ pub fn first_left<J, R>(cells: &[Cell<J, R>]) -> Option<u32>
     None
 }
 
-/// Returns the row of each cell. All cells must have ended.
+/// Returns the row of each cell's directory. All these directories must be finished.
 pub fn all_ended<J: Drop, R: Drop>(
     alloc: Global,
     cells: Vec<Cell<J, R>>,

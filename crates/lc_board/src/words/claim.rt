@@ -1,10 +1,12 @@
-//! Claims on a board of words. A claim first tries the number that its pass posted last, by one atomic exchange. If the claim does not get
-//! that number, it reads the words of the numbers once, in ascending order.
+//! How a worker claims a directory on a board of words, where an atomic word stores the state of each directory. A claim first tries one of
+//! the directories that its worker added last, by one atomic exchange. If this fails, the claim reads the words once, in the order of the
+//! directories' numbers.
 //!
-//! The claim begins to read at the pass's low mark, below which all numbers have ended, and continues over numbers that have ended. A
-//! number is busy if a worker has claimed it or is about to open it. If the claim meets a busy number, it jumps to the mark of the taken
-//! numbers, below which each number has ended or is claimed. From there the claim reads up to the first number that is open or unused. So a
-//! claim takes at most two steps on each word, a read and an exchange, and one more step on the number that it tried first.
+//! The claim begins to read at the low mark of the worker's pass: all directories with a number below this mark are finished. It continues
+//! over further finished directories. A directory is busy if a worker has claimed it or is about to add it to the board. If the claim meets
+//! a busy directory, it jumps to another mark of the pass: each directory with a number below that mark is finished or claimed. From there
+//! the claim reads up to the first directory that waits for a worker, or the first unused number. So a claim takes at most two steps on
+//! each word: a read and an exchange. It takes one more step on the word that it tried first.
 ghost use Rattle.std.specs.Prelude.{◌≡◌, ◌+◌, ◌<◌, None, IfSome, IfNone, cond};
 ghost use Rattle.lc_board.specs.{Limits.capacity_limit, WordSteps.{Extends, is_last_word, larger}};
 ghost use Rattle.lc_board.specs.WordsBoard.{AnswersWordsClaim, IsPassOf, IsSamePass, TriesClaim, known};
@@ -14,7 +16,8 @@ use crate::words::Words;
 use crate::words::coding::Word;
 use crate::words::pass::WordsPass;
 
-/// Returns whether no number after this one is used: this number is unused, or has ended and is the last of the board.
+/// Returns whether this number is unused, or is the last number of the board and its directory is finished. In both cases no number after
+/// this one is used. `found` is the state that the number's word stores.
 fn is_last(capacity: u32, number: u32, found: Word) -> bool
     requires { number < capacity }
     ensures { result ≡ is_last_word capacity number found }
@@ -22,8 +25,8 @@ fn is_last(capacity: u32, number: u32, found: Word) -> bool
     found.is_absent() || (found.has_ended() && number + 1 == capacity)
 }
 
-/// Returns the number that a claim reads after this one, usually the next. A claim that has met a busy number jumps to the mark of the
-/// taken numbers, if the mark is higher.
+/// Returns the number whose word a claim reads next, usually `number + 1`. If the claim has met a busy directory (claimed, or about to be
+/// added), it jumps to `taken` if that is higher. Each directory with a number below `taken` is finished or claimed.
 fn number_after(number: u32, taken: u32, busy: bool) -> u32
     requires { number < capacity_limit }
     ensures { result ≡ cond busy (larger (number + 1) taken) (number + 1) }
@@ -36,7 +39,8 @@ fn number_after(number: u32, taken: u32, busy: bool) -> u32
 }
 
 impl<J, R> Words<J, R> {
-    /// Reads the word of the number, and tries to claim the number if it is open. Returns its job, or otherwise the word that was found.
+    /// Reads the word of the directory with this number, and tries to claim the directory if it waits for a worker. Returns the directory's
+    /// job. If the directory was not claimed, the error is the state that was found.
     fn visit(&self, pass: &mut WordsPass<J, R>, number: u32) -> Result<J, Word>
         requires board { IsPassOf self.now pass.old }
         requires free { pass.old.holding ≡ None }
@@ -51,8 +55,8 @@ impl<J, R> Words<J, R> {
         self.try_claim(pass, number)
     }
 
-    /// Claims the highest number in the pass's list of newest numbers, if that number is open. If it is not open, the list is emptied,
-    /// since other workers have probably begun to claim its numbers.
+    /// Tries to claim the directory with the highest number in `newest`, the pass's list of the directories that its worker added last. If
+    /// the attempt fails, the list is emptied, since other workers have probably begun to claim its directories.
     fn claim_newest(&self, pass: &mut WordsPass<J, R>) -> Option<Claim<J>>
         requires board { IsPassOf self.now pass.old }
         requires free { pass.old.holding ≡ None }
@@ -74,7 +78,7 @@ impl<J, R> Words<J, R> {
         }
     }
 
-    /// Claims the first open number that is found by reading the words of the board from the pass's low mark up.
+    /// Reads the words of the board from the pass's low mark upward, and claims the first directory found that waits for a worker.
     fn claim_lowest(&self, pass: &mut WordsPass<J, R>) -> Claim<J>
         requires board { IsPassOf self.now pass.old }
         requires free { pass.old.holding ≡ None }
@@ -100,8 +104,8 @@ impl<J, R> Words<J, R> {
         Claim::Later
     }
 
-    /// Claims an open directory's number, and returns it with its job. Takes at most three steps on each word, waits for no thread,
-    /// allocates nothing and never returns `Claim::Memory`.
+    /// Claims a directory that waits for a worker, and returns the directory's number and job. Takes at most three steps on each
+    /// directory's word, waits for no thread, allocates nothing and never returns `Claim::Memory`.
     pub fn claim(&self, pass: &mut WordsPass<J, R>) -> Claim<J>
         requires board { IsPassOf self.now pass.old }
         requires free { pass.old.holding ≡ None }

@@ -1,4 +1,5 @@
-//! Functions that close a board of words: all passes are merged into one, and the rows are taken out of the slots.
+//! Functions that close a board of words. They merge the passes of all workers into one pass, and take each directory's row out of its
+//! memory slot.
 ghost use Rattle.std.specs.Prelude.{◌≡◌, ℕ, ◌<◌, ◌≤◌, true, false, slice_index_or, slice_get, [], Some, IfOk, map, vec_len};
 ghost use Rattle.std.specs.Mem.Slots.{slots_items, slots_filled, slots_len, IsFull, Ownership.Filled};
 ghost use Rattle.lc_board.specs.{WordSteps.{IsSameTold, merged}, WordsBoard.{IsPassOf, IsSamePass, known, told}};
@@ -14,7 +15,7 @@ use crate::words::view::{Slot, View};
 use atomic_table::{Closed, Seat};
 use std::alloc::{AllocError, Global};
 
-/// Drops what is in the slots of a closed board from the index `from` on, and frees the board.
+/// Drops the contents of the slots of a closed board from the index `from` on, and frees the board.
 pub(crate) fn drain<S: Drop>(mut closed: Closed<S, Global>, from: usize)
     requires within { from ≤ slots_len closed.slots }
     requires filled { Filled (slots_filled closed.slots) from (slots_len closed.slots) }
@@ -28,7 +29,8 @@ pub(crate) fn drain<S: Drop>(mut closed: Closed<S, Global>, from: usize)
     closed.free();
 }
 
-/// Returns how many numbers are used, if all of them have ended. Otherwise the error is the least number that has not ended.
+/// Returns how many directories the closed board has, if all of them are finished. Otherwise the error is the least number of a directory
+/// that is not finished.
 pub(crate) fn count_ended<S>(closed: &Closed<S, Global>, capacity: u32) -> Result<u32, u32>
     requires words { slots_len closed.now.words ≡ capacity }
     requires full { IsFull closed.now.words }
@@ -46,7 +48,7 @@ pub(crate) fn count_ended<S>(closed: &Closed<S, Global>, capacity: u32) -> Resul
     Ok(capacity)
 }
 
-/// Returns the row as returned or faulted, as the word of its number says. The number must have ended.
+/// Returns the row as `Returned` or `Faulted`, as the word of the row's directory says. The directory must be finished.
 fn ended_row<R>(word: Word, row: R) -> Ended<R>
     requires { has_ended word ≡ true }
     ensures { ended_as (shown word) row ≡ Some result }
@@ -58,7 +60,7 @@ fn ended_row<R>(word: Word, row: R) -> Ended<R>
     }
 }
 
-/// Takes the rows of the first `count` numbers out of their slots, and drops what is in the other slots.
+/// Takes the rows of the directories with a number below `count` out of their slots, and drops the contents of the other slots.
 pub(crate) fn take_rows<J: Drop, R: Drop>(
     alloc: Global,
     mut closed: Closed<Slot<J, R>, Global>,
@@ -90,8 +92,8 @@ pub(crate) fn take_rows<J: Drop, R: Drop>(
 }
 
 impl<J, R> Words<J, R> {
-    /// Returns the seat of a pass, which is about to be merged into another pass. If the pass has a claim, the slot of its number goes back
-    /// to the board.
+    /// Returns the seat of a pass that is about to be merged into another pass. The seat has what the pass knows of the board. If the pass
+    /// has a claim, the slot of the claimed directory goes back to the board.
     fn emptied(&self, pass: WordsPass<J, R>) -> Seat<Slot<J, R>, View<J, R>>
         requires board { IsPassOf self.now pass }
         ensures board { result.table_id ≡ self.now.table.shared.table_id }
@@ -112,7 +114,7 @@ impl<J, R> Words<J, R> {
         seat
     }
 
-    /// Merges the other pass, which may still have a claim, into this pass.
+    /// Merges the pass `other` into this pass. The pass `other` may still have a claim.
     fn take_in(&self, pass: &mut WordsPass<J, R>, other: WordsPass<J, R>)
         requires board { IsPassOf self.now pass.old × IsPassOf self.now other }
         ensures same { IsSamePass pass.old pass.new × (pass.new.holding ≡ pass.old.holding) }

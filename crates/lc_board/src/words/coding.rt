@@ -1,58 +1,58 @@
-//! The states of a directory's number on a board of words, and the codes that store them in a word.
+//! The states that a directory can have on a board of words, and the codes with which an atomic word stores these states.
 ghost use Rattle.std.specs.Prelude.{◌≡◌};
 ghost use Rattle.lc_board.specs.WordCode.{code, word_of, end_word, is_absent, is_open, has_ended, is_busy, is_taken};
 ghost use Rattle.lc_board.specs.declared.words.coding.Word.TheVariants.{Drawn, Claimed};
 
 use crate::answers::Ended;
 
-/// The state of a directory's number, as its word stores it. A worker's index is a `u64` here, because a word stores it.
+/// The state of a directory on a board. An atomic word stores the state as a code, so a worker's index is a `u64` here.
 #[derive(Clone, Copy, Drop)]
 pub enum Word {
-    /// The directory's number is not used yet.
+    /// No directory has this number yet.
     Absent,
-    /// The directory's number is open, and its slot has the job.
+    /// The directory with this number waits for a worker. Its job is in the number's memory slot.
     Open,
-    /// The claim of the directory's number was ended by a row, which is in the slot.
+    /// A worker has finished the directory with this number. The row is in the number's memory slot.
     Returned,
-    /// The claim of the directory's number was ended by a row that reports an error. The row is in the slot.
+    /// A worker has finished the directory with this number. The row, which reports an error, is in the number's memory slot.
     Faulted,
-    /// This worker has reserved the directory's number for a post, and is about to open it.
+    /// This worker has reserved the number, and is about to add a directory with this number to the board.
     Drawn(u64),
-    /// This worker has claimed the directory's number.
+    /// This worker has claimed the directory with this number, and has not finished it.
     Claimed(u64),
 }
 
-/// The code of `Word::Absent`: the number is not used yet.
+/// The code of `Word::Absent`: no directory has the number yet.
 pub const ABSENT: u64 = 0;
 
-/// The code of `Word::Open`.
+/// The code of `Word::Open`: the directory waits for a worker.
 pub const OPEN: u64 = 1;
 
-/// The code of `Word::Returned`.
+/// The code of `Word::Returned`: the directory is finished.
 pub const RETURNED: u64 = 2;
 
-/// The code of `Word::Faulted`.
+/// The code of `Word::Faulted`: the directory is finished, and its row reports an error.
 pub const FAULTED: u64 = 3;
 
-/// The least code that names a worker. An even code says that the worker is about to open the number, an odd code that the worker has
-/// claimed it.
+/// The least code that contains a worker's index. From here on, an even code says that the worker has reserved the number (`Drawn`). An odd
+/// code says that the worker has claimed the directory (`Claimed`).
 const BUSY: u64 = 4;
 
-/// Returns the code of a directory's number that the worker has drawn, that is, reserved for a post.
+/// Returns the code of `Word::Drawn`: the worker has reserved the number for a directory that it is about to add.
 pub fn drawn_by(worker: u32) -> u64
     ensures { result ≡ code (Drawn worker) }
 {
     BUSY + 2 * worker as u64
 }
 
-/// Returns the code of a directory's number that the worker has claimed.
+/// Returns the code of `Word::Claimed`: the worker has claimed the directory.
 pub fn claimed_by(worker: u32) -> u64
     ensures { result ≡ code (Claimed worker) }
 {
     BUSY + 1 + 2 * worker as u64
 }
 
-/// Returns the code of a directory's number that has ended with this row.
+/// Returns the code of a directory that a worker has finished by adding this row: `RETURNED` or `FAULTED`.
 pub fn ended_by<R>(ended: &Ended<R>) -> u64
     ensures { result ≡ code (end_word ended.now) }
 {
@@ -63,7 +63,7 @@ pub fn ended_by<R>(ended: &Ended<R>) -> u64
 }
 
 impl Word {
-    /// Returns the state for which a code stands.
+    /// Returns the state of a directory for which this code stands.
     pub fn of(code: u64) -> Word
         ensures { result ≡ word_of code }
     {
@@ -110,7 +110,7 @@ impl Word {
         }
     }
 
-    /// Returns whether a worker is about to open the number, or has claimed it.
+    /// Returns whether a worker has claimed the directory with this number, or is about to add it to the board.
     pub fn is_busy(self) -> bool
         ensures { result ≡ is_busy self }
     {
@@ -120,7 +120,7 @@ impl Word {
         }
     }
 
-    /// Returns whether the number has ended or is claimed.
+    /// Returns whether a worker has claimed the directory with this number, finished or not.
     pub fn is_taken(self) -> bool
         ensures { result ≡ is_taken self }
     {

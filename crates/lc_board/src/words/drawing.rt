@@ -1,5 +1,5 @@
-//! The three steps of a post. A post draws a number, that is, reserves it. Then the post fills the number's slot with the job, and opens
-//! the number.
+//! The three steps in which a worker adds a directory to a board of words. The worker reserves (draws) a number, puts the directory's job
+//! into the number's memory slot, and then lets workers claim the directory.
 ghost use Rattle.std.specs.Prelude.{◌≡◌, ◌<◌, ◌∷◌};
 ghost use Rattle.atomic_table.specs.Table.{rest};
 ghost use Rattle.lc_board.specs.{WordSteps.{MayDraw, TriesDraw, MayOpen, OpensDrawn}, declared.words.view.Slot.TheVariants.Empty};
@@ -11,7 +11,8 @@ use crate::words::view::{Slot, View};
 use atomic_table::Seat;
 
 impl<J, R> Words<J, R> {
-    /// Draws the number for the worker, that is, reserves it for a post. Returns false if the number is already used.
+    /// Reserves (draws) this number for a directory that the worker is about to add. Returns false if the number is already used or
+    /// reserved.
     pub(crate) fn draw(
         &self,
         seat: &mut Seat<Slot<J, R>, View<J, R>>,
@@ -30,7 +31,7 @@ impl<J, R> Words<J, R> {
         Word::of(old).is_absent()
     }
 
-    /// Fills the number's slot with this content. The slot must be empty, and the seat must hold it.
+    /// Puts this content into the memory slot of this number. The slot must be empty, and the pass with this seat must hold the slot.
     pub(crate) fn fill(
         &self,
         seat: &mut Seat<Slot<J, R>, View<J, R>>,
@@ -48,7 +49,8 @@ impl<J, R> Words<J, R> {
         }
     }
 
-    /// Opens the number, which the worker has drawn and whose slot has the job.
+    /// Opens the directory with this number, that is, lets workers claim it. The worker must have reserved the number, and the number's
+    /// slot must have the directory's job.
     pub(crate) fn open_drawn(&self, seat: &mut Seat<Slot<J, R>, View<J, R>>, number: u32)
         requires board { seat.old.table_id ≡ self.now.table.shared.table_id }
         requires near { number < self.now.capacity }

@@ -1,9 +1,9 @@
-//! The numbers that a worker posted last, which its next claims try first. They are only hints: the word of a number shows whether the
-//! number is open.
+//! A list of the directories that a worker added to a board of words last. The worker's next claims try these directories first. The list
+//! is only a hint: the atomic word of each directory shows whether the directory still waits for a worker.
 ghost use Rattle.std.specs.Prelude.{◌<◌};
 ghost use Rattle.lc_board.specs.Limits.{capacity_limit};
 
-/// The directories' numbers that a worker posted last: from `start` up to `end`, without `end`.
+/// A list of the directories that a worker added to the board last: the numbers from `start` up to `end`, without `end`.
 #[derive(Clone, Copy, Drop)]
 pub struct Newest {
     start: u32,
@@ -11,13 +11,13 @@ pub struct Newest {
 }
 
 impl Newest {
-    /// Makes a list without numbers.
+    /// Makes an empty list.
     pub fn new() -> Newest {
         Newest { start: 0, end: 0 }
     }
 
-    /// Notes a number that the worker posted. The first number posted under a claim replaces the list. Each later number extends the list
-    /// up to this number, so the list also has the numbers that other workers posted in between.
+    /// Adds the number of a directory that the worker has added to the board. The first number under a claim (`is_first`) replaces the
+    /// list. Each later number extends the list up to this number, so the list also has the numbers in between, which other workers used.
     pub fn note(&mut self, number: u32, is_first: bool)
         requires { number < capacity_limit }
     {
@@ -27,7 +27,7 @@ impl Newest {
         self.end = number + 1;
     }
 
-    /// Removes the highest number and returns it.
+    /// Removes the highest number from the list and returns it.
     pub fn take(&mut self) -> Option<u32> {
         if self.start >= self.end {
             return None;
@@ -36,7 +36,7 @@ impl Newest {
         Some(self.end)
     }
 
-    /// Drops all numbers, since other workers have probably begun to claim them.
+    /// Removes all numbers from the list, since other workers have probably begun to claim these directories.
     pub fn clear(&mut self) {
         self.end = self.start;
     }

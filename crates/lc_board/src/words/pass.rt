@@ -8,20 +8,20 @@ use crate::words::newest::Newest;
 use crate::words::view::{Slot, View};
 use atomic_table::Seat;
 
-/// A worker's pass for a board of words, through which the worker reads and changes the words.
+/// A worker's pass for a board of words. With it the worker reads and changes the atomic words, which store the states of the directories.
 #[derive(Drop)]
 pub struct WordsPass<J, R> {
     pub(crate) seat: Seat<Slot<J, R>, View<J, R>>,
     pub(crate) worker: u32,
     pub(crate) holding: Option<u32>,
     pub(crate) posted: u32,
-    /// The front, where posts begin: each directory's number below it is used.
+    /// The front, from which the worker searches upward for an unused number: all numbers below the front are used.
     pub(crate) front: u32,
-    /// The low mark, from which claims search upward: each directory's number below it has ended.
+    /// The low mark, from which claims search upward: all directories with a number below the mark are finished.
     pub(crate) low: u32,
-    /// The mark of the taken numbers: each directory's number below it has ended or is claimed.
+    /// The mark of the taken numbers: each directory with a number below the mark is finished or claimed.
     pub(crate) taken: u32,
-    /// The numbers that the worker posted last, which its next claims try first.
+    /// The directories that the worker added to the board last. The worker's next claims try them first.
     pub(crate) newest: Newest,
     pub(crate) full: bool,
     ghost ties: { IsTied seat.table_id.slots worker holding posted front low seat.me } by { Prim.hlevel props },

@@ -1,5 +1,5 @@
-//! Posts on a board of words. Each pass has a front, below which all numbers are used. A post tries the numbers from the front upward, one
-//! after another.
+//! How a worker adds a child directory to a board of words. The worker tries one number after another, until a number is unused. It begins
+//! at the front of its pass: all numbers below the front are used.
 ghost use Rattle.std.specs.Prelude.{◌≡◌, ◌+◌, ◌<◌, MatchBool, IsSome};
 ghost use Rattle.lc_board.specs.{WordSteps.ExtendsFairly, WordsBoard.{AnswersWordsPost, IsPassOf, IsSamePass, TriesPost, known}};
 
@@ -11,7 +11,8 @@ use crate::words::rule::StepOver;
 use crate::words::view::Slot;
 
 impl<J, R> Words<J, R> {
-    /// Reads the word of the number at the pass's front. If that number is used, moves the front to the next number and returns true.
+    /// Reads the word of the number at the pass's front, where the search for an unused number begins. If that number is used, moves the
+    /// front to the next number and returns true.
     fn step_over(&self, pass: &mut WordsPass<J, R>) -> bool
         requires board { IsPassOf self.now pass.old }
         requires holds { IsSome pass.old.holding }
@@ -30,8 +31,8 @@ impl<J, R> Words<J, R> {
         true
     }
 
-    /// Draws the number at the pass's front, that is, reserves it for this post, and opens it with the job. If another worker draws the
-    /// number first, returns the job as the error.
+    /// Reserves (draws) the number at the pass's front, and adds a directory with this number and this job to the board. If another worker
+    /// reserves the number first, returns the job as the error.
     fn draw_and_open(&self, pass: &mut WordsPass<J, R>, job: J) -> Result<u32, J>
         requires board { IsPassOf self.now pass.old }
         requires holds { IsSome pass.old.holding }
@@ -52,8 +53,8 @@ impl<J, R> Words<J, R> {
         Ok(number)
     }
 
-    /// Tries to post the job with the number at the pass's front. If that number is used, returns the job as the error. The word is read
-    /// first, because even a failed exchange takes the word's cache line from the other cores.
+    /// Tries to add a directory with this job to the board, with the number at the pass's front. If that number is used, returns the job as
+    /// the error. The number's word is read first, because even a failed exchange takes the word's cache line from the other cores.
     fn try_post(&self, pass: &mut WordsPass<J, R>, job: J) -> Result<u32, J>
         requires board { IsPassOf self.now pass.old }
         requires holds { IsSome pass.old.holding }
@@ -70,9 +71,9 @@ impl<J, R> Words<J, R> {
         }
     }
 
-    /// Posts the job: opens an unused number with this job, and returns the number. Tries the numbers from the pass's front upward, since
-    /// all numbers below the front are used. If all numbers are used, the error is `PostFault::Full` with the job. Waits for no thread,
-    /// allocates nothing and never returns `PostFault::Memory`.
+    /// Adds a child directory with this job to the board, and returns the directory's number. Searches for an unused number from the pass's
+    /// front upward, since all numbers below the front are used. If all numbers are used, the error is `PostFault::Full` with the job.
+    /// Waits for no thread, allocates nothing and never returns `PostFault::Memory`.
     pub fn post(&self, pass: &mut WordsPass<J, R>, mut job: J) -> Result<u32, PostFault<J>>
         requires board { IsPassOf self.now pass.old }
         requires holds { IsSome pass.old.holding }

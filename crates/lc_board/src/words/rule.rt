@@ -1,5 +1,5 @@
-//! The invariant of a board's words, and the steps that workers take on a word. Each step's definition states what the worker's pass knows
-//! after the step.
+//! The atomic words of a board store the states of its directories. This module has the invariant of the words, and the steps in which
+//! workers read and change a word. The definition of each step states what the worker's pass knows after the step.
 ghost use Rattle.std.specs.Prelude.{Some};
 ghost use Rattle.lc_board.specs.WordRow.{IsRow};
 ghost use Rattle.lc_board.specs.WordSteps.{looked, stepped_over, drew, opened, claimed, ended, put_down};
@@ -9,14 +9,14 @@ use crate::words::view::{Slot, View};
 use atomic_table::{Join, Play, Split, TableRule};
 use std::snapshot::Snapshot;
 
-/// What a board of words was started with: the root's job, and the number of workers.
+/// What a board of words was started with: the job of the root directory, and the number of workers.
 #[derive(Drop)]
 pub struct BoardSetup<J> {
     pub root: Snapshot<J>,
     pub workers: u32,
 }
 
-/// The invariant of a board of words: the words show the state of the board after one legal history of events.
+/// The invariant of a board of words: some legal history of the workers' events leads to the states that the words store.
 pub struct OneHistory;
 
 impl<J, R> TableRule<Slot<J, R>, View<J, R>, BoardSetup<J>> for OneHistory {
@@ -31,7 +31,8 @@ impl<J, R> Play<Slot<J, R>, View<J, R>> for Look {
     ghost then = { looked };
 }
 
-/// The step of a post that reads the word of a number, and goes on to the next number if this one is used.
+/// The step in which a worker that searches for an unused number reads the word of the number at its pass's front. If that number is used,
+/// the front moves past it.
 pub struct StepOver;
 
 impl<J, R> Play<Slot<J, R>, View<J, R>> for StepOver {
@@ -62,14 +63,15 @@ impl<J, R> Play<Slot<J, R>, View<J, R>> for End {
     ghost then = { λ s m r n. ended s m r n };
 }
 
-/// The step that reads the word of the number that a pass has claimed, and returns the number's slot to the board.
+/// The step in which a pass that has claimed a directory returns the directory's memory slot to the board, before the board is closed. The
+/// claim stays.
 pub struct PutDown;
 
 impl<J, R> Play<Slot<J, R>, View<J, R>> for PutDown {
     ghost then = { λ s m r n. put_down s m r n };
 }
 
-/// The two steps that change the set of passes: one pass is split into two, and two passes are merged into one.
+/// The two steps that change the set of passes of a board: one pass is split into two, or two passes are merged into one.
 pub struct Deal;
 
 impl<J, R> Split<View<J, R>> for Deal {

@@ -1,4 +1,4 @@
-//! The implementation of `Shared` for a board of words.
+//! The implementation of the trait `Shared` for `Words`, the board of words.
 ghost use Rattle.std.specs.Prelude.{◌≡◌, ◌≢◌, ◌≤◌, ℕ, [], None, Some, IfOk, IfErr, map, slice_get, vec_len};
 ghost use Rattle.lc_board.specs.{ClosedBoard.{Settled, RefusesClose}, WordClose.words_promises};
 ghost use Rattle.lc_board.specs.Pass.{holding, posted, new_pass, after_claim, after_post, after_give, after_fault, job_back};
@@ -53,7 +53,7 @@ impl<J: Drop + Send, R: Drop + Send> Shared<J, R> for Words<J, R> {
         Ok((board, passes))
     }
 
-    /// Claims a number, like `Words::claim`.
+    /// Claims a directory, like `Words::claim`.
     fn claim<W: Wait>(&self, _rt: &W, pass: &mut WordsPass<J, R>) -> Claim<J>
         requires pass { Owns self.now pass.old }
         requires free { holding (told pass.old) ≡ None }
@@ -69,7 +69,7 @@ impl<J: Drop + Send, R: Drop + Send> Shared<J, R> for Words<J, R> {
         }
     }
 
-    /// Posts a job, like `Words::post`.
+    /// Adds a child directory to the board, like `Words::post`.
     fn post<W: Wait>(
         &self,
         _rt: &W,
@@ -93,7 +93,7 @@ impl<J: Drop + Send, R: Drop + Send> Shared<J, R> for Words<J, R> {
         }
     }
 
-    /// Ends a claim like `Words::give`.
+    /// Finishes the claimed directory, like `Words::give`.
     fn give<W: Wait>(&self, _rt: &W, pass: &mut WordsPass<J, R>, row: R)
         requires pass { Owns self.now pass.old }
         requires holds { holding (told pass.old) ≢ None }
@@ -104,7 +104,7 @@ impl<J: Drop + Send, R: Drop + Send> Shared<J, R> for Words<J, R> {
         Words::give(self, pass, row);
     }
 
-    /// Ends a claim like `Words::fault`.
+    /// Finishes the claimed directory with an error, like `Words::fault`.
     fn fault<W: Wait>(&self, _rt: &W, pass: &mut WordsPass<J, R>, row: R)
         requires pass { Owns self.now pass.old }
         requires holds { holding (told pass.old) ≢ None }

@@ -41,7 +41,7 @@ fn slot_row<J: Drop, R: Drop>(
 }
 
 impl<J: Drop, R: Drop> Words<J, R> {
-    /// Makes a board on which number 0 is open with the root's job, and the pass of worker 0.
+    /// Makes a board on which only the root directory, number 0, waits for a worker, with the job `root`. Also makes the pass of worker 0.
     pub(crate) fn open(
         alloc: Global,
         capacity: u32,
@@ -89,7 +89,7 @@ impl<J: Drop, R: Drop> Words<J, R> {
 }
 
 impl<J, R> Words<J, R> {
-    /// Makes the pass of the next worker, by splitting the seat of the pass of worker 0.
+    /// Makes the pass of the next worker, `worker`, by splitting the pass of worker 0, which is `pass`.
     pub(crate) fn another(&self, pass: &mut WordsPass<J, R>, worker: u32) -> WordsPass<J, R>
         requires board { IsPassOf self.now pass.old }
         requires next { (0 < worker) × (worker < self.now.workers)

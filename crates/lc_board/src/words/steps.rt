@@ -1,4 +1,4 @@
-//! The steps of a worker on one number of a board of words: reading its word, claiming it, and ending the claim.
+//! What a worker does with one directory on a board of words: it reads the directory's atomic word, claims the directory, and finishes it.
 ghost use Rattle.std.specs.Prelude.{◌≡◌, ◌<◌, IsSome, None};
 ghost use Rattle.lc_board.specs.WordSteps.{HasLooked, low_after, taken_after};
 ghost use Rattle.lc_board.specs.{WordsBoard.{EndsClaim, IsPassOf, IsSamePass, TriesClaim, known}, Ending.MayEnd};
@@ -11,7 +11,8 @@ use crate::words::pass::WordsPass;
 use crate::words::rule::{End, Look, Take};
 use crate::words::view::Slot;
 
-/// Returns the pass's low mark, below which each number has ended, after the word of this number was read.
+/// Returns the pass's low mark after the worker has read the word of this number and has found the state `found`. All directories with a
+/// number below the low mark are finished.
 fn next_low(capacity: u32, number: u32, low: u32, found: Word) -> u32
     requires { number < capacity }
     ensures { result ≡ low_after capacity number low found }
@@ -23,7 +24,8 @@ fn next_low(capacity: u32, number: u32, low: u32, found: Word) -> u32
     }
 }
 
-/// Returns the mark of the taken numbers, below which each number has ended or is claimed, after the word of this number was read.
+/// Returns the pass's mark of the taken numbers after the worker has read the word of this number and has found the state `found`. Each
+/// directory with a number below the mark is finished or claimed.
 fn next_taken(number: u32, taken: u32, found: Word) -> u32
     requires { number < capacity_limit }
     ensures { result ≡ taken_after number taken found }
@@ -36,7 +38,7 @@ fn next_taken(number: u32, taken: u32, found: Word) -> u32
 }
 
 impl<J, R> Words<J, R> {
-    /// Reads and returns the word of a directory's number.
+    /// Reads the atomic word of a directory's number, and returns the state that the word stores.
     pub(crate) fn look(&self, pass: &mut WordsPass<J, R>, number: u32) -> Word
         requires board { IsPassOf self.now pass.old }
         requires near { number < self.now.capacity }
@@ -50,7 +52,8 @@ impl<J, R> Words<J, R> {
         found
     }
 
-    /// Tries to claim the number, if it is open. Returns the number's job, or otherwise the word that was found.
+    /// Claims the directory with this number if it waits for a worker, and returns the directory's job. Otherwise the error is the state
+    /// that was found.
     pub(crate) fn try_claim(&self, pass: &mut WordsPass<J, R>, number: u32) -> Result<J, Word>
         requires board { IsPassOf self.now pass.old }
         requires free { pass.old.holding ≡ None }
@@ -79,7 +82,8 @@ impl<J, R> Words<J, R> {
         }
     }
 
-    /// Ends the claim of the pass by adding this row. Waits for no thread, allocates nothing and never fails.
+    /// Finishes the directory that the worker of the pass has claimed, by adding this row. Waits for no thread, allocates nothing and never
+    /// fails.
     pub fn give(&self, pass: &mut WordsPass<J, R>, row: R)
         requires board { IsPassOf self.now pass.old }
         requires holds { IsSome pass.old.holding }
@@ -89,8 +93,8 @@ impl<J, R> Words<J, R> {
         self.end(pass, Ended::Returned(row));
     }
 
-    /// Ends the claim of the pass by adding this row, which reports an error. The pass must have posted nothing under the claim. Waits for
-    /// no thread, allocates nothing and never fails.
+    /// Finishes the directory that the worker of the pass has claimed, by adding this row, which reports an error. The worker must have
+    /// added no child directory under the claim. Waits for no thread, allocates nothing and never fails.
     pub fn fault(&self, pass: &mut WordsPass<J, R>, row: R)
         requires board { IsPassOf self.now pass.old }
         requires holds { IsSome pass.old.holding × (pass.old.posted ≡ 0) }
@@ -100,7 +104,7 @@ impl<J, R> Words<J, R> {
         self.end(pass, Ended::Faulted(row));
     }
 
-    /// Ends the claim of the pass by adding a row, which says whether the claim ended with an error.
+    /// Finishes the directory that the worker of the pass has claimed, by adding the row in `ended`.
     fn end(&self, pass: &mut WordsPass<J, R>, ended: Ended<R>)
         requires board { IsPassOf self.now pass.old }
         requires holds { IsSome pass.old.holding }

@@ -1,4 +1,4 @@
-//! Methods that store the events of a worker's calls in the worker's pass for a locked board.
+//! Methods with which a worker's pass for a locked board records the events of this worker.
 ghost use Rattle.std.specs.Prelude.{◌≡◌, ◌≢◌, ℕ, ◌<◌, ◌≤◌, ◌+◌, None, OnOk, Ok, vec_len, vec_capacity};
 ghost use Rattle.lc_board.specs.Pass.{holding, new_pass, filled, refusing, after_claim, after_post, after_give, after_fault};
 ghost use Rattle.lc_board.specs.{LockedBoard.told, Limits.capacity_limit};
@@ -30,7 +30,7 @@ impl<J, R> LockedPass<J, R> {
         self.notes.as_slice()
     }
 
-    /// Reserves memory for two events: the event of the next call, and the event that later ends the claim.
+    /// Reserves memory in the pass for two events: the event of the next call, and the later event that finishes the claimed directory.
     pub(crate) fn make_room(&mut self) -> Result<(), AllocError>
         ensures same { told self.new ≡ told self.old }
         ensures posts { self.new.posts ≡ self.old.posts }
@@ -53,7 +53,7 @@ impl<J, R> LockedPass<J, R> {
         self.full = true;
     }
 
-    /// Records the event of a claim that got this number with this job.
+    /// Records the event that the worker claimed the directory with this number and got this job.
     #[tactic(auto, using(crate::proofs::NewestFirst::mine_push))]
     pub(crate) fn note_claim(&mut self, number: u32, job: &J)
         requires { vec_len self.old.notes + 2 ≤ vec_capacity self.old.notes }
@@ -68,7 +68,7 @@ impl<J, R> LockedPass<J, R> {
         self.posts = 0;
     }
 
-    /// Records the event of a claim that returned `Claim::Over`.
+    /// Records the event that a claim returned `Claim::Over`.
     #[tactic(auto, using(crate::proofs::NewestFirst::mine_push))]
     pub(crate) fn note_over(&mut self)
         requires room { vec_len self.old.notes + 2 ≤ vec_capacity self.old.notes }
@@ -80,7 +80,7 @@ impl<J, R> LockedPass<J, R> {
         });
     }
 
-    /// Records the event of a post that opened this number with this job.
+    /// Records the event that the worker added a child directory with this number and this job to the board.
     #[tactic(auto, using(crate::proofs::NewestFirst::mine_push))]
     pub(crate) fn note_post(&mut self, number: u32, job: Snapshot<J>)
         requires room { vec_len self.old.notes + 2 ≤ vec_capacity self.old.notes }
@@ -100,7 +100,7 @@ impl<J, R> LockedPass<J, R> {
         self.posts += 1;
     }
 
-    /// Records the event that ends the claim by adding this row.
+    /// Records the event that the worker finished the claimed directory by adding this row.
     #[tactic(auto, using(crate::proofs::NewestFirst::mine_push))]
     pub(crate) fn note_give(&mut self, row: &R)
         requires held { holding (told self.old) ≢ None }
@@ -118,7 +118,7 @@ impl<J, R> LockedPass<J, R> {
         self.posts = 0;
     }
 
-    /// Records the event that ends the claim by adding this row, which reports an error.
+    /// Records the event that the worker finished the claimed directory by adding this row, which reports an error.
     #[tactic(auto, using(crate::proofs::NewestFirst::mine_push))]
     pub(crate) fn note_fault(&mut self, row: &R)
         requires held { holding (told self.old) ≢ None }
