@@ -1,4 +1,4 @@
-//! Tests of what calls on a board return, in any order of the workers. They also show that each call can succeed.
+//! Tests of what the calls on a board return when several workers make them. The tests also show that each call can succeed.
 
 mod fill;
 mod limits;

@@ -1,4 +1,4 @@
-//! The tests of the boards.
+//! The tests of the boards of `lc_board`, which hand directories to worker threads.
 #![tactic(auto)]
 
 #[cfg(test)]

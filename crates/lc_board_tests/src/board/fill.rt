@@ -1,4 +1,5 @@
-//! Tests in which worker threads fill a board with jobs. All jobs share the same two `Rules` values, each through an `Arc`.
+//! Tests in which worker threads fill a board with directories. The jobs of all directories share the same two `Rules` values, each through
+//! an `Arc`.
 ghost use Rattle.std.specs.Prelude.{◌≡◌, ◌≢◌, ◌≤◌, ◌<◌, ℕ, None, IfOk, slice_index_or, vec_len};
 ghost use Rattle.lc_board.specs.Pass.{holding};
 ghost use Rattle.lc_board.specs.Limits.{capacity_limit, workers_limit};
@@ -11,11 +12,11 @@ use std::test::Fail;
 use std::thread;
 use std::thread::Threads;
 
-/// How many jobs a worker posts under a claim, as long as the board has unused numbers.
+/// How many child directories a worker adds under each directory, as long as the board has unused numbers.
 const CHILDREN: u8 = 3;
 
-/// The maximum number of names in a path. Workers may visit their newest children first; without this limit, paths would then grow with the
-/// board.
+/// The maximum number of names in a path. Without this limit, paths could grow with the size of the board, since workers may visit their
+/// newest child directories first.
 const DEPTH: usize = 16;
 
 /// A value that the jobs of all directories share.
@@ -72,7 +73,8 @@ impl Job {
     }
 }
 
-/// Posts the child with this name. If memory runs out, tries again, until the child is posted or the board is full.
+/// Adds the child directory with this name to the board. If memory runs out, tries again, until the child directory is added or the board
+/// is full.
 fn post_child<B: Shared<Job, Row>, W: Wait>(
     rt: &W,
     board: &B,
@@ -97,7 +99,7 @@ fn post_child<B: Shared<Job, Row>, W: Wait>(
     }
 }
 
-/// Posts the children of the directory that the pass has claimed, unless its path already has `DEPTH` names.
+/// Adds the child directories of the claimed directory to the board, unless the path of the claimed directory already has `DEPTH` names.
 fn post_children<B: Shared<Job, Row>, W: Wait>(rt: &W, board: &B, pass: &mut B::Pass, job: &Job)
     requires pass { B.owns board.now pass.old }
     requires holds { holding (B.Pass.view pass.old) ≢ None }
@@ -113,8 +115,8 @@ fn post_children<B: Shared<Job, Row>, W: Wait>(rt: &W, board: &B, pass: &mut B::
     }
 }
 
-/// Does the work of one worker: claims numbers, posts children under each, and ends each claim with the number and its job as the row.
-/// Returns the pass once the board is over.
+/// Does the work of one worker: claims directories, adds the child directories of each to the board, and finishes each directory. The row
+/// of a directory has its number and its job. Returns the pass when all directories on the board are finished.
 fn work<B: Shared<Job, Row>, W: Wait>(rt: &W, board: &B, pass: B::Pass) -> B::Pass
     requires pass { B.owns board.now pass }
     requires free { holding (B.Pass.view pass) ≡ None }
@@ -156,7 +158,7 @@ fn work_all<B: Shared<Job, Row>, R: Threads + Wait + Sync>(
     thread::map_vec(rt, passes, &run)
 }
 
-/// Checks that each number has its own row, and that only the root's path is empty.
+/// Checks that each row is at the index of its directory's number, and that only the root's path is empty.
 fn are_own<R: Abort>(rt: &R, capacity: u32, rows: &[Ended<Row>]) {
     assert!(rt; rows.len() == capacity as usize);
     for (number, row) in rows.iter().enumerate() {
@@ -170,7 +172,7 @@ fn are_own<R: Abort>(rt: &R, capacity: u32, rows: &[Ended<Row>]) {
     }
 }
 
-/// Fills a board with this many worker threads, closes it, and checks its rows.
+/// Fills a board of this capacity with this many worker threads, closes the board, and checks its rows.
 fn fill<B: Shared<Job, Row>, R: Threads + Wait + Abort + Sync>(
     rt: &R,
     alloc: Global,

@@ -1,4 +1,4 @@
-//! A test of the limits of a board: how many numbers and how many workers it can have.
+//! A test of the limits of a board: how many directories and how many workers it can have.
 use lc_board::limits::{MAX_CAPACITY, MAX_WORKERS};
 
 #[test]

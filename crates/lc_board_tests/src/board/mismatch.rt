@@ -1,4 +1,4 @@
-//! A test that closes a locked board with the passes of another board.
+//! A test in which a locked board is closed with the passes of another board: `close` must return `CloseFault::Mismatch`.
 use crate::board::script::{Call, ROOT, Told};
 use crate::board::shared_scripts::expect;
 use lc_board::{CloseFault, Locked, Shared};

@@ -1,4 +1,4 @@
-//! Tests of which open number a claim on a `Words` board takes. No contract states this.
+//! Tests of the order in which claims on a `Words` board take the directories that wait for a worker. No contract states this order.
 ghost use Rattle.std.specs.Prelude.{◌≤◌};
 ghost use Rattle.lc_board.specs.Limits.{capacity_limit};
 
@@ -10,7 +10,8 @@ use std::process::Abort;
 use std::sync::Wait;
 use std::test::Fail;
 
-/// Calls in which a worker claims the number that it posted last. A worker that has posted nothing claims the lowest open number.
+/// Calls in which a worker claims the directory that it added to the board last. A worker that has added none claims the waiting directory
+/// with the lowest number.
 const LAST_POSTED_FIRST: &[(Call, Told)] = &[
     (Call::Claim(0), Told::Got(0, ROOT)),
     (Call::Post(0, 1), Told::Posted(1)),
@@ -33,8 +34,8 @@ const LAST_POSTED_FIRST: &[(Call, Told)] = &[
     (Call::Claim(1), Told::Over),
 ];
 
-/// Calls in which worker 0 first tries to claim the number that it posted last. Worker 1 has already claimed that number, and no other
-/// number is open.
+/// Calls in which worker 0 first tries to claim the directory that it added to the board last. Worker 1 has already claimed that directory,
+/// and no other directory waits for a worker.
 const TAKEN_BY_THE_OTHER: &[(Call, Told)] = &[
     (Call::Claim(0), Told::Got(0, ROOT)),
     (Call::Post(0, 1), Told::Posted(1)),
@@ -49,7 +50,7 @@ const TAKEN_BY_THE_OTHER: &[(Call, Told)] = &[
     (Call::Claim(1), Told::Over),
 ];
 
-/// Returns rows in which each number's row is the number itself.
+/// Returns the rows of a board on which each directory's row is the directory's number.
 fn own_rows(alloc: Global, capacity: u32) -> Result<Vec<Ended<u32>>, AllocError> {
     let mut rows = Vec::with_capacity(alloc, capacity as usize)?;
     for number in 0..capacity {
@@ -58,7 +59,7 @@ fn own_rows(alloc: Global, capacity: u32) -> Result<Vec<Ended<u32>>, AllocError>
     Ok(rows)
 }
 
-/// Makes the script's calls on a `Words` board with two workers, and checks that each number's row is the number itself.
+/// Makes the script's calls on a `Words` board with two workers, and checks that each directory's row is the directory's number.
 fn claims_so<R: Wait + Abort>(
     rt: &R,
     alloc: Global,
@@ -78,18 +79,18 @@ fn what_was_posted_last_is_claimed_first(rt: HostRuntime) -> Result<(), Fail> {
     Ok(())
 }
 
-/// A capacity so large that the test would take minutes if each claim read the words of all claimed and ended numbers.
+/// A capacity so large that the test would take minutes if each claim read the words of all claimed and finished directories.
 const CROWD: u32 = 1 << 19;
 
-/// The last calls of the script: worker 0 ends the root after all other numbers have ended.
+/// The last calls of the script of `claimed_in_turn`: worker 0 finishes the root after all other directories are finished.
 const AFTER_CROWD: &[(Call, Told)] = &[
     (Call::Claim(1), Told::Later),
     (Call::Give(0, 0), Told::Done),
     (Call::Claim(1), Told::Over),
 ];
 
-/// Makes a script in which worker 0 posts all numbers under the root. Before the root ends, worker 1 claims and ends these numbers one by
-/// one.
+/// Makes a script in which worker 0 adds child directories of the root until the board is full. Before worker 0 finishes the root, worker 1
+/// claims and finishes these directories one by one.
 fn claimed_in_turn(alloc: Global) -> Result<Vec<(Call, Told)>, AllocError> {
     let mut script = Vec::with_capacity(alloc, 3 * CROWD as usize + 1)?;
     script.push((Call::Claim(0), Told::Got(0, ROOT)))?;

@@ -1,4 +1,5 @@
-//! Tests that run the scripts of the module `script` on a single-threaded board. They learn each worker's claim from what the calls return.
+//! Tests that run the scripts of the module `script` on a single-threaded board. The tests themselves remember which directory each worker
+//! has claimed.
 ghost use Rattle.std.specs.Prelude.{◌≡◌, ◌≤◌};
 ghost use Rattle.lc_board.specs.Limits.{capacity_limit, workers_limit};
 

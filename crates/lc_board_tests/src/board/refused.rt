@@ -1,5 +1,5 @@
-//! A test of a locked board when allocations fail: a call that fails changes nothing, and succeeds when it is made again with enough
-//! memory.
+//! A test in which allocations of a locked board may fail. A call that fails does not change the worker's claim, and succeeds when it is
+//! made again with enough memory.
 use crate::board::script::{Call, ROOT, Told, says};
 use crate::board::shared_scripts::tell;
 use lc_board::{Locked, LockedPass, Shared, Token};
@@ -8,7 +8,8 @@ use std::process::Abort;
 use std::sync::Wait;
 use std::test::Fail;
 
-/// Checks that after the call the pass has this claim and this many posts.
+/// Checks that after the call the pass has claimed the directory with the number `holding`, or none. Also checks that the pass has added
+/// `posted` child directories under this claim.
 fn stands<R: Abort>(
     rt: &R,
     call: Call,
@@ -48,7 +49,8 @@ fn tell_again<R: Wait + Abort>(
     tell(rt, board, pass, call)
 }
 
-/// Makes a call, and checks what it returns. Also checks which claim and how many posts the pass has afterwards.
+/// Makes a call, and checks that it returns `told`. Then checks that the pass has claimed the directory `left.0`, or none, and has added
+/// `left.1` child directories under this claim.
 fn leaves<R: Wait + Abort>(
     rt: &R,
     board: &Locked<u32, u32>,

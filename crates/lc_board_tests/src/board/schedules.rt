@@ -1,5 +1,5 @@
-//! Tests in which two workers make calls on a board with three numbers. A schedule is an integer: its bits say which worker makes each of
-//! the first calls. All schedules are tried.
+//! Tests in which two workers make calls on a board with room for three directories. A schedule is an integer: its bits say which worker
+//! makes each of the first calls. All schedules are tried.
 ghost use Rattle.std.specs.Prelude.{◌≡◌, ◌<◌};
 
 use crate::board::script::{Call, ROOT, Told};
@@ -15,14 +15,14 @@ const NAMED: u32 = 14;
 
 const CALLS: u32 = 36;
 
-/// The expected rows if the third number is posted under the root.
+/// The expected rows if the third directory is a child of the root.
 const BY_ROOT: &[Ended<u32>] = &[
     Ended::Returned(ROOT),
     Ended::Returned(0),
     Ended::Returned(0),
 ];
 
-/// The expected rows if the third number is posted under the second number.
+/// The expected rows if the third directory is a child of the second directory.
 const BY_OTHER: &[Ended<u32>] = &[
     Ended::Returned(ROOT),
     Ended::Returned(0),
@@ -32,9 +32,9 @@ const BY_OTHER: &[Ended<u32>] = &[
 /// What a worker remembers between two calls.
 #[derive(Clone, Copy, Drop)]
 struct Memory {
-    /// The job that the worker got with its last claim.
+    /// The job that the worker got when it last claimed a directory.
     job: u32,
-    /// How many jobs the worker has tried to post under its present claim.
+    /// How many child directories the worker has tried to add to the board under its present claim.
     tried: u32,
 }
 
@@ -58,12 +58,13 @@ fn claim<B: Shared<u32, u32>, W: Wait>(
     Ok(())
 }
 
-/// Returns how many jobs a worker tries to post under a number. In total the workers try more posts than the board has room for.
+/// Returns how many child directories a worker tries to add under the directory with this number. In total the workers try to add more
+/// directories than the board has room for.
 fn wanted(number: u32) -> u32 {
     if number == 0 { 2 } else { 1 }
 }
 
-/// Makes the next call of a worker: claims, posts under the claim, or ends the claim with the job as the row.
+/// Makes the next call of a worker: claims a directory, adds a child directory, or finishes the claimed directory with the job as the row.
 fn step<B: Shared<u32, u32>, W: Wait>(
     rt: &W,
     board: &B,

@@ -3,10 +3,11 @@ use lc_board::{Claim, CloseFault, Closed, Ended, PostFault};
 use std::alloc::{AllocError, Global};
 use std::process::Abort;
 
-/// The job of the root.
+/// The job of the root directory.
 pub const ROOT: u32 = 7;
 
-/// One call on a board. The first field is the worker; a second field is the job or the row.
+/// One call on a board. The first field is the index of the worker. The second field of `Post` is the job, and that of `Give` and `Fault`
+/// is the row.
 #[derive(Clone, Copy, Debug, Drop)]
 pub enum Call {
     Claim(u32),
@@ -35,11 +36,12 @@ pub enum Told {
     Posted(u32),
     Full(u32),
     Done,
-    /// The claim returned `Claim::Memory`.
+    /// The call of `claim` returned `Claim::Memory`.
     NoClaim,
-    /// The post returned `PostFault::Memory` with this job.
+    /// The call of `post` returned `PostFault::Memory` with this job.
     NoPost(u32),
-    /// The call was not made. The worker does not exist, has a claim where the call needs none, or has none where the call needs a claim.
+    /// The call was not made, because this worker must not make it at this time. For example, a worker must not claim a second directory
+    /// before it has finished the first.
     OutOfTurn,
 }
 
@@ -114,10 +116,11 @@ const TWO_ROWS: &[Ended<u32>] = &[Ended::Returned(10), Ended::Returned(11)];
 /// The expected row of the script `FULL`.
 const RETURNED: &[Ended<u32>] = &[Ended::Returned(10)];
 
-/// The expected row of the script `FAULT`.
+/// The expected row of the script `FAULT`, in which the root's row reports an error.
 pub const FAULTED: &[Ended<u32>] = &[Ended::Faulted(10)];
 
-/// A script of two workers on a board with two numbers. Worker 1 waits until worker 0 posts, and both workers find that the board is over.
+/// A script of two workers on a board with room for two directories. Worker 1 gets a directory only after worker 0 has added one. In the
+/// end both workers find that all directories are finished.
 const TWO_WORKERS: &[(Call, Told)] = &[
     (Call::Claim(0), Told::Got(0, ROOT)),
     (Call::Claim(1), Told::Later),
@@ -130,7 +133,7 @@ const TWO_WORKERS: &[(Call, Told)] = &[
     (Call::Claim(1), Told::Over),
 ];
 
-/// A script in which a worker posts a number and claims the same number later.
+/// A script in which a worker adds a child directory to the board and later claims the same directory.
 const OWN_POST: &[(Call, Told)] = &[
     (Call::Claim(0), Told::Got(0, ROOT)),
     (Call::Post(0, 9), Told::Posted(1)),
@@ -138,7 +141,7 @@ const OWN_POST: &[(Call, Told)] = &[
     (Call::Claim(0), Told::Got(1, 9)),
 ];
 
-/// A script on a board with room for only the root, where a post fails because no number is unused.
+/// A script on a board with room for only the root directory, to which no child directory can be added.
 const FULL: &[(Call, Told)] = &[
     (Call::Claim(0), Told::Got(0, ROOT)),
     (Call::Post(0, 9), Told::Full(9)),
@@ -146,15 +149,15 @@ const FULL: &[(Call, Told)] = &[
     (Call::Claim(0), Told::Over),
 ];
 
-/// A script in which a worker ends its claim of the root with a row that reports an error.
+/// A script in which a worker finishes the root directory with a row that reports an error.
 pub const FAULT: &[(Call, Told)] = &[
     (Call::Claim(0), Told::Got(0, ROOT)),
     (Call::Fault(0, 10), Told::Done),
     (Call::Claim(0), Told::Over),
 ];
 
-/// A script in which one worker posts the last unused number while another worker has a claim. The other worker's post then fails, but that
-/// worker can still end its claim.
+/// A script in which one worker adds a directory with the last unused number while another worker has a claim. The other worker then cannot
+/// add a child directory, but can still finish its claimed directory.
 const LAST_NUMBER: &[(Call, Told)] = &[
     (Call::Claim(0), Told::Got(0, ROOT)),
     (Call::Post(0, 8), Told::Posted(1)),
@@ -175,7 +178,7 @@ const THREE_ROWS: &[Ended<u32>] = &[
     Ended::Returned(12),
 ];
 
-/// The size of a board, the calls on it with what each must return, and the expected result of closing it.
+/// A script: the size of a board, the calls on the board, what each call must return, and the expected result of closing the board.
 pub struct Script {
     pub capacity: u32,
     pub workers: u32,
@@ -214,8 +217,8 @@ pub const SCRIPTS: &[Script] = &[
 /// A capacity that does not fit in 16 bits.
 pub const MANY: u32 = 65_537;
 
-/// Makes a script in which one worker claims the root, posts a job for each unused number, and then posts one job too many. The worker ends
-/// only its claim of the root.
+/// Makes a script in which one worker claims the root, adds child directories until the board is full, and then fails to add another one.
+/// The worker finishes the root, but none of the child directories.
 pub fn filling(alloc: Global, capacity: u32) -> Result<Vec<(Call, Told)>, AllocError> {
     let mut script = Vec::new(alloc);
     script.push((Call::Claim(0), Told::Got(0, ROOT)))?;
