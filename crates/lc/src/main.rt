@@ -1,8 +1,15 @@
-//! The program `lc` counts the files and lines of a directory, skips what Git would ignore, and shows which rule decides a path.
+//! The program `lc` counts the files and lines of a directory, and skips what Git would ignore. It also shows which rule decides whether a
+//! path is ignored.
 //!
 //! Most of the program is in the function `lc_program::program`. This crate calls the function with the arguments, the streams, and the
-//! directories and files of the host (`host_system`, with `unread` and `host_repository`). This crate also shows the progress line of a
-//! long count on a terminal (`progress`, `watched_tree` and `watched_sink`).
+//! directories and files of the host. This crate also shows the progress line of a long count on a terminal.
+//!
+//! - `host_system`: the directories and files of the host
+//! - `unread`: why a directory or a file of the host can't be read
+//! - `host_repository`: the Git repository that contains a directory of the host
+//! - `progress`: the progress line
+//! - `watched_tree`: a tree that counts the directories and files that it opens, for the progress line
+//! - `watched_sink`: outputs that erase the progress line before each write
 #![tactic(auto)]
 
 mod host_repository;

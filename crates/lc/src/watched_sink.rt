@@ -1,4 +1,4 @@
-//! Outputs that erase the progress line of a long count before anything else is written.
+//! Outputs that erase the progress line of a long count before each write.
 
 use crate::progress::Progress;
 use lc_census::Failed;

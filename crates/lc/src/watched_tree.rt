@@ -1,4 +1,4 @@
-//! A tree of a directory on the host. It counts each directory and file that it opens, for the progress line on a terminal.
+//! The tree in a directory of the host. For the progress line on a terminal, it counts the directories and files that it opens.
 
 use crate::progress::Progress;
 use lc_census::{Source, StdSource};
@@ -8,7 +8,7 @@ use std::marker::Model;
 use std::rt::Files;
 use std::time::Clock;
 
-/// A tree of a directory on the host. Each method returns what the same method of the field `tree` returns.
+/// The tree in a directory of the host. Each method returns what the same method of the field `tree` returns.
 #[derive(Drop)]
 pub(crate) struct WatchedTree<'a, R> {
     pub(crate) tree: SysTree<'a, R>,
