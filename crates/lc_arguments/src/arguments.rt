@@ -1,4 +1,4 @@
-//! Makes clap's arguments from the table of options, and clap commands that have a name and help but no arguments.
+//! Makes clap's arguments from the table of options. Also makes clap commands that have a name and help, but no arguments.
 
 ghost use Rattle.std.specs.Prelude.{◌≡◌, IfOk, map, option_map, true};
 ghost use Rattle.std.specs.List.{list_all};

@@ -17,7 +17,7 @@ use std::convert::AsStr;
 /// The options of `lc check`, as in `lc check --explain .gitignore`.
 #[derive(Drop)]
 pub struct CheckRequest<'w> {
-    /// Show the rule that decides each path.
+    /// Show which rule decides whether each path is ignored.
     pub explain: bool,
     /// Each path on standard input ends with NUL.
     pub null: bool,

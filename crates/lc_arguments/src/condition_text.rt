@@ -97,7 +97,7 @@ fn is_after_dot(rest: Option<&[u8]>) -> bool
     }
 }
 
-/// Returns whether a text can be a value of a column, as `crlf` can be of `eol`. For a column of numbers, no text can.
+/// Returns whether a text can be a value of a column, such as `crlf` for the column `eol`. For a column of numbers the result is false.
 fn can_have(column: Column, text: &[u8]) -> bool
     ensures { result ≡ can_have column text.now }
 {
@@ -122,7 +122,7 @@ fn can_have(column: Column, text: &[u8]) -> bool
     }
 }
 
-/// Returns whether a column can have each of some values, which commas separate.
+/// Returns whether each of these values, which commas separate, can be a value of the column.
 fn can_have_all(column: Column, texts: &[u8]) -> bool
     ensures { result ≡ can_have_all column texts.now }
 {

@@ -35,8 +35,8 @@ pub struct CountRequest<'w> {
     pub conditions: Vec<Condition<'w>>,
     /// Exit with status 4 if a file is counted and meets the conditions.
     pub fail_if_any: bool,
-    /// The paths of the DIRs in their order, as they were typed. No two paths are the same, even without the slashes at their end. If no
-    /// DIR was typed, the only path is `.`, the directory that the program runs in.
+    /// The paths of the DIRs in their order, as they were typed. No two paths are equal, even if the slashes at their ends are dropped. If
+    /// no DIR was typed, the only path is `.`, the directory that the program runs in.
     pub directories: Vec<&'w str>,
 }
 

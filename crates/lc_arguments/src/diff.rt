@@ -26,7 +26,7 @@ use std::convert::AsStr;
 pub struct DiffRequest<'w> {
     /// How to count OLD and NEW, if they are directories.
     pub walk: WalkRequest<'w>,
-    /// How the table is printed. The table has no shares, and its format is not `Html`.
+    /// How the table is printed. The table does not show each row's share of the total, and its format is not `Html`.
     pub table: TableRequest,
     /// Compare only files that meet all of these conditions.
     pub conditions: Vec<Condition<'w>>,

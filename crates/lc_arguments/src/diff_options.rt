@@ -1,4 +1,5 @@
-//! The rows of the table of options that belong to `lc diff` alone: options that only `lc diff` has, or whose help differs for it.
+//! The rows of the table of options that are for `lc diff` alone. No other command has the option of the row, or the option's help for
+//! `lc diff` differs from its help for other commands.
 
 use crate::option_row::{Completes, DIFF, FLAG, Kind, OptionRow};
 use crate::options_table::WHAT_IS_PRINTED;

@@ -20,9 +20,10 @@ pub struct FilterRequest<'w> {
     /// Skip entries that have one of these attributes. `ATTR` requires that the attribute is set, and `ATTR=VALUE` that it has exactly this
     /// value.
     pub without: Vec<&'w str>,
-    /// The patterns of `--exclude`: lines of an ignore file that overrides every rule file. No pattern has a line feed.
+    /// The patterns of `--exclude`. Each pattern is written like a line of a `.gitignore`, and overrides every rule file. No pattern has a
+    /// line feed.
     pub exclude: Vec<&'w str>,
-    /// Skip files unless one of these patterns matches the file or a directory above it. No pattern has a line feed or
+    /// If there are patterns, skip each file unless a pattern matches the file or a directory above the file. No pattern has a line feed or
     /// begins with `!`.
     pub include: Vec<&'w str>,
     /// Read neither a `.gitignore` nor `.git/info/exclude`.

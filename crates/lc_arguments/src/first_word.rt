@@ -1,4 +1,4 @@
-//! What the first argument means: it names a command, or begins a count that omits the word `count`.
+//! What the first argument means: it names a command, or it begins a count that is typed without the word `count`.
 
 ghost use Rattle.std.specs.Prelude.{◌≡◌, map, option_map};
 ghost use Rattle.lc_arguments.specs.Words.{begins_count, begins_with_hyphen, count_words, is_own_option, is_plain_path};
@@ -25,7 +25,7 @@ fn is_plain_path(word: &str) -> bool
     word == "." || word == ".." || word.as_bytes().contains(&b'/')
 }
 
-/// Returns whether a first argument begins the arguments of a count that omits the word `count`.
+/// Returns whether a first argument begins a count that is typed without the word `count`.
 fn begins_count(word: &str) -> bool
     ensures { result ≡ begins_count word.now }
 {

@@ -1,19 +1,35 @@
 //! The command line, which clap reads.
 //!
-//! - `request`: the request that the arguments make, or why they make none, also for arguments that name no command
-//! - `first_word`: the meaning of the first argument
-//! - `count`, `sum`, `diff`, `check`, `explain`: the options of each command; `table`: the options of the table
-//! - `walk_request`: how to count directories; `paths`: the paths of `--only`; `directories`: the arguments DIR; `reports`: the
-//!   arguments REPORT
-//! - `numbers`: the values of options that take numbers; `combinations`: options that can't be combined
-//! - `filter_request`: which entries counts and explanations skip; `repeated`: options that may be used several times
-//! - `conditions`: the conditions of `--where` and `--no-binary`; `condition_text`: a condition, as it is typed
-//! - `options_table`: the table of options, with `diff_options`: the rows that belong to `lc diff` alone; `option_row`: the type of a row;
-//!   `arguments`: clap's arguments, made from the rows
-//! - `refusals`: usage errors, escaped for a terminal; `error_text`: the texts of usage errors
-//! - `naming`: checks that the help of a command names each of its arguments, and that a usage error names an argument
-//! - `suggestions`: commands that refused arguments may have meant; `near`: names of commands and options that are close to a typed word
-//! - `limits`: the largest values of options; `help`, `long_help`: the texts of help and of the version
+//! - `request`: the request that the arguments make, or why they make none
+//! - `first_word`: what the first argument means
+//! - `count`: the arguments of `lc count`
+//! - `sum`: the arguments of `lc sum`
+//! - `diff`: the arguments of `lc diff`
+//! - `check`: the arguments of `lc check`
+//! - `explain`: the arguments of `lc explain`
+//! - `table`: the options of the table that a command prints
+//! - `walk_request`: the options that say how to count directories
+//! - `filter_request`: the options that decide which entries are skipped
+//! - `directories`: the arguments DIR of `lc count`
+//! - `paths`: the paths of `--only`
+//! - `reports`: the arguments REPORT of `lc sum`
+//! - `conditions`: the conditions of `--where` and `--no-binary`
+//! - `condition_text`: the text of one condition
+//! - `repeated`: the values of options that may be used several times
+//! - `numbers`: the values of options that take numbers
+//! - `limits`: the greatest values of these options
+//! - `combinations`: options that can't be combined
+//! - `options_table`: the table of options
+//! - `option_row`: the type of a row of the table of options
+//! - `diff_options`: the rows of the table of options that are for `lc diff` alone
+//! - `arguments`: clap's arguments, made from the table of options
+//! - `help`: the texts of help and of the version
+//! - `long_help`: the texts that `--help` shows about the options
+//! - `error_text`: the texts of usage errors
+//! - `refusals`: escaping the texts of usage errors for a terminal
+//! - `naming`: checking that the help of a command names each argument of the command, and that a usage error names an argument
+//! - `suggestions`: commands that refused arguments may have meant
+//! - `near`: names of commands and options that are close to a typed word
 #![tactic(auto)]
 
 mod arguments;

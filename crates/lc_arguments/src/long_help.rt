@@ -1,6 +1,6 @@
 //! The texts that `--help` shows about the options. An option's name and heading select its text.
 //!
-//! These texts are not in the table of options, because proofs about the table compute with everything in the table.
+//! These texts are not in the table of options, because the prover evaluates the whole table in proofs about it.
 
 use crate::option_row::{Commands, OptionRow};
 use crate::options_table::{LIMITS, ON_INPUT, WHAT_IS_PRINTED, WHICH_FILES};
@@ -215,8 +215,8 @@ fn texts(of: Commands) -> &'static [(&'static str, &'static str, &'static str)] 
 }
 
 impl OptionRow {
-    /// Returns the text that `--help` shows about the option, without a full stop at its end. For an option that has no such text, this is
-    /// the text that `-h` shows.
+    /// Returns the text that `--help` shows about the option, without a full stop at its end. If `--help` has no text of its own for the
+    /// option, returns the text that `-h` shows.
     pub fn long_help(&self) -> &'static str {
         for (name, heading, text) in texts(self.of) {
             if *name == self.name && *heading == self.heading {

@@ -131,7 +131,7 @@ pub enum Kind {
     Number(u32),
     /// A required positional argument, such as `FILE`.
     Word,
-    /// Any number of positional arguments, such as `DIR`. If none is typed, the row's `default` is used, if there is one.
+    /// Any number of positional arguments, such as `DIR`. If none is typed and the row has a `default`, the default is used.
     Words,
 }
 
@@ -166,11 +166,11 @@ pub struct OptionRow {
     pub default: Option<&'static str>,
     /// The commands that have the argument.
     pub of: Commands,
-    /// The heading above the option in help. The text is empty for a positional argument.
+    /// The heading above the option in help. A positional argument has an empty heading.
     pub heading: &'static str,
     /// The line that `-h` shows about the argument.
     pub help: &'static str,
-    /// The text that completions show next to the option. If the text is empty, completions show `help`.
+    /// The text that completions show next to the option. If this text is empty, completions show the text in the field `help`.
     pub brief: &'static str,
     /// The command that `lc count` suggests if the name of an unknown option is close to the name of this option.
     pub example: &'static str,

@@ -16,7 +16,7 @@ use std::alloc::{AllocError, Global};
 /// A report of `lc sum`, and the name that is put in front of the report's paths.
 #[derive(Clone, Copy)]
 pub struct NamedReport<'w> {
-    /// The name, if there is one. It is a name that a directory can have.
+    /// The name, if one was typed. A directory can have this name.
     pub name: Option<&'w str>,
     /// The path of the report, as it was typed. `-` is standard input.
     pub report: &'w str,
@@ -153,7 +153,7 @@ fn reports_of<'w>(alloc: Global, words: &[&'w str]) -> Result<Vec<NamedReport<'w
     }
 }
 
-/// Reads the reports from clap's values, in their order. If there are none, the only one is standard input.
+/// Reads the reports from clap's values, in their order. If clap has no values, the only report is standard input.
 pub(crate) fn reports_in<'w>(
     alloc: Global,
     matches: &ArgMatches<'w>,

@@ -33,7 +33,7 @@ pub enum Request<'w> {
     Check(CheckRequest<'w>),
     /// Count directories, as in `count --files src` or `.`.
     Count(CountRequest<'w>),
-    /// Explain which rule of a directory decides each path, as in `explain . a.log`.
+    /// Show which rule of a directory decides whether each path is ignored, as in `explain . a.log`.
     Explain(ExplainRequest<'w>),
     /// Add reports, as in `sum a.json b.json`.
     Sum(SumRequest<'w>),

@@ -144,8 +144,8 @@ fn quoted(problem: &str) -> &str {
     }
 }
 
-/// Lists the names of a command's options, each with an example. An option of `lc count` comes with its own example, and an option of
-/// another command with `other`.
+/// Lists the names of a command's options, each with an example. The example of an option of `lc count` is the option's own. The example of
+/// an option of another command is `other`.
 fn known_options(
     alloc: Global,
     command: Subcommand,

@@ -30,7 +30,7 @@ pub struct TableRequest {
     pub top: Option<u32>,
     /// List each counted file.
     pub files: bool,
-    /// Show the share of each row.
+    /// Show each row's share of the total.
     pub share: bool,
 }
 
@@ -52,7 +52,7 @@ fn default_order(format: Format, top: Option<u32>) -> Order
     }
 }
 
-/// Returns the number by which an order sorts, or nothing if it sorts by names.
+/// Returns the number by which an order sorts, or `None` if it sorts by names.
 fn number_of(order: Order) -> Option<Number>
     ensures { result ≡ number_of order }
 {
@@ -78,8 +78,8 @@ impl TableRequest {
         self.sort.unwrap_or(default_order(format, self.top))
     }
 
-    /// Returns the options of the table. `other` is the format if the request names no format and shows no shares. `columns` are the
-    /// columns if the request names none. If the request names no order, rows and files are sorted by lines if `--top` is used or the
+    /// Returns the options of the table. If the request names no format and shows no shares, the format is `other`. If the request names no
+    /// columns, the columns are `columns`. If the request names no order, rows and files are sorted by lines if `--top` is used or the
     /// format is `Table` or `Markdown`, and otherwise by name.
     pub fn options(self, other: Format, columns: Columns) -> TableOptions
         ensures { result ≡ options_in other columns self }

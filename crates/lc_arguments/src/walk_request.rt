@@ -27,7 +27,7 @@ pub struct WalkRequest<'w> {
     pub only_from: Option<&'w str>,
     /// Each path in the file of `only_from` ends with NUL.
     pub null: bool,
-    /// Skip directories on other file systems than DIR.
+    /// Skip directories that are on another file system than DIR.
     pub one_file_system: bool,
 }
 
