@@ -1,12 +1,14 @@
-//! Counting the lines, blank lines, bytes and line ends of a reader's bytes, in whatever pieces they come.
+//! Counting the lines, blank lines, bytes and line ends of a reader's bytes, however the reads cut the bytes into pieces.
 //!
-//! - `line_count`: what a census counts: lines, blank lines, bytes and the kind of the line ends
-//! - `census`: the census of bytes that come piece by piece
-//! - `counting`: the census of all of a reader's bytes
+//! - `line_count`: the counts of lines, blank lines and bytes, and the kind of the line ends
+//! - `census`: counting the lines in bytes that come piece by piece
+//! - `counting`: counting the lines in all bytes of a reader
 //! - `scan`: the state of a scan between two bytes
-//! - `scalar`, `simd`: two functions with the same contract that advance this state, byte by byte and by vectors of 64 bytes. These
-//!   functions and the state are public only for benchmarks
-//! - `laws`: what is true of the definitions that the contracts cite
+//! - `scalar`: scanning bytes one at a time
+//! - `simd`: scanning bytes in vectors of 64 bytes, with the same contract as `scalar`
+//! - `laws`: theorems about the definitions that the contracts cite
+//!
+//! The items of `scan`, `scalar` and `simd` are public only for benchmarks.
 #![tactic(auto)]
 
 mod census;

@@ -1,15 +1,15 @@
 //! The state of a scan, which counts line ends and blank lines.
 ghost use Rattle.std.specs.Prelude.{◌≡◌};
 
-/// The state of a scan: the counts so far, and what the scan must know of the bytes before the next one.
+/// The state of a scan: the counts so far, and what the scan must know of earlier bytes when it reads the next byte.
 ///
 /// A line is counted at its LF or its CR. An LF right after a CR belongs to that CR's line end, and adds to `lf` and `crlf` but to no other
-/// count. So the scan never needs the next byte to count this one, and a piece may end anywhere.
+/// count. So the scan counts each byte without knowing the byte after it, and a piece may end anywhere.
 #[derive(Clone, Copy, Debug, Drop, PartialEq, Eq)]
 pub struct Scan {
-    /// The number of line feeds, also of those after a CR.
+    /// The number of line feeds, including line feeds after a CR.
     pub lf: u64,
-    /// The number of carriage returns, also of those before an LF.
+    /// The number of carriage returns, including carriage returns before an LF.
     pub cr: u64,
     /// The number of line feeds right after a CR.
     pub crlf: u64,

@@ -1,4 +1,4 @@
-//! Tests of the readers that other tests use: what each of their reads returns.
+//! Tests of the readers that other tests use: what each read of such a reader returns.
 
 use lc_census::{Failed, Source};
 use lc_tests::readers::{Bytewise, Counted, Endless, Failing};
