@@ -14,7 +14,7 @@ const LONG_PATH: usize = 256;
 /// The least number of patterns for which the segments of a path are measured. Matching fewer patterns costs less than measuring.
 const MANY_PATTERNS: usize = 64;
 
-/// A path that is matched with many patterns. The beginning of its last segment is searched once.
+/// A path that is matched with many patterns. The last slash of the path is found once for all patterns.
 ///
 /// Making a candidate searches for the last slash, from the end of the path. `for_patterns` may also measure the path's segments, in one
 /// pass over the path. Nothing is allocated.
@@ -29,7 +29,7 @@ pub struct Candidate<'a> {
     whole: PathSegment<'a>,
     pub(crate) above: PathLeft<'a>,
     pub(crate) last: PathSegment<'a>,
-    /// The shortest and the longest length of the segments above the last one.
+    /// Bounds of the lengths of the segments above the last segment.
     pub(crate) lengths: Lengths,
 }
 
@@ -46,7 +46,7 @@ impl<'a> Model for Candidate<'a> {
 }
 
 impl<'a> Candidate<'a> {
-    /// Makes the candidate of a path, whose segments are separated by single slashes, with no slash at its ends.
+    /// Makes the candidate of a path. The path should have single slashes between its segments, and no slash at its ends.
     pub fn new(path: &'a [u8]) -> Self
         ensures { result ≡ path.now }
     {
@@ -54,8 +54,8 @@ impl<'a> Candidate<'a> {
     }
 
     /// Makes the candidate of a path that is matched with this many patterns. If the patterns are many and the path is long, measures all
-    /// segments of the path but the last. Their lengths can reject a pattern that has a segment too long or too short for all measured
-    /// segments.
+    /// segments of the path but the last. The shortest and the longest of these lengths can show without a byte test that a pattern does
+    /// not match.
     pub fn for_patterns(path: &'a [u8], patterns: usize) -> Self
         ensures { result ≡ path.now }
     {

@@ -16,7 +16,7 @@ pub(crate) struct Cursor<'p, 'n, E> {
 pub(crate) enum EndStep<'p, 'n, E> {
     /// The last token is a star.
     Star,
-    /// The last token matches the last byte, and this cursor has what is before both.
+    /// The last token matches the last byte. This cursor has the tokens and the bytes before them.
     Taken(Cursor<'p, 'n, E>),
     /// The tokens fit the segment: no token and no byte is left, or the only token left is a star.
     Fitted,
@@ -28,7 +28,7 @@ pub(crate) enum EndStep<'p, 'n, E> {
 pub(crate) enum FrontStep<'p, 'n, E> {
     /// The first token is a star, and these tokens are after it.
     Star(&'p [E]),
-    /// The first token matches the first byte, and this cursor has what is after both.
+    /// The first token matches the first byte. This cursor has the tokens and the bytes after them.
     Taken(Cursor<'p, 'n, E>),
     /// The tokens fit the segment from here: no token and no byte is left, or the only token left is a star.
     Fitted,

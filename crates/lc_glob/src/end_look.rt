@@ -1,6 +1,6 @@
-//! Compares one byte at an end of a path with the elements of a pattern. This rejects most paths that the pattern doesn't match. The bound
-//! of `Pattern::matches_counted` on the number of byte tests includes this test, since the rest of a match takes fewer tests than the
-//! bound.
+//! Compares one byte at an end of a path with the elements of a pattern. This rejects most paths that the pattern doesn't match.
+//! `Pattern::matches_counted` counts this byte test too. With this test a match stays within the bound of `matches_counted`, since the rest
+//! of the match makes fewer byte tests than the bound.
 
 ghost use Rattle.std.specs.Prelude.{◌≡◌, ◌≤◌, ◌+◌, ◌⊎◌, IsFalse};
 ghost use Rattle.lc_glob.specs.EndLooks.{DiffersAtEnd, HasLiteralEnd};
@@ -9,8 +9,8 @@ use crate::element::Element;
 use crate::path_segment::{ByteTests, PathSegment};
 use crate::token::TokenRef;
 
-/// Returns whether an end of a path agrees with the elements of a pattern, by at most one byte test. If the last element is a literal, it
-/// tests the last byte of `last`. Otherwise, if the first element is a literal, it tests the first byte of `first`.
+/// Returns whether an end of a path agrees with the elements of a pattern, after at most one byte test. If the last element is a literal,
+/// the function tests the last byte of `last`. Otherwise, if the first element is a literal, the function tests the first byte of `first`.
 #[inline]
 pub(crate) fn agrees_at_end<E: Element>(
     elements: &[E],

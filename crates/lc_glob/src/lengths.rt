@@ -1,5 +1,5 @@
-//! The shortest and the longest length of a path's segments. These two lengths can reject a pattern that has a segment too long or too
-//! short for all measured segments of the path.
+//! The shortest and the longest length of a path's segments. If a segment of a pattern fits only names that are longer than the longest, or
+//! shorter than the shortest, the pattern does not match these segments. No byte test is needed to see this.
 
 ghost use Rattle.std.specs.{Prelude.{◌≡◌, ◌≤◌, ℕ, List, IsTrue, length}, List.All};
 ghost use Rattle.lc_glob.specs.{Leads.Leads, Lengths.{AreBetween, FitsSome}, Path.segments_left, Patterns.plain};

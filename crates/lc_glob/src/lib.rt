@@ -1,8 +1,8 @@
 //! Patterns of ignore files, read and matched as gitignore(5), PATTERN FORMAT, says.
 //!
-//! `Pattern::read` reads the bytes of one pattern, `Pattern::matches` matches it with a path, and a `PatternSet` keeps many
-//! patterns and finds the last one that matches. Everything is bytes: neither a pattern nor a path need be text, letter case
-//! counts, and a byte is a character.
+//! `Pattern::read` reads the bytes of one pattern, and `Pattern::matches` matches the pattern with a path. A `PatternSet` keeps many
+//! patterns and finds the last one that matches. Patterns and paths are bytes, and need not be UTF-8. Each byte is a character, and upper
+//! case differs from lower case.
 //!
 //! | In a pattern | Matches |
 //! |---|---|
@@ -10,7 +10,7 @@
 //! | `?` | one byte, but not a slash |
 //! | `[a-z]`, `[!a-z]`, `[[:digit:]]` | one byte of a set; after `!`, one byte that is neither in the set nor a slash |
 //! | `\` and a byte | that byte |
-//! | `/` | the end of a segment; a last `/` limits the pattern to directories; with any other `/` it must match the whole path |
+//! | `/` | the end of a segment; a last `/` limits the pattern to directories; a pattern with a `/` elsewhere must match the whole path |
 //! | `**` between separators | any run of segments, also an empty one; as the last segment, one segment or more |
 //!
 //! A pattern that can't be read is dead and matches nothing. Such a pattern ends in a single backslash, has a bracket without its closing
@@ -25,12 +25,27 @@
 //! One byte test at an end of a path rejects most paths that a pattern does not match (`end_look`). The lengths of a long path's segments
 //! are measured once (`lengths`). A pattern with a segment that fits none of these lengths can be rejected without a byte test.
 //!
-//! - `pattern`, `pattern_set`, `candidate`: a pattern; many patterns in order; a path that is matched with many patterns
-//! - `reading`, `bracket`, `byte_set`, `token`, `scope`: reading bytes as a pattern, and what the slashes of the pattern mean
-//! - `simple_pattern`, `token_pattern`, `pattern_ref`, `pattern_view`: the two forms in which a pattern is stored: bytes and tokens
-//! - `element`, `segment_ref`, `segments_left`, `path_segment`: the segments of patterns and of paths, one by one from either end
-//! - `match_path`, `match_segment`, `match_tokens`, `cursor`: matching a path; `match_above`: matching all directories above a path
-//! - `path`: paths and names, for all crates; `cut`: splitting bytes at a byte
+//! - `pattern`: a pattern, and matching it with a path
+//! - `pattern_set`: a set of many patterns in order
+//! - `candidate`: a path that is matched with many patterns
+//! - `reading`: reading bytes as a pattern
+//! - `bracket`, `byte_set`: reading a bracket, such as `[a-z]`, and the set of bytes that a bracket matches
+//! - `token`: the tokens of a pattern
+//! - `scope`: what the slashes of a pattern mean
+//! - `simple_pattern`: patterns that are stored as bytes
+//! - `token_pattern`: patterns that are stored as tokens
+//! - `pattern_ref`: a borrowed pattern of either kind
+//! - `pattern_view`: with which part of a path a pattern is matched
+//! - `element`: the bytes or the tokens in which a pattern is stored
+//! - `segment_ref`, `segments_left`: the segments of a pattern, one by one from either end
+//! - `path_segment`: the segments of a path, and the number of byte tests
+//! - `match_path`: matching the segments of a pattern with the segments of a path
+//! - `match_segment`, `match_tokens`: matching one segment of a pattern with one segment of a path
+//! - `cursor`: how far the match of a segment has come
+//! - `match_above`: matching a pattern with all directories above a path
+//! - `end_look`, `lengths`: rejecting a path by one byte at its end, or by the lengths of its segments
+//! - `path`: paths and names, which other crates use too
+//! - `cut`: splitting bytes at the first occurrence of a byte
 #![tactic(auto)]
 
 mod bracket;

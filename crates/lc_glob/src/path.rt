@@ -24,7 +24,8 @@ pub fn is_good_name(name: &[u8]) -> bool
     !matches!(name, [] | [b'.'] | [b'.', b'.']) && !name.contains(&b'/') && !name.contains(&0)
 }
 
-/// Returns whether a tree can have an entry of this path: `is_good_name` holds for each of its segments. It is false for the empty path.
+/// Returns whether a tree can have an entry of this path: `is_good_name` holds for each of its segments. For the empty path the result is
+/// false.
 ///
 /// ```
 /// assert!(rt; is_good_path(b"a/b") && !is_good_path(b"a//b"));
@@ -52,7 +53,7 @@ pub fn is_too_long(path: &[u8]) -> bool
     path.len() > MAX_PATH
 }
 
-/// Returns the number of segments of a path. The empty path is the path of the top directory itself, and has none.
+/// Returns the number of segments of a path. The empty path is the path of the top directory itself, and has no segments.
 ///
 /// ```
 /// assert!(rt; depth_of(b"") == 0 && depth_of(b"a/b") == 2);

@@ -1,7 +1,8 @@
-//! Segments of a path. Only byte tests read the bytes of a segment, and each byte test is counted.
+//! Segments of a path, whose bytes other modules cannot read. To compare a byte with a token, other modules call a byte test, and each byte
+//! test is counted.
 //!
-//! Other modules get a path as `PathSegment`s, `PathLeft`s and `PathNames`, whose bytes they cannot read. The search for slashes reads
-//! bytes too, but is not counted.
+//! Other modules get a path as `PathSegment`s, `PathLeft`s and `PathNames`. This module also reads bytes to find slashes, and does not
+//! count these reads.
 
 ghost use Rattle.std.specs.Prelude.{◌≡◌, ◌↔◌, ◌==◌, ◌<◌, ◌∷◌, ◌++◌, [], nat_le, nat_lt, IsTrue, MatchOption, length, bytes_eq, nat_eq};
 ghost use Rattle.std.specs.{Prelude.slice_index_or, List.ends_with};
@@ -44,7 +45,7 @@ impl ByteTests {
     }
 }
 
-/// A segment of a path, or the rest of one. Only the byte tests, which are counted, read its bytes.
+/// A segment of a path, or the rest of a segment. Its bytes are compared only in byte tests, which are counted.
 #[derive(Clone, Copy)]
 pub(crate) struct PathSegment<'a> {
     bytes: &'a [u8],
@@ -146,8 +147,8 @@ impl<'a> PathSegment<'a> {
     }
 }
 
-/// The segments of a path that are still to be matched: none, or the segments of the bytes in `rest`. They are found one by one from either
-/// end.
+/// The segments of a path that are still to be matched: none, or the segments of the bytes in `rest`. These segments are found one by one
+/// from either end.
 #[derive(Clone, Copy)]
 pub(crate) struct PathLeft<'a> {
     rest: Option<&'a [u8]>,

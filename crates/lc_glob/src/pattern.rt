@@ -46,10 +46,10 @@ impl Model for Pattern {
 }
 
 impl Pattern {
-    /// Reads bytes as a pattern. Any bytes make a pattern; bytes that are no valid pattern make a dead one, which matches nothing.
+    /// Reads bytes as a pattern. Any bytes make a pattern. Bytes that are no valid pattern make a dead pattern, which matches nothing.
     ///
-    /// The bytes are the pattern alone, without the `!` of a negated line and without its trailing spaces. The only error
-    /// is a failed allocation.
+    /// The bytes are the pattern alone, without the `!` and the trailing spaces that its line may have. The only error is a failed
+    /// allocation.
     ///
     /// ```
     /// let pattern = Pattern::read(alloc, b"*.[oa]")?;
@@ -67,7 +67,7 @@ impl Pattern {
         self.as_ref().is_dead()
     }
 
-    /// Returns whether the pattern matches directories only, such as `build/`. It is false for a dead pattern.
+    /// Returns whether the pattern matches directories only, such as `build/`. For a dead pattern the result is false.
     pub fn is_dir_only(&self) -> bool
         ensures { result ≡ self.now.is_dir_only }
     {
@@ -75,7 +75,7 @@ impl Pattern {
     }
 
     /// Returns whether the pattern is matched with a whole path, such as `/a` and `a/b`, and not with a path's last segment alone, such as
-    /// `a`. It is false for a dead pattern.
+    /// `a`. For a dead pattern the result is false.
     pub fn is_anchored(&self) -> bool
         ensures { result ≡ self.now.is_anchored }
     {
@@ -84,7 +84,7 @@ impl Pattern {
 
     /// Returns whether the pattern matches the path.
     ///
-    /// The path is relative to the directory of the pattern's file: segments separated by single slashes, and no slash at its ends.
+    /// The path is relative to the directory of the pattern's file. It has single slashes between its segments, and no slash at its ends.
     /// `is_dir` is true for a directory. A pattern that matches a directory need not match the paths inside it.
     ///
     /// ```
@@ -167,9 +167,9 @@ impl Pattern {
         tests.made()
     }
 
-    /// Returns whether matching one directory after another repeats work: a double star comes after another double star or after a segment
-    /// with a star, as in `**/a/**`. Such a pattern is better matched with all directories above a path in one pass, by
-    /// `match_directories`.
+    /// Returns whether a double star of the pattern comes after another double star or after a segment with a star, as in `**/a/**`.
+    /// Matching such a pattern with one directory after another repeats work. `match_directories` instead matches the pattern with nested
+    /// directories in one pass.
     pub fn has_nested_wildcards(&self) -> bool
         ensures { result ≡ has_nested_wildcards self.now }
     {

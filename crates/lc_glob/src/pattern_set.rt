@@ -26,7 +26,7 @@ pub(crate) enum PatternForm {
 #[derive(Clone, Copy)]
 pub(crate) struct PatternSpan {
     form: PatternForm,
-    /// The index at which the pattern's bytes begin in the set's bytes, or the pattern's tokens in the set's tokens.
+    /// The index in the set's bytes, or in the set's tokens, at which the pattern begins.
     start: u32,
     /// The number of the pattern's bytes or tokens.
     len: u32,
@@ -85,8 +85,8 @@ impl PatternSet {
         }
     }
 
-    /// Adds a copy of a pattern at the end. If an allocation fails, or if the index or the number of the copied bytes or tokens exceeds
-    /// `u32::MAX`, returns an error and leaves the set as it was.
+    /// Adds a copy of a pattern at the end. After an error the set is as it was before. An error means that an allocation failed, that the
+    /// copy would begin at an index above `u32::MAX`, or that the copy has more than `u32::MAX` bytes or tokens.
     pub fn push(&mut self, pattern: &Pattern) -> Result<(), AllocError>
         ensures ok { OnOk result (self.new ≡ self.old ++ pattern.now ∷ []) }
         ensures err { OnErr result (self.new ≡ self.old) }
@@ -164,7 +164,8 @@ impl PatternSet {
         }
     }
 
-    /// Returns the index of the last pattern that matches a path, as `Pattern::matches` says, among the patterns before the index `below`.
+    /// Returns the index of the last pattern that matches a path, among the patterns with an index less than `below`. `Pattern::matches`
+    /// says when a pattern matches.
     ///
     /// ```
     /// let mut below = set.len();
@@ -188,7 +189,7 @@ impl PatternSet {
         None
     }
 
-    /// Returns whether the pattern at an index matches directories only, such as `build/`. A dead pattern does not.
+    /// Returns whether the pattern at an index matches directories only, such as `build/`. For a dead pattern the result is false.
     pub fn is_dir_only(&self, index: usize) -> bool
         requires { index < length self.now }
         ensures { result ≡ (pattern_at self.now index).is_dir_only }

@@ -70,7 +70,7 @@ impl<'p> SegmentRef<'p> {
         }
     }
 
-    /// Returns the segment of bytes that are a double star, or that are literals, either alone or after a star.
+    /// Returns the segment of bytes that are a double star, or literals alone, or a star and then literals.
     #[inline(always)]
     fn of_end(bytes: &'p [u8]) -> Self
         ensures { segment_ref_model result ≡ ends_segment bytes.now }
@@ -104,7 +104,7 @@ impl<'p> SegmentRef<'p> {
 pub(crate) enum SegmentsRef<'p> {
     /// Segments of a simple pattern.
     Bytes(SegmentsLeft<'p, u8>),
-    /// Segments of a simple pattern. Each is a double star, or literals, either alone or after a star.
+    /// Segments of a simple pattern. Each segment is a double star, or literals alone, or a star and then literals.
     Ends(SegmentsLeft<'p, u8>),
     /// Segments of a simple pattern, each of literals alone.
     Exact(SegmentsLeft<'p, u8>),

@@ -22,8 +22,8 @@ use crate::segments_left::SegmentsLeft;
 /// How a simple pattern is matched.
 #[derive(Clone, Copy)]
 pub(crate) enum SimpleKind {
-    /// Literals alone, such as `Makefile`, are compared with the whole last segment of a path. Literals after a star, such as `*.o`, are
-    /// compared with the end of this segment.
+    /// If `is_whole` is true, the pattern is literals alone, such as `Makefile`, and the last segment of a path must equal them. If it is
+    /// false, the pattern is a star and then literals, such as `*.o`, and the last segment must end with these literals.
     Suffix { is_whole: bool },
     /// The pattern is matched in another way. The other kinds have an enum of their own, since one test for the most usual kind costs less
     /// than a choice among all kinds.
@@ -39,7 +39,7 @@ pub(crate) enum OtherKind {
     LastSegment,
     /// Literals alone, such as those of `/build` and `docs/out`, are compared with all segments of a path.
     Exact,
-    /// All segments of a path are matched. Each segment of the pattern is a double star, or has literals, either alone or after a star, as
+    /// All segments of a path are matched. Each segment of the pattern is a double star, or literals alone, or a star and then literals, as
     /// in `a/**/b` and `src/*.o`.
     Ends,
     /// Tokens of any kind, such as those of `src/core.*`, are matched with all segments of a path.
@@ -178,7 +178,7 @@ fn is_simple(b: u8) -> bool
     b != b'\\' && b != b'['
 }
 
-/// Returns whether each segment of a pattern is a double star, or has literals, either alone or after a star.
+/// Returns whether each segment of a pattern is a double star, or literals alone, or a star and then literals.
 fn has_ends(bytes: &[u8]) -> bool
     ensures { result ≡ list_all is_ends_segment (segments_of bytes.now) }
 {
@@ -192,7 +192,7 @@ fn has_ends(bytes: &[u8]) -> bool
     true
 }
 
-/// Returns whether bytes are literals, alone or after a star.
+/// Returns whether bytes are literals alone, or a star and then literals.
 fn is_end(bytes: &[u8]) -> bool
     ensures { result ≡ is_end bytes.now }
 {
