@@ -41,7 +41,7 @@ impl Block {
         }
     }
 
-    /// Writes the block whole and empties it, if it is full. Otherwise it does nothing.
+    /// If the block is full, writes all of it and empties it. Otherwise does nothing.
     pub fn print_if_full<O: Sink>(&mut self, out: &mut O) -> Result<(), PrintFault>
         ensures { AnswersBlock O.may_take out.old self.old.text.items result out.new self.new.text.items }
     {

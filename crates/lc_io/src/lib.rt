@@ -1,9 +1,13 @@
 //! Readers and writers of bytes.
 //!
-//! - `source`, `std_source`: the trait of readers, and readers of std that implement it
-//! - `buffer`: a buffer for reads; `whole`: the bytes of a reader, up to a limit
-//! - `sink`: the trait of writers; `printing`: writing a whole text; `blocks`: writing a text while it is made
-//! - `laws`: what is true of the definitions that the contracts cite
+//! - `source`: the trait of readers
+//! - `std_source`: readers of std that implement this trait
+//! - `buffer`: a buffer for reads
+//! - `whole`: reading all bytes of a reader, up to a limit
+//! - `sink`: the trait of writers, and writers of std that implement it
+//! - `printing`: writing a whole text
+//! - `blocks`: writing a text while it is made
+//! - `laws`: theorems about the definitions that the contracts cite
 #![tactic(auto)]
 
 mod blocks;

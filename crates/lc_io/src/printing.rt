@@ -15,7 +15,8 @@ pub enum PrintFault {
     /// A write failed, or accepted no byte. What was written is a prefix of the text.
     #[error("cannot write")]
     Write,
-    /// An allocation failed. Nothing was written or, if the text is written while it is made, a prefix of it.
+    /// An allocation failed. If the text is written while it is made, a prefix of the text may have been written. Otherwise nothing was
+    /// written.
     #[error("out of memory")]
     Memory,
 }

@@ -40,7 +40,7 @@ impl Sink for Vec<u8> {
 ///
 /// A `write` that a signal interrupts has written nothing, and is tried again, up to `MAX_TRIES` times in all. Every other error of the
 /// writer is a failure. If the writer's contract states which bytes the writer holds, as for a vector, each write appends the written bytes
-/// to these.
+/// to these bytes.
 #[derive(Drop)]
 pub struct StdSink<W>(pub W);
 

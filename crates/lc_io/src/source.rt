@@ -8,8 +8,8 @@ pub struct Failed;
 
 /// A reader of bytes.
 ///
-/// Each type states in `may_give` what one read may return. From `may_give`, `specs/Reads.antt` defines what several reads in turn may
-/// return.
+/// Each type states in `may_give` what one read may return. From this the definitions in `specs/Reads.antt` derive what a sequence of reads
+/// may return.
 pub trait Source {
     // A read of this reader, into a buffer of this length, may give this answer and leave this reader.
     ghost may_give: { Self → ℕ → Answer → Self → Type 0 };

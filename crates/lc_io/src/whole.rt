@@ -9,7 +9,7 @@ use crate::source::Source;
 pub enum WholeFault {
     /// A read failed, with an error of any kind. No read was made after it.
     Read,
-    /// The reader has more bytes than the limit. It was read up to the first byte past the limit, and no further.
+    /// The reader has more bytes than the limit. The bytes were read up to the first byte past the limit, and no further.
     TooLong,
     /// There is no memory for the bytes.
     Memory,
