@@ -1,4 +1,5 @@
-//! Deciding which entries of a directory stay, by its rules and the filters, and which are skipped.
+//! Divides the entries of a directory into files to count, directories to visit, and entries to skip. The directory's rules, the filters
+//! and the kinds of the entries decide.
 ghost use Rattle.std.specs.Prelude.{◌≡◌, ◌≤◌, true, false, length, nat_lt, option_map};
 ghost use Rattle.std.specs.Option.{option_or};
 ghost use Rattle.lc_glob.specs.Path.{depth_of, max_depth, max_path};
@@ -21,7 +22,7 @@ use lc_tree::{Entry, Kind, OtherKind, Tree};
 use std::alloc::Global;
 use std::marker::Model;
 
-/// The files and the directories that stay, and the entries that are skipped, each in the order of the listing.
+/// The files to count, the directories to visit, and the skipped entries. Each of these lists is in the order of the listing.
 #[derive(Drop)]
 pub(crate) struct Classified {
     pub(crate) files: Vec<Vec<u8>>,
@@ -34,7 +35,7 @@ pub(crate) struct Classified {
 pub struct ChildDirectory {
     /// The name of the directory in its parent.
     pub name: Vec<u8>,
-    /// The path of the directory, and the chains of ignore files and of attribute files of its parent.
+    /// The job of the directory: its path, and the chains of rule files that apply in its parent.
     pub job: Job,
 }
 
@@ -62,7 +63,7 @@ fn child_job(alloc: Global, job: &Job, path: &[u8]) -> Result<Job, OpenFault>
 }
 
 impl<T: Tree> LevelReader<'_, T> {
-    /// Adds an entry to the skipped ones, if the reader's options say to keep these.
+    /// Adds an entry to the skipped entries, if the reader's options say to keep skipped entries.
     fn leave_out(
         &self,
         name: Vec<u8>,
@@ -88,7 +89,8 @@ impl<T: Tree> LevelReader<'_, T> {
         }
     }
 
-    /// Adds a file to the files that stay, or to the skipped entries. To stay, the file must match one of `patterns`, if there are any.
+    /// Adds a file to the files to count, or to the skipped entries. If `patterns` is not `None`, the file is skipped unless one of the
+    /// patterns matches it.
     fn classify_file(
         &self,
         job: &Job,
@@ -116,7 +118,7 @@ impl<T: Tree> LevelReader<'_, T> {
         }
     }
 
-    /// Adds a directory to those that are to be visited, or to the skipped entries.
+    /// Adds a directory to the directories to visit, or to the skipped entries.
     fn classify_directory(
         &self,
         job: &Job,
@@ -140,7 +142,7 @@ impl<T: Tree> LevelReader<'_, T> {
         }
     }
 
-    /// Adds an entry that is neither a file nor a directory to the skipped ones, if the reader's options say to keep these.
+    /// Adds an entry that is neither a file nor a directory to the skipped entries, if the reader's options say to keep skipped entries.
     fn classify_other(
         &self,
         job: &Job,
@@ -162,8 +164,8 @@ impl<T: Tree> LevelReader<'_, T> {
         }
     }
 
-    /// Adds one entry to those that stay or to the skipped ones, and moves its name there. To stay, a file must match one of `patterns`, if
-    /// there are any.
+    /// Adds one entry to the files to count, to the directories to visit, or to the skipped entries, and moves its name there. If
+    /// `patterns` is not `None`, a file is skipped unless one of the patterns matches it.
     fn classify_entry(
         &self,
         job: &Job,
@@ -188,7 +190,8 @@ impl<T: Tree> LevelReader<'_, T> {
         }
     }
 
-    /// Divides all entries into those that stay and those that are skipped, each in the order of the listing.
+    /// Divides all entries into files to count, directories to visit, and skipped entries. Each of these lists is in the order of the
+    /// listing.
     pub(crate) fn classify_all(
         &self,
         job: &Job,

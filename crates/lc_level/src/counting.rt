@@ -13,7 +13,8 @@ use lc_census::Count;
 use lc_tree::Tree;
 use std::alloc::{AllocError, Global};
 
-/// The counted files of a directory, and those that could not be counted, each in the order of their names.
+/// The counted files of a directory, and its errors: absent paths of `--only`, and then files that could not be counted. In both lists the
+/// files are in the order in which `LevelReader::count` got their names.
 #[derive(Drop)]
 pub struct CountedFiles {
     pub files: Vec<FileLine>,
@@ -80,8 +81,8 @@ impl<T: Tree> LevelReader<'_, T> {
         }
     }
 
-    /// Counts the files with these names in the job's directory, in order. The errors of the result are those in `absent`, followed by the
-    /// errors of the files. Requires that `scratch` has the path of the directory.
+    /// Counts the files with these names in the job's directory, in order. The result has the errors in `absent`, followed by an error for
+    /// each file that could not be counted. Requires that `scratch` has the path of the directory.
     pub fn count(
         &self,
         job: &Job,

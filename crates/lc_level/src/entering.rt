@@ -20,7 +20,7 @@ use std::alloc::AllocError;
 /// The bytes of the ignore files that are read for one directory. A field is `None` if the file does not exist, or if texts are not kept.
 #[derive(Drop)]
 pub struct RuleTexts {
-    /// The bytes of `.git/info/exclude`, which is read in the top alone.
+    /// The bytes of `.git/info/exclude`. This file is read only for the top directory of a tree.
     pub info: Option<Vec<u8>>,
     /// The bytes of the directory's own `.gitignore`.
     pub own: Option<Vec<u8>>,
@@ -29,7 +29,7 @@ pub struct RuleTexts {
 /// A directory whose listing and rule files were read.
 #[derive(Drop)]
 pub struct Entered {
-    /// The job of the directory, whose chains include the directory's own rule files.
+    /// The job of the directory: its path, and its chains of rule files, which include the directory's own rule files.
     pub job: Job,
     /// The entries of the directory, in the order of their names.
     pub entries: Vec<Entry>,
@@ -85,7 +85,7 @@ impl<T: Tree> LevelReader<'_, T> {
         self.read_pair(listing, names, scratch)
     }
 
-    /// Returns the job with these rule files added to its chains: those of `.git/info`, and the directory's own.
+    /// Returns the job with these rule files added to its chains: the files of `.git/info`, and the directory's own.
     fn with_files(&self, job: &Job, info: RulePair, own: RulePair) -> Result<Job, AllocError>
         ensures path { IfOk result (λ k. k.path ≡ job.now.path) }
         ensures files { IfOk result (λ k. (i o : Pair) → AreFilesOf true info i → AreFilesOf (is_top job.now.path) own o

@@ -8,7 +8,7 @@ use lc_tree::ReadFault;
 /// The reason for which a listing or a file could not be read, as a word in reports.
 #[derive(Clone, Copy, Debug, Drop, PartialEq, Eq)]
 pub enum FaultWord {
-    /// A listing, an open or a read failed.
+    /// A directory could not be listed, a file could not be opened, or a read failed.
     Read,
     /// A listing has a name that is not UTF-8, or a name that no entry can have, such as `a/b`.
     Name,
@@ -18,14 +18,15 @@ pub enum FaultWord {
     Many,
     /// An ignore file or an attribute file is too long.
     Long,
-    /// A file's reads did not come to an end.
+    /// All allowed reads of a file were made, and the file did not end.
     Endless,
     /// A path of `--only` does not exist, or is under something that is no directory.
     Absent,
 }
 
 impl FaultWord {
-    /// Returns the word for the error of listing a directory. A failed allocation has no word, because no report is made then.
+    /// Returns the word for the error of listing a directory. A failed allocation has no word, because a walk without enough memory makes
+    /// no report.
     pub fn of(fault: ReadFault) -> Option<FaultWord>
         ensures { result ≡ fault_word_of fault }
     {

@@ -33,11 +33,11 @@ use std::sync::Arc;
 pub struct Filters<'p> {
     /// The ignore file for the whole tree, which every `.gitignore` overrides, like Git's `core.excludesFile` (gitignore(5)).
     pub exclude_from: Option<RuleText>,
-    /// The patterns of the command line, one a line, which override the rules of all files (gitignore(5)).
+    /// The patterns of the command line, one on each line. They override the rules of all files (gitignore(5)).
     pub exclude: Option<RuleText>,
-    /// The patterns for files, one a line. No pattern is negated. If this field is `None`, all files stay. Otherwise a file stays only if a
-    /// pattern matches the file, or a directory that is above the file and below the top. Directories are visited, whether or not a pattern
-    /// matches them.
+    /// The patterns for files, one on each line. No pattern is negated. If this field is `None`, all files stay. Otherwise a file stays
+    /// only if a pattern matches the file, or a directory that is above the file and below the top. Directories are visited, whether or not
+    /// a pattern matches them.
     pub include: Option<RuleText>,
     /// Whether no ignore file of the tree is read: no `.gitignore`, and no `.git/info/exclude`.
     pub no_ignore: bool,
@@ -45,7 +45,8 @@ pub struct Filters<'p> {
     /// such as `linguist-vendored`, the attribute must be Set. With `ATTR=VALUE`, such as `linguist-generated=true`, it must have exactly
     /// this value. `export-ignore` is the attribute by which `git archive` skips entries.
     pub without: Vec<Vec<u8>>,
-    /// The paths of `--only`: only these stay, with what is under them and the directories above them. If there are none, everything stays.
+    /// The paths of `--only`. They select the entries at these paths, everything under these entries, and the directories above them. An
+    /// empty list selects everything.
     pub only: OnlyPaths<'p>,
 }
 
@@ -129,7 +130,7 @@ impl<'p> Filters<'p> {
         }
     }
 
-    /// Returns the chain of ignore files of a tree's top. Its only rules are those that these filters set for the whole tree.
+    /// Returns the chain of ignore files of a tree's top. The chain has only the rules that these filters set for the whole tree.
     pub(crate) fn top_chain(&self) -> Result<Chain, AllocError>
         ensures { IfOk result (λ chain. chain ≡ (top_job self.now).ignore) }
     {

@@ -15,8 +15,8 @@ use std::marker::Model;
 use std::sync::Arc;
 
 /// A directory to be visited: its path, and two chains of rule files, the ignore files and the attribute files above the directory.
-/// Directories under the same rule files share the chains. Once a directory's own rule files are read, a second `Job` has the chains that
-/// include them. A `Job` is one pointer, so moving it costs nothing.
+/// Directories with the same rule files above them share their chains. After a directory's own rule files are read, a new `Job` for the
+/// directory has chains that include these files. A `Job` is one pointer, so moving it costs nothing.
 ///
 /// ```
 /// let top = Job::top(alloc, &Filters::none(alloc))?; // its path is empty, and its chains have no rule
@@ -56,7 +56,7 @@ impl Model for Job {
 }
 
 impl Job {
-    /// Makes the job of the top of a tree. Its only rules are those that the filters set for the whole tree.
+    /// Makes the job of the top of a tree. The job has only the rules that the filters set for the whole tree.
     pub fn top(alloc: Global, filters: &Filters<'_>) -> Result<Job, AllocError>
         ensures { IfOk result (λ j. j ≡ top_job filters.now) }
     {

@@ -43,8 +43,8 @@ pub fn trees_of_memory_give_one()
 }
 
 /// The law about the answers that the definition `tree_of_node` derives from a `Node`: for each directory, its listing and the results of
-/// reading its files. The tree in memory of the node may give these answers. The names of each listing are good, distinct and in order. If
-/// each file has under 2^47 bytes, each directory has only the level that these answers give.
+/// reading its files. First, the node's tree in memory may give these answers. Second, the names of each listing are good, distinct and in
+/// order. Third, if each file has under 2^47 bytes, each directory has only the level that these answers give.
 pub fn a_node_is_one_tree()
     ensures answers { NodeAnswersLaw }
     ensures levels { NodeLevelsLaw }

@@ -36,7 +36,7 @@ pub struct LevelReader<'t, T> {
 }
 
 impl<'t, T> LevelReader<'t, T> {
-    /// Makes a reader of a tree, which skips entries by these filters. It reads nothing yet.
+    /// Makes a reader of a tree. The reader skips entries according to these filters, and reads nothing yet.
     pub fn new(
         alloc: Global,
         tree: &'t T,

@@ -1,18 +1,28 @@
 //! One directory: its listing, its rule files, and what happens to its entries.
 //!
-//! - `job`: a directory to be visited; `filters`: what decides, besides a tree's own rules, which entries are skipped
-//! - `fault_site`: which file or directory could not be read
-//! - `listing`: listing a directory; `entering`: also reading its rule files; `opening`: also deciding which of its entries stay
+//! - `job`: a directory to be visited
+//! - `filters`: what decides, besides a tree's own rules, which entries are skipped
+//! - `level_reader`: the type whose methods open directories and count files
+//! - `listing`: listing a directory
+//! - `entering`: listing a directory and reading its rule files
+//! - `opening`: entering a directory and deciding which of its entries are skipped
 //! - `rule_files`: reading the rule files of a directory, and adding them to its chains
-//! - `entry_looks`: searching the entries of a directory; `classify`: deciding which entries stay; `skip_reason`, `reason`: why an entry is
-//!   skipped
-//! - `narrowing`: which entries the paths of `--only` select; `named_attributes`: which attributes a tree's attribute files name
-//! - `lines`: the files, errors and skipped entries of a report; `counting`: counting files; `threads`: counting files with several threads
-//! - `files`: opening one file, to count it or to read it as rules; `content_fault`: why a file could not be read or counted
+//! - `entry_looks`: searching the entries of a directory
+//! - `classify`: dividing entries into files to count, directories to visit, and entries to skip
+//! - `skip_reason`, `reason`: why an entry is skipped
+//! - `narrowing`: which entries the paths of `--only` select
+//! - `named_attributes`: which attributes a tree's attribute files name
+//! - `counting`: counting the files of a directory
+//! - `threads`: counting the files of a directory with several threads
+//! - `files`: opening one file, to count it or to read it as rules
+//! - `lines`: the files, errors and skipped entries of a report
 //! - `paths`: joining a directory's path and an entry's name, and making a path relative to a directory
-//! - `level_reader`: the type that has the methods of all these modules; `scratch`: the buffers of a worker; `path_buffer`: a buffer for
-//!   the path of one entry at a time
-//! - `open_fault`: why a directory contributes none of its entries; `fault_word`: the words by which a report names errors
+//! - `scratch`: the buffers of a worker
+//! - `path_buffer`: a buffer for the path of one entry at a time
+//! - `open_fault`: why a directory contributes none of its entries to a walk
+//! - `fault_site`: which file or directory could not be read
+//! - `content_fault`: why a file could not be read or counted
+//! - `fault_word`: the words by which a report names errors
 //! - `laws`: theorems, such as that opening a directory and counting its files give what the definitions say of the directory
 #![tactic(auto)]
 

@@ -13,7 +13,7 @@ use std::alloc::{AllocError, Global};
 use std::marker::Model;
 
 /// A line of a report: a counted file, an error or a skipped entry, with its path. The path is relative to a directory or to the top of a
-/// tree, and slashes join its names.
+/// tree.
 pub trait Line: Sized {
     ghost path_of: { Self → List ℕ };
 
@@ -68,8 +68,8 @@ impl Line for FileLine {
 /// A file or a directory that was not counted, and why.
 #[derive(Debug, Drop)]
 pub struct FaultLine {
-    /// The path of the file or directory, relative to a directory or to the top of a tree. The path of that directory or top itself is
-    /// empty.
+    /// The path of the file or directory, relative to a directory or to the top of a tree. An error of this directory or top itself has the
+    /// empty path.
     pub path: Vec<u8>,
     /// Why the file or directory was not counted.
     pub word: FaultWord,

@@ -1,4 +1,4 @@
-//! Listing a directory, for its entries or for the rule files in it.
+//! Listing a visited directory, or `.git` or `.git/info`, which may have rule files. An error of the listing becomes an `OpenFault`.
 ghost use Rattle.lc_level.specs.GitInfo.{ListsFor};
 ghost use Rattle.lc_tree.specs.Trees.{Lists};
 
@@ -8,7 +8,7 @@ use crate::{FaultSite, FaultWord};
 use lc_tree::{Listing, ReadFault, Tree};
 
 impl<T: Tree> LevelReader<'_, T> {
-    /// Returns the listing that was made of the directory at `path`. An error of the listing becomes one that is reported at `site`.
+    /// Returns the listing that was made of the directory at `path`. An error of the listing becomes an error that is reported at `site`.
     pub(crate) fn listed_for(
         &self,
         path: &[u8],

@@ -6,15 +6,15 @@ ghost use Rattle.lc_level.specs.RulePairs.{open_fault_by};
 use crate::content_fault::ContentFault;
 use crate::{FaultSite, FaultWord};
 
-/// Why a directory contributes none of its entries.
+/// Why a directory contributes none of its entries to a walk.
 #[derive(Clone, Copy, Debug, Drop, PartialEq, Eq)]
 pub enum OpenFault {
-    /// The listing or one of the rule files could not be read. The `FaultSite` says which of these, and reports name the reason by the
-    /// `FaultWord`.
+    /// The listing or one of the rule files could not be read. The `FaultSite` says which of these. The `FaultWord` is the reason, as a
+    /// word in reports.
     Faulted(FaultSite, FaultWord),
     /// An allocation failed.
     Memory,
-    /// An entry's path has over 4,096 bytes, or a directory's over 256 segments.
+    /// The path of an entry has over 4,096 bytes, or the path of a directory has over 256 segments.
     TooDeep,
 }
 

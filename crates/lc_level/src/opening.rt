@@ -17,7 +17,7 @@ use std::thread::Threads;
 /// A directory whose entries are known, before its files are counted.
 #[derive(Drop)]
 pub struct Opened {
-    /// The job of the directory, whose chains include the directory's own rule files.
+    /// The job of the directory: its path, and its chains of rule files, which include the directory's own rule files.
     pub job: Job,
     /// The names of the files that are to be counted.
     pub files: Vec<Vec<u8>>,

@@ -1,4 +1,4 @@
-//! Joining the path of a directory and a name, and splitting them again.
+//! Joining the path of a directory and the name of an entry, and making a path relative to a directory.
 ghost use Rattle.std.specs.Prelude.{◌≡◌, ◌≢◌, ℕ, List, IfOk, MatchOption};
 ghost use Rattle.lc_glob.specs.Path.{path_in};
 
@@ -17,7 +17,7 @@ pub fn path_in(alloc: Global, directory: &[u8], name: &[u8]) -> Result<Vec<u8>, 
 }
 
 /// Returns a path relative to a directory, or `None` if the path is not below the directory. For example, `a/b/c` relative to `a/b` is `c`.
-/// Relative to the top, every path stays as it is.
+/// If `directory` is empty, it is the top, and the function returns the whole path.
 ///
 /// ```
 /// assert_eq!(relative_to(b"a/b", b"a/b/c"), Some(b"c"));

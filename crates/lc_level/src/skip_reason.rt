@@ -1,4 +1,4 @@
-//! Deciding why an entry is skipped, by the rules, the filters and its kind.
+//! Deciding why an entry is skipped. The rules, the filters, and the entry's name and kind decide.
 ghost use Rattle.std.specs.Prelude.{◌≡◌, IfOk, option_map};
 ghost use Rattle.lc_glob.specs.Path.{path_in};
 ghost use Rattle.lc_level.specs.Level.{rule_reason, reason_at, reason_for};

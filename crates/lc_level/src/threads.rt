@@ -1,6 +1,7 @@
 //! Counting the files of a directory with several threads side by side.
 //!
-//! - `in_parts`: many files; `after_large`: the files after a large one
+//! - `in_parts`: counting many files
+//! - `after_large`: counting the files that follow a large file
 //! - `spare_threads`: the threads that may help
 
 pub(crate) mod after_large;

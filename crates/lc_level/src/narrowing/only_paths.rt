@@ -99,7 +99,7 @@ impl<'o> OnlyPaths<'o> {
         }
     }
 
-    /// Sorts the paths, which are relative to the top, with no slash at the end. If there are none, all of a tree is selected.
+    /// Sorts the paths, which are relative to the top, with no slash at the end. If there are no paths, all of a tree is selected.
     pub fn new(alloc: Global, asked: &'o [&'o [u8]]) -> Result<OnlyPaths<'o>, AllocError>
         ensures { IfOk result (λ only. only ≡ map (λ path. path.now) asked.entry.now) }
     {

@@ -1,4 +1,4 @@
-//! Counting the files after a large one in a directory, with several threads side by side.
+//! Counting the files that follow a large file of the same directory, with several threads side by side.
 ghost use Rattle.std.specs.Prelude.{◌≡◌, ◌++◌, ◌∷◌, ◌-◌, ◌≤◌, [], List, ℕ, IfOk, OnOk, Vec};
 ghost use Rattle.std.specs.Global.{Global};
 ghost use Rattle.lc_level.specs.CountedNames.{IsCounted};
@@ -17,8 +17,8 @@ use lc_tree::{Helpers, IdleThreads, Tree};
 use std::alloc::AllocError;
 use std::thread::Threads;
 
-/// The number of bytes over which a file is large. The files after a large one may be large too, and counting one takes some milliseconds,
-/// many times as long as starting a thread.
+/// The number of bytes over which a file is large. The files that follow a large file may be large too. Counting a large file takes some
+/// milliseconds, many times as long as starting a thread.
 const LARGE_FILE: u64 = 16 << 20;
 
 /// Takes as many idle threads as can help with this many files that may be large.
@@ -104,7 +104,7 @@ impl<T: Tree> LevelReader<'_, T> {
         self.count_side_by_side(rt, helpers, job, names, absent)
     }
 
-    /// Like `count`, but if threads are idle, the files after a large one are counted in parts side by side.
+    /// Like `count`, but if threads are idle, the files that follow a large file are counted in parts side by side.
     pub(crate) fn count_undivided<R: Threads + Sync>(
         &self,
         threads: &SpareThreads<'_, R>,

@@ -112,8 +112,8 @@ impl<T: Tree> LevelReader<'_, T> {
         Ok(found)
     }
 
-    /// Like `count`, but counts many files in parts side by side: one part for each idle thread that can help, and one part more. The files
-    /// after a file of over 16 MiB are counted in parts too, even if they are few.
+    /// Like `count`, but counts many files in parts side by side: one part for each idle thread that can help, and one more part. After a
+    /// file of over 16 MiB the other files are counted in parts too, even if few files are left.
     ///
     /// Each part allocates a buffer of its own.
     pub fn count_divided<R: Threads + Sync>(

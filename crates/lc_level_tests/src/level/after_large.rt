@@ -1,4 +1,4 @@
-//! A few files after a large one, which idle threads help to count.
+//! A few files that follow a large file, which idle threads help to count.
 
 use crate::level::in_parts::{check, count_flat};
 use lc_level::Filters;

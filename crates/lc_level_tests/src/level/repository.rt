@@ -1,4 +1,4 @@
-//! The rules of a repository, in `.git/info` of the top.
+//! The rules of a repository, in `.git/info` of its top directory.
 
 use crate::level::work::{Case, check, check_parts};
 use std::test::Fail;
