@@ -21,18 +21,19 @@ pub enum Cause {
     Memory,
     /// A walk found more directories than its limit.
     TooManyDirs,
-    /// A counted directory has an entry that is too deep.
+    /// An entry of a counted directory has a path that is too long or too deep.
     TooDeep,
-    /// The directories that the workers found make no tree, because of the directory with this number on the board. No count ends with this
-    /// error.
+    /// The directories that the workers found make no tree, because of the directory with this number. The number is the directory's place
+    /// on the board, the table of directories that all workers share. No count ends with this error.
     Torn(u32),
-    /// The board that all workers share, and the worker with this number, recorded different events. No count ends with this error.
+    /// The worker with this number recorded other events than the board, the table of directories that all workers share. No count ends
+    /// with this error.
     Mismatch(u32),
     /// The rule file that the command line names could not be read.
     UnreadRules,
     /// The rules have too many bytes.
     RulesTooLong,
-    /// The list of paths that the command line names could not be read, for this reason if the system gives one.
+    /// The list of paths that the command line names could not be read. The field has the reason, if the system gives one.
     UnreadPaths(Option<UnreadReason>),
     /// The list of paths has too many bytes.
     PathsTooLong,

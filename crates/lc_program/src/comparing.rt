@@ -139,7 +139,7 @@ fn print_changes<O: Sink>(
     Ok(differ)
 }
 
-/// Drops from two reports what does not meet the conditions, and prints the changes from one report to the other.
+/// Drops from two reports the files that do not meet the conditions, and prints the changes from one report to the other.
 fn print_kept<O: Sink>(
     alloc: Global,
     asked: &DiffRequest<'_>,

@@ -42,7 +42,8 @@ pub(crate) fn is_picture(format: Option<Format>) -> bool
     matches!(format, Some(Format::Html))
 }
 
-/// Returns which lists the report of a count must have. Rows by directory, pictures and conditions on numbers need the list of files.
+/// Returns which lists the report of a count must have. A table with rows by directory, a picture and a condition on a number need the list
+/// of files.
 fn lists_of(asked: &CountRequest<'_>) -> ReportLists
     ensures { result ≡ lists_of asked.now }
 {

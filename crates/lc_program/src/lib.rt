@@ -1,19 +1,39 @@
 //! The part of the program `lc` that does not depend on the host. It carries out a command line, reads directories and files through the
 //! trait `System`, and writes to streams.
 //!
-//! - `system`: the directories and files that a command line names, with `unread_reason`: why a directory or a file could not be read, and
-//!   `repository`: the repository above a directory; `streams`: the streams, and which of them are terminals
-//! - `running`: the function `program`; `answering`: answering each request, with `checking`, `counting`, `explaining`, `summing` and
-//!   `comparing`; `answered`: the answers, with `comparison`: the result of a comparison
-//! - `filters`: the filters of a command line, with `rules_file`: the rules of a file; `path_list`: the paths in the file of `--only-from`
-//! - `report_files`: the reports in files, with `report_lines`: the lines about refused reports; `named_texts`: the texts of files and of
-//!   standard input
-//! - `finding`: the report of the counted directories, with `nested`: refusing a directory that lies in another
-//! - `sides`: the sides of a comparison, with `choices`: refusing options that choose files, if both sides are reports
-//! - `runs`: the walk of a tree and its table, with `showing`: making and writing the text of a report
-//! - `ending`: how the program ends; `cause`: why the program stops with an error
-//! - `telling`: help, the version, and the lines on standard error, with `introducing`, `faults`, `side_faults`, `unlisted`, `unnamed`,
-//!   `unmatched` and `hints`; `commands`: the commands that these lines suggest
+//! - `running`: the function `program`, which runs the program
+//! - `system`: the trait `System`: the directories and files that a command line names
+//! - `unread_reason`: why a directory or a file could not be read
+//! - `repository`: the repository above a directory
+//! - `streams`: the streams of the program, and which of them are terminals
+//! - `answering`, `answered`: answering each request, and the answers
+//! - `checking`: answering `lc check`
+//! - `counting`: answering `lc count`
+//! - `explaining`: answering `lc explain`
+//! - `summing`: answering `lc sum`
+//! - `comparing`, `comparison`: answering `lc diff`, and the result of a comparison
+//! - `filters`: the options of a command line that decide which entries are skipped
+//! - `rules_file`: the rules of a file that a command line names
+//! - `path_list`: the paths in the file of `--only-from`
+//! - `named_texts`: the texts of files that a command line names, or of standard input
+//! - `report_files`: reading the reports that a command line names
+//! - `report_lines`: the lines on standard error about reports that can't be read or added up
+//! - `finding`: the report of the counted directories
+//! - `nested`: refusing to count a directory that lies in another counted directory
+//! - `sides`: the two sides of a comparison, which are directories or reports
+//! - `choices`: refusing options that choose files, if both sides of a comparison are reports
+//! - `runs`: the walk of a tree, and the table of its report
+//! - `showing`: making and writing the text of a report
+//! - `ending`, `cause`: how the program ends, and why it stops with an error
+//! - `telling`: writing help, the version, and why the program stops or refuses its arguments
+//! - `introducing`: the line on standard error that says what the program reads from a terminal
+//! - `faults`: the lines on standard error about what a count or a sum could not read
+//! - `side_faults`: the lines on standard error about what the sides of a comparison could not read
+//! - `unlisted`: the lines on standard error about a directory that could not be read
+//! - `unnamed`: the lines on standard error about attributes that no attribute file names
+//! - `unmatched`: the lines on standard error about patterns that can match nothing
+//! - `hints`: the hint on standard error that rules above counted directories were not read
+//! - `commands`: the commands that the lines on standard error suggest
 #![tactic(auto)]
 
 mod answered;

@@ -53,7 +53,8 @@ impl From<PrintFault> for RunFault {
 /// Walks a tree, drops from its report the files that do not meet the conditions, and writes the table of the remaining report ([`table`]).
 /// Returns the remaining report.
 ///
-/// Rows by directory require that `options` request the list of files. A condition on a number is tested on the files of this list.
+/// If the table has rows by directory (`--by dir`), the function requires that `options` request the list of files. A condition on a
+/// number, such as `lines > 1000`, is tested on the files in this list.
 ///
 /// ```
 /// let tree = SysTree::new(&rt, rt.alloc(), "src", FileSystems::All)?;

@@ -70,8 +70,9 @@ pub(crate) fn text_with(
 /// Makes the text of a report. In the format `Html` the text is a page with a picture. The heading of this page is `counted`, which says
 /// what was counted.
 ///
-/// The function may sort the report's list of files. Rows by directory require that the report has this list. A picture shows the files of
-/// this list. An error means that an allocation failed, or that sums or shares overflow. The sums and shares of a walk never overflow.
+/// The function may sort the report's list of files. If the table has rows by directory (`--by dir`), the function requires that the report
+/// has this list. A picture shows the files in this list. An error means that an allocation failed, or that sums or shares overflow. The
+/// sums and shares of a walk never overflow.
 pub fn report_text(
     alloc: Global,
     counted: &[u8],
