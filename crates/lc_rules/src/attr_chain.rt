@@ -78,8 +78,9 @@ fn decide_by_info<'a>(
 }
 
 /// The attribute files for a directory's entries, from the lowest precedence to the highest: the files of the tree from the top down, each
-/// with the depth of its directory, then the file of `.git/info`. The chain knows the macro `binary`, which is built in, the macros of the
-/// first file, if it was read as top-level, and the macros of `.git/info`. A later macro overrides an earlier one with the same name.
+/// with the depth of its directory, then the file of `.git/info`. The chain knows the built-in macro `binary`, then the macros of the first
+/// file if `AttrFile::is_top` holds for this file, then the macros of `.git/info`. A later macro overrides an earlier one with the same
+/// name.
 #[derive(Drop)]
 pub struct AttrChain {
     files: ChainFiles<AttrFile>,
@@ -122,8 +123,8 @@ impl AttrChain {
     }
 
     /// Returns the chain with the file `.git/info/attributes`, or a copy if `file` is `None`. This file overrides every other file of the
-    /// chain, also files that are added later, and replaces an earlier file of `.git/info`. The caller reads the file with `top`, so that
-    /// it may define macros.
+    /// chain, also files that are added later, and replaces an earlier file of `.git/info`. The caller passes `top` as true to
+    /// `AttrFile::read`, so that the file may define macros.
     pub fn with_info(
         &self,
         alloc: Global,
@@ -205,7 +206,7 @@ impl AttrChain {
     }
 }
 
-/// Returns the macros of the first of these files, if that file was read as top-level.
+/// Returns the macros of the first of these files, if `AttrFile::is_top` holds for that file.
 fn top_macros<'a>(files: FilesLeft<'a, AttrFile>) -> Option<&'a MacroTable>
     ensures { defined_in result ≡ top_macros files.entry }
 {

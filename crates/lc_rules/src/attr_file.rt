@@ -31,8 +31,8 @@ impl Model for AttrFile {
 }
 
 impl AttrFile {
-    /// Reads the bytes of an attribute file. Any bytes are an attribute file, if there are at most `MAX_RULE_BYTES` of them. With `top` the
-    /// file may define macros, as the files of the tree's top directory and of `.git/info` may.
+    /// Reads the bytes of an attribute file. Any bytes are an attribute file, if there are at most `MAX_RULE_BYTES` of them. If `top` is
+    /// true, the file may define macros. `top` is true for the files of a tree's top directory and of `.git/info`.
     pub fn read(alloc: Global, bytes: &[u8], top: bool) -> Result<AttrFile, RuleFault>
         ensures ok { IfOk result (λ file. file ≡ attribute_file_of top bytes.now) }
         ensures too_long { (result ≡ Err RuleFault.TooLong) ↔ (max_rule_bytes < length bytes.now) }
@@ -44,7 +44,7 @@ impl AttrFile {
         Ok(file)
     }
 
-    /// Returns whether the file was read with `top`, so that it may define macros.
+    /// Returns whether the file may define macros: `top` was true when the file was read.
     pub fn is_top(&self) -> bool
         ensures { result ≡ self.now.is_top }
     {

@@ -1,4 +1,4 @@
-//! Reading a line of an attribute file, which defines a macro or assigns attributes by a pattern.
+//! Reading a line of an attribute file. A line defines a macro, or assigns attributes to the paths that its pattern matches.
 
 ghost use Rattle.std.specs.Prelude.{◌≡◌, IfOk, MatchOption, Some, None};
 ghost use Rattle.lc_rules.specs.AttrLines.{as_macro, by_pattern, is_negated, macro_word, by_words, by_quote, trimmed, given_by};

@@ -1,4 +1,4 @@
-//! Finding the rules that decide all directories above a path, in one pass over the rules of one ignore file.
+//! Finding the rule that decides each directory above a path, in one pass over the rules of one ignore file.
 
 ghost use Rattle.std.specs.Prelude.{◌≡◌, ◌<◌, ◌≤◌, ◌-◌, ◌&&◌, ◌||◌, ℕ, true, false, not, IsTrue, Option, None, Some};
 ghost use Rattle.std.specs.Prelude.{IfSome, cond, length, take, option_map, slice_index_or};
@@ -17,11 +17,11 @@ use lc_glob::cut_at_first;
 use lc_glob::path::MAX_DEPTH;
 use std::marker::Model;
 
-/// A path and the directories above it, with the rules of one ignore file that decide them.
+/// Finds the last rule of an ignore file that matches a path, and the last rule that matches each directory above the path.
 ///
-/// The rules are matched from the last to the first, each with all directories in one pass, until the highest ignored directory is known. A
-/// directory below the highest ignored one, or with a path of `MAX_DEPTH` names or more, is matched alone when `last_match` is called for
-/// this directory.
+/// The rules are matched from the last to the first, each with all directories in one pass, until the highest ignored directory is known.
+/// Some directories are matched alone, when `last_match` is called for them: the directories below the highest ignored directory, and
+/// directories with a path of `MAX_DEPTH` names or more.
 ///
 /// ```
 /// let file = IgnoreFile::read(alloc, b"**/b/\n!/a\n")?;

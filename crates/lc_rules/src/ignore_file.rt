@@ -84,7 +84,7 @@ impl IgnoreFile {
         self.patterns.has_nested_wildcards()
     }
 
-    /// Returns the verdict on a path below the file's directory, by the rules of this file alone.
+    /// Returns the verdict of this file's rules alone on a path below the file's directory.
     pub fn verdict(&self, path: &[u8], is_dir: bool) -> Verdict
         ensures { result ≡ verdict_of (at_depth 0 self.now) path.now is_dir }
     {

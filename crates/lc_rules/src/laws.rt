@@ -14,7 +14,7 @@ pub fn the_command_line_decides()
     ensures { CommandLineLaw }
 {}
 
-/// The law that each rule of a file is read from the line of this file whose number the rule has.
+/// The law that each rule of a file has the number of the line that the rule was read from.
 pub fn rules_stand_on_their_lines()
     ensures { LinesLaw }
 {}

@@ -1,17 +1,30 @@
-//! The rules of a tree: ignore files, attribute files, and chains of each. They decide whether a path is ignored, and which state an
-//! attribute has for a path.
+//! The rules of a tree: ignore files, attribute files, and chains of these files. The rules decide whether a path is ignored, and which
+//! state an attribute has for a path.
 //!
 //! The formats are those of gitignore(5) and gitattributes(5); `docs/RULES.md` explains each rule of these formats.
 //!
-//! - `ignore_line`, `ignore_file`, `ignore_chain`: a rule, an ignore file, and the chain of the ignore files that apply to a path
+//! - `ignore_line`: reading a line of an ignore file as a rule
+//! - `ignore_file`: an ignore file
+//! - `ignore_chain`: the chain of the ignore files that apply to a path
 //! - `matchable`: which lines give a rule that can match a path
-//! - `attr_line`, `attr_words`, `last_word`, `attr_quotes`, `assignment`: a line of an attribute file
-//! - `attr_file`, `line_table`, `macro_table`, `attr_chain`: an attribute file, and the chain of the attribute files that apply to a path
-//! - `known_macros`, `resolver`, `states`: deciding the state of one attribute
-//! - `lines`, `chain_files`, `paths`: what ignore files and attribute files share
+//! - `attr_line`: reading a line of an attribute file
+//! - `attr_words`, `last_word`: the words of a line of an attribute file, from either end
+//! - `attr_quotes`: the quoted patterns of attribute files
+//! - `assignment`: an attribute's name, and the state that a line assigns to it
+//! - `attr_file`: an attribute file
+//! - `line_table`, `macro_table`: the lines and the macros of an attribute file
+//! - `attr_chain`: the chain of the attribute files that apply to a path
+//! - `known_macros`: the macros that a chain of attribute files knows
+//! - `resolver`: deciding the state of one attribute
+//! - `states`: the states of attributes
+//! - `lines`: splitting a file of rules into lines
+//! - `chain_files`: the files of a chain
+//! - `paths`: paths relative to the directory of a rule file
 //! - `directories_above`: the last rule that matches each directory above a path
-//! - `verdicts`, `rule_source`: what a rule says of a path, and the file that the rule was read from
-//! - `faults`: why a file can't be read as rules; `laws`: theorems about the rule that decides a path
+//! - `verdicts`: what a rule says of a path
+//! - `rule_source`: the file that a rule was read from
+//! - `faults`: why a file can't be read as rules
+//! - `laws`: theorems about the rule that decides a path
 #![tactic(auto)]
 
 mod assignment;
