@@ -1,7 +1,10 @@
-//! Shared parts of the test crates: readers, writers and trees whose behaviour is known, and requests and findings as text.
+//! Parts that the test crates share: readers, writers and trees whose behaviour is known, and functions that read or write text.
 //!
-//! - `readers`, `writers`, `trees`: readers, a writer and trees whose contracts determine what they do
-//! - `sketch`: in-memory trees from a line of text; `sketch_table`: in-memory trees from a constant table
+//! - `readers`: readers whose contracts determine what they return
+//! - `writers`: a writer whose contract determines what it accepts
+//! - `trees`: trees that pass calls on to another tree
+//! - `sketch`: trees in memory, made from a text that lists their entries
+//! - `sketch_table`: trees in memory, made from a constant table
 //! - `request`: what a user requests, read from options as on a command line
 //! - `lines`: what a walk finds, in the words that `lc count` prints
 #![tactic(auto)]

@@ -15,8 +15,8 @@ pub enum WhenFull {
     Fails,
 }
 
-/// Writers for tests in which the output must stop after each possible number of bytes. For each writer: the most bytes that one write
-/// accepts, and what the writer does once it is full.
+/// Writers for tests that repeat an output, each time with a writer that is full after a different number of bytes. Each pair has the most
+/// bytes that one write accepts, and what the writer does once it is full.
 pub const WRITERS: &[(usize, WhenFull)] = &[
     (1, WhenFull::TakesNothing),
     (1, WhenFull::Fails),

@@ -11,7 +11,7 @@ pub struct Counted<S> {
     pub source: S,
     /// The number of reads so far, up to the greatest `u64`.
     pub reads: u64,
-    /// The length in bytes of the longest buffer of a read.
+    /// The length in bytes of the longest buffer that a read got.
     pub longest: usize,
 }
 
