@@ -1,12 +1,17 @@
-//! Printing paths, names and the places of rules, for all crates that print.
+//! How paths, names and the places of rules are printed, for all crates that print them.
 //!
-//! - `escaping`: escaping paths for a program; `visible`: escaping paths for a terminal; `style`: choosing between these two
+//! - `escaping`: escaping paths for a program
+//! - `visible`: escaping paths for a terminal
+//! - `style`: choosing how paths are escaped: for a program or for a terminal
 //! - `quoting`: quoting a text as one argument of a shell
-//! - `places`: where a rule is; `name`: a path or an extension with what is printed before and after it
-//! - `input`: reading an input with a path on each line; `lines`: splitting the input into paths; `path_line`: the path of a line;
-//!   `check_fault`: the errors of checking or explaining these paths
-//! - `outcome`: whether the text that was written shows an error
-//! - `laws`: what is true of the definitions that the contracts cite
+//! - `places`: printing where a rule is: its file and line
+//! - `name`: printing a path or an extension with a fixed text before and after it
+//! - `input`: reading an input that has a path on each line
+//! - `lines`: splitting an input into its paths
+//! - `path_line`: reading a line of an input as a path
+//! - `check_fault`: the errors of checking or explaining paths
+//! - `outcome`: whether a text that was written shows an error
+//! - `laws`: theorems about the definitions that the contracts cite
 #![tactic(auto)]
 
 mod check_fault;

@@ -1,6 +1,6 @@
 //! Whether a text that was written shows an error.
 
-/// Whether a text that was written shows something that could not be read.
+/// Whether a text that was written names a directory or a file that could not be read.
 #[derive(Debug, Clone, Copy, PartialEq, Eq)]
 pub enum Outcome {
     /// Every directory and file could be read.

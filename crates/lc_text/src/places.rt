@@ -66,7 +66,8 @@ pub fn source_name(source: RuleSource) -> &'static str
 }
 
 /// Appends the place of a rule that decides a path: the path of the rule's file, escaped in a style, and the number of its line. Such
-/// places are `src/.gitignore:3`, `.git/info/exclude:2`, `--exclude-from:7` and `--exclude:2`, the second pattern of the command line.
+/// places are `src/.gitignore:3`, `.git/info/exclude:2` and `--exclude-from:7`. The place `--exclude:2` is the second pattern of the
+/// command line.
 ///
 /// ```
 /// push_rule_source(&mut text, PathStyle::Escaped, b"src/gen/a.c", RuleSource::Gitignore(1), 3)?; // src/.gitignore:3
