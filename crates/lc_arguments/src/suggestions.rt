@@ -1,4 +1,4 @@
-//! Suggests a command that refused arguments may have meant. The program accepts the arguments of each suggested command.
+//! If arguments are refused, suggests a command that the user may have meant. The program accepts the arguments of each suggested command.
 
 use crate::near::near_name;
 use crate::option_row::{Completes, Subcommand};

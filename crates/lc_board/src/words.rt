@@ -1,4 +1,5 @@
-//! The board of words: for each directory, an atomic word stores the directory's state, and a memory slot has its job and later its row.
+//! The board of atomic words: for each directory, an atomic word stores the directory's state, and a memory slot has its job and later its
+//! row.
 //!
 //! Workers change a word only by atomic exchanges. The methods `claim`, `post`, `give` and `fault` of `Words` wait for no thread and
 //! allocate nothing. A worker that claims a directory takes the job out of the directory's slot, and later puts the row in. If jobs and

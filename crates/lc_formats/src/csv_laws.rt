@@ -1,4 +1,4 @@
-//! Laws of texts as CSV. Each law is a theorem, which is the contract of a function that does nothing.
+//! Laws about text that is printed as CSV. Each law is a theorem, which is the contract of a function that does nothing.
 
 ghost use Rattle.lc_formats.specs.ChangeLaws.{ComparisonRecordsLaw};
 ghost use Rattle.lc_formats.specs.CsvLaws.{RecordsLaw};

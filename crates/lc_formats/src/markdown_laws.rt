@@ -1,4 +1,4 @@
-//! Laws of a text as Markdown. Each law is a theorem, which is the contract of a function that does nothing.
+//! Laws about text that is printed as Markdown. Each law is a theorem, which is the contract of a function that does nothing.
 
 ghost use Rattle.lc_formats.specs.MarkdownLaws.{BlankLaw, EscapedLaw, LinkLaw, UnescapedLaw};
 

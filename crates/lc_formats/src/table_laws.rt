@@ -1,4 +1,4 @@
-//! Laws of texts in human-readable columns. Each law is a theorem, which is the contract of a function that does nothing.
+//! Laws about text that is printed in human-readable columns. Each law is a theorem, which is the contract of a function that does nothing.
 
 ghost use Rattle.lc_formats.specs.ChangeLaws.{ChangeLaw, ComparisonEndsLaw, ComparisonWidthLaw, NoChangeLaw};
 ghost use Rattle.lc_formats.specs.CommaLaws.{CommasLaw};

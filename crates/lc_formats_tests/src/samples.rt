@@ -28,7 +28,7 @@ pub struct Version {
 pub struct Sample {
     /// The extension of a file or of a row, or the name of a line of sums.
     pub key: &'static str,
-    /// What became of the file, such as `added`; empty for a row.
+    /// If the line is about a file, what became of the file, such as `added`. If the line is about a row, this is empty.
     pub change: &'static str,
     /// The path of the file; empty for a row.
     pub path: &'static [u8],

@@ -18,7 +18,7 @@ pub enum PathStyle {
     Visible,
 }
 
-/// How the paths of an input end, and the style in which paths are printed. Each line that is printed ends with a line feed.
+/// Which byte ends each path of an input, and the style in which paths are printed. Each line that is printed ends with a line feed.
 #[derive(Debug, Clone, Copy, PartialEq, Eq)]
 pub struct PathFormat {
     pub end: PathEnd,

@@ -24,9 +24,9 @@ pub fn a_tally_has_no_order()
 {}
 
 /// The law about the rows that workers added to a board, one row for each directory. Each row names the directory's child directories, so
-/// the rows make a tree. Under any scheduling of the workers, the recursive walk of this tree finds exactly what the directories of the
-/// rows contribute. The recursive walk visits the directory of each row once. The law requires that each row is true of its directory. It
-/// also requires that no row is `Row::Broken`: no worker stopped before it had finished a directory.
+/// the rows make a tree. Under any scheduling of the workers, the recursive walk of this tree finds exactly what the rows have. The
+/// recursive walk visits the directory of each row once. The law requires that each row is true of its directory. It also requires that no
+/// row is `Row::Broken`: no worker stopped before it had finished a directory.
 pub fn rows_are_the_walk_of_their_tree()
     ensures found { CoreLaw }
     ensures numbers { NumbersLaw }

@@ -1,6 +1,6 @@
-//! How a worker claims a directory on a board of words, where an atomic word stores the state of each directory. A claim first tries one of
-//! the directories that its worker added last, by one atomic exchange. If this fails, the claim reads the words once, in the order of the
-//! directories' numbers.
+//! How a worker claims a directory on a board of atomic words, where an atomic word stores the state of each directory. A claim first tries
+//! one of the directories that its worker added last, by one atomic exchange. If this fails, the claim reads the words once, in the order
+//! of the directories' numbers.
 //!
 //! The claim begins to read at the low mark of the worker's pass: all directories with a number below this mark are finished. It continues
 //! over further finished directories. A directory is busy if a worker has claimed it or is about to add it to the board. If the claim meets

@@ -1,4 +1,4 @@
-//! The states that a directory can have on a board of words, and the codes with which an atomic word stores these states.
+//! The states that a directory can have on a board of atomic words, and the codes with which an atomic word stores these states.
 ghost use Rattle.std.specs.Prelude.{◌≡◌};
 ghost use Rattle.lc_board.specs.WordCode.{code, word_of, end_word, is_absent, is_open, has_ended, is_busy, is_taken};
 ghost use Rattle.lc_board.specs.declared.words.coding.Word.TheVariants.{Drawn, Claimed};

@@ -1,5 +1,5 @@
-//! The three steps in which a worker adds a directory to a board of words. The worker reserves (draws) a number, puts the directory's job
-//! into the number's memory slot, and then lets workers claim the directory.
+//! The three steps in which a worker adds a directory to a board of atomic words. The worker reserves (draws) a number, puts the
+//! directory's job into the number's memory slot, and then lets workers claim the directory.
 ghost use Rattle.std.specs.Prelude.{◌≡◌, ◌<◌, ◌∷◌};
 ghost use Rattle.atomic_table.specs.Table.{rest};
 ghost use Rattle.lc_board.specs.{WordSteps.{MayDraw, TriesDraw, MayOpen, OpensDrawn}, declared.words.view.Slot.TheVariants.Empty};

@@ -1,5 +1,5 @@
-//! A list of the directories that a worker added to a board of words last. The worker's next claims try these directories first. The list
-//! is only a hint: the atomic word of each directory shows whether the directory still waits for a worker.
+//! A list of the directories that a worker added to a board of atomic words last. The worker's next claims try these directories first. The
+//! list is only a hint: the atomic word of each directory shows whether the directory still waits for a worker.
 ghost use Rattle.std.specs.Prelude.{◌<◌};
 ghost use Rattle.lc_board.specs.Limits.{capacity_limit};
 

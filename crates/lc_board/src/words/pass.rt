@@ -1,4 +1,4 @@
-//! The pass that gives a worker access to a board of words.
+//! The pass that gives a worker access to a board of atomic words.
 ghost use Rattle.std.specs.Prelude.{◌≡◌, false, true};
 ghost use Rattle.std.proofs.Props.{props};
 ghost use Rattle.lc_board.specs.WordPass.{AreTaken, IsTied};
@@ -8,7 +8,8 @@ use crate::words::newest::Newest;
 use crate::words::view::{Slot, View};
 use atomic_table::Seat;
 
-/// A worker's pass for a board of words. With it the worker reads and changes the atomic words, which store the states of the directories.
+/// A worker's pass for a board of atomic words. With it the worker reads and changes the atomic words, which store the states of the
+/// directories.
 #[derive(Drop)]
 pub struct WordsPass<J, R> {
     pub(crate) seat: Seat<Slot<J, R>, View<J, R>>,

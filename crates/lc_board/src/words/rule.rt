@@ -9,14 +9,14 @@ use crate::words::view::{Slot, View};
 use atomic_table::{Join, Play, Split, TableRule};
 use std::snapshot::Snapshot;
 
-/// What a board of words was started with: the job of the root directory, and the number of workers.
+/// What a board of atomic words was started with: the job of the root directory, and the number of workers.
 #[derive(Drop)]
 pub struct BoardSetup<J> {
     pub root: Snapshot<J>,
     pub workers: u32,
 }
 
-/// The invariant of a board of words: some legal history of the workers' events leads to the states that the words store.
+/// The invariant of a board of atomic words: some legal history of the workers' events leads to the states that the words store.
 pub struct OneHistory;
 
 impl<J, R> TableRule<Slot<J, R>, View<J, R>, BoardSetup<J>> for OneHistory {

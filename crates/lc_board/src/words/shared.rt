@@ -1,4 +1,4 @@
-//! The implementation of the trait `Shared` for `Words`, the board of words.
+//! The implementation of the trait `Shared` for `Words`, the board of atomic words.
 ghost use Rattle.std.specs.Prelude.{◌≡◌, ◌≢◌, ◌≤◌, ℕ, [], None, Some, IfOk, IfErr, map, slice_get, vec_len};
 ghost use Rattle.lc_board.specs.{ClosedBoard.{Settled, RefusesClose}, WordClose.words_promises};
 ghost use Rattle.lc_board.specs.Pass.{holding, posted, new_pass, after_claim, after_post, after_give, after_fault, job_back};

@@ -1,4 +1,5 @@
-//! What a worker does with one directory on a board of words: it reads the directory's atomic word, claims the directory, and finishes it.
+//! What a worker does with one directory on a board of atomic words: it reads the directory's atomic word, claims the directory, and
+//! finishes it.
 ghost use Rattle.std.specs.Prelude.{◌≡◌, ◌<◌, IsSome, None};
 ghost use Rattle.lc_board.specs.WordSteps.{HasLooked, low_after, taken_after};
 ghost use Rattle.lc_board.specs.{WordsBoard.{EndsClaim, IsPassOf, IsSamePass, TriesClaim, known}, Ending.MayEnd};
