@@ -1,4 +1,4 @@
-//! The tree in a directory of the host. For the progress line on a terminal, it counts the directories and files that it opens.
+//! The tree in a directory of the host. The methods of this tree count the directories and files that they open, for the progress line.
 
 use crate::progress::Progress;
 use lc_census::{Source, StdSource};
