@@ -33,10 +33,10 @@ pub struct CountRequest<'w> {
     pub table: TableRequest,
     /// Show only files that meet all of these conditions.
     pub conditions: Vec<Condition<'w>>,
-    /// Exit with status 4 if a file is counted and meets the conditions.
+    /// Exit with status 4 if a counted file meets all of `conditions`.
     pub fail_if_any: bool,
-    /// The paths of the DIRs in their order, as they were typed. No two paths are equal, even if the slashes at their ends are dropped. If
-    /// no DIR was typed, the only path is `.`, the directory that the program runs in.
+    /// The paths of the directories to count, as they were typed, in the order of the command line. No two paths are equal, even without
+    /// the slashes at the ends of the paths. If no path was typed, the only path is `.`, the directory that the program runs in.
     pub directories: Vec<&'w str>,
 }
 

@@ -26,11 +26,11 @@ use std::convert::AsStr;
 pub struct DiffRequest<'w> {
     /// How to count OLD and NEW, if they are directories.
     pub walk: WalkRequest<'w>,
-    /// How the table is printed. The table does not show each row's share of the total, and its format is not `Html`.
+    /// How the table is printed: without the rows' shares of the total, and not in the format `Html`.
     pub table: TableRequest,
     /// Compare only files that meet all of these conditions.
     pub conditions: Vec<Condition<'w>>,
-    /// Exit with status 4 if a row, or a listed file, differs between OLD and NEW.
+    /// Exit with status 4 if OLD and NEW differ in a row of the table or, with `--files`, in a file.
     pub fail_if_any: bool,
     /// Also print rows in which nothing changed.
     pub all: bool,

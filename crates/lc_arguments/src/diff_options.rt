@@ -1,5 +1,5 @@
-//! The rows of the table of options that are for `lc diff` alone. No other command has the option of the row, or the option's help for
-//! `lc diff` differs from its help for other commands.
+//! The rows of the table of options that only `lc diff` uses. Each row is for an argument that no other command has, or for an argument
+//! whose help for `lc diff` differs from the argument's help for other commands.
 
 use crate::option_row::{Completes, DIFF, FLAG, Kind, OptionRow};
 use crate::options_table::WHAT_IS_PRINTED;

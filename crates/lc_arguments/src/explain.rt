@@ -24,7 +24,7 @@ pub struct ExplainRequest<'w> {
     pub null: bool,
     /// The path of DIR, as it was typed.
     pub directory: &'w str,
-    /// The paths to explain, relative to DIR. If there are none, they are read from standard input.
+    /// The paths to explain, relative to DIR. If this list is empty, the program reads the paths from standard input.
     pub paths: Vec<&'w str>,
 }
 

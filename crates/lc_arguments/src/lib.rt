@@ -17,11 +17,11 @@
 //! - `condition_text`: the text of one condition
 //! - `repeated`: the values of options that may be used several times
 //! - `numbers`: the values of options that take numbers
-//! - `limits`: the greatest values of these options
+//! - `limits`: the greatest values of the options that take numbers
 //! - `combinations`: options that can't be combined
 //! - `options_table`: the table of options
 //! - `option_row`: the type of a row of the table of options
-//! - `diff_options`: the rows of the table of options that are for `lc diff` alone
+//! - `diff_options`: the rows of the table of options that only `lc diff` uses
 //! - `arguments`: clap's arguments, made from the table of options
 //! - `help`: the texts of help and of the version
 //! - `long_help`: the texts that `--help` shows about the options

@@ -92,7 +92,7 @@ impl Repeated {
     }
 }
 
-/// Makes the text of an ignore file with these lines, each of which gets a line feed at its end.
+/// Makes the text of an ignore file. The text has each element of `lines`, followed by a line feed.
 pub fn lines_text(alloc: Global, lines: &[&str]) -> Result<Vec<u8>, AllocError>
     ensures { IfOk result (λ text. text.items ≡ lines_text (map (λ line. line.now) lines.now)) }
 {

@@ -16,7 +16,7 @@ use std::alloc::{AllocError, Global};
 /// A report of `lc sum`, and the name that is put in front of the report's paths.
 #[derive(Clone, Copy)]
 pub struct NamedReport<'w> {
-    /// The name, if one was typed. A directory can have this name.
+    /// The typed name, or `None` if no name was typed. The name is valid as the name of a directory.
     pub name: Option<&'w str>,
     /// The path of the report, as it was typed. `-` is standard input.
     pub report: &'w str,

@@ -29,15 +29,15 @@ use std::convert::AsStr;
 pub enum Request<'w> {
     /// Check paths by rules, both read from standard input. This is the request if the program has no arguments.
     CheckJoined,
-    /// Check the paths on standard input by the rules of a file, as in `check .gitignore`.
+    /// Check the paths on standard input by the rules of a file, as in `lc check .gitignore`.
     Check(CheckRequest<'w>),
-    /// Count directories, as in `count --files src` or `.`.
+    /// Count directories, as in `lc count --files src` or `lc .`.
     Count(CountRequest<'w>),
-    /// Show which rule of a directory decides whether each path is ignored, as in `explain . a.log`.
+    /// Show which rule of a directory decides whether each path is ignored, as in `lc explain . a.log`.
     Explain(ExplainRequest<'w>),
-    /// Add reports, as in `sum a.json b.json`.
+    /// Add reports, as in `lc sum a.json b.json`.
     Sum(SumRequest<'w>),
-    /// Compare two directories or reports, as in `diff v1.json src`.
+    /// Compare two directories or reports, as in `lc diff v1.json src`.
     Diff(DiffRequest<'w>),
 }
 
@@ -46,7 +46,7 @@ pub enum Request<'w> {
 pub enum ParseExit {
     /// Help or the version is to be shown. The text belongs on standard output.
     Shown(String),
-    /// The arguments are refused, as in `count --threads 17 .`. The text says why, and belongs on standard error.
+    /// The arguments are refused, as in `lc count --threads 17 .`. The text says why, and belongs on standard error.
     Refused(String),
     /// There is not enough memory to read the arguments.
     Memory,

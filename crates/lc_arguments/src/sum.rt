@@ -31,9 +31,10 @@ pub struct SumRequest<'w> {
     pub table: TableRequest,
     /// Show only files that meet all of these conditions.
     pub conditions: Vec<Condition<'w>>,
-    /// Exit with status 4 if a file of the reports meets the conditions.
+    /// Exit with status 4 if a file of the reports meets all of `conditions`.
     pub fail_if_any: bool,
-    /// The reports in their order, or standard input alone if none is named. At most one report is standard input.
+    /// The reports, in the order of the command line. If no report was typed, standard input is the only report. At most one report is
+    /// standard input.
     pub reports: Vec<NamedReport<'w>>,
 }
 
