@@ -14,7 +14,7 @@ use lc_walk::WalkFault;
 use std::alloc::{AllocError, AllocFailed, Global};
 use std::borrow::CowStr;
 
-/// Why the program stops with an error: one line on standard error, and status 3.
+/// Why the program stops with an error. Each cause has a line for standard error, and the exit status is 3.
 #[derive(Drop)]
 pub enum Cause {
     /// An allocation failed.
@@ -23,11 +23,11 @@ pub enum Cause {
     TooManyDirs,
     /// An entry of a counted directory has a path that is too long or too deep.
     TooDeep,
-    /// The directories that the workers found make no tree, because of the directory with this number. The number is the directory's place
-    /// on the board, the table of directories that all workers share. No count ends with this error.
+    /// The directories that the workers (threads) found do not form a tree. The error is at the directory with this number on the board,
+    /// the table of directories that all workers share. No count ends with this error.
     Torn(u32),
-    /// The worker with this number recorded other events than the board, the table of directories that all workers share. No count ends
-    /// with this error.
+    /// The worker (thread) with this number keeps a record of its events. This record differs from the record on the board, the table of
+    /// directories that all workers share. No count ends with this error.
     Mismatch(u32),
     /// The rule file that the command line names could not be read.
     UnreadRules,
@@ -44,7 +44,8 @@ pub enum Cause {
     UnreadInput,
     /// Standard input has too many bytes.
     InputTooLong,
-    /// One directory of a count is the same as another, or is inside it. The text is the line for standard error, which names both.
+    /// Two paths of a count lead to the same directory, or one counted directory lies in another. The text is the line for standard error,
+    /// which names both directories.
     Nested(String),
     /// The walk of one of several directories ended without a report. The text is the line for standard error, which names the directory.
     InDirectory(String),

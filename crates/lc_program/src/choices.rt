@@ -1,4 +1,4 @@
-//! Refuses a comparison of two reports if an option chooses files of a directory.
+//! Refuses a comparison of two reports if the command line has an option that chooses files of a directory, such as `--exclude`.
 
 ghost use Rattle.std.specs.Prelude.{◌≡◌, ◌++◌, option_map, string_bytes, IfOk, OnOk};
 ghost use Rattle.lc_program.specs.Choices.{AnswersChoices, are_reports, choice_line, first_choice};
@@ -12,7 +12,7 @@ use lc_arguments::WalkRequest;
 use lc_text::push_visible;
 use std::alloc::{AllocError, Global};
 
-/// Returns the first option of the command line that chooses files, if there is one.
+/// Returns an option of the command line that chooses files of a directory, if there is one.
 fn first_choice(walk: &WalkRequest<'_>) -> Option<&'static str>
     ensures { option_map (λ option. option.now) result ≡ first_choice walk.now }
 {

@@ -10,7 +10,7 @@ use crate::cause::Cause;
 pub enum Ending {
     /// The program carried out the request, or showed help or the version.
     Done,
-    /// The program wrote the answer, which has errors.
+    /// The program wrote the answer, but some paths could not be read.
     SomeFaults,
     /// The program wrote the answer, which counts a file or shows a difference, and `--fail-if-any` makes this a failure.
     AnyFile,

@@ -1,4 +1,4 @@
-//! The filters of a command line: what decides, besides the tree's own rules, which entries are skipped.
+//! The filters of a command line. Together with the rule files in the tree, these filters decide which entries are skipped.
 
 ghost use Rattle.std.specs.Prelude.{◌≡◌, ◌++◌, map, IfOk};
 ghost use Rattle.lc_level.specs.Filters.{narrowed};

@@ -1,4 +1,4 @@
-//! The report of a count: the report of its directory, or the sum of the reports of several directories.
+//! Makes the report of a count: the report of a single directory, or the sum of the reports of several directories.
 
 ghost use Rattle.std.specs.Prelude.{◌≡◌, ◌⊎◌, true, map, string_bytes, IfErr, IfOk};
 ghost use Rattle.std.specs.List.{AllZip};

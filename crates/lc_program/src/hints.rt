@@ -1,4 +1,4 @@
-//! The hint on standard error that rules above counted directories were not read.
+//! The hint on standard error that rules in the directories above a counted directory were not read.
 
 ghost use Rattle.std.specs.Prelude.{◌≡◌, map, option_map, string_bytes, IfOk};
 ghost use Rattle.std.specs.List.{AllZip, list_all};
@@ -12,7 +12,7 @@ use lc_arguments::Request;
 use lc_text::{Sink, print, push_visible};
 use std::alloc::{AllocError, Global};
 
-/// Returns the paths of the directories that lie in the repository with this top. Each path is relative to the top.
+/// Returns the paths of the directories that lie in the repository with the top directory `top`. Each path is relative to `top`.
 fn paths_in<'r>(
     alloc: Global,
     top: &str,
@@ -104,7 +104,7 @@ fn first_above<'a>(
     None
 }
 
-/// Writes the hint about the first of these directories that lies in a repository.
+/// Writes the hint about the first element of `directories` that lies in a repository.
 fn tell_above<E: Sink>(alloc: Global, directories: &[&str], all: &[Option<Repository>], err: &mut E)
     ensures { TellsAbove E.may_take (map (λ d. d.now) directories.now) all.now err.old err.new }
 {
@@ -133,7 +133,8 @@ fn repositories_above<Y: System>(
     Ok(repositories)
 }
 
-/// Writes a hint that rules above these directories were not read, if one of them lies in a repository, below the repository's top.
+/// If one of `directories` lies in a repository, below the repository's top, writes a hint that rules in the directories above were not
+/// read.
 fn hint_about<Y: System, E: Sink>(alloc: Global, system: &Y, directories: &[&str], err: &mut E)
     ensures { HintsAbout E.may_take (Y.lies system.now) (map (λ d. d.now) directories.now) err.old err.new }
 {
@@ -148,8 +149,8 @@ fn hint_about<Y: System, E: Sink>(alloc: Global, system: &Y, directories: &[&str
     }
 }
 
-/// Writes a hint that rules above the counted directories were not read, if one of them lies in a repository, below the repository's top.
-/// Only a terminal gets the hint.
+/// If a counted directory lies in a repository, below the repository's top, writes a hint that rules in the directories above were not
+/// read. Only a terminal gets the hint.
 pub(crate) fn hint<Y: System, E: Sink>(
     alloc: Global,
     system: &Y,

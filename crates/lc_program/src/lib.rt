@@ -28,11 +28,11 @@
 //! - `telling`: writing help, the version, and why the program stops or refuses its arguments
 //! - `introducing`: the line on standard error that says what the program reads from a terminal
 //! - `faults`: the lines on standard error about what a count or a sum could not read
-//! - `side_faults`: the lines on standard error about what the sides of a comparison could not read
+//! - `side_faults`: the lines on standard error about paths that could not be read on either side of a comparison
 //! - `unlisted`: the lines on standard error about a directory that could not be read
 //! - `unnamed`: the lines on standard error about attributes that no attribute file names
 //! - `unmatched`: the lines on standard error about patterns that can match nothing
-//! - `hints`: the hint on standard error that rules above counted directories were not read
+//! - `hints`: the hint on standard error that rules in the directories above a counted directory were not read
 //! - `commands`: the commands that the lines on standard error suggest
 #![tactic(auto)]
 

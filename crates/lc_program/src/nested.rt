@@ -1,4 +1,4 @@
-//! Refusing directories of a count that would be counted twice.
+//! Refuses a count in which a directory would be counted twice.
 
 ghost use Rattle.std.specs.Prelude.{◌≡◌, ◌⊎◌, ◌++◌, ℕ, List, Option, map, string_bytes, IfErr, IfOk, IsOk, OnOk};
 ghost use Rattle.std.specs.List.{AllZip};
@@ -142,8 +142,8 @@ fn refuse_nested(alloc: Global, places: &[Place<'_>]) -> Result<(), Cause>
     Ok(())
 }
 
-/// Returns an error if one of these directories is the same as another, or is inside another. A directory without a canonical path is not
-/// compared.
+/// Returns an error if two of the directories in `names` are the same directory, or if one lies in another. A directory without a
+/// canonical path is not compared.
 pub(crate) fn refuse_unless_apart<Y: System>(
     alloc: Global,
     system: &Y,

@@ -127,7 +127,7 @@ fn ending_of(request: &Request<'_>, answered: &Answered) -> Ending
     }
 }
 
-/// Writes the lines about patterns that can match nothing, and the hint about rules above counted directories.
+/// Writes the lines about patterns that can match nothing, and the hint about rules in the directories above a counted directory.
 fn advise<Y: System, E: Sink>(
     alloc: Global,
     system: &Y,
@@ -183,9 +183,9 @@ fn end_of<R: Threads + Wait + Sync + AllocGlobal, Y: System, W: AsStr, S: Source
     ending_of(&request, &answered)
 }
 
-/// Runs the program with these arguments and streams, and returns its exit status. The status is 0 for success, 1 for an answer with
-/// errors, 2 for refused arguments, and 3 if the program stopped with an error, with one line on `err`. The status is 4 if `--fail-if-any`
-/// is used, and a file is counted or the sides of a comparison differ.
+/// Runs the program with the arguments `words`, and returns the exit status. The status is 0 for success, and 1 if the answer was written
+/// but some paths could not be read. The status is 2 for refused arguments, and 3 if the program stopped with an error, with one line on
+/// `err`. The status is 4 if `--fail-if-any` is used, and a file is counted or the sides of a comparison differ.
 ///
 /// The arguments decide what the program does:
 ///
@@ -199,10 +199,11 @@ fn end_of<R: Threads + Wait + Sync + AllocGlobal, Y: System, W: AsStr, S: Source
 /// - `sum REPORT`: reads all reports, then prints the table of their sum ([`summed`](lc_sums::summed));
 /// - `diff OLD NEW`: prints the changes from one directory or report to another ([`ShownChanges`](lc_changes::ShownChanges)).
 ///
-/// If standard input is a terminal and the program reads it, a line on `err` says this first. If standard output is a terminal, checks and
-/// explanations escape paths and patterns that a terminal would not show safely. A table is printed in columns on a terminal if no format
-/// is named. If standard error is a terminal, a hint may follow the table of a count. `err` also gets lines about paths that a count could
-/// not read, the reason why a directory could not be read, and lines about patterns of the arguments that can match nothing.
+/// If the program reads standard input from a terminal, a line on `err` first says what the program reads. If standard output is a
+/// terminal, checks and explanations escape paths and patterns that a terminal would not show safely. A table is printed in columns on a
+/// terminal if no format is named. If standard error is a terminal, a hint may follow the table of a count. `err` also gets lines about
+/// paths that could not be read, the reason why a directory could not be read, and lines about patterns of the arguments that can match
+/// nothing.
 pub fn program<
     R: Threads + Wait + Sync + AllocGlobal,
     Y: System,

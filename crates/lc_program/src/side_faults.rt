@@ -1,4 +1,4 @@
-//! The lines on standard error about what the sides of a comparison could not read.
+//! The lines on standard error about paths that could not be read on either side of a comparison.
 
 ghost use Rattle.std.specs.Prelude.{◌≡◌, ◌++◌, string_bytes, IfOk, OnOk};
 ghost use Rattle.lc_program.specs.ReportLines.{origin_of};
@@ -55,7 +55,7 @@ fn side_lines(alloc: Global, name: &str, faults: &[FaultLine]) -> Result<String,
     Ok(text)
 }
 
-/// Makes the lines about what could not be read of both sides, the old side first.
+/// Makes a line for each path that could not be read, first the paths of the old side, and then the paths of the new side.
 fn lines_of(alloc: Global, old: SideFaults<'_>, new: SideFaults<'_>) -> Result<String, AllocError>
     ensures { IfOk result (λ text. string_bytes text ≡ side_lines (origin_of old.entry.name.now) old.entry.faults.now
         ++ side_lines (origin_of new.entry.name.now) new.entry.faults.now) }
@@ -72,7 +72,7 @@ fn have_no_faults(old: &[FaultLine], new: &[FaultLine]) -> bool
     old.is_empty() && new.is_empty()
 }
 
-/// Writes to standard error what the sides of a comparison could not read, the old side first. No format of the output lists these paths.
+/// Writes to standard error which paths of a comparison's sides could not be read, the old side first. No format of the output lists them.
 pub(crate) fn tell_side_faults<E: Sink>(
     alloc: Global,
     old: SideFaults<'_>,

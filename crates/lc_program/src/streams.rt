@@ -20,7 +20,7 @@ pub struct Streams<I, O, E> {
 /// Which streams of the program are terminals.
 #[derive(Clone, Copy)]
 pub struct Terminals {
-    /// Whether standard input is a terminal. If so, a line on standard error says that the program reads it.
+    /// Whether standard input is a terminal. If the program reads from this terminal, a line on standard error says what is read.
     pub input: bool,
     /// Whether standard output is a terminal. If so, checks and explanations escape paths that a terminal would not show safely, and a
     /// table without a named format is printed in columns.
