@@ -1,4 +1,4 @@
-//! Tests of what no contract states: that runs of the program succeed if there is memory, and what they write.
+//! Tests of facts that no contract states: if there is memory, a run of the program succeeds and writes the expected text.
 
 mod asking;
 mod calls;

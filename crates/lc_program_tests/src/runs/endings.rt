@@ -1,4 +1,4 @@
-//! Runs that answer no request: refused arguments, and the version.
+//! Runs that carry out no request: the program refuses the arguments, or shows the version.
 
 use crate::runs::asking::{Case, EMPTY, NO_TERMINALS, compare_all};
 use crate::runs::mem_system::MemSystem;
