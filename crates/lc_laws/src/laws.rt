@@ -1,10 +1,10 @@
 //! Laws: theorems about the definitions that the contracts cite. Each law is the contract of a function that does nothing.
 //!
-//! In the clauses `answers`, reports and explanations follow from fixed answers of a tree: a listing of each directory, and contents of
-//! files. A report and an explanation may follow from different answers. Each report and each explanation follows from some answers that
-//! its tree may give (`lc_walk::reports_are_by_given_answers`, [`explanations_are_by_given_answers`]). In the clauses `tree`, the tree
-//! always answers a question in the same way, as an in-memory tree does. The clause `tree` of [`no_ignore_file_of_the_tree_skips_an_entry`]
-//! is about any tree.
+//! A clause with the name `answers` is about reports and explanations that follow from fixed answers of a tree: a listing of each
+//! directory, and the contents of files. The report and the explanation may follow from different answers. Each report and each explanation
+//! follows from some answers that its tree may give (`lc_walk::reports_are_by_given_answers`, [`explanations_are_by_given_answers`]). A
+//! clause with the name `tree` requires that the tree always answers a question in the same way, as an in-memory tree does. Only the clause
+//! `tree` of [`no_ignore_file_of_the_tree_skips_an_entry`] is about any tree.
 
 ghost use Rattle.lc_laws.specs.ByAnswers.{SaidByAnswersLaw};
 ghost use Rattle.lc_laws.specs.CountsChecked.{AnswersCheckedLaw, CheckedLaw};
@@ -45,10 +45,11 @@ pub fn slashes_of_directories_say_nothing<T: Tree>(tree: &T)
     let _tree = tree;
 }
 
-/// The law that a count and an explanation agree on a path. The law requires that both use the same filters, and read the same entries and
-/// the same rule files in each directory on the way to the path. The count must be of the whole tree, and list files and skipped entries.
-/// If a file is counted, its explanation says that it is not skipped. If an entry is skipped, its explanation has the reason that is in the
-/// report. Conversely, the explanation of an entry shows whether the report skips the entry or a directory above it.
+/// The law that a count and an explanation agree on a path. The law requires that both have the same filters, such as `--exclude`. It also
+/// requires that both read the same entries and the same rule files in each directory on the way to the path. The count must be of the
+/// whole tree, and must list files and skipped entries. The explanation of a counted file says that the file is not skipped. The
+/// explanation of a skipped entry has the reason that is in the report. The explanation of any entry shows whether the report skips the
+/// entry or a directory above the entry.
 pub fn counts_are_as_explained<T: Tree>(tree: &T)
     ensures answers { AnswersExplainedLaw }
     ensures tree { ExplainedLaw (T.lists tree.now) (T.gives tree.now) }
@@ -57,10 +58,10 @@ pub fn counts_are_as_explained<T: Tree>(tree: &T)
     entries_are_explained_as_decided();
 }
 
-/// The law that a count and a check agree on an entry. The law requires that the count uses only the rules of the tree, lists what it
-/// skips, and has no errors. The `.gitignore` of the top directory must be the only ignore file. A check by this file prints `ignored` or
-/// `below` for the entry exactly if the count skips the entry, or a directory above it, by a rule. The law is not about bad paths, and not
-/// about paths with a name `.git`.
+/// The law that a count and a check by the `.gitignore` of the top directory agree on an entry. The law requires that the tree has no other
+/// ignore file. The count must use only the rules of the tree, list skipped entries, and have no errors. The check prints `ignored` or
+/// `below` for the entry exactly if the count skips the entry, or a directory above it, by a rule. The law is not about paths for which a
+/// check prints `bad`, and not about paths with a name `.git`.
 pub fn counts_are_as_checked<T: Tree>(tree: &T)
     ensures answers { AnswersCheckedLaw }
     ensures tree { CheckedLaw (T.lists tree.now) (T.gives tree.now) }
@@ -80,9 +81,9 @@ pub fn no_ignore_file_of_the_tree_skips_an_entry<T: Tree>(tree: &T)
     the_rule_of_a_line_ignores_it();
 }
 
-/// The law that a walk with `--include` reports exactly the errors of directories, of requested paths that are absent, and of included
-/// files. The errors of a directory include those of its rule files. The walk skips what a walk of all files skips, for the same reasons,
-/// and also the files that are not included.
+/// The law that a walk with `--include` reports exactly these errors: errors of directories and of their rule files, paths of `--only` that
+/// do not exist, and errors of included files. The walk skips each entry that a walk without `--include` skips, for the same reason. It
+/// also skips the files that no pattern of `--include` includes.
 pub fn errors_and_skipped_entries_are_those_of_included_files()
     ensures { IncludedEntriesLaw }
 {

@@ -2,8 +2,8 @@
 //!
 //! - `laws`: a count agrees with an explanation of the same tree, and with a check by the `.gitignore` of the top directory. Other laws are
 //!   about a slash at the end of a directory's path, about `--no-ignore` and about `--include`.
-//! - `printed_laws`: the sheet of a report meets the requirements of the laws about its printed texts. No printed share of a total is over
-//!   100.0 per cent.
+//! - `printed_laws`: the sheet of a report (its lines to print) has what the laws in `lc_formats` about printed texts require. No printed
+//!   share of a total is over 100.0 per cent.
 //! - `reading_laws`: a report is the same after it was printed as JSON and read again
 #![tactic(auto)]
 

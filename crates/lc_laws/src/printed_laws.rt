@@ -1,18 +1,19 @@
-//! Laws of the sheet of a report: the sheet meets the requirements of laws in `lc_formats` about printed texts. Each law is a theorem,
-//! which is the contract of a function that does nothing.
+//! Laws of the sheet of a report (its lines to print). The sheet has what laws in `lc_formats` about printed texts require. Each law is the
+//! contract of a function that does nothing.
 
 ghost use Rattle.lc_laws.specs.PrintedShares.{PrintedSharesLaw};
 ghost use Rattle.lc_laws.specs.SheetReadable.{ReadableSheetLaw, SheetRecordsLaw};
 
 use lc_tree::Tree;
 
-/// The law that the sheet of a report in the format `table` has the words, columns and values that
-/// `lc_formats::lines_of_a_part_are_as_wide` requires. The law requires that the names in rows and in skipped entries consist of bytes.
+/// The law that the sheet of a report (its lines to print) in the format `table` has the words, columns and values that
+/// `lc_formats::lines_of_a_part_are_as_wide` requires. In definitions, a name is a list of numbers. The law requires that the numbers in
+/// the names of rows and of skipped entries are bytes, less than 256.
 pub fn sheets_of_reports_are_readable()
     ensures { ReadableSheetLaw }
 {}
 
-/// The law that the sheet of a report has the columns and values that `lc_formats::csv_reads_back` requires.
+/// The law that the sheet of a report (its lines to print) has the columns and values that `lc_formats::csv_reads_back` requires.
 pub fn sheets_of_reports_have_records()
     ensures { SheetRecordsLaw }
 {}
