@@ -1,4 +1,4 @@
-//! Writing the output line for a path.
+//! Writing the output line of a check or of an explanation for a path.
 
 ghost use Rattle.std.specs.Prelude.{◌≡◌, ◌++◌, OnOk, option_map};
 ghost use Rattle.lc_paths.specs.AnswerLines.{place_text, pattern_text, answer_line};

@@ -2,7 +2,7 @@
 //!
 //! - `joined`: splitting one input into rules and paths
 //! - `text`: the output of a check, a line for each path
-//! - `explained`: the output of a check that also shows the deciding rules
+//! - `explained`: the output of a check that also shows which rule ignores or includes each path
 //! - `checker`: matching one path after another with the rules
 //! - `finding`: what the rules decide about a path
 
@@ -47,13 +47,13 @@ pub fn check<S: Source, O: Sink>(
     Ok(())
 }
 
-/// Reads paths to the end of the input, and writes a line for each, with a word such as `ignored` and the rule that decides. `name` is the
-/// name of the rules' file.
+/// Reads paths to the end of the input, and writes a line for each, with a word such as `ignored` and the rule that the word follows from.
+/// `name` is the name of the rules' file.
 ///
 /// A line of the text has four fields, separated by tabs: the word, as in [`check_text`]; the place of the rule, `NAME:LINE`, with lines
 /// counted from 1; the text of that line, with its `!` and without its trailing spaces; and the path. For `below` the rule is that of the
-/// highest ignored directory above the path. If no rule decides, the second field and the third are dashes. Name, text and path are printed
-/// in the style of `format`.
+/// highest ignored directory above the path. For `none` and `bad` there is no rule, and the second and third fields are dashes. Name, text
+/// and path are printed in the style of `format`.
 ///
 /// The text is written in blocks while it is made ([`Block`](lc_text::Block)). After an error of the input, nothing was written. After any
 /// other error, a prefix of the text was written.

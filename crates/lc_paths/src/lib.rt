@@ -1,4 +1,4 @@
-//! Checks and explanations of paths: which rule of one file, or of a whole tree, decides each path.
+//! Checks and explanations of paths: which rule of one file, or of a whole tree, ignores or includes each path.
 //!
 //! - `checking`: checks of paths by the rules of one file, a line for each path
 //! - `explaining`: explanations of the paths of a tree, a line for each path

@@ -1,5 +1,5 @@
-//! Tests of checks of given paths by given rules, and of checks whose readers or writers misbehave. Calls succeed if no allocation fails,
-//! which no contract states.
+//! Tests of checks of given paths by given rules, and of checks whose readers or writers misbehave. The tests require that a call succeeds
+//! if no allocation fails. No contract states this.
 
 mod blocks;
 mod explained;

@@ -1,5 +1,5 @@
-//! Tests of explanations of given paths in given trees, and of explanations for which a tree, an input or a writer fails. Calls succeed if
-//! no allocation fails, which no contract states.
+//! Tests of explanations of given paths in given trees, and of explanations for which a tree, an input or a writer fails. The tests require
+//! that a call succeeds if no allocation fails. No contract states this.
 
 mod asking;
 mod blocks;

@@ -1,4 +1,5 @@
-//! Lines of about 1 KiB. The output for many paths with such lines is longer than the blocks in which output is written.
+//! Output lines of about 1 KiB, because each shows a long pattern. An output of `LINES` lines is longer than three blocks, the pieces in
+//! which output is written.
 
 use std::alloc::{AllocError, Global};
 

@@ -101,7 +101,7 @@ pub(crate) struct Checker<'a> {
     rules: &'a IgnoreFile,
     directory: &'a [u8],
     excluded_by: Option<&'a Rule>,
-    /// `FEW_NAMES` or `SOME_NAMES`: if a path has at most this many names, the directories above the path are matched one by one.
+    /// `FEW_NAMES` if a pattern has nested wildcards, or else `SOME_NAMES`.
     few_names: usize,
     // no directory above this one is ignored, and the rule is the one that ignores this one
     ghost clear: { (k : ℕ) → k < length directory.now → is_ignored_parent (file_verdict rules.now) directory.now k ≡ false },

@@ -1,4 +1,4 @@
-//! The output of a check that shows the rule that decides each path. The output is written in blocks while it is made.
+//! The output of a check that shows which rule ignores or includes each path. The output is written in blocks while it is made.
 
 ghost use Rattle.std.specs.Prelude.{◌≡◌, ◌++◌, IfSome, OnOk, IfOk, map, option_map, flat_map};
 ghost use Rattle.lc_rules.specs.IgnoreLaws.{IsOnLine};

@@ -1,4 +1,4 @@
-//! The directories above a path that were opened, from the top down.
+//! The directories above a path that were opened, from the top directory of the tree down.
 
 ghost use Rattle.std.specs.Prelude.{◌≡◌, ◌∷◌, [], ◌++◌, ◌-◌, ◌≤◌, length, map, slice_get, IfOk, IfSome};
 ghost use Rattle.std.specs.Arc.{arc_value};
@@ -39,7 +39,7 @@ fn shared(
     Ok(same)
 }
 
-/// The opened directories from the top down to one directory. Stacks share the directories that both have.
+/// The opened directories from the top directory of the tree down to one directory. Stacks share the directories that both have.
 #[derive(Drop)]
 pub(crate) struct DirStack {
     directories: Vec<Arc<OpenDir, Global>>,

@@ -11,8 +11,8 @@ use lc_text::PathStyle;
 /// ```
 #[derive(Drop)]
 pub struct ExplainOptions<'o> {
-    /// What decides, besides the tree's own rules, which entries a walk skips. The paths of `--only` have no effect here: a path outside of
-    /// them is explained like any other.
+    /// The options, such as `--exclude`, that besides the tree's own rules determine which entries a walk skips. The paths of `--only` have
+    /// no effect here: a path outside of the paths of `--only` is explained like a path inside.
     pub filters: &'o Filters<'o>,
     /// How paths and patterns are printed.
     pub style: PathStyle,

@@ -70,7 +70,8 @@ fn place_before<'p>(path: &'p [u8], others: &[u8]) -> &'p [u8]
 enum Step<'p> {
     /// The path is explained.
     Found(Finding<'p>),
-    /// The next step is in a child directory: the job to visit this directory, its path, and the rest of the explained path below it.
+    /// The next step is in a child directory. The fields are the job (what is needed to visit this directory), the directory's path, and
+    /// the rest of the explained path after the directory's path.
     Into(Job, &'p [u8], &'p [u8]),
 }
 

@@ -54,11 +54,11 @@ pub(crate) enum Finding<'a> {
     Bad,
     /// A directory above the path could not be opened.
     Fault(DirectoryFault<'a>),
-    /// A rule decides the path, or a directory above it: what the rule decides, and its place.
+    /// A rule ignores or includes the path, or ignores a directory above the path. The fields are what the rule decides, and its place.
     Ruled(Decision, RulePlace),
     /// No rule matches the path, and a walk does not skip it.
     NoRule,
-    /// A walk skips the path, or a directory above it, for this reason, which is no rule.
+    /// A walk skips the path, or a directory above it, for this reason. The reason is not a rule.
     Skipped(Reason),
 }
 

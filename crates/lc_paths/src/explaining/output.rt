@@ -41,7 +41,8 @@ fn line_text(bytes: &[u8], number: u32) -> &[u8]
     &[]
 }
 
-/// Appends the output line for a path that a rule decides. `pattern` is the text of the rule's line, and `line` is the path as it was read.
+/// Appends the output line for a path whose word follows from a rule. `pattern` is the text of the rule's line, and `line` is the path as
+/// it was read.
 fn push_ruled(
     text: &mut Vec<u8>,
     style: PathStyle,

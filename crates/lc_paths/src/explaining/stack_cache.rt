@@ -18,7 +18,7 @@ use std::marker::Model;
 /// The memory that opened directories may use before some of them are dropped: about 96 MiB.
 ///
 /// The directories above the path that is being explained are kept however large they are. If all other opened directories together use
-/// more than this, opening one more directory drops all directories that are not above this path.
+/// more than `MAX_KEPT` bytes, opening one more directory drops all directories that are not above the path that is being explained.
 pub const MAX_KEPT: usize = 96 * 1024 * 1024;
 
 /// A cached stack whose last directory is above a path, and the rest of the path below that directory.
@@ -28,8 +28,8 @@ pub(crate) struct Near<'p> {
     pub(crate) rest: &'p [u8],
 }
 
-/// The stacks of the directories that were opened. A stack has the directories from the top down to one of them; its number is its index
-/// here.
+/// The stacks of the directories that were opened. A stack has the directories from the top directory of the tree down to an opened
+/// directory. The number of a stack is its index in `stacks`.
 #[derive(Drop)]
 pub(crate) struct StackCache {
     alloc: Global,

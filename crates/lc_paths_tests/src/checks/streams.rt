@@ -1,5 +1,5 @@
-//! Tests with readers and writers that give or take few bytes, fail or never end. What is written is a prefix of the text, and all of it
-//! only on success.
+//! Tests with readers and writers that give or take few bytes, fail or never end. A check writes a prefix of the expected text, and the
+//! whole text only if it succeeds.
 
 use crate::checks::BY_LINES;
 use lc_census::Source;

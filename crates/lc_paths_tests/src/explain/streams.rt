@@ -1,5 +1,5 @@
-//! Tests with inputs that fail or are too long, and writers that stop. What is written is a prefix of the text, and all of it only on
-//! success.
+//! Tests with inputs that fail or are too long, and writers that stop. An explanation writes a prefix of the expected text, and the whole
+//! text only if it succeeds.
 
 use crate::explain::asking::{explained_words, plainly};
 use lc_tests::Sketch;
