@@ -48,9 +48,9 @@ use std::alloc::Global;
 /// - `below`: a rule ignores a directory above the path; the line names the rule of the highest such directory;
 /// - `ignored`: the last rule that matches the path ignores it;
 /// - `left`: a walk skips the path, or a directory above it, for a reason other than a rule. The second field is this reason: `git` for the
-///   name `.git`, whatever the rules are; `attribute:NAME` if the attribute NAME has the state for which entries are skipped; `include` for
-///   a file that no pattern of `--include` includes; `other` for what is neither a file nor a directory; `filesystem` for a directory on
-///   another file system;
+///   name `.git`, whatever the rules are; `attribute:ATTR` or `attribute:ATTR=VALUE` if the attribute ATTR is set, or has this value;
+///   `include` for a file that no pattern of `--include` includes; `other` for what is neither a file nor a directory; `filesystem` for a
+///   directory on another file system;
 /// - `included`, `none`: the last rule that matches the path includes it again, or no rule matches.
 ///
 /// The source of a rule is its file and the number of its line, such as `src/.gitignore:3`, or `--exclude:N` for the Nth pattern of the
