@@ -17,7 +17,8 @@ use std::marker::Model;
 /// A file with a box of its own.
 #[derive(Drop)]
 pub(crate) struct FileBox<'a> {
-    /// The path of the directory whose box holds the box of the file: the file's directory, cut if it is too deep for a box.
+    /// The path of the directory whose box holds the box of the file: the path of the file's directory, cut after the `depth` names that
+    /// `large_files` allows.
     parent: &'a [u8],
     drawn: DrawnBox<'a>,
 }

@@ -1,4 +1,4 @@
-//! The boxes in the order of the page: depth first, and boxes directly in the same box from the largest to the smallest.
+//! The boxes in the order of the page, which is depth first. Of the boxes directly inside one box, the largest comes first.
 
 ghost use Rattle.std.specs.Prelude.{◌≡◌, [], ◌∷◌, ◌++◌, IfOk, OnOk, map};
 ghost use Rattle.std.specs.Cmp.Lexicographic.{slice_cmp};
@@ -98,8 +98,8 @@ fn boxes_of<'a>(alloc: Global, placed: &[PlacedBox<'a>]) -> Result<Vec<DrawnBox<
     Ok(boxes)
 }
 
-/// Returns boxes in the order of the page: depth first, and boxes directly in the same box from the largest to the smallest. The boxes must
-/// come depth first.
+/// Returns boxes in the order of the page, which is depth first. Of the boxes directly inside one box, the largest comes first. The boxes
+/// in `boxes` must come depth first.
 pub(crate) fn largest_first<'a>(
     alloc: Global,
     by: Number,

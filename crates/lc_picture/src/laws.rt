@@ -13,10 +13,11 @@ pub fn names_are_never_markup()
 {}
 
 /// The law that a page shows the following names and numbers, and no others. At the top are what was counted, the sums over all files, the
-/// number of errors, and the first errors. Then come the rows of the chart, the sums over the other rows, and each drawn directory and file
-/// once, with its sums and its share. The box of a directory also has the numbers of the directories and files in it without boxes of their
-/// own. On the page of a report, each row of the chart is an extension. A directory is drawn exactly if its number, such as lines, is large
-/// enough.
+/// number of errors, and the first errors. Next come the rows of the chart, and the sums over the other rows. Last comes each drawn
+/// directory and file once, with its sums and its share. The box of a directory also shows the number of its small child directories, which
+/// have no boxes of their own. It shows the sum of a number, such as lines, over these directories, and over the files that are directly in
+/// the directory and have no boxes of their own. On the page of a report, each row of the chart is an extension. A directory is drawn
+/// exactly if its number, such as lines, is large enough.
 pub fn a_page_shows_each_directory_once()
     ensures shown { ShownLaw }
     ensures report { ReportLaw }

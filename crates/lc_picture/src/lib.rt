@@ -7,7 +7,7 @@
 //! - `boxes`, `drawn_box`: the boxes of directories and files, each inside the box of the directory above it
 //! - `directory_box`, `file_box`: which directories and which files have boxes
 //! - `small_directories`: the directories that are too small for boxes of their own
-//! - `space`: what the box of a directory shows for the directories and files in it without boxes of their own
+//! - `space`: what the box of a directory shows for the child directories and the files that have no boxes of their own
 //! - `largest_first`, `places`: the order of boxes
 //! - `colours`: the colours of extensions and of directories
 //! - `scale`: which number a picture draws, such as lines, and the sum of that number over all files

@@ -1,5 +1,5 @@
-//! The places of directories and files in the picture. Directories and files that are directly in the same directory come in the order of
-//! their numbers, the largest first.
+//! The places of directories and files in the picture. Of the directories and files that are directly in one directory, the one with the
+//! largest number, such as lines, comes first.
 
 ghost use Rattle.std.specs.Prelude.{◌≡◌};
 ghost use Rattle.std.specs.Cmp.Lexicographic.{slice_cmp};

@@ -172,16 +172,16 @@ fn page_by(
     Ok(text)
 }
 
-/// Makes the page of a report: one file of HTML with no script, no font and no address.
+/// Makes the page of a report: one file of HTML with no script, no font and no URL.
 ///
 /// The page has what was counted (`counted`, as terminals show it), the sums over all files, a bar for each of the largest extensions, and
-/// boxes for directories and files. Bars and boxes show the number `sort`, or lines if `sort` is `None`, and the browser divides the space
-/// by these numbers. If the report has errors, the page says how many, and lists the first hundred.
+/// boxes for directories and files. Bars and boxes show the number that `sort` names, or lines if `sort` is `None`. The browser divides the
+/// space in proportion to these numbers. If the report has errors, the page says how many, and lists the first hundred.
 ///
-/// A directory or a file has a box of its own if its number is at least a thousandth of the total. Each box is inside the box of the
-/// directory above it. Boxes directly in the same box come from the largest to the smallest. In each directory, one box shows all its child
-/// directories without boxes of their own, and another box shows all its files without boxes of their own. A reader can fold a box to leave
-/// its space to other boxes.
+/// A directory or a file has a box of its own if its number, such as lines, is at least a thousandth of the total. Each box is inside the
+/// box of the directory above it. Of the boxes directly inside one box, the largest comes first. In each directory, one box shows the child
+/// directories that have no boxes of their own, and another box shows the files that have none. A reader can fold a box to leave its space
+/// to other boxes.
 ///
 /// The report must list its files. An error means that an allocation failed or that sums overflow. The sums of a walk never overflow.
 pub fn page(

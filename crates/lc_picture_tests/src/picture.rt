@@ -1,4 +1,5 @@
-//! Tests of pages: given reports have the expected page. Calls succeed if no allocation fails, which no contract states.
+//! Tests of pages: given reports have the expected page. The tests require that a call succeeds if no allocation fails. No contract states
+//! this.
 
 mod faults;
 mod pages;
