@@ -7,7 +7,7 @@
 //! - `lists`: the lists of a report, which are read line by line
 //! - `rows`, `file_lines`: reading the rows and the listed files of a report
 //! - `skipped_lines`, `fault_lines`: reading the skipped entries and the errors of a report
-//! - `lines`: reading the values that lines of several lists have, such as paths
+//! - `lines`: reading values, such as paths, that occur in the lines of several lists
 //! - `rule_places`: finding the file that a rule was read from, by its path
 //! - `sums`, `numbers_of`: reading sums, and all members of a report that are not lists
 //! - `building`: making a report from the members of its JSON object

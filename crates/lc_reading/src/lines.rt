@@ -1,4 +1,4 @@
-//! Reading the values that lines of several lists have, such as paths.
+//! Reading values, such as paths, that occur in the lines of several lists.
 
 ghost use Rattle.std.specs.Prelude.{◌≡◌, ◌==◌, ◌-◌, true, length, slice_get, IfOk, OnErr};
 ghost use Rattle.std.specs.List.{list_any};

@@ -6,8 +6,8 @@ use lc_walk::{Report, Sums};
 /// A report that was read, with the columns of its rows, and with its sums over text and over binary files.
 #[derive(Debug, Drop)]
 pub struct ReadReport {
-    /// The report. If it has no files, its rows have a fixed value in each column that they lack: no extension, the state `Unspecified`, or
-    /// no line ends.
+    /// The report. If it lists no files and its rows are not grouped by a column, each row has a placeholder in this column: no extension,
+    /// the state `Unspecified`, or no line ends.
     pub report: Report,
     /// The columns that the rows are grouped by.
     pub columns: RowColumns,

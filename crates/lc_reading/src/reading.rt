@@ -85,12 +85,13 @@ fn cut(text: &[u8], start: usize) -> Result<(&str, &[u8]), ReadFault>
     }
 }
 
-/// Reads the reports in a text, which are JSON objects. They may have white space between them, or nothing.
+/// Reads the reports in a text. Each report is a JSON object, and there may be white space between the objects.
 ///
-/// Each object is read before the next one, so the error is about the first object that is refused. An object must first be a report, then
-/// have all its rows and files ([`ReadFault::CutByTop`]), and then have sums that agree.
+/// The objects are read one after another, and the error is about the first object that is refused. For each object, the function first
+/// looks for the error [`ReadFault::NoReport`], then for [`ReadFault::CutByTop`], and last for [`ReadFault::DoNotAddUp`].
 ///
-/// The function allocates memory for the reports, for as many bytes as the longest object has, and for one line of a list at a time.
+/// Besides the reports, the function allocates memory for as many bytes as the longest object has, and for one line of a list, such as a
+/// row or a file.
 ///
 /// ```
 /// let reports = read_reports(alloc, &text)?;

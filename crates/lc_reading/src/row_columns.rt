@@ -2,7 +2,7 @@
 
 ghost use Rattle.std.specs.Prelude.{◌≡◌, true};
 
-/// The columns that the rows of a report are grouped by. The rows are summed over the other columns.
+/// The columns that the rows of a report are grouped by. Each row has the sums over all files with the same values in these columns.
 #[derive(Clone, Copy, Debug, Drop, PartialEq, Eq)]
 pub struct RowColumns {
     /// Whether rows are grouped by extension.

@@ -16,7 +16,7 @@ pub(crate) enum TopMember {
     Faults,
     /// The member is not a list.
     Value(MemberName),
-    /// No report has a member with the name, so the member is skipped.
+    /// No report has a member with this name, so the member is skipped.
     Other,
 }
 
