@@ -63,7 +63,7 @@ fn test_keys(conditions: &[Condition<'_>]) -> bool
     conditions.iter().any(|condition| is_on_key(condition))
 }
 
-/// Returns the columns of rows that are needed to test these conditions.
+/// Returns the columns of rows that are needed to test the given conditions.
 ///
 /// A condition on a column of rows also needs the column `Eol`, because text and binary files that meet the condition are summed anew.
 fn tested_columns(conditions: &[Condition<'_>]) -> RowColumns
@@ -104,10 +104,11 @@ fn by_directory(by: Option<Columns>) -> bool
 }
 
 impl Needs {
-    /// Returns what is needed to sum reports by the columns `by` and to test these conditions. If `files` is true, the sum also lists
-    /// files. If `left_out` is true, it also lists skipped entries.
+    /// Returns what is needed to sum reports by the columns `by` and to test the given conditions. If `files` is true, the sum must list
+    /// files. If `left_out` is true, the sum must list skipped entries.
     ///
-    /// Rows by directory and conditions on a number also need files. If `by` is `None`, the reports need some column in common.
+    /// Rows by directory need listed files, and so do conditions on a number such as lines. If `by` is `None`, the reports need some column
+    /// in common.
     pub fn of(
         by: Option<Columns>,
         conditions: &[Condition<'_>],

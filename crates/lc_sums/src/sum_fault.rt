@@ -12,8 +12,8 @@ use std::alloc::AllocError;
 pub enum SumFault<'n> {
     /// An allocation failed. Memory is allocated only after each report was found to have the needed columns and lists.
     Memory,
-    /// A report lists no files, and its rows lack a needed column. The `Column` is the first needed one that the rows lack, in the order
-    /// `Ext`, `Text`, `Eol`.
+    /// A report lists no files, and its rows lack a needed column. The `Column` is the first column, in the order `Ext`, `Text`, `Eol`,
+    /// that is needed and that the rows lack.
     NoColumn(&'n str, Column),
     /// No column is in every report. This is an error only if no columns were requested.
     NoSharedColumn,
@@ -21,7 +21,7 @@ pub enum SumFault<'n> {
     NoFiles(&'n str),
     /// A report lists no skipped entries.
     NoSkipped(&'n str),
-    /// Two listed files have this path. It is the first such path in the order of bytes.
+    /// Two listed files have this path. If several paths are listed twice, this path is the first of them in the order of bytes.
     SamePath(Vec<u8>),
     /// A sum does not fit its type. There are at least 2^64 files, directories or entries, or 2^128 lines, blank lines or bytes.
     TooLarge,

@@ -83,14 +83,16 @@ fn sum_of<'n>(alloc: Global, needs: Needs, parts: Vec<Part<'n>>) -> Result<Sum, 
 
 /// Sums reports, or finds out why they can't be summed.
 ///
-/// The sum has the report that [`joined`] makes of the reports, with only the lists that are needed. Its `columns` are the columns that all
+/// The sum has the report that [`joined`] makes of all reports, with only the lists that are needed. Its `columns` are the columns that all
 /// reports have. Its `text` is the sum of the reports' `text`, and its `binary` the sum of the reports' `binary`.
 ///
-/// The function looks for errors other than `Memory` in the order of the variants of [`SumFault`]. All reports are tested for one error
-/// before any is tested for the next. So a report without a needed column is refused before a report without files. Two listed files with
-/// the same path are refused whether or not files are needed: they may be one file, which would be counted twice.
+/// The function looks for errors other than `Memory` in the order of the variants of [`SumFault`]. It tests all reports for one error
+/// before it tests any report for the next error in this order. For example, it refuses a report without a needed column before a report
+/// without files. Two listed files with the same path are refused whether or not files are needed: they may be one file, which would be
+/// counted twice.
 ///
-/// The function allocates memory for references to the paths and for the lists of the sum, but not for paths.
+/// The function allocates memory for references to the listed paths and for the lists of the sum. It copies no path, except the path of
+/// [`SumFault::SamePath`].
 ///
 /// ```
 /// let sum = summed(alloc, parts, Needs::of(None, &[], false, false))?;
