@@ -21,19 +21,20 @@ pub enum Claim<J> {
 pub enum PostFault<J> {
     /// The board has no unused number left for another directory.
     Full(J),
-    /// An allocation failed. The board did not change, nor did the pass, which gives the worker access to the board.
+    /// An allocation failed. The board and the worker's pass did not change. A pass gives a worker access to the board.
     Memory(J),
 }
 
-/// Why a board was not closed. If several variants apply, the first of them is returned.
+/// Why a board was not closed. If several variants apply, the variant that is declared first is returned.
 #[derive(Clone, Copy, PartialEq, Eq, Debug, Drop)]
 pub enum CloseFault {
-    /// Some directory still waits for a worker, or a worker has claimed it but not finished it. The field is the least number of such a
-    /// directory.
+    /// Some directory is not finished: it still waits for a worker, or a worker has claimed it. The field is the least number of an
+    /// unfinished directory.
     Unfinished(u32),
-    /// The board and a worker's pass have recorded different events of this worker. The field is the worker's index.
+    /// The board and a worker's pass (the worker's access to the board) have each recorded the worker's events, and the two records differ.
+    /// The field is the worker's index.
     Mismatch(u32),
-    /// An allocation for the rows failed.
+    /// An allocation for the list of the directories' rows failed.
     Memory,
 }
 

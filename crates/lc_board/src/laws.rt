@@ -8,8 +8,8 @@ ghost use Rattle.std.specs.Prelude.{◌≡◌};
 
 use crate::limits::{MAX_CAPACITY, MAX_WORKERS};
 
-/// The law that a board hands out no directory's number twice. In a legal history, a directory's number is added to the board, claimed and
-/// finished at most once each.
+/// The law that a board hands out no directory's number twice. In a legal history, the number of a directory is added to the board at most
+/// once, claimed at most once, and finished at most once.
 #[tactic(auto, using(crate::proofs::NumbersOnce::numbers_once))]
 pub fn numbers_once<J, R>()
     ensures { NumbersOnce J R }
@@ -69,8 +69,8 @@ pub fn few_numbers<J, R>()
     ensures ends { FewEnds J R }
 {}
 
-/// The law that a closed board has exactly the rows that its workers added, if each row is at the index of its directory's number. If each
-/// worker sums over its own rows, the total of these sums is the sum over all rows of the board.
+/// The law that a closed board has exactly the rows that its workers added, if each row is at the index of its directory's number. If a
+/// function gives a value to each row, the sum of the values over all rows is the total of the workers' sums over their own rows.
 #[tactic(auto, using(crate::proofs::RowsOfWorkers::rows_are_ends, crate::proofs::RowsOfWorkers::sums_of_rows))]
 pub fn rows_are_ends<J, R>()
     ensures rows { RowsAreEnds J R }

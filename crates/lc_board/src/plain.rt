@@ -1,4 +1,4 @@
-//! A single-threaded board of directories. The calls `claim`, `post`, `give` and `fault` name the worker for which they act.
+//! A single-threaded board of directories. The calls `claim`, `post`, `give` and `fault` take the index of the worker for which they act.
 ghost use Rattle.std.specs.Prelude.{◌≡◌, ◌≢◌, ℕ, ◌<◌, ◌≤◌, ◌^◌, [], None, map, slice_set, true, false, IfOk, IfErr, IfSome, IfNone};
 ghost use Rattle.std.specs.Prelude.{MatchBool};
 ghost use Rattle.lc_board.specs.{Ending.{MayEnd, end_event}, LegalHistory.IsOver, RowsInPlace.InPlace};
@@ -17,8 +17,9 @@ mod scans;
 use cell::Cell;
 use scans::{all_ended, first_left, is_any_held};
 
-/// A single-threaded board, which has a number for each directory. In contracts its value is the capacity, the number that each worker has
-/// claimed, and each number's cell. A cell stores what happened to the directory with its number.
+/// A single-threaded board, which has a number for each directory. In contracts the board's value is its capacity, the number of the
+/// directory that each worker has claimed, and a list of cells. The cell at an index stores the state of the directory whose number is this
+/// index.
 #[derive(Drop)]
 pub struct Plain<J, R> {
     capacity: u32,

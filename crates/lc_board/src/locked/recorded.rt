@@ -51,8 +51,8 @@ impl<J: Drop, R: Drop> Recorded<J, R> {
         })
     }
 
-    /// Claims a directory for a worker. First reserves memory in the history: for the event of this claim, and for each worker for the
-    /// event that finishes the worker's claimed directory.
+    /// Claims a directory for a worker. First reserves memory in the history for the event of this claim. Also reserves memory for one more
+    /// event for each worker: the event that finishes the worker's claimed directory.
     pub fn claim(&mut self, worker: u32) -> Claim<J>
         ensures { RecordsClaim worker self.old result self.new }
     {
@@ -85,7 +85,8 @@ impl<J: Drop, R: Drop> Recorded<J, R> {
     }
 
     /// Adds a child directory with this job to the board, under the worker's claim of the directory with the number `parent`. Reserves
-    /// memory in the history as `claim` does. If the board is full, the error is `PostFault::Full`, even if memory has also run out.
+    /// memory in the history for the event of this post and, as `claim` does, for the event that finishes each worker's claimed directory.
+    /// If the board is full, the error is `PostFault::Full`, even if memory has also run out.
     pub fn post(&mut self, worker: u32, parent: u32, job: J) -> Result<u32, PostFault<J>>
         ensures { RecordsPost worker parent self.old job result self.new }
     {

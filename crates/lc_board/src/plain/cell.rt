@@ -6,7 +6,8 @@ ghost use Rattle.lc_board.specs.{declared.plain.cell.Cell.TheVariants.{Waiting, 
 use crate::answers::Ended;
 use std::mem;
 
-/// What a single-threaded board stores for one directory: its state, with the directory's job or its row.
+/// What a single-threaded board stores for one directory: the directory's state. The state of a waiting directory has the directory's job,
+/// and the state of a finished directory has its row.
 #[derive(Drop)]
 pub enum Cell<J, R> {
     /// The directory waits for a worker. The field is the directory's job.

@@ -1,12 +1,12 @@
-//! How a worker claims a directory on a board of atomic words, where an atomic word stores the state of each directory. A claim first tries
-//! one of the directories that its worker added last, by one atomic exchange. If this fails, the claim reads the words once, in the order
-//! of the directories' numbers.
+//! How a worker claims a directory on a board of atomic words, where an atomic word stores the state of each directory. A claim first
+//! tries, by one atomic exchange, to claim a directory from a list: the directories that the worker has most recently added to the board.
+//! If no directory is claimed in this way, the claim reads the words once, in the order of the directories' numbers.
 //!
-//! The claim begins to read at the low mark of the worker's pass: all directories with a number below this mark are finished. It continues
-//! over further finished directories. A directory is busy if a worker has claimed it or is about to add it to the board. If the claim meets
-//! a busy directory, it jumps to another mark of the pass: each directory with a number below that mark is finished or claimed. From there
-//! the claim reads up to the first directory that waits for a worker, or the first unused number. So a claim takes at most two steps on
-//! each word: a read and an exchange. It takes one more step on the word that it tried first.
+//! The worker's pass, which gives it access to the board, has two marks. All directories with a number below the low mark are finished, and
+//! each directory with a number below the mark `taken` is finished or claimed. The claim begins to read at the low mark, and stops at the
+//! first directory that waits for a worker, or at the first unused number. A directory is busy if a worker has claimed it or is about to
+//! add it to the board. At the first busy directory the claim jumps to the mark `taken`, if this mark is higher. So a claim takes at most
+//! two steps on each word, a read and an exchange, and one more step on the word of the directory from the list.
 ghost use Rattle.std.specs.Prelude.{◌≡◌, ◌+◌, ◌<◌, None, IfSome, IfNone, cond};
 ghost use Rattle.lc_board.specs.{Limits.capacity_limit, WordSteps.{Extends, is_last_word, larger}};
 ghost use Rattle.lc_board.specs.WordsBoard.{AnswersWordsClaim, IsPassOf, IsSamePass, TriesClaim, known};
@@ -55,8 +55,8 @@ impl<J, R> Words<J, R> {
         self.try_claim(pass, number)
     }
 
-    /// Tries to claim the directory with the highest number in `newest`, the pass's list of the directories that its worker added last. If
-    /// the attempt fails, the list is emptied, since other workers have probably begun to claim its directories.
+    /// Tries to claim the directory with the highest number in `newest`, the pass's list of the directories that the worker has most
+    /// recently added. If the attempt fails, the list is emptied, since other workers have probably begun to claim its directories.
     fn claim_newest(&self, pass: &mut WordsPass<J, R>) -> Option<Claim<J>>
         requires board { IsPassOf self.now pass.old }
         requires free { pass.old.holding ≡ None }

@@ -1,5 +1,5 @@
-//! Functions that close a board of atomic words. They merge the passes of all workers into one pass, and take each directory's row out of
-//! its memory slot.
+//! Functions that close a board of atomic words. They merge the passes of all workers, which give access to the board, into one pass. Then
+//! they take each directory's row out of its memory slot.
 ghost use Rattle.std.specs.Prelude.{◌≡◌, ℕ, ◌<◌, ◌≤◌, true, false, slice_index_or, slice_get, [], Some, IfOk, map, vec_len};
 ghost use Rattle.std.specs.Mem.Slots.{slots_items, slots_filled, slots_len, IsFull, Ownership.Filled};
 ghost use Rattle.lc_board.specs.{WordSteps.{IsSameTold, merged}, WordsBoard.{IsPassOf, IsSamePass, known, told}};

@@ -5,10 +5,11 @@ ghost use Rattle.lc_board.specs.declared.words.coding.Word.TheVariants.{Drawn, C
 
 use crate::answers::Ended;
 
-/// The state of a directory on a board. An atomic word stores the state as a code, so a worker's index is a `u64` here.
+/// The state of a directory's number on a board. An atomic word stores the state as a code of type `u64`, so a worker's index in a state
+/// also has this type.
 #[derive(Clone, Copy, Drop)]
 pub enum Word {
-    /// No directory has this number yet.
+    /// No directory has the number yet.
     Absent,
     /// The directory with this number waits for a worker. Its job is in the number's memory slot.
     Open,
@@ -63,7 +64,7 @@ pub fn ended_by<R>(ended: &Ended<R>) -> u64
 }
 
 impl Word {
-    /// Returns the state of a directory for which this code stands.
+    /// Returns the state that has this code.
     pub fn of(code: u64) -> Word
         ensures { result ≡ word_of code }
     {
@@ -110,7 +111,7 @@ impl Word {
         }
     }
 
-    /// Returns whether a worker has claimed the directory with this number, or is about to add it to the board.
+    /// Returns whether the directory with the number is claimed and not finished, or is about to be added to the board.
     pub fn is_busy(self) -> bool
         ensures { result ≡ is_busy self }
     {
@@ -120,7 +121,7 @@ impl Word {
         }
     }
 
-    /// Returns whether a worker has claimed the directory with this number, finished or not.
+    /// Returns whether the directory with the number is claimed or finished.
     pub fn is_taken(self) -> bool
         ensures { result ≡ is_taken self }
     {

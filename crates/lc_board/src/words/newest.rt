@@ -1,9 +1,9 @@
-//! A list of the directories that a worker added to a board of atomic words last. The worker's next claims try these directories first. The
-//! list is only a hint: the atomic word of each directory shows whether the directory still waits for a worker.
+//! A list of the directories that a worker has most recently added to a board of atomic words. The worker's next claims try these
+//! directories first. The list is only a hint: the atomic word of each directory shows whether the directory still waits for a worker.
 ghost use Rattle.std.specs.Prelude.{◌<◌};
 ghost use Rattle.lc_board.specs.Limits.{capacity_limit};
 
-/// A list of the directories that a worker added to the board last: the numbers from `start` up to `end`, without `end`.
+/// A list of the directories that a worker has most recently added to the board: the numbers from `start` up to `end`, without `end`.
 #[derive(Clone, Copy, Drop)]
 pub struct Newest {
     start: u32,
@@ -36,7 +36,8 @@ impl Newest {
         Some(self.end)
     }
 
-    /// Removes all numbers from the list, since other workers have probably begun to claim these directories.
+    /// Removes all numbers from the list. A worker does this after it failed to claim a directory of the list, since other workers have
+    /// probably begun to claim the list's directories.
     pub fn clear(&mut self) {
         self.end = self.start;
     }

@@ -22,7 +22,7 @@ pub struct WordsPass<J, R> {
     pub(crate) low: u32,
     /// The mark of the taken numbers: each directory with a number below the mark is finished or claimed.
     pub(crate) taken: u32,
-    /// The directories that the worker added to the board last. The worker's next claims try them first.
+    /// The directories that the worker has most recently added to the board. The worker's next claims try these directories first.
     pub(crate) newest: Newest,
     pub(crate) full: bool,
     ghost ties: { IsTied seat.table_id.slots worker holding posted front low seat.me } by { Prim.hlevel props },

@@ -1,5 +1,5 @@
-//! How a worker adds a child directory to a board of atomic words. The worker tries one number after another, until a number is unused. It
-//! begins at the front of its pass: all numbers below the front are used.
+//! How a worker adds a child directory to a board of atomic words. The worker tries one number after another, until it finds an unused
+//! number. The worker begins at the front, a mark in the pass that gives it access to the board: all numbers below the front are used.
 ghost use Rattle.std.specs.Prelude.{◌≡◌, ◌+◌, ◌<◌, MatchBool, IsSome};
 ghost use Rattle.lc_board.specs.{WordSteps.ExtendsFairly, WordsBoard.{AnswersWordsPost, IsPassOf, IsSamePass, TriesPost, known}};
 

@@ -1,5 +1,5 @@
 //! The atomic words of a board store the states of its directories. This module has the invariant of the words, and the steps in which
-//! workers read and change a word. The definition of each step states what the worker's pass knows after the step.
+//! workers read and change a word. The definition of each step states what the worker knows of the board after the step.
 ghost use Rattle.std.specs.Prelude.{Some};
 ghost use Rattle.lc_board.specs.WordRow.{IsRow};
 ghost use Rattle.lc_board.specs.WordSteps.{looked, stepped_over, drew, opened, claimed, ended, put_down};
@@ -31,8 +31,8 @@ impl<J, R> Play<Slot<J, R>, View<J, R>> for Look {
     ghost then = { looked };
 }
 
-/// The step in which a worker that searches for an unused number reads the word of the number at its pass's front. If that number is used,
-/// the front moves past it.
+/// A step of a worker's search for an unused number. The worker reads the word of the number at its front, below which all numbers are
+/// used. If the number at the front is also used, the front moves past this number.
 pub struct StepOver;
 
 impl<J, R> Play<Slot<J, R>, View<J, R>> for StepOver {
@@ -63,15 +63,16 @@ impl<J, R> Play<Slot<J, R>, View<J, R>> for End {
     ghost then = { λ s m r n. ended s m r n };
 }
 
-/// The step in which a pass that has claimed a directory returns the directory's memory slot to the board, before the board is closed. The
-/// claim stays.
+/// The step that returns a claimed directory's memory slot from the worker's pass to the board, before the board is closed. The directory
+/// stays claimed.
 pub struct PutDown;
 
 impl<J, R> Play<Slot<J, R>, View<J, R>> for PutDown {
     ghost then = { λ s m r n. put_down s m r n };
 }
 
-/// The two steps that change the set of passes of a board: one pass is split into two, or two passes are merged into one.
+/// The two steps that change the number of passes, which give workers access to a board. One step splits a pass into two passes, and the
+/// other merges two passes into one.
 pub struct Deal;
 
 impl<J, R> Split<View<J, R>> for Deal {

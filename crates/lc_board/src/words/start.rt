@@ -1,4 +1,4 @@
-//! Functions that make a board of atomic words and the passes of its workers.
+//! Functions that make a board of atomic words, and the passes that give its workers access to it.
 ghost use Rattle.std.specs.Prelude.{◌≡◌, ◌<◌, ◌≤◌, ◌∷◌, replicate, IfOk, Some};
 ghost use Rattle.lc_board.specs.declared.words.{coding.Word.TheVariants.{Absent, Open}, view.Slot.TheVariants.{Empty, Job}};
 ghost use Rattle.lc_board.specs.{WordCode.code, WordSteps.{view_before_split, left_of_split, right_of_split}};

@@ -1,4 +1,4 @@
-//! What the memory slots of a board of atomic words contain, and what a worker's pass knows of the board.
+//! What the memory slots of a board of atomic words contain, and what a worker has seen and done on the board.
 use crate::event::Event;
 use std::collections::LinkedList;
 use std::mem::size_of;

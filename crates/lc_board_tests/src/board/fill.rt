@@ -1,5 +1,5 @@
-//! Tests in which worker threads fill a board with directories. The jobs of all directories share the same two `Rules` values, each through
-//! an `Arc`.
+//! Tests in which worker threads fill a board with directories. The jobs of all directories share two values of the struct `Rules` of this
+//! module, each through an `Arc`.
 ghost use Rattle.std.specs.Prelude.{◌≡◌, ◌≢◌, ◌≤◌, ◌<◌, ℕ, None, IfOk, slice_index_or, vec_len};
 ghost use Rattle.lc_board.specs.Pass.{holding};
 ghost use Rattle.lc_board.specs.Limits.{capacity_limit, workers_limit};

@@ -1,5 +1,5 @@
 //! Tests in which two workers make calls on a board with room for three directories. A schedule is an integer: its bits say which worker
-//! makes each of the first calls. All schedules are tried.
+//! makes each of the first `NAMED` calls. All schedules are tried.
 ghost use Rattle.std.specs.Prelude.{◌≡◌, ◌<◌};
 
 use crate::board::script::{Call, ROOT, Told};

@@ -71,7 +71,8 @@ pub fn says<R: Abort>(rt: &R, call: Call, answer: Told, told: Told) {
     assert!(rt; answer == told, "{call:?}");
 }
 
-/// Checks that `answer`, the result of the call, is the expected result `told`. If memory ran out, returns an error instead.
+/// Checks that `answer`, the result of the call, is the expected result `told`. If `answer` says that memory ran out, returns an error and
+/// checks nothing.
 pub fn answers<R: Abort>(rt: &R, call: Call, answer: Told, told: Told) -> Result<(), AllocError> {
     match answer {
         Told::NoClaim => return Err(AllocError),
@@ -81,7 +82,8 @@ pub fn answers<R: Abort>(rt: &R, call: Call, answer: Told, told: Told) -> Result
     Ok(())
 }
 
-/// Checks that a board was closed with these rows. If memory for the rows ran out, returns an error instead.
+/// Checks that `closed`, the result of closing a board, has the expected rows, `rows`. If `closed` is `CloseFault::Memory`, returns an
+/// error and checks nothing.
 pub fn has_rows<R: Abort>(
     rt: &R,
     closed: Result<Closed<u32>, CloseFault>,
@@ -95,7 +97,8 @@ pub fn has_rows<R: Abort>(
     Ok(())
 }
 
-/// Checks that closing a board had this result. If memory for the rows ran out, returns an error instead.
+/// Checks that `closed`, the result of closing a board, is the expected result `end`. If rows are expected and `closed` is
+/// `CloseFault::Memory`, returns an error and checks nothing.
 pub fn ends_so<R: Abort>(
     rt: &R,
     closed: Result<Closed<u32>, CloseFault>,

@@ -34,7 +34,7 @@ pub fn tell<B: Shared<u32, u32>, W: Wait>(rt: &W, board: &B, pass: &mut B::Pass,
     }
 }
 
-/// Makes a call, and checks that it returns `told`. If memory runs out, returns an error instead.
+/// Makes a call, and checks that it returns `told`. If memory runs out in the call, returns an error and checks nothing.
 pub fn expect<B: Shared<u32, u32>, R: Wait + Abort>(
     rt: &R,
     board: &B,

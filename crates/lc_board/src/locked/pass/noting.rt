@@ -1,4 +1,4 @@
-//! Methods that record what a worker does in the worker's pass, which gives it access to a locked board.
+//! Methods that record, in a worker's pass, what the worker did. The pass gives the worker access to a locked board.
 ghost use Rattle.std.specs.Prelude.{◌≡◌, ◌≢◌, ℕ, ◌<◌, ◌≤◌, ◌+◌, None, OnOk, Ok, vec_len, vec_capacity};
 ghost use Rattle.lc_board.specs.Pass.{holding, new_pass, filled, refusing, after_claim, after_post, after_give, after_fault};
 ghost use Rattle.lc_board.specs.{LockedBoard.told, Limits.capacity_limit};
