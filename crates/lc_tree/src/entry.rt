@@ -9,7 +9,7 @@ use std::marker::Model;
 pub enum OtherKind {
     /// The entry is neither a regular file nor a directory: a symbolic link, for instance.
     Special,
-    /// The entry is a directory on another file system than the top of its tree, and the tree stays on the top's file system.
+    /// The entry is a directory that the tree does not enter, because the tree enters only directories on the file system of its top.
     Mounted,
 }
 

@@ -1,4 +1,4 @@
-//! The file systems whose directories a tree of the system enters, and how a tree decides whether to enter a directory.
+//! The file systems whose directories a `SysTree` enters, and how the tree decides whether to enter a directory.
 ghost use Rattle.std.specs.Prelude.{◌≡◌, IsTrue};
 ghost use Rattle.lc_tree.specs.Bounds.{is_one, stays};
 

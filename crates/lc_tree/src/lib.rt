@@ -1,9 +1,9 @@
-//! Trees of directories and files: directories of the system, and trees in memory.
+//! Trees of directories and files: directories of the operating system, and trees in memory.
 //!
 //! - `tree`: the trait `Tree`
 //! - `entry`, `listing`: the entries of one directory, in the order of their names
 //! - `read_fault`: why a directory was not listed, or a file was not opened
-//! - `file_systems`: the file systems whose directories a tree of the system enters
+//! - `file_systems`: the file systems whose directories a `SysTree` enters
 //! - `sys_tree`, `sys_names`, `sys_entries`, `sys_looks`: a directory of the system as a tree
 //! - `system_call`: repeating system calls that a signal interrupts
 //! - `list_parts`: the listing of a large directory, with the help of idle threads

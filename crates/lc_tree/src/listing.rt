@@ -16,7 +16,7 @@ use thiserror::Error;
 /// The maximum number of entries of a listing.
 pub const MAX_ENTRIES: usize = 1_048_576;
 
-/// Why a list of entries makes no listing. If several variants apply, the first of them is returned.
+/// Why a list of entries makes no listing. If several variants apply, the variant that is declared first is returned.
 #[derive(Clone, Copy, Debug, Drop, PartialEq, Eq, Error)]
 pub enum ListingFault {
     /// A name is empty, `.` or `..`, or has a slash or a NUL byte.

@@ -1,4 +1,4 @@
-//! The entries of a directory of the system.
+//! The entries of a directory of the operating system.
 ghost use Rattle.std.specs.Prelude.{◌≡◌, ◌++◌, Err, Ok, Option, OnOk, IfErr, string_bytes};
 ghost use Rattle.lc_tree.specs.Named.{bytes_of, entry_of, LooksAt};
 ghost use Rattle.lc_tree.specs.SysLooks.{is_beyond, ShowsIn, TellsOf};

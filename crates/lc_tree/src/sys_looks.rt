@@ -1,4 +1,4 @@
-//! Reading the metadata of paths of the system.
+//! Reading the metadata of the files and directories at paths of the operating system.
 ghost use Rattle.std.specs.Prelude.{List, ℕ};
 ghost use Rattle.lc_tree.specs.Bounds.{stays};
 ghost use Rattle.lc_tree.specs.SysLooks.{Answers, AnyLook, IsKindOf, Tells};
@@ -11,20 +11,20 @@ use std::io;
 use std::io::ErrorKind;
 use std::rt::Files;
 
-/// The metadata of a path, and whether the path is on a file system that the tree does not enter.
+/// The metadata of the entry at a path, and whether the entry is on a file system that the tree does not enter.
 #[derive(Drop)]
 pub(crate) struct Looked {
     pub(crate) metadata: Metadata,
-    /// Whether the path is on a file system that the tree does not enter.
+    /// Whether the entry is on a file system that the tree does not enter.
     pub(crate) is_outside: bool,
 }
 
-/// Reads the metadata of paths of the system. A symbolic link is not followed.
+/// Reads the metadata of the entries at paths of the operating system. A symbolic link is not followed.
 pub(crate) trait Look {
     // What reading the metadata of a path may answer.
     ghost may_answer: { Self → List ℕ → Answers };
 
-    /// Reads the metadata of a path.
+    /// Reads the metadata of the entry at a path.
     fn look(&self, path: &str) -> io::Result<Looked>
         ensures { may_answer self.now path.now result };
 }

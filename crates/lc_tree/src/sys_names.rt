@@ -1,4 +1,4 @@
-//! The names in a directory of the system.
+//! The names in a directory of the operating system.
 ghost use Rattle.std.specs.Prelude.{◌≡◌, ◌++◌, ◌∷◌, ◌<◌, [], IfOk, MatchResult, OnOk, filter, length, not, string_bytes};
 ghost use Rattle.lc_glob.specs.Path.{is_no_name};
 ghost use Rattle.lc_tree.specs.Named.{bytes_of};

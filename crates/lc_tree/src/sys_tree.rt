@@ -1,4 +1,4 @@
-//! A directory of the system as a tree.
+//! A directory of the operating system as a tree.
 ghost use Rattle.std.specs.Prelude.{◌≡◌, ◌++◌, IfErr, IfOk, Ok, string_bytes};
 ghost use Rattle.lc_tree.specs.Named.{bytes_of, LooksAt};
 ghost use Rattle.lc_tree.specs.SysLists.{NamesOfSome, SysShows};
@@ -20,16 +20,17 @@ use std::rt::Files;
 /// The number of bytes that are reserved after the path of a directory, for a slash and the name of an entry.
 const NAME_ROOM: usize = 256;
 
-/// A directory of the system as a tree, with everything under it.
+/// A directory of the operating system as a tree, with everything under it.
 ///
-/// Symbolic links in the directory, and everything else that is neither a regular file nor a directory, are `Kind::Other`. Directories on
-/// other file systems are `Kind::Other` too, if the tree stays on the file system of its top. If the system reports an error, the error is
-/// `ReadFault::Failed`. If a name is not UTF-8, listing its directory returns `ReadFault::Unnamed`. An entry that is removed while its
-/// directory is listed is not in the listing. A call that a signal interrupts is tried again, up to `MAX_TRIES` times in all.
+/// Symbolic links in the directory, and everything else that is neither a regular file nor a directory, are `Kind::Other`. For
+/// `FileSystems::One`, directories that are not on the file system of the tree's top are `Kind::Other` too. If the system reports an error,
+/// the error is `ReadFault::Failed`. If a name is not UTF-8, listing its directory returns `ReadFault::Unnamed`. An entry that is removed
+/// while its directory is listed is not in the listing. A system call that a signal interrupts is repeated, with at most `MAX_TRIES` tries
+/// in all.
 ///
 /// An entry whose path in the tree has over `MAX_PATH` bytes is `Kind::Other`. Its metadata are not read, since the system would refuse the
-/// path. If a shorter path exceeds 4,095 bytes together with the path of the top in front, the system also refuses the path. In this case,
-/// listing the entry's directory returns `ReadFault::Failed`.
+/// path. The path that the system gets begins with the path of the tree's top. If this whole path has over 4,095 bytes, but the path in the
+/// tree has at most `MAX_PATH`, the system refuses the path. In this case, listing the entry's directory returns `ReadFault::Failed`.
 ///
 /// A file may be replaced after its metadata were read and before it is opened. `open_file` then opens what replaced the file, even through
 /// a symbolic link. If that is a named pipe, `open_file` waits for the pipe's writer.

@@ -1,5 +1,5 @@
-//! Tests of listings, of trees of the system and of trees in memory, also with the help of idle threads. They show that each call can
-//! succeed.
+//! Tests of listings, of trees of the system and of trees in memory, and of idle threads that help with a listing. The tests also show that
+//! each call can succeed.
 
 mod checks;
 mod idle_threads;

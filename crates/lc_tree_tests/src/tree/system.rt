@@ -1,4 +1,5 @@
-//! The files of a system for tests. Signals interrupt its calls, and a test may choose the names in its directory `top/`.
+//! An implementation of the trait `Files` for tests. It can make calls fail as if a signal interrupted them, and a test may choose the
+//! names in the directory `top/`.
 ghost use Rattle.std.specs.Io.{ReadsAtMost};
 
 use std::alloc::Allocator;

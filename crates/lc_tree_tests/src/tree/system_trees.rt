@@ -1,4 +1,5 @@
-//! Tests of `SysTree`: on a folder of the host, also when signals interrupt its calls, and on a directory whose names the tests choose.
+//! Tests of `SysTree` on a folder of the host, and on a directory whose names the tests choose. In some cases, system calls are interrupted
+//! as by a signal.
 
 use crate::tree::checks::{Entries, Given, Listed, check_files, check_listings};
 use crate::tree::system::{Reads, Signals, System};

@@ -1,4 +1,5 @@
-//! Tests of two kinds of trees that other tests use: in one of them one call fails, in the other each read returns one byte.
+//! Tests of the types `FailingTree` and `BytewiseTree`, which other tests use. In a `FailingTree` one call fails. In a `BytewiseTree` each
+//! read of a file returns at most one byte.
 
 use lc_io::Source;
 use lc_tests::Sketch;
