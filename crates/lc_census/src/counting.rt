@@ -1,4 +1,4 @@
-//! The census of a reader's bytes.
+//! Counting the lines and bytes of a reader, up to its end.
 ghost use Rattle.std.specs.Prelude.{◌≡◌, ◌≢◌, ◌<◌, ◌≤◌, length};
 ghost use Rattle.lc_census.specs.Counting.{AnswersCount};
 ghost use Rattle.lc_census.specs.declared.counting.CensusFault.TheVariants.{Memory};

@@ -3,7 +3,7 @@
 //! - `line_count`: the counts of lines, blank lines and bytes, and the kind of the line ends
 //! - `census`: counting the lines in bytes that come piece by piece
 //! - `counting`: counting the lines in all bytes of a reader
-//! - `scan`: the state of a scan between two bytes
+//! - `scan`: the state of a scan: its counts so far, and what it must know of earlier bytes
 //! - `scalar`: scanning bytes one at a time
 //! - `simd`: scanning bytes in vectors of 64 bytes, with the same contract as `scalar`
 //! - `laws`: theorems about the definitions that the contracts cite

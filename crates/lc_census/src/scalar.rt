@@ -43,7 +43,7 @@ fn scan_byte(scan: Scan, byte: u8) -> Scan
     next
 }
 
-/// Returns the state of the scan after these bytes, which the function reads one at a time.
+/// Continues `scan` over all of `bytes`, one byte at a time, and returns the state of the scan at the end of `bytes`.
 pub fn scan_scalar(scan: Scan, bytes: &[u8]) -> Scan
     requires { HasRoom scan (length bytes.now) }
     ensures { result ≡ after_all scan bytes.now }

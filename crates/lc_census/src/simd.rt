@@ -92,8 +92,8 @@ fn scan_block(scan: &mut Scan, v: u8x64)
     }
 }
 
-/// Returns the state of the scan after these bytes. The function reads 64 bytes at a time. If fewer than 64 bytes are left, it reads them
-/// one at a time.
+/// Continues `scan` over all of `bytes`, 64 bytes at a time, and returns the state of the scan at the end of `bytes`. If fewer than 64
+/// bytes are left, these bytes are read one at a time.
 pub fn scan_simd(scan: Scan, bytes: &[u8]) -> Scan
     requires { HasRoom scan (length bytes.now) }
     ensures { result ≡ after_all scan bytes.now }

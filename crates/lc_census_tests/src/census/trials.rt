@@ -1,4 +1,4 @@
-//! Tests of the readers that other tests use: what each read of such a reader returns.
+//! Tests of the readers of `lc_tests`, such as `Endless` and `Failing`: what each read of these readers returns.
 
 use lc_census::{Failed, Source};
 use lc_tests::readers::{Bytewise, Counted, Endless, Failing};
