@@ -25,7 +25,7 @@ const MANY_PATTERNS: usize = 64;
 /// ```
 #[derive(Drop)]
 pub struct Candidate<'a> {
-    /// The path, as if it were one segment.
+    /// The whole path, with its slashes.
     whole: PathSegment<'a>,
     pub(crate) above: PathLeft<'a>,
     pub(crate) last: PathSegment<'a>,
@@ -53,9 +53,9 @@ impl<'a> Candidate<'a> {
         Self::measured_from(path, usize::MAX)
     }
 
-    /// Makes the candidate of a path that is matched with this many patterns. If the patterns are many and the path is long, measures all
-    /// segments of the path but the last. The shortest and the longest of these lengths can show without a byte test that a pattern does
-    /// not match.
+    /// Makes the candidate of a path that is matched with `patterns` patterns. If there are many patterns and the path is long, measures
+    /// the segments before the last segment. The lengths of the shortest and the longest of them can show that a pattern does not match,
+    /// without comparing a byte of the path.
     pub fn for_patterns(path: &'a [u8], patterns: usize) -> Self
         ensures { result ≡ path.now }
     {
@@ -92,7 +92,7 @@ impl<'a> Candidate<'a> {
         }
     }
 
-    /// Returns the whole path, as if it were one segment.
+    /// Returns the whole path, with its slashes.
     #[inline]
     pub(crate) fn whole(&self) -> PathSegment<'a>
         ensures { result.bytes.now ≡ self.now }

@@ -1,6 +1,9 @@
-//! Compares one byte at an end of a path with the elements of a pattern. This rejects most paths that the pattern doesn't match.
-//! `Pattern::matches_counted` counts this byte test too. With this test a match stays within the bound of `matches_counted`, since the rest
-//! of the match makes fewer byte tests than the bound.
+//! A byte test that rejects most paths that a pattern doesn't match. If the last token of the pattern is a literal, the test compares this
+//! literal with the last byte of the path. Otherwise, if the first token is a literal, the test compares this literal with the first byte
+//! of the path, or of the path's last segment if the pattern is matched with that segment alone.
+//!
+//! `Pattern::matches_counted` counts this byte test too. The count stays within the bound of `matches_counted`, since the rest of the match
+//! makes fewer byte tests than the bound.
 
 ghost use Rattle.std.specs.Prelude.{◌≡◌, ◌≤◌, ◌+◌, ◌⊎◌, IsFalse};
 ghost use Rattle.lc_glob.specs.EndLooks.{DiffersAtEnd, HasLiteralEnd};
@@ -9,8 +12,8 @@ use crate::element::Element;
 use crate::path_segment::{ByteTests, PathSegment};
 use crate::token::TokenRef;
 
-/// Returns whether an end of a path agrees with the elements of a pattern, after at most one byte test. If the last element is a literal,
-/// the function tests the last byte of `last`. Otherwise, if the first element is a literal, the function tests the first byte of `first`.
+/// Returns false if a byte test fails, and otherwise true. If the last element is a literal, the function compares it with the last byte of
+/// `last`. Otherwise, if the first element is a literal, the function compares it with the first byte of `first`.
 #[inline]
 pub(crate) fn agrees_at_end<E: Element>(
     elements: &[E],

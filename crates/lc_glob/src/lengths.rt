@@ -1,5 +1,5 @@
-//! The shortest and the longest length of a path's segments. If a segment of a pattern fits only names that are longer than the longest, or
-//! shorter than the shortest, the pattern does not match these segments. No byte test is needed to see this.
+//! The lengths of the shortest and the longest segment of a path. A pattern does not match the path if some segment of the pattern fits
+//! only names that are shorter than the shortest segment of the path, or longer than the longest. No byte test is needed to see this.
 
 ghost use Rattle.std.specs.{Prelude.{◌≡◌, ◌≤◌, ℕ, List, IsTrue, length}, List.All};
 ghost use Rattle.lc_glob.specs.{Leads.Leads, Lengths.{AreBetween, FitsSome}, Path.segments_left, Patterns.plain};

@@ -22,8 +22,9 @@
 //! tests, each of one byte of a path. This number is at most `(p + 1) * (q + 1)` for a pattern of `p` bytes and a path of `q` bytes.
 //! The other calls match in the same way, but no contract bounds their tests.
 //!
-//! One byte test at an end of a path rejects most paths that a pattern does not match (`end_look`). The lengths of a long path's segments
-//! are measured once (`lengths`). A pattern with a segment that fits none of these lengths can be rejected without a byte test.
+//! One byte test, of the last byte of a path or the first byte of a segment, rejects most paths that a pattern does not match (`end_look`).
+//! The lengths of a long path's segments are measured once (`lengths`). A pattern with a segment that fits none of these lengths can be
+//! rejected without a byte test.
 //!
 //! - `pattern`: a pattern, and matching it with a path
 //! - `pattern_set`: a set of many patterns in order
@@ -43,7 +44,7 @@
 //! - `match_segment`, `match_tokens`: matching one segment of a pattern with one segment of a path
 //! - `cursor`: how far the match of a segment has come
 //! - `match_above`: matching a pattern with all directories above a path
-//! - `end_look`, `lengths`: rejecting a path by one byte at its end, or by the lengths of its segments
+//! - `end_look`, `lengths`: rejecting a path by its last byte, by the first byte of a segment, or by the lengths of its segments
 //! - `path`: paths and names, which other crates use too
 //! - `cut`: splitting bytes at the first occurrence of a byte
 #![tactic(auto)]

@@ -1,8 +1,9 @@
 //! Matching a pattern with all directories above a path, in one pass over the pattern's segments.
 //!
-//! Each name in the path has a flag. The segments of the pattern are processed in order. After each of them but the last, the flag of a
-//! name shows whether the segments so far match the names before this name. So a segment is compared at most once with each name, however
-//! many double stars precede the segment.
+//! Each name in the path has a flag. All flags are updated for each segment of the pattern, in order. Until the last segment is reached,
+//! the flag of a name shows whether the segments so far match the names before this name. At the end, the flag shows whether the pattern
+//! matches the directory whose path ends with this name. So a segment is compared at most once with each name, however many double stars
+//! precede the segment.
 
 ghost use Rattle.std.specs.Prelude.{◌≡◌, ◌↔◌, ◌≤◌, ◌+◌, ◌*◌, IsTrue, false, length, take, slice_index_or, []};
 ghost use Rattle.lc_glob.specs.{Above.{names_of, IsSet, AreSet, Before, UpTo, has_nested_after}, Costs.{bytes_with_ends, full_cost}};

@@ -53,7 +53,7 @@ pub fn is_too_long(path: &[u8]) -> bool
     path.len() > MAX_PATH
 }
 
-/// Returns the number of segments of a path. The empty path is the path of the top directory itself, and has no segments.
+/// Returns the number of segments of a path. The empty path is the path of a tree's top directory, and has no segments.
 ///
 /// ```
 /// assert!(rt; depth_of(b"") == 0 && depth_of(b"a/b") == 2);

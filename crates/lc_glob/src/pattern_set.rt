@@ -130,7 +130,7 @@ impl PatternSet {
         self.tokens.shrink_to_fit();
     }
 
-    /// Returns the number of patterns, dead ones included.
+    /// Returns the number of patterns. Dead patterns, which match nothing, are counted too.
     pub fn len(&self) -> usize
         ensures { result ≡ length self.now }
     {

@@ -118,7 +118,7 @@ impl<'p> SimplePattern<'p> {
         }
     }
 
-    /// Returns whether one byte at an end of the path agrees with the pattern. This rejects most paths that the pattern does not match.
+    /// Returns whether the path passes at most one byte test. The result is false for most paths that the pattern does not match.
     #[inline]
     fn agrees(self, other: OtherKind, path: &Candidate, tests: &mut ByteTests) -> bool
         ensures told { Matches (simple_model false (Other other) self.entry.bytes.now) path.now false → IsTrue result }
