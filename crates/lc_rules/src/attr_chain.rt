@@ -78,9 +78,10 @@ fn decide_by_info<'a>(
 }
 
 /// The attribute files for a directory's entries, from the lowest precedence to the highest: the files of the tree from the top down, each
-/// with the depth of its directory, then the file of `.git/info`. The chain knows the built-in macro `binary`, then the macros of the first
-/// file if `AttrFile::is_top` holds for this file, then the macros of `.git/info`. A later macro overrides an earlier one with the same
-/// name.
+/// with the depth of its directory, then the file of `.git/info`.
+///
+/// The chain knows the built-in macro `binary`, the macros of the tree's first file if `AttrFile::is_top` holds for this file, and the
+/// macros of `.git/info`. If macros have the same name, the macro that is later in this order overrides the others.
 #[derive(Drop)]
 pub struct AttrChain {
     files: ChainFiles<AttrFile>,
@@ -123,8 +124,8 @@ impl AttrChain {
     }
 
     /// Returns the chain with the file `.git/info/attributes`, or a copy if `file` is `None`. This file overrides every other file of the
-    /// chain, also files that are added later, and replaces an earlier file of `.git/info`. The caller passes `top` as true to
-    /// `AttrFile::read`, so that the file may define macros.
+    /// chain, also files that are added later, and replaces an earlier file of `.git/info`. The file defines macros only if
+    /// `AttrFile::read` read it with `top` true.
     pub fn with_info(
         &self,
         alloc: Global,

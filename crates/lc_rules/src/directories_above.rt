@@ -1,4 +1,4 @@
-//! Finding the rule that decides each directory above a path, in one pass over the rules of one ignore file.
+//! Finding, for each directory above a path, the last rule of an ignore file that matches the directory, in one pass over the file's rules.
 
 ghost use Rattle.std.specs.Prelude.{◌≡◌, ◌<◌, ◌≤◌, ◌-◌, ◌&&◌, ◌||◌, ℕ, true, false, not, IsTrue, Option, None, Some};
 ghost use Rattle.std.specs.Prelude.{IfSome, cond, length, take, option_map, slice_index_or};
@@ -39,7 +39,7 @@ pub struct DirectoriesAbove<'a> {
     found: [Option<&'a Rule>; MAX_DEPTH],
     /// The number of directories above the path, from the highest down, whose rule is known.
     count: usize,
-    /// Whether the whole path was matched together with the directories. A path with over `MAX_DEPTH` names is not.
+    /// Whether the whole path was matched together with the directories. This is false if the path has over `MAX_DEPTH` names.
     is_whole: bool,
     /// The last rule that matches the path itself, if `is_whole`: `None` if not known, `Some(None)` if no rule matches.
     own: Option<Option<&'a Rule>>,
@@ -85,7 +85,7 @@ impl<'a> DirectoriesAbove<'a> {
     }
 
     /// Returns the last of the file's rules that match a directory above the path. The directory's path is the first `len` bytes of the
-    /// path. `place` is the number of directories above this directory, without the top.
+    /// path. `place` is the number of names before the last name in the directory's path, such as 1 for `a/b`.
     pub fn last_match(&self, place: usize, len: usize) -> Option<&'a Rule>
         requires { len ≤ length self.now.path }
         ensures { option_map (λ r. (Gitignore 0, r.now)) result ≡ last_match (at_depth 0 self.now.rules) (take len self.now.path) true }

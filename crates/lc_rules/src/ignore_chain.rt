@@ -18,8 +18,9 @@ use std::alloc::{AllocError, Global};
 use std::marker::Model;
 use std::sync::Arc;
 
-/// The rules for a directory's entries, from the lowest precedence to the highest: the exclude file of the whole tree, the exclude file of
-/// `.git/info`, the ignore files of the tree from the top down, each with the depth of its directory, and the patterns of the command line.
+/// The rules for a directory's entries, from the lowest precedence to the highest: the file of `--exclude-from`, the file
+/// `.git/info/exclude`, the ignore files of the tree from the top down, each with the depth of its directory, and the patterns of the
+/// command line.
 #[derive(Drop)]
 pub struct Chain {
     exclude: Option<Arc<IgnoreFile, Global>>,
@@ -58,7 +59,7 @@ impl Chain {
         }
     }
 
-    /// Returns the chain with the exclude file of the whole tree, or the unchanged chain if `file` is `None`.
+    /// Returns the chain with the file of `--exclude-from`, or the unchanged chain if `file` is `None`.
     pub fn with_exclude(self, file: Option<Arc<IgnoreFile, Global>>) -> Chain
         ensures { result ≡ with_exclude self file }
     {

@@ -3,13 +3,15 @@
 ghost use Rattle.lc_rules.specs.CanMatch.{CanMatchLaw};
 ghost use Rattle.lc_rules.specs.IgnoreLaws.{CommandLineLaw, LastMatchLaw, LinesLaw};
 
-/// The law about the rule that decides a path: it is one of the given rules, it matches the path, and no later rule matches the path. No
-/// other rule meets these three conditions. If no rule decides the path, no rule matches the path.
+/// The law that the definition `last_match` gives the last of the given rules that matches a path: it is one of the given rules, it matches
+/// the path, and no later rule matches the path. No other rule meets these three conditions. If `last_match` gives no rule, no rule matches
+/// the path.
 pub fn the_last_match_decides()
     ensures { LastMatchLaw }
 {}
 
-/// The law that the last pattern of the command line that matches a path decides the path. If none matches, the files decide.
+/// The law that the patterns of the command line override the files. If some of these patterns match a path, the last of them decides
+/// whether the path is ignored. If none of them matches, the files decide this, as they do if the command line has no patterns.
 pub fn the_command_line_decides()
     ensures { CommandLineLaw }
 {}

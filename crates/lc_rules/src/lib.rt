@@ -24,7 +24,7 @@
 //! - `verdicts`: what a rule says of a path
 //! - `rule_source`: the file that a rule was read from
 //! - `faults`: why a file can't be read as rules
-//! - `laws`: theorems about the rule that decides a path
+//! - `laws`: theorems about the rules of ignore files, and about the rule that decides whether a path is ignored
 #![tactic(auto)]
 
 mod assignment;

@@ -25,7 +25,7 @@ use std::marker::Model;
 #[derive(Drop)]
 pub(crate) struct LineTable {
     text: Vec<u8>,
-    /// The index in the text at which each line begins.
+    /// The index in `text` at which each line begins.
     starts: Vec<u32>,
     patterns: PatternSet,
     names: BTreeSet<Vec<u8>>,

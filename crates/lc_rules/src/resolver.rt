@@ -164,10 +164,12 @@ pub(crate) fn decide_by_lines<'a>(
     Ok(None)
 }
 
-/// The law that three equations determine the definition `decide`, which says what state a list of assignments gives each name.
-/// `AttrChain::state` returns this state for one name. First, an empty list decides no further name. Second, an assignment of a name that
-/// is already decided is skipped. Third, the first assignment of a name decides the name. If this assignment sets a macro, the macro's
-/// assignments are read before the rest of the list.
+/// The law that three equations determine the definition `decide`, which reads a list of assignments and gives their names states. The
+/// contract of `AttrChain::state` derives the state of an attribute from `decide`. The equations say:
+///
+/// - If the list is empty, no further name gets a state.
+/// - If the name of the list's first assignment already has a state, this assignment is skipped.
+/// - Otherwise the name gets the state of this assignment. If this assignment sets a macro, the macro's assignments are read next.
 pub fn decides_by_equations()
     ensures { DecidesByEquations }
 {}

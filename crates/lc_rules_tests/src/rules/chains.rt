@@ -37,7 +37,7 @@ fn chain_of(alloc: Global, directories: &[Directory]) -> Result<Chain, AllocErro
 
 const TOP: &[Directory] = &[(0, Some(b"*.t"))];
 
-/// A chain in which a deeper file overrides the file of the top.
+/// A chain in which a deeper file overrides the file of the top directory.
 const INNER: &[Directory] = &[(0, Some(b"*.t")), (1, Some(b"!k.t"))];
 
 /// A chain in which the later of two files at one depth overrides the earlier.

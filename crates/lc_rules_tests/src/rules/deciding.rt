@@ -1,4 +1,4 @@
-//! Tests of which rule decides a path. A rule is named by the number of its line.
+//! Tests of which rule decides whether a path is ignored. A rule is named by the number of its line.
 
 use lc_rules::{Chain, DirectoriesAbove, IgnoreFile, Lines, RuleSource, Verdict, text_of_line};
 use std::alloc::{AllocError, Global};
@@ -10,7 +10,7 @@ const FILE: bool = false;
 
 const DIR: bool = true;
 
-/// The rules of a file, a path, whether the path is a directory, and the rule that decides the path, if any: its line and its verdict.
+/// The rules of a file, a path, whether the path is a directory, and the line and the verdict of the last rule that matches the path.
 type Case = (&'static [u8], &'static [u8], bool, Option<(u32, Verdict)>);
 
 fn read(alloc: Global, bytes: &[u8]) -> Result<IgnoreFile, AllocError> {
@@ -106,7 +106,7 @@ fn chain_of(alloc: Global, files: &[(Put, &'static [u8])]) -> Result<Chain, Allo
     Ok(chain)
 }
 
-/// A path, and the source and the line of the rule that decides the path, if any does.
+/// A path, and the source and the line of the last rule that matches the path, if any rule matches.
 type Place = (&'static [u8], Option<(RuleSource, u32)>);
 
 const NEARER: &[Place] = &[
