@@ -64,7 +64,7 @@ pub fn push_escaped(text: &mut Vec<u8>, bytes: &[u8]) -> Result<(), AllocError>
     }
 }
 
-/// Appends a path, escaped as [`escape`] does. The empty path of the top becomes a dot.
+/// Appends a path, escaped as [`escape`] does. The empty path, which is that of a tree's top directory, becomes a dot.
 pub fn push_path(text: &mut Vec<u8>, path: &[u8]) -> Result<(), AllocError>
     ensures { OnOk result (text.new.items ≡ text.old.items ++ escape_path path.now) }
 {
@@ -75,7 +75,8 @@ pub fn push_path(text: &mut Vec<u8>, path: &[u8]) -> Result<(), AllocError>
     }
 }
 
-/// Returns a path, escaped for a program, so that the result is on one line and has no tab. The empty path of the top becomes a dot.
+/// Returns a path, escaped for a program, so that the result is on one line and has no tab. The empty path, which is that of a tree's top
+/// directory, becomes a dot.
 ///
 /// `t`, the byte 1 and `.c` become `t\x01.c`, and `a\b` becomes `a\\b`.
 pub fn escape(alloc: Global, path: &[u8]) -> Result<Vec<u8>, AllocError>

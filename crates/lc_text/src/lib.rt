@@ -10,7 +10,7 @@
 //! - `lines`: splitting an input into its paths
 //! - `path_line`: reading a line of an input as a path
 //! - `check_fault`: the errors of checking or explaining paths
-//! - `outcome`: whether a text that was written shows an error
+//! - `outcome`: whether a text that was written names a directory or a file that could not be read
 //! - `laws`: theorems about the definitions that the contracts cite
 #![tactic(auto)]
 

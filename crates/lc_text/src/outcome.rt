@@ -1,4 +1,4 @@
-//! Whether a text that was written shows an error.
+//! Whether a text that was written reports an error.
 
 /// Whether a text that was written names a directory or a file that could not be read.
 #[derive(Debug, Clone, Copy, PartialEq, Eq)]

@@ -44,14 +44,15 @@ pub fn undotted(line: &[u8]) -> &[u8]
     or_dot(after_dot(others))
 }
 
-/// Returns whether a path is `.`, which names the directory itself.
+/// Returns whether a path is `.`, which names the top directory of a tree.
 pub fn is_top(path: &[u8]) -> bool
     ensures { result ≡ is_top path.now }
 {
     matches!(path, [b'.'])
 }
 
-/// Returns the path of a line without the slash at its end, and whether the line has this slash. The slash means a directory.
+/// Returns the path of a line without the slash at its end, and whether the line has this slash. The slash shows that the line names a
+/// directory.
 pub fn split_slash(line: &[u8]) -> (&[u8], bool)
     ensures path { result.0.now ≡ path_of line.now }
     ensures dir { result.1 ≡ is_dir_line line.now }

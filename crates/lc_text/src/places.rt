@@ -23,7 +23,7 @@ fn after_slash(path: &[u8]) -> &[u8]
     }
 }
 
-/// Returns the beginning of a path with this number of segments, each followed by its slash. At depth 0 this is nothing.
+/// Returns the first `depth` segments of a path, each followed by its slash. If `depth` is 0, the result is empty.
 fn above(path: &[u8], depth: u32) -> &[u8]
     ensures { result.now ≡ above depth path.now }
 {
@@ -36,9 +36,9 @@ fn above(path: &[u8], depth: u32) -> &[u8]
     &path[..path.len() - rest.len()]
 }
 
-/// Returns the directory of a rule's file. The rule decides `path`, so the directory is the beginning of `path`.
+/// Returns the path of the directory that has a rule's file. The rule matches `path`, so the directory's path is the beginning of `path`.
 ///
-/// The directory ends with a slash. It is empty for a file at the top, and for the rules of `--exclude` and `--exclude-from`.
+/// The result ends with a slash. It is empty for a file in the tree's top directory, and for the rules of `--exclude` and `--exclude-from`.
 ///
 /// ```
 /// assert!(rt; source_directory(b"src/gen/a.c", RuleSource::Gitignore(1)) == b"src/".as_slice());
@@ -65,9 +65,9 @@ pub fn source_name(source: RuleSource) -> &'static str
     }
 }
 
-/// Appends the place of a rule that decides a path: the path of the rule's file, escaped in a style, and the number of its line. Such
-/// places are `src/.gitignore:3`, `.git/info/exclude:2` and `--exclude-from:7`. The place `--exclude:2` is the second pattern of the
-/// command line.
+/// Appends the place of a rule that matches `path`: the path of the rule's file, escaped in a style, and the number of the rule's line.
+/// Examples of places are `src/.gitignore:3`, `.git/info/exclude:2` and `--exclude-from:7`. The place `--exclude:2` is the second pattern
+/// of the command line.
 ///
 /// ```
 /// push_rule_source(&mut text, PathStyle::Escaped, b"src/gen/a.c", RuleSource::Gitignore(1), 3)?; // src/.gitignore:3

@@ -48,7 +48,7 @@ pub fn push_styled(text: &mut Vec<u8>, style: PathStyle, bytes: &[u8]) -> Result
     }
 }
 
-/// Appends a path, escaped as the style requires. The empty path of the top becomes a dot.
+/// Appends a path, escaped as the style requires. The empty path, which is that of a tree's top directory, becomes a dot.
 pub fn push_styled_path(text: &mut Vec<u8>, style: PathStyle, path: &[u8]) -> Result<(), AllocError>
     ensures { OnOk result (text.new.items ≡ text.old.items ++ styled_path style path.now) }
 {

@@ -113,7 +113,7 @@ pub fn push_visible(text: &mut String, bytes: &[u8]) -> Result<(), AllocError>
     }
 }
 
-/// Appends a path, escaped for a terminal. The empty path of the top becomes a dot.
+/// Appends a path, escaped for a terminal. The empty path, which is that of a tree's top directory, becomes a dot.
 ///
 /// ```
 /// push_visible_path(&mut text, "a\u{202e}b".as_bytes())?;

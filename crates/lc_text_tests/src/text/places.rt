@@ -5,7 +5,7 @@ use lc_text::{PathStyle, push_rule_source};
 use std::process::Abort;
 use std::test::Fail;
 
-/// The name of the case, a path, the source of the rule that decides the path, the number of the rule's line, and the expected text.
+/// The name of the case, a path, the source of a rule that matches the path, the number of the rule's line, and the expected text.
 type Case = (&'static str, &'static [u8], RuleSource, u32, &'static [u8]);
 
 const CASES: &[Case] = &[
