@@ -191,7 +191,7 @@ decides, its pattern, and the path.
   none      no rule matches
   below     a directory above the path is ignored, by the rule shown
   left      lc count skips the path for a reason that is no rule: git (.git),
-            other (neither file nor directory), attribute:NAME, or include (a
+            other (neither file nor directory), attribute:ATTR, or include (a
             file that no --include matches)
   bad       no file or directory can have this path
   fault     a directory or rule file on the way could not be read
