@@ -21,7 +21,7 @@ pub enum Number {
 /// number.
 #[derive(Debug, Clone, Copy, PartialEq, Eq)]
 pub enum Compared {
-    /// The state of the attribute `text` for the file.
+    /// The state of the Git attribute `text` for the file.
     Text,
     /// How the file's lines end.
     Eol,
@@ -40,14 +40,14 @@ pub enum Side {
     End,
 }
 
-/// A column of a section.
+/// A column of a sheet. Each section of the sheet, such as the rows, has some of these columns.
 #[derive(Debug, Clone, Copy, PartialEq, Eq)]
 pub enum Column {
     /// The directory of the files.
     Dir,
     /// The extension of the files' names.
     Ext,
-    /// The state of the attribute `text` for the files.
+    /// The state of the Git attribute `text` for the files.
     Text,
     /// How the files' lines end.
     Eol,
@@ -63,7 +63,7 @@ pub enum Column {
     Kind,
     /// Why an entry is skipped.
     Reason,
-    /// The file and line of the rule that skips an entry, or the attribute that skips the entry.
+    /// The file and line of the rule that skips an entry, or the Git attribute that skips the entry.
     Place,
     /// The path of a skipped entry, with a slash at the end if the entry is a directory other than `.git`.
     Entry,
@@ -71,7 +71,7 @@ pub enum Column {
     File,
     /// The line number of the rule that skips an entry, in the rule's file.
     Line,
-    /// The attribute that skips an entry.
+    /// The Git attribute that skips an entry.
     Attribute,
     /// Why something could not be read.
     Fault,
@@ -180,8 +180,8 @@ impl Column {
         }
     }
 
-    /// Returns the heading of the column in the formats that people read. A few columns have a heading that differs from their name, or an
-    /// empty one.
+    /// Returns the heading of the column in the formats that people read. A few columns have a heading that differs from their name, or
+    /// have an empty heading.
     pub fn heading(self) -> &'static str
         ensures { result.now ≡ heading self }
     {

@@ -37,7 +37,7 @@ pub enum Test<'w> {
     OneOf(&'w [u8]),
     /// The value is none of these texts, which commas separate.
     NoneOf(&'w [u8]),
-    /// The comparison of the value with this number is true.
+    /// The value compares with this number as the `Comparison` says. For example, the value is greater than 1000.
     Compared(Comparison, u64),
 }
 
@@ -135,7 +135,8 @@ impl Condition<'_> {
         }
     }
 
-    /// Returns whether the condition is on a number, such as `lines>1000`. Only files have such numbers: a row has sums over files.
+    /// Returns whether the condition is on a number, such as `lines>1000`. Only a file can be tested with such a condition, because the
+    /// numbers of a row are sums over files.
     pub fn is_on_number(&self) -> bool
         ensures { result ≡ is_on_number self.now }
     {

@@ -1,9 +1,9 @@
-//! What the values of a section's lines depend on, besides the line and the column.
+//! How a section shows its lines: what rows are grouped by, which column shows the names of sums, and what shares are computed from.
 
 use crate::column::{Column, Number};
 use crate::table_options::Columns;
 
-/// What the shares and bars of lines are computed from: a number, its total, and its largest value in a row.
+/// What shares and bars are computed from: the total of one number, such as lines, and its largest value in a shown row.
 #[derive(Debug, Clone, Copy, PartialEq, Eq)]
 pub struct Shares {
     /// Which number the shares and bars are of, such as lines.
@@ -14,7 +14,7 @@ pub struct Shares {
     pub largest: u128,
 }
 
-/// What the values of a section's lines depend on, besides the line and the column.
+/// How a section shows its lines: what rows are grouped by, which column shows the names of sums, and what shares are computed from.
 #[derive(Debug, Clone, Copy, PartialEq, Eq)]
 pub struct Form {
     /// The columns that rows are grouped by.

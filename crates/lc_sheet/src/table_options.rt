@@ -20,7 +20,7 @@ pub enum Format {
     Html,
 }
 
-/// The columns that the rows of a table are grouped by. Rows that differ only in other columns are added up.
+/// The columns that the rows of a table are grouped by. Rows that have the same values in these columns are added up.
 #[derive(Debug, Clone, Copy, PartialEq, Eq)]
 pub struct Columns {
     /// If rows are grouped by directory, the number of names (1 to 256) after which the path of a file's directory is cut. The path is
@@ -28,7 +28,7 @@ pub struct Columns {
     pub dir: Option<u32>,
     /// Whether rows are grouped by the extension of the files' names.
     pub ext: bool,
-    /// Whether rows are grouped by the state of the attribute `text` for the files.
+    /// Whether rows are grouped by the state of the Git attribute `text` for the files.
     pub text: bool,
     /// Whether rows are grouped by how the files' lines end.
     pub eol: bool,
@@ -44,7 +44,7 @@ impl Columns {
     };
 }
 
-/// The order of the rows and of the files of a table, as a command line names it.
+/// An order of a table's rows and files, as the option `--sort` requests it.
 #[derive(Debug, Clone, Copy, PartialEq, Eq)]
 pub enum Order {
     /// Rows are in the order of their keys, and files in the order of their paths.

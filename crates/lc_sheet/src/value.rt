@@ -2,11 +2,11 @@
 
 use lc_text::Name;
 
-/// The value of a line in a column. The value borrows its bytes. They are escaped, and shares and changes are computed, only when the value
-/// is printed.
+/// The value of a line in a column. The value borrows its bytes. The bytes are escaped when the value is printed. Shares and changes are
+/// computed only when they are printed.
 #[derive(Clone, Copy)]
 pub enum Value<'a> {
-    /// The line has no value in the column, such as the extension of the file name `Makefile`.
+    /// The line has no value in the column. For example, the file name `Makefile` has no extension.
     Missing,
     /// The line is a sum over all values of the column.
     Summed,
@@ -14,9 +14,10 @@ pub enum Value<'a> {
     Blank,
     /// A word, such as `crlf`.
     Word(&'static str),
-    /// The path of an entry, of a rule's file or of a directory, or an extension or the name of an attribute.
+    /// A name, with what is printed before and after its bytes: an extension, an attribute, or the path of an entry, of a rule's file or of
+    /// a directory.
     Name(Name<'a>),
-    /// A path; it is empty for the counted directory.
+    /// The path of a file, of a skipped entry or of what could not be read. The path of the counted directory is empty.
     Path(&'a [u8]),
     /// A number.
     Number(u128),
