@@ -55,8 +55,8 @@ impl ClassSums {
         }
     }
 
-    /// Adds up the rows of text files, and the rows of binary files. An error means that sums overflow, which the sums of a walk's rows
-    /// never do.
+    /// Adds up the rows of text files, and the rows of binary files. An error means that sums overflow. The sums of a walk's rows never
+    /// overflow.
     pub fn of_all(rows: &[TallyRow]) -> Result<ClassSums, AllocError>
         ensures classes { IfOk result (λ sums. sums ≡ classes_of rows.now) }
         ensures overflow { IfErr result (λ _. IsInRange (sums_of_rows rows.now) → ⊥) }

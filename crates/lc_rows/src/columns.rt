@@ -27,7 +27,7 @@ fn push_if(columns: &mut Vec<Column>, kept: bool, column: Column) -> Result<(), 
     Ok(())
 }
 
-/// Returns the first column of the rows' keys in a format. A line of sums shows its name in this column.
+/// Returns the first column in which a format shows the key of a row, such as the extension. A line of sums shows its name in this column.
 pub fn first_key(format: Format, by: Columns) -> Column
     ensures { result ≡ first_key (keeps_columns format) by }
 {

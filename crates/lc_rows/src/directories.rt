@@ -123,8 +123,8 @@ pub fn level_of(directory: &[u8]) -> usize
     }
 }
 
-/// Returns the end of a directory's path that one step down from its parent directory adds. This is the last segment of the path. If
-/// segments that are no names, such as `..`, come right before the last segment, they are included.
+/// Returns the part of a directory's path that leads from the parent directory to the directory: the last segment. If segments that are no
+/// names, such as `..`, come right before the last segment, they are included.
 ///
 /// ```
 /// assert!(rt; own_part(b"../lib/a") == b"a".as_slice() && own_part(b"../lib") == b"../lib".as_slice());

@@ -164,8 +164,8 @@ fn sort(rows: &mut Vec<ShownRow<'_>>)
 }
 
 /// Returns a row for each directory that has files in it or below it, with the sums over these files. The rows are depth first: each
-/// directory comes right before the directories below it, and the top directory comes first. A directory is cut after `depth` names, and
-/// the files below the cut count as files of the cut directory.
+/// directory comes right before the directories below it, and the top directory comes first. The path of a directory is cut after `depth`
+/// names: the files in deeper directories count as files of the directory whose path is left.
 ///
 /// If rows are also grouped by other columns, a directory has a row for each key of the files in it and below it. The value of `by.dir`
 /// makes no difference. An error means that an allocation failed or that sums overflow.

@@ -90,7 +90,7 @@ fn keep_rows(conditions: &[Condition<'_>], rows: &mut Vec<TallyRow>)
     rows.retain(|row| row_meets(conditions, row));
 }
 
-/// Adds up rows. An error means that the sums overflow, which the sums of a walk's rows never do.
+/// Adds up rows. An error means that the sums overflow. The sums of a walk's rows never overflow.
 fn sums_of_rows(rows: &[TallyRow]) -> Result<Sums, AllocError>
     ensures sums { IfOk result (λ sums. sums ≡ sums_of_rows rows.now) }
     ensures overflow { IfErr result (λ _. IsInRange (sums_of_rows rows.now) → ⊥) }
@@ -168,8 +168,9 @@ fn keep_by_rows(conditions: &[Condition<'_>], report: &mut Report) -> Result<(),
 /// condition is on a number, such as `lines>1000`, the rows are then made anew from the files that are left. Otherwise the function drops
 /// the rows that do not meet the conditions. The totals are added up anew. If there are no conditions, the whole report is kept.
 ///
-/// Skipped entries, errors and the numbers of directories and entries stay as they are. For a condition on a number, the report must have
-/// its files, and an allocation may fail. If no allocation failed, an error means that the sums are larger than those of any walk.
+/// Skipped entries, errors and the numbers of directories and entries stay as they are. If a condition is on a number, the report must list
+/// its files, and the function allocates memory. An error means that an allocation failed, or that the sums are larger than the sums of any
+/// walk.
 pub fn keep(
     alloc: Global,
     conditions: &[Condition<'_>],

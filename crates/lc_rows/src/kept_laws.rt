@@ -14,15 +14,17 @@ pub fn conditions_have_no_order()
     ensures { OrderLaw }
 {}
 
-/// The law that conditions keep the totals right. If the totals of a report are the sums over its rows and over its listed files, as in the
-/// report of a walk, so are the totals of the part that meets the conditions.
+/// The law that if the totals of a report are right, the totals of the part that meets conditions are right too. Right totals are the sums
+/// over the rows. If the report lists its files, right totals are also the sums over the files, and the rows add up these files by key. The
+/// report of a walk has right totals.
 pub fn conditions_keep_totals()
     ensures { KeptTotalsLaw }
 {}
 
 /// The law that the totals with a condition and the totals with its opposite add up to the totals without the condition. Opposites are `=`
-/// and `!=`, `<` and `>=`, and `>` and `<=`. The law is true of the report of a walk. It is also true of any report whose totals are the
-/// sums over its rows or, if the condition is on a number, over its files. For a condition on a number, the walk must list its files.
+/// and `!=`, `<` and `>=`, and `>` and `<=`. The law is true of the report of a walk. If the condition is on a number, the walk must list
+/// its files. For any other report, the law requires that the totals are the sums over the files if the condition is on a number, and over
+/// the rows otherwise.
 pub fn opposite_conditions_add_up<T: Tree>(tree: &T)
     ensures any { OppositesLaw }
     ensures walked { WalkedOppositesLaw (T.lists tree.now) (T.gives tree.now) }

@@ -37,7 +37,8 @@ pub fn directories_of_names_are_their_first_segments()
 {}
 
 /// The law that in a tree of directories, the row of a directory has the sums over the files with the row's key in the directory and below
-/// it. So a file counts once in each directory above it. The law requires that the directory is not deeper than the cut.
+/// it. So a file counts once in each directory above it. If paths are cut after n names, the law requires that at most n directories are
+/// above the directory.
 pub fn rows_of_a_tree_are_the_sums_of_what_is_below()
     ensures { TreeLaw }
 {}

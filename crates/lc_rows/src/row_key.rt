@@ -20,7 +20,7 @@ pub struct RowKeyRef<'a> {
     pub directory: Option<&'a [u8]>,
     /// The extension of the files' names, if they have one and rows are by extension.
     pub extension: Option<&'a [u8]>,
-    /// The state of the attribute `text` of the files, or `Unspecified` if rows are not by this state.
+    /// The state of the Git attribute `text` for the files, or `Unspecified` if rows are not by this state.
     pub text: TextState,
     /// How the files' lines end, or `NoEnd` if rows are not by line ends.
     pub eol: Eol,
@@ -90,7 +90,7 @@ fn compare_bytes(a: Option<&[u8]>, b: Option<&[u8]>) -> Ordering
     }
 }
 
-/// Returns the place of a text state in the order of keys.
+/// Returns the place of a state of the Git attribute `text` in the order of keys.
 fn text_rank(text: TextState) -> u8
     ensures { result ≡ text_place text }
 {

@@ -11,7 +11,8 @@ pub fn rows_of_a_sheet_add_up()
     ensures { SheetTotalsLaw }
 {}
 
-/// The law that text and binary files add up to the total in each column of numbers, if their sums add up to the report's totals.
+/// The law that in each column of numbers, the lines for text files and for binary files add up to the total. The law requires that the
+/// sums over both classes of files add up to the report's totals.
 pub fn classes_of_a_sheet_add_up()
     ensures { SheetClassesLaw }
 {}

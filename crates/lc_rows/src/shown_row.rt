@@ -19,7 +19,7 @@ pub struct ShownRow<'a> {
     pub directory: Option<&'a [u8]>,
     /// The extension of the files' names, if they have one and the table has a column for it.
     pub extension: Option<&'a [u8]>,
-    /// The state of the attribute `text` of the files, or `Unspecified` if the table has no column for it.
+    /// The state of the Git attribute `text` for the files, or `Unspecified` if the table has no column for it.
     pub text: TextState,
     /// How the files' lines end, or `NoEnd` if the table has no column for it.
     pub eol: Eol,

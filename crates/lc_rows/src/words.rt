@@ -1,4 +1,4 @@
-//! What is printed of a skipped entry: the word for what it is, and what follows its path.
+//! What is printed of a skipped entry: the word for its kind, such as `dir`, and what is printed after its path.
 
 ghost use Rattle.std.specs.Prelude.{◌≡◌};
 ghost use Rattle.lc_level.specs.Reasons.{reason_model};

@@ -1,4 +1,5 @@
-//! Tests of tables: given reports have the expected rows, files and sheets. Calls succeed if no allocation fails, which no contract states.
+//! Tests of tables: given reports have the expected rows, files and sheets. The tests also check what no contract states: calls succeed if
+//! no allocation fails.
 
 mod by_directory;
 mod conditions;
