@@ -2,13 +2,14 @@
 
 ghost use Rattle.lc_changes.specs.Laws.{DifferencesLaw, OneComparisonLaw, SelfLaw, TablesLaw};
 
-/// The law that a report differs from itself in no row and in no file, if the report has no path twice.
+/// The law that the comparison of a report with itself finds no difference, if no two files of the report have the same path.
 pub fn a_report_does_not_differ_from_itself()
     ensures { SelfLaw }
 {}
 
-/// The law that a comparison has a row for each key in the table of either report, and no other row. For each report, the row has the sums
-/// that the report's table shows for this key. Over all rows, these sums add up to the sums over the rows of the report's table.
+/// The law that a comparison has a row for each key in the table of either report, and no row with another key. A row has the sums that
+/// each report's table shows for the row's key. If a table lacks the key, these sums are zero. Over all rows of the comparison, the sums of
+/// each report add up to the sums over the rows of the report's table.
 pub fn rows_of_a_comparison_are_those_of_tables()
     ensures { TablesLaw }
 {}
@@ -19,7 +20,8 @@ pub fn old_numbers_and_changes_add_up_to_new_ones()
     ensures { DifferencesLaw }
 {}
 
-/// The law that two reports determine the rows and the files of their comparison, if neither report has a path twice.
+/// The law that two reports have only one comparison: the reports determine its rows and its files. For the files, the law requires that
+/// neither report has two files with the same path.
 pub fn reports_are_compared_in_one_way()
     ensures { OneComparisonLaw }
 {}

@@ -118,8 +118,9 @@ fn cut_files(top: Option<u32>, files: &mut Vec<FileChange<'_>>)
 }
 
 impl<'a> ShownChanges<'a> {
-    /// Compares two reports. Adds up the rows of both reports, and drops the rows in which no number changed, unless `options.all` is true.
-    /// If `options.files` is true, finds the files that differ. Sorts and cuts the rows and the files.
+    /// Compares two reports. Makes a row for each key (the values in the columns `options.by`), with the sums of the old and of the new
+    /// report. Drops the rows in which no number changed, unless `options.all` is true. If `options.files` is true, finds the files that
+    /// differ. Sorts and cuts the rows and the files.
     ///
     /// If rows are by directory, or if `options.files` is true, both reports must list their files. An error means that an allocation
     /// failed or that sums overflow. The sums of a walk's rows never overflow. The function takes about as long as sorting the rows and the

@@ -1,4 +1,5 @@
-//! Tests of comparisons: two given reports have the expected comparison. Calls succeed if no allocation fails, which no contract states.
+//! Tests of comparisons: two given reports have the expected comparison. The tests also check what no contract states: calls succeed if no
+//! allocation fails.
 
 mod files;
 mod formats;
