@@ -3,14 +3,16 @@
 ghost use Rattle.lc_formats.specs.ChangeLaws.{ComparisonRecordsLaw};
 ghost use Rattle.lc_formats.specs.CsvLaws.{RecordsLaw};
 
-/// The law that reading the CSV text of a sheet returns the printed records, and no others. The law requires that the printed section has a
-/// column, and that each line of the section has a value in each column.
+/// The law that reading the CSV text of a sheet returns the printed records, and no other records. The records are the names of columns,
+/// and the lines of one section: the files, the skipped entries or the rows. The law requires that this section has a column, and that each
+/// of its lines has a value in each column.
 pub fn csv_reads_back()
     ensures { RecordsLaw }
 {}
 
-/// The law that reading the CSV text of a comparison returns the printed records, and no others. The law requires of the printed section
-/// what [`csv_reads_back`] requires.
+/// The law that reading the CSV text of a comparison returns the printed records, and no other records. The records are the names of
+/// columns, and the lines of one section: the files or the rows. The law requires of this section what [`csv_reads_back`] requires of a
+/// section.
 pub fn csv_of_comparisons_reads_back()
     ensures { ComparisonRecordsLaw }
 {}

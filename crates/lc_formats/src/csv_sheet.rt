@@ -126,8 +126,8 @@ fn push_section<L: Lines>(
     push_lines::<L>(text, fields, form, columns, lines)
 }
 
-/// Appends the records of one section: of the files if the sheet lists files, otherwise of the skipped entries if the sheet has the number
-/// of entries, and otherwise of the rows.
+/// Appends the records of one section: of the files if the sheet lists files, otherwise of the skipped entries if these are requested, and
+/// otherwise of the rows.
 fn push_records<R: Lines, T: Lines, F: Lines, S: Lines, E: Lines>(
     text: &mut CsvText,
     fields: &mut Fields,
@@ -146,8 +146,9 @@ fn push_records<R: Lines, T: Lines, F: Lines, S: Lines, E: Lines>(
 
 /// Makes the text of a sheet as CSV (RFC 4180): the names of columns, and below them records of one kind.
 ///
-/// If the sheet lists files, each file is a record. If the sheet lists no files but has the number of entries, each skipped entry is a
-/// record. Otherwise each row is a record. Names and paths are not escaped. Fields are quoted where necessary.
+/// If the sheet lists files, each file is a record. If the sheet lists no files, but skipped entries are requested (`entries` is not
+/// `None`), each skipped entry is a record. Otherwise each row is a record. Names and paths are not escaped. Fields are quoted where
+/// necessary.
 pub fn csv_text<R: Lines, T: Lines, F: Lines, S: Lines, E: Lines>(
     alloc: Global,
     sheet: &Sheet<'_, R, T, F, S, E>,

@@ -106,9 +106,9 @@ fn write_sheet<R: Lines, T: Lines, F: Lines, S: Lines, E: Lines>(
 
 /// Makes the text of a sheet as one JSON object on one line.
 ///
-/// A section is an array of objects, and a line of sums is an object. A value has the name of its column. A line has no member for a column
-/// that does not apply to the line, or that the line is summed over. Bytes that are not UTF-8 are a list of numbers, under a name that ends
-/// with `_bytes`.
+/// A list of lines, such as the rows, is an array of objects. A line of sums, such as the total, is an object. Each value is a member with
+/// the name of the value's column. There is no member for a column that does not apply to the line, or for a column over which the line is
+/// summed. Bytes that are not UTF-8 are an array of numbers, and the name of this array ends with `_bytes`.
 pub fn json_text<R: Lines, T: Lines, F: Lines, S: Lines, E: Lines>(
     alloc: Global,
     sheet: &Sheet<'_, R, T, F, S, E>,

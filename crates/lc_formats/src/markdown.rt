@@ -126,7 +126,7 @@ fn push_both(
     Ok(())
 }
 
-/// Appends the number of directories, and the number of their entries if the sheet has this number.
+/// Appends the number of directories, and the number of their entries if skipped entries are requested.
 fn push_counts(
     text: &mut Vec<u8>,
     directories: u64,
@@ -143,8 +143,8 @@ fn push_counts(
 
 /// Makes the text of a sheet as Markdown.
 ///
-/// The lists of files and of skipped entries come first. Then come the rows with their sums in bold, and the number of directories. The
-/// list of errors comes last. Names are escaped as [`push_visible`](lc_text::push_visible) escapes them.
+/// The lists of files and of skipped entries come first. Then come the rows, the sums over the rows in bold, and the number of directories.
+/// The list of errors comes last. Names are escaped as [`push_visible`](lc_text::push_visible) escapes them.
 pub fn markdown_text<R: Lines, T: Lines, F: Lines, S: Lines, E: Lines>(
     alloc: Global,
     sheet: &Sheet<'_, R, T, F, S, E>,
@@ -165,8 +165,8 @@ pub fn markdown_text<R: Lines, T: Lines, F: Lines, S: Lines, E: Lines>(
 
 /// Makes the text of a comparison as Markdown.
 ///
-/// A list of files comes first, then the rows with their sums in bold. Names are escaped as [`push_visible`](lc_text::push_visible) escapes
-/// them.
+/// The list of files comes first. The rows come next, and the sums over the rows come last, in bold. Names are escaped as
+/// [`push_visible`](lc_text::push_visible) escapes them.
 pub fn markdown_changes<R: Lines, T: Lines, F: Lines>(
     alloc: Global,
     sheet: &ComparisonSheet<'_, R, T, F>,

@@ -110,7 +110,7 @@ fn push_both(
     Ok(())
 }
 
-/// Appends the number of directories, and the number of their entries if the sheet has this number.
+/// Appends the number of directories, and the number of their entries if skipped entries are requested.
 fn push_counts(
     alloc: Global,
     directories: u64,
@@ -144,8 +144,8 @@ fn push_files<F: Lines>(
 
 /// Makes the text of a sheet in human-readable columns.
 ///
-/// The lists of files, of skipped entries and of errors come first. The rows, their sums and the number of directories come last, because a
-/// terminal shows the end of a long text. Paths are escaped as [`push_visible`](lc_text::push_visible) escapes them.
+/// The lists of files, of skipped entries and of errors come first. The rows, the sums over the rows and the number of directories come
+/// last, because a terminal shows the end of a long text. Paths are escaped as [`push_visible`](lc_text::push_visible) escapes them.
 pub fn table_text<R: Lines, T: Lines, F: Lines, S: Lines, E: Lines>(
     alloc: Global,
     sheet: &Sheet<'_, R, T, F, S, E>,
@@ -179,8 +179,8 @@ pub fn table_text<R: Lines, T: Lines, F: Lines, S: Lines, E: Lines>(
 
 /// Makes the text of a comparison in human-readable columns.
 ///
-/// The list of files comes first. The rows with their sums come last, because a terminal shows the end of a long text. Paths are escaped as
-/// [`push_visible`](lc_text::push_visible) escapes them.
+/// The list of files comes first. The rows and the sums over the rows come last, because a terminal shows the end of a long text. Paths are
+/// escaped as [`push_visible`](lc_text::push_visible) escapes them.
 pub fn table_changes<R: Lines, T: Lines, F: Lines>(
     alloc: Global,
     sheet: &ComparisonSheet<'_, R, T, F>,

@@ -11,25 +11,26 @@ pub fn numbers_with_commas_read_back()
     ensures { CommasLaw }
 {}
 
-/// The law that lines of a human-readable text are padded to one width. The headings, rows and sums have one width, and the lines with the
-/// numbers of directories and of entries have one width. The text has these padded lines without the blanks at their ends. If the last
-/// column of a list is not padded, the lines of the list have one width up to this column. The law requires that words are printable, and
-/// that names consist of bytes. For rows and sums, it also requires that they have the same padded columns, and that their lines end with
-/// numbers.
+/// The law that lines of a human-readable text have one width, before the blanks at the ends of the lines are removed. The headings, rows
+/// and sums have one width. The lines with the numbers of directories and of entries have one width. In a list whose last column is not
+/// padded, the lines have one width up to this column. The law requires printable words, and names whose bytes are numbers below 256. For
+/// the rows and sums, the law also requires that they have the same columns, that all these columns are padded, and that their lines end
+/// with numbers.
 pub fn lines_of_a_part_are_as_wide()
     ensures summary { SummaryWidthLaw }
     ensures counts { CountsWidthLaw }
     ensures listing { ListingWidthLaw }
 {}
 
-/// The law that no line of a human-readable text ends with a blank. The law requires of rows and sums what [`lines_of_a_part_are_as_wide`]
-/// requires. In each list, the last column must not be padded, and no last value may be empty or end with a blank.
+/// The law that no line of a human-readable text ends with a blank. The law requires of rows, sums and lists what
+/// [`lines_of_a_part_are_as_wide`] requires. In each list, the last column must not be padded, and no text in this column may be empty or
+/// end with a blank.
 pub fn lines_end_without_blanks()
     ensures { LineEndsLaw }
 {}
 
-/// The law that a share of a whole above 0 is rounded half up. The share of the whole itself is 100.0 per cent, and no part of the whole
-/// has a larger share.
+/// The law that a share is rounded half up to tenths of a per cent, and that the share of the whole itself is 100.0 per cent. Both claims
+/// require a whole above 0. No part of a whole has a share above 100.0 per cent.
 pub fn shares_are_of_the_whole()
     ensures nearest { NearestLaw }
     ensures whole { WholeLaw }
@@ -48,9 +49,9 @@ pub fn changes_add_up_to_new_numbers()
     ensures none { NoChangeLaw }
 {}
 
-/// The law that the headings, rows and sums of a comparison are padded to one width in a human-readable text. No line of the text ends with
-/// a blank. The law requires of rows and sums what [`lines_of_a_part_are_as_wide`] requires. The claim about blanks also requires of the
-/// list of files what [`lines_end_without_blanks`] requires of each list.
+/// The law that in the human-readable text of a comparison, the headings, rows and sums are padded to one width. The law requires of rows
+/// and sums what [`lines_of_a_part_are_as_wide`] requires. If the list of files is missing, or meets the requirements of
+/// [`lines_end_without_blanks`] for lists, no line of the text ends with a blank.
 pub fn lines_of_comparisons_are_as_wide()
     ensures summary { ComparisonWidthLaw }
     ensures ends { ComparisonEndsLaw }

@@ -224,9 +224,9 @@ fn push_entries(text: &mut Vec<u8>, entries: Option<u64>) -> Result<(), AllocErr
 
 /// Makes the text of a sheet as lines of fields, with tabs between the fields.
 ///
-/// The text has a header, and then a line for each row, for the rows that are cut off, and for the totals. Next come the number of
-/// directories, and the number of entries if the sheet has this number. Last come the files if the sheet lists files, the skipped entries,
-/// and the errors. Paths are escaped as [`escape`](lc_text::escape) escapes them.
+/// The text has a header, a line for each shown row, a line with the sums over the rows that are cut off (if any), and a line with the
+/// total. Next come the number of directories, and the number of entries if skipped entries are requested. Last come the files if the sheet
+/// lists files, the skipped entries, and the errors. Paths are escaped as [`escape`](lc_text::escape) escapes them.
 pub fn tsv_text<R: Lines, T: Lines, F: Lines, S: Lines, E: Lines>(
     alloc: Global,
     sheet: &Sheet<'_, R, T, F, S, E>,
@@ -261,8 +261,8 @@ fn push_listed<L: Lines>(
 
 /// Makes the text of a comparison as lines of fields, with tabs between the fields.
 ///
-/// The text has a header, and then a line for each row, for the rows that are cut off, and for the totals. Then comes a line for each file,
-/// if the comparison lists files. Paths are escaped as [`escape`](lc_text::escape) escapes them.
+/// The text has a header, a line for each shown row, a line with the sums over the rows that are cut off (if any), and a line with the
+/// total. If the comparison lists files, a line for each file comes last. Paths are escaped as [`escape`](lc_text::escape) escapes them.
 pub fn tsv_changes<R: Lines, T: Lines, F: Lines>(
     alloc: Global,
     sheet: &ComparisonSheet<'_, R, T, F>,

@@ -9,7 +9,7 @@ use lc_sheet::{Column, Compared, Form, Lines, Number, Value};
 /// The values of a line in one report.
 #[derive(Clone, Copy)]
 pub struct Version {
-    /// The state of the attribute `text`.
+    /// The state of the Git attribute `text`.
     pub text: &'static str,
     /// The class of line ends.
     pub eol: &'static str,

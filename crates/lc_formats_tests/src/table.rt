@@ -1,5 +1,5 @@
-//! Tests of runs that print tables: given trees have the expected tables, and runs report the calls to a tree that fail. Runs succeed if no
-//! allocation fails, which no contract states.
+//! Tests of runs that print tables: given trees have the expected tables, and a run reports which call to its tree failed. The tests also
+//! check what no contract states: a run succeeds if no allocation fails.
 
 mod asking;
 mod cuts;

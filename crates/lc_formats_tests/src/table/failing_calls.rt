@@ -1,5 +1,5 @@
 //! The tables of runs with one worker in which one call to the tree fails, such as a listing or a read. Each call that a walk makes fails
-//! in one of the runs. Other tables are those of trees with a file whose reads fail.
+//! in one of the runs. In further runs, the tree has a file whose reads fail.
 
 use crate::table::asking::{Case, compare, compare_all};
 use crate::table::runs::{BUILD, FIRST_CASE, IGNORE, KEPT, LOG, RULES, SRC};
