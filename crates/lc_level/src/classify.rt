@@ -1,5 +1,5 @@
-//! Divides the entries of a directory into files to count, directories to visit, and entries to skip. The directory's rules, the filters
-//! and the kinds of the entries decide.
+//! Divides the entries of a directory into files to count, directories to visit, and entries to skip. Whether an entry is
+//! skipped depends on its name and kind, the directory's rules, and the filters.
 ghost use Rattle.std.specs.Prelude.{◌≡◌, ◌≤◌, true, false, length, nat_lt, option_map};
 ghost use Rattle.std.specs.Option.{option_or};
 ghost use Rattle.lc_glob.specs.Path.{depth_of, max_depth, max_path};
@@ -35,7 +35,7 @@ pub(crate) struct Classified {
 pub struct ChildDirectory {
     /// The name of the directory in its parent.
     pub name: Vec<u8>,
-    /// The job of the directory: its path, and the chains of rule files that apply in its parent.
+    /// The job of the directory: its path, and two chains: the ignore files and the attribute files that apply in its parent.
     pub job: Job,
 }
 

@@ -13,8 +13,8 @@ use lc_census::Count;
 use lc_tree::Tree;
 use std::alloc::{AllocError, Global};
 
-/// The counted files of a directory, and its errors: absent paths of `--only`, and then files that could not be counted. In both lists the
-/// files are in the order in which `LevelReader::count` got their names.
+/// The counted files of a directory, and its errors: absent paths of `--only`, and then files that could not be counted. The
+/// counted files, and the files that could not be counted, are in the order of the argument `names` of `LevelReader::count`.
 #[derive(Drop)]
 pub struct CountedFiles {
     pub files: Vec<FileLine>,
@@ -81,8 +81,8 @@ impl<T: Tree> LevelReader<'_, T> {
         }
     }
 
-    /// Counts the files with these names in the job's directory, in order. The result has the errors in `absent`, followed by an error for
-    /// each file that could not be counted. Requires that `scratch` has the path of the directory.
+    /// Counts the files `names` of the job's directory, in order. The errors of the result are those in `absent`, and then an error for
+    /// each file that could not be counted. Requires that `scratch` holds the path of the job's directory, as it does after `open`.
     pub fn count(
         &self,
         job: &Job,

@@ -17,7 +17,8 @@ use crate::scratch::Scratch;
 use lc_tree::{Entry, Listing, ReadFault, Tree};
 use std::alloc::AllocError;
 
-/// The bytes of the ignore files that are read for one directory. A field is `None` if the file does not exist, or if texts are not kept.
+/// The bytes of the ignore files that are read for one directory. A field is `None` if the file was not read, or if
+/// `ReaderOptions::texts` is `false`.
 #[derive(Drop)]
 pub struct RuleTexts {
     /// The bytes of `.git/info/exclude`. This file is read only for the top directory of a tree.
@@ -133,7 +134,7 @@ impl<T: Tree> LevelReader<'_, T> {
         })
     }
 
-    /// Lists the directory of a job and reads its rule files, up to the first error. On success `scratch` has the path of this directory.
+    /// Lists the directory of a job and reads its rule files, up to the first error. On success `scratch` holds the path of the directory.
     pub fn enter(&self, job: &Job, scratch: &mut Scratch) -> Result<Entered, OpenFault>
         ensures at { IfOk result (λ e. scratch.new.path.directory ≡ e.job.path) }
         ensures enters { EntersLevel (T.lists self.now.tree.now) (T.gives self.now.tree.now) job.now self.now.options.texts result }

@@ -7,7 +7,8 @@ ghost use Rattle.lc_tree.specs.Listing.{EntryModel, IsListing};
 use lc_tree::{Entry, Listing};
 use std::cmp::Ordering;
 
-/// Returns the entry with this name, if there is one, by a binary search. The entries are in the order of their names.
+/// Returns the entry with this name, if there is one, by a binary search. Requires entries in the order of their names, as in a
+/// `Listing`.
 ///
 /// ```
 /// let found = entry_named(listing.entries(), b"src");

@@ -5,19 +5,19 @@ ghost use Rattle.lc_level.specs.SitePaths.{site_path};
 use crate::paths::path_in;
 use std::alloc::{AllocError, Global};
 
-/// What could not be read: a directory itself, or one of its rule files. The variants for `.git` and for what is in it occur only for the
-/// top of a tree.
+/// What could not be read: a directory itself, one of its rule files, or the directory `.git` or `.git/info` in it. The variants `Git`,
+/// `GitInfo`, `InfoExclude` and `InfoAttributes` occur only for the top directory of a tree.
 #[derive(Clone, Copy, PartialEq, Eq, Debug, Drop)]
 pub enum FaultSite {
     /// The directory itself.
     Directory,
-    /// The directory `.git` of the top.
+    /// The directory `.git` in the top directory of the tree.
     Git,
-    /// The directory `.git/info` of the top.
+    /// The directory `.git/info` in the top directory of the tree.
     GitInfo,
-    /// The file `.git/info/exclude` of the top.
+    /// The file `.git/info/exclude` in the top directory of the tree.
     InfoExclude,
-    /// The file `.git/info/attributes` of the top.
+    /// The file `.git/info/attributes` in the top directory of the tree.
     InfoAttributes,
     /// The `.gitignore` of the directory.
     Gitignore,

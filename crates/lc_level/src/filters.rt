@@ -35,9 +35,9 @@ pub struct Filters<'p> {
     pub exclude_from: Option<RuleText>,
     /// The patterns of the command line, one on each line. They override the rules of all files (gitignore(5)).
     pub exclude: Option<RuleText>,
-    /// The patterns for files, one on each line. No pattern is negated. If this field is `None`, all files stay. Otherwise a file stays
-    /// only if a pattern matches the file, or a directory that is above the file and below the top. Directories are visited, whether or not
-    /// a pattern matches them.
+    /// The patterns of files to count, one on each line. No pattern is negated. If this field is `Some`, a file is skipped unless a pattern
+    /// matches the file, or a directory above the file and below the top of the tree. Directories are visited, whether or not a pattern
+    /// matches them.
     pub include: Option<RuleText>,
     /// Whether no ignore file of the tree is read: no `.gitignore`, and no `.git/info/exclude`.
     pub no_ignore: bool,
@@ -151,8 +151,8 @@ impl<'p> Filters<'p> {
         Ok(wanted)
     }
 
-    /// Returns the patterns for the files of a directory: each file must match one of them to stay. Returns `None` if no file has to match
-    /// a pattern.
+    /// Returns the patterns for the files of a directory: a file that matches none of them is skipped. Returns `None` if no file has to
+    /// match a pattern.
     pub(crate) fn include_in(&self, directory: &[u8]) -> Option<&IgnoreFile>
         ensures { option_map (λ p. p.now) result ≡ patterns_for (include_rules self.now) directory.now }
     {

@@ -141,7 +141,7 @@ impl Job {
         Job::new(alloc, path, ignore, Arc::try_clone(&self.parts.attributes)?)
     }
 
-    /// Returns the last ignore rule that matches a path, and the source of this rule.
+    /// Returns the last of the job's ignore rules that matches a path, and the source of this rule.
     pub fn last_match(&self, path: &[u8], is_dir: bool) -> Option<(RuleSource, &Rule)>
         ensures { option_map (λ r. (r.0, r.1.now)) result ≡ last_match (rules_in self.now.ignore) path.now is_dir }
     {

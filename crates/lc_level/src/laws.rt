@@ -42,9 +42,10 @@ pub fn trees_of_memory_give_one()
     files_of_memory_are_read_once();
 }
 
-/// The law about the answers that the definition `tree_of_node` derives from a `Node`: for each directory, its listing and the results of
-/// reading its files. First, the node's tree in memory may give these answers. Second, the names of each listing are good, distinct and in
-/// order. Third, if each file has under 2^47 bytes, each directory has only the level that these answers give.
+/// The law about a tree in memory, and the answers that the definition `tree_of_node` derives from the tree's `Node`. The answers are each
+/// directory's listing and the results of reading its files. First, the tree may give these answers. Second, the names in each listing are
+/// good, distinct and in order. Third, if each file has under 2^47 bytes, each directory has only one level, which these answers determine.
+/// A level is what a directory contributes to a walk.
 pub fn a_node_is_one_tree()
     ensures answers { NodeAnswersLaw }
     ensures levels { NodeLevelsLaw }

@@ -5,7 +5,8 @@ use crate::filters::Filters;
 use crate::named_attributes::NamedAttributes;
 use std::alloc::Global;
 
-/// What a `LevelReader` keeps besides what a count needs. Options that are off cost nothing.
+/// Which optional things a `LevelReader` keeps: skipped entries, texts of ignore files, notes about attributes. Options that are off cost
+/// nothing.
 #[derive(Clone, Copy, Drop)]
 pub struct ReaderOptions<'n> {
     /// Whether to keep the skipped entries, with their reasons.
@@ -16,7 +17,7 @@ pub struct ReaderOptions<'n> {
     pub named: Option<&'n NamedAttributes>,
 }
 
-/// Reads a tree directory by directory: it opens a directory, and counts the files that stay in it.
+/// Reads a tree directory by directory: it opens a directory, and counts the files in it that are not skipped.
 ///
 /// ```
 /// let filters = Filters::none(alloc);
@@ -36,7 +37,7 @@ pub struct LevelReader<'t, T> {
 }
 
 impl<'t, T> LevelReader<'t, T> {
-    /// Makes a reader of a tree. The reader skips entries according to these filters, and reads nothing yet.
+    /// Makes a reader of `tree` that skips entries as `filters` say. The call reads nothing.
     pub fn new(
         alloc: Global,
         tree: &'t T,

@@ -6,7 +6,7 @@
 //! - `listing`: listing a directory
 //! - `entering`: listing a directory and reading its rule files
 //! - `opening`: entering a directory and deciding which of its entries are skipped
-//! - `rule_files`: reading the rule files of a directory, and adding them to its chains
+//! - `rule_files`: reading the rule files of a directory, and adding them to its chains (the rule files that apply there)
 //! - `entry_looks`: searching the entries of a directory
 //! - `classify`: dividing entries into files to count, directories to visit, and entries to skip
 //! - `skip_reason`, `reason`: why an entry is skipped

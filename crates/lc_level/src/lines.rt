@@ -68,8 +68,8 @@ impl Line for FileLine {
 /// A file or a directory that was not counted, and why.
 #[derive(Debug, Drop)]
 pub struct FaultLine {
-    /// The path of the file or directory, relative to a directory or to the top of a tree. An error of this directory or top itself has the
-    /// empty path.
+    /// The path of the file or directory, relative to a directory or to the top of a tree. The path is empty if the error is
+    /// about this directory or the top itself.
     pub path: Vec<u8>,
     /// Why the file or directory was not counted.
     pub word: FaultWord,

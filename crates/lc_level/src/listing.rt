@@ -1,4 +1,5 @@
-//! Listing a visited directory, or `.git` or `.git/info`, which may have rule files. An error of the listing becomes an `OpenFault`.
+//! Listing the directories that a walk visits, and also `.git` and `.git/info`, because `.git/info` may have rule files. An error of a
+//! listing becomes an `OpenFault`.
 ghost use Rattle.lc_level.specs.GitInfo.{ListsFor};
 ghost use Rattle.lc_tree.specs.Trees.{Lists};
 

@@ -8,11 +8,11 @@ use memchr::memmem;
 use std::alloc::{AllocError, Global};
 use std::sync::atomic::{AtomicBool, Ordering};
 
-/// The attributes that a command line names. For each attribute, workers note whether an attribute file of the tree contains its name, as
-/// they read the files.
+/// The attributes that a command line names. While workers read the attribute files of a tree, they note for each attribute whether one of
+/// these files contains the attribute's name.
 ///
-/// No contract says which attributes the files contain, so the notes are only good for a hint. A name that is a part of another word, or
-/// that is in a comment, counts as contained too.
+/// No contract says which attributes the files contain, so the notes are only good for a hint. An attribute's name counts as contained even
+/// if it is only a part of another word, or is in a comment.
 ///
 /// ```
 /// let named = NamedAttributes::new(alloc, &["linguist-generated=true"])?;
@@ -45,7 +45,8 @@ impl NotedWord {
 }
 
 impl NamedAttributes {
-    /// Makes the list of the attributes in these words, each `ATTR` or `ATTR=VALUE`. No attribute is noted as contained in a file yet.
+    /// Makes the list of the attributes that `words` name. Each word is `ATTR` or `ATTR=VALUE`. The new list has no notes yet about the
+    /// contents of attribute files.
     pub fn new(alloc: Global, words: &[&str]) -> Result<NamedAttributes, AllocError>
         ensures { IfOk result (λ named. noted named ≡ attributes_of words.now) }
     {
@@ -60,7 +61,7 @@ impl NamedAttributes {
         Ok(NamedAttributes { words: noted })
     }
 
-    /// Returns the attributes whose names were not found in any attribute file so far, in the order of the words.
+    /// Returns the attributes whose names were not found in any attribute file so far, in the order of the argument `words` of `new`.
     pub fn unnamed(&self, alloc: Global) -> Result<Vec<Vec<u8>>, AllocError>
         ensures { IfOk result (λ told. AreSomeAttributes (noted self.now) told.items) }
     {
@@ -71,7 +72,7 @@ impl NamedAttributes {
         Ok(unnamed)
     }
 
-    /// Notes which attributes an attribute file with these bytes contains.
+    /// Notes the attributes whose names are in `bytes`, the text of an attribute file.
     pub(crate) fn note(&self, bytes: &[u8]) {
         for word in &self.words {
             if !word.is_named.load(Ordering::SeqCst)

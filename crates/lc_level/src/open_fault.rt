@@ -19,7 +19,7 @@ pub enum OpenFault {
 }
 
 impl ContentFault {
-    /// Converts the error of a file into the error of its directory. `site` says which file of the directory it is.
+    /// Converts the error of a rule file into the error of the directory that is opened. `site` says which rule file could not be read.
     pub fn at(self, site: FaultSite) -> OpenFault
         ensures { result ≡ open_fault_by site self }
     {

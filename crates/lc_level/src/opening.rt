@@ -1,4 +1,4 @@
-//! Opening a directory: deciding which of its entries stay.
+//! Opening a directory: entering it, and deciding which of its entries are skipped.
 ghost use Rattle.std.specs.Prelude.{◌≡◌, IfOk};
 ghost use Rattle.lc_level.specs.Opens.{OpensLevel};
 ghost use Rattle.lc_tree.specs.Trees.{Lists};
@@ -14,7 +14,7 @@ use crate::threads::spare_threads::SpareThreads;
 use lc_tree::{Listing, ReadFault, Tree, list_in_parts};
 use std::thread::Threads;
 
-/// A directory whose entries are known, before its files are counted.
+/// A directory that was listed, and whose entries were divided into files to count, directories to visit, and skipped entries.
 #[derive(Drop)]
 pub struct Opened {
     /// The job of the directory: its path, and its chains of rule files, which include the directory's own rule files.
@@ -69,8 +69,8 @@ impl<T: Tree> LevelReader<'_, T> {
         }
     }
 
-    /// Lists the directory of a job, reads its rule files and decides which entries stay. Stops at the first error, and at an entry whose
-    /// path is too long or too deep (`OpenFault::TooDeep`). On success `scratch` has the path of this directory.
+    /// Lists the directory of a job, reads its rule files and decides which entries are skipped. The call stops at the first error, or at
+    /// an entry whose path is too long or too deep (`OpenFault::TooDeep`). On success `scratch` holds the path of the directory.
     pub fn open(&self, job: &Job, scratch: &mut Scratch) -> Result<Opened, OpenFault>
         ensures at { IfOk result (λ o. scratch.new.path.directory ≡ o.job.path) }
         ensures opens { OpensLevel (T.lists self.now.tree.now) (T.gives self.now.tree.now) self.now.options.left_out

@@ -4,7 +4,7 @@ ghost use Rattle.lc_glob.specs.Path.{path_in};
 
 use std::alloc::{AllocError, Global};
 
-/// Returns the path of the entry with this name in a directory. `lc_glob::path::push_name` changes the directory's path in place instead.
+/// Returns the path of the entry `name` in a directory. `lc_glob::path::push_name` changes the directory's path in place instead.
 pub fn path_in(alloc: Global, directory: &[u8], name: &[u8]) -> Result<Vec<u8>, AllocError>
     ensures { IfOk result (λ p. p.items ≡ path_in directory.now name.now) }
 {
@@ -17,7 +17,7 @@ pub fn path_in(alloc: Global, directory: &[u8], name: &[u8]) -> Result<Vec<u8>, 
 }
 
 /// Returns a path relative to a directory, or `None` if the path is not below the directory. For example, `a/b/c` relative to `a/b` is `c`.
-/// If `directory` is empty, it is the top, and the function returns the whole path.
+/// An empty `directory` is the top of the tree. In this case the function returns the whole path.
 ///
 /// ```
 /// assert_eq!(relative_to(b"a/b", b"a/b/c"), Some(b"c"));

@@ -13,9 +13,10 @@ use std::alloc::{AllocError, Global};
 pub enum Reason {
     /// The entry is named `.git`.
     Git,
-    /// The last rule that matches the entry ignores it. The rule is in the file of this source, on the line with this number, from 1.
+    /// The last rule that matches the entry ignores it. `source` is the file or the option that has the rule. `line` is the number of the
+    /// rule's line there; the first line has number 1.
     Rule { source: RuleSource, line: u32 },
-    /// An attribute of the entry has the state that this word of the filters requires. The word is `ATTR` or `ATTR=VALUE`.
+    /// An attribute of the entry has the state that a word of `Filters::without` requires. The value is this word, `ATTR` or `ATTR=VALUE`.
     Attribute(Vec<u8>),
     /// The entry is a file, and no pattern of the filters includes it.
     NotIncluded,

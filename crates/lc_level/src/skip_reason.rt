@@ -47,7 +47,7 @@ impl<'t, T> LevelReader<'t, T> {
         }
     }
 
-    /// Returns why a walk skips the entry of this name, or `None` if there is no reason to skip it. `path` is the entry's path.
+    /// Returns why a walk skips the entry `name`, or `None` if there is no reason to skip the entry. `path` is the entry's path.
     pub fn reason(
         &self,
         job: &Job,

@@ -33,8 +33,8 @@ fn is_within(patterns: &IgnoreFile, directory: &[u8]) -> bool
     matches(patterns, directory, true) || has_matched_parent(patterns, directory)
 }
 
-/// Returns the patterns for the files of a directory: each file must match one of them to stay. Returns `None` if a pattern matches the
-/// directory, or one above it and below the top: all its files stay.
+/// Returns the patterns for the files of a directory: a file that matches none of them is skipped. Returns `None` if a pattern matches the
+/// directory, or a directory above it and below the top of the tree: in this case the patterns include all files of the directory.
 pub(crate) fn patterns_for<'p>(patterns: &'p IgnoreFile, directory: &[u8]) -> Option<&'p IgnoreFile>
     ensures { option_map (λ p. p.now) result ≡ patterns_for (Some patterns.entry.now) directory.now }
 {

@@ -12,7 +12,8 @@ use crate::narrowing::sorted_paths::is_within;
 use std::alloc::{AllocError, Global};
 use std::marker::Model;
 
-/// The paths of `--only`, sorted once. For each directory, a binary search finds the paths that concern it.
+/// The paths of `--only`, sorted once. For each directory, binary searches find which of the paths are below the directory, and whether one
+/// of the paths is at the directory or above it.
 ///
 /// ```
 /// let only = OnlyPaths::new(alloc, &[b"src", b"docs/a.md"])?;
@@ -99,7 +100,8 @@ impl<'o> OnlyPaths<'o> {
         }
     }
 
-    /// Sorts the paths, which are relative to the top, with no slash at the end. If there are no paths, all of a tree is selected.
+    /// Sorts the paths `asked`. Each path is relative to the top of the tree, and has no slash at its end. If there are no paths, the whole
+    /// tree is selected.
     pub fn new(alloc: Global, asked: &'o [&'o [u8]]) -> Result<OnlyPaths<'o>, AllocError>
         ensures { IfOk result (λ only. only ≡ map (λ path. path.now) asked.entry.now) }
     {

@@ -62,7 +62,7 @@ impl<T: Tree> LevelReader<'_, T> {
         Ok(())
     }
 
-    /// Counts the files of these names, in order, up to the first that is large, and returns the rest of the names.
+    /// Counts the files `names`, in order, up to the first that is large, and returns the rest of the names.
     fn count_until_large(
         &self,
         job: &Job,
@@ -85,7 +85,7 @@ impl<T: Tree> LevelReader<'_, T> {
         Ok((found, rest))
     }
 
-    /// Counts the files with these names, in parts side by side if there are helpers.
+    /// Counts the files `names`, in parts side by side if there are helpers.
     fn count_by_helpers<R: Threads + Sync>(
         &self,
         rt: &R,

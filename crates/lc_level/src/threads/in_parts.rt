@@ -112,8 +112,8 @@ impl<T: Tree> LevelReader<'_, T> {
         Ok(found)
     }
 
-    /// Like `count`, but counts many files in parts side by side: one part for each idle thread that can help, and one more part. After a
-    /// file of over 16 MiB the other files are counted in parts too, even if few files are left.
+    /// Like `count`, but divides many files into parts: one part for each idle thread that can help, and one more part. The parts are
+    /// counted at the same time. Files that follow a file of over 16 MiB are divided into parts even if they are few.
     ///
     /// Each part allocates a buffer of its own.
     pub fn count_divided<R: Threads + Sync>(
