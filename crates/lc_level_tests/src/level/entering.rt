@@ -130,7 +130,7 @@ fn check_last_match(rt: &impl Abort, inside: &Job) {
     }
 }
 
-/// The name and the kind of an entry, and why the entry is skipped. The reason is empty if the entry stays.
+/// The name and the kind of an entry, and why the entry is skipped. The reason is empty if the entry is not skipped.
 type Judged = (&'static [u8], Kind, &'static str);
 
 const JUDGED: &[Judged] = &[

@@ -1,4 +1,4 @@
-//! Which entries of a directory stay with the options `--exclude`, `--exclude-from`, `--no-ignore`, `--without` and `--include`.
+//! Which entries of a directory are skipped with the options `--exclude`, `--exclude-from`, `--no-ignore`, `--without` and `--include`.
 
 use crate::level::work::{Case, Part, check, check_parts};
 use std::test::Fail;

@@ -1,4 +1,4 @@
-//! Directories that can be listed: which entries stay, and what counting their files gives.
+//! Directories that can be listed: which entries are skipped, and what counting the files gives.
 
 use crate::level::work::{Case, check, check_anywhere};
 use std::test::Fail;

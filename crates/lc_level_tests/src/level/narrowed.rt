@@ -1,4 +1,4 @@
-//! Directories of which the paths of `--only` select entries: which entries stay, and which paths are absent.
+//! Directories with paths of `--only`: which entries the paths select, what happens to these entries, and which paths are absent.
 
 use crate::level::work::{Part, check_parts};
 use std::test::Fail;
