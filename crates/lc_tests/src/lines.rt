@@ -114,7 +114,8 @@ fn without_comma(word: &str) -> &str {
     word.strip_suffix(',').unwrap_or(word)
 }
 
-/// Returns whether both texts have the same words. Spaces and line ends separate words, and a comma after a word is not a part of it.
+/// Returns whether both texts have the same words in the same order. Spaces and line ends separate words, and a comma after a word is not a
+/// part of it.
 pub fn has_words(found: &str, wanted: &str) -> bool {
     let mut words = found.split_ascii_whitespace();
     for wanted in wanted.split_ascii_whitespace() {

@@ -23,7 +23,7 @@ pub struct Asked<'a> {
 
 impl<'a> Asked<'a> {
     /// Reads a request from words. A word is an option of `lc count`, with `=` before its value, or a path of `--only`. The value of
-    /// `--exclude-from` is the contents of the file, written as in a sketch (`tree`). If there is no `--max-dirs`, a walk may visit 100
+    /// `--exclude-from` is the contents of the file, written as in a sketch (see `tree`). If there is no `--max-dirs`, a walk may visit 100
     /// directories.
     pub fn read(alloc: Global, words: &'a str) -> Result<Asked<'a>, AllocError> {
         let mut asked = Asked {

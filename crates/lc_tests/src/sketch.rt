@@ -72,11 +72,11 @@ fn put_word(alloc: Global, open: &mut Vec<Open>, word: &str) -> Result<(), Alloc
     put(open, name.as_bytes().to_vec(alloc)?, node)
 }
 
-/// Makes the tree of a sketch. The sketch lists the entries of the top, separated by spaces and line ends:
+/// Makes the tree that a sketch describes. The sketch lists the entries of the top directory, separated by spaces and line ends:
 ///
 /// | Word | Entry |
 /// |---|---|
-/// | `a` | a file of the line `x` |
+/// | `a` | a file with one line, `x` |
 /// | `a=*.c_text;b` | a file of these bytes: `;` is a line feed, `^` a carriage return, and `_` a space |
 /// | `a!` or `a!x;` | a file that has these bytes and then fails instead of ending |
 /// | `a/` | a directory without entries |
@@ -85,7 +85,7 @@ fn put_word(alloc: Global, open: &mut Vec<Open>, word: &str) -> Result<(), Alloc
 /// | `a@` | neither a file nor a directory |
 /// | `a@/` | a directory on another file system, which a walk does not enter |
 ///
-/// The sketch `/!` is a top that can't be listed.
+/// The sketch `/!` describes a top directory that can't be listed.
 pub fn tree(alloc: Global, sketch: &str) -> Result<Node, AllocError> {
     if sketch == "/!" {
         return Ok(Node::Closed);

@@ -15,8 +15,8 @@ pub enum WhenFull {
     Fails,
 }
 
-/// Writers for tests that repeat an output, each time with a writer that is full after a different number of bytes. Each pair has the most
-/// bytes that one write accepts, and what the writer does once it is full.
+/// Settings of the writer `Narrow`. Each pair has the most bytes that one write accepts, and what the writer does once it is full. Tests
+/// use each pair for several writers, which are full after different numbers of bytes.
 pub const WRITERS: &[(usize, WhenFull)] = &[
     (1, WhenFull::TakesNothing),
     (1, WhenFull::Fails),

@@ -4,8 +4,8 @@ ghost use Rattle.std.specs.Prelude.{◌≡◌};
 use std::marker::Model;
 use std::sync::atomic::{AtomicU64, Ordering};
 
-/// A count of the calls that all threads make, with the number of the one call that is to fail. Contracts see this number, but not the
-/// count.
+/// A count of the calls that all threads make, and the number of the one call that is to fail. Contracts can refer to this number, but not
+/// to the count.
 #[derive(Drop)]
 pub struct FailingCall {
     begun: AtomicU64,
@@ -21,7 +21,7 @@ impl Model for FailingCall {
 }
 
 impl FailingCall {
-    /// Makes the count of calls in which the call with this number fails. The first call has number 0.
+    /// Makes a count of calls that starts at 0. `place` is the number of the call that is to fail; the first call has number 0.
     pub fn new(place: u64) -> FailingCall
         ensures { result ≡ place }
     {
