@@ -24,32 +24,32 @@ pub fn a_tally_has_no_order()
 {}
 
 /// The law about the rows that workers added to a board, one row for each directory. Each row names the directory's child directories, so
-/// the rows make a tree. Under any scheduling of the workers, the recursive walk of this tree finds exactly what the rows have. The
-/// recursive walk visits the directory of each row once. The law requires that each row is true of its directory. It also requires that no
-/// row is `Row::Broken`: no worker stopped before it had finished a directory.
+/// the rows make a tree. Under any scheduling of the workers, a recursive walk of this tree visits the directory of each row once, and
+/// finds exactly what the rows have. The law requires that each row is true of its directory. It also requires that no row is
+/// `Row::Broken`: no worker stopped before it had finished a directory.
 pub fn rows_are_the_walk_of_their_tree()
     ensures found { CoreLaw }
     ensures numbers { NumbersLaw }
 {}
 
-/// The law about a tree, and the rows that workers added to a board, one row for each directory. The recursive walk of the tree finds
+/// The law about a tree, and the rows that workers added to a board, one row for each directory. A recursive walk of the tree finds
 /// exactly what the directories of the rows contribute. The law requires that each row is true of its directory in this tree. It also
 /// requires that no row is `Row::Broken`: no worker stopped before it had finished a directory.
 pub fn rows_are_the_walk_of_one_tree()
     ensures { OneAnswerLaw }
 {}
 
-/// The law that each report of a walk is also the report of some recursive walk. This recursive walk reads only answers that the tree may
-/// give: listings and file contents. In each listing that it reads, the names are good, distinct and in order, as in a `Listing`.
+/// The law that each report of a walk is also the report of some recursive walk. All listings and file contents that this recursive walk
+/// reads are results that the tree may return. In each of these listings, the names are good, distinct and in order, as in a `Listing`.
 pub fn reports_are_by_given_answers<T: Tree>(tree: &T)
     ensures { ByAnswersLaw (T.lists tree.now) (T.gives tree.now) }
 {
     let _tree = tree;
 }
 
-/// The law that a walk of an in-memory tree makes the report of the recursive walk of the tree that its top `Node` describes. The law
-/// requires that each file has less than 2^47 bytes. It also requires that the closed board has each directory's row at the index of the
-/// directory's number.
+/// The law that a walk of an in-memory tree makes the report of a recursive walk of the tree that its top `Node` describes. The law
+/// requires that each file has less than 2^47 bytes. It also requires that the closed board has the rows in order: the row at index N is
+/// that of the directory with the number N.
 pub fn reports_of_memory_are_those_of_its_node()
     ensures one_answer { NodeOneAnswerLaw }
     ensures report { NodeReportLaw }
@@ -57,9 +57,10 @@ pub fn reports_of_memory_are_those_of_its_node()
     a_node_is_one_tree();
 }
 
-/// The law that if the events of one worker show that a directory's row is lawful, the events of all workers show it too. An event is what
-/// a worker did on the board, such as adding a row. A row is lawful if it is true of its directory, and of the child directories that its
-/// worker posted for any worker to visit. The law requires that the list of all events is legal: each event was allowed when it came.
+/// The law about a directory's row and the events on the board. An event is what a worker did on the board, such as adding a row. A row is
+/// lawful by some events if it is true of its directory, and of the child directories that these events posted for any worker to visit. If
+/// a row is lawful by the events of one worker, it is lawful by the events of all workers. The law requires that the list of all events is
+/// legal: each event was allowed when it came.
 pub fn lawful_in_part_is_lawful()
     ensures { PartLaw }
 {}
@@ -72,9 +73,9 @@ pub fn all_that_is_found_is_given()
     ensures { FoundLaw }
 {}
 
-/// The law about the entries in a walk's report, if the report lists its skipped entries. The counted files, the listed directories, the
-/// skipped entries and the errors other than `absent` are together one more than the entries, because the top is not an entry. Each error
-/// `absent` is about a requested path.
+/// The law about the entries in a walk's report, if the report lists its skipped entries. Four numbers add up to the number of entries
+/// plus one for the top, which is not an entry: counted files, listed directories, skipped entries, and errors with another word than
+/// `absent`. Each error with the word `absent` is about a requested path.
 pub fn entries_are_accounted_for<T: Tree>(tree: &T)
     ensures { EntriesLaw (T.lists tree.now) (T.gives tree.now) }
 {
@@ -82,7 +83,8 @@ pub fn entries_are_accounted_for<T: Tree>(tree: &T)
 }
 
 /// The law that the totals of a walk's report are the sums of its rows. If the report lists its files, the totals are also the sums of the
-/// files. In this case, each row has the sums of the files that have the row's extension, text state and class of line ends.
+/// files. In this case, each row has the sums of the files that have the row's extension, state of the attribute `text` and class of line
+/// ends.
 pub fn totals_of_a_report_add_up<T: Tree>(tree: &T)
     ensures { ReportTotalsLaw (T.lists tree.now) (T.gives tree.now) }
 {
@@ -98,8 +100,8 @@ pub fn a_part_is_the_whole_filtered()
     ensures one_tree { PartOfWalkLaw }
 {}
 
-/// The law about a walk with `include` patterns and the walk without them. Of the files that the second walk counts, the first counts
-/// exactly the files that the patterns include. Both walks list the same directories.
+/// The law about a walk with `include` patterns and the walk without them. Of the files that the walk without the patterns counts, the walk
+/// with the patterns counts exactly the files that the patterns include. Both walks list the same directories.
 pub fn included_files_are_the_whole_filtered()
     ensures { IncludeLaw }
 {}

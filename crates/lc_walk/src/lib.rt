@@ -3,9 +3,9 @@
 //! adds a row to the board: what the worker found in the directory.
 //!
 //! - `row`: the row that a worker adds to the board for a directory
-//! - `served_job`: what a row keeps of the job, which is what the worker needed to visit the directory
+//! - `served_job`: what a row keeps of a job. A job is what a worker needs to visit a directory
 //! - `broken_cause`: why a worker stopped before it had finished the work on a directory
-//! - `tally`: the sums over the counted files, with a row for each extension, text state and class of line ends
+//! - `tally`: the sums over the files of each extension, state of the attribute `text` and class of line ends
 //! - `report`: the report of a walk, made from the rows of all directories
 //! - `worker`: one worker
 //! - `workers`: running all workers at the same time

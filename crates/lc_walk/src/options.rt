@@ -34,7 +34,7 @@ pub struct Options<'o> {
 }
 
 impl<'o> Options<'o> {
-    /// Returns the options of a walk with this many threads, at most this many directories, these filters and no optional lists.
+    /// Returns the options of a walk with `threads` threads, at most `max_dirs` directories, `filters`, and no optional lists.
     pub fn new(threads: u32, max_dirs: u32, filters: &'o Filters<'o>) -> Options<'o>
         ensures { HasNoLists threads max_dirs filters.entry.now result }
     {

@@ -24,8 +24,8 @@ pub use lc_level::{FaultLine, FileLine, SkippedLine};
 /// The report of a walk.
 #[derive(Debug, Drop)]
 pub struct Report {
-    /// The sums over the counted files: a row for each extension, text state and class of line ends that some file has. The rows are in the
-    /// order of their keys.
+    /// The sums over the counted files: a row for each combination of extension, state of the attribute `text` and class of line ends that
+    /// some file has. This combination is the row's key, and the rows are in the order of their keys.
     pub rows: Vec<TallyRow>,
     /// The sums over all counted files.
     pub totals: Sums,

@@ -64,7 +64,7 @@ enum RowParts {
 }
 
 impl RowParts {
-    /// Stores these parts. If an allocation fails, returns the directory's job as the error.
+    /// Stores `parts`. If an allocation fails, returns the job in `parts` as the error.
     fn new(alloc: Global, parts: ListedParts) -> Result<RowParts, ServedJob>
         ensures kept { IfOk result (λ k. listed_in k ≡ parts) }
         ensures job { IfErr result (λ j. j ≡ parts.job) }
@@ -110,7 +110,7 @@ impl Model for ListedRow {
 }
 
 impl ListedRow {
-    /// Makes the row of these parts. If an allocation fails, returns the directory's job as the error.
+    /// Makes the row that has `parts`. If an allocation fails, returns the job in `parts` as the error.
     pub fn new(alloc: Global, parts: ListedParts) -> Result<ListedRow, ServedJob>
         ensures row { IfOk result (λ r. r ≡ parts) }
         ensures job { IfErr result (λ j. j ≡ parts.job) }

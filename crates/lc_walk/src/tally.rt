@@ -1,5 +1,5 @@
-//! The tally of counted files: the sums over the files of each key, and over all files. A key is an extension, a text state and a class of
-//! line ends.
+//! The tally of counted files: the sums over the files of each key, and over all files. A key is an extension, a state of the attribute
+//! `text` and a class of line ends.
 //!
 //! - `extensions`: the extension of a file's name
 //! - `key`, `sums`, `tally_row`: a row of a tally, which has a key and the sums over the files with this key
@@ -39,8 +39,9 @@ pub(crate) const MAX_FILES: u64 = 1 << 63;
 /// A tally represents a list of files. `new` makes the tally of no files, `add` adds one file, and `merge` joins the files of two tallies.
 /// The order of the files does not matter (`a_tally_has_no_order`). The time of an add grows with the logarithm of the number of keys.
 ///
-/// Keys are in the order of their extensions: no extension first, then extensions by their bytes. Keys with one extension are in the order
-/// of their text states: set, unset, auto, other, unspecified. Then the line ends decide: none, LF, CR LF, CR, mixed, NUL.
+/// Keys are in the order of their extensions: no extension first, then extensions by their bytes. Keys with the same extension are in the
+/// order of the states of the attribute `text`: set, unset, auto, other, unspecified. Keys that also have the same state are in the order
+/// of their line ends: none, LF, CR LF, CR, mixed, NUL.
 ///
 /// ```
 /// let mut tally = Tally::new(alloc);
@@ -81,9 +82,9 @@ impl Tally {
         self.totals
     }
 
-    /// Adds a file with an extension, a text state and a census, which has the file's lines, blank lines, bytes and line ends. The call
-    /// fails only if no earlier file had the file's key, and an allocation for a row or the extension's bytes fails. After a failure the
-    /// tally is as it was.
+    /// Adds a file with an extension and a state of the attribute `text`. `count` has the file's lines, blank lines, bytes and line ends.
+    /// The call fails only if no earlier file had the file's key, and an allocation for a row or the extension's bytes fails. After a
+    /// failure the tally is as it was before the call.
     pub fn add(
         &mut self,
         ext: Option<&[u8]>,

@@ -30,7 +30,7 @@ use std::thread::Threads;
 /// Why a worker has stopped.
 #[derive(Clone, Copy, Debug, Drop, PartialEq, Eq)]
 pub enum StopReason {
-    /// The worker found the board over: no directory waited to be claimed, and no worker was working on a directory.
+    /// The worker found that the walk was over: no directory waited to be claimed, and no worker was working on a directory.
     Over,
     /// An allocation failed while the worker tried to claim a directory.
     Memory,

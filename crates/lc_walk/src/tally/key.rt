@@ -26,7 +26,7 @@ impl<'a> Model for KeyRef<'a> {
     ghost view = { λ a. record { extension = option_map (λ s. s.now) a.extension; text = a.text; eol = a.eol } };
 }
 
-/// Returns the place of a text state in the order of keys.
+/// Returns the place of a state of the attribute `text` in the order of keys.
 pub(crate) fn text_rank(text: TextState) -> u8
     ensures value { result ≡ text_place text }
     ensures small { result < 8 }

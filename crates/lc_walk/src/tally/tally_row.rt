@@ -15,7 +15,7 @@ use std::alloc::{AllocError, Global};
 use std::cmp::Ordering;
 use std::marker::Model;
 
-/// The sums over the files that have one extension, one text state and one class of line ends.
+/// The sums over the files that have one extension, one state of the attribute `text` and one class of line ends.
 #[derive(Debug, Drop)]
 pub struct TallyRow {
     /// The bytes after the last dot of the files' names, as `extension` returns them, or none.
