@@ -1,4 +1,4 @@
-//! Tests of walks in which one call on the tree fails: the walk reports an error where that call was needed, and finds all the rest.
+//! Tests of walks in which one call on the tree fails: which error the walk reports, and which files and directories it still finds.
 ghost use Rattle.std.specs.Prelude.{◌<◌, IfOk, IfSome};
 
 use crate::walk::walked::{Board, ONLY_FILES, report_of, walk_options};

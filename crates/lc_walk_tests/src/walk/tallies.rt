@@ -8,7 +8,8 @@ use std::alloc::{AllocError, Global};
 use std::process::Abort;
 use std::test::Fail;
 
-/// Adds one file to the tally. The text has the file's extension, text state and line ends, a 1, and its lines, blank lines and bytes.
+/// Adds one file to the tally. The text has the file's extension, state of the attribute `text` and line ends, a 1, and its lines, blank
+/// lines and bytes.
 fn add_row(rt: &impl Abort, tally: &mut Tally, row: &str) -> Result<(), AllocError> {
     let mut words = row.split_ascii_whitespace();
     let ext = words.next().unwrap_or("-");

@@ -4,7 +4,8 @@ use lc_tests::{eol_word, push_kind, push_name, push_reason, text_word};
 use lc_walk::{FileLine, Report, TallyRow};
 use std::alloc::{AllocError, Global};
 
-/// Appends a line with the row's extension, text state and line ends, and its numbers of files, lines, blank lines and bytes.
+/// Appends a line with the row's extension, state of the attribute `text` and line ends, and its numbers of files, lines, blank lines
+/// and bytes.
 pub(super) fn push_row(text: &mut String, row: &TallyRow) -> Result<(), AllocError> {
     match &row.ext {
         Some(ext) => {
