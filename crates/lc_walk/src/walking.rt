@@ -92,8 +92,8 @@ pub fn walk_on<B: Shared<Job, Row>, T: Tree, R: Threads + Wait + Sync>(
     walk_by::<B, T, R>(rt, alloc, tree, options, 1)
 }
 
-/// Walks a tree with up to `options.threads` threads. The report is that of a recursive walk. All listings, metadata and file
-/// contents that this recursive walk reads are results that `tree` may return.
+/// Walks a tree with up to `options.threads` threads. The report is that of a recursive walk. All listings and file contents that
+/// this recursive walk reads are results that `tree` may return.
 ///
 /// ```
 /// let report = walk(&rt, rt.alloc(), &tree, &options)?;
