@@ -72,7 +72,7 @@ const PLAIN: &[File] = &[
     (b"b", NONE, Eol::Lf, [3, 1, 4]),
 ];
 
-/// Like `PLAIN`, but the text state of `a` and the line ends of `b` differ.
+/// Like `PLAIN`, but the state of the attribute `text` of `a` and the line ends of `b` differ.
 const MARKED: &[File] = &[
     (b"a", TextState::Set, Eol::Lf, [1, 0, 2]),
     (b"b", NONE, Eol::Cr, [3, 1, 4]),

@@ -15,7 +15,7 @@ use std::process::Abort;
 
 pub(super) const NONE: TextState = TextState::Unspecified;
 
-/// A file: a path, a text state, a class of line ends, and the numbers of lines, blank lines and bytes.
+/// A file: a path, a state of the attribute `text`, a class of line ends, and the numbers of lines, blank lines and bytes.
 pub(super) type File = (&'static [u8], TextState, Eol, [u64; 3]);
 
 pub(super) const OLD: &[File] = &[

@@ -13,10 +13,10 @@ use std::alloc::{AllocError, Global};
 use std::process::Abort;
 use std::test::Fail;
 
-/// A row: an extension, a text state, a class of line ends, and the numbers of files, lines, blank lines and bytes.
+/// A row: an extension, a state of the attribute `text`, a class of line ends, and the numbers of files, lines, blank lines and bytes.
 pub(super) type Row = (Option<&'static [u8]>, TextState, Eol, [u64; 4]);
 
-/// A file: a path, a text state, a class of line ends, and the numbers of lines, blank lines and bytes.
+/// A file: a path, a state of the attribute `text`, a class of line ends, and the numbers of lines, blank lines and bytes.
 pub(super) type File = (&'static [u8], TextState, Eol, [u64; 3]);
 
 /// A test case: a name that says what it shows, the options of the table, the parts of a report, and the lines of the table below the

@@ -9,7 +9,7 @@ use std::alloc::{AllocError, Global};
 
 pub(super) const NONE: TextState = TextState::Unspecified;
 
-/// A file: a path, a text state, a class of line ends, and the numbers of lines, blank lines and bytes.
+/// A file: a path, a state of the attribute `text`, a class of line ends, and the numbers of lines, blank lines and bytes.
 pub(super) type File = (&'static [u8], TextState, Eol, [u64; 3]);
 
 /// A row: a directory, an extension, a class of line ends, and the numbers of files, lines, blank lines and bytes.
