@@ -1,4 +1,4 @@
-//! The attributes that the attribute files of a tree name.
+//! Which attributes are named in the attribute files of a tree.
 
 ghost use Rattle.std.specs.Prelude.{◌≡◌, IfOk, OnOk};
 ghost use Rattle.lc_level.specs.NamedAttributes.{AddsAtMost, AreSomeAttributes, attributes_of, noted};

@@ -89,7 +89,7 @@ pub fn explain<T: Tree, S: Source, O: Sink>(
 
 /// Like [`explain`], but for the paths in `words` instead of the paths of an input.
 ///
-/// After an error a prefix of the text was written.
+/// The text is written in blocks. If the function returns an error, a prefix of the text was written.
 pub fn explain_words<T: Tree, O: Sink>(
     alloc: Global,
     tree: &T,

@@ -15,14 +15,14 @@ use lc_walk::{FileLine, KeyRef, Sums, TallyRow, extension};
 use std::alloc::{AllocError, Global};
 use std::marker::Model;
 
-/// Where the sums of a part are stored. A row of a table adds up parts, such as files.
+/// Where the sums of a `Part` are stored. A row of a table adds up parts, such as files.
 #[derive(Clone, Copy)]
 pub(crate) enum Source<'s> {
-    /// The part is this file, and its sums are the file's counts.
+    /// The part is this file. The counts of the file are the sums of the part.
     File(&'s FileLine),
-    /// The part is this row of the report, and its sums are the row's sums.
+    /// The part is this row of the report. The sums of the row are the sums of the part.
     Row(&'s TallyRow),
-    /// The part is another row of a table, and these are the sums of that row.
+    /// The part is another row of a table, which has these sums.
     Shown(&'s Sums),
 }
 

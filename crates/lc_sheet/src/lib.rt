@@ -3,7 +3,7 @@
 //!
 //! - `column`: the columns of a sheet
 //! - `value`: the value of a line in a column
-//! - `form`: what rows are grouped by, which column shows the names of sums, and what shares are computed from
+//! - `form`: what rows are grouped by, in which column a line of sums has its name, and what shares are computed from
 //! - `lines`: the trait of a kind of lines, such as rows or files
 //! - `section`: lines of one kind, and the columns in which they are shown
 //! - `sheet`, `comparison_sheet`: the sections of a report, and the sections of a comparison of two reports

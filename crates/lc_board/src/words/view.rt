@@ -14,8 +14,8 @@ pub enum Slot<J, R> {
 // what a number takes besides its word, if jobs and rows are boxes
 const _: () = prove!(size_of::<Slot<Box<[u64; 100]>, Box<[u64; 50]>>>() == 16);
 
-/// What a worker's pass knows of its board: what the worker has seen and done. In each list of events the newest event is first. The struct
-/// exists only in contracts.
+/// What a worker has seen and done on its board, as the worker's pass (its access to the board) records it. In each list of events the
+/// newest event is first. The struct exists only in contracts.
 pub struct View<J, R> {
     /// False if this pass was merged into another pass, and true otherwise.
     pub live: bool,

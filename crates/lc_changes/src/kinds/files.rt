@@ -1,4 +1,4 @@
-//! The files of a comparison's sheet, and their values in its columns.
+//! The lines of a comparison's sheet that show files: which value a file has in each column.
 
 ghost use Rattle.std.specs.Prelude.{◌≡◌, option_map};
 ghost use Rattle.lc_changes.specs.ChangeValues.{column_of, file_change_value, shared_value, side_value};

@@ -1,4 +1,4 @@
-//! The rows of a comparison's sheet, and their values in its columns.
+//! The lines of a comparison's sheet that show rows: which value a row has in each column.
 
 ghost use Rattle.std.specs.Prelude.{◌≡◌};
 ghost use Rattle.lc_changes.specs.ChangeValues.{changed_value};

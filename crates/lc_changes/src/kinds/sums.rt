@@ -1,4 +1,4 @@
-//! The lines that show sums in a comparison's sheet, such as the total, and their values in the sheet's columns.
+//! The lines of a comparison's sheet that show sums, such as the total: which value a line of sums has in each column.
 
 ghost use Rattle.std.specs.Prelude.{◌≡◌};
 ghost use Rattle.lc_changes.specs.ChangeValues.{changed_sums_value};

@@ -49,8 +49,8 @@ const NO_ROWS: &[Case] = &[Case {
     lines: b"total\t*\t*\t0\t0\t0\t0\ndirectories\t1\n",
 }];
 
-/// A test case: what it shows, whether rows are by extension, state of `text` and line ends, the number that sorts rows, and the lines of the
-/// rows.
+/// A test case: what it shows, whether rows are by extension, state of `text` and line ends, the number that sorts rows, and the lines of
+/// the rows.
 type ShapeCase = (&'static str, [bool; 3], Option<Number>, &'static [u8]);
 
 const CASES: &[ShapeCase] = &[

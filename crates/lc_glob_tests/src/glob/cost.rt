@@ -1,4 +1,4 @@
-//! Tests of the number of byte tests that a match makes, also with hostile patterns.
+//! Tests of how often a match compares a byte of a path (its byte tests), also with hostile patterns.
 
 use lc_glob::{Candidate, Pattern};
 use std::alloc::{AllocError, Global};

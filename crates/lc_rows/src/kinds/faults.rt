@@ -1,4 +1,4 @@
-//! The errors of a report's sheet, and their values in its columns.
+//! The lines of a report's sheet that show errors: which value an error has in each column.
 
 ghost use Rattle.std.specs.Prelude.{◌≡◌};
 ghost use Rattle.lc_sheet.specs.Values.{value_model};

@@ -1,4 +1,4 @@
-//! The files of a report's sheet, and their values in its columns.
+//! The lines of a report's sheet that show files: which value a file has in each column.
 
 ghost use Rattle.std.specs.Prelude.{◌≡◌};
 ghost use Rattle.lc_sheet.specs.Values.{value_model};

@@ -1,4 +1,4 @@
-//! The rows of a report's sheet, and their values in its columns.
+//! The lines of a report's sheet that show rows: which value a row has in each column.
 
 ghost use Rattle.std.specs.Prelude.{◌≡◌, [], option_map, unwrap_or};
 ghost use Rattle.lc_sheet.specs.Values.{value_model, word};

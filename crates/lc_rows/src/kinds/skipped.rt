@@ -1,4 +1,4 @@
-//! The skipped entries of a report's sheet, and their values in its columns.
+//! The lines of a report's sheet that show skipped entries: which value a skipped entry has in each column.
 
 ghost use Rattle.std.specs.Prelude.{◌≡◌};
 ghost use Rattle.lc_sheet.specs.Values.{value_model};

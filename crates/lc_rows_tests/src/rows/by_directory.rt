@@ -1,4 +1,4 @@
-//! Rows by directory, alone and with other columns, sorted and cut.
+//! Tests of tables with rows by directory: with and without other columns, sorted, and cut after the first rows.
 
 use crate::rows::files::{BY_DIRECTORY, File, NONE, Row, are_rows, file_lines};
 use lc_census::Eol;

@@ -1,4 +1,5 @@
-//! Tests of the rows that a single worker adds to a board, one row for each directory. The board has the type `Words` or `Locked`.
+//! Tests of a walk with a single worker: the rows with what the worker found in each directory. The board, through which workers share
+//! directories, has the type `Words` or `Locked`.
 ghost use Rattle.std.specs.Prelude.{◌≡◌, None, IfOk, OnOk};
 ghost use Rattle.lc_board.specs.Pass.{holding, new_pass};
 
