@@ -89,8 +89,8 @@ impl<J: Drop, R: Drop> Plain<J, R> {
         Claim::Over
     }
 
-    /// Adds a child directory with this job to the board, under the worker's claim. Returns the child directory's number: the least unused
-    /// number.
+    /// Adds a child of the directory that the worker has claimed to the board, with this job. Returns the child directory's number: the
+    /// least unused number.
     pub fn post(&mut self, worker: u32, job: J) -> Result<u32, PostFault<J>>
         requires worker { worker < workers_of self.old }
         requires holds { held_by self.old worker ≢ None }

@@ -1,4 +1,4 @@
-//! A file of a comparison.
+//! A line about a file in a comparison: what the old and the new report have at one path.
 
 ghost use Rattle.std.specs.Prelude.{◌≡◌, option_map};
 ghost use Rattle.lc_changes.specs.FileChanges.{are_same_counts, changed_path, either_file, file_change, is_changed, side_number};
@@ -10,7 +10,7 @@ use lc_sheet::Number;
 use lc_walk::FileLine;
 use std::marker::Model;
 
-/// A file of a comparison: what the two reports have at one path.
+/// A line about a file in a comparison: what the old and the new report have at one path.
 #[derive(Drop)]
 pub struct FileChange<'a> {
     /// The old report's file at the path, or `None` if the report has no file there.

@@ -14,7 +14,7 @@ pub enum UnreadReason {
     IsDirectory,
     /// There is a file at the path, but a directory is expected.
     IsFile,
-    /// There is neither a directory nor a file at the path, or the path leads through something that is not a directory.
+    /// The path leads to something other than a directory or a file, such as a pipe, or leads through something that is no directory.
     NotDirectory,
     /// A reason that the other variants do not describe. The program prints no text for this reason.
     Other,

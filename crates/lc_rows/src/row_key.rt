@@ -16,7 +16,8 @@ use std::marker::Model;
 /// The key of a row of a table: what the files of the row have in common. The directory and the extension are borrowed.
 #[derive(Drop)]
 pub struct RowKeyRef<'a> {
-    /// The directory of the files, cut after some of its names, if rows are by directory. The path of the top directory is empty.
+    /// The directory that holds the files, if rows are by directory. Its path is cut after as many names as `--depth` says. The path of the
+    /// top directory is empty.
     pub directory: Option<&'a [u8]>,
     /// The extension of the files' names, if they have one and rows are by extension.
     pub extension: Option<&'a [u8]>,

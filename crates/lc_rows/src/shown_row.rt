@@ -15,7 +15,8 @@ use std::marker::Model;
 /// A row of a table: the sums over the files that have the same values in the table's columns.
 #[derive(Drop)]
 pub struct ShownRow<'a> {
-    /// The directory of the files, cut after some of its names, if rows are by directory. The path of the top directory is empty.
+    /// The directory that holds the files, if rows are by directory. Its path is cut after as many names as `--depth` says. The path of the
+    /// top directory is empty.
     pub directory: Option<&'a [u8]>,
     /// The extension of the files' names, if they have one and the table has a column for it.
     pub extension: Option<&'a [u8]>,

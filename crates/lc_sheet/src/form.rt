@@ -8,7 +8,7 @@ use crate::table_options::Columns;
 pub struct Shares {
     /// Which number the shares and bars are of, such as lines.
     pub number: Number,
-    /// The total of the number. Each line shows its share of the total.
+    /// The sum of this number, such as of the lines, over all files. Each line shows its share of this sum.
     pub total: u128,
     /// The largest value of the number in a shown row. This row has the longest bar.
     pub largest: u128,

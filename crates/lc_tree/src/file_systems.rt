@@ -24,7 +24,7 @@ pub(crate) enum Bounds {
     Everywhere,
     /// The tree enters only directories on the device with this number.
     Device(u64),
-    /// The tree enters only its top, because the device of the top could not be read.
+    /// No directory below the top is entered, because the device of the top could not be read.
     TopAlone,
 }
 

@@ -84,9 +84,9 @@ impl<J: Drop, R: Drop> Recorded<J, R> {
         self.plain.is_full()
     }
 
-    /// Adds a child directory with this job to the board, under the worker's claim of the directory with the number `parent`. Reserves
-    /// memory in the history for the event of this post and, as `claim` does, for the event that finishes each worker's claimed directory.
-    /// If the board is full, the error is `PostFault::Full`, even if memory has also run out.
+    /// Adds a child of the directory with the number `parent` to the board, with this job. Reserves memory in the history for the event of
+    /// this post and, as `claim` does, for the event that finishes each worker's claimed directory. If the worker has not claimed the
+    /// directory `parent`, or if the board is full, the error is `PostFault::Full`, even if memory has also run out.
     pub fn post(&mut self, worker: u32, parent: u32, job: J) -> Result<u32, PostFault<J>>
         ensures { RecordsPost worker parent self.old job result self.new }
     {

@@ -1,4 +1,4 @@
-//! Tests of `can_match`, which finds lines that give no rule that matches a path.
+//! Tests of `can_match`, which returns false for some lines that give no rule, or whose rule matches no path.
 
 use lc_rules::can_match;
 use std::process::Abort;
