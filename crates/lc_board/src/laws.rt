@@ -69,8 +69,8 @@ pub fn few_numbers<J, R>()
     ensures ends { FewEnds J R }
 {}
 
-/// The law that a closed board has exactly the rows that its workers added, if each row is at the index of its directory's number. If a
-/// function gives a value to each row, the sum of the values over all rows is the total of the workers' sums over their own rows.
+/// The law that a closed board has exactly the rows that its workers added. The law requires that the row of directory number `n` is at the
+/// index `n`. For each function from rows to numbers, its sum over all rows is the total of its sums over the rows of each worker.
 #[tactic(auto, using(crate::proofs::RowsOfWorkers::rows_are_ends, crate::proofs::RowsOfWorkers::sums_of_rows))]
 pub fn rows_are_ends<J, R>()
     ensures rows { RowsAreEnds J R }

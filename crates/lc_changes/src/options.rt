@@ -9,9 +9,8 @@ pub struct ChangeOptions {
     pub format: Format,
     /// The columns that the rows of the comparison are grouped by.
     pub by: Columns,
-    /// The number by whose change rows and files are sorted: the largest change first, whether up or down. Rows with equal changes are in
-    /// the order of their keys, and files with equal changes in the order of their paths. If this is `None`, all rows and all files are in
-    /// these orders.
+    /// The number that decides the order of rows and files. The row or file in which this number changed most, whether up or down, comes
+    /// first. Where it changed equally, or if this is `None`, rows are in the order of their keys, and files in the order of their paths.
     pub sort: Option<Number>,
     /// The largest number of rows, and of files, that the comparison shows. If this is `None`, the comparison shows all of them.
     pub top: Option<u32>,

@@ -55,7 +55,7 @@ struct PathCursor<'p, 'n> {
 enum PathEndStep<'p, 'n> {
     /// The pattern's last segment is a double star.
     DoubleStar,
-    /// The pattern's last segment fits the path's last segment, and this cursor has the segments before both.
+    /// The pattern's last segment fits the path's last segment. This cursor has the segments before these two.
     Taken(PathCursor<'p, 'n>),
     /// The pattern's segments match what is left of the path: neither has a segment left, or only a double star is left of the pattern.
     Arrived,

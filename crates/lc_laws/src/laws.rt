@@ -1,10 +1,10 @@
 //! Laws: theorems about the definitions that the contracts cite. Each law is the contract of a function that does nothing.
 //!
-//! A clause with the name `answers` is about reports and explanations that follow from fixed answers of a tree: a listing of each
-//! directory, and the contents of files. The report and the explanation may follow from different answers. Each report and each explanation
-//! follows from some answers that its tree may give (`lc_walk::reports_are_by_given_answers`, [`explanations_are_by_given_answers`]). A
-//! clause with the name `tree` requires that the tree always answers a question in the same way, as an in-memory tree does. Only the clause
-//! `tree` of [`no_ignore_file_of_the_tree_skips_an_entry`] is about any tree.
+//! Most laws have two clauses. The clause `answers` is about a report or an explanation that is computed from given answers: a listing of
+//! each directory, and the contents of its files. A report and an explanation may be computed from different answers. Each report and each
+//! explanation of a tree is computed from some answers that the tree may give (`lc_walk::reports_are_by_given_answers`,
+//! [`explanations_are_by_given_answers`]). The clause `tree` is about the reports and explanations of a tree that always gives the same
+//! answers, as an in-memory tree does. Of [`no_ignore_file_of_the_tree_skips_an_entry`] this clause is about any tree.
 
 ghost use Rattle.lc_laws.specs.ByAnswers.{SaidByAnswersLaw};
 ghost use Rattle.lc_laws.specs.CountsChecked.{AnswersCheckedLaw, CheckedLaw};

@@ -31,7 +31,7 @@ pub enum NoReport {
     /// The text is empty, or has only white space.
     #[error("it is empty")]
     Empty,
-    /// A JSON object is expected at the byte with about this index, but there is none.
+    /// The text has no JSON object where one is expected. The number is the index of a byte near this place, counted from 0.
     #[error("no JSON object at byte {0}")]
     NoObject(usize),
     /// An object lacks the member with this name.

@@ -1,4 +1,4 @@
-//! Gathering the numbers and the lines of several reports.
+//! Joins several reports: adds up their numbers, and collects their lists of rows, files, errors and skipped entries.
 ghost use Rattle.std.specs.Prelude.{◌≡◌, IfOk, MatchOption, OnOk};
 ghost use Rattle.std.specs.List.{list_all};
 ghost use Rattle.lc_reports.specs.Gathered.{Adds, IsGathered, NumbersFit, no_numbers, numbers_of, numbers_with};

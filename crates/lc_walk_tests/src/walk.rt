@@ -1,5 +1,5 @@
-//! Worked cases of extensions, tallies and walks. They also show that each call can succeed. The other modules share the modules `walked`
-//! for running walks, `told` for reports as text, and `drawn` for trees made from a seed.
+//! Tests of extensions, tallies and walks, which also show that each call can succeed. Three modules help the other ones: `walked` runs
+//! walks, `told` makes the text of reports, and `drawn` makes trees from a seed.
 
 mod drawn;
 mod failures;

@@ -1,4 +1,4 @@
-//! Searches through the directories of a single-threaded board, and through the claims of its workers.
+//! Searches in `Plain`, the board for one thread: among its directories, and among the directories that its workers have claimed.
 ghost use Rattle.std.specs.Prelude.{◌≡◌, ◌≢◌, ℕ, ◌<◌, ◌≤◌, false, true, Some, IfOk, IfSome, IfNone, length, map, slice_get};
 ghost use Rattle.lc_board.specs.{PlainCalls.{IsLeft, cell_of}, Limits.capacity_limit};
 

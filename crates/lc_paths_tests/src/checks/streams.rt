@@ -1,5 +1,5 @@
-//! Tests with readers and writers that give or take few bytes, fail or never end. A check writes a prefix of the expected text, and the
-//! whole text only if it succeeds.
+//! Tests with readers that return few bytes, fail or never end, and with writers that accept few bytes or fail. A check writes a prefix of
+//! the expected text, and the whole text only if it succeeds.
 
 use crate::checks::BY_LINES;
 use lc_census::Source;
