@@ -99,7 +99,8 @@ impl<'p> SegmentRef<'p> {
     }
 }
 
-/// The segments of a pattern that are still to be matched.
+/// The segments of a pattern that are still to be matched. A simple pattern (`simple_pattern`) is stored as bytes, any other pattern as
+/// tokens.
 #[derive(Clone, Copy)]
 pub(crate) enum SegmentsRef<'p> {
     /// Segments of a simple pattern.

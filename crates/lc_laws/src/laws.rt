@@ -37,7 +37,7 @@ pub fn one_answer_is_one_explanation<T: Tree>(tree: &T)
 }
 
 /// The law that the explanation of a directory's path with a slash at its end is also the explanation of the path without this slash. The
-/// law requires that both explanations follow from the same answers of the tree.
+/// law requires that the tree returns the same entries and the same rule files for both explanations.
 pub fn slashes_of_directories_say_nothing<T: Tree>(tree: &T)
     ensures answers { AnswersSlashLaw }
     ensures tree { SlashLaw (T.lists tree.now) (T.gives tree.now) }

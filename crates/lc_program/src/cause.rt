@@ -24,10 +24,10 @@ pub enum Cause {
     /// An entry of a counted directory has a path that is too long or too deep.
     TooDeep,
     /// The directories that the workers (threads) found do not form a tree. The error is at the directory with this number on the board,
-    /// the table of directories that all workers share. No count ends with this error.
+    /// the table of directories that all workers share. This error never occurs.
     Torn(u32),
     /// The worker (thread) with this number keeps a record of its events. This record differs from the record on the board, the table of
-    /// directories that all workers share. No count ends with this error.
+    /// directories that all workers share. This error never occurs.
     Mismatch(u32),
     /// The rule file that the command line names could not be read.
     UnreadRules,

@@ -199,7 +199,8 @@ pub struct BrokenRow {
     pub cause: BrokenCause,
 }
 
-/// The row that a worker adds to the board for a directory: what the worker found there, or why it stopped.
+/// What a worker found in a directory, or why the worker stopped. The worker adds this row to the board, the table of directories that
+/// threads share.
 #[derive(Drop)]
 pub enum Row {
     Listed(ListedRow),

@@ -23,7 +23,7 @@ pub enum Word {
     Claimed(u64),
 }
 
-/// The code of `Word::Absent`: no directory has the number yet.
+/// The code of `Word::Absent`: no directory has the word's number yet.
 pub const ABSENT: u64 = 0;
 
 /// The code of `Word::Open`: the directory waits for a worker.
@@ -111,7 +111,7 @@ impl Word {
         }
     }
 
-    /// Returns whether the directory with the number is claimed and not finished, or is about to be added to the board.
+    /// Returns whether the word's directory is claimed and not finished, or is about to be added to the board.
     pub fn is_busy(self) -> bool
         ensures { result ≡ is_busy self }
     {

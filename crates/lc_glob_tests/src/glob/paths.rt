@@ -1,4 +1,4 @@
-//! Tests of paths and their names, and of cutting bytes.
+//! Tests of paths, of names in paths, and of `cut_at_first`, which cuts bytes in two.
 
 use lc_glob::cut_at_first;
 use lc_glob::path::{depth_of, is_good_name, is_good_path, is_too_deep, is_too_long, push_name};
