@@ -19,7 +19,7 @@ def exported(folder):
     if not lib.exists():
         return None
     text = lib.read_text()
-    names = {name for use in re.findall(r"^pub use ([^;]*);", text, re.M | re.S) for name in re.findall(r"\w+", use)}
+    names = {name for use in re.findall(r"^pub use ([^;]*);", text, re.M | re.S) for name in re.findall(r"\b\w+\b(?!::)", use)}
     return names | set(re.findall(r"^pub mod (\w+);", text, re.M))
 
 
