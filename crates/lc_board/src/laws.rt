@@ -62,7 +62,8 @@ pub fn stays_legal<J, R>()
     ensures { StaysLegal J R }
 {}
 
-/// The law that a legal history has at most as many directories, and at most as many rows, as the capacity of the board.
+/// The law that a legal history has at most as many directories, and at most as many rows, as the capacity of the board. The law requires a
+/// capacity of at least 1.
 #[tactic(auto, using(crate::proofs::RowsOfWorkers::few_numbers, crate::proofs::RowsOfWorkers::few_ends))]
 pub fn few_numbers<J, R>()
     ensures numbers { FewNumbers J R }

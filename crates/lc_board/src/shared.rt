@@ -66,7 +66,7 @@ pub trait Shared<J, R>: Sized + Sync + Drop {
         ensures passes { IfOk result (λ b. (w : ℕ) (p : Self.Pass) → slice_get b.1.items w ≡ Some p
             → owns b.0 p × (Self.Pass.view p ≡ new_pass w)) };
 
-    /// Claims a directory for the worker of the pass, if a directory waits for a worker. The worker must have no claim.
+    /// Claims a directory for the worker of the pass, if the call finds one that waits for a worker. The worker must have no claim.
     fn claim<W: Wait>(&self, rt: &W, pass: &mut Self::Pass) -> Claim<J>
         requires pass { owns self.now pass.old }
         requires free { holding (Self.Pass.view pass.old) ≡ None }

@@ -7,9 +7,9 @@ pub fn a_report_does_not_differ_from_itself()
     ensures { SelfLaw }
 {}
 
-/// The law that a comparison has a row for each key in the table of either report, and no row with another key. A row has the sums that
-/// each report's table shows for the row's key. If a table lacks the key, these sums are zero. Over all rows of the comparison, the sums of
-/// each report add up to the sums over the rows of the report's table.
+/// The law that a comparison, before it drops a row, has a row for each key in the whole table of either report, and no row with another
+/// key. A row has the sums that each report's table shows for the row's key. If a table lacks the key, these sums are zero. Over all rows
+/// of the comparison, the sums of each report add up to the sums over the rows of the report's table.
 pub fn rows_of_a_comparison_are_those_of_tables()
     ensures { TablesLaw }
 {}

@@ -68,7 +68,7 @@ lacks p [] values = true
 lacks p (c ∷ cs) [] = true
 lacks p (c ∷ cs) (v ∷ vs) = lacks_in (column_in p c) v && lacks p cs vs
 
--- the object of a line's values in one report, or null if the report lacks the line
+-- the object of a line's values in one report, or null if the report lacks all of them, as those of a file that it does not have
 abbrev pub side_value : Part → List Column → List ValueModel → Json
 side_value p columns values = if lacks p columns values then null else object_with (part_members p columns values)
 

@@ -258,7 +258,7 @@ fn write_comparison<R: Lines, T: Lines, F: Lines>(
 /// Makes the text of a comparison as one JSON object on one line.
 ///
 /// A list of lines, such as the rows, is an array of objects. A line of sums, such as the total, is an object. A line has the compared
-/// values in two objects, `old` and `new`. If a report lacks the line, the object of this report is null. Bytes that are not UTF-8 are an
+/// values in two objects, `old` and `new`. If a report lacks a file, its object in the file's line is null. Bytes that are not UTF-8 are an
 /// array of numbers, and the name of this array ends with `_bytes`.
 pub fn json_changes<R: Lines, T: Lines, F: Lines>(
     alloc: Global,

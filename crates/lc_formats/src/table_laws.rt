@@ -12,10 +12,10 @@ pub fn numbers_with_commas_read_back()
 {}
 
 /// The law that lines of a human-readable text have one width, before the blanks at the ends of the lines are removed. The headings, rows
-/// and sums have one width. The lines with the numbers of directories and of entries have one width. In a list whose last column is not
-/// padded, the lines have one width up to this column. The law requires printable words, and names whose bytes are numbers below 256. For
-/// the rows and sums, the law also requires that they have the same columns, that all these columns are padded, and that their lines end
-/// with numbers.
+/// and sums have one width. The lines with the numbers of directories and of entries have one width. In a list of which only the last
+/// column is not padded, the lines have one width up to this column. The law requires printable words, and names whose bytes are numbers
+/// below 256. For the rows and sums, the law also requires that they have the same columns, that all these columns are padded, and that
+/// their lines end with numbers.
 pub fn lines_of_a_part_are_as_wide()
     ensures summary { SummaryWidthLaw }
     ensures counts { CountsWidthLaw }
@@ -23,8 +23,8 @@ pub fn lines_of_a_part_are_as_wide()
 {}
 
 /// The law that no line of a human-readable text ends with a blank. The law requires of rows, sums and lists what
-/// [`lines_of_a_part_are_as_wide`] requires. In each list, the last column must not be padded, and no text in this column may be empty or
-/// end with a blank.
+/// [`lines_of_a_part_are_as_wide`] requires. In each list, only the last column must be without padding, and no text in this column may be
+/// empty or end with a blank.
 pub fn lines_end_without_blanks()
     ensures { LineEndsLaw }
 {}

@@ -45,11 +45,11 @@ pub fn slashes_of_directories_say_nothing<T: Tree>(tree: &T)
     let _tree = tree;
 }
 
-/// The law that a count and an explanation agree on a path. The law requires that both have the same filters, such as `--exclude`. It also
-/// requires that both read the same entries and the same rule files in each directory on the way to the path. The count must be of the
-/// whole tree, and must list files and skipped entries. The explanation of a counted file says that the file is not skipped. The
-/// explanation of a skipped entry has the reason that is in the report. The explanation of any entry shows whether the report skips the
-/// entry or a directory above the entry.
+/// The law that a count and an explanation agree on a path that is not bad and has no slash at its end. The law requires that both have the
+/// same filters, such as `--exclude`. It also requires that both read the same entries and the same rule files in each directory on the way
+/// to the path. The count must be of the whole tree, and must list files and skipped entries. The explanation of a counted file says that
+/// the file is not skipped. The explanation of a skipped entry has the reason that is in the report. The explanation of any entry shows
+/// whether the report skips the entry or a directory above it, or has an error on the way.
 pub fn counts_are_as_explained<T: Tree>(tree: &T)
     ensures answers { AnswersExplainedLaw }
     ensures tree { ExplainedLaw (T.lists tree.now) (T.gives tree.now) }
@@ -60,8 +60,8 @@ pub fn counts_are_as_explained<T: Tree>(tree: &T)
 
 /// The law that a count and a check by the `.gitignore` of the top directory agree on an entry. The law requires that the tree has no other
 /// ignore file. The count must use only the rules of the tree, list skipped entries, and have no errors. The check prints `ignored` or
-/// `below` for the entry exactly if the count skips the entry, or a directory above it, by a rule. The law is not about paths for which a
-/// check prints `bad`, and not about paths with a name `.git`.
+/// `below` for the entry exactly if the count skips the entry, or a directory above it, by a rule. A directory is checked with a slash at
+/// the end of its path. The law is not about paths for which a check prints `bad`, and not about paths with a name `.git`.
 pub fn counts_are_as_checked<T: Tree>(tree: &T)
     ensures answers { AnswersCheckedLaw }
     ensures tree { CheckedLaw (T.lists tree.now) (T.gives tree.now) }
@@ -83,7 +83,7 @@ pub fn no_ignore_file_of_the_tree_skips_an_entry<T: Tree>(tree: &T)
 
 /// The law that a walk with `--include` reports exactly these errors: errors of directories and of their rule files, paths of `--only` that
 /// do not exist, and errors of included files. The walk skips each entry that a walk without `--include` skips, for the same reason. It
-/// also skips the files that no pattern of `--include` includes.
+/// also skips each file that no pattern of `--include` includes and that the walk without `--include` counts or cannot read.
 pub fn errors_and_skipped_entries_are_those_of_included_files()
     ensures { IncludedEntriesLaw }
 {

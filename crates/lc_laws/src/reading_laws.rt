@@ -4,9 +4,9 @@ ghost use Rattle.lc_laws.specs.ReadBack.{ReadBackLaw};
 
 use lc_tree::Tree;
 
-/// The law that a report is the same after it was printed as JSON and read again. For a skipped entry, this holds only for what JSON shows.
-/// The report must be that of a walk that lists its files, or the part of this report that meets conditions such as `lines>1000`. The JSON
-/// text must list all files and all rows.
+/// The law that a report is the same after it was printed as JSON, if it is read again. For skipped entries and the number of entries, this
+/// holds only for what JSON shows. The report must be that of a walk that lists its files, or the part of this report that meets conditions
+/// such as `lines>1000`. The JSON text must list all files and all rows.
 pub fn reports_read_back<T: Tree>(tree: &T)
     ensures { ReadBackLaw (T.lists tree.now) (T.gives tree.now) }
 {

@@ -24,8 +24,8 @@ pub fn one_answer_is_one_level<T: Tree>(tree: &T)
     let _tree = tree;
 }
 
-/// The law that reading a file of a tree in memory as a rule file has only one result. If the file has under 2^47 bytes, counting it has
-/// only one result too.
+/// The law that reading a file of a tree in memory as a rule file has only one result, unless an allocation fails. If the file has under
+/// 2^47 bytes, so has counting it.
 pub fn files_of_memory_are_read_once()
     ensures counts { CountsOnce }
     ensures rules { ReadsRulesOnce }

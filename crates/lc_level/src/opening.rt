@@ -70,7 +70,8 @@ impl<T: Tree> LevelReader<'_, T> {
     }
 
     /// Lists the directory of a job, reads its rule files and decides which entries are skipped. The call stops at the first error, or at
-    /// an entry whose path is too long or too deep (`OpenFault::TooDeep`). On success `scratch` holds the path of the directory.
+    /// an entry whose path is too long or too deep (`OpenFault::TooDeep`), unless the entry is `.git` or is not selected by `--only`. On
+    /// success `scratch` holds the path of the directory.
     pub fn open(&self, job: &Job, scratch: &mut Scratch) -> Result<Opened, OpenFault>
         ensures at { IfOk result (λ o. scratch.new.path.directory ≡ o.job.path) }
         ensures opens { OpensLevel (T.lists self.now.tree.now) (T.gives self.now.tree.now) self.now.options.left_out

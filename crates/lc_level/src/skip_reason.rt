@@ -47,7 +47,8 @@ impl<'t, T> LevelReader<'t, T> {
         }
     }
 
-    /// Returns why a walk skips the entry `name`, or `None` if there is no reason to skip the entry. `path` is the entry's path.
+    /// Returns why the rules of `job`, or the filters, skip the entry `name`, or `None` if there is no reason to skip the entry. `path` is
+    /// the entry's path. A walk skips entries by the job that `enter` returns.
     pub fn reason(
         &self,
         job: &Job,

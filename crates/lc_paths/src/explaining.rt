@@ -38,9 +38,9 @@ use std::alloc::Global;
 ///
 /// A line of the output has four fields, separated by tabs: a word, the source of the rule, its pattern, and the path as it was read. Paths
 /// and patterns are printed in the style of the options. `./` at the beginning of a path is ignored. `.` alone is the tree's top directory,
-/// which no rule ignores or includes: its word is `none`. A path that ends with one slash counts as a directory. Any other path has the
-/// kind of its entry, or counts as a file if the tree has no such entry. The word is the first of these that holds, from the top directory
-/// down to the path:
+/// which no rule ignores or includes: its word is `none`. A path that ends with one slash counts as a directory, unless its entry is
+/// neither a file nor a directory. Any other path has the kind of its entry, or counts as a file if the tree has no such entry. The word is
+/// the first of these that holds, from the top directory down to the path:
 ///
 /// - `bad`: no entry of a tree can have this path, or it has over 4,096 bytes;
 /// - `fault`: a directory above the path could not be listed, or a rule file could not be read. The next fields are the word of the error,

@@ -12,12 +12,13 @@ pub fn names_are_never_markup()
     ensures reads_back { UnescapedLaw }
 {}
 
-/// The law that a page shows the following names and numbers, and no others. At the top are what was counted, the sums over all files, the
-/// number of errors, and the first errors. Next come the rows of the chart, and the sums over the other rows. Last comes each drawn
-/// directory and file once, with its sums and its share. The box of a directory also shows the number of its small child directories, which
-/// have no boxes of their own. It shows the sum of a number, such as lines, over these directories, and over the files that are directly in
-/// the directory and have no boxes of their own. On the page of a report, each row of the chart is an extension. A directory is drawn
-/// exactly if its number, such as lines, is large enough.
+/// The law that a page shows the following names and numbers, and no others but numbers in tags. At the top are what was counted, the sums
+/// over all files, the number of errors, the first errors, and how many errors are not listed. Next come the rows of the chart, and the
+/// sums over the other rows, with their shares. Last comes each drawn directory and file once, with its sums and its share. The box of a
+/// directory also shows the number of its small child directories, which have no boxes of their own, and the sum and the share of a number,
+/// such as lines, over these directories. It also shows what is then left of the directory's number beside all boxes in it. On the page of
+/// a report, each row of the chart is an extension. Of the directories of at most 250 names, exactly those are drawn whose number, such as
+/// lines, is large enough.
 pub fn a_page_shows_each_directory_once()
     ensures shown { ShownLaw }
     ensures report { ReportLaw }
@@ -39,8 +40,8 @@ pub fn boxes_are_nested()
     ensures { NestingLaw }
 {}
 
-/// The law that the box of a directory or file opens inside the box of the directory above it, if the boxes come depth first. A reader who
-/// joins the names of the open boxes finds the path of each directory and file.
+/// The law that the box of a directory or file opens inside the box of the directory above it, if the boxes come depth first. A reader of
+/// the open boxes finds the name of each directory and file, and the names of all directories above it.
 pub fn a_box_opens_inside_that_of_its_parent()
     ensures { InsideLaw }
 {}

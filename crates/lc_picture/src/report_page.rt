@@ -178,10 +178,10 @@ fn page_by(
 /// boxes for directories and files. Bars and boxes show the number that `sort` names, or lines if `sort` is `None`. The browser divides the
 /// space in proportion to these numbers. If the report has errors, the page says how many, and lists the first hundred.
 ///
-/// A directory or a file has a box of its own if its number, such as lines, is at least a thousandth of the total. Each box is inside the
-/// box of the directory above it. Of the boxes directly inside one box, the largest comes first. In each directory, one box shows the child
-/// directories that have no boxes of their own, and another box shows the files that have none. A reader can fold a box to leave its space
-/// to other boxes.
+/// A directory whose path has at most 250 names has a box of its own if its number, such as lines, is at least 1 and at least a thousandth
+/// of the total. So has a file, if its directory has a box. Each box is inside the box of the directory above it. Of the boxes directly
+/// inside one box, the largest comes first. In each directory, one box shows the child directories that have no boxes of their own, and
+/// another box shows the files that have none. A reader can fold a box to leave its space to other boxes.
 ///
 /// The report must list its files. An error means that an allocation failed or that sums overflow. The sums of a walk never overflow.
 pub fn page(

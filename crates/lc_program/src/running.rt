@@ -98,7 +98,8 @@ fn is_failure(fail_if_any: bool, report: &Report) -> bool
     fail_if_any && report.totals.files > 0
 }
 
-/// Returns whether `--fail-if-any` makes an answer a failure: a file is counted, or the sides of a comparison differ.
+/// Returns whether `--fail-if-any` makes an answer a failure: a counted file meets the conditions of `--where`, or the sides of a
+/// comparison differ.
 fn has_failure(request: &Request<'_>, answered: &Answered) -> bool
     ensures { result ≡ has_failure request.now answered.now }
 {
@@ -185,7 +186,8 @@ fn end_of<R: Threads + Wait + Sync + AllocGlobal, Y: System, W: AsStr, S: Source
 
 /// Runs the program with the arguments `words`, and returns the exit status. The status is 0 for success, and 1 if the answer was written
 /// but some paths could not be read. The status is 2 for refused arguments, and 3 if the program stopped with an error, with one line on
-/// `err`. The status is 4 if `--fail-if-any` is used, and a file is counted or the sides of a comparison differ.
+/// `err`. The status is 4, instead of 0 or 1, if `--fail-if-any` is used, and a counted file meets the conditions of `--where` or the sides
+/// of a comparison differ.
 ///
 /// The arguments decide what the program does:
 ///

@@ -44,7 +44,8 @@ pub fn rows_of_a_tree_are_the_sums_of_what_is_below()
 {}
 
 /// The law that in a tree of directories, a directory's row adds up the files directly in the directory and the rows of its child
-/// directories. For each key, only the files and rows with this key are added up.
+/// directories. If paths are cut after N names, a directory of N names also adds up the files in deeper directories. For each key, only the
+/// files and rows with this key are added up.
 pub fn a_directory_is_its_files_and_its_children()
     ensures { ChildrenLaw }
 {}

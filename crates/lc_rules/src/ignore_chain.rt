@@ -148,7 +148,7 @@ impl Chain {
         }
     }
 
-    /// Returns the last rule that matches a path, and the file that it was read from.
+    /// Returns the last rule that matches a path, and where the rule is from: a file, or the command line.
     pub fn last_match(&self, path: &[u8], is_dir: bool) -> Option<(RuleSource, &Rule)>
         ensures { option_map (λ r. (r.0, r.1.now)) result ≡ last_match (rules_in self.now) path.now is_dir }
     {

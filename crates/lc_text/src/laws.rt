@@ -4,7 +4,7 @@ ghost use Rattle.lc_text.specs.DotsBefore.{KeptLaw, UndottedLaw};
 ghost use Rattle.lc_text.specs.ShellWords.{QuotedLaw};
 
 /// The law that [`undotted`](crate::undotted) drops each `./` at the beginning of a line, with all slashes after it. The result is the rest
-/// of the line, or `.` if nothing is left. The path of an entry of a tree does not begin with `./`, and stays as it is.
+/// of the line, or `.` if nothing follows a `./`. The path of an entry of a tree does not begin with `./`, and stays as it is.
 pub fn dots_before_a_path_are_dropped()
     ensures dropped { UndottedLaw }
     ensures kept { KeptLaw }

@@ -29,8 +29,8 @@ fn or_dot(path: &[u8]) -> &[u8]
     }
 }
 
-/// Drops each `./` at the beginning of a line, with all slashes after it, and returns the rest of the line. If nothing is left, returns
-/// `.`.
+/// Drops each `./` at the beginning of a line, with all slashes after it, and returns the rest of the line. If nothing follows a `./`,
+/// returns `.`.
 ///
 /// ```
 /// assert!(rt; undotted(b".//./src/") == b"src/".as_slice() && undotted(b"./") == b".".as_slice());

@@ -10,7 +10,7 @@ pub fn the_limit_is_this_number()
     ensures { MAX_ENTRIES ≡ max_entries }
 {}
 
-/// The law that listing a path of a tree in memory has only one possible result: one listing, or one error.
+/// The law that listing a path of a tree in memory has only one possible result, one listing or one error, unless an allocation fails.
 pub fn trees_of_memory_list_once()
     ensures { ListsOnce }
 {}

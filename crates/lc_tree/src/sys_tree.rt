@@ -24,9 +24,9 @@ const NAME_ROOM: usize = 256;
 ///
 /// Symbolic links in the directory, and everything else that is neither a regular file nor a directory, are `Kind::Other`. For
 /// `FileSystems::One`, directories that are not on the file system of the tree's top are `Kind::Other` too. If the system reports an error,
-/// the error is `ReadFault::Failed`. If a name is not UTF-8, listing its directory returns `ReadFault::Unnamed`. An entry that is removed
-/// while its directory is listed is not in the listing. A system call that a signal interrupts is repeated, with at most `MAX_TRIES` tries
-/// in all.
+/// the error is `ReadFault::Failed`. If a name is not UTF-8, the error is `ReadFault::Unnamed`; of several names with an error, the first
+/// decides. An entry that is removed before its metadata are read is not in the listing. A system call that a signal interrupts is
+/// repeated, with at most `MAX_TRIES` tries in all.
 ///
 /// An entry whose path in the tree has over `MAX_PATH` bytes is `Kind::Other`. Its metadata are not read, since the system would refuse the
 /// path. The path that the system gets begins with the path of the tree's top. If this whole path has over 4,095 bytes, but the path in the

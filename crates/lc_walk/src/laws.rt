@@ -32,9 +32,9 @@ pub fn rows_are_the_walk_of_their_tree()
     ensures numbers { NumbersLaw }
 {}
 
-/// The law about a tree, and the rows that workers added to a board, one row for each directory. A recursive walk of the tree finds
-/// exactly what the directories of the rows contribute. The law requires that each row is true of its directory in this tree. It also
-/// requires that no row is `Row::Broken`: no worker stopped before it had finished a directory.
+/// The law about a tree, and the rows that workers added to a board, one row for each directory. A recursive walk of the tree finds exactly
+/// what the directories of the rows contribute. The law requires that each row is true of its directory in this tree, and that the path of
+/// the board's root is empty. It also requires that no row is `Row::Broken`: no worker stopped before it had finished a directory.
 pub fn rows_are_the_walk_of_one_tree()
     ensures { OneAnswerLaw }
 {}
@@ -65,10 +65,10 @@ pub fn lawful_in_part_is_lawful()
     ensures { PartLaw }
 {}
 
-/// The law that the recursive walk of a tree finds what each directory that it reaches contributes, and nothing else. A directory
-/// contributes its counted files, its errors and its skipped entries, and itself if it was listed. The walk reaches the top. If it reads a
-/// directory's listing and rule files without an error, it also reaches the child directories there that the requested paths select and
-/// that are not skipped.
+/// The law that the recursive walk of a tree, down to some depth, finds what each directory that it reaches contributes, and nothing else.
+/// A directory contributes its counted files, its errors and its skipped entries, and itself if it was listed. The walk reaches the top. If
+/// it reads a directory's listing and rule files without an error, it also reaches the child directories there, down to this depth, that
+/// the requested paths select and that are not skipped.
 pub fn all_that_is_found_is_given()
     ensures { FoundLaw }
 {}
@@ -91,10 +91,11 @@ pub fn totals_of_a_report_add_up<T: Tree>(tree: &T)
     let _tree = tree;
 }
 
-/// The law that a walk of some requested paths finds a part of what the walk of the whole tree finds. The part is what is at or below the
-/// requested paths, the directories above these paths, and the errors of these directories. The walk of the requested paths also reports
-/// which of these paths are absent. The law requires that the requested paths and the listings are well-formed. The tree may change between
-/// the two walks. A directory that both walks read must give the same answers in both.
+/// The law that a walk of some requested paths finds a part of what the walk of the whole tree finds, apart from the numbers of entries.
+/// The part is what is at or below the requested paths, the directories above these paths, and the errors of these directories. The walk of
+/// the requested paths has only one more kind of error, `absent`, for a requested path. The law requires that the requested paths and the
+/// listings are well-formed. The tree may change between the two walks. A directory that both walks read must give the same answers in
+/// both.
 pub fn a_part_is_the_whole_filtered()
     ensures two_walks { TwoWalksLaw }
     ensures one_tree { PartOfWalkLaw }
@@ -114,7 +115,7 @@ pub fn the_rule_of_a_line_ignores_it()
     the_last_match_decides();
 }
 
-/// The law that no path occurs twice in what a walk finds.
+/// The law that no path occurs twice in what a walk finds, if each listing is as `Listing::new` makes it.
 pub fn paths_stand_once()
     ensures { PathsOnceLaw }
 {}

@@ -142,9 +142,9 @@ impl Tally {
         rows.into_sorted()
     }
 
-    /// Adds the sums of some files that have one key. The call fails if an allocation fails, or if the tally would have more than 2^63
-    /// files. It also fails if the added files have on average more than 2^64 - 1 lines, blank lines or bytes. No walk finds so many files
-    /// or such large sums.
+    /// Adds the sums of some files that have one key. The call fails if no row has the key and an allocation fails, or if the tally would
+    /// have more than 2^63 files. It also fails if the added files have on average more than 2^64 - 1 lines, blank lines or bytes. No walk
+    /// finds so many files or such large sums.
     pub fn add_sums(&mut self, key: &KeyRef<'_>, more: Sums) -> Result<(), AllocError>
         ensures grows { OnOk result (Grows self.old self.new key.now more) }
         ensures unchanged { OnErr result (self.new ≡ self.old) }
