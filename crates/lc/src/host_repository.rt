@@ -6,7 +6,7 @@ use std::fs;
 use std::path::Path;
 use std::rt::Files;
 
-/// The greatest number of `..` in a path that names a repository's top directory.
+/// The greatest number of `..` in a path that leads up to a repository's top from the directory that the program runs in.
 const MAX_STEPS: usize = 8;
 
 /// Returns whether a directory has an entry `.git`. If the host can't read the entry's metadata, the answer is no.

@@ -13,7 +13,7 @@ use Rattle.lc_arguments.specs.declared.diff.DiffRequest.{DiffRequest}
 use Rattle.lc_arguments.specs.declared.walk_request.WalkRequest.{WalkRequest}
 use Rattle.lc_arguments.specs.declared.table.TableRequest.{TableRequest}
 
--- the named format can show each row's share of the total; without a named format, `--share` means a table, which can
+-- the named format shows each row's share of the total if `--share` is used; without a named format, `--share` means a table, which does
 abbrev pub shows_shares : Option Format → Bool
 shows_shares None = true
 shows_shares (Some Table) = true

@@ -60,7 +60,7 @@ filters = record none { count = true; explain = true; diff = true }
 abbrev pub walks : Commands
 walks = record none { count = true; diff = true }
 
--- the commands that read paths from standard input
+-- the commands that read the paths to check or explain from standard input
 abbrev pub input : Commands
 input = record none { explain = true; check = true }
 

@@ -51,14 +51,14 @@ IsNumber id default rows n = n ≡ digits_value 10 (without_leading_plus (unwrap
 abbrev pub number_if_given : List ℕ → List Row → Option ℕ
 number_if_given id rows = option_map (λ text. digits_value 10 (without_leading_plus text)) (one_of id rows)
 
--- the values of `--depth` and `--top`, as they were read, within their limits
+-- the values of `--depth` and `--top`, as they were read; that of `--depth` is within its limits
 pub record AreCutsIn (rows : List Row) (c : Cuts) : Type 0 where
   pub some_depth : 1 ≤ unwrap_or c.depth 1
   pub within_depth : unwrap_or c.depth 1 ≤ max_depth
   pub depth : c.depth ≡ number_if_given (codes "depth") rows
   pub top : c.top ≡ number_if_given (codes "top") rows
 
--- the values of the options with numbers, as they were read, within their limits
+-- the values of the options with numbers, as they were read; each but that of `--top` is within its limits
 pub record AreNumbersIn (rows : List Row) (n : Numbers) : Type 0 where
   pub some_threads : 1 ≤ n.threads
   pub within_threads : n.threads ≤ max_threads

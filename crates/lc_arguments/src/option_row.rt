@@ -96,7 +96,7 @@ pub(crate) const WALKS: Commands = Commands {
     ..NONE
 };
 
-/// The commands that read paths from standard input.
+/// The commands that read the paths to check or explain from standard input.
 pub(crate) const INPUT: Commands = Commands {
     explain: true,
     check: true,

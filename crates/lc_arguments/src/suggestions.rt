@@ -35,7 +35,7 @@ const COMMANDS: &[(&str, &str)] = &[
 /// The advice that a usage error gives after it says what is wrong.
 #[derive(Drop)]
 pub(crate) struct Advice {
-    /// What the user may have meant.
+    /// What the user may have meant or overlooked.
     pub(crate) tip: Option<String>,
     /// A line with a command that works.
     pub(crate) example: String,

@@ -28,7 +28,7 @@ pub struct TableRequest {
     pub sort: Option<Order>,
     /// The greatest number of rows, and of files, if a limit is named.
     pub top: Option<u32>,
-    /// List each counted file.
+    /// List each counted file, or in a comparison each file that differs.
     pub files: bool,
     /// Show each row's share of the total.
     pub share: bool,
@@ -124,7 +124,7 @@ fn order_named(name: &str) -> Option<Order>
     }
 }
 
-/// Reads the names of columns, separated by commas, each at most once. Directories are cut to `depth` segments.
+/// Reads the names of columns, separated by commas, each at most once. Directories are cut after `depth` names.
 fn columns_named(names: &str, depth: u32) -> Option<Columns>
     ensures { MatchOption result ((c : ColumnsModel) → ¬ IsColumnsText names.entry.now depth c)
         (λ c. IsColumnsText names.entry.now depth c) }

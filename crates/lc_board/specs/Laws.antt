@@ -87,7 +87,7 @@ abbrev pub StaysLegal : Type 0 → Type 0 → Type 0
 StaysLegal J R = (capacity larger workers : ℕ) (h : List (Event J R)) → capacity ≤ larger
     → IsLegal capacity workers h → IsLegal larger workers h
 
--- there are no more numbers, and no more ends, than the capacity
+-- there are no more numbers, and no more ends, than the capacity, which is at least 1
 abbrev pub FewNumbers : Type 0 → Type 0 → Type 0
 FewNumbers J R = (capacity workers n : ℕ) (h : List (Event J R)) → 1 ≤ capacity → IsLegal capacity workers h → HasNumbers n h → n ≤ capacity
 

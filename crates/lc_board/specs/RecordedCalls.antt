@@ -27,7 +27,8 @@ module _ {J R : Type 0} where
   abbrev pub Holds : ℕ → ℕ → Board J R → Type 0
   Holds w p b = (w < workers_of b) × (held_by b w ≡ Some p)
 
-  -- a claim returns what the single-threaded board returns, if the worker may claim; otherwise Later. Later and Memory change nothing
+  -- a claim returns what the single-threaded board returns, or Memory, if the worker may claim; otherwise Later. Later and Memory change
+  -- nothing
   abbrev pub RecordsClaim : ℕ → Record J R → Claim J → Record J R → Type 0
   RecordsClaim w old (answer.Got i j) new = AnswersClaim w old.board (answer.Got i j) new.board × Records old (event.Claim w i j) new
   RecordsClaim w old answer.Later new = (new ≡ old) × (MayClaim w old.board → AnswersClaim w old.board answer.Later old.board)
@@ -42,7 +43,7 @@ module _ {J R : Type 0} where
       × (Holds w p old.board → AnswersPost w old.board j (Err (refusal.Full k)) old.board)
   RecordsPost w p old j (Err (refusal.Memory k)) new = (k ≡ j) × (new ≡ old) × Holds w p old.board × ¬ IsFull old.board
 
-  -- the claim is ended exactly if the worker may end it; otherwise nothing changes
+  -- the event is recorded and the claim ended; or the worker may not end the claim, and nothing changes
   abbrev pub RecordsEnd : Type 0 → Record J R → Event J R → Bool → Record J R → Type 0
   RecordsEnd may old e true new = Records old e new
   RecordsEnd may old e false new = (new ≡ old) × ¬ may

@@ -23,8 +23,8 @@ word_at codes k = word_of (slice_index codes k)
 abbrev pub EndedBelow : ℕ → List ℕ → Type 0
 EndedBelow n codes = (k : ℕ) → k < n → has_ended (word_at codes k) ≡ true
 
--- what counting the ended numbers returns: how many there are, if all other numbers are absent; or the least number that is used and has
--- not ended
+-- what counting the ended numbers returns: n, if all below n have ended, and n is absent or the capacity; or the least number that is used
+-- and has not ended
 abbrev pub TellsEnded : ℕ → List ℕ → Result ℕ ℕ → Type 0
 TellsEnded capacity codes (Ok n) = EndedBelow n codes × (n ≤ capacity) × ((n ≡ capacity) ⊎ (is_absent (word_at codes n) ≡ true))
 TellsEnded capacity codes (Err n) = EndedBelow n codes × (n < capacity)

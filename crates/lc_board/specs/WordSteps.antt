@@ -21,7 +21,7 @@ taken_after i taken x = cond ((taken == i) && is_taken x) (i + 1) taken
 abbrev pub is_last_word : ℕ → ℕ → Word → Bool
 is_last_word cap i x = is_absent x || (has_ended x && (i + 1 == cap))
 
--- no number is left to look at: all below i have ended, and i is the last that is used, or is not used
+-- no number is left to look at: all below i have ended, and i is absent, or has ended and is the last number of the board
 abbrev pub last_look : ℕ → ℕ → ℕ → Word → Bool
 last_look cap i low x = (low == i) && is_last_word cap i x
 

@@ -45,7 +45,7 @@ pub trait Shared<J, R>: Sized + Sync + Drop {
     /// job.
     ghost is_root: { Self → J → Type 0 };
 
-    /// States that the pass belongs to this board.
+    /// States that the pass belongs to this board. For `Locked` this is true of each pass.
     ghost owns: { Self → Self.Pass → Type 0 };
 
     /// What `close` promises for a board of this type.

@@ -8,7 +8,7 @@
 //! - `simd`: scanning bytes in vectors of 64 bytes, with the same contract as `scalar`
 //! - `laws`: theorems about the definitions that the contracts cite
 //!
-//! The items of `scan`, `scalar` and `simd` are public only for benchmarks.
+//! The items of `scan`, `scalar` and `simd` are public only for tests and benchmarks.
 #![tactic(auto)]
 
 mod census;

@@ -45,7 +45,7 @@ AreReadable columns values = AllZip (λ c v. IsReadable (side_of c) v) columns v
 
 -- ---- the rows and their sums
 
--- a number, what is computed from numbers, or no value
+-- a number, what is computed from numbers, or nothing because the column is summed over or does not apply; a missing value is none of these
 abbrev pub IsNumeral : ValueModel → Type 0
 IsNumeral missing = ⊥
 IsNumeral summed = ⊤

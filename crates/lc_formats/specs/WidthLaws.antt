@@ -64,7 +64,7 @@ HasEnd t = (t ≡ [] → ⊥) × (ends_in_blank t ≡ false)
 abbrev pub HasEnds : SectionModel → Type 0
 HasEnds s = IsListed s × All (λ line. HasEnd (last_text line)) s.lines
 
--- no line of a text in columns ends with a blank if no last text of a listed line does
+-- no line of a text in columns ends with a blank if no last text of a listed line is empty or ends with a blank
 abbrev pub LineEndsLaw : Type 0
 LineEndsLaw =
     (s : SheetModel) → IsTabular s → IfSome s.files HasEnds → HasEnds s.skipped → HasEnds s.faults

@@ -1,4 +1,4 @@
-//! The widths of columns. Each column is as wide as its widest cell.
+//! The widths of columns. Each padded column is as wide as its widest cell.
 
 ghost use Rattle.std.specs.Prelude.{◌≡◌, ◌≤◌, ◌++◌, [], length, slice_index, IfOk, OnOk, string_bytes};
 ghost use Rattle.lc_formats.specs.Cells.{cells_of};

@@ -14,8 +14,8 @@ LeadsAt cursor = Leads (segments_ref_model cursor.segments) (segments_left curso
 abbrev pub cost_at : PathCursor → ℕ
 cost_at cursor = full_cost (segments_ref_model cursor.segments) (segments_left cursor.left.rest)
 
--- what a step from the end found: a double star is last; or the last segment fits the path's last, and what is before them is left; or the
--- segments lead to the end, or don't
+-- what a step from the end found: a double star, of which nothing is stated; or the last segment fits the path's last, and what is before
+-- them is left; or the segments lead to the end, or don't
 abbrev pub PathEndStepIs : PathEndStep → List SegmentModel → List (List ℕ) → Type 0
 PathEndStepIs end.DoubleStar segments path = Unit {0}
 PathEndStepIs (end.Taken before) segments path = (us : List TokenModel) × (n : List ℕ)

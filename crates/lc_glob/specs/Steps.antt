@@ -14,8 +14,8 @@ module _ {A : Type 0} (tokens_in : List A → List TokenModel) where
   abbrev pub cost_at : Cursor A → ℕ
   cost_at cursor = length cursor.segment.bytes.now * (length (tokens_in cursor.tokens.now) + 1) + length (tokens_in cursor.tokens.now)
 
-  -- what a step from the end found: the last token is a star; or it stands for the last byte, and what is before both is left; or the
-  -- tokens fit the segment, or don't
+  -- what a step from the end found: a star, of which nothing is stated; or the last token stands for the last byte, and what is before both
+  -- is left; or the tokens fit the segment, or don't
   abbrev pub EndStepIs : EndStep A → List TokenModel → List ℕ → Type 0
   EndStepIs end.Star tokens segment = Unit {0}
   EndStepIs (end.Taken before) tokens segment = (u : TokenModel) × (x : ℕ) × (tokens ≡ tokens_in before.tokens.now ++ u ∷ [])

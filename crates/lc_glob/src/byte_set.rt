@@ -5,7 +5,7 @@ ghost use Rattle.lc_glob.specs.{TokenLists.ranges_first, Tokens.{class, in_range
 
 use crate::token::Token;
 
-/// A set of bytes: the bytes in some ranges or, if the set is negated, all bytes but these and the slash.
+/// A set of bytes other than the slash: the bytes in some ranges or, if the set is negated, all others.
 #[derive(Clone, Copy)]
 pub(crate) struct ByteSet<'p> {
     pub(crate) negated: bool,

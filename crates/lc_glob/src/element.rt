@@ -1,4 +1,4 @@
-//! The elements of a pattern: its bytes if the pattern is simple (`simple_pattern`), and otherwise its tokens.
+//! The elements of a pattern: its bytes if it is stored as bytes, and otherwise its tokens.
 
 ghost use Rattle.std.specs.Prelude.{◌≡◌, ◌∷◌, ◌++◌, [], not, ◌==◌, Bool, List, map, count_by, MatchOption, IfSome, IsTrue};
 ghost use Rattle.std.specs.List.{list_any, slice_split};

@@ -45,7 +45,8 @@ impl ByteTests {
     }
 }
 
-/// A segment of a path, or the rest of a segment. Its bytes are compared only in byte tests, which are counted.
+/// A segment of a path, the rest of a segment, or a whole path with its slashes. Its bytes are compared only in byte tests, which are
+/// counted.
 #[derive(Clone, Copy)]
 pub(crate) struct PathSegment<'a> {
     bytes: &'a [u8],

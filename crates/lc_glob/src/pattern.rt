@@ -28,7 +28,8 @@ pub struct Pattern {
     pub(crate) kind: PatternKind,
 }
 
-/// The form in which a pattern is stored: bytes if it is simple, and otherwise tokens. A short simple pattern allocates nothing.
+/// The form in which a pattern is stored: bytes if it is simple or dead, or if its one segment is literals, perhaps after a star.
+/// Otherwise, tokens. A short simple pattern allocates nothing.
 #[derive(Drop)]
 pub(crate) enum PatternKind {
     Simple(SimpleForm, SmallVec<u8, 16>),

@@ -99,7 +99,7 @@ impl<'p> SegmentRef<'p> {
     }
 }
 
-/// The segments of a pattern that are still to be matched. A simple pattern (`simple_pattern`) is stored as bytes, any other pattern as
+/// The segments of a pattern that are still to be matched. A simple pattern (`simple_pattern`) is stored as bytes, most other patterns as
 /// tokens.
 #[derive(Clone, Copy)]
 pub(crate) enum SegmentsRef<'p> {

@@ -1,4 +1,4 @@
-//! Writing a text in blocks while it is made, so that it is never in memory as a whole.
+//! Writing a text in blocks while it is made, so that a long text is not in memory as a whole.
 
 ghost use Rattle.std.specs.Prelude.{◌≡◌, ◌≢◌, []};
 ghost use Rattle.lc_io.specs.Blocks.{AnswersBlock};

@@ -34,7 +34,7 @@ pub record IsReadableSheet (s : SheetModel) : Type 0 where
   pub skipped_listed : IsListed s.skipped
   pub faults_listed : IsListed s.faults
 
--- the sheet of each report is readable, so the laws of the widths of a text in columns hold of it
+-- the sheet of each report for the format Table is readable if names are bytes, so the laws of the widths of a text in columns hold of it
 abbrev pub ReadableSheetLaw : Type 0
 ReadableSheetLaw =
     (options : TableOptions) (r : Report) (v : ViewModel) → options.format ≡ Table → All HasByteNames v.rows

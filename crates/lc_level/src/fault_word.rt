@@ -5,7 +5,7 @@ ghost use Rattle.lc_level.specs.FaultWords.{fault_word, fault_word_of};
 
 use lc_tree::ReadFault;
 
-/// The reason for which a listing or a file could not be read, as a word in reports.
+/// Why a listing or a file could not be read, or that a path of `--only` is absent, as a word in reports.
 #[derive(Clone, Copy, Debug, Drop, PartialEq, Eq)]
 pub enum FaultWord {
     /// A directory could not be listed, a file could not be opened, or a read failed.
@@ -20,7 +20,7 @@ pub enum FaultWord {
     Long,
     /// All allowed reads of a file were made, and the file did not end.
     Endless,
-    /// A path of `--only` does not exist, or is under something that is no directory.
+    /// A path of `--only` does not exist, or is under something that is no directory or that the tree does not enter.
     Absent,
 }
 

@@ -65,11 +65,10 @@ impl Line for FileLine {
     }
 }
 
-/// A file or a directory that was not counted, and why.
+/// A file or a directory that was not counted, or a path of `--only` that is absent, and why.
 #[derive(Debug, Drop)]
 pub struct FaultLine {
-    /// The path of the file or directory, relative to a directory or to the top of a tree. The path is empty if the error is
-    /// about this directory or the top itself.
+    /// The path, relative to a directory or to the top of a tree. The path is empty if the error is about this directory or the top itself.
     pub path: Vec<u8>,
     /// Why the file or directory was not counted.
     pub word: FaultWord,

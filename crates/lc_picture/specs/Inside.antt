@@ -18,8 +18,8 @@ boxes_read around (percent part whole ∷ ps) = boxes_read around ps
 boxes_read around (title t ∷ ps) = boxes_read around ps
 boxes_read around (name t ∷ ps) = (t ∷ around) ∷ boxes_read (t ∷ around) ps
 
--- directories, each as its name and those of the directories above it, come depth first: each is right in the one before it, or in one
--- above that. `before` is the one before them
+-- directories, each as its name and those of the directories above it, come depth first: each is right in the one before it, in one above
+-- that, or in none. `before` is the one before them
 abbrev pub ComeDepthFirst : List (List ℕ) → List (List (List ℕ)) → Type 0
 ComeDepthFirst before [] = ⊤
 ComeDepthFirst before ([] ∷ ds) = ⊥

@@ -55,7 +55,7 @@ unescaped (b ∷ c ∷ d ∷ e ∷ f ∷ fs) =
 abbrev pub UnescapedLaw : Type 0
 UnescapedLaw = (text : List ℕ) → unescaped (html text) ≡ text
 
--- whether a page shows a piece to its reader that is neither fixed text nor a number in a tag
+-- whether a page shows a piece to its reader that is not fixed text, not the word for a number, and not a number in a tag
 abbrev pub is_shown : Piece → Bool
 is_shown (markup t) = false
 is_shown (share n) = false

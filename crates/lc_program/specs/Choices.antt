@@ -17,7 +17,7 @@ are_reports old new = visible_bytes (origin_of old) ++ codes " and " ++ visible_
 abbrev pub choice_line : List ℕ → List ℕ → List ℕ → List ℕ
 choice_line option old new = codes "lc: " ++ option ++ codes " chooses files of a directory, and " ++ are_reports old new
 
--- the first option of the command line that chooses files
+-- the option of the command line that chooses files; of several, the first in this order, not in the order in which they were typed
 abbrev pub first_choice : WalkRequest → Option (List ℕ)
 first_choice w =
     if is_some w.filters.exclude_from then Some (codes "--exclude-from")

@@ -132,7 +132,7 @@ module _ {I O E : Type 0} (system : SystemMay) (may : StreamsMay I O E) (words :
   Ends before Done after = EndsAnswered before Done after ⊎ Shows before Done after
   -- an answer was written that tells of a fault
   Ends before SomeFaults after = EndsAnswered before SomeFaults after
-  -- an answer was written that counts a file, which was to be a failure
+  -- an answer was written that counts a file, or compares sides that differ, which was to be a failure
   Ends before AnyFile after = EndsAnswered before AnyFile after
   -- the words fail, nothing was read or written, and why was told, in a message that begins with `error: `
   Ends before Misused after =

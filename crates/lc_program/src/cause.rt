@@ -47,16 +47,17 @@ pub enum Cause {
     /// Two paths of a count lead to the same directory, or one counted directory lies in another. The text is the line for standard error,
     /// which names both directories.
     Nested(String),
-    /// The walk of one of several directories ended without a report. The text is the line for standard error, which names the directory.
+    /// One of several directories, or a directory of a comparison, has too many directories, or a path that is too long or too deep. The
+    /// text is the line for standard error, which names the directory.
     InDirectory(String),
-    /// A report, or a directory of a comparison, can't be read or used. The text is the line for standard error, which says what is wrong
-    /// and where.
+    /// A report, or a directory of a comparison, can't be read or used, or an option chooses files but both sides are reports. The text is
+    /// the line for standard error, which says what is wrong and where.
     InReport(String),
-    /// Several reports have no column in common.
+    /// No column is in every report, and the command line names no columns.
     NoSharedColumn,
     /// A sum over several reports does not fit its type.
     SumsTooLarge,
-    /// The answer could not be written.
+    /// The answer, help or the version could not be written.
     Unwritten,
 }
 

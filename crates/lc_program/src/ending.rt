@@ -12,7 +12,8 @@ pub enum Ending {
     Done,
     /// The program wrote the answer, but some paths could not be read.
     SomeFaults,
-    /// The program wrote the answer, which counts a file or shows a difference, and `--fail-if-any` makes this a failure.
+    /// The program wrote the answer, for which a file was counted or the sides of a comparison differ, and `--fail-if-any` makes this a
+    /// failure.
     AnyFile,
     /// The program refused the arguments.
     Misused,

@@ -17,7 +17,7 @@ use lc_reports::named;
 use lc_sums::Part;
 use std::alloc::{AllocError, Global};
 
-/// The greatest number of bytes of a report.
+/// The greatest number of bytes of a file of reports, or of the input.
 const MAX_REPORT: u32 = 1_073_741_824;
 
 /// Puts a name in front of a report's paths, as `NAME=REPORT` does. Without a name the report stays as it is.

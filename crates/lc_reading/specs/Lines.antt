@@ -58,7 +58,7 @@ pub record IsFaultOf (ms : List Member) (f : FaultLineModel) : Type 0 where
 
 -- ---- skipped entries
 
--- an entry of this kind can be skipped for this reason
+-- as reports are read, an entry of this kind has this reason; another skipped mount is read as a directory, since both have one word
 abbrev pub HasReason : Kind → Reason → Type 0
 HasReason kind named_git = kind ≡ Other Mounted → ⊥
 HasReason kind (by_rule source line) = kind ≡ Other Mounted → ⊥

@@ -20,7 +20,7 @@ pub enum ReadFault {
     /// The report lacks rows or files that its totals count, as with `--top`.
     #[error("was cut by --top")]
     CutByTop,
-    /// The sums of this part of the report differ from the report's total.
+    /// The sums of this part of the report differ from the report's total, or the rows of binary files differ from `binary`.
     #[error("is no report: its {0} do not add up to its total")]
     DoNotAddUp(Part),
 }

@@ -25,7 +25,7 @@ JoinGroupLaw = (part others : List Report) (one r : Report) → IsJoined part on
 abbrev pub HasFile : TallyRowModel → Type 0
 HasFile row = 0 < row.sums.files
 
--- both reports are the same, except for the order of files with the same path: in both, the files are in the order of their paths
+-- both reports are the same, except for the order of their files
 pub record IsSame (r s : Report) : Type 0 where
   pub rows : r.rows.items ≡ s.rows.items
   pub totals : r.totals ≡ s.totals

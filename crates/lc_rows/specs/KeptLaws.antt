@@ -58,7 +58,8 @@ AddUpOpposite c r =
 abbrev pub OppositesLaw : Type 0
 OppositesLaw = (c : ConditionModel) (r : Report) → r.totals ≡ tested_sums (is_on_number c) r → AddUpOpposite c r
 
--- opposite conditions add up for each report of a walk, and for the part of such a report that meets other conditions
+-- opposite conditions add up for each report of a walk, and for the part of such a report that meets other conditions; if the condition is
+-- on a number, the walk must list its files
 abbrev pub WalkedOppositesLaw : (List ℕ → Listings) → (List ℕ → Contents) → Type 0
 WalkedOppositesLaw lists gives =
     (o : Options) (c : ConditionModel) (r : Report) → IsOfWalk lists gives o r → ListsFilesToTest o c → AddUpOpposite c r

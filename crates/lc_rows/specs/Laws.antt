@@ -76,7 +76,8 @@ NamesLaw =
     (n : ℕ) (path : List ℕ) → is_good_path path ≡ true
     → directory_of n path ≡ join_with_byte slash (take n (take (length (segments_of path) - 1) (segments_of path)))
 
--- for each directory and key, the rows of a tree have the sums over the files in this directory and below it which have that key
+-- for each directory that is not below the cut, and each key, the rows of a tree have the sums over the files in this directory and below
+-- it which have that key
 abbrev pub TreeLaw : Type 0
 TreeLaw =
     (n : ℕ) (by : Columns) (fs : List FileLineModel) (rows : List ShownRowModel) (directory : List ℕ) (key : Key)

@@ -121,7 +121,8 @@ pub record SheetAddsUp (s : SheetModel) : Type 0 where
   pub classes : ClassesAddUp s
   pub shares : SharesAreWithin s
 
--- each sheet of a walk's report adds up, and each sheet of the part of such a report that meets conditions
+-- each sheet of a walk's report adds up, and each sheet of the part of such a report that meets conditions; for a sheet by directory, the
+-- walk must list its files
 abbrev pub WalkedSheetLaw : (List ℕ → Listings) → (List ℕ → Contents) → Type 0
 WalkedSheetLaw lists gives =
     (o : Options) (options : TableOptions) (r : Report) (s : SheetModel) → IsOfWalk lists gives o r → ListsFilesFor o options

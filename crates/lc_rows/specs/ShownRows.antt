@@ -61,7 +61,7 @@ has_no_directories (Some n) = false
 abbrev pub keeps_all : Columns → Bool
 keeps_all by = has_no_directories by.dir && by.ext && by.text && by.eol
 
--- the rows as they are in the report if no column is missing, and otherwise what the parts add up to
+-- the rows as they are in the report if no column is missing and rows are not by directory, and otherwise what the parts add up to
 abbrev pub AreSummed : Columns → List TallyRowModel → List FileLineModel → List ShownRowModel → Type 0
 AreSummed by rs fs summed = MatchBool (keeps_all by) (summed ≡ parts_of by rs fs) (AreAddedUp (parts_of by rs fs) summed)
 

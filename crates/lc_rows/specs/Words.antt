@@ -12,7 +12,7 @@ kind_word Dir = codes "dir"
 kind_word (Other Special) = codes "other"
 kind_word (Other Mounted) = codes "dir"
 
--- what follows the path of a skipped entry: a slash if it is a directory other than `.git`
+-- what follows the path of a skipped entry: a slash if it is a directory other than `.git`, or any directory of another file system
 abbrev pub skipped_end : Kind → Reason → List ℕ
 skipped_end Dir named_git = []
 skipped_end Dir (by_rule source line) = codes "/"

@@ -16,7 +16,7 @@ use std::marker::Model;
 /// The key of a row of a table: what the files of the row have in common. The directory and the extension are borrowed.
 #[derive(Drop)]
 pub struct RowKeyRef<'a> {
-    /// The directory that holds the files, if rows are by directory. Its path is cut after as many names as `--depth` says. The path of the
+    /// The directory that holds the files, or one above it, if rows are by directory. Its path may be cut after some names. The path of the
     /// top directory is empty.
     pub directory: Option<&'a [u8]>,
     /// The extension of the files' names, if they have one and rows are by extension.

@@ -12,17 +12,17 @@ use lc_walk::Sums;
 use std::alloc::AllocError;
 use std::marker::Model;
 
-/// A row of a table: the sums over the files that have the same values in the table's columns.
+/// A row of a table: the sums over the files that have the same values in the columns that rows are grouped by.
 #[derive(Drop)]
 pub struct ShownRow<'a> {
-    /// The directory that holds the files, if rows are by directory. Its path is cut after as many names as `--depth` says. The path of the
+    /// The directory that holds the files, or one above it, if rows are by directory. Its path may be cut after some names. The path of the
     /// top directory is empty.
     pub directory: Option<&'a [u8]>,
-    /// The extension of the files' names, if they have one and the table has a column for it.
+    /// The extension of the files' names, if they have one and rows are by extension.
     pub extension: Option<&'a [u8]>,
-    /// The state of the Git attribute `text` for the files, or `Unspecified` if the table has no column for it.
+    /// The state of the Git attribute `text` for the files, or `Unspecified` if rows are not by this state.
     pub text: TextState,
-    /// How the files' lines end, or `NoEnd` if the table has no column for it.
+    /// How the files' lines end, or `NoEnd` if rows are not by line ends.
     pub eol: Eol,
     /// The sums over the files.
     pub sums: Sums,

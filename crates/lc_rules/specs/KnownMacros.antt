@@ -34,11 +34,11 @@ expanded body unset = []
 expanded body (value v) = []
 expanded body unspecified = []
 
--- whether an assignment of a name can decide the attribute, itself or by what it expands to
+-- whether a name is that of the attribute or of some macro: an assignment of any other name can't decide the attribute
 abbrev pub matters : List MacroModel → List ℕ → List ℕ → Bool
 matters ms wanted name = bytes_eq name wanted || is_some (macro_of ms name)
 
--- whether some assignment of these lines can decide the attribute
+-- whether some assignment of these lines is of such a name
 abbrev pub some_matters : List MacroModel → List ℕ → List PatternLineModel → Bool
 some_matters ms wanted lines = list_any (λ l. list_any (λ a. matters ms wanted a.0) l.assigns) lines
 

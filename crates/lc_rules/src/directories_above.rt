@@ -138,8 +138,9 @@ fn cut_names<'p>(path: &'p [u8], names: &mut [&'p [u8]], ends: &mut [usize]) -> 
 }
 
 /// Finds the last rule that matches each directory above the last of these names, and the last rule that matches the path of all names.
-/// Rules are tried from the last to the first, until the highest ignored directory is known. Returns for how many directories, from the
-/// highest down, the rule is known. If all rules were tried, also returns the rule for the path of all names.
+/// Rules are tried from the last to the first, until the highest ignored directory is known, or each directory has a rule. Returns for how
+/// many directories, from the highest down, the rule is known. If neither happens before the rules end, also returns the rule for the path
+/// of all names.
 fn decide<'a>(
     file: &'a IgnoreFile,
     names: &[&[u8]],

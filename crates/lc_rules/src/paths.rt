@@ -8,8 +8,8 @@ ghost use Rattle.lc_rules.specs.Verdicts.{below};
 
 use lc_glob::cut_at_first;
 
-/// A path, and the rest of it after its first `depth` segments. The files of a chain are matched from the top down, and `at` moves on from
-/// the directory of one file to the directory of the next file. So a path is read once for all files of the chain.
+/// A path, and the rest of it after its first `depth` segments. For the files of a chain, the path is cut from the top down, and `at` moves
+/// on from the directory of one file to the directory of the next file. So a path is read once for all files of the chain.
 #[derive(Clone, Copy)]
 pub(crate) struct PathBelow<'a> {
     pub(crate) path: &'a [u8],

@@ -1,4 +1,4 @@
-//! The file that a rule was read from.
+//! Where a rule comes from: a file or the command line.
 
 /// Where a rule that matches a path comes from: a file or the command line. The variants are in the order of precedence, the lowest first
 /// (gitignore(5), DESCRIPTION).

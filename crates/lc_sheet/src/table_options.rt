@@ -16,7 +16,7 @@ pub enum Format {
     Csv,
     /// Tables of GitHub Flavored Markdown.
     Markdown,
-    /// A page of HTML with a bar for each extension and a box for each directory, in place of rows.
+    /// A page of HTML, in place of rows, with bars for the 20 largest extensions, and boxes for large directories and files.
     Html,
 }
 
@@ -24,7 +24,7 @@ pub enum Format {
 #[derive(Debug, Clone, Copy, PartialEq, Eq)]
 pub struct Columns {
     /// If rows are grouped by directory, the number of names (1 to 256) after which the path of a file's directory is cut. The path is
-    /// relative to the counted directory.
+    /// relative to the counted directory, or begins with the name of one of several.
     pub dir: Option<u32>,
     /// Whether rows are grouped by the extension of the files' names.
     pub ext: bool,
@@ -49,7 +49,7 @@ impl Columns {
 pub enum Order {
     /// Rows are in the order of their keys, and files in the order of their paths.
     Name,
-    /// Rows and files are in the order of this number, largest first.
+    /// Rows and files are in the order of this number, or in a comparison of its change, largest first.
     Largest(Number),
 }
 

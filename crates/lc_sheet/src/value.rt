@@ -17,7 +17,7 @@ pub enum Value<'a> {
     /// A name, with what is printed before and after its bytes: an extension, an attribute, or the path of an entry, of a rule's file or of
     /// a directory.
     Name(Name<'a>),
-    /// The path of a file, of a skipped entry or of what could not be read. The path of the counted directory is empty.
+    /// The path of a file, of a skipped entry or of what could not be read. The path of a single counted directory is empty.
     Path(&'a [u8]),
     /// A number.
     Number(u128),

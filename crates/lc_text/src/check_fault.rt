@@ -23,8 +23,7 @@ pub enum CheckFault {
     /// paths from one input returns this error.
     #[error("rules too long")]
     RulesTooLong,
-    /// An allocation for the input, the rules or the text failed. If the text is written as it is made, a prefix of the text may have been
-    /// written.
+    /// An allocation failed. If the text is written as it is made, a prefix of the text may have been written.
     #[error("out of memory")]
     Memory,
     /// A write failed, or accepted nothing. What was written is a prefix of the text.

@@ -1,10 +1,10 @@
-//! Whether a text that was written reports an error.
+//! Whether an answer needed something that could not be read.
 
-/// Whether a text that was written names a directory or a file that could not be read.
+/// Whether a directory or a file that an answer needed could not be read.
 #[derive(Debug, Clone, Copy, PartialEq, Eq)]
 pub enum Outcome {
-    /// Every directory and file could be read.
+    /// Each directory and file that the answer needed could be read.
     Clean,
-    /// The text has a line for each directory or file that could not be read.
+    /// Some directory or file could not be read.
     SomeFaults,
 }

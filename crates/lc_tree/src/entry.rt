@@ -7,7 +7,8 @@ use std::marker::Model;
 /// Why an entry is neither a file that is read nor a directory that is entered.
 #[derive(Clone, Copy, Debug, Drop, PartialEq, Eq)]
 pub enum OtherKind {
-    /// The entry is neither a regular file nor a directory: a symbolic link, for instance.
+    /// The entry is neither a regular file nor a directory, but a symbolic link, for instance. Or its path has over `MAX_PATH` bytes, and a
+    /// `SysTree` did not look at it.
     Special,
     /// The entry is a directory that the tree does not enter, because the tree enters only directories on the file system of its top.
     Mounted,

@@ -12,7 +12,7 @@ use std::sync::atomic::{AtomicU32, Ordering};
 ///
 /// The count consists of two numbers, neither of them below 0:
 ///
-/// - idle: how many threads have called `begin` and not yet `end`
+/// - idle: at first none, or all threads with `all_idle`; `begin` adds 1, and `end` subtracts 1
 /// - lent: how many of the threads that `take` returned were not given back
 ///
 /// `take` returns at most idle minus lent threads, or none if lent is greater than idle. So two callers never get the same idle thread. If

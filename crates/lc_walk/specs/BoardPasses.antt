@@ -4,7 +4,7 @@ use Rattle.lc_board.specs.Pass.{Pass, holding}
 use Rattle.lc_level.specs.Job.{JobModel}
 use Rattle.lc_walk.specs.declared.row.Row.{Row}
 
--- the worker of the pass has claimed nothing
+-- the worker of the pass holds no claim
 abbrev pub IsFree : Pass JobModel Row → Type 0
 IsFree p = holding p ≡ None
 

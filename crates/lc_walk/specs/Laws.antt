@@ -20,7 +20,8 @@ use Rattle.lc_walk.specs.TreeOfRows.{tree_from, children_by_rows, tree_of_rows, 
 use Rattle.lc_walk.specs.ClosedWalks.{Walked, AreWhole, rows_found}
 use Rattle.lc_walk.specs.declared.row.Row.{Row}
 
--- the recursive walk of the tree that the rows make finds what the rows found, for every depth that is at least the capacity
+-- if no row is Broken, the recursive walk of the tree that the rows make finds what the rows found, for every depth that is at least the
+-- capacity
 abbrev pub CoreLaw : Type 0
 CoreLaw =
     (ask : Asked) (full : Bool) (capacity workers : ℕ) (top : JobModel)
@@ -34,7 +35,7 @@ walk_numbers ask depth top rows answers =
     walk_by (λ j (a : ℕ × Answers). a.0 ∷ []) (λ j (a : ℕ × Answers). children_at ask.filters j a.1) depth top
     (tree_from (0, no_answers) (λ i. (i, answers i)) (children_by_rows rows) 0)
 
--- each number occurs once in the tree of rows
+-- if no row is Broken, each number occurs once in the tree of rows
 abbrev pub NumbersLaw : Type 0
 NumbersLaw =
     (ask : Asked) (full : Bool) (capacity workers : ℕ) (top : JobModel)
@@ -42,8 +43,8 @@ NumbersLaw =
     Walked ask full capacity workers top h rows answers → AreWhole rows → (depth : ℕ) → capacity ≤ depth →
     IsPermutation (walk_numbers ask depth top rows answers) (numbers_below (length rows))
 
--- if each row's level is what one tree's answers at the row's path make, the recursive walk of this tree finds what the rows found. The
--- answers may differ in what a level does not read, such as a file that is ignored
+-- if no row is Broken, and each row's level is what one tree's answers at the row's path make, the recursive walk of this tree finds what
+-- the rows found. The answers may differ in what a level does not read, such as a file that is ignored
 abbrev pub OneAnswerLaw : Type 0
 OneAnswerLaw =
     (t : Tree) (ask : Asked) (full : Bool) (capacity workers : ℕ) (top : JobModel)

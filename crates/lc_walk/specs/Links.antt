@@ -27,7 +27,7 @@ pub record IsLinkedSoFar (rows : List (Ended Row)) (at j k : ℕ) : Type 0 where
   pub path : (job_of (row_of row)).path ≡ path_in (job_of (row_of edge.above)).path edge.child.name
   pub only : (p i : ℕ) → Seen at j p i → IsEdge rows p i k → (p ≡ parent) × (i ≡ place)
 
--- each marked number is linked by the children seen so far; a number that is not marked is that of none of these children
+-- from 1 on, each marked number is linked by the children seen so far, and a number that is not marked is that of none of these children
 pub record AreLinked (rows : List (Ended Row)) (at j : ℕ) (linked : List Bool) : Type 0 where
   pub long : length linked ≡ length rows
   pub unnamed : (k : ℕ) → 1 ≤ k → slice_get linked k ≡ Some false → (p i : ℕ) → Seen at j p i → IsEdge rows p i k → ⊥

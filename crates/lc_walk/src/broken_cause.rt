@@ -1,6 +1,6 @@
-//! Why a worker stopped before it had finished the work on a directory.
+//! Why a worker did not finish the work on a directory.
 
-/// Why a worker stopped before it had finished the work on a directory.
+/// Why a worker did not finish the work on a directory.
 #[derive(Clone, Copy, Debug, Drop, PartialEq, Eq)]
 pub enum BrokenCause {
     /// An allocation failed.

@@ -192,15 +192,15 @@ pub struct FaultedRow {
     pub word: FaultWord,
 }
 
-/// The row that a worker adds for a directory if the worker stops before it has finished the work on this directory.
+/// The row that a worker adds for a directory if it does not finish the work there.
 #[derive(Drop)]
 pub struct BrokenRow {
     pub job: ServedJob,
     pub cause: BrokenCause,
 }
 
-/// What a worker found in a directory, or why the worker stopped. The worker adds this row to the board, the table of directories that
-/// threads share.
+/// What a worker found in a directory, or why the worker did not finish the work there. The worker adds this row to the board, the table of
+/// directories that threads share.
 #[derive(Drop)]
 pub enum Row {
     Listed(ListedRow),

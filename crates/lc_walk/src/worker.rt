@@ -41,7 +41,8 @@ pub enum StopReason {
 pub struct WorkerResult<P> {
     pub pass: P,
     pub end: StopReason,
-    /// The tally of the files in the directories that the worker listed, or `None` if an allocation failed.
+    /// The tally of the files in the directories that the worker listed, or `None` if an allocation failed while the worker worked on a
+    /// directory.
     pub tally: Option<Tally>,
 }
 

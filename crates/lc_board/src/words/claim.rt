@@ -4,9 +4,9 @@
 //!
 //! The worker's pass, which gives it access to the board, has two marks. All directories with a number below the low mark are finished, and
 //! each directory with a number below the mark `taken` is finished or claimed. The claim begins to read at the low mark, and stops at the
-//! first directory that waits for a worker, or at the first unused number. A directory is busy if a worker has claimed it or is about to
-//! add it to the board. At the first busy directory the claim jumps to the mark `taken`, if this mark is higher. So a claim takes at most
-//! two steps on each word, a read and an exchange, and one more step on the word of the directory from the list.
+//! first directory that it claims, or at the first unused number. A directory is busy if a worker has claimed it or is about to add it to
+//! the board. At the first busy directory the claim jumps to the mark `taken`, if this mark is higher. So a claim takes at most two steps
+//! on each word, a read and an exchange, and one more step on the word of the directory from the list.
 ghost use Rattle.std.specs.Prelude.{◌≡◌, ◌+◌, ◌<◌, None, IfSome, IfNone, cond};
 ghost use Rattle.lc_board.specs.{Limits.capacity_limit, WordSteps.{Extends, is_last_word, larger}};
 ghost use Rattle.lc_board.specs.WordsBoard.{AnswersWordsClaim, IsPassOf, IsSamePass, TriesClaim, known};

@@ -11,14 +11,14 @@ use lc_tree::{Listing, Tree};
 use std::alloc::Global;
 use std::sync::Arc;
 
-/// The ignore file and the attribute file of a directory, each if it exists.
+/// The ignore file and the attribute file of a directory, each if it was read.
 #[derive(Drop)]
 pub(crate) struct RulePair {
     pub(crate) rules: Option<Arc<IgnoreFile, Global>>,
     pub(crate) attributes: Option<Arc<AttrFile, Global>>,
 }
 
-/// Both rule files of a directory, each if it exists, and the bytes of the ignore file if the reader's options say to keep texts.
+/// Both rule files of a directory, each if it was read, and the bytes of the ignore file if the reader's options say to keep texts.
 #[derive(Drop)]
 pub(crate) struct PairRead {
     pub(crate) files: RulePair,
@@ -26,7 +26,7 @@ pub(crate) struct PairRead {
 }
 
 impl PairRead {
-    /// Returns the value for a directory that has neither file.
+    /// Returns the value that means that neither file was read.
     pub(crate) fn none() -> PairRead
         ensures { result ≡ record { files = record { rules = None; attributes = None }; text = None } }
     {

@@ -15,8 +15,9 @@ use std::alloc::{AllocError, Global};
 use std::thread;
 use std::thread::Threads;
 
-/// The least number of files in a part. Counting this many small files takes about a millisecond, several times as long as starting a
-/// thread and waiting for its end. So a directory with fewer than twice this many files is counted as a whole.
+/// The least number of files in a part, unless the files follow a large file. Counting this many small files takes about a millisecond,
+/// several times as long as starting a thread and waiting for its end. So a directory with fewer than twice this many files, none of them
+/// large, is counted as a whole.
 const PART_FILES: usize = 256;
 
 /// The greatest number of threads that help with one directory: a walk has at most this many workers besides the one that counts the

@@ -49,7 +49,8 @@ module _ (style : PathStyle) where
   rule_line word line rule =
       answer_line (styled style) word (Some (rule_name (named_path line) rule.source rule.line)) (Some rule.text) line
 
-  -- the line for a path with this explanation: the word, the place or the reason, the pattern, and the path as it was read
+  -- the line for a path with this explanation: the word, the place or the reason, the pattern, and the path as it was read, or the path of
+  -- the error
   abbrev pub explained_line : List ℕ → Explanation → List ℕ
   explained_line line bad = answer_line (styled style) (codes "bad") None None line
   explained_line line (faulted fault) = fault_line fault

@@ -19,7 +19,7 @@ fn verdict_word(verdict: Verdict) -> &'static str
 /// What the rules of a file decide about a path: the first variant that holds.
 #[derive(Clone, Copy)]
 pub(crate) enum Finding<'a> {
-    /// No entry of a tree can have this path.
+    /// No entry of a tree can have this path, or the path has over 4,096 bytes.
     Bad,
     /// A directory above the path is ignored. This rule ignores the highest such directory.
     Below(&'a Rule),

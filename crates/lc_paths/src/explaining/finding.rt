@@ -50,7 +50,7 @@ impl Decision {
 /// The explanation of one path.
 #[derive(Debug, Drop)]
 pub(crate) enum Finding<'a> {
-    /// No entry of a tree can have this path.
+    /// No entry of a tree can have this path, or the path has over 4,096 bytes.
     Bad,
     /// A directory above the path could not be opened.
     Fault(DirectoryFault<'a>),

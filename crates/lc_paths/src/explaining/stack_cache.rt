@@ -17,8 +17,9 @@ use std::marker::Model;
 
 /// The memory that opened directories may use before some of them are dropped: about 96 MiB.
 ///
-/// The directories above the path that is being explained are kept however large they are. If all other opened directories together use
-/// more than `MAX_KEPT` bytes, opening one more directory drops all directories that are not above the path that is being explained.
+/// The directories above the path that is being explained are kept however large they are. If all opened directories together use more than
+/// `MAX_KEPT` bytes, opening one more directory drops all directories that are not above this path. The next drop comes only after another
+/// `MAX_KEPT` bytes.
 pub const MAX_KEPT: usize = 96 * 1024 * 1024;
 
 /// A cached stack whose last directory is above a path, and the rest of the path below that directory.

@@ -5,7 +5,7 @@ use crate::report::{FaultLine, FileLine, SkippedLine};
 /// What a walk found besides the sums over its files. The lists may be in any order.
 #[derive(Drop)]
 pub struct Findings {
-    /// The number of directories that were listed.
+    /// The number of directories whose listings and rule files were read.
     pub directories: u64,
     /// The number of entries of the listed directories, skipped entries included. With `--only`, entries that the paths of `--only` do not
     /// select are not counted.
