@@ -78,9 +78,9 @@ impl TableRequest {
         self.sort.unwrap_or(default_order(format, self.top))
     }
 
-    /// Returns the options of the table. If the request names no format, the format is `Table` with shares, and otherwise `other`. If the
-    /// request names no columns, the columns are `columns`. If the request names no order, rows and files are sorted by lines if `--top` is
-    /// used or the format is `Table` or `Markdown`, and otherwise by name.
+    /// Returns the options of the table. If the request names no format, the format is `Table` if shares are shown, and `other` if not. If
+    /// the request names no columns, the columns are `columns`. If the request names no order, rows and files are sorted by lines if
+    /// `--top` is used or the format is `Table` or `Markdown`, and otherwise by name.
     pub fn options(self, other: Format, columns: Columns) -> TableOptions
         ensures { result ≡ options_in other columns self }
     {

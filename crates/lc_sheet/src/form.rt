@@ -1,4 +1,5 @@
-//! How a section shows its lines: what rows are grouped by, in which column a line of sums has its name, and what shares are computed from.
+//! How a section shows its lines: what rows are grouped by, in which column a line of sums has its word, such as `total`, and what shares
+//! are computed from.
 
 use crate::column::{Column, Number};
 use crate::table_options::Columns;
@@ -14,7 +15,8 @@ pub struct Shares {
     pub largest: u128,
 }
 
-/// How a section shows its lines: what rows are grouped by, in which column a line of sums has its name, and what shares are computed from.
+/// How a section shows its lines: what rows are grouped by, in which column a line of sums has its word, such as `total`, and what shares
+/// are computed from.
 #[derive(Debug, Clone, Copy, PartialEq, Eq)]
 pub struct Form {
     /// The columns that rows are grouped by.

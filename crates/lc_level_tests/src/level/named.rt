@@ -1,4 +1,4 @@
-//! Which attributes the attribute files of a tree name.
+//! Tests of which attributes are named in the attribute files of a tree.
 
 use crate::level::work::NOTHING;
 use lc_level::{Filters, Job, LevelReader, NamedAttributes, ReaderOptions, Scratch};
