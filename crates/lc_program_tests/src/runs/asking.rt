@@ -79,8 +79,9 @@ fn is_refusal(told: &[u8], wanted: &[u8]) -> bool {
         // Lines about patterns may follow it.
         || told.starts_with(b"lc: some paths could not be read\n")
         || told.ends_with(b"lc: rules above this directory were not read\n")
-        // A system without memory may know of no repository, so the hint is missing.
-        || (told.len() < wanted.len() && wanted.starts_with(told))
+        // A system without memory may know of no repository. So the hint is missing, or its command has fewer of several directories.
+        || (told.len() < wanted.len()
+            && (wanted.starts_with(told) || told.ends_with(b" reads them\n")))
 }
 
 /// Returns whether a run in this system ends as the case says. An error means that an allocation failed.
