@@ -10,7 +10,7 @@ use crate::token::Token;
 use memchr::memchr;
 use std::alloc::AllocError;
 
-/// Returns the byte that `b` stands for in a bracket, and how many bytes of `rest` it read. A backslash stands for the byte after it.
+/// Returns the byte that `b` means in a bracket, and how many bytes of `rest` were read. A backslash means the byte after it.
 fn element_at(b: u8, rest: &[u8]) -> Option<(u8, usize)>
     ensures is { result ≡ element b rest.now }
     ensures within { IfSome result (λ r. (r.1 ≤ length rest.now) × (r.1 ≤ 1)) }

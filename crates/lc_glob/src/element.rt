@@ -188,14 +188,14 @@ fn count_tokens(tokens: &[Token]) -> usize
     tokens.iter().filter(|token| token.is_for_byte()).count()
 }
 
-/// Returns whether the elements stand for no token.
+/// Returns whether the elements are no token.
 pub(crate) fn has_no_token<E: Element>(elements: &[E]) -> bool
     ensures { result ≡ is_empty (E.tokens_in elements.now) }
 {
     E::split_first_token(elements).is_none()
 }
 
-/// Returns whether the elements stand for two stars and nothing else.
+/// Returns whether the elements are two stars and nothing else.
 pub(crate) fn are_two_stars<E: Element>(elements: &[E]) -> bool
     ensures { result ≡ is_double_star (E.tokens_in elements.now) }
 {

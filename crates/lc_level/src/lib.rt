@@ -23,7 +23,7 @@
 //! - `fault_site`: which file or directory could not be read
 //! - `content_fault`: why a file could not be read or counted
 //! - `fault_word`: the words by which a report names errors
-//! - `laws`: theorems, such as that opening a directory and counting its files give what the definitions say of the directory
+//! - `laws`: theorems, such as that opening a directory and counting its files give what the definitions state about the directory
 #![tactic(auto)]
 
 mod classify;

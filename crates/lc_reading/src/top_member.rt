@@ -7,7 +7,7 @@ ghost use Rattle.lc_reading.specs.declared.member_name.MemberName.{MemberName as
 
 use crate::member_name::MemberName;
 
-/// Which member of a report a name stands for.
+/// Which member of a report has a name.
 #[derive(Clone, Copy, Debug, Drop)]
 pub(crate) enum TopMember {
     Rows,

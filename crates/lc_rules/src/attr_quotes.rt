@@ -27,7 +27,7 @@ fn octal(bytes: &[u8]) -> Option<(u8, usize)>
     }
 }
 
-/// Reads the escape that follows a backslash. Returns the byte that the escape stands for, and the number of bytes of the escape.
+/// Reads the escape that follows a backslash. Returns the byte that the escape means, and the number of bytes of the escape.
 fn escape(bytes: &[u8]) -> Option<(u8, usize)>
     ensures is { result ≡ escape bytes.now }
     ensures within { IfSome result (λ r. r.1 ≤ length bytes.now) }

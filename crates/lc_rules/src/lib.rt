@@ -21,7 +21,7 @@
 //! - `chain_files`: the files of a chain
 //! - `paths`: paths relative to the directory of a rule file
 //! - `directories_above`: the last rule that matches each directory above a path
-//! - `verdicts`: what a rule says of a path
+//! - `verdicts`: whether a rule ignores or includes a path
 //! - `rule_source`: the file that a rule was read from
 //! - `faults`: why a file can't be read as rules
 //! - `laws`: theorems about the rules of ignore files, and about the rule that decides whether a path is ignored

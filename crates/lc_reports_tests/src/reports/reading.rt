@@ -30,7 +30,7 @@ fn number(words: &mut SplitAsciiWhitespace<'_>) -> u128 {
     next(words).parse::<u128>().unwrap_or(0)
 }
 
-/// Returns the path that a word stands for. A dot stands for the empty path of the top.
+/// Returns the path that a word means. A dot means the empty path of the top.
 fn path_of(alloc: Global, word: &str) -> Result<Vec<u8>, AllocError> {
     let path = if word == "." { "" } else { word };
     path.as_bytes().to_vec(alloc)
