@@ -31,5 +31,6 @@ pub mod WordSeats
 pub mod WordTies
 pub mod WordScans
 pub mod WordMarks
+pub mod WordBounds
 pub mod WordCloses
 pub mod WordStarts

@@ -14,7 +14,8 @@ use Rattle.lc_board.specs.{State.{Absent, Open, Claimed, status}, Part.part, Leg
 use Rattle.lc_board.specs.{Growth.{rank, put, job_at}, WordCode.{shown, code, word_of, is_absent, is_open, has_ended}}
 use Rattle.lc_board.specs.{WordRow.{Seated, SlotHolds, Knows, IsRow}, declared.{words.coding.Word.Word, event.Event.Event}}
 use Rattle.lc_board.specs.declared.{event.Event.TheVariants.{Claim, Over}, words.view.{Slot.{Slot, TheVariants.Job}, View.View}}
-use Rattle.lc_board.specs.WordSteps.{ExtendsFairly, AddsEvent, SomeHolds, Finds, HasLooked, looked, TakesJob, claimed, low_after, last_look}
+use Rattle.lc_board.specs.WordSteps.{ExtendsFairly, AddsEvent, SomeHolds, Finds, HasLooked, looked, TakesJob, claimed, low_after}
+use Rattle.lc_board.specs.WordSteps.{TakesStep, last_look}
 use Rattle.lc_board.specs.declared.words.coding.Word.TheVariants as word
 use Rattle.lc_board.proofs.{HeldClaims.part_tells_claim, Growths.{at_put, put_else, whole, part_own, part_else}}
 use Rattle.lc_board.proofs.WordCodes.{decoded, absent_is, not_open, ended_rank}
@@ -93,11 +94,11 @@ module _ {J R : Type 0} where
       found (word.Claimed u) e = (same i ∙ (r.state.agrees i ∙ ap shown e), some_holds i u (r.state.agrees i ∙ ap shown e))
       found _ e = same i ∙ (r.state.agrees i ∙ ap shown e)
 
-  abbrev looked_view : View J R → List (Event J R) → ℕ → View J R
-  looked_view v h low = record v { seen = h; low = low }
+  abbrev looked_view : View J R → ℕ → List (Event J R) → ℕ → View J R
+  looked_view v i h low = record v { seen = h; low = low; steps = i ∷ v.steps }
 
-  abbrev over_view : View J R → List (Event J R) → ℕ → View J R
-  over_view v h low = record v { seen = Over v.worker ∷ h; mine = Over v.worker ∷ v.mine; low = low }
+  abbrev over_view : View J R → ℕ → List (Event J R) → ℕ → View J R
+  over_view v i h low = record v { seen = Over v.worker ∷ h; mine = Over v.worker ∷ v.mine; low = low; steps = i ∷ v.steps }
 
   module _ (root : Option J) (workers me i : ℕ) (v : View J R) (lives : v.live ≡ true) (s : St J R) (r : IsRow root workers s)
       (at : get_elem? s.views me ≡ some v) (near : i < length s.homes) where
@@ -175,20 +176,21 @@ module _ {J R : Type 0} where
     -- the step, by whether it is the last look
     pub misses : (b : Bool) → last_look (length s.homes) i v.low (r.faces i) ≡ b
         → (w : View J R) × IsRow root workers record { words = s.words; homes = s.homes; views = set s.views me w }
-        × HasLooked (length s.homes) i (r.faces i) v w
-    misses false is = let did = steps_on root workers s r me v at lives r.history r.faces s.words s.homes v.mine v.drawn mark v.front
-        (next_same root workers s r v.worker) looked_told in let w = looked_view v r.history mark in
+        × HasLooked (length s.homes) i (r.faces i) v w × TakesStep i v w
+    misses false is = let did = steps_on root workers s r me v at lives i r.history r.faces s.words s.homes v.mine v.drawn mark v.front
+        (next_same root workers s r v.worker) looked_told in let w = looked_view v i r.history mark in
         let word = finds root workers s r i r.history w r.state.legal (λ z. refl) km.mine refl in
         let more = subst (λ b. MatchBool b (AddsEvent (length s.homes) v (Over v.worker) w) (ExtendsFairly (length s.homes) v w)) (sym is)
         (km.seen, refl, did.1) in
-        (w, did.0, ((refl, refl, refl, refl, refl, refl), refl, refl, refl, low_now, beyond_now, word, more))
+        (w, did.0, ((refl, refl, refl, refl, refl, refl), refl, refl, refl, low_now, beyond_now, word, more), refl)
     misses true is = let last = last_tells (length s.homes) i v.low (r.faces i) is in let e : Event J R = Over v.worker in
-        let told = over_told last in let did = steps_on root workers s r me v at lives (e ∷ r.history) r.faces s.words s.homes (e ∷ v.mine)
-        v.drawn mark v.front (over_next last) told in let w = over_view v r.history mark in
+        let told = over_told last in
+        let did = steps_on root workers s r me v at lives i (e ∷ r.history) r.faces s.words s.homes (e ∷ v.mine)
+        v.drawn mark v.front (over_next last) told in let w = over_view v i r.history mark in
         let word = finds root workers s r i (e ∷ r.history) w (over_legal last) (λ z. refl) told.own refl in
         let more = subst (λ b. MatchBool b (AddsEvent (length s.homes) v (Over v.worker) w) (ExtendsFairly (length s.homes) v w)) (sym is)
         ((r.history, km.seen, refl), refl, did.1) in
-        (w, did.0, ((refl, refl, refl, refl, refl, refl), refl, refl, refl, low_now, beyond_now, word, more))
+        (w, did.0, ((refl, refl, refl, refl, refl, refl), refl, refl, refl, low_now, beyond_now, word, more), refl)
 
   -- a look keeps the row of words
   pub looks : (root : Option J) (workers slots me : ℕ) (m : Seated J R) (i : ℕ) → m.0.live ≡ true → i < slots
@@ -196,10 +198,10 @@ module _ {J R : Type 0} where
   looks root workers slots me m i lives near s r len at fits = let v = m.0 in let near' : i < length s.homes = omega arith in
       let did = misses root workers me i v lives s r at near' (last_look (length s.homes) i v.low (r.faces i)) refl in
       let saw = subst (λ (z : ℕ × Word). HasLooked z.0 i z.1 v did.0) (λ k. (len k, sym (face_here root workers s r i near') k)) did.2 in
-      (did.0, keeps, tt, unwritten root workers me s i did.0 did.1, (refl, saw))
+      (did.0, keeps, tt, unwritten root workers me s i did.0 did.1, (refl, saw, did.3))
 
-  abbrev pub added : View J R → List (Event J R) → Event J R → View J R
-  added v h e = record v { seen = e ∷ h; mine = e ∷ v.mine }
+  abbrev pub added : View J R → ℕ → List (Event J R) → Event J R → View J R
+  added v i h e = record v { seen = e ∷ h; mine = e ∷ v.mine; steps = i ∷ v.steps }
 
   -- a claim takes the job that was posted
   module _ (root : Option J) (workers me i : ℕ) (v : View J R) (lives : v.live ≡ true) (free : holding v.mine ≡ None) where
@@ -276,9 +278,9 @@ module _ {J R : Type 0} where
       exchanged z 1 new G
       (λ (hit : z ≡ 1). let there : r.faces i ≡ word.Open = sym (face_here root workers s r i near') ∙ ap word_of hit in
       let l = subst (λ c. SlotHolds root r.history s.homes i c) there (r.lies i near') in
-      let e : Event J R = Claim v.worker i l.0 in let k = r.each_seat me v at lives in let w = added v r.history e in
+      let e : Event J R = Claim v.worker i l.0 in let k = r.each_seat me v at lives in let w = added v i r.history e in
       let turn = claim_turn root workers me i v lives free s r at near' there l.0 l.1 l.2 in
-      let did = steps_on root workers s r me v at lives (e ∷ r.history) (put r.faces i (word.Claimed v.worker))
+      let did = steps_on root workers s r me v at lives i (e ∷ r.history) (put r.faces i (word.Claimed v.worker))
       (set s.words i (5 + 2 * v.worker)) (set s.homes i none) (e ∷ v.mine) v.drawn v.low v.front
       (turned root workers s r v.worker i (e ∷ r.history) (word.Claimed v.worker) (set s.homes i none) turn)
       (claim_told root workers me i v lives free s r at near' there l.0 l.1 l.2) in
@@ -289,7 +291,7 @@ module _ {J R : Type 0} where
         subst (λ n. IsRow root workers (stepped s i n me m.1 w (takes i (Job l.0)))) (sym is) did.0,
         subst (λ b. MatchBool b (TakesJob (step slots i 1 new none) m (w, carried_after m.1 (takes i (Job l.0))))
             (looked (step slots i 1 new none) m z (w, carried_after m.1 (takes i (Job l.0))))) (sym (ap (λ n. is_open (word_of n)) hit))
-            (l.0, (refl, refl, refl, refl, refl, refl), refl, refl, refl, refl, adds),
+            (l.0, (refl, refl, refl, refl, refl, refl), refl, refl, refl, refl, adds, refl),
       ))
       (λ (miss : z ≢ 1). let did = misses root workers me i v lives s r at near' (last_look (length s.homes) i v.low (r.faces i)) refl in (
         did.0,
@@ -298,6 +300,9 @@ module _ {J R : Type 0} where
         unwritten root workers me s i did.0 did.1,
         subst (λ b. MatchBool b (TakesJob (step slots i 1 new none) m (did.0, carried_after m.1 keeps))
             (looked (step slots i 1 new none) m z (did.0, carried_after m.1 keeps)))
-            (sym (ap is_open (face_here root workers s r i near') ∙ not_open (r.faces i) (λ e. miss (r.state.shows i near' ∙ ap code e))))
-            (refl, subst (λ (y : ℕ × Word). HasLooked y.0 i y.1 v did.0) (λ k. (len k, sym (face_here root workers s r i near') k)) did.2),
+            (sym (ap is_open (face_here root workers s r i near') ∙ not_open (r.faces i) (λ e. miss (r.state.shows i near' ∙ ap code e)))) (
+              refl,
+              subst (λ (y : ℕ × Word). HasLooked y.0 i y.1 v did.0) (λ k. (len k, sym (face_here root workers s r i near') k)) did.2,
+              did.3,
+            ),
       ))

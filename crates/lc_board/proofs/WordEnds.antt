@@ -152,16 +152,16 @@ module _ {J R : Type 0} where
       → Allows (IsRow root workers) slots me m i (λ _. new) (steps.ended (step slots i new 0 none) m)
   ends_claim root workers slots me m i new x lives near empty claim may coded has s r len at fits = let v = m.0 in
       let near' : i < length s.homes = omega arith in let k0 = r.each_seat me v at lives in
-      let e : Event J R = end_event v.worker i x in let w = added v r.history e in
+      let e : Event J R = end_event v.worker i x in let w = added v i r.history e in
       let turn = end_turn root workers me i v lives empty claim x may s r at near' in
       let to = set s.homes i (some (Row (row_in x))) in
-      let did = steps_on root workers s r me v at lives (e ∷ r.history) (put r.faces i (end_word x)) (set s.words i (code (end_word x))) to
-      (e ∷ v.mine) v.drawn v.low v.front (turned root workers s r v.worker i (e ∷ r.history) (end_word x) to turn)
+      let did = steps_on root workers s r me v at lives i (e ∷ r.history) (put r.faces i (end_word x)) (set s.words i (code (end_word x)))
+      to (e ∷ v.mine) v.drawn v.low v.front (turned root workers s r v.worker i (e ∷ r.history) (end_word x) to turn)
       (end_told root workers me i v lives empty claim x may s r at near') in
       let row = subst (λ (c : List (ℕ × Slot J R)). IsRow root workers (stepped s i new me c w gives)) (sym has)
       (subst (λ n. IsRow root workers record { words = set s.words i n; homes = to; views = set s.views me w }) (sym coded) did.0) in
       let adds = subst (λ c. AddsEvent c v e w) len ((r.history, k0.seen, refl), refl, did.1) in
-      (w, gives, tt, row, (((refl, refl, refl, refl, refl, refl), empty, refl, refl, refl), (x, coded, has, adds)))
+      (w, gives, tt, row, (((refl, refl, refl, refl, refl, refl), empty, refl, refl, refl), (x, coded, has, adds), refl))
 
   -- the slot of a claim goes home, and nothing else changes
   pub puts_down : (root : Option J) (workers slots me : ℕ) (m : Seated J R) (i : ℕ) → m.0.live ≡ true → i < slots → m.0.drawn ≡ 0
@@ -172,7 +172,7 @@ module _ {J R : Type 0} where
       let there = (held_is root workers s r me v k0 i).0 claim in
       let face : r.faces i ≡ word.Claimed v.worker = of_shown (r.faces i) v.worker (sym (r.state.agrees i) ∙ there) in
       let hs : Homes J R = set s.homes i (some Empty) in
-      let w : View J R = record v { seen = r.history } in
+      let w : View J R = record v { seen = r.history; steps = i ∷ v.steps } in
       let base = next_same root workers s r v.worker in
       let next : IsNext root workers s r v.worker r.history r.faces s.words hs = record {
         long = length-set s.homes i (some Empty);
@@ -193,7 +193,7 @@ module _ {J R : Type 0} where
         subst (λ (c : List (ℕ × Slot J R)). IsRow root workers (stepped s i (get_or s.words i 0) me c w gives)) (sym has)
             (subst (λ (ws : List ℕ). IsRow root workers record { words = ws; homes = hs; views = set s.views me w })
             (sym (set-get_or s.words i 0))
-            (steps_on root workers s r me v at lives r.history r.faces s.words hs v.mine v.drawn v.low v.front next
+            (steps_on root workers s r me v at lives i r.history r.faces s.words hs v.mine v.drawn v.low v.front next
             (told_same root workers s r me v k0)).0),
-        (((refl, refl, refl, refl, refl, refl), empty, refl, refl, refl), (k0.seen, refl)),
+        (((refl, refl, refl, refl, refl, refl), empty, refl, refl, refl), (k0.seen, refl), refl),
       )

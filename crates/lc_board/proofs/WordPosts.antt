@@ -23,10 +23,10 @@ held_same a b e = cc
 
 module _ {J R : Type 0} where
   abbrev drawn_view : View J R → List (Event J R) → ℕ → View J R
-  drawn_view v h i = record v { seen = h; drawn = i + 1; front = i + 1 }
+  drawn_view v h i = record v { seen = h; drawn = i + 1; front = i + 1; steps = i ∷ v.steps }
 
   abbrev passed_view : View J R → List (Event J R) → ℕ → View J R
-  passed_view v h i = record v { seen = h; front = i + 1 }
+  passed_view v h i = record v { seen = h; front = i + 1; steps = i ∷ v.steps }
 
   -- a number is drawn, by who has a claim
   module _ (root : Option J) (workers me i : ℕ) (v : View J R) (lives : v.live ≡ true) (empty : v.drawn ≡ 0) (front : v.front ≡ i)
@@ -98,7 +98,7 @@ module _ {J R : Type 0} where
       exchanged z 0 new G
       (λ (hit : z ≡ 0). let gone : r.faces i ≡ word.Absent = sym (face_here root workers s r i near') ∙ ap word_of hit in
       let l = subst (λ c. SlotHolds root r.history s.homes i c) gone (r.lies i near') in
-      let did = steps_on root workers s r me v at lives r.history (put r.faces i (word.Drawn v.worker)) (set s.words i (4 + 2 * v.worker))
+      let did = steps_on root workers s r me v at lives i r.history (put r.faces i (word.Drawn v.worker)) (set s.words i (4 + 2 * v.worker))
       (set s.homes i none) v.mine (i + 1) v.low (i + 1)
       (turned root workers s r v.worker i r.history (word.Drawn v.worker) (set s.homes i none)
       (draw_turn root workers me i v lives empty front q claim s r at near' gone))
@@ -108,15 +108,16 @@ module _ {J R : Type 0} where
       ((carried_after m.1 (takes i Empty) ≡ m.1) × (w.drawn ≡ v.drawn))) (sym (ap (λ n. is_absent (word_of n)) hit))
       (refl, refl, below_it root workers me i v lives empty front q claim s r at near' gone) in
       let fair = subst (λ c. IsFair c w) len did.1 in
-      (w, takes i Empty, l, row, ((refl, refl, refl, refl, refl, refl), refl, refl, (k0.seen, refl, fair), took)))
+      (w, takes i Empty, l, row, ((refl, refl, refl, refl, refl, refl), refl, refl, (k0.seen, refl, fair), took, refl)))
       (λ (miss : z ≢ 0). let w = passed_view v r.history i in
-      let did = steps_on root workers s r me v at lives r.history r.faces s.words s.homes v.mine v.drawn v.low (i + 1)
+      let did = steps_on root workers s r me v at lives i r.history r.faces s.words s.homes v.mine v.drawn v.low (i + 1)
       (next_same root workers s r v.worker) (pass_told root workers me i v lives empty front q claim s r at near'
       (λ e. miss (r.state.shows i near' ∙ ap code e))) in let row = unwritten root workers me s i w did.0 in
       let kept = subst (λ b. MatchBool b (TakesEmpty i m (w, m.1)) ((m.1 ≡ m.1) × (w.drawn ≡ v.drawn)))
       (sym (ap is_absent (face_here root workers s r i near') ∙ not_absent (r.faces i)
       (λ e. miss (r.state.shows i near' ∙ ap code e)))) (refl, refl) in
-      (w, keeps, tt, row, ((refl, refl, refl, refl, refl, refl), refl, refl, (k0.seen, refl, subst (λ c. IsFair c w) len did.1), kept)))
+      let fair = subst (λ c. IsFair c w) len did.1 in
+      (w, keeps, tt, row, ((refl, refl, refl, refl, refl, refl), refl, refl, (k0.seen, refl, fair), kept, refl)))
 
   -- a look at a number that another has drawn keeps it too
   pub steps_over : (root : Option J) (workers slots me : ℕ) (m : Seated J R) (i q : ℕ) → m.0.live ≡ true → i < slots → m.0.drawn ≡ 0
@@ -125,24 +126,24 @@ module _ {J R : Type 0} where
   steps_over root workers slots me m i q lives near empty front claim s r len at fits = let v = m.0 in let z : ℕ = get_or s.words i 0 in
       let near' : i < length s.homes = omega arith in let k0 = r.each_seat me v at lives in
       dite (ℕ_discrete z 0)
-      (λ (hit : z ≡ 0). let w = record v { seen = r.history } in
-      let did = steps_on root workers s r me v at lives r.history r.faces s.words s.homes v.mine v.drawn v.low v.front
+      (λ (hit : z ≡ 0). let w = record v { seen = r.history; steps = i ∷ v.steps } in
+      let did = steps_on root workers s r me v at lives i r.history r.faces s.words s.homes v.mine v.drawn v.low v.front
       (next_same root workers s r v.worker) (told_same root workers s r me v k0) in
       let row = unwritten root workers me s i w did.0 in let fair = subst (λ c. IsFair c w) len did.1 in
       let stays = sym (ap (λ n. cond (is_absent (word_of n)) v.front (i + 1)) hit) in
-      (w, keeps, tt, row, (refl, (refl, refl, refl, refl, refl, refl), refl, refl, stays, (k0.seen, refl, fair))))
+      (w, keeps, tt, row, (refl, (refl, refl, refl, refl, refl, refl), refl, refl, stays, (k0.seen, refl, fair), refl)))
       (λ (miss : z ≢ 0). let w = passed_view v r.history i in
-      let did = steps_on root workers s r me v at lives r.history r.faces s.words s.homes v.mine v.drawn v.low (i + 1)
+      let did = steps_on root workers s r me v at lives i r.history r.faces s.words s.homes v.mine v.drawn v.low (i + 1)
       (next_same root workers s r v.worker) (pass_told root workers me i v lives empty front q claim s r at near'
       (λ e. miss (r.state.shows i near' ∙ ap code e))) in
       let row = unwritten root workers me s i w did.0 in let fair = subst (λ c. IsFair c w) len did.1 in
       let goes = sym (ap (λ b. cond b v.front (i + 1)) (ap is_absent (face_here root workers s r i near') ∙ not_absent (r.faces i)
       (λ e. miss (r.state.shows i near' ∙ ap code e)))) in
-      (w, keeps, tt, row, (refl, (refl, refl, refl, refl, refl, refl), refl, refl, goes, (k0.seen, refl, fair))))
+      (w, keeps, tt, row, (refl, (refl, refl, refl, refl, refl, refl), refl, refl, goes, (k0.seen, refl, fair), refl)))
 
   -- the number that is drawn is opened with the job
-  abbrev opened_view : View J R → List (Event J R) → Event J R → View J R
-  opened_view v h e = record v { seen = e ∷ h; mine = e ∷ v.mine; drawn = 0 }
+  abbrev opened_view : View J R → ℕ → List (Event J R) → Event J R → View J R
+  opened_view v i h e = record v { seen = e ∷ h; mine = e ∷ v.mine; drawn = 0; steps = i ∷ v.steps }
 
   module _ (root : Option J) (workers me i : ℕ) (v : View J R) (lives : v.live ≡ true) (full : v.drawn ≡ i + 1) (p : ℕ)
       (claim : holding v.mine ≡ Some p) (below : p < i) (j : J)
@@ -202,12 +203,12 @@ module _ {J R : Type 0} where
       → Allows (IsRow root workers) slots me m i (λ _. 1) (opened (step slots i 1 0 none) m)
   opens root workers slots me m i p j lives near full claim below has s r len at fits = let v = m.0 in
       let near' : i < length s.homes = omega arith in let k0 = r.each_seat me v at lives in
-      let e : Event J R = Post v.worker p i j in let w = opened_view v r.history e in
+      let e : Event J R = Post v.worker p i j in let w = opened_view v i r.history e in
       let turn = open_turn root workers me i v lives full p claim below j s r at near' in
-      let did = steps_on root workers s r me v at lives (e ∷ r.history) (put r.faces i word.Open) (set s.words i 1)
+      let did = steps_on root workers s r me v at lives i (e ∷ r.history) (put r.faces i word.Open) (set s.words i 1)
       (set s.homes i (some (Job j))) (e ∷ v.mine) 0 v.low v.front
       (turned root workers s r v.worker i (e ∷ r.history) word.Open (set s.homes i (some (Job j))) turn)
       (open_told root workers me i v lives full p claim below j s r at near') in
       let row = subst (λ (c : List (ℕ × Slot J R)). IsRow root workers (stepped s i 1 me c w gives)) (sym has) did.0 in
       let adds = subst (λ c. AddsEvent c v e w) len ((r.history, k0.seen, refl), refl, did.1) in
-      (w, gives, tt, row, (((refl, refl, refl, refl, refl, refl), refl, refl, refl, refl), (p, j, claim, has, adds)))
+      (w, gives, tt, row, (((refl, refl, refl, refl, refl, refl), refl, refl, refl, refl), (p, j, claim, has, adds), refl))

@@ -7,9 +7,9 @@ use Rattle.std.specs.Prelude.{MatchBool, IfSome, Result, Ok, Err, cond}
 use Rattle.lc_board.specs.{State.{Status, Absent, Open, status}, LegalHistory.IsLegal, Holding.holding, Growth.{GoesOn, rank}}
 use Rattle.lc_board.specs.WordSteps.{IsFair, AddsEvent, ExtendsFairly, Extends, OthersHeld, Waits, SomeHolds, Finds, HasLooked, low_after}
 use Rattle.lc_board.specs.{WordSteps.{is_last_word, last_look, larger}, WordCode.{is_absent, is_open, has_ended, is_busy}}
-use Rattle.lc_board.specs.{WordPass.AreTaken, WordsBoard.{AnswersWordsClaim, IsSamePass, TriesClaim, known}, declared.words.Words.Words}
+use Rattle.lc_board.specs.{WordPass.AreTaken, WordsBoard.{AnswersWordsClaim, IsSamePass, TriesClaim, known}, WordBounds.MeetsOpen}
 use Rattle.lc_board.specs.declared.{words.pass.WordsPass.WordsPass, event.Event.{Event, TheVariants.{Post, Claim, Over}}}
-use Rattle.lc_board.specs.declared.words.{coding.Word.Word, view.View.View}
+use Rattle.lc_board.specs.declared.words.{Words.Words, coding.Word.Word, view.View.View}
 use Rattle.lc_board.specs.declared.answers.Claim.{Claim as Answer}
 use Rattle.lc_board.specs.declared.answers.Claim.TheVariants as answer
 use Rattle.lc_board.specs.declared.words.coding.Word.TheVariants as word
@@ -105,6 +105,11 @@ module _ {J R : Type 0} where
   over_of : (cap i : ℕ) (x : Word) (v w : View J R) → HasLooked cap i x v w → last_look cap i v.low x ≡ true
       → AddsEvent cap v (Over v.worker) w
   over_of cap i x v w m is = subst (λ b. MatchBool b (AddsEvent cap v (Over v.worker) w) (ExtendsFairly cap v w)) is m.7
+
+  -- a look that finds the number open
+  pub found_open : (cap i : ℕ) (x : Word) (v w : View J R) → HasLooked cap i x v w → is_open x ≡ true → MeetsOpen cap v i
+  found_open cap i x v w m is = let n = subst (λ z. HasLooked cap i z v w) (open_is x is) m in
+      let l = looks_of cap i word.Open v w n (last_not cap i v.low word.Open refl) in (w.workers, w.seen, l.2.0, l.0, n.6)
 
   -- the numbers that are passed stay passed
   passed : (cap : ℕ) (v u w : View J R) (k : ℕ) → ExtendsFairly cap u w → (status v.seen k ≡ Absent) ⊎ (2 ≤ rank (status u.seen k))

@@ -7,7 +7,7 @@ use Rattle.atomic_table.specs.Table.{Step, rest}
 use Rattle.lc_board.specs.{Holding.{holding, posted}, WordCode.{word_of, is_absent, is_open}, WordRow.Seated}
 use Rattle.lc_board.specs.declared.{words.{coding.Word.Word, view.Slot.{Slot, TheVariants.{Empty, Job, Row}}}, event.Event.Event}
 use Rattle.lc_board.specs.declared.words.view.View.{View}
-use Rattle.lc_board.specs.WordSteps.{Same, HasLooked, Leaves, looked, TakesJob, claimed, TriesDraw, OpensDrawn, stepped_over}
+use Rattle.lc_board.specs.WordSteps.{Same, TakesStep, HasLooked, Leaves, looked, TakesJob, claimed, TriesDraw, OpensDrawn, stepped_over}
 use Rattle.lc_board.specs.WordPass.{IsTied, kind, tag, tags_as, carried_as}
 use Rattle.lc_board.proofs.WordCodes.{match_true, match_false}
 
@@ -25,10 +25,10 @@ module _ {J R : Type 0} where
 
   -- an exchange at a word that is not open claims nothing
   pub not_claimed : (st : Step (Slot J R)) (m m' : Seated J R) (r : ℕ) (x : Word) → x ≡ word_of r → is_open x ≡ false
-      → claimed st m r m' → (m'.1 ≡ m.1) × HasLooked st.slots st.word x m.0 m'.0
+      → claimed st m r m' → (m'.1 ≡ m.1) × HasLooked st.slots st.word x m.0 m'.0 × TakesStep st.word m.0 m'.0
   not_claimed st m m' r x found e did = let saw = match_false (is_open (word_of r)) (TakesJob st m m') (looked st m r m')
       (ap is_open (sym found) ∙ e) did in
-      (saw.0, subst (λ z. HasLooked st.slots st.word z m.0 m'.0) (sym found) saw.1)
+      (saw.0, subst (λ z. HasLooked st.slots st.word z m.0 m'.0) (sym found) saw.1, saw.2)
 
   is_empty : (x : Slot J R) → kind x ≡ 0 → Path (Slot J R) x Empty
   is_empty Empty e = refl

@@ -1,5 +1,5 @@
 -- What stays of the row of words when one number and one pass move.
-use Rattle.std.proofs.Common.{◌≡◌, ◌≢◌, ◌↔◌, ℕ, eqb, subst, ◌+◌, ◌<◌, true, false, cond, List, length, get_or, set, sym, refl, ap, ◌∙◌}
+use Rattle.std.proofs.Common.{◌∷◌, ◌≡◌, ◌≢◌, ◌↔◌, ℕ, eqb, subst, ◌+◌, ◌<◌, true, false, cond, List, length, get_or, set, sym, refl, ap, ◌∙◌}
 use Rattle.std.proofs.Common.{⊎_elim, arith, length-set, get_or-set_same, get_or-set_other, Option, Some, None}
 use mathlib.Core.Path.{Path}
 use mathlib.Core.Option.{some}
@@ -152,8 +152,8 @@ module _ {J R : Type 0} where
       legal (goes_trans h' r.history v.seen grows k.seen) i in let c = rank_most (status h' i) in omega arith
 
   -- the view of a pass after its own step: it has seen all
-  abbrev pub moved : View J R → List (Event J R) → List (Event J R) → ℕ → ℕ → ℕ → View J R
-  moved v h mine drawn low front = record v { seen = h; mine = mine; drawn = drawn; low = low; front = front }
+  abbrev pub moved : View J R → ℕ → List (Event J R) → List (Event J R) → ℕ → ℕ → ℕ → View J R
+  moved v i h mine drawn low front = record v { seen = h; mine = mine; drawn = drawn; low = low; front = front; steps = i ∷ v.steps }
 
   -- what the step of a worker tells its pass anew: its events, what it has drawn, and its marks
   pub record IsTold (worker : ℕ) (h : List (Event J R)) (faces : ℕ → Word) (mine : List (Event J R)) (drawn low front : ℕ) : Type 0 where
@@ -165,13 +165,13 @@ module _ {J R : Type 0} where
 
   -- the row of words after one worker's step, of which its pass has seen all, and what that has seen is fair
   pub steps_on : (root : Option J) (workers : ℕ) (s : State (Slot J R) (View J R)) (r : IsRow root workers s) (me : ℕ) (v : View J R)
-      → get_elem? s.views me ≡ some v → v.live ≡ true
+      → get_elem? s.views me ≡ some v → v.live ≡ true → (i : ℕ)
       → (h' : List (Event J R)) (faces' : ℕ → Word) (words' : List ℕ) (homes' : Homes J R) (mine : List (Event J R)) (drawn low front : ℕ)
       → IsNext root workers s r v.worker h' faces' words' homes' → IsTold v.worker h' faces' mine drawn low front
-      → IsRow root workers record { words = words'; homes = homes'; views = set s.views me (moved v h' mine drawn low front) }
-      × IsFair (length s.homes) (moved v h' mine drawn low front)
-  steps_on root workers s r me v at lives h' faces' words' homes' mine drawn low front n told = let k = r.each_seat me v at lives in (
-    rebuilt root workers s r me v at lives h' faces' words' homes' (moved v h' mine drawn low front) n record {
+      → IsRow root workers record { words = words'; homes = homes'; views = set s.views me (moved v i h' mine drawn low front) }
+      × IsFair (length s.homes) (moved v i h' mine drawn low front)
+  steps_on root workers s r me v at lives i h' faces' words' homes' mine drawn low front n told = let k = r.each_seat me v at lives in (
+    rebuilt root workers s r me v at lives h' faces' words' homes' (moved v i h' mine drawn low front) n record {
       root_is = k.root_is;
       workers_are = k.workers_are;
       member = k.member;

@@ -25,6 +25,7 @@ pub mod Growth
 pub mod WordCode
 pub mod WordRow
 pub mod WordSteps
+pub mod WordBounds
 pub mod WordPass
 pub mod WordsBoard
 pub mod WordClose

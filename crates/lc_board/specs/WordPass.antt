@@ -1,6 +1,7 @@
 -- How the fields of a pass of a board of words agree with what the pass knows and which slots it holds.
 use Rattle.std.specs.Prelude.{◌≡◌, ℕ, ◌<◌, ◌≤◌, true, List, [], ◌∷◌, map, Option, Some, None}
-use Rattle.lc_board.specs.{Holding.{holding, posted}, State.status, Growth.IsTaken, WordRow.Seated, declared.event.Event.Event}
+use Rattle.lc_board.specs.{Holding.{holding, posted}, State.status, Growth.{IsTaken, rank}, WordRow.Seated, declared.event.Event.Event}
+use Rattle.lc_board.specs.declared.words.newest.Newest.{Newest}
 use Rattle.lc_board.specs.declared.words.view.Slot.{Slot, TheVariants.{Empty, Job, Row}}
 
 -- the kind of a slot, as a number: two numbers are equal in one way only, which is not known of slots
@@ -25,6 +26,14 @@ tag x = (x.0, kind x.1)
 -- each number below the mark has ended or is claimed, and so will never be open again
 abbrev pub AreTaken : {J R : Type 0} → ℕ → List (Event J R) → Type 0
 AreTaken n h = (k : ℕ) → k < n → IsTaken (status h k)
+
+-- the number is in the list of those that the pass posted last
+abbrev pub IsListed : Newest → ℕ → Type 0
+IsListed newest k = (newest.start ≤ k) × (k < newest.end)
+
+-- each number in the list has been posted
+abbrev pub AreListed : {J R : Type 0} → Newest → List (Event J R) → Type 0
+AreListed newest h = (k : ℕ) → IsListed newest k → 1 ≤ rank (status h k)
 
 -- the fields of a pass agree with what the pass knows and which slots it holds
 pub record IsTied {J R : Type 0} (slots worker : ℕ) (claim : Option ℕ) (posts front low : ℕ) (m : Seated J R) : Type 0 where

@@ -35,6 +35,10 @@ module _ {J R : Type 0} where
   Same v w = (w.live ≡ v.live) × (w.root ≡ v.root) × (w.workers ≡ v.workers) × (w.worker ≡ v.worker)
       × (w.made ≡ v.made) × (w.joined ≡ v.joined)
 
+  -- one step is taken, on the word of the number i
+  abbrev pub TakesStep : ℕ → View J R → View J R → Type 0
+  TakesStep i v w = w.steps ≡ i ∷ v.steps
+
   -- the parts of what a pass knows that another pass gets when the two passes are merged
   abbrev pub IsSameTold : View J R → View J R → Type 0
   IsSameTold v w = (w.live ≡ v.live) × (w.worker ≡ v.worker) × (w.mine ≡ v.mine) × (w.front ≡ v.front)
@@ -95,12 +99,12 @@ module _ {J R : Type 0} where
 
   -- the step that looks at a word
   abbrev pub looked : Step (Slot J R) → Seated J R → ℕ → Seated J R → Type 0
-  looked st m r m' = (m'.1 ≡ m.1) × HasLooked st.slots st.word (word_of r) m.0 m'.0
+  looked st m r m' = (m'.1 ≡ m.1) × HasLooked st.slots st.word (word_of r) m.0 m'.0 × TakesStep st.word m.0 m'.0
 
   -- the number is claimed, and its job is taken
   abbrev pub TakesJob : Step (Slot J R) → Seated J R → Seated J R → Type 0
   TakesJob st m m' = (j : J) × Same m.0 m'.0 × (m'.0.drawn ≡ m.0.drawn) × (m'.0.front ≡ m.0.front) × (m'.0.low ≡ m.0.low)
-      × (m'.1 ≡ (st.word, Job j) ∷ m.1) × AddsEvent st.slots m.0 (Claim m.0.worker st.word j) m'.0
+      × (m'.1 ≡ (st.word, Job j) ∷ m.1) × AddsEvent st.slots m.0 (Claim m.0.worker st.word j) m'.0 × TakesStep st.word m.0 m'.0
 
   -- the step that tries to claim a number: if the number is open, its job is taken; otherwise the step is a look
   abbrev pub claimed : Step (Slot J R) → Seated J R → ℕ → Seated J R → Type 0
@@ -117,7 +121,7 @@ module _ {J R : Type 0} where
   -- a try to draw the number i, which is drawn if it was free; in both cases the front moves past i
   abbrev pub TriesDraw : ℕ → ℕ → Bool → Seated J R → Seated J R → Type 0
   TriesDraw cap i free m m' = Same m.0 m'.0 × (m'.0.low ≡ m.0.low) × (m'.0.front ≡ i + 1) × ExtendsFairly cap m.0 m'.0
-      × MatchBool free (TakesEmpty i m m') ((m'.1 ≡ m.1) × (m'.0.drawn ≡ m.0.drawn))
+      × MatchBool free (TakesEmpty i m m') ((m'.1 ≡ m.1) × (m'.0.drawn ≡ m.0.drawn)) × TakesStep i m.0 m'.0
 
   -- the step that tries to draw a number, which is drawn if it is absent
   abbrev pub drew : Step (Slot J R) → Seated J R → ℕ → Seated J R → Type 0
@@ -126,7 +130,7 @@ module _ {J R : Type 0} where
   -- the step that looks at the number at the front; if that number is used, the front moves past it
   abbrev pub stepped_over : Step (Slot J R) → Seated J R → ℕ → Seated J R → Type 0
   stepped_over st m r m' = (m'.1 ≡ m.1) × Same m.0 m'.0 × (m'.0.drawn ≡ m.0.drawn) × (m'.0.low ≡ m.0.low)
-      × (m'.0.front ≡ cond (is_absent (word_of r)) m.0.front (st.word + 1)) × ExtendsFairly st.slots m.0 m'.0
+      × (m'.0.front ≡ cond (is_absent (word_of r)) m.0.front (st.word + 1)) × ExtendsFairly st.slots m.0 m'.0 × TakesStep st.word m.0 m'.0
 
   -- the pass returns the slot that it took last to the board
   abbrev pub Leaves : Seated J R → Seated J R → Type 0
@@ -141,7 +145,7 @@ module _ {J R : Type 0} where
   abbrev pub OpensDrawn : ℕ → ℕ → Seated J R → Seated J R → Type 0
   OpensDrawn cap i m m' = Leaves m m'
       × ((p : ℕ) × (j : J) × (holding m.0.mine ≡ Some p) × (m.1 ≡ (i, Job j) ∷ rest m.1)
-      × AddsEvent cap m.0 (Post m.0.worker p i j) m'.0)
+      × AddsEvent cap m.0 (Post m.0.worker p i j) m'.0) × TakesStep i m.0 m'.0
 
   -- the step that opens a number that was drawn
   abbrev pub opened : Step (Slot J R) → Seated J R → ℕ → Seated J R → Type 0
@@ -151,11 +155,11 @@ module _ {J R : Type 0} where
   abbrev pub ended : Step (Slot J R) → Seated J R → ℕ → Seated J R → Type 0
   ended st m r m' = Leaves m m'
       × ((e : Ended R) × (st.first ≡ code (end_word e)) × (m.1 ≡ (st.word, Row (row_in e)) ∷ rest m.1)
-      × AddsEvent st.slots m.0 (end_event m.0.worker st.word e) m'.0)
+      × AddsEvent st.slots m.0 (end_event m.0.worker st.word e) m'.0) × TakesStep st.word m.0 m'.0
 
   -- the step of a pass that has a claim when the board is about to be closed: the claim stays, and its slot is returned to the board
   abbrev pub put_down : Step (Slot J R) → Seated J R → ℕ → Seated J R → Type 0
-  put_down st m r m' = Leaves m m' × Extends m.0 m'.0
+  put_down st m r m' = Leaves m m' × Extends m.0 m'.0 × TakesStep st.word m.0 m'.0
 
   -- what the first pass knows at the start; this pass makes the other passes
   abbrev pub view_before_split : Option J → ℕ → View J R
@@ -171,6 +175,7 @@ module _ {J R : Type 0} where
     front = 1;
     made = 1;
     joined = [];
+    steps = [];
   }
 
   -- what a pass knows after it has made one more pass
@@ -191,6 +196,7 @@ module _ {J R : Type 0} where
     front = v.front;
     made = 0;
     joined = [];
+    steps = [];
   }
 
   -- what a pass knows after another pass was merged into it
@@ -211,4 +217,5 @@ spent = record {
   front = 0;
   made = 0;
   joined = [];
+  steps = [];
 }

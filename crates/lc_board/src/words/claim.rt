@@ -6,10 +6,12 @@
 //! each directory with a number below the mark `taken` is finished or claimed. The claim begins to read at the low mark, and stops at the
 //! first directory that it claims, or at the first unused number. A directory is busy if a worker has claimed it or is about to add it to
 //! the board. At the first busy directory the claim jumps to the mark `taken`, if this mark is higher. So a claim takes at most two steps
-//! on each word, a read and an exchange, and one more step on the word of the directory from the list.
-ghost use Rattle.std.specs.Prelude.{◌≡◌, ◌+◌, ◌<◌, None, IfSome, IfNone, cond};
+//! on each word, a read and an exchange. This is also true of the word of the directory from the list: if the exchange on it fails, the
+//! directory is claimed or finished, since the worker itself added it to the board. So a later read of the word leads to no exchange.
+ghost use Rattle.std.specs.Prelude.{◌≡◌, ◌≢◌, ◌+◌, ◌<◌, ◌≤◌, None, IfSome, IfNone, cond};
 ghost use Rattle.lc_board.specs.{Limits.capacity_limit, WordSteps.{Extends, is_last_word, larger}};
 ghost use Rattle.lc_board.specs.WordsBoard.{AnswersWordsClaim, IsPassOf, IsSamePass, TriesClaim, known};
+ghost use Rattle.lc_board.specs.WordBounds.{IsVisited, TakesSteps, TriesNewest};
 
 use crate::answers::Claim;
 use crate::words::Words;
@@ -47,6 +49,8 @@ impl<J, R> Words<J, R> {
         requires near { number < self.now.capacity }
         ensures board { IsSamePass pass.old pass.new }
         ensures rule { TriesClaim self.now number pass.old result pass.new }
+        ensures steps { TakesSteps (λ k n. IsVisited self.now.capacity (known pass.old) k n × (k ≢ number → n ≡ 0))
+            (known pass.old) (known pass.new) }
     {
         let found = self.look(pass, number);
         if !found.is_open() {
@@ -63,6 +67,7 @@ impl<J, R> Words<J, R> {
         ensures board { IsSamePass pass.old pass.new }
         ensures some { IfSome result (AnswersWordsClaim self.now.capacity (known pass.old) (known pass.new) pass.new.holding) }
         ensures none { IfNone result ((pass.new.holding ≡ None) × Extends (known pass.old) (known pass.new)) }
+        ensures steps { TriesNewest (known pass.old) (known pass.new) }
     {
         let number = pass.newest.take()?;
         // Below the low mark all has ended, and the number at the mark is left to the way up.
@@ -84,6 +89,7 @@ impl<J, R> Words<J, R> {
         requires free { pass.old.holding ≡ None }
         ensures board { IsSamePass pass.old pass.new }
         ensures rule { AnswersWordsClaim self.now.capacity (known pass.old) (known pass.new) pass.new.holding result }
+        ensures steps { TakesSteps (IsVisited self.now.capacity (known pass.old)) (known pass.old) (known pass.new) }
     {
         let mut number = pass.low;
         let mut busy = false;
@@ -104,13 +110,14 @@ impl<J, R> Words<J, R> {
         Claim::Later
     }
 
-    /// Claims a directory that waits for a worker, and returns the directory's number and job. Takes at most three steps on each
-    /// directory's word, waits for no thread, allocates nothing and never returns `Claim::Memory`.
+    /// Claims a directory that waits for a worker, and returns the directory's number and job. Takes at most two steps on each directory's
+    /// word, waits for no thread, allocates nothing and never returns `Claim::Memory`.
     pub fn claim(&self, pass: &mut WordsPass<J, R>) -> Claim<J>
         requires board { IsPassOf self.now pass.old }
         requires free { pass.old.holding ≡ None }
         ensures board { IsSamePass pass.old pass.new }
         ensures rule { AnswersWordsClaim self.now.capacity (known pass.old) (known pass.new) pass.new.holding result }
+        ensures steps { TakesSteps (λ k n. n ≤ 2) (known pass.old) (known pass.new) }
     {
         match self.claim_newest(pass) {
             Some(answer) => answer,

@@ -1,7 +1,7 @@
 //! A list of the directories that a worker has most recently added to a board of atomic words. The worker's next claims try these
 //! directories first. The list is only a hint: the atomic word of each directory shows whether the directory still waits for a worker.
-ghost use Rattle.std.specs.Prelude.{◌<◌};
-ghost use Rattle.lc_board.specs.Limits.{capacity_limit};
+ghost use Rattle.std.specs.Prelude.{◌≡◌, ℕ, ◌<◌, ◌⊎◌, IfSome};
+ghost use Rattle.lc_board.specs.{Limits.capacity_limit, WordPass.IsListed};
 
 /// A list of the directories that a worker has most recently added to the board: the numbers from `start` up to `end`, without `end`.
 #[derive(Clone, Copy, Drop)]
@@ -12,23 +12,29 @@ pub struct Newest {
 
 impl Newest {
     /// Makes an empty list.
-    pub fn new() -> Newest {
+    pub fn new() -> Newest
+        ensures { (k : ℕ) → IsListed result k → ⊥ }
+    {
         Newest { start: 0, end: 0 }
     }
 
     /// Adds the number of a directory that the worker has added to the board. The first number under a claim (`is_first`) replaces the
-    /// list. Each later number extends the list up to this number, so the list also has the numbers in between, which other workers used.
+    /// list. So does a number that does not follow the list, since other workers used the numbers in between.
     pub fn note(&mut self, number: u32, is_first: bool)
         requires { number < capacity_limit }
+        ensures { (k : ℕ) → IsListed self.new k → (k ≡ number) ⊎ IsListed self.old k }
     {
-        if is_first {
+        if is_first || number != self.end {
             self.start = number;
         }
         self.end = number + 1;
     }
 
     /// Removes the highest number from the list and returns it.
-    pub fn take(&mut self) -> Option<u32> {
+    pub fn take(&mut self) -> Option<u32>
+        ensures taken { IfSome result (IsListed self.old) }
+        ensures rest { (k : ℕ) → IsListed self.new k → IsListed self.old k }
+    {
         if self.start >= self.end {
             return None;
         }
@@ -38,7 +44,9 @@ impl Newest {
 
     /// Removes all numbers from the list. A worker does this after it failed to claim a directory of the list, since other workers have
     /// probably begun to claim the list's directories.
-    pub fn clear(&mut self) {
+    pub fn clear(&mut self)
+        ensures { (k : ℕ) → IsListed self.new k → IsListed self.old k }
+    {
         self.end = self.start;
     }
 }

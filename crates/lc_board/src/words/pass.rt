@@ -1,7 +1,7 @@
 //! The pass that gives a worker access to a board of atomic words.
 ghost use Rattle.std.specs.Prelude.{◌≡◌, false, true};
 ghost use Rattle.std.proofs.Props.{props};
-ghost use Rattle.lc_board.specs.WordPass.{AreTaken, IsTied};
+ghost use Rattle.lc_board.specs.WordPass.{AreListed, AreTaken, IsTied};
 
 use crate::shared::Token;
 use crate::words::newest::Newest;
@@ -27,6 +27,7 @@ pub struct WordsPass<J, R> {
     pub(crate) full: bool,
     ghost ties: { IsTied seat.table_id.slots worker holding posted front low seat.me } by { Prim.hlevel props },
     ghost marked: { AreTaken taken seat.me.0.seen } by { Prim.hlevel props },
+    ghost listed: { AreListed newest seat.me.0.seen } by { Prim.hlevel props },
     ghost all_used: { full ≡ true → front ≡ seat.table_id.slots } by { Prim.hlevel props },
 }
 

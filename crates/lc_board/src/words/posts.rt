@@ -1,7 +1,8 @@
 //! How a worker adds a child directory to a board of atomic words. The worker tries one number after another, until it finds an unused
 //! number. The worker begins at the front, a mark in the pass that gives it access to the board: all numbers below the front are used.
-ghost use Rattle.std.specs.Prelude.{◌≡◌, ◌+◌, ◌<◌, MatchBool, IsSome};
-ghost use Rattle.lc_board.specs.{WordSteps.ExtendsFairly, WordsBoard.{AnswersWordsPost, IsPassOf, IsSamePass, TriesPost, known}};
+ghost use Rattle.std.specs.Prelude.{◌≡◌, ◌+◌, ◌<◌, ◌≤◌, MatchBool, IsSome};
+ghost use Rattle.lc_board.specs.WordsBoard.{AnswersWordsPost, IsPassOf, IsSamePass, TriesPost, known};
+ghost use Rattle.lc_board.specs.{WordBounds.{PostSteps, TakesSteps, most_in_post}, WordSteps.{ExtendsFairly, TakesStep}};
 
 use crate::answers::PostFault;
 use crate::words::Words;
@@ -20,6 +21,7 @@ impl<J, R> Words<J, R> {
         ensures board { IsSamePass pass.old pass.new × (pass.new.holding ≡ pass.old.holding) × (pass.new.posted ≡ pass.old.posted) }
         ensures front { MatchBool result (pass.new.front ≡ pass.old.front + 1) (pass.new.front ≡ pass.old.front) }
         ensures rule { ExtendsFairly self.now.capacity (known pass.old) (known pass.new) }
+        ensures steps { TakesStep pass.old.front (known pass.old) (known pass.new) }
     {
         let number = pass.front;
         let shared = &self.table.shared;
@@ -39,6 +41,7 @@ impl<J, R> Words<J, R> {
         requires near { pass.old.front < self.now.capacity }
         ensures board { IsSamePass pass.old pass.new × (pass.new.holding ≡ pass.old.holding) × (pass.new.front ≡ pass.old.front + 1) }
         ensures rule { TriesPost self.now pass.old job result pass.new }
+        ensures steps { PostSteps 1 pass.old.front result (known pass.old) (known pass.new) }
     {
         let number = pass.front;
         let is_drawn = self.draw(&mut pass.seat, number, pass.worker);
@@ -61,6 +64,7 @@ impl<J, R> Words<J, R> {
         requires near { pass.old.front < self.now.capacity }
         ensures board { IsSamePass pass.old pass.new × (pass.new.holding ≡ pass.old.holding) × (pass.new.front ≡ pass.old.front + 1) }
         ensures rule { TriesPost self.now pass.old job result pass.new }
+        ensures steps { PostSteps 2 pass.old.front result (known pass.old) (known pass.new) }
     {
         if self.step_over(pass) {
             return Err(job);
@@ -73,12 +77,14 @@ impl<J, R> Words<J, R> {
 
     /// Adds a child directory with this job to the board, and returns the directory's number. Searches for an unused number from the pass's
     /// front upward, since all numbers below the front are used. If all numbers are used, the error is `PostFault::Full` with the job.
-    /// Waits for no thread, allocates nothing and never returns `PostFault::Memory`.
+    /// Takes at most two steps on each word, and one more on the word of the returned number. Waits for no thread, allocates nothing and
+    /// never returns `PostFault::Memory`.
     pub fn post(&self, pass: &mut WordsPass<J, R>, mut job: J) -> Result<u32, PostFault<J>>
         requires board { IsPassOf self.now pass.old }
         requires holds { IsSome pass.old.holding }
         ensures board { IsSamePass pass.old pass.new × (pass.new.holding ≡ pass.old.holding) }
         ensures rule { AnswersWordsPost self.now pass.old job result pass.new }
+        ensures steps { TakesSteps (λ k n. n ≤ most_in_post result k) (known pass.old) (known pass.new) }
     {
         while pass.front < self.capacity {
             match self.try_post(pass, job) {

@@ -1,5 +1,6 @@
 //! The atomic words of a board store the states of its directories. This module has the invariant of the words, and the steps in which
-//! workers read and change a word. The definition of each step states what the worker knows of the board after the step.
+//! workers read and change a word. The definition of each step states what the worker knows of the board after the step. Each step adds
+//! its word's number to the steps in the worker's `View`.
 ghost use Rattle.std.specs.Prelude.{Some};
 ghost use Rattle.lc_board.specs.WordRow.{IsRow};
 ghost use Rattle.lc_board.specs.WordSteps.{looked, stepped_over, drew, opened, claimed, ended, put_down};

@@ -3,6 +3,7 @@ ghost use Rattle.std.specs.Prelude.{◌≡◌, ◌≢◌, ◌≤◌, ℕ, [], No
 ghost use Rattle.lc_board.specs.{ClosedBoard.{Settled, RefusesClose}, WordClose.words_promises};
 ghost use Rattle.lc_board.specs.Pass.{holding, posted, new_pass, after_claim, after_post, after_give, after_fault, job_back};
 ghost use Rattle.lc_board.specs.WordsBoard.{AnswersWordsClaim, AnswersWordsPost, EndsClaim, Owns, known, told};
+ghost use Rattle.lc_board.specs.WordBounds.{TakesSteps, most_in_post};
 ghost use Rattle.lc_board.specs.declared.{answers.Ended.TheVariants.{Returned, Faulted}, words.pass.WordsPass.WordsPass};
 ghost use Rattle.lc_board.specs.Limits.{capacity_limit, workers_limit};
 
@@ -60,6 +61,7 @@ impl<J: Drop + Send, R: Drop + Send> Shared<J, R> for Words<J, R> {
         ensures pass { Owns self.now pass.new }
         ensures mine { told pass.new ≡ after_claim (told pass.old) result }
         ensures rule { AnswersWordsClaim self.now.capacity (known pass.old) (known pass.new) pass.new.holding result }
+        ensures steps { TakesSteps (λ k n. n ≤ 2) (known pass.old) (known pass.new) }
     {
         match Words::claim(self, pass) {
             Claim::Got(number, job) => Claim::Got(number, job),
@@ -82,6 +84,7 @@ impl<J: Drop + Send, R: Drop + Send> Shared<J, R> for Words<J, R> {
         ensures mine { told pass.new ≡ after_post (told pass.old) job result }
         ensures back { IfErr result (λ f. job_back f ≡ job) }
         ensures rule { AnswersWordsPost self.now pass.old job result pass.new }
+        ensures steps { TakesSteps (λ k n. n ≤ most_in_post result k) (known pass.old) (known pass.new) }
     {
         match Words::post(self, pass, job) {
             Ok(number) => Ok(number),

@@ -1,7 +1,7 @@
 //! What a worker does with one directory on a board of atomic words: it reads the directory's atomic word, claims the directory, and
 //! finishes it.
 ghost use Rattle.std.specs.Prelude.{◌≡◌, ◌<◌, IsSome, None};
-ghost use Rattle.lc_board.specs.WordSteps.{HasLooked, low_after, taken_after};
+ghost use Rattle.lc_board.specs.WordSteps.{HasLooked, TakesStep, low_after, taken_after};
 ghost use Rattle.lc_board.specs.{WordsBoard.{EndsClaim, IsPassOf, IsSamePass, TriesClaim, known}, Ending.MayEnd};
 ghost use Rattle.lc_board.specs.{declared.answers.Ended.TheVariants.{Returned, Faulted}, Limits.capacity_limit};
 
@@ -45,6 +45,7 @@ impl<J, R> Words<J, R> {
         requires near { number < self.now.capacity }
         ensures board { IsSamePass pass.old pass.new × (pass.new.holding ≡ pass.old.holding) }
         ensures rule { HasLooked self.now.capacity number result (known pass.old) (known pass.new) }
+        ensures steps { TakesStep number (known pass.old) (known pass.new) }
     {
         let shared = &self.table.shared;
         let found = Word::of(shared.load::<Look>(&mut pass.seat, number as usize));
@@ -61,6 +62,7 @@ impl<J, R> Words<J, R> {
         requires near { number < self.now.capacity }
         ensures board { IsSamePass pass.old pass.new }
         ensures rule { TriesClaim self.now number pass.old result pass.new }
+        ensures steps { TakesStep number (known pass.old) (known pass.new) }
     {
         let shared = &self.table.shared;
         let place = number as usize;

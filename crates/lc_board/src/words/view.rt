@@ -37,4 +37,6 @@ pub struct View<J, R> {
     pub made: u64,
     /// The workers whose passes were merged into this pass, with the events of each worker.
     pub joined: LinkedList<(u32, LinkedList<Event<J, R>>)>,
+    /// For each step of the worker, the number whose word the step read or changed. The newest step is first.
+    pub steps: LinkedList<u32>,
 }

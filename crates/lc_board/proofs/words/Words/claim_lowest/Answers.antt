@@ -1,6 +1,7 @@
-use Rattle.std.proofs.Common.{sym, ap, ◌∙◌, ◌≡◌, ◌||◌, false, subst}
-use Rattle.lc_board.specs.WordSteps.{AddsEvent, is_last_word}
+use Rattle.std.proofs.Common.{ℕ, ◌<◌, sym, ap, ◌∙◌, ◌≡◌, ◌||◌, false, subst}
+use Rattle.lc_board.specs.{WordBounds.IsVisited, WordSteps.{AddsEvent, is_last_word}}
 use Rattle.lc_board.specs.declared.event.Event.TheVariants as event
+use Rattle.lc_board.proofs.WordBounds.{ScansTo, goes_up, scans_next, scan_ends, takes_less}
 use Rattle.lc_board.proofs.WordScans.{same_trans, scan_over, scan_next, later_absent, sees_adds}
 use Rattle.lc_board.proofs.words.Words.claim_lowest.Goals as goal
 use Rattle.lc_board.proofs.words.Words.claim_lowest.Goals.{else-not-busy-via-then-not-busy+else-is_last, else-not-busy-via-else-not-busy}
@@ -35,6 +36,26 @@ returns-then-is_absent-clause-rule g c = let told = c.in-Err.ensures.rule in
           c.loop-number.pass.seat.me.0 c.visit.new.pass.seat.me.0 c.loop-number.invariant.scan told.2 more (sym c.if-is_absent.ensures),
     )
 
+pub returns-in-Ok-clause-steps : goal.returns-in-Ok-clause-steps
+returns-in-Ok-clause-steps g c = let inv = c.loop-number.invariant in
+    scan_ends c.args.self.now.capacity c.loop-number.number c.args.pass.now.seat.me.0 c.loop-number.pass.seat.me.0
+    c.visit.new.pass.seat.me.0 inv.scan.0 inv.steps c.visit.ensures.steps
+
+pub returns-then-is_last-clause-steps : goal.returns-then-is_last-clause-steps
+returns-then-is_last-clause-steps g c = let inv = c.loop-number.invariant in
+    scan_ends c.args.self.now.capacity c.loop-number.number c.args.pass.now.seat.me.0 c.loop-number.pass.seat.me.0
+    c.visit.new.pass.seat.me.0 inv.scan.0 inv.steps c.visit.ensures.steps
+
+pub returns-then-is_absent-clause-steps : goal.returns-then-is_absent-clause-steps
+returns-then-is_absent-clause-steps g c = let inv = c.loop-number.invariant in
+    scan_ends c.args.self.now.capacity c.loop-number.number c.args.pass.now.seat.me.0 c.loop-number.pass.seat.me.0
+    c.visit.new.pass.seat.me.0 inv.scan.0 inv.steps c.visit.ensures.steps
+
+pub returns-clause-steps : goal.returns-clause-steps
+returns-clause-steps g c = let cap : ℕ = c.args.self.now.capacity in let v = c.args.pass.now.seat.me.0 in
+    takes_less (ScansTo cap c.loop-number.number v) (IsVisited cap v) v c.loop-number.pass.seat.me.0 c.loop-number.invariant.steps
+    (λ k n p. p.0)
+
 pub loop-number-preserved : goal.loop-number-preserved
 loop-number-preserved g c = let told = c.in-Err.ensures.rule in let inv = c.loop-number.invariant in
     let more : c.loop-number.busy ≡ false → is_last_word c.args.self.now.capacity c.loop-number.number c.in-Err.found ≡ false =
@@ -50,4 +71,8 @@ loop-number-preserved g c = let told = c.in-Err.ensures.rule in let inv = c.loop
           c.visit.new.pass.seat.me.0 inv.scan told.2 more c.loop-number-test.true (c.args.pass.now.ties.holds ∙ c.requires.free)
           (sym c.if-is_absent.ensures) told.1 (ap (λ b. c.loop-number.busy || b) c.is_busy-busy.ensures) c.visit.new.pass.marked
           c.number_after-number.ensures;
+      steps = let v = c.args.pass.now.seat.me.0 in let u = c.loop-number.pass.seat.me.0 in let w = c.visit.new.pass.seat.me.0 in
+          scans_next c.args.self.now.capacity c.loop-number.number c.number_after-number.result v u w
+          (subst (λ z. c.loop-number.number < z) (sym c.number_after-number.ensures) (goes_up _ _ _)) inv.scan.0 inv.steps
+          c.visit.ensures.steps;
     }

@@ -1,8 +1,10 @@
-use Rattle.std.proofs.Common.{arith, sym, ap, subst, ◌∙◌, ◌+◌, ◌<◌, refl, ◌∷◌}
+use Rattle.std.proofs.Common.{ℕ, arith, sym, ap, subst, ◌∙◌, ◌+◌, ◌<◌, refl, ◌∷◌}
 use Rattle.atomic_table.specs.Table.{rest}
-use Rattle.lc_board.specs.{declared.words.view.Slot.TheVariants.Job, Holding.holding, WordPass.{AreTaken, IsTied}}
-use Rattle.lc_board.proofs.{WordTies.{holds_some, first_job, tied_passed, tied_posted}, WordMarks.{marked_added, marked_looked}}
-use Rattle.lc_board.proofs.WordScans.{try_posted}
+use Rattle.lc_board.specs.{declared.words.view.Slot.TheVariants.Job, Holding.holding, WordSteps.TakesStep}
+use Rattle.lc_board.specs.WordPass.{AreListed, AreTaken, IsTied}
+use Rattle.lc_board.proofs.WordMarks.{keeps_looked, listed_more, listed_on, marked_added, marked_looked}
+use Rattle.lc_board.proofs.WordTies.{holds_some, first_job, tied_passed, tied_posted}
+use Rattle.lc_board.proofs.{WordBounds.{steps_both, takes_one}, WordScans.try_posted}
 use Rattle.lc_board.proofs.words.Words.draw_and_open.Goals as goal
 
 pub open_drawn-requires-clause-may : goal.open_drawn-requires-clause-may
@@ -25,6 +27,19 @@ returns-clause-rule g c = let p = c.args.pass.now in let t = p.ties in
           (first_job _ _ _ _ _ _ (sym did.3 ∙ ap (λ m. m.1) now)) did.4,
     )
 
+pub returns-then-not-is_drawn-clause-steps : goal.returns-then-not-is_drawn-clause-steps
+returns-then-not-is_drawn-clause-steps g c =
+    takes_one _ c.args.pass.now.seat.me.0 c.draw-is_drawn.new.seat.me.0 c.if-not-is_drawn.ensures.rule.5
+
+pub returns-clause-steps : goal.returns-clause-steps
+returns-clause-steps g c = let i : ℕ = c.args.pass.now.front in let v = c.args.pass.now.seat.me.0 in let u = c.fill.new.seat.me.0 in
+    let me = sym (ap (λ m. m.0) c.fill.ensures.filled) in (
+      refl,
+      steps_both 1 1 i v u c.open_drawn.new.seat.me.0
+          (takes_one i v u (subst (λ z. TakesStep i v z) me c.if-not-is_drawn.ensures.rule.5))
+          (takes_one i u c.open_drawn.new.seat.me.0 c.open_drawn.ensures.rule.2),
+    )
+
 pub invariant_of-pass : goal.invariant_of-pass
 invariant_of-pass g c = let p = c.args.pass.now in let sq = c.args.self.now.square in let near = c.requires.near in
     let own = ap (λ z. z.slots) c.requires.board in
@@ -34,6 +49,7 @@ invariant_of-pass g c = let p = c.args.pass.now in let sq = c.args.self.now.squa
           (tied_passed c.args.self.now.capacity p.seat.table_id.slots p.front p.worker p.holding p.posted p.low p.seat.me
           c.draw-is_drawn.new.seat.me inside drew p.ties);
       marked = marked_looked _ _ p.seat.me.0 c.draw-is_drawn.new.seat.me.0 drew.3 p.marked;
+      listed = let v = p.seat.me.0 in let u = c.draw-is_drawn.new.seat.me.0 in listed_on p.newest v u (keeps_looked _ v u drew.3) p.listed;
       all_used = λ full. let x = p.all_used full in absurd (omega arith);
     }
 
@@ -49,5 +65,9 @@ invariant_of-pass-2 g c = let p = c.args.pass.now in let sq = c.args.self.now.sq
           c.open_drawn.ensures.rule p.ties);
       marked = marked_added _ _ c.fill.new.seat.me.0 c.open_drawn.new.seat.me.0 _ c.open_drawn.ensures.rule.1.4
           (subst (λ v. AreTaken p.taken v.seen) (sym me) (marked_looked _ _ p.seat.me.0 c.draw-is_drawn.new.seat.me.0 drew.3 p.marked));
+      listed = let v = p.seat.me.0 in let u = c.draw-is_drawn.new.seat.me.0 in
+          listed_more _ _ _ _ _ p.newest c.note.new.self c.fill.new.seat.me.0 c.open_drawn.new.seat.me.0 c.open_drawn.ensures.rule.1.4
+          c.note.ensures
+          (subst (λ z. AreListed p.newest z.seen) (sym me) (listed_on p.newest v u (keeps_looked _ v u drew.3) p.listed));
       all_used = λ full. let x = p.all_used full in absurd (omega arith);
     }

@@ -1,8 +1,9 @@
 use Rattle.std.proofs.Common.{arith, sym, ap, ◌∙◌, ◌∷◌, None, subst}
 use Rattle.atomic_table.specs.Table.{rest}
-use Rattle.lc_board.specs.{Ending.{MayEnd, end_event, row_in}, Holding.{holding, posted}, WordPass.{AreTaken, IsTied}}
+use Rattle.lc_board.specs.{Ending.{MayEnd, end_event, row_in}, Holding.{holding, posted}, WordPass.{AreListed, AreTaken, IsTied}}
 use Rattle.lc_board.specs.declared.words.view.Slot.TheVariants.{Row}
-use Rattle.lc_board.proofs.{WordEnds.{ends_claim, end_frees, end_posts}, WordMarks.marked_added, WordTies.tied_ended}
+use Rattle.lc_board.proofs.{WordEnds.{ends_claim, end_frees, end_posts}, WordMarks.{keeps_added, listed_on, marked_added}}
+use Rattle.lc_board.proofs.WordTies.{tied_ended}
 use Rattle.lc_board.proofs.words.Words.end.Goals as goal
 
 pub swap-requires : goal.swap-requires
@@ -30,5 +31,7 @@ invariant_of-pass g c = let p = c.args.pass.now in let told = c.swap.ensures.2 i
           (subst (λ o. IsTied p.seat.table_id.slots p.worker o p.posted p.front p.low p.seat.me) c.in-Some.is p.ties));
       marked = marked_added _ _ c.fill.new.seat.me.0 c.swap.new.seat.me.0 e told.1.3
           (subst (λ v. AreTaken p.taken v.seen) (sym me) p.marked);
+      listed = let v = c.fill.new.seat.me.0 in let w = c.swap.new.seat.me.0 in
+          listed_on p.newest v w (keeps_added _ v w e told.1.3) (subst (λ z. AreListed p.newest z.seen) (sym me) p.listed);
       all_used = λ f. p.all_used f ∙ ap (λ z. z.slots) (sym same);
     }

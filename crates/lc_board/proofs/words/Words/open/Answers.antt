@@ -15,6 +15,7 @@ invariant_of-pass g c =
     record {
       ties = tied_first _ _ _ _ told.4 (omega (arith, size, c.requires.capacity.0));
       marked = λ k less. absurd (omega arith);
+      listed = λ k has. absurd (c.new-in-Ok.ensures k has);
       all_used = λ full. absurd cc;
     }
 

@@ -1,5 +1,6 @@
-use Rattle.std.proofs.Common.{◌∙◌, ◌+◌, ap, refl}
-use Rattle.lc_board.proofs.WordScans.{post_through, looks_trans}
+use Rattle.std.proofs.Common.{◌≡◌, ℕ, subst, ◌∙◌, ◌+◌, ap, refl}
+use Rattle.lc_board.specs.WordBounds.{StepsOn}
+use Rattle.lc_board.proofs.{WordBounds.{step_more, steps_both, takes_one}, WordScans.{post_through, looks_trans}}
 use Rattle.lc_board.proofs.words.Words.try_post.Goals as goal
 
 pub returns-in-Ok-clause-rule : goal.returns-in-Ok-clause-rule
@@ -16,3 +17,21 @@ returns-in-Err-clause-rule g c = let same = c.step_over.ensures.board in let did
   did.1 ∙ same.2,
   looks_trans _ c.args.pass.now.seat.me.0 c.step_over.new.pass.seat.me.0 c.draw_and_open.new.pass.seat.me.0 c.step_over.ensures.rule did.2,
 )
+
+pub returns-then-step_over-clause-steps : goal.returns-then-step_over-clause-steps
+returns-then-step_over-clause-steps g c = step_more c.args.pass.now.front c.args.pass.now.seat.me.0 c.step_over.new.pass.seat.me.0
+    c.step_over.ensures.steps
+
+pub returns-in-Ok-clause-steps : goal.returns-in-Ok-clause-steps
+returns-in-Ok-clause-steps g c = let i : ℕ = c.args.pass.now.front in let did = c.in-Ok.ensures.steps in
+    let v = c.args.pass.now.seat.me.0 in let u = c.step_over.new.pass.seat.me.0 in let w = c.draw_and_open.new.pass.seat.me.0 in
+    let front : c.step_over.new.pass.front ≡ c.args.pass.now.front = c.if-step_over.ensures.front in (
+      did.0 ∙ front,
+      steps_both 1 2 i v u w (takes_one i v u c.step_over.ensures.steps) (subst (λ z. StepsOn 2 z u w) front did.1),
+    )
+
+pub returns-in-Err-clause-steps : goal.returns-in-Err-clause-steps
+returns-in-Err-clause-steps g c = let i : ℕ = c.args.pass.now.front in
+    let v = c.args.pass.now.seat.me.0 in let u = c.step_over.new.pass.seat.me.0 in let w = c.draw_and_open.new.pass.seat.me.0 in
+    steps_both 1 1 i v u w (takes_one i v u c.step_over.ensures.steps)
+    (subst (λ z. StepsOn 1 z u w) c.if-step_over.ensures.front c.in-Err.ensures.steps)
