@@ -1,6 +1,6 @@
 //! The file systems whose directories a `SysTree` enters, and how the tree decides whether to enter a directory.
 ghost use Rattle.std.specs.Prelude.{◌≡◌, IsTrue};
-ghost use Rattle.lc_tree.specs.Bounds.{is_one, stays};
+ghost use Rattle.lc_tree.specs.Bounds.{is_one, is_outside, stays};
 
 use crate::system_call::uninterrupted;
 use std::fs::Metadata;
@@ -42,14 +42,21 @@ impl Bounds {
         }
     }
 
+    /// Returns whether a directory on the device with this number is on a file system that the tree does not enter.
+    fn is_outside(self, device: u64) -> bool
+        ensures { result ≡ is_outside self device }
+    {
+        match self {
+            Bounds::Everywhere => false,
+            Bounds::Device(number) => device != number,
+            Bounds::TopAlone => true,
+        }
+    }
+
     /// Returns whether a directory with this metadata is on a file system that the tree does not enter.
     pub(crate) fn leave_out(self, found: &Metadata) -> bool
         ensures { IsTrue result → IsTrue (stays self) }
     {
-        match self {
-            Bounds::Everywhere => false,
-            Bounds::Device(number) => found.dev() != number,
-            Bounds::TopAlone => true,
-        }
+        self.is_outside(found.dev())
     }
 }
