@@ -1,12 +1,12 @@
 -- What both chains are by a directory's rule files.
-use Rattle.std.proofs.Common.{◌≡◌, ℕ, Bool, refl, ap, ◌∙◌, Option, Some, None, subst, [], List}
+use Rattle.std.proofs.Common.{◌≡◌, ℕ, refl, ap, ◌∙◌, Option, Some, None, subst, [], List}
 use Rattle.std.specs.Result.{IfOk}
 use Rattle.std.specs.declared.sync.Arc.{Arc}
 use Rattle.std.specs.Prelude.{Result}
 use Rattle.lc_rules.specs.AttrChains.{no_files, with_tree_file, with_info_file}
 use Rattle.lc_rules.specs.AttrLines.{AttrFileModel}
 use Rattle.lc_rules.specs.AttrStates.{AttrChainModel}
-use Rattle.lc_rules.specs.IgnoreChains.{ChainModel, no_ignore_files, with_command_line, with_exclude, with_info, with_no_ignore, with_own}
+use Rattle.lc_rules.specs.IgnoreChains.{ChainModel, with_info, with_own}
 use Rattle.lc_rules.specs.IgnoreRules.{RuleModel}
 use Rattle.lc_level.specs.Job.{JobModel}
 use Rattle.lc_level.specs.RuleFiles.{with_file_at, first_of}

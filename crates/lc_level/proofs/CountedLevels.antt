@@ -131,9 +131,12 @@ module _ (lists : List ℕ → Listings) (gives : List ℕ → Contents) (left_o
     }
 
     is_well_formed : IsWellFormed answers
-    is_well_formed =
-        subst (λ (es : List EntryModel). IsListing es) (sym (same_entries s o.job in_part found f.results))
-        (subst (λ (l : Items). IsListing (listed_in l)) c.inside.here c.inside.well_formed)
+    is_well_formed = record {
+      here = subst (λ (es : List EntryModel). IsListing es) (sym (same_entries s o.job in_part found f.results))
+          (subst (λ (l : Items). IsListing (listed_in l)) c.inside.here c.inside.well_formed.here);
+      git = c.inside.well_formed.git;
+      info = c.inside.well_formed.info;
+    }
 
     level_is : IsLevelOf (level s j answers) left_out (parts_with o counts.files.items counts.faults.items)
     level_is = record {

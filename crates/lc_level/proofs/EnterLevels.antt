@@ -1,7 +1,5 @@
 -- The answers of a tree for a directory, by what entering it answered.
-use Rattle.std.proofs.Common.{◌≡◌, ℕ, Bool, true, false, ◌&&◌, List, [], refl, sym, ◌∙◌, ap, subst, Result, Ok, Err, codes}
-use Rattle.std.proofs.Common.{arith}
-use Rattle.std.specs.List.Sorted.{IsStrictlySortedBy}
+use Rattle.std.proofs.Common.{◌≡◌, ℕ, Bool, true, false, ◌&&◌, List, [], refl, sym, ◌∙◌, ap, Result, Ok, Err, codes}
 use Rattle.lc_glob.specs.Path.{path_in}
 use Rattle.lc_level.specs.Answers.{Item, Answers}
 use Rattle.lc_level.specs.EntryLooks.{has_dir}
@@ -27,9 +25,10 @@ use Rattle.lc_level.specs.declared.open_fault.OpenFault.TheVariants.{Faulted, Me
 use Rattle.lc_level.specs.declared.fault_word.FaultWord.{FaultWord}
 use Rattle.lc_level.specs.declared.fault_site.FaultSite.{FaultSite}
 use Rattle.lc_level.specs.declared.fault_site.FaultSite.TheVariants.{Directory}
-use Rattle.lc_level.proofs.GitReads.{any_count, any_rules, may_rules, listed}
+use Rattle.lc_level.proofs.GitReads.{any_count, any_rules, may_rules, listed, is_listed}
 use Rattle.lc_level.proofs.GivenItems.{AsRules, items_at, entries_items, directory_items}
 use Rattle.lc_level.proofs.GivenPairs.{PairGiven, pair_given}
+use Rattle.lc_level.proofs.WellFormed.{no_entries}
 
 -- what follows a reading, by what it gave
 and_then_ok : {A B : Type 0} (r : Result A FaultLineModel) (x : A) (next : A → Result B FaultLineModel) → r ≡ Ok x
@@ -39,10 +38,6 @@ and_then_ok r x next e = ap (λ s. and_then s next) e
 and_then_err : {A B : Type 0} (r : Result A FaultLineModel) (f : FaultLineModel) (next : A → Result B FaultLineModel) → r ≡ Err f
     → and_then r next ≡ Err f
 and_then_err r f next e = ap (λ s. and_then s next) e
-
-pub no_entries : IsListing []
-unfolding IsStrictlySortedBy
-no_entries = record { good = refl; order = tt; few = omega arith }
 
 no_top : (b : Bool) → (b && false) ≡ true → ⊥
 no_top true e = cc
@@ -55,7 +50,7 @@ list_refused lists gives j texts (Faulted site word) (is, l) =
     let a : Answers = record { here = Err word; git = Ok []; info = Ok [] } in (
       a,
       record { here = l; git = λ t. absurd (no_top (is_top j.path) t); info = λ t h. absurd (no_top (is_top j.path) t) },
-      no_entries,
+      record { here = no_entries; git = no_entries; info = no_entries },
       λ s. ap (λ (p : FaultSite). faulted_level (site_path j.path p) word) (sym is),
     )
 list_refused lists gives j texts Memory l = tt
@@ -92,8 +87,12 @@ module _ (lists : List ℕ → Listings) (gives : List ℕ → Contents)
   }
 
   -- and are well-formed
-  pub is_well_formed : (given : AsRules) (a : Answers) → IsWellFormed (answers given a)
-  is_well_formed given a = subst IsListing (sym (entries_items (any_count lists gives some_content j.path) given es)) is_listing
+  pub is_well_formed : (given : AsRules) (a : Answers) → MayAnswerGit lists gives there a → IsWellFormed (answers given a)
+  is_well_formed given a git = record {
+    here = is_listed lists gives some_content j.path es given is_listing;
+    git = git.git_listing;
+    info = git.info_listing;
+  }
 
   -- what reading the rule files gives, by the two parts of it
   bytes_by : (given : AsRules) (a : Answers) (r : Result Pair FaultLineModel)
@@ -117,7 +116,7 @@ module _ (lists : List ℕ → Listings) (gives : List ℕ → Contents)
   info_refused (Faulted site word) (a, git, is) = (
     answers own_rules a,
     may_answer own_rules (may_rules lists gives some_content j.path) a git,
-    is_well_formed own_rules a,
+    is_well_formed own_rules a git,
     fault_level own_rules a (site_path j.path site) word
         (bytes_by own_rules a (Err (record { path = site_path j.path site; word = word })) (is j.path)),
   )
@@ -145,7 +144,7 @@ module _ (lists : List ℕ → Listings) (gives : List ℕ → Contents)
       at (Faulted site word) (given, may, e) = (
         answers given a,
         may_answer given may a git,
-        is_well_formed given a,
+        is_well_formed given a git,
         fault_level given a (site_path j.path site) word
             (bytes_by given a (Ok i) is
             ∙ and_then_err (own_bytes j.ignore.no_ignore j.path (own_items given)) (record { path = site_path j.path site; word = word })
@@ -197,7 +196,7 @@ module _ (lists : List ℕ → Listings) (gives : List ℕ → Contents)
     inside = record {
       answers = answers r.given r.git_answers;
       may = may_answer r.given r.may r.git_answers r.git;
-      well_formed = is_well_formed r.given r.git_answers;
+      well_formed = is_well_formed r.given r.git_answers r.git;
       items = own_items r.given;
       here = refl;
       bytes = record { info = r.info_bytes; own = r.own_bytes };

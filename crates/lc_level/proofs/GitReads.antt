@@ -1,10 +1,10 @@
 -- The answers of a tree for `.git` and `.git/info`, by what reading the rule files there answered.
 use Rattle.std.proofs.Common.{◌≡◌, ℕ, Bool, true, false, List, [], refl, sym, ◌∙◌, ap, subst, None, Result, Ok, Err, codes}
 use Rattle.lc_glob.specs.Path.{path_in}
-use Rattle.lc_level.specs.Answers.{Item, Items, Answers}
+use Rattle.lc_level.specs.Answers.{Item, Items, Answers, entries_of}
 use Rattle.lc_level.specs.EntryLooks.{has_dir}
 use Rattle.lc_level.specs.GitInfo.{ListsFor, MayAnswerGit, ReadsGit}
-use Rattle.lc_tree.specs.Listing.{EntryModel}
+use Rattle.lc_tree.specs.Listing.{EntryModel, IsListing}
 use Rattle.lc_level.specs.RuleFiles.{has_directory, and_then, listing, info_items, info_bytes}
 use Rattle.lc_level.specs.RulePairs.{PairAsked, IsReadOf, ReadsBoth}
 use Rattle.lc_level.specs.SitePaths.{site_path}
@@ -21,7 +21,7 @@ use Rattle.lc_level.specs.declared.fault_site.FaultSite.TheVariants.{Git, GitInf
 use Rattle.lc_level.proofs.GivenItems.{Counted, AsRules, items_at, entries_items, directory_items, may_items}
 use Rattle.lc_level.proofs.GivenPairs.{PairGiven, pair_given}
 use Rattle.lc_level.proofs.SomeReads.{some_count, some_rules}
-use Rattle.lc_level.proofs.WellFormed.{clash}
+use Rattle.lc_level.proofs.WellFormed.{clash, no_entries}
 
 abbrev asked : Items → Items → Answers
 asked git info = record { here = Ok []; git = git; info = info }
@@ -81,11 +81,19 @@ module _ (lists : List ℕ → Listings) (gives : List ℕ → Contents)
     may_items lists gives path (any_count path) given (may_counts path) may es,
   )
 
+  -- the items of a listing are one
+  pub is_listed : (path : List ℕ) (es : List EntryModel) (given : AsRules) → IsListing es
+      → IsListing (entries_of (items_at (any_count path) given es))
+  is_listed path es given is = subst IsListing (sym (entries_items (any_count path) given es)) is
+
   abbrev git_items : List EntryModel → List Item
   git_items es = items_at (any_count (codes ".git")) (any_rules (codes ".git")) es
 
   may_git : (es : List EntryModel) → lists (codes ".git") (Ok es) → MayList lists gives (codes ".git") (Ok (git_items es))
   may_git es l = listed (codes ".git") es (any_rules (codes ".git")) (may_rules (codes ".git")) l
+
+  git_listed : (es : List EntryModel) → IsListing es → IsListing (entries_of (git_items es))
+  git_listed es is = is_listed (codes ".git") es (any_rules (codes ".git")) is
 
   has_info : (es : List EntryModel) → has_directory (codes "info") (git_items es) ≡ has_dir (codes "info") es
   has_info es = directory_items (any_count (codes ".git")) (any_rules (codes ".git")) (codes "info") es
@@ -108,7 +116,12 @@ module _ (lists : List ℕ → Listings) (gives : List ℕ → Contents)
     no_git there read e none =
         subst (λ b. ReadsGit lists gives no_ignore texts b (Ok read)) (sym e) (
           asked (Ok []) (Ok []),
-          record { git = λ t. absurd (clash t refl); info = λ t h. absurd (clash t refl) },
+          record {
+            git = λ t. absurd (clash t refl);
+            info = λ t h. absurd (clash t refl);
+            git_listing = no_entries;
+            info_listing = no_entries;
+          },
           (record { rules = None; attributes = None }, no_files texts read none, none_read no_ignore),
         )
 
@@ -118,7 +131,12 @@ module _ (lists : List ℕ → Listings) (gives : List ℕ → Contents)
     git_fault there site word e is l =
         at_true there (Err (Faulted site word)) e (
           asked (Err word) (Ok []),
-          record { git = λ t. l; info = λ t h. absurd (clash h refl) },
+          record {
+            git = λ t. l;
+            info = λ t h. absurd (clash h refl);
+            git_listing = no_entries;
+            info_listing = no_entries;
+          },
           λ directory. ap (λ (p : FaultSite). Err (record { path = site_path directory p; word = word })) (sym is),
         )
 
@@ -130,13 +148,18 @@ module _ (lists : List ℕ → Listings) (gives : List ℕ → Contents)
     git_refused there TooDeep e l = absurd l
 
     -- where `.git` has no `info` nothing is read
-    pub no_info : (there : Bool) (es : List EntryModel) (read : PairRead) → there ≡ true → lists (codes ".git") (Ok es)
+    pub no_info : (there : Bool) (es : List EntryModel) (read : PairRead) → there ≡ true → lists (codes ".git") (Ok es) → IsListing es
         → has_dir (codes "info") es ≡ false →
         read ≡ nothing_read → ReadsGit lists gives no_ignore texts there (Ok read)
-    no_info there es read e l absent none =
+    no_info there es read e l listing absent none =
         at_true there (Ok read) e (
           asked (Ok (git_items es)) (Ok []),
-          record { git = λ t. may_git es l; info = λ t h. absurd (clash h (has_info es ∙ absent)) },
+          record {
+            git = λ t. may_git es l;
+            info = λ t h. absurd (clash h (has_info es ∙ absent));
+            git_listing = git_listed es listing;
+            info_listing = no_entries;
+          },
           (
             record { rules = None; attributes = None },
             no_files texts read none,
@@ -146,23 +169,23 @@ module _ (lists : List ℕ → Listings) (gives : List ℕ → Contents)
 
     -- a fault of `.git/info`
     pub info_fault : (there : Bool) (es : List EntryModel) (site : FaultSite) (word : FaultWord) → there ≡ true
-        → lists (codes ".git") (Ok es) → has_dir (codes "info") es ≡ true →
+        → lists (codes ".git") (Ok es) → IsListing es → has_dir (codes "info") es ≡ true →
         site ≡ GitInfo → FailsBy (lists (codes ".git/info")) word → ReadsGit lists gives no_ignore texts there (Err (Faulted site word))
-    info_fault there es site word e l present is m =
+    info_fault there es site word e l listing present is m =
         at_true there (Err (Faulted site word)) e (
           asked (Ok (git_items es)) (Err word),
-          record { git = λ t. may_git es l; info = λ t h. m },
+          record { git = λ t. may_git es l; info = λ t h. m; git_listing = git_listed es listing; info_listing = no_entries },
           λ directory. by_info no_ignore es (Err word) true present
               ∙ ap (λ (p : FaultSite). Err (record { path = site_path directory p; word = word })) (sym is),
         )
 
     -- the same, or want of memory
     pub info_refused : (there : Bool) (es : List EntryModel) (u : OpenFault) → there ≡ true → lists (codes ".git") (Ok es)
-        → has_dir (codes "info") es ≡ true →
+        → IsListing es → has_dir (codes "info") es ≡ true →
         ListsFor (lists (codes ".git/info")) GitInfo (Err u) → ReadsGit lists gives no_ignore texts there (Err u)
-    info_refused there es (Faulted site word) e l present (is, m) = info_fault there es site word e l present is m
-    info_refused there es Memory e l present m = tt
-    info_refused there es TooDeep e l present m = absurd m
+    info_refused there es (Faulted site word) e l listing present (is, m) = info_fault there es site word e l listing present is m
+    info_refused there es Memory e l listing present m = tt
+    info_refused there es TooDeep e l listing present m = absurd m
 
     abbrev info_of : List EntryModel → AsRules → Items
     info_of fs given = Ok (items_at (any_count (codes ".git/info")) given fs)
@@ -173,17 +196,22 @@ module _ (lists : List ℕ → Listings) (gives : List ℕ → Contents)
 
     -- what its two files answered
     pub both_files : (there : Bool) (es fs : List EntryModel) (r : Result PairRead OpenFault) → there ≡ true
-        → lists (codes ".git") (Ok es) → has_dir (codes "info") es ≡ true →
-        lists (codes ".git/info") (Ok fs) →
+        → lists (codes ".git") (Ok es) → IsListing es → has_dir (codes "info") es ≡ true →
+        lists (codes ".git/info") (Ok fs) → IsListing fs →
         ReadsBoth gives (info_asked no_ignore texts (codes ".git/info") fs) r →
         ReadsGit lists gives no_ignore texts there r
-    both_files there es fs r e l present m reads =
+    both_files there es fs r e l git_listing present m info_listing reads =
         at_true there r e (at r (pair_given gives (info_asked no_ignore texts (codes ".git/info") fs) refl (any_rules (codes ".git/info"))
         (may_rules (codes ".git/info")) r reads))
       where
         may : (given : AsRules) → ((n : List ℕ) → MayReadRules (gives (path_in (codes ".git/info") n)) (given n))
             → MayAnswerGit lists gives true (asked (Ok (git_items es)) (info_of fs given))
-        may given k = record { git = λ t. may_git es l; info = λ t h. listed (codes ".git/info") fs given k m }
+        may given k = record {
+          git = λ t. may_git es l;
+          info = λ t h. listed (codes ".git/info") fs given k m;
+          git_listing = git_listed es git_listing;
+          info_listing = is_listed (codes ".git/info") fs given info_listing;
+        }
 
         at : (o : Result PairRead OpenFault) → InfoGiven fs o → ReadsGit lists gives no_ignore texts true o
         at (Ok read) (given, k, (bytes, are, is)) = (

@@ -1,12 +1,11 @@
 -- The answers of the tree that a node stands for are some that a tree of memory may give.
-use Rattle.std.proofs.Common.{◌≡◌, ℕ, true, List, [], ◌∷◌, map, refl, sym, ◌∙◌, ap, subst, arith, Option, Some, None}
+use Rattle.std.proofs.Common.{◌≡◌, ℕ, true, List, [], ◌∷◌, ◌++◌, map, refl, sym, ◌∙◌, ap, subst, Option, Some, None}
 use Rattle.std.proofs.Common.{Result, Ok, Err, codes}
 use Rattle.std.proofs.lemmas.Bool.{and_parts}
 use Rattle.std.specs.Prelude.{IfOk, Vec, option_and_then}
 use Rattle.std.specs.declared.alloc.Global.{Global}
-use Rattle.std.proofs.lemmas.Cmp.{nat_list_cmp_total}
-use Rattle.std.proofs.lemmas.Map.Keys.{sorted_from_all_adjacent}
-use Rattle.lc_level.specs.WellFormed.{listed_in}
+use Rattle.lc_level.specs.WellFormed.{listed_in, IsWellFormed}
+use Rattle.lc_level.proofs.WellFormed.{no_entries}
 use Rattle.std.specs.List.{AllByRecursion}
 use Rattle.lc_glob.specs.Path.{is_good_name, path_in}
 use Rattle.lc_level.specs.Answers.{Item, entry_of, entries_of}
@@ -164,13 +163,6 @@ node_answers top path = record {
 
 -- ---- its listings are listings
 
-no_entries : IsListing []
-no_entries = record {
-  good = refl;
-  order = sorted_from_all_adjacent nat_list_cmp_total [] [] (λ k lt. absurd (omega arith));
-  few = omega arith;
-}
-
 well_formed_by : (es : List EntryModel) (items : Result (List Item) ReadFault) → IsAnswerFor es (answer_of items)
     → IsListing (listed_in (told_items items))
 well_formed_by es (Ok items) is = is.listing
@@ -184,7 +176,13 @@ well_formed_within (Node-F.File bytes) = no_entries
 well_formed_within (Node-F.Failing bytes) = no_entries
 well_formed_within (Node-F.Other what) = no_entries
 
--- and its listings are listings
-pub well_formed_at : (o : Option Node) → IsListing (listed_in (items_at o))
-well_formed_at None = no_entries
-well_formed_at (Some node) = well_formed_within (out-Node node)
+listing_below : (o : Option Node) → IsListing (listed_in (items_at o))
+listing_below None = no_entries
+listing_below (Some node) = well_formed_within (out-Node node)
+
+pub well_formed_at : (top : Node) (place : List (List ℕ)) → IsWellFormed (tree_of_node top place)
+well_formed_at top place = record {
+  here = listing_below (node_below place top);
+  git = listing_below (node_below (place ++ codes ".git" ∷ []) top);
+  info = listing_below (node_below (place ++ codes ".git" ∷ codes "info" ∷ []) top);
+}

@@ -56,13 +56,13 @@ module _ (lists : List ℕ → Listings) (gives : List ℕ → Contents) (left_o
   -- the entries of a directory that was entered are a listing
   pub are_listed : (texts : Bool) (e : Entered) → IsEntered lists gives j texts e → IsListing e.entries.items
   are_listed texts e c =
-      subst IsListing (sym c.entries) (subst (λ (l : Items). IsListing (listed_in l)) c.inside.here c.inside.well_formed)
+      subst IsListing (sym c.entries) (subst (λ (l : Items). IsListing (listed_in l)) c.inside.here c.inside.well_formed.here)
 
   -- the entries that take part are these
   module _ (texts : Bool) (e : Entered) (c : IsEntered lists gives j texts e) (part : List EntryModel)
       (is : part ≡ filter (takes_part s.only e.job.path) e.entries.items) where
     inside_listing : IsListing (entries_of c.inside.items)
-    inside_listing = subst (λ (l : Items). IsListing (listed_in l)) c.inside.here c.inside.well_formed
+    inside_listing = subst (λ (l : Items). IsListing (listed_in l)) c.inside.here c.inside.well_formed.here
 
     same_path : e.job.path ≡ j.path
     same_path = ap (λ (k : JobModel). k.path) c.inside.extends

@@ -1,5 +1,5 @@
 -- A directory has some answers that its tree may give.
-use Rattle.std.proofs.Common.{ℕ, List, Result, Ok, Err, refl, sym, subst, unwrap_or, codes}
+use Rattle.std.proofs.Common.{ℕ, List, Result, Ok, Err, refl, unwrap_or, codes}
 use Rattle.lc_level.specs.Answers.{Items, Answers}
 use Rattle.lc_level.specs.FaultWords.{fault_word_of}
 use Rattle.lc_level.specs.TreeAnswers.{MayAnswer, MayList}
@@ -9,9 +9,9 @@ use Rattle.lc_tree.specs.Trees.{Listings, Content, Contents, IsTold, MayHold, Te
 use Rattle.lc_tree.specs.declared.read_fault.ReadFault.{ReadFault}
 use Rattle.lc_tree.specs.declared.read_fault.ReadFault.TheVariants.{Failed, Unnamed, BadName, Twice, TooMany, Memory}
 use Rattle.lc_level.specs.declared.fault_word.FaultWord.TheVariants.{Read}
-use Rattle.lc_level.proofs.EnterLevels.{no_entries}
-use Rattle.lc_level.proofs.GitReads.{any_count, any_rules, may_rules, listed}
-use Rattle.lc_level.proofs.GivenItems.{items_at, entries_items}
+use Rattle.lc_level.proofs.GitReads.{any_count, any_rules, may_rules, listed, is_listed}
+use Rattle.lc_level.proofs.GivenItems.{items_at}
+use Rattle.lc_level.proofs.WellFormed.{no_entries}
 
 -- those of a directory at a path
 abbrev pub HasAnswers : (List ℕ → Listings) → (List ℕ → Contents) → List ℕ → Type 0
@@ -37,8 +37,7 @@ module _ (lists : List ℕ → Listings) (gives : List ℕ → Contents)
   may_be_told path (Err Memory) is may = absurd is
 
   told_well : (path : List ℕ) (answer : Result (List EntryModel) ReadFault) → IsTold answer → IsListing (listed_in (told path answer))
-  told_well path (Ok es) is =
-      subst IsListing (sym (entries_items (any_count lists gives some_content path) (any_rules lists gives some_content path) es)) is
+  told_well path (Ok es) is = is_listed lists gives some_content path es (any_rules lists gives some_content path) is
   told_well path (Err fault) is = no_entries
 
   abbrev some_items : List ℕ → Items
@@ -47,10 +46,13 @@ module _ (lists : List ℕ → Listings) (gives : List ℕ → Contents)
   may_have : (path : List ℕ) → MayList lists gives path (some_items path)
   may_have path = may_be_told path (some_listing path).0 (some_listing path).1 (some_listing path).2
 
+  some_well : (path : List ℕ) → IsListing (listed_in (some_items path))
+  some_well path = told_well path (some_listing path).0 (some_listing path).1
+
   -- they are those of any listings and of any reads that may come
   pub some_answers : (path : List ℕ) → HasAnswers lists gives path
   some_answers path = (
     record { here = some_items path; git = some_items (codes ".git"); info = some_items (codes ".git/info") },
     record { here = may_have path; git = λ t. may_have (codes ".git"); info = λ t h. may_have (codes ".git/info") },
-    told_well path (some_listing path).0 (some_listing path).1,
+    record { here = some_well path; git = some_well (codes ".git"); info = some_well (codes ".git/info") },
   )

@@ -1,7 +1,8 @@
 -- The names of a listing's items: good, and no two the same.
-use Rattle.std.proofs.Common.{◌≡◌, ◌≢◌, ℕ, ◌==◌, Bool, true, false, not, ◌&&◌, List, [], ◌∷◌, refl, sym, ◌∙◌, bytes_eq}
+use Rattle.std.proofs.Common.{◌≡◌, ◌≢◌, ℕ, ◌==◌, Bool, true, false, not, ◌&&◌, List, [], ◌∷◌, refl, sym, ◌∙◌, bytes_eq, arith}
 use Rattle.std.proofs.lemmas.Bool.{and_parts, not-true, or_parts}
 use Rattle.std.specs.List.{list_any, IsDistinct, AllByRecursion}
+use Rattle.std.specs.List.Sorted.{IsStrictlySortedBy}
 use Rattle.std.specs.Ordering.{eq_by_cmp}
 use Rattle.std.proofs.lemmas.Map.Keys.{IsDistinct-from_sorted}
 use Rattle.std.proofs.lemmas.Map.Text.{is_eq-slice_cmp}
@@ -19,6 +20,11 @@ IsGoodName n = (n ≢ []) × AllByRecursion (λ b. (b == 47) ≡ false) n
 abbrev pub Spread : List Item → Type 0
 Spread [] = Unit {0}
 Spread (e ∷ es) = AllByRecursion (λ d. bytes_eq (name_of d) (name_of e) ≡ false) es × IsGoodName (name_of e) × Spread es
+
+-- no entries are a listing
+pub no_entries : IsListing []
+unfolding IsStrictlySortedBy
+no_entries = record { good = refl; order = tt; few = omega arith }
 
 -- true is not false
 pub clash : {b : Bool} → b ≡ true → b ≡ false → ⊥

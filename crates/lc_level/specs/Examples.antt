@@ -1,5 +1,5 @@
 -- The tree of a `Node`, computed on a small node.
-use Rattle.std.specs.Prelude.{◌≡◌, ℕ, ◌^◌, nat_lt, true, false, List, [], ◌∷◌, ◌++◌, length, map, Vec, Ok, Err, refl, codes}
+use Rattle.std.specs.Prelude.{◌≡◌, ℕ, ◌^◌, nat_lt, true, List, [], ◌∷◌, ◌++◌, length, map, Vec, Ok, Err, refl, codes}
 use Rattle.std.specs.declared.alloc.Global.{Global}
 use Rattle.std.proofs.Math.Nat.{le_refl}
 use Rattle.std.proofs.lemmas.Bool.{ltb-true}

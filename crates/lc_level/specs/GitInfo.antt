@@ -1,11 +1,12 @@
 -- What reading the rule files of `.git/info` may return.
 use Rattle.std.specs.Prelude.{◌≡◌, ℕ, Bool, true, List, Result, Ok, Err, codes}
 use Rattle.lc_level.specs.Answers.{Answers}
-use Rattle.lc_tree.specs.Listing.{EntryModel}
+use Rattle.lc_tree.specs.Listing.{EntryModel, IsListing}
 use Rattle.lc_level.specs.RuleFiles.{Pair, has_directory, and_then, info_items, info_bytes}
 use Rattle.lc_level.specs.RulePairs.{IsReadOf}
 use Rattle.lc_level.specs.SitePaths.{site_path}
 use Rattle.lc_level.specs.TreeAnswers.{FailsBy, MayList, items_of}
+use Rattle.lc_level.specs.WellFormed.{listed_in}
 use Rattle.lc_tree.specs.Trees.{Listings, Contents}
 use Rattle.lc_level.specs.declared.rule_files.rule_pair.PairRead.{PairRead}
 use Rattle.lc_level.specs.declared.open_fault.OpenFault.{OpenFault}
@@ -20,10 +21,12 @@ ListsFor may site (Err Memory) = Unit {0}
 ListsFor may site (Err TooDeep) = ⊥
 
 module _ (lists : List ℕ → Listings) (gives : List ℕ → Contents) where
-  -- what the tree may answer for `.git` and `.git/info`, where `.git` is there
+  -- listings that the tree may answer for `.git` and `.git/info`, where `.git` is there
   pub record MayAnswerGit (there : Bool) (a : Answers) : Type 0 where
     pub git : there ≡ true → MayList lists gives (codes ".git") a.git
     pub info : there ≡ true → has_directory (codes "info") (items_of a.git) ≡ true → MayList lists gives (codes ".git/info") a.info
+    pub git_listing : IsListing (listed_in a.git)
+    pub info_listing : IsListing (listed_in a.info)
 
   -- the result of reading the two rule files, by answers that the tree may give: what was read, the site of the first error, or a failed
   -- allocation

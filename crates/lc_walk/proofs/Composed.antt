@@ -312,12 +312,13 @@ module _ (ask : Asked) (MayAnswer : List ℕ → Answers → Type 0) (capacity w
 
     -- ---- no path stands twice
 
-    no_entries : IsListing []
+    no_listings : IsWellFormed no_answers
     unfolding IsStrictlySortedBy
-    no_entries = record { good = refl; order = tt; few = omega arith }
+    no_listings =
+        let none : IsListing [] = record { good = refl; order = tt; few = omega arith } in record { here = none; git = none; info = none }
 
     well_formed_or : (i : ℕ) (o : Option (Ended Row)) → slice_get rows i ≡ o → IsWellFormed (or_no_answers o (held.by i))
-    well_formed_or i None is = no_entries
+    well_formed_or i None is = no_listings
     well_formed_or i (Some e) is = subst IsWellFormed (answers_are i e is) (lawful_here i e is).0.well_formed
 
     well_formed_at : (i : ℕ) → IsWellFormed (answers i)
@@ -330,7 +331,7 @@ module _ (ask : Asked) (MayAnswer : List ℕ → Answers → Type 0) (capacity w
       where
         at : (o : Option ℕ) → ((k : ℕ) → IsWellFormed (tree_from no_answers answers children k place))
             → IsWellFormed (elim o [ None ↦ no_answers | Some k ↦ tree_from no_answers answers children k place ])
-        at None rec = no_entries
+        at None rec = no_listings
         at (Some k) rec = rec k
 
     moved : IsPermutation (walk_of ask.filters capacity top (tree_of_rows rows answers)) found

@@ -164,7 +164,7 @@ good_names (e ∷ es) t = (t.1, good_names es t.2)
 
 -- the items of well-formed answers have good names, no two the same
 pub well_formed_items : (a : Answers) → IsWellFormed a → (es : List Item) → a.here ≡ Ok es → Spread es
-well_formed_items a t es e = spread es (subst (λ (o : Items). IsListing (listed_in o)) e t)
+well_formed_items a t es e = spread es (subst (λ (o : Items). IsListing (listed_in o)) e t.here)
 
 -- so have those that take part
 pub well_formed_part : (only : List (List ℕ)) (d : List ℕ) (a : Answers) → IsWellFormed a → (es : List Item) → a.here ≡ Ok es

@@ -1,5 +1,4 @@
 use Rattle.lc_tree.specs.MemTrees.{mem_lists, mem_gives}
-use Rattle.lc_tree.specs.Nodes.{node_below}
 use Rattle.lc_tree.specs.Paths.{names_of_path}
 use Rattle.lc_level.specs.NodeTrees.{tree_of_node}
 use Rattle.lc_level.proofs.NodeTrees.{node_answers, well_formed_at}
@@ -16,4 +15,4 @@ returns-clause-levels c =
     (tree_of_node top (names_of_path j.path)) may (node_answers top j.path)
 
 pub returns-clause-well_formed : goal.returns-clause-well_formed
-returns-clause-well_formed c = λ top place. well_formed_at (node_below place top)
+returns-clause-well_formed c = λ top place. well_formed_at top place

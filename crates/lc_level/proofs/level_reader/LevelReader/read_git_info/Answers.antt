@@ -2,6 +2,7 @@ use Rattle.std.proofs.Common.{◌≡◌, ℕ, true, false, List, codes, subst}
 use Rattle.lc_level.specs.EntryLooks.{has_dir}
 use Rattle.lc_level.specs.GitInfo.{ReadsGit}
 use Rattle.lc_level.specs.RulePairs.{ReadsBoth}
+use Rattle.lc_tree.specs.Listing.{IsListing}
 use Rattle.lc_level.proofs.GitReads.{info_asked, no_git, git_refused, no_info, info_refused, both_files}
 use Rattle.lc_level.proofs.PassedOn.{passed_on}
 use Rattle.lc_level.proofs.level_reader.LevelReader.read_git_info.Goals as goal
@@ -38,7 +39,7 @@ returns-then-not-has_dir-2 g c =
     let absent : has_dir (codes "info") c.in_ok-git.git ≡ false = cc in
     no_info (g.T.Tree.lists c.args.self.now.tree.now) (g.T.Tree.gives c.args.self.now.tree.now) (law.some_content c.args.self.now.tree.now)
     no_ignore texts (has_dir (codes ".git") c.args.listing.now) c.in_ok-git.git c.none-then-not-has_dir-2.result there c.in_ok-git.ensures
-    absent
+    (subst IsListing c.git.view_is c.git.invariant) absent
     c.none-then-not-has_dir-2.ensures
 
 pub returns-in_err-info : goal.returns-in_err-info
@@ -55,7 +56,7 @@ returns-in_err-info g c =
     c.from_residual-in_err-info.ensures.1
     (info_refused lists gives (law.some_content c.args.self.now.tree.now) no_ignore texts git c.in_ok-git.git
     c.in_err-info.field-0.0
-    there c.in_ok-git.ensures present c.in_err-info.ensures)
+    there c.in_ok-git.ensures (subst IsListing c.git.view_is c.git.invariant) present c.in_err-info.ensures)
 
 pub returns : goal.returns
 returns g c =
@@ -70,5 +71,5 @@ returns g c =
     c.in-Ok.ensures c.read_pair.ensures.read in
     both_files (g.T.Tree.lists c.args.self.now.tree.now) gives (law.some_content c.args.self.now.tree.now)
     no_ignore texts (has_dir (codes ".git") c.args.listing.now) c.in_ok-git.git c.in_ok-info.info c.read_pair.result there
-    c.in_ok-git.ensures present
-    c.in_ok-info.ensures in_directory
+    c.in_ok-git.ensures (subst IsListing c.git.view_is c.git.invariant) present
+    c.in_ok-info.ensures (subst IsListing c.info.view_is c.info.invariant) in_directory
