@@ -54,13 +54,11 @@ pub fn count_source<S: Source>(
 {
     let mut census = Census::new();
     for _turn in 0..turns {
-        let Ok(taken) = reader.read(buffer) else {
-            return Err(CensusFault::Read);
-        };
-        if taken == 0 {
-            return Ok(census.finish());
+        match reader.read(buffer) {
+            Ok(0) => return Ok(census.finish()),
+            Ok(taken) => census.feed(&buffer[..taken]),
+            Err(_) => return Err(CensusFault::Read),
         }
-        census.feed(&buffer[..taken]);
     }
     Err(CensusFault::Endless)
 }

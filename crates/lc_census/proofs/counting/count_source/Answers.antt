@@ -13,26 +13,26 @@ read_of : {S : Type 0} (may_give : S → ℕ → Answer → S → Type 0) (room 
     → MayRead may_give (RoomOf size) old answer new
 read_of may_give room size old new answer e some given = (size, some, refl, subst (λ n. may_give old n answer new) e given)
 
-pub returns-in_default-clause-counts : goal.returns-in_default-clause-counts
-returns-in_default-clause-counts g c =
+pub returns-in-Err-clause-counts : goal.returns-in-Err-clause-counts
+returns-in-Err-clause-counts g c =
     let run = c.loop-turn.invariant in
     let may_give = g.S.Source.may_give in
     let size = length c.args.buffer.now in
     let read = read_of may_give
     (length c.loop-turn.buffer) size c.loop-turn.reader c.read.new.self failed c.loop-turn.auto.buffer c.requires.some
-    c.in_default.ensures.given in (
+    c.in-Err.ensures.given in (
       run.0,
       reads_stop may_give (RoomOf size) run.0 at_failure c.args.reader.now c.loop-turn.reader c.read.new.self run.1 read,
       omega (arith, run.2),
     )
 
-pub returns-then-taken-eq0-clause-counts : goal.returns-then-taken-eq0-clause-counts
-returns-then-taken-eq0-clause-counts g c =
+pub returns-in-Ok-eq0-clause-counts : goal.returns-in-Ok-eq0-clause-counts
+returns-in-Ok-eq0-clause-counts g c =
     let run = c.loop-turn.invariant in
     let may_give = g.S.Source.may_give in
     let size = length c.args.buffer.now in
-    let none : gave (take c.in-Ok.taken c.read.new.buffer) ≡ gave [] = ap (λ n. gave (take n c.read.new.buffer)) c.if-taken-eq0.true in
-    let given = subst (λ a. may_give c.loop-turn.reader (length c.loop-turn.buffer) a c.read.new.self) none c.in-Ok.ensures.given in
+    let none : gave (take c.in-Ok-eq0.field-0 c.read.new.buffer) ≡ gave [] = ap (λ n. gave (take n c.read.new.buffer)) c.in-Ok-eq0.field-0-test in
+    let given = subst (λ a. may_give c.loop-turn.reader (length c.loop-turn.buffer) a c.read.new.self) none c.in-Ok-eq0.ensures.given in
     let read = read_of may_give (length c.loop-turn.buffer) size c.loop-turn.reader c.read.new.self
     (gave []) c.loop-turn.auto.buffer c.requires.some given in (
       run.0,
@@ -50,7 +50,7 @@ loop-turn-preserved g c =
     let piece = take taken c.read.new.buffer in
     let read = read_of may_give (length c.loop-turn.buffer) size c.loop-turn.reader c.read.new.self
     (gave piece) c.loop-turn.auto.buffer c.requires.some c.in-Ok.ensures.given in
-    let some = take_some taken c.read.new.buffer (omega (arith, c.if-taken-eq0.false))
+    let some = take_some taken c.read.new.buffer (omega (arith, c.in-Ok.taken-test))
     (omega (arith, c.in-Ok.ensures.within, c.read.auto.buffer)) in
     let joined = concat-append run.0 (piece ∷ []) ∙ ap (λ t. concat run.0 ++ t) (append-nil piece) in (
       run.0 ++ piece ∷ [],
