@@ -1,5 +1,5 @@
 -- A report that was printed as JSON with all its files, and was read, is that report.
-use Rattle.std.proofs.Common.{◌≡◌, ◌∙◌, ◌⊎◌, inl, inr, ◌<◌, ◌^◌, ℕ, Bool, true, false, List, [], ◌∷◌, map, codes, refl, sym, ap, subst}
+use Rattle.std.proofs.Common.{◌≡◌, ◌≢◌, ◌∙◌, ◌⊎◌, inl, inr, ◌<◌, ◌^◌, ℕ, Bool, true, false, List, [], ◌∷◌, map, codes, refl, sym, ap, subst}
 use Rattle.std.proofs.Common.{arith, is_some, IsPermutation}
 use Rattle.std.specs.Bool.{MatchBool}
 use Rattle.std.specs.List.{All}
@@ -55,11 +55,11 @@ printed_at p false n ls =
 -- files that were printed are listed
 files_listed : (A : Type 0) (b : Bool) (ms : List Member) (j : Json) (files : List FileLineModel) (total : ℕ)
     → named member.Files ms ≡ j ∷ []
-    → MatchBool b (A ⊎ (Lacks member.Files ms × (files ≡ []) × (total ≡ 0))) (Lacks member.Files ms × (files ≡ []))
+    → MatchBool b (A ⊎ (Lacks member.Files ms × (files ≡ []) × (total ≡ 0))) (Lacks member.Files ms × (files ≡ []) × (total ≢ 0))
     → (b ≡ true) × A
 files_listed A true ms j files total printed (inl has) = (refl, has)
 files_listed A true ms j files total printed (inr (lacks, none, zero)) = absurd (let empty : j ∷ [] ≡ [] = sym printed ∙ lacks in cc)
-files_listed A false ms j files total printed (lacks, rest) = absurd (let empty : j ∷ [] ≡ [] = sym printed ∙ lacks in cc)
+files_listed A false ms j files total printed (lacks, none, some) = absurd (let empty : j ∷ [] ≡ [] = sym printed ∙ lacks in cc)
 
 -- skipped entries and their number, where they were printed
 abbrev SkippedIn : Bool → List Member → ReadReport → Type 0

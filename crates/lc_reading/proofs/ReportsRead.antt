@@ -1,5 +1,5 @@
 -- The report that is made of an object's members.
-use Rattle.std.proofs.Common.{◌≡◌, ◌∙◌, ◌⊎◌, inl, inr, ℕ, Bool, true, false, List, [], ◌∷◌, map, refl, sym, ap, subst, Option, Some, None}
+use Rattle.std.proofs.Common.{◌≡◌, ◌≢◌, ◌∙◌, ◌⊎◌, inl, inr, ℕ, Bool, true, false, List, [], ◌∷◌, map, refl, sym, ap, subst, Option, Some, None}
 use Rattle.std.proofs.Common.{option_map, Vec, arith}
 use Rattle.std.specs.Global.{Global}
 use Rattle.std.specs.Prelude.{MatchOption, is_some, unwrap_or}
@@ -84,7 +84,7 @@ abbrev FilesOf : List Member → (has_files : Bool) → List FileLineModel → �
 FilesOf ms has_files files total =
     MatchBool has_files
     (HasOrdered IsFileOf (λ f. f.path) name.Files ms files ⊎ (Lacks name.Files ms × (files ≡ []) × (total ≡ 0)))
-    (Lacks name.Files ms × (files ≡ []))
+    (Lacks name.Files ms × (files ≡ []) × (total ≢ 0))
 
 files_among : (ms : List Member) (files : Option (List FileLineModel)) (columns : RowColumns) (rows : List TallyRowModel) (total : Sums)
     (k : Kept)
@@ -95,7 +95,7 @@ files_among ms (Some files) columns rows total k may kept =
 files_among ms None columns rows total k may (inl kept) =
     subst (λ b. FilesOf ms b k.files.items total.files) (sym kept.0.listed) (inr (may, none_of k.files.items kept.0.same, kept.1))
 files_among ms None columns rows total k may (inr kept) =
-    subst (λ b. FilesOf ms b k.files.items total.files) (sym kept.unlisted) (may, kept.none)
+    subst (λ b. FilesOf ms b k.files.items total.files) (sym kept.0.unlisted) (may, kept.0.none, kept.1)
 
 every_column : RowColumns
 every_column = record { ext = true; text = true; eol = true }
@@ -111,7 +111,7 @@ rows_kept (Some files) columns rows total k kept = subst (λ b. RowsKept b k.col
 rows_kept None columns rows total k (inl kept) = subst (λ b. RowsKept b k.columns columns rows k.rows.items) (sym kept.0.listed)
     kept.0.columns_are
 rows_kept None columns rows total k (inr kept) =
-    subst (λ b. RowsKept b k.columns columns rows k.rows.items) (sym kept.unlisted) (kept.columns_are, kept.added)
+    subst (λ b. RowsKept b k.columns columns rows k.rows.items) (sym kept.0.unlisted) (kept.0.columns_are, kept.0.added)
 
 -- the sums over the rows that are kept, and over the files
 pub record SumsKept (total : Sums) (has_files : Bool) (rows : List TallyRowModel) (files : List FileLineModel) : Type 0 where
@@ -128,9 +128,9 @@ sums_kept : (files : Option (List FileLineModel)) (columns : RowColumns) (rows :
 sums_kept (Some files) columns rows total k kept = sums_of_kept total files k kept
 sums_kept None columns rows total k (inl kept) = sums_of_kept total [] k kept.0
 sums_kept None columns rows total k (inr kept) = record {
-  rows_are = kept.rows_are;
-  files_are = λ h. let never : false ≡ true = sym kept.unlisted ∙ h in absurd (cc);
-  tally = λ h. let never : false ≡ true = sym kept.unlisted ∙ h in absurd (cc);
+  rows_are = kept.0.rows_are;
+  files_are = λ h. let never : false ≡ true = sym kept.0.unlisted ∙ h in absurd (cc);
+  tally = λ h. let never : false ≡ true = sym kept.0.unlisted ∙ h in absurd (cc);
 }
 
 -- ---- the whole report
@@ -168,6 +168,7 @@ report_is ms o n rows columns tally k skipped faults r is numbers uncut rows_the
         columns = columns;
         rows = rows.items;
         are = record { has = rows_in; columns_are = columns_are; total_is = made.totals_are ∙ agrees.rows_are ∙ ap sums_of_rows tally_is };
+        nul = λ h. made.binary_is ∙ agrees.rows_nul h ∙ ap binary_sums tally_is;
         kept = subst (λ b. RowsKept b r.columns columns (map row_in rows.items) r.report.rows.items) (sym made.has_files)
             (subst (λ c. RowsKept k.has_files c columns (map row_in rows.items) r.report.rows.items) (sym made.columns_are)
             (subst (λ t. RowsKept k.has_files k.columns columns t r.report.rows.items) tally_is

@@ -1,5 +1,5 @@
 -- The rows and the files of a report, made from those that were read.
-use Rattle.std.specs.Prelude.{◌≡◌, ◌⊎◌, true, false, List, [], map, Option, Some, None, is_some, unwrap_or}
+use Rattle.std.specs.Prelude.{◌≡◌, ◌≢◌, ◌⊎◌, true, false, List, [], map, Option, Some, None, is_some, unwrap_or}
 use Rattle.std.specs.List.Sorted.{IsPermutation, IsSortedByKey}
 use Rattle.lc_level.specs.FaultLines.{FaultLineModel}
 use Rattle.lc_level.specs.Level.{FileLineModel, SkippedLineModel}
@@ -36,12 +36,13 @@ pub record IsKeptRows (total : Sums) (columns : RowColumns) (rows : List TallyRo
 -- the report has the files if they were listed, or if there are none; otherwise it has the rows that were read
 abbrev pub IsKept : Option (List FileLineModel) → RowColumns → List TallyRowModel → Sums → Kept → Type 0
 IsKept (Some files) columns rows total k = IsKeptOf total files k
-IsKept None columns rows total k = (IsKeptOf total [] k × (total.files ≡ 0)) ⊎ IsKeptRows total columns rows k
+IsKept None columns rows total k = (IsKeptOf total [] k × (total.files ≡ 0)) ⊎ (IsKeptRows total columns rows k × (total.files ≢ 0))
 
--- the rows that were read add up to the total, and the rows and files of the report agree with all sums
+-- the rows that were read add up to the total, and those of binary files to the sums of these; so do the rows and files of the report
 pub record Agrees (n : Numbers) (columns : RowColumns) (rows : List TallyRowModel) (files : Option (List FileLineModel)) (k : Kept) :
     Type 0 where
   pub rows_are : n.total ≡ sums_of_rows rows
+  pub rows_nul : columns.eol ≡ true → n.binary ≡ binary_sums rows
   pub kept : IsKept files columns rows n.total k
   pub parts : n.total ≡ plus n.text n.binary
   pub nul : k.columns.eol ≡ true → n.binary ≡ binary_sums k.rows.items

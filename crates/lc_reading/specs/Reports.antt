@@ -1,5 +1,5 @@
 -- The members of a JSON object that is a report, and the report that it is.
-use Rattle.std.specs.Prelude.{◌≡◌, ◌⊎◌, ℕ, true, if◌then◌else◌, List, [], ◌∷◌, map, ⊤, MatchOption}
+use Rattle.std.specs.Prelude.{◌≡◌, ◌≢◌, ◌⊎◌, ℕ, true, if◌then◌else◌, List, [], ◌∷◌, map, ⊤, MatchOption}
 use Rattle.std.specs.Bool.{MatchBool}
 use Rattle.std.specs.List.Sorted.{IsPermutation, IsSortedByKey}
 use Rattle.lc_rows.specs.Classes.{binary_sums, is_binary}
@@ -54,11 +54,13 @@ pub record AreRowsOf (columns : RowColumns) (ms : List Member) (total : Sums) (r
   pub columns_are : HaveColumns columns rows
   pub total_is : total ≡ sums_of_rows (map row_in rows)
 
--- the rows of a report with these members; if files are listed too, the rows have all columns
+-- the rows of a report with these members: those of binary files add up to the sums of these. If files are listed too, the rows have all
+-- columns
 pub record HasRows (ms : List Member) (r : ReadReport) : Type 0 where
   pub columns : RowColumns
   pub rows : List ReadRow
   pub are : AreRowsOf columns ms r.report.totals rows
+  pub nul : columns.eol ≡ true → r.binary ≡ binary_sums (map row_in rows)
   pub kept : MatchBool r.report.lists.files (r.columns ≡ record { ext = true; text = true; eol = true })
       ((r.columns ≡ columns) × AddsUp (map row_in rows) r.report.rows.items)
 
@@ -72,11 +74,11 @@ pub record IsReportOf (ms : List Member) (r : ReadReport) : Type 0 where
   pub entries : MatchBool r.report.lists.left_out (HasNumber member.Entries ms r.report.entries)
       (Lacks member.Entries ms × (r.report.entries ≡ 0))
   pub rows : HasRows ms r
-  -- a report that counts no files has an empty list of files
+  -- a report has a list of files if it lists them, or counts none
   pub files : MatchBool r.report.lists.files
       (HasOrdered IsFileOf (λ f. f.path) member.Files ms r.report.files.items
       ⊎ (Lacks member.Files ms × (r.report.files.items ≡ []) × (r.report.totals.files ≡ 0)))
-      (Lacks member.Files ms × (r.report.files.items ≡ []))
+      (Lacks member.Files ms × (r.report.files.items ≡ []) × (r.report.totals.files ≢ 0))
   pub skipped : MatchBool r.report.lists.left_out (HasOrdered IsSkippedOf (λ l. l.path) member.Left ms r.report.skipped.items)
       (Lacks member.Left ms × (r.report.skipped.items ≡ []))
   pub faults : HasOrdered IsFaultOf (λ f. f.path) member.Faults ms r.report.faults.items

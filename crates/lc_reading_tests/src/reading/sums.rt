@@ -80,6 +80,7 @@ const CASES: &[Case] = &[
     (ONE, [SUM, NONE, SUM], "", PARTS),
     (NUL, [SUM, SUM, NONE], "", PARTS),
     (ONE, [SUM, NONE, SUM], FILE, PARTS),
+    (NUL, [SUM, SUM, NONE], FILE, PARTS),
     (
         "{\"files\":1,\"lines\":2,\"blank\":1,\"bytes\":3}",
         [SUM, NONE, SUM],

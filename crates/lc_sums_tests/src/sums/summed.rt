@@ -1,7 +1,7 @@
 //! Tests of reports that are summed.
 
 use crate::sums::reading::{Text, parts_of};
-use crate::sums::texts::{BY_EOL, BY_EXT, FILES, SKIPPED};
+use crate::sums::texts::{BY_EOL, BY_EXT, FILES, NOTHING, SKIPPED};
 use lc_reading::RowColumns;
 use lc_sheet::Columns;
 use lc_sums::{Needs, Sum, SumFault, summed};
@@ -50,6 +50,18 @@ fn reports_of_files_are_joined(rt: HostRuntime) -> Result<(), Fail> {
     assert!(rt; b.path.as_slice() == b"b.c".as_slice());
     assert!(rt; c.path.as_slice() == b"src/b.c".as_slice());
     assert!(rt; sum.report.skipped.is_empty());
+    Ok(())
+}
+
+#[test]
+fn a_report_of_no_files_lists_all_of_them(rt: HostRuntime) -> Result<(), Fail> {
+    let needs = Needs::of(None, &[], true, false);
+    let sum = sum_of(rt.alloc(), needs, &[("a", NOTHING), ("b", FILES)])?;
+    let Some(sum) = sum else {
+        assert!(rt; false, "not summed");
+        return Ok(());
+    };
+    assert!(rt; sum.report.lists.files && sum.report.files.len() == 2);
     Ok(())
 }
 

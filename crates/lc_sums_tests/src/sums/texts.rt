@@ -39,6 +39,13 @@ pub(super) const SKIPPED: &str =
     \"left\":[{\"path\":\"gen\",\"kind\":\"dir\",\"reason\":\"rule\",\"file\":\".gitignore\",\"line\":1}],\
     \"faults\":[]}";
 
+/// A report that counts no files, without lists of files and of skipped entries.
+pub(super) const NOTHING: &str = "{\"rows\":[],\
+    \"total\":{\"files\":0,\"lines\":0,\"blank\":0,\"bytes\":0},\
+    \"text\":{\"files\":0,\"lines\":0,\"blank\":0,\"bytes\":0},\
+    \"binary\":{\"files\":0,\"lines\":0,\"blank\":0,\"bytes\":0},\
+    \"directories\":1,\"faults\":[]}";
+
 /// A report that counts as many files as a report can.
 pub(super) const LARGEST: &str =
     "{\"rows\":[{\"ext\":\".c\",\"files\":18446744073709551615,\"lines\":0,\"blank\":0,\"bytes\":0}],\
