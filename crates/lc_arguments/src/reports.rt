@@ -1,7 +1,7 @@
 //! The reports of a sum, as in `lc sum v1=v1.json v2=v2.json`.
 
-ghost use Rattle.std.specs.Prelude.{◌≡◌, IfOk, is_some, map, not};
-ghost use Rattle.std.specs.List.{list_all, list_any};
+ghost use Rattle.std.specs.Prelude.{◌≡◌, IfOk, is_some, map, not, option_map};
+ghost use Rattle.std.specs.List.{find, list_all, list_any};
 ghost use Rattle.clap.specs.Matches.{found_of};
 ghost use Rattle.clap.specs.Walk.{rows_of};
 ghost use Rattle.lc_arguments.specs.Explained.{AnswersReports, AnswersReportsIn, IsRefusal};
@@ -64,7 +64,9 @@ fn is_input(word: &str) -> bool
 
 /// Finds the first word that is not a valid `[NAME=]REPORT`.
 fn first_bad<'w>(words: &[&'w str]) -> Option<&'w str>
-    ensures { is_some result ≡ not (list_all (λ word. is_good_report (named_of word)) (map (λ word. word.now) words.now)) }
+    ensures some { is_some result ≡ not (list_all (λ word. is_good_report (named_of word)) (map (λ word. word.now) words.now)) }
+    ensures first { option_map (λ word. word.now) result
+        ≡ find (λ word. not (is_good_report (named_of word))) (map (λ word. word.now) words.now) }
 {
     let mut rest = words;
     'rest: while let [word, others @ ..] = rest {

@@ -23,7 +23,7 @@ module _ {I O E : Type 0} (system : SystemMay) (may : StreamsMay I O E) (words :
   pub ends_shown : (before after : Streams I O E) (ending : Ending) → Shows system may words terminals before ending after
       → Ends system may words terminals before ending after
   ends_shown before after end.Done shows = inr shows
-  ends_shown before after end.SomeFaults (may_show, same, (text, ends)) = absurd ends
-  ends_shown before after end.AnyFile (may_show, same, (text, ends)) = absurd ends
-  ends_shown before after end.Misused (may_show, same, (text, ends)) = absurd ends
+  ends_shown before after end.SomeFaults (may_show, same, (text, is_text, ends)) = absurd ends
+  ends_shown before after end.AnyFile (may_show, same, (text, is_text, ends)) = absurd ends
+  ends_shown before after end.Misused (may_show, same, (text, is_text, ends)) = absurd ends
   ends_shown before after (end.GaveUp cause) shows = inr (inl shows)

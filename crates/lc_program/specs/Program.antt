@@ -15,6 +15,7 @@ use Rattle.lc_program.specs.Systems.{SystemMay}
 use Rattle.lc_program.specs.Tellings.{Tells}
 use Rattle.lc_program.specs.Unlisted.{TellsUnlisted}
 use Rattle.lc_program.specs.Unmatched.{unmatched_in}
+use Rattle.lc_arguments.specs.Naming.{IsNamingError, IsTextOf, named_command}
 use Rattle.lc_arguments.specs.Refusals.{IsMessage}
 use Rattle.lc_arguments.specs.TableWords.{format_in, options_in}
 use Rattle.lc_arguments.specs.Words.{AreRefused, Asks, MayShow, faults_in}
@@ -121,11 +122,13 @@ module _ {I O E : Type 0} (system : SystemMay) (may : StreamsMay I O E) (words :
   GivesUp before cause after =
       (request : Request) × (said : E) × Replies before request (Err cause) after said × TellsCause may.tell said cause after.err
 
-  -- the arguments request a text, such as help. Nothing was read, and the text was shown
+  -- the arguments request a text, such as help. Nothing was read, and the text was shown, which names the arguments of its command, or the
+  -- program
   abbrev pub Shows : Streams I O E → Ending → Streams I O E → Type 0
   Shows before ending after =
       MayShow (faults_in words) × (after.input ≡ before.input)
-      × ((text : List ℕ) × EndsShown may.take may.tell text before.out before.err ending after.out after.err)
+      × ((text : List ℕ) × IsTextOf (named_command words) text
+      × EndsShown may.take may.tell text before.out before.err ending after.out after.err)
 
   abbrev pub Ends : Streams I O E → Ending → Streams I O E → Type 0
   -- a request was answered and all is well, or a text was shown
@@ -134,10 +137,10 @@ module _ {I O E : Type 0} (system : SystemMay) (may : StreamsMay I O E) (words :
   Ends before SomeFaults after = EndsAnswered before SomeFaults after
   -- an answer was written that counts a file, or compares sides that differ, which was to be a failure
   Ends before AnyFile after = EndsAnswered before AnyFile after
-  -- the words fail, nothing was read or written, and why was told, in a message that begins with `error: `
+  -- the words fail, nothing was read or written, and why was told, in a message that begins with `error: ` and names an argument
   Ends before Misused after =
       AreRefused words × (after.input ≡ before.input) × (after.out ≡ before.out)
-      × ((why : List ℕ) × IsMessage why × Tells may.tell before.err why after.err)
+      × ((why : List ℕ) × IsMessage why × IsNamingError words why × Tells may.tell before.err why after.err)
   -- a request was given up for this cause, or a text was not shown, or there was no memory to read the words and their patterns
   Ends before (GaveUp cause) after =
       GivesUp before cause after

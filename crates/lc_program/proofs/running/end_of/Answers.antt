@@ -1,4 +1,5 @@
-use Rattle.std.proofs.Common.{◌∙◌, ℕ, List, inl, inr, refl, string_bytes, subst, sym}
+use Rattle.std.proofs.Common.{◌∙◌, ℕ, List, inl, inr, map, refl, string_bytes, subst, sym}
+use Rattle.lc_arguments.specs.Naming.{IsNamingError, IsTextOf, named_command}
 use Rattle.lc_arguments.specs.Refusals.{IsMessage}
 use Rattle.lc_program.specs.Program.{Advises}
 use Rattle.lc_program.proofs.Endings.{ends_answered, ends_shown}
@@ -21,8 +22,17 @@ returns-in-Err g c =
 
 pub returns-in-Err-Shown : goal.returns-in-Err-Shown
 returns-in-Err-Shown g c =
-    ends_shown _ _ _ _ _ _ c.show.result
-    (rw c.in-Err-Shown.field-0-is at c.in-Err-Shown.ensures.answers, refl, (c.deref.result.now, c.show.ensures))
+    ends_shown _ _ _ _ _ _ c.show.result (
+      rw c.in-Err-Shown.field-0-is at c.in-Err-Shown.ensures.answers,
+      refl,
+      (
+        c.deref.result.now,
+        subst (IsTextOf (named_command (map g.W.AsStr.text c.args.words.now))) (sym c.deref.ensures)
+            (subst (λ text. IsTextOf (named_command (map g.W.AsStr.text c.args.words.now)) (string_bytes text)) (sym c.in-Err-Shown.text-is)
+            (rw c.in-Err-Shown.field-0-is at c.in-Err-Shown.ensures.names)),
+        c.show.ensures,
+      ),
+    )
 
 pub returns-in-Err-Memory : goal.returns-in-Err-Memory
 returns-in-Err-Memory g c = rw c.give_up.ensures.ending (inr (inr (refl, refl, refl, c.give_up.ensures.told)))
@@ -42,6 +52,9 @@ returns-in-Err-Refused g c =
         subst IsMessage (sym c.deref-in-Err-Refused.ensures)
             (subst (λ why. IsMessage (string_bytes why)) (sym c.in-Err-Refused.why-is)
             (rw c.in-Err-Refused.field-0-is at c.in-Err-Refused.ensures.visible)),
+        subst (IsNamingError (map g.W.AsStr.text c.args.words.now)) (sym c.deref-in-Err-Refused.ensures)
+            (subst (λ why. IsNamingError (map g.W.AsStr.text c.args.words.now) (string_bytes why)) (sym c.in-Err-Refused.why-is)
+            (rw c.in-Err-Refused.field-0-is at c.in-Err-Refused.ensures.names)),
         c.misuse.ensures.told,
       ),
     )
