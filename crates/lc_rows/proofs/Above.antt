@@ -1,6 +1,10 @@
 -- Rows that are added to the directories right above theirs, level by level.
 use Rattle.std.proofs.Common.{◌≡◌, ℕ, ◌+◌, ◌-◌, ◌<◌, ◌≤◌, min, suc, zero, Bool, true, false, ◌||◌, List, [], ◌∷◌, ◌++◌, map}
-use Rattle.std.proofs.Common.{length, nat_le, Option, Some, None, option_map, refl, sym, ◌∙◌, ap, subst, arith}
+use Rattle.std.proofs.Common.{length, nat_le, Option, Some, None, option_map, refl, sym, ◌∙◌, ap, ap₂, subst, arith, append_assoc}
+use Rattle.std.specs.List.{slice_index_or}
+use Rattle.std.specs.List.Sorted.{IsNonDecreasingBy}
+use Rattle.std.proofs.lemmas.List.Elements.{filter-append}
+use Rattle.lc_walk.specs.Sums.{plus}
 use Rattle.std.specs.List.{flat_map, list_any, range_with_len, sum_by}
 use Rattle.std.proofs.lemmas.Bool.Decides.{nat_tests}
 use Rattle.std.proofs.lemmas.Grind.{flat_map-append}
@@ -12,11 +16,11 @@ use Rattle.lc_walk.proofs.Filtered.{part, sum_by-filter}
 use Rattle.lc_walk.proofs.RowSums.{same_sums}
 use Rattle.lc_walk.specs.declared.tally.sums.Sums.{Sums}
 use Rattle.lc_rows.specs.Directories.{first_names}
-use Rattle.lc_rows.specs.LevelParts.{HaveSumsOf, key_at, level_in, level_parts, level_to, next_above, next_at, own_row, row_at}
-use Rattle.lc_rows.specs.RowKeys.{RowKey, ShownRowModel, has_within, row_key, row_with, rows_within}
+use Rattle.lc_rows.specs.LevelParts.{AreBelow, HaveSumsOf, height, key_at, level_in, level_parts, level_to, next_above, next_at, own_row, row_at}
+use Rattle.lc_rows.specs.RowKeys.{RowKey, ShownRowModel, has_within, row_key, row_with, rows_within, sums_of_shown}
 use Rattle.lc_rows.specs.ShownRows.{AreAddedUp}
 use Rattle.lc_rows.proofs.Levels.{first_again, level_of_first}
-use Rattle.lc_rows.proofs.TreeParts.{any_part, levels_sum, reaches, same_below}
+use Rattle.lc_rows.proofs.TreeParts.{raised_parts, same_below}
 
 -- ---- one row
 
@@ -50,6 +54,33 @@ no_next n r none = ap (λ m. next_at m r) none
 
 pub one_next : (n : ℕ) (r : ShownRowModel) (j : ℕ) → level_to n (row_key r) ≡ suc j → next_above n r ≡ row_at j r ∷ []
 one_next n r j is = ap (λ m. next_at m r) is
+
+-- ---- rows of the same sums
+
+have_same : (rs : List ShownRowModel) → HaveSumsOf rs rs
+have_same rs = record { sums = λ keys. refl; present = λ keys. refl }
+
+have_further : (xs ys zs : List ShownRowModel) → HaveSumsOf xs ys → HaveSumsOf ys zs → HaveSumsOf xs zs
+have_further xs ys zs a b = record { sums = λ keys. b.sums keys ∙ a.sums keys; present = λ keys. b.present keys ∙ a.present keys }
+
+have_added : (xs ys : List ShownRowModel) → AreAddedUp xs ys → HaveSumsOf xs ys
+have_added xs ys added = record { sums = added.sums; present = added.present }
+
+sums_of_both : (xs ys : List ShownRowModel) → sums_of_shown (xs ++ ys) ≡ plus (sums_of_shown xs) (sums_of_shown ys)
+sums_of_both xs ys =
+    same_sums _ _ (sum_by-append (λ r. r.sums.files) xs ys) (sum_by-append (λ r. r.sums.lines) xs ys)
+    (sum_by-append (λ r. r.sums.blank) xs ys) (sum_by-append (λ r. r.sums.bytes) xs ys)
+
+have_both : (ws xs ys zs : List ShownRowModel) → HaveSumsOf ws xs → HaveSumsOf ys zs → HaveSumsOf (ws ++ ys) (xs ++ zs)
+have_both ws xs ys zs a b =
+    let within : (keys : RowKey → Bool) (us vs : List ShownRowModel)
+    → sums_of_shown (rows_within keys (us ++ vs)) ≡ plus (sums_of_shown (rows_within keys us)) (sums_of_shown (rows_within keys vs)) =
+    λ keys us vs. ap sums_of_shown (filter-append (λ r. keys (row_key r)) us vs) ∙ sums_of_both (rows_within keys us) (rows_within keys vs) in
+    record {
+      sums = λ keys. within keys xs zs ∙ ap₂ plus (a.sums keys) (b.sums keys) ∙ sym (within keys ws ys);
+      present = λ keys. list_any-append (λ r. keys (row_key r)) xs zs ∙ ap₂ (λ c d. c || d) (a.present keys) (b.present keys)
+          ∙ sym (list_any-append (λ r. keys (row_key r)) ws ys);
+    }
 
 -- ---- rows
 
@@ -95,20 +126,36 @@ module _ (n : ℕ) where
       ∙ or_moved (list_any p first) (p (own_row n r)) (list_any p (map (own_row n) rs)) (list_any p others)
       ∙ ap (λ b. (p (own_row n r) || list_any p (map (own_row n) rs)) || b) (sym apart)
 
+  raised_alike : (rs : List ShownRowModel)
+      → HaveSumsOf (flat_map (level_parts n) rs) (map (own_row n) rs ++ flat_map (level_parts n) (flat_map (next_above n) rs))
+  raised_alike rs =
+      let others : List ShownRowModel = flat_map (level_parts n) (flat_map (next_above n) rs) in
+      let one : (keys : RowKey → Bool) (v : Sums → ℕ)
+      → sum_by (λ (r : ShownRowModel). v r.sums) (rows_within keys (map (own_row n) rs ++ others))
+      ≡ sum_by (λ (r : ShownRowModel). v r.sums) (rows_within keys (flat_map (level_parts n) rs)) =
+      λ keys v. (
+      let p : ShownRowModel → Bool = λ r. keys (row_key r) in
+      let u : ShownRowModel → ℕ = λ r. v r.sums in
+      sum_by-filter p u (map (own_row n) rs ++ others) ∙ sum_by-append (part p u) (map (own_row n) rs) others
+      ∙ sym (raised_sum (part p u) rs) ∙ sym (sum_by-filter p u (flat_map (level_parts n) rs))
+      ) in
+      record {
+        sums = λ keys. same_sums _ _ (one keys (λ s. s.files)) (one keys (λ s. s.lines)) (one keys (λ s. s.blank))
+            (one keys (λ s. s.bytes));
+        present = λ keys. list_any-append (λ (r : ShownRowModel). keys (row_key r)) (map (own_row n) rs) others
+            ∙ sym (raised_any (λ (r : ShownRowModel). keys (row_key r)) rs);
+      }
+
   -- ---- the rows that are left
 
-  -- no row has so many directories above its own, or more
-  abbrev pub AreBelow : ℕ → List ShownRowModel → Type 0
-  AreBelow left rs = has_within (λ k. nat_le left (level_to n k)) rs ≡ false
-
-  below_all : (rs : List ShownRowModel) → AreBelow (n + 1) rs
+  below_all : (rs : List ShownRowModel) → AreBelow n (n + 1) rs
   below_all [] = refl
   below_all (r ∷ rs) =
       let high : nat_le (n + 1) (level_to n (row_key r)) ≡ false = grind (arith, nat_tests) in
       ap (λ b. b || has_within (λ k. nat_le (n + 1) (level_to n k)) rs) high ∙ below_all rs
 
   next_below : (left : ℕ) (r : ShownRowModel) (m : ℕ) → m ≡ level_to n (row_key r) → nat_le left m ≡ false
-      → AreBelow (left - 1) (next_at m r)
+      → AreBelow n (left - 1) (next_at m r)
   next_below left r zero is low = refl
   next_below left r (suc j) is low =
       let deep = level_cut r.directory j in
@@ -119,7 +166,7 @@ module _ (n : ℕ) where
   both_none true b e = absurd (cc)
   both_none false b e = (refl, e)
 
-  below_next : (left : ℕ) (rs : List ShownRowModel) → AreBelow left rs → AreBelow (left - 1) (flat_map (next_above n) rs)
+  below_next : (left : ℕ) (rs : List ShownRowModel) → AreBelow n left rs → AreBelow n (left - 1) (flat_map (next_above n) rs)
   below_next left [] low = refl
   below_next left (r ∷ rs) low =
       let p : ShownRowModel → Bool = λ q. nat_le (left - 1) (level_to n (row_key q)) in
@@ -128,83 +175,80 @@ module _ (n : ℕ) where
       ∙ ap (λ b. b || list_any p (flat_map (next_above n) rs)) (next_below left r (level_to n (row_key r)) refl parts.0)
       ∙ below_next left rs parts.1
 
-  pub some_left : (left : ℕ) (rs : List ShownRowModel) → AreBelow left rs → 0 < length rs → 0 < left
-  some_left zero (r ∷ rs) low some =
+  below_both : (left : ℕ) (xs ys : List ShownRowModel) → AreBelow n left xs → AreBelow n left ys → AreBelow n left (xs ++ ys)
+  below_both left xs ys a b =
+      list_any-append (λ (r : ShownRowModel). nat_le left (level_to n (row_key r))) xs ys
+      ∙ ap (λ c. c || has_within (λ k. nat_le left (level_to n k)) ys) a ∙ b
+
+  none_below : (rs : List ShownRowModel) → AreBelow n 0 rs → rs ≡ []
+  none_below [] low = refl
+  none_below (r ∷ rs) low =
       let all : nat_le 0 (level_to n (row_key r)) ≡ true = grind (arith, nat_tests) in
       let both = both_none (nat_le 0 (level_to n (row_key r))) (has_within (λ k. nat_le 0 (level_to n k)) rs) low in
       absurd (cc)
-  some_left zero [] low some = absurd (omega arith)
-  some_left (suc left) rs low some = omega arith
 
--- the rows so far, with what the other rows add to the directories above them
-pub record IsRaised (n : ℕ) (rows all rest : List ShownRowModel) (left : ℕ) : Type 0 where
-  pub same : HaveSumsOf (flat_map (level_parts n) rows) (all ++ flat_map (level_parts n) rest)
-  pub low : has_within (λ k. nat_le left (level_to n k)) rest ≡ false
+  -- rows of a greater height than that of a level are below it
+  pub below_from : (level : ℕ) (rs : List ShownRowModel)
+      → ((j : ℕ) (d : ShownRowModel) → j < length rs → level_to n (row_key (slice_index_or rs j d)) < level) → AreBelow n level rs
+  below_from level [] low = refl
+  below_from level (r ∷ rs) low =
+      let first = low 0 r (omega arith) in
+      let high : nat_le level (level_to n (row_key r)) ≡ false = grind (arith, nat_tests) in
+      ap (λ b. b || has_within (λ k. nat_le level (level_to n k)) rs) high
+      ∙ below_from level rs (λ j d there. low (suc j) d (omega arith))
 
-pub raised_first : (n : ℕ) (rows : List ShownRowModel) → IsRaised n rows [] rows (n + 1)
-raised_first n rows = record { same = record { sums = λ keys. refl; present = λ keys. refl }; low = below_all n rows }
+-- the rows so far, with what the raised rows and the other rows add to the directories above theirs
+pub record IsRaised (n : ℕ) (rows all raised rest : List ShownRowModel) (left : ℕ) : Type 0 where
+  pub same : HaveSumsOf (flat_map (level_parts n) rows) (all ++ flat_map (level_parts n) (raised ++ rest))
+  pub low : AreBelow n left (raised ++ rest)
+  pub order : IsNonDecreasingBy (height n) rest
 
-module _ (n : ℕ) (all rest above : List ShownRowModel) (added : AreAddedUp (flat_map (next_above n) rest) above) where
-  raised_number : (keys : RowKey → Bool) (v : Sums → ℕ)
-      → ((set : RowKey → Bool) → sum_by (λ (r : ShownRowModel). v r.sums) (rows_within set above)
-      ≡ sum_by (λ (r : ShownRowModel). v r.sums) (rows_within set (flat_map (next_above n) rest)))
-      → sum_by (λ (r : ShownRowModel). v r.sums) (rows_within keys ((all ++ map (own_row n) rest) ++ flat_map (level_parts n) above))
-      ≡ sum_by (λ (r : ShownRowModel). v r.sums) (rows_within keys (all ++ flat_map (level_parts n) rest))
-  raised_number keys v same =
-      let p : ShownRowModel → Bool = λ r. keys (row_key r) in
-      let u : ShownRowModel → ℕ = λ r. v r.sums in
-      let g : ShownRowModel → ℕ = part p u in
-      let next : List ShownRowModel = flat_map (level_parts n) (flat_map (next_above n) rest) in
-      let above_sum : sum_by g (flat_map (level_parts n) above) ≡ sum_by g next =
-      sym (sum_by-filter p u (flat_map (level_parts n) above)) ∙ levels_sum n keys v (flat_map (next_above n) rest) above same
-      ∙ sum_by-filter p u next in
-      sum_by-filter p u ((all ++ map (own_row n) rest) ++ flat_map (level_parts n) above)
-      ∙ omega (
-        arith,
-        above_sum,
-        sum_by-append g (all ++ map (own_row n) rest) (flat_map (level_parts n) above),
-        sum_by-append g all (map (own_row n) rest),
-        sum_by-append g all (flat_map (level_parts n) rest),
-        raised_sum n g rest,
-      )
-      ∙ sym (sum_by-filter p u (all ++ flat_map (level_parts n) rest))
+pub raised_first : (n : ℕ) (rows : List ShownRowModel) → IsNonDecreasingBy (height n) rows → IsRaised n rows [] [] rows (n + 1)
+raised_first n rows order = record { same = have_same (flat_map (level_parts n) rows); low = below_all n rows; order = order }
 
-  or_apart : (a b c d e : Bool) → c ≡ e → d ≡ (b || e) → ((a || b) || c) ≡ (a || d)
-  or_apart true b c d e f g = refl
-  or_apart false b c d e f g = ap (λ x. b || x) f ∙ sym g
+-- one level more: the raised rows and some others are added up, and what they add to the next level is raised
+module _ (n : ℕ) (rows all raised rest parts others level above : List ShownRowModel) (left : ℕ) (was : IsRaised n rows all raised rest left)
+    (apart : parts ++ others ≡ raised ++ rest) (added : AreAddedUp parts level) (next : AreAddedUp (flat_map (next_above n) level) above) where
+  abbrev with_above : List ShownRowModel → List ShownRowModel
+  with_above rs = flat_map (level_parts n) rs
 
-  raised_present : (keys : RowKey → Bool)
-      → has_within keys ((all ++ map (own_row n) rest) ++ flat_map (level_parts n) above)
-      ≡ has_within keys (all ++ flat_map (level_parts n) rest)
-  raised_present keys =
-      let p : ShownRowModel → Bool = λ r. keys (row_key r) in
-      let next : List ShownRowModel = flat_map (level_parts n) (flat_map (next_above n) rest) in
-      let above_any : list_any p (flat_map (level_parts n) above) ≡ list_any p next =
-      any_part n keys above ∙ added.present (reaches n keys) ∙ sym (any_part n keys (flat_map (next_above n) rest)) in
-      list_any-append p (all ++ map (own_row n) rest) (flat_map (level_parts n) above)
-      ∙ ap (λ b. b || list_any p (flat_map (level_parts n) above)) (list_any-append p all (map (own_row n) rest))
-      ∙ or_apart (list_any p all) (list_any p (map (own_row n) rest)) (list_any p (flat_map (level_parts n) above))
-      (list_any p (flat_map (level_parts n) rest)) (list_any p next) above_any (raised_any n p rest)
-      ∙ sym (list_any-append p all (flat_map (level_parts n) rest))
+  one_level : HaveSumsOf (with_above parts) (map (own_row n) level ++ with_above above)
+  one_level =
+      have_further (with_above parts) (with_above level) (map (own_row n) level ++ with_above above)
+      (raised_parts n parts level (have_added parts level added))
+      (have_further (with_above level) (map (own_row n) level ++ with_above (flat_map (next_above n) level))
+      (map (own_row n) level ++ with_above above) (raised_alike n level)
+      (have_both (map (own_row n) level) (map (own_row n) level) (with_above (flat_map (next_above n) level)) (with_above above)
+      (have_same (map (own_row n) level)) (raised_parts n (flat_map (next_above n) level) above (have_added _ above next))))
 
-  -- one level more
-  pub raised_more : (rows after : List ShownRowModel) (left : ℕ) → IsRaised n rows all rest left → after ≡ all ++ map (own_row n) rest
-      → IsRaised n rows after above (left - 1)
-  raised_more rows after left raised are =
-      subst (λ l. IsRaised n rows l above (left - 1)) (sym are) (record {
-        same = record {
-          sums = λ keys. same_sums _ _ (raised_number keys (λ s. s.files) (λ set. ap (λ (s : Sums). s.files) (added.sums set)))
-              (raised_number keys (λ s. s.lines) (λ set. ap (λ (s : Sums). s.lines) (added.sums set)))
-              (raised_number keys (λ s. s.blank) (λ set. ap (λ (s : Sums). s.blank) (added.sums set)))
-              (raised_number keys (λ s. s.bytes) (λ set. ap (λ (s : Sums). s.bytes) (added.sums set)))
-              ∙ raised.same.sums keys;
-          present = λ keys. raised_present keys ∙ raised.same.present keys;
-        };
-        low = added.present (λ k. nat_le (left - 1) (level_to n k)) ∙ below_next n left rest raised.low;
-      })
+  before : all ++ (with_above parts ++ with_above others) ≡ all ++ with_above (raised ++ rest)
+  before = ap (λ l. all ++ l) (sym (flat_map-append (level_parts n) parts others) ∙ ap with_above apart)
 
-pub raised_all : (n : ℕ) (rows all rest : List ShownRowModel) (left : ℕ) → IsRaised n rows all rest left → rest ≡ []
+  after : all ++ ((map (own_row n) level ++ with_above above) ++ with_above others)
+      ≡ (all ++ map (own_row n) level) ++ with_above (above ++ others)
+  after = rw (flat_map-append (level_parts n) above others) (simp append_assoc)
+
+  pub raised_more : IsNonDecreasingBy (height n) others → AreBelow n (left - 1) others
+      → IsRaised n rows (all ++ map (own_row n) level) above others (left - 1)
+  raised_more order low = record {
+    same = have_further (with_above rows) (all ++ with_above (raised ++ rest))
+        ((all ++ map (own_row n) level) ++ with_above (above ++ others)) was.same
+        (subst (λ l. HaveSumsOf l ((all ++ map (own_row n) level) ++ with_above (above ++ others))) before
+        (subst (HaveSumsOf (all ++ (with_above parts ++ with_above others))) after
+        (have_both all all (with_above parts ++ with_above others) _ (have_same all)
+        (have_both (with_above parts) (map (own_row n) level ++ with_above above) (with_above others) (with_above others) one_level
+        (have_same (with_above others))))));
+    low = below_both n (left - 1) above others
+        (next.present (λ k. nat_le (left - 1) (level_to n k)) ∙ below_next n left level
+        (added.present (λ k. nat_le left (level_to n k)) ∙ (both_none n (has_within (λ k. nat_le left (level_to n k)) parts) _
+        (sym (list_any-append (λ (r : ShownRowModel). nat_le left (level_to n (row_key r))) parts others)
+        ∙ subst (AreBelow n left) (sym apart) was.low)).0)) low;
+    order = order;
+  }
+
+pub raised_all : (n : ℕ) (rows all raised rest : List ShownRowModel) (left : ℕ) → IsRaised n rows all raised rest left → left ≡ 0
     → HaveSumsOf (flat_map (level_parts n) rows) all
-raised_all n rows all rest left raised none =
+raised_all n rows all raised rest left was none =
+    let empty : raised ++ rest ≡ [] = none_below n (raised ++ rest) (subst (λ l. AreBelow n l (raised ++ rest)) none was.low) in
     subst (HaveSumsOf (flat_map (level_parts n) rows)) (append-nil all)
-    (subst (λ l. HaveSumsOf (flat_map (level_parts n) rows) (all ++ flat_map (level_parts n) l)) none raised.same)
+    (subst (λ l. HaveSumsOf (flat_map (level_parts n) rows) (all ++ flat_map (level_parts n) l)) empty was.same)

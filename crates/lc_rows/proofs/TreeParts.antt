@@ -2,6 +2,7 @@
 use Rattle.std.proofs.Common.{◌≡◌, ℕ, ◌+◌, ◌<◌, ◌≤◌, min, suc, zero, Bool, true, false, cond, ◌&&◌, ◌||◌, List, [], ◌∷◌, ◌++◌, map}
 use Rattle.std.proofs.Common.{nat_le, Some, refl, sym, ◌∙◌, ap, subst, arith}
 use Rattle.std.specs.List.{flat_map, list_any, range_with_len, sum_by}
+use Rattle.std.specs.List.Sorted.{IsPermutation}
 use Rattle.std.proofs.lemmas.Bool.Decides.{nat_tests}
 use Rattle.std.proofs.lemmas.List.Folds.{list_any-append}
 use Rattle.std.proofs.lemmas.List.FromFn.{map-range_with_len_more}
@@ -17,6 +18,7 @@ use Rattle.lc_rows.specs.RowKeys.{RowKey, ShownRowModel, has_within, row_key, ro
 use Rattle.lc_rows.specs.ShownRows.{AreAddedUp, file_key, key_in, part_of_file}
 use Rattle.lc_rows.specs.TreeRows.{levels_above, parts_above, tree_parts}
 use Rattle.lc_rows.proofs.Levels.{first_again, level_at}
+use Rattle.lc_rows.proofs.Folding.{alike_permuted, alike_sums}
 use Rattle.lc_rows.proofs.TreeLaw.{one_more}
 use Rattle.lc_level.specs.Level.{FileLineModel}
 
@@ -145,15 +147,15 @@ module _ (n : ℕ) (keys : RowKey → Bool) where
         sum_by-filter p u (flat_map (level_parts n) new) ∙ rows_sum new ∙ exchanged old new same (suc n) ∙ sym (rows_sum old)
         ∙ sym (sum_by-filter p u (flat_map (level_parts n) old))
 
--- rows and their parts add the same to the directories above them
-pub raised_parts : (n : ℕ) (parts rows : List ShownRowModel) → AreAddedUp parts rows
+-- rows of the same sums add the same to the directories above them
+pub raised_parts : (n : ℕ) (parts rows : List ShownRowModel) → HaveSumsOf parts rows
     → HaveSumsOf (flat_map (level_parts n) parts) (flat_map (level_parts n) rows)
-raised_parts n parts rows added = record {
-  sums = λ keys. same_sums _ _ (levels_sum n keys (λ s. s.files) parts rows (λ set. ap (λ (s : Sums). s.files) (added.sums set)))
-      (levels_sum n keys (λ s. s.lines) parts rows (λ set. ap (λ (s : Sums). s.lines) (added.sums set)))
-      (levels_sum n keys (λ s. s.blank) parts rows (λ set. ap (λ (s : Sums). s.blank) (added.sums set)))
-      (levels_sum n keys (λ s. s.bytes) parts rows (λ set. ap (λ (s : Sums). s.bytes) (added.sums set)));
-  present = λ keys. any_part n keys rows ∙ added.present (reaches n keys) ∙ sym (any_part n keys parts);
+raised_parts n parts rows same = record {
+  sums = λ keys. same_sums _ _ (levels_sum n keys (λ s. s.files) parts rows (λ set. ap (λ (s : Sums). s.files) (same.sums set)))
+      (levels_sum n keys (λ s. s.lines) parts rows (λ set. ap (λ (s : Sums). s.lines) (same.sums set)))
+      (levels_sum n keys (λ s. s.blank) parts rows (λ set. ap (λ (s : Sums). s.blank) (same.sums set)))
+      (levels_sum n keys (λ s. s.bytes) parts rows (λ set. ap (λ (s : Sums). s.bytes) (same.sums set)));
+  present = λ keys. any_part n keys rows ∙ same.present (reaches n keys) ∙ sym (any_part n keys parts);
 }
 
 -- ---- the parts of files
@@ -174,11 +176,15 @@ files_levels n by (f ∷ fs) =
     ∙ ap (λ l. parts_above n by f ++ l) (files_levels n by fs)
 
 -- the rows of directories with files, added to all directories above them, are what all files add up to
-pub added_tree : (n : ℕ) (by : Columns) (fs : List FileLineModel) (rows all added : List ShownRowModel)
-    → AreAddedUp (map (part_of_file by n) fs) rows → HaveSumsOf (flat_map (level_parts n) rows) all → AreAddedUp all added
-    → AreAddedUp (tree_parts n by fs) added
-added_tree n by fs rows all added first raised last =
-    let parts = raised_parts n (map (part_of_file by n) fs) rows first in
+pub added_tree : (n : ℕ) (by : Columns) (fs : List FileLineModel) (rows sorted all added : List ShownRowModel)
+    → AreAddedUp (map (part_of_file by n) fs) rows → IsPermutation rows sorted → HaveSumsOf (flat_map (level_parts n) sorted) all
+    → AreAddedUp all added → AreAddedUp (tree_parts n by fs) added
+added_tree n by fs rows sorted all added first moved raised last =
+    let alike = alike_permuted rows sorted moved in
+    let parts = raised_parts n (map (part_of_file by n) fs) sorted (record {
+      sums = λ keys. alike_sums rows sorted alike keys ∙ first.sums keys;
+      present = λ keys. alike.present keys ∙ first.present keys;
+    }) in
     subst (λ ps. AreAddedUp ps added) (files_levels n by fs) (record {
       sums = λ keys. last.sums keys ∙ raised.sums keys ∙ parts.sums keys;
       present = λ keys. last.present keys ∙ raised.present keys ∙ parts.present keys;

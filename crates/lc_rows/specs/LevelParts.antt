@@ -1,5 +1,5 @@
 -- What the row of a directory adds to the directories above it.
-use Rattle.std.specs.Prelude.{◌≡◌, ℕ, ◌+◌, min, suc, zero, Bool, List, [], ◌∷◌, map, Option, Some, None, option_map}
+use Rattle.std.specs.Prelude.{◌≡◌, ℕ, ◌+◌, ◌-◌, nat_le, false, min, suc, zero, Bool, List, [], ◌∷◌, map, Option, Some, None, option_map}
 use Rattle.std.specs.List.{range_with_len}
 use Rattle.lc_rows.specs.Directories.{first_names, level_of}
 use Rattle.lc_rows.specs.RowKeys.{RowKey, ShownRowModel, has_within, row_key, row_with, rows_within, sums_of_shown}
@@ -16,6 +16,10 @@ level_in (Some directory) = level_of directory
 -- the level of a key's directory in a tree whose directories are cut after n names
 abbrev pub level_to : ℕ → RowKey → ℕ
 level_to n k = min n (level_in k.directory)
+
+-- how many levels a row is above the deepest directories that there can be
+abbrev pub height : ℕ → ShownRowModel → ℕ
+height n r = n - level_to n (row_key r)
 
 -- what a row adds to a directory above its own: the row, with its directory cut after this many names
 abbrev pub row_at : ℕ → ShownRowModel → ShownRowModel
@@ -36,6 +40,10 @@ next_at (suc level) r = row_at level r ∷ []
 
 abbrev pub next_above : ℕ → ShownRowModel → List ShownRowModel
 next_above n r = next_at (level_to n (row_key r)) r
+
+-- no row has this many directories above its own, or more
+abbrev pub AreBelow : ℕ → ℕ → List ShownRowModel → Type 0
+AreBelow n level rs = has_within (λ k. nat_le level (level_to n k)) rs ≡ false
 
 -- for each set of keys, rows and parts have the same sums, and some row has a key of the set if some part has
 pub record HaveSumsOf (parts rows : List ShownRowModel) : Type 0 where

@@ -1,17 +1,17 @@
 //! The rows of a tree of directories. The row of a directory has the sums over all files in the directory and below it.
 
-ghost use Rattle.std.specs.Prelude.{◌≡◌, ◌≤◌, ◌++◌, min, map, option_map, IfOk, OnOk};
+ghost use Rattle.std.specs.Prelude.{◌≡◌, ◌≤◌, ◌++◌, drop, length, min, map, option_map, IfOk, OnOk};
 ghost use Rattle.std.specs.List.{flat_map};
-ghost use Rattle.std.specs.List.Sorted.{IsPermutation, IsSortedByKey};
+ghost use Rattle.std.specs.List.Sorted.{IsNonDecreasingBy, IsPermutation, IsSortedByKey};
 ghost use Rattle.lc_rows.specs.Directories.{first_names};
-ghost use Rattle.lc_rows.specs.LevelParts.{HaveSumsOf, level_in, level_parts, next_above, own_row, row_at};
+ghost use Rattle.lc_rows.specs.LevelParts.{AreBelow, HaveSumsOf, height, level_in, level_parts, next_above, own_row, row_at};
 ghost use Rattle.lc_rows.specs.RowKeys.{row_key};
 ghost use Rattle.lc_rows.specs.ShownRows.{AreAddedUp, part_of_file};
 ghost use Rattle.lc_rows.specs.TreeRows.{AreTreeRows, depth_first_cmp};
 
 use crate::adding_up::added_up;
 use crate::directories::{first_names, level_of};
-use crate::parts::{Part, file_parts, shown_parts};
+use crate::parts::{Part, file_parts, push_shown, shown_parts};
 use crate::row_key::RowKeyRef;
 use crate::shown_row::ShownRow;
 use lc_sheet::Columns;
@@ -109,26 +109,71 @@ fn rows_above<'a>(
     Ok(above)
 }
 
-/// Returns the rows, and rows of what they add to each directory above their own.
-///
-/// The function goes up level by level. What rows add to the same directory is first added up into one row for each key. Only this row is
-/// added to the next directory above.
-fn with_rows_above<'a>(
+/// Returns how many levels a row is above the deepest directories that there can be.
+fn height(depth: u32, row: &ShownRow<'_>) -> usize
+    ensures { result ≡ height depth row.now }
+{
+    depth as usize - levels_above(depth, row.directory)
+}
+
+/// Sorts rows by their heights, the deepest first.
+fn sort_by_height(depth: u32, rows: &mut Vec<ShownRow<'_>>)
+    ensures same { IsPermutation rows.old.items rows.new.items }
+    ensures order { IsNonDecreasingBy (height depth) rows.new.items }
+{
+    rows.sort_unstable_by_key(|row| height(depth, row));
+}
+
+/// Returns how many rows come before the first row with fewer than `level` directories above its own. The deepest rows come first.
+fn count_to_level(depth: u32, level: usize, rows: &[ShownRow<'_>]) -> usize
+    requires level { level ≤ depth }
+    requires order { IsNonDecreasingBy (height depth) rows.now }
+    ensures few { result ≤ length rows.now }
+    ensures below { AreBelow depth level (drop result rows.now) }
+{
+    let most = depth as usize - level;
+    rows.partition_point(|row| height(depth, row) <= most)
+}
+
+/// Adds up the rows that were raised to a level, and the rows of this level.
+fn level_rows<'a>(
     alloc: Global,
-    rows: Vec<ShownRow<'a>>,
+    raised: &[ShownRow<'a>],
+    here: &[ShownRow<'a>],
+) -> Result<Vec<ShownRow<'a>>, AllocError>
+    ensures { IfOk result (λ rows. AreAddedUp (raised.now ++ here.now) rows.items) }
+{
+    let mut parts = shown_parts(alloc, raised)?;
+    push_shown(&mut parts, here)?;
+    let rows = added_up(alloc, parts)?;
+    Ok(rows)
+}
+
+/// Returns a row of what rows add to each directory that is theirs or above theirs, one for each key. The deepest rows come first.
+///
+/// The function goes up level by level. What a level adds to a directory above is added up with the rows of the next level, so each
+/// directory is looked at once.
+fn all_levels<'a>(
+    alloc: Global,
+    rows: &[ShownRow<'a>],
     depth: u32,
 ) -> Result<Vec<ShownRow<'a>>, AllocError>
-    ensures { IfOk result (λ all. HaveSumsOf (flat_map (level_parts depth) rows.entry.items) all.items) }
+    requires { IsNonDecreasingBy (height depth) rows.now }
+    ensures { IfOk result (λ all. HaveSumsOf (flat_map (level_parts depth) rows.now) all.items) }
 {
     let mut all = Vec::new(alloc);
-    let mut rest = rows;
-    // The rest has fewer levels than this, so the loop ends.
+    let mut raised = Vec::new(alloc);
+    // How many rows are raised, and how many levels the other rows have at most.
+    let mut done = 0;
     let mut left = depth as usize + 1;
-    'levels: while !rest.is_empty() {
-        push_own(depth, &rest, &mut all)?;
-        let above = rows_above(alloc, depth, &rest)?;
-        rest = above;
-        left = left.saturating_sub(1);
+    'levels: while left > 0 {
+        left -= 1;
+        let rest = &rows[done..];
+        let here = count_to_level(depth, left, rest);
+        let level = level_rows(alloc, &raised, &rest[..here])?;
+        push_own(depth, &level, &mut all)?;
+        raised = rows_above(alloc, depth, &level)?;
+        done += here;
     }
     Ok(all)
 }
@@ -170,8 +215,8 @@ fn sort(rows: &mut Vec<ShownRow<'_>>)
 /// If rows are also grouped by other columns, a directory has a row for each key of the files in it and below it. The value of `by.dir`
 /// makes no difference. An error means that an allocation failed or that sums overflow.
 ///
-/// The function takes 56 bytes of memory for each file. The files of a directory are first added up in this directory. Only the sums are
-/// added to the directory above. So a deep tree takes more time for each directory, but not for each file.
+/// The function takes 56 bytes of memory for each file. The files of a directory are first added up in this directory, and only the sums are
+/// added to the directory above, after what all directories in this directory add to it. So a deep tree takes no more rows than a flat one.
 pub fn tree_rows<'a>(
     alloc: Global,
     files: &'a [FileLine],
@@ -180,8 +225,9 @@ pub fn tree_rows<'a>(
 ) -> Result<Vec<ShownRow<'a>>, AllocError>
     ensures { IfOk result (λ rows. AreTreeRows depth by files.entry.now rows.items) }
 {
-    let with_files = rows_with_files(alloc, files, by, depth)?;
-    let all = with_rows_above(alloc, with_files, depth)?;
+    let mut with_files = rows_with_files(alloc, files, by, depth)?;
+    sort_by_height(depth, &mut with_files);
+    let all = all_levels(alloc, &with_files, depth)?;
     let mut rows = rows_added_up(alloc, &all)?;
     sort(&mut rows);
     Ok(rows)

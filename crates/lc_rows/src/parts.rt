@@ -1,6 +1,6 @@
 //! The parts that the rows of a table add up: the rows of a report, or its files.
 
-ghost use Rattle.std.specs.Prelude.{◌≡◌, map, IfOk};
+ghost use Rattle.std.specs.Prelude.{◌≡◌, ◌++◌, map, IfOk, OnOk};
 ghost use Rattle.lc_rows.specs.Parts.{sums_of_source};
 ghost use Rattle.lc_rows.specs.RowKeys.{row_key, row_with};
 ghost use Rattle.lc_rows.specs.ShownRows.{file_key, key_in, part_of_file, part_of_row, parts_of};
@@ -163,6 +163,19 @@ pub(crate) fn file_parts<'a>(
     Ok(parts)
 }
 
+/// Pushes a part for each row of a table.
+pub(crate) fn push_shown<'a, 's>(
+    parts: &mut Vec<Part<'a, 's>>,
+    rows: &'s [ShownRow<'a>],
+) -> Result<(), AllocError>
+    ensures { OnOk result (parts.new.items ≡ parts.old.items ++ rows.entry.now) }
+{
+    for row in rows {
+        parts.push(Part::shown(row.key(), &row.sums))?;
+    }
+    Ok(())
+}
+
 /// Makes a part from each row of a table.
 pub(crate) fn shown_parts<'a, 's>(
     alloc: Global,
@@ -171,9 +184,7 @@ pub(crate) fn shown_parts<'a, 's>(
     ensures { IfOk result (λ parts. parts.items ≡ rows.now) }
 {
     let mut parts = Vec::with_capacity(alloc, rows.len())?;
-    for row in rows {
-        parts.push(Part::shown(row.key(), &row.sums))?;
-    }
+    push_shown(&mut parts, rows)?;
     Ok(parts)
 }
 
