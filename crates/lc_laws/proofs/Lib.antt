@@ -18,6 +18,7 @@ pub mod TopRules
 pub mod ReportSheets
 pub mod SheetRecords
 pub mod SharesPrinted
+pub mod PlainText
 pub mod GivenRules
 pub mod IncludedFates
 pub mod IncludedOnes

@@ -10,3 +10,5 @@ pub mod PrintedShares
 pub mod NoIgnore
 pub mod IncludedEntries
 pub mod ReadBack
+pub mod PlainTable
+pub mod PlainTableLaw

@@ -3,7 +3,7 @@
 //! - `laws`: a count agrees with an explanation of the same tree, and with a check by the `.gitignore` of the top directory. Other laws are
 //!   about a slash at the end of a directory's path, about `--no-ignore` and about `--include`.
 //! - `printed_laws`: the sheet of a report (its lines to print) has what the laws in `lc_formats` about printed texts require. No printed
-//!   share of a total is over 100.0 per cent.
+//!   share of a total is over 100.0 per cent. The text of a plain table is written from the report alone.
 //! - `reading_laws`: a report is the same after it was printed as JSON and read again
 #![tactic(auto)]
 
@@ -18,7 +18,7 @@ pub use laws::{
     slashes_of_directories_say_nothing,
 };
 pub use printed_laws::{
-    printed_shares_are_at_most_the_whole, sheets_of_reports_are_readable,
-    sheets_of_reports_have_records,
+    plain_tables_follow_from_reports, printed_shares_are_at_most_the_whole,
+    sheets_of_reports_are_readable, sheets_of_reports_have_records,
 };
 pub use reading_laws::reports_read_back;

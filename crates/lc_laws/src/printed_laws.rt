@@ -1,6 +1,7 @@
-//! Laws of the sheet of a report (its lines to print). The sheet has what laws in `lc_formats` about printed texts require. Each law is the
-//! contract of a function that does nothing.
+//! Laws of the sheet of a report (its lines to print). The sheet has what laws in `lc_formats` about printed texts require. The text of a
+//! plain table is written from the report alone. Each law is the contract of a function that does nothing.
 
+ghost use Rattle.lc_laws.specs.PlainTableLaw.{PlainTableLaw, UnlistedLaw};
 ghost use Rattle.lc_laws.specs.PrintedShares.{PrintedSharesLaw};
 ghost use Rattle.lc_laws.specs.SheetReadable.{ReadableSheetLaw, SheetRecordsLaw};
 
@@ -22,6 +23,17 @@ pub fn sheets_of_reports_have_records()
 /// part of the report that meets conditions such as `lines>1000`. If rows are by directory, the walk must list its files.
 pub fn printed_shares_are_at_most_the_whole<T: Tree>(tree: &T)
     ensures { PrintedSharesLaw (T.lists tree.now) (T.gives tree.now) }
+{
+    let _tree = tree;
+}
+
+/// The law that the text of a plain table is the text that the definition `plain_table` writes, on one page, from the report alone. A
+/// table is plain if its format is `tsv`, if it has all columns, and if no option sorts or cuts its rows and files. `lc count` prints a
+/// plain table if no option changes the table and standard output is not a terminal, and also with `--files`. The clause `table` requires
+/// that the report lists no skipped entries. By the clause `walk`, the report of a walk lists none unless the walk's options request it.
+pub fn plain_tables_follow_from_reports<T: Tree>(tree: &T)
+    ensures table { PlainTableLaw }
+    ensures walk { UnlistedLaw (T.lists tree.now) (T.gives tree.now) }
 {
     let _tree = tree;
 }

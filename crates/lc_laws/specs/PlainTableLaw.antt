@@ -1,0 +1,33 @@
+-- The law that a plain table is written from its report alone.
+use Rattle.std.specs.Prelude.{◌≡◌, ℕ, Bool, false, List, [], None, Ok}
+use Rattle.lc_formats.specs.Tsv.{tsv_of}
+use Rattle.lc_rows.specs.Laws.{all_columns}
+use Rattle.lc_rows.specs.Sheets.{IsSheetWith}
+use Rattle.lc_rows.specs.declared.classes.ClassSums.{ClassSums}
+use Rattle.lc_sheet.specs.Sheets.{SheetModel}
+use Rattle.lc_sheet.specs.declared.table_options.Format.TheVariants.{Tsv}
+use Rattle.lc_sheet.specs.declared.table_options.TableOptions.{TableOptions}
+use Rattle.lc_tree.specs.Trees.{Listings, Contents}
+use Rattle.lc_walk.specs.Walks.{Walks}
+use Rattle.lc_walk.specs.declared.options.Options.{Options}
+use Rattle.lc_walk.specs.declared.report.Report.{Report}
+use Rattle.lc_laws.specs.PlainTable.{plain_table}
+
+-- the options of the table of a count without options, or with `--files`, that is not printed on a terminal
+abbrev pub plain_options : Bool → TableOptions
+plain_options files = record { format = Tsv; by = all_columns; sort = None; top = None; files = files; share = false }
+
+-- a report that does not list skipped entries, so its table has no line for them or for the number of entries
+pub record ListsNoSkipped (r : Report) : Type 0 where
+  pub unlisted : r.lists.left_out ≡ false
+  pub none : r.skipped.items ≡ []
+
+-- the text of each sheet of a report with these options is the plain table of the report
+abbrev pub PlainTableLaw : Type 0
+PlainTableLaw =
+    (files : Bool) (r : Report) (classes : ClassSums) (s : SheetModel) → ListsNoSkipped r → IsSheetWith (plain_options files) r classes s
+    → tsv_of s ≡ plain_table files r
+
+-- the report of each walk whose options do not request the list of skipped entries does not list them
+abbrev pub UnlistedLaw : (List ℕ → Listings) → (List ℕ → Contents) → Type 0
+UnlistedLaw lists gives = (o : Options) (r : Report) → Walks lists gives o (Ok r) → o.lists.left_out ≡ false → ListsNoSkipped r
