@@ -14,7 +14,14 @@ const EXPORTED: &str = "
 const ARCHIVE: &str =
     "- - lf 2 5 0 83, .tmp - lf 1 1 0 2, .y - lf 1 1 0 2, directories 2 entries 7";
 
-const WITH_EXPORTS: &[Part] = &[("an archive", "--without=export-ignore", ARCHIVE)];
+const WITH_EXPORTS: &[Part] = &[
+    ("an archive", "--without=export-ignore", ARCHIVE),
+    (
+        "the whole tree",
+        "",
+        "- - lf 3 6 0 85, .tmp - lf 2 2 0 4, .y - lf 1 1 0 2, directories 3 entries 8",
+    ),
+];
 
 /// A tree with attributes on files and directories: Set, Unset, with a value, and Set by a macro.
 const MARKED: &str = "

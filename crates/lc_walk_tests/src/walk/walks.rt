@@ -4,7 +4,7 @@ use crate::walk::walked::{Case, check};
 use std::test::Fail;
 
 /// A tree whose rules ignore `a.log` and `build/`.
-const IGNORING: &str = "
+pub(super) const IGNORING: &str = "
     .gitignore=*.log;!keep.log;/build/;
     a.log=x;
     keep.log=k;
@@ -13,13 +13,23 @@ const IGNORING: &str = "
 
 const TEXTS: &str = ".gitattributes=*.c_text;*.b_binary; x.c=a;b; y.b=\0; z.c=a^;^;";
 
-/// Cases in which the tree's rules are applied, attributes say which files are text, and the requested list of files is in order.
+/// Cases in which the tree's rules are applied, attributes say which files are text, and the list of files, if requested, is in order.
 const RULED: &[Case] = &[
     (
         "rules of the tree",
         IGNORING,
         "",
         "- - lf 1 3 0 24, .c - crlf 1 1 0 8, .log - lf 1 1 0 2, directories 3 entries 7",
+    ),
+    (
+        "attributes of the tree",
+        TEXTS,
+        "",
+        "- - lf 1 2 0 20
+         .b unset nul 1 1 0 2
+         .c set lf 1 2 0 4
+         .c set crlf 1 2 1 5
+         directories 1 entries 4",
     ),
     (
         "files that are asked for",
@@ -67,5 +77,96 @@ const WITH_FAULTS: &[Case] = &[
 #[test]
 fn faults_are_told_and_not_counted(rt: HostRuntime) -> Result<(), Fail> {
     check(&rt, rt.alloc(), WITH_FAULTS)?;
+    Ok(())
+}
+
+const UNDER_AN_EXCLUDE_FILE: &[Case] = &[
+    (
+        "a rule of the tree overrides the exclude file",
+        ".gitignore=!x.c; x.c=1; y.c=1;",
+        "--exclude-from=*.c",
+        "- - lf 1 1 0 5, .c - lf 1 1 0 2, directories 1 entries 3",
+    ),
+    (
+        "a rule file ignores itself, and applies without an exclude file",
+        ".gitignore=.*;*.c; x.c=1; y.c=1;",
+        "",
+        "directories 1 entries 3",
+    ),
+];
+
+#[test]
+fn rules_of_the_tree_override_the_exclude_file(rt: HostRuntime) -> Result<(), Fail> {
+    check(&rt, rt.alloc(), UNDER_AN_EXCLUDE_FILE)?;
+    Ok(())
+}
+
+/// The report of a tree with `.git`, a `.gitignore` of one rule, and a link, which this rule would ignore if the link were a directory.
+const BESIDE_GIT: &str = "- - lf 1 1 0 6, directories 1 entries 3";
+
+const WITH_GIT: &[Case] = &[
+    (
+        ".git is a directory",
+        ".git/{ f } link@ .gitignore=link/;",
+        "",
+        BESIDE_GIT,
+    ),
+    (
+        ".git is a file",
+        ".git link@ .gitignore=link/;",
+        "",
+        BESIDE_GIT,
+    ),
+    (
+        ".git is another kind",
+        ".git@ link@ .gitignore=link/;",
+        "",
+        BESIDE_GIT,
+    ),
+];
+
+#[test]
+fn nothing_of_git_is_counted(rt: HostRuntime) -> Result<(), Fail> {
+    check(&rt, rt.alloc(), WITH_GIT)?;
+    Ok(())
+}
+
+/// A tree with all the rule files that a top may have.
+pub(super) const REPOSITORY: &str = "
+    .git/{ info/{ exclude=*.o;!k.c; attributes=[attr]src_text;*.c_src; } }
+    .gitignore=k.c;
+    .gitattributes=*.c_-text;
+    a.o=x;
+    k.c=k;
+    m.c=m;";
+
+const OF_REPOSITORY: &str = "- - lf 2 2 0 14, .c set lf 1 1 0 2, directories 1 entries 6";
+
+/// Trees with rules in `.git/info`, some of which can't be read.
+const WITH_INFO: &[Case] = &[
+    ("rules of the repository", REPOSITORY, "", OF_REPOSITORY),
+    (
+        "rules of the repository override the exclude file",
+        REPOSITORY,
+        "--exclude-from=!a.o",
+        OF_REPOSITORY,
+    ),
+    (
+        ".git can't be listed",
+        ".git/! a=x;",
+        "",
+        "directories 0 entries 0, fault read .git",
+    ),
+    (
+        "exclude can't be read",
+        ".git/{ info/{ exclude! } } a=x;",
+        "",
+        "directories 0 entries 0, fault read .git/info/exclude",
+    ),
+];
+
+#[test]
+fn rules_of_the_repository_are_applied(rt: HostRuntime) -> Result<(), Fail> {
+    check(&rt, rt.alloc(), WITH_INFO)?;
     Ok(())
 }
