@@ -1,10 +1,12 @@
 //! Tests of walks in which one call on the tree fails: which error the walk reports, and which files and directories it still finds.
 ghost use Rattle.std.specs.Prelude.{◌<◌, IfOk, IfSome};
 
-use crate::walk::walked::{Board, ONLY_FILES, report_of, walk_options};
+use crate::walk::told::push_faults;
+use crate::walk::walked::{BOARDS, Board, ONLY_FILES, report_of, walk_options};
+use crate::walk::walks::{IGNORING, REPOSITORY};
 use lc_level::{FaultWord, Filters};
-use lc_tests::tree;
 use lc_tests::trees::{FailingCall, FailingTree};
+use lc_tests::{has_words, tree};
 use lc_tree::MemTree;
 use lc_walk::{FileLine, Report};
 use std::alloc::{AllocError, Global};
@@ -160,6 +162,138 @@ const RUNS: &[(Board, u32)] = &[
 fn one_call_fails(rt: HostRuntime) -> Result<(), Fail> {
     for run in RUNS {
         check_calls(&rt, rt.alloc(), *run)?;
+    }
+    Ok(())
+}
+
+/// Calls on the tree that the only worker of a walk makes for one purpose, and what the walk finds if one of them fails. The parts are the
+/// number of the first call, the number of the call after the last, and the expected text: the totals of files, lines, blank lines and
+/// bytes, the number of directories, and the errors. A listing is one call; a file is opened, read, and read to its end.
+type Step = (u64, u64, &'static str);
+
+/// The calls of a walk of `IGNORING`. The last step has a number that no call has.
+const STEPS_OF_IGNORING: &[Step] = &[
+    (0, 1, "0 0 0 0, directories 0, fault read ."),
+    (1, 4, "0 0 0 0, directories 0, fault read .gitignore"),
+    (4, 7, "2 2 0 10, directories 3, fault read .gitignore"),
+    (7, 10, "2 4 0 32, directories 3, fault read keep.log"),
+    (10, 11, "2 4 0 26, directories 1, fault read src"),
+    (11, 12, "2 4 0 26, directories 2, fault read src/build"),
+    (12, 15, "2 4 0 26, directories 3, fault read src/build/y.c"),
+    (15, 16, WHOLE),
+];
+
+const WHOLE: &str = "3 5 0 34, directories 3";
+
+/// The calls of a walk of `REPOSITORY`. The last step has a number that no call has.
+const STEPS_OF_REPOSITORY: &[Step] = &[
+    (0, 1, "0 0 0 0, directories 0, fault read ."),
+    (1, 2, "0 0 0 0, directories 0, fault read .git"),
+    (2, 3, "0 0 0 0, directories 0, fault read .git/info"),
+    (3, 6, "0 0 0 0, directories 0, fault read .git/info/exclude"),
+    (
+        6,
+        9,
+        "0 0 0 0, directories 0, fault read .git/info/attributes",
+    ),
+    (9, 12, "0 0 0 0, directories 0, fault read .gitignore"),
+    (12, 15, "0 0 0 0, directories 0, fault read .gitattributes"),
+    (15, 18, "2 2 0 6, directories 1, fault read .gitattributes"),
+    (18, 21, "2 2 0 12, directories 1, fault read .gitignore"),
+    (21, 24, "2 2 0 14, directories 1, fault read m.c"),
+    (24, 25, "3 3 0 16, directories 1"),
+];
+
+/// Checks the walks in which one call of the step fails.
+fn check_step<R: Threads + Wait + Sync + Abort>(
+    rt: &R,
+    alloc: Global,
+    board: Board,
+    tree: &MemTree,
+    (first, end, wanted): &Step,
+) -> Result<(), AllocError> {
+    for place in *first..*end {
+        let call = FailingCall::new(place);
+        let report = walk_failing(rt, alloc, tree, &call, (board, 1))?;
+        let sums = report.totals;
+        let mut found = format!(in alloc; "{} {} {}", sums.files, sums.lines, sums.blank)?;
+        write!(
+            found,
+            " {} directories {}\n",
+            sums.bytes, report.directories
+        )?;
+        push_faults(&mut found, &report)?;
+        assert!(rt; has_words(&found, wanted), "{board:?}, {place}: {found}");
+    }
+    Ok(())
+}
+
+/// Checks the walks of a tree in which one call of one of the steps fails.
+fn check_steps<R: Threads + Wait + Sync + Abort>(
+    rt: &R,
+    alloc: Global,
+    board: Board,
+    sketch: &str,
+    steps: &[Step],
+) -> Result<(), AllocError> {
+    let node = tree(alloc, sketch)?;
+    for step in steps {
+        check_step(rt, alloc, board, &MemTree::new(&node), step)?;
+    }
+    Ok(())
+}
+
+#[test]
+fn each_call_of_one_worker_fails(rt: HostRuntime) -> Result<(), Fail> {
+    for board in BOARDS {
+        check_steps(&rt, rt.alloc(), *board, IGNORING, STEPS_OF_IGNORING)?;
+        check_steps(&rt, rt.alloc(), *board, REPOSITORY, STEPS_OF_REPOSITORY)?;
+    }
+    Ok(())
+}
+
+/// A number that no call has.
+const NO_CALL: u64 = 1_000_000;
+
+/// The name of a file of `IGNORING`, and what a walk finds if the file fails instead of ending.
+const FAILING_FILES: &[(&str, &str)] = &[
+    (
+        ".gitignore",
+        "0 0 0 0, directories 0, fault read .gitignore",
+    ),
+    ("a.log", WHOLE),
+    ("keep.log", "2 4 0 32, directories 3, fault read keep.log"),
+    ("x.c", WHOLE),
+    ("y.c", "2 4 0 26, directories 3, fault read src/build/y.c"),
+];
+
+/// Checks the walk of `IGNORING` with one worker if a file fails instead of ending.
+fn check_failing<R: Threads + Wait + Sync + Abort>(
+    rt: &R,
+    alloc: Global,
+    board: Board,
+    (name, wanted): &(&str, &'static str),
+) -> Result<(), AllocError> {
+    let file = format!(in alloc; "{name}=")?;
+    let Some((before, after)) = IGNORING.split_once(file.as_str()) else {
+        assert!(rt; false, "there is no {name}");
+        return Ok(());
+    };
+    let sketch = format!(in alloc; "{before}{name}!{after}")?;
+    check_steps(
+        rt,
+        alloc,
+        board,
+        &sketch,
+        &[(NO_CALL, NO_CALL + 1, *wanted)],
+    )
+}
+
+#[test]
+fn each_file_fails(rt: HostRuntime) -> Result<(), Fail> {
+    for file in FAILING_FILES {
+        check_failing(&rt, rt.alloc(), Board::Words, file)?;
+        check_failing(&rt, rt.alloc(), Board::Locked, file)?;
     }
     Ok(())
 }

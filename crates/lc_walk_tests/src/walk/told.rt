@@ -44,7 +44,7 @@ fn push_skipped(text: &mut String, report: &Report) -> Result<(), AllocError> {
 }
 
 /// Appends a line for each error of a report.
-fn push_faults(text: &mut String, report: &Report) -> Result<(), AllocError> {
+pub(super) fn push_faults(text: &mut String, report: &Report) -> Result<(), AllocError> {
     for fault in &report.faults {
         let word = fault.word.as_str();
         write!(text, "fault {word} ")?;
