@@ -11,6 +11,7 @@ mod limits;
 mod named;
 mod names;
 mod narrowed;
+mod no_posts;
 mod rows;
 mod stress;
 mod tallies;

@@ -120,7 +120,7 @@ fn without_calls(wanted: &str) -> (&str, Option<u64>) {
 
 /// Checks the report of a walk and the number of its calls on the tree. If the walk made more calls than expected, it began again because
 /// several workers ran out of memory; this is returned as an error.
-fn check_answer(
+pub(super) fn check_answer(
     rt: &impl Abort,
     alloc: Global,
     (name, wanted): (&str, &str),
