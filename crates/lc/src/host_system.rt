@@ -1,7 +1,7 @@
 //! Gives the program the directories and files of the host, the machine on which the program runs.
 
 use crate::host_repository::repository_above;
-use crate::progress::Progress;
+use crate::progress::{Opened, Progress};
 use crate::unread::{why_unlisted, why_unread};
 use crate::watched_tree::WatchedTree;
 use lc_census::StdSource;
@@ -56,6 +56,7 @@ where
             tree,
             clock: self.rt,
             progress: self.progress,
+            before: Opened::so_far(self.progress),
         })
     }
 

@@ -12,6 +12,29 @@ const DELAY: u64 = 1000;
 /// The least time between two updates of the progress line, in milliseconds.
 const PERIOD: u64 = 250;
 
+/// Numbers of directories and files that were opened.
+#[derive(Clone, Copy, Drop)]
+pub(crate) struct Opened {
+    directories: u64,
+    files: u64,
+}
+
+impl Opened {
+    /// Returns the numbers of what is opened so far, or zeros if nothing is counted.
+    pub(crate) fn so_far(progress: Option<&Progress>) -> Opened {
+        match progress {
+            Some(progress) => Opened {
+                directories: progress.directories.load(Ordering::SeqCst),
+                files: progress.files.load(Ordering::SeqCst),
+            },
+            None => Opened {
+                directories: 0,
+                files: 0,
+            },
+        }
+    }
+}
+
 /// The numbers of directories and files that a count has opened, and when they are next shown on a terminal. The count's result does not
 /// depend on them.
 #[derive(Drop)]
@@ -57,6 +80,12 @@ impl Progress {
         })
     }
 
+    /// Goes back to these numbers. A tree's walk begins with them, also when the tree is walked again.
+    pub(crate) fn restart(&self, before: Opened) {
+        self.directories.store(before.directories, Ordering::SeqCst);
+        self.files.store(before.files, Ordering::SeqCst);
+    }
+
     /// Counts a directory that is listed.
     pub(crate) fn add_directory(&self, clock: &impl Clock) {
         self.directories.fetch_add(1, Ordering::SeqCst);
@@ -86,9 +115,9 @@ impl Progress {
         }
     }
 
-    /// Writes the progress line over its last version, which is not longer.
+    /// Writes the progress line in place of its last version.
     fn show(&self) -> Result<(), AllocError> {
-        let mut line = String::from_str(self.alloc, "\rlc: ")?;
+        let mut line = String::from_str(self.alloc, "\r\x1B[Klc: ")?;
         push_count(&mut line, &self.files, " file", " files")?;
         line.push_str(" in ")?;
         push_count(&mut line, &self.directories, " directory", " directories")?;

@@ -1,6 +1,6 @@
 //! The tree in a directory of the host. The methods of this tree count the directories and files that they open, for the progress line.
 
-use crate::progress::Progress;
+use crate::progress::{Opened, Progress};
 use lc_census::{Source, StdSource};
 use lc_tree::{Entry, Listing, ReadFault, SysTree, Tree};
 use std::alloc::Global;
@@ -15,6 +15,8 @@ pub(crate) struct WatchedTree<'a, R> {
     pub(crate) clock: &'a R,
     /// The counter of opened directories and files, if a terminal shows a progress line.
     pub(crate) progress: Option<&'a Progress>,
+    /// What was opened before the tree's top was first listed. A walk that begins anew opens the same directories and files again.
+    pub(crate) before: Opened,
 }
 
 impl<'a, R> Model for WatchedTree<'a, R> {
@@ -26,8 +28,11 @@ impl<'a, R> Model for WatchedTree<'a, R> {
 }
 
 impl<R: Clock> WatchedTree<'_, R> {
-    fn note_directory(&self) {
+    fn note_directory(&self, path: &[u8]) {
         if let Some(progress) = self.progress {
+            if path.is_empty() {
+                progress.restart(self.before);
+            }
             progress.add_directory(self.clock);
         }
     }
@@ -60,12 +65,12 @@ where
     ghost shows = { λ t path. SysShows t path };
 
     fn list(&self, alloc: Global, path: &[u8]) -> Result<Listing, ReadFault> {
-        self.note_directory();
+        self.note_directory(path);
         self.tree.list(alloc, path)
     }
 
     fn names(&self, alloc: Global, path: &[u8]) -> Result<Option<Vec<Vec<u8>>>, ReadFault> {
-        self.note_directory();
+        self.note_directory(path);
         self.tree.names(alloc, path)
     }
 

@@ -16,10 +16,19 @@ use lc_arguments::{CountRequest, WalkRequest, unslashed};
 use lc_reports::{joined, named};
 use lc_text::push_visible;
 use lc_tree::FileSystems;
-use lc_walk::{Options, Report, WalkFault, walk};
+use lc_walk::{Options, Report, WalkFault, walk, walk_small};
 use std::alloc::{AllocError, Global};
 use std::sync::Wait;
 use std::thread::Threads;
+
+/// How many directories a command counts.
+#[derive(Clone, Copy)]
+pub(crate) enum HowMany {
+    /// One directory.
+    One,
+    /// Several directories, most of which may be small.
+    Several,
+}
 
 /// Walks the directory with this name, and returns the report.
 pub(crate) fn walk_of<R: Threads + Wait + Sync + AllocGlobal, Y: System>(
@@ -28,6 +37,7 @@ pub(crate) fn walk_of<R: Threads + Wait + Sync + AllocGlobal, Y: System>(
     directory: &str,
     entered: FileSystems,
     options: &Options<'_>,
+    many: HowMany,
 ) -> Result<Report, WalkFault>
     requires limits { AreWithinLimits options.now }
     ensures { Walks (Y.Tree.lists (Y.tree system.now directory.now entered)) (Y.Tree.gives (Y.tree system.now directory.now entered))
@@ -36,7 +46,10 @@ pub(crate) fn walk_of<R: Threads + Wait + Sync + AllocGlobal, Y: System>(
     let Ok(tree) = system.tree(rt.alloc(), directory, entered) else {
         return Err(WalkFault::Memory);
     };
-    walk(rt, rt.alloc(), &tree, options)
+    match many {
+        HowMany::One => walk(rt, rt.alloc(), &tree, options),
+        HowMany::Several => walk_small(rt, rt.alloc(), &tree, options),
+    }
 }
 
 /// Makes the line that names one of several directories, and says why its walk ended without a report.
@@ -85,7 +98,7 @@ fn walk_below<R: Threads + Wait + Sync + AllocGlobal, Y: System>(
     ensures none { IfErr result (EndsIn
         (λ d. Walks (Y.Tree.lists (Y.tree system.now d entered)) (Y.Tree.gives (Y.tree system.now d entered)) options.now) directory.now) }
 {
-    match walk_of(rt, system, directory, entered, options) {
+    match walk_of(rt, system, directory, entered, options, HowMany::Several) {
         Ok(report) => {
             let report = named(rt.alloc(), unslashed(directory), report)?;
             Ok(report)
@@ -170,7 +183,7 @@ fn found_in<R: Threads + Wait + Sync + AllocGlobal, Y: System>(
     if directories.len() != 1 {
         return found_in_all(rt, system, directories, entered, options);
     }
-    let report = walk_of(rt, system, directories[0], entered, options)?;
+    let report = walk_of(rt, system, directories[0], entered, options, HowMany::One)?;
     Ok(report)
 }
 

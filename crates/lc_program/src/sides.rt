@@ -7,7 +7,7 @@ ghost use Rattle.lc_walk.specs.WalkOptions.{AreWithinLimits};
 
 use crate::cause::Cause;
 use crate::faults::has_path;
-use crate::finding::{cause_in, entered_by, walk_of};
+use crate::finding::{HowMany, cause_in, entered_by, walk_of};
 use crate::report_files::read_one;
 use crate::report_lines::{cause_of_sum, unread_cause};
 use crate::system::System;
@@ -71,7 +71,14 @@ fn counted_side<R: Threads + Wait + Sync + AllocGlobal, Y: System>(
         how.entry.walk.now how.entry.options.now name.now result }
     ensures files { IfOk result (λ report. how.entry.options.now.lists.files ≡ true → report.lists.files ≡ true) }
 {
-    let report = match walk_of(rt, system, name, entered_by(how.walk), how.options) {
+    let report = match walk_of(
+        rt,
+        system,
+        name,
+        entered_by(how.walk),
+        how.options,
+        HowMany::Several,
+    ) {
         Ok(report) => report,
         Err(fault) => return Err(cause_in(rt.alloc(), name, fault)),
     };

@@ -18,23 +18,25 @@ use std::alloc::Global;
 use std::sync::Wait;
 use std::thread::Threads;
 
-/// Walks a tree with this many workers, which share a board of the type `B`.
+/// Walks a tree with this many workers, which share a board of the type `B` with `room` numbers.
 fn walk_by<B: Shared<Job, Row>, T: Tree, R: Threads + Wait + Sync>(
     rt: &R,
     alloc: Global,
     tree: &T,
     options: &Options<'_>,
     workers: u32,
+    room: u32,
 ) -> Result<Report, WalkFault>
     requires limits { AreWithinLimits options.now }
     requires workers { (1 ≤ workers) × (workers ≤ options.now.threads) }
+    requires room { (1 ≤ room) × (room ≤ options.now.max_dirs) }
     ensures { WalkAnswers (MayAnswer (T.lists tree.now) (T.gives tree.now)) (asked_by options.now)
-        options.now.max_dirs workers (top_of options.now) B.promises result }
+        room workers (top_of options.now) B.promises result }
 {
     let Ok(top) = Job::top(alloc, options.filters) else {
         return Err(WalkFault::Memory);
     };
-    let Ok((board, passes)) = B::start(alloc, options.max_dirs, workers, top) else {
+    let Ok((board, passes)) = B::start(alloc, room, workers, top) else {
         return Err(WalkFault::Memory);
     };
     let Ok(workers) = run_all(rt, alloc, &board, tree, passes, options) else {
@@ -66,7 +68,7 @@ fn walk_by_all<B: Shared<Job, Row>, T: Tree, R: Threads + Wait + Sync>(
     let Ok(reserve) = Vec::<u8>::with_capacity(alloc, RESERVE) else {
         return Err(WalkFault::Memory);
     };
-    let answer = walk_by::<B, T, R>(rt, alloc, tree, options, options.threads);
+    let answer = walk_by::<B, T, R>(rt, alloc, tree, options, options.threads, options.max_dirs);
     drop(reserve);
     answer
 }
@@ -89,7 +91,7 @@ pub fn walk_on<B: Shared<Job, Row>, T: Tree, R: Threads + Wait + Sync>(
             answer => return answer,
         }
     }
-    walk_by::<B, T, R>(rt, alloc, tree, options, 1)
+    walk_by::<B, T, R>(rt, alloc, tree, options, 1, options.max_dirs)
 }
 
 /// Walks a tree with up to `options.threads` threads. The report is that of a recursive walk. All listings and file contents that
@@ -109,4 +111,43 @@ pub fn walk<T: Tree, R: Threads + Wait + Sync>(
     ensures { Walks (T.lists tree.now) (T.gives tree.now) options.now result }
 {
     walk_on::<Words<Job, Row>, T, R>(rt, alloc, tree, options)
+}
+
+/// The number of directories for which `walk_small` makes its first board.
+const FEW_DIRS: u32 = 64;
+
+/// Returns whether a tree's top can't be listed or has at most one entry, so that several workers would not walk it faster than one.
+fn is_small<T: Tree>(alloc: Global, tree: &T) -> bool {
+    match tree.names(alloc, b"") {
+        Ok(Some(names)) => names.len() <= 1,
+        Ok(None) => false,
+        Err(_) => true,
+    }
+}
+
+/// Like `walk`, but for one of many trees, most of which are small. The trees that a walk with few numbers or with one worker can't walk are
+/// walked again, so a large tree takes more time than with `walk`, and a small one less: it takes no large board, and perhaps no thread.
+pub fn walk_small<T: Tree, R: Threads + Wait + Sync>(
+    rt: &R,
+    alloc: Global,
+    tree: &T,
+    options: &Options<'_>,
+) -> Result<Report, WalkFault>
+    requires limits { AreWithinLimits options.now }
+    ensures { Walks (T.lists tree.now) (T.gives tree.now) options.now result }
+{
+    if is_small(alloc, tree) {
+        if let Ok(report) = walk_by::<Words<Job, Row>, T, R>(rt, alloc, tree, options, 1, 1) {
+            return Ok(report);
+        }
+    }
+    if options.max_dirs > FEW_DIRS {
+        let threads = options.threads;
+        if let Ok(report) = walk_by::<Words<Job, Row>, T, R>(
+            rt, alloc, tree, options, threads, FEW_DIRS,
+        ) {
+            return Ok(report);
+        }
+    }
+    walk(rt, alloc, tree, options)
 }

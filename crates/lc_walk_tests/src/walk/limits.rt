@@ -1,8 +1,10 @@
 //! Tests of the limits of a walk: directories, segments and bytes of a path, bytes of a rule file.
 
 use crate::walk::drawn::draw_tree;
-use crate::walk::walked::{BOARDS, Case, check, check_node};
-use lc_tree::Node;
+use crate::walk::walked::{BOARDS, Case, NO_LISTS, check, check_node, report_of, walk_options};
+use lc_level::Filters;
+use lc_tree::{MemTree, Node};
+use lc_walk::{Report, WalkFault, walk_small};
 use std::alloc::{AllocError, Global};
 use std::process::Abort;
 use std::sync::Wait;
@@ -57,6 +59,38 @@ fn as_many_directories_as_are_taken(rt: HostRuntime) -> Result<(), Fail> {
     let top = draw_tree(alloc, SEED, MOST + 1)?.top;
     let one_more = ("one more", OF_THE_MOST, "too many directories");
     check_node(&rt, alloc, &top, &one_more)?;
+    Ok(())
+}
+
+/// Numbers of directories for which `walk_small` needs a board of one number, of a few, or of all that it may have.
+const SMALL_AND_LARGE: &[u32] = &[1, 64, 65, 100];
+
+/// The greatest number of directories of the trees that `walk_small` walks in these tests.
+const MOST_OF_SEVERAL: u32 = 100;
+
+/// Walks a tree of this many directories as one of several.
+fn walk_one_of_several<R: Threads + Wait + Sync + Abort>(
+    rt: &R,
+    alloc: Global,
+    count: u32,
+) -> Result<Result<Report, WalkFault>, AllocError> {
+    let top = draw_tree(alloc, SEED, count)?.top;
+    let filters = Filters::none(alloc);
+    let options = walk_options(rt, 2, MOST_OF_SEVERAL, NO_LISTS, &filters);
+    Ok(walk_small(rt, alloc, &MemTree::new(&top), &options))
+}
+
+#[test]
+fn one_of_several_trees(rt: HostRuntime) -> Result<(), Fail> {
+    for count in SMALL_AND_LARGE {
+        let answer = walk_one_of_several(&rt, rt.alloc(), *count)?;
+        let report = report_of(&rt, answer)?;
+        assert!(rt; report.directories == u64::from(*count), "{count}");
+    }
+    match walk_one_of_several(&rt, rt.alloc(), MOST_OF_SEVERAL + 1)? {
+        Err(WalkFault::Memory) => Err(AllocError)?,
+        answer => assert!(rt; matches!(answer, Err(WalkFault::TooManyDirs))),
+    }
     Ok(())
 }
 

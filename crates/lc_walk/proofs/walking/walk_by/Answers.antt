@@ -1,4 +1,4 @@
-use Rattle.std.proofs.Common.{rules, ◌≡◌, ◌≤◌, length, map, slice_get, Some, sym, ap, ◌∙◌, subst, refl}
+use Rattle.std.proofs.Common.{rules, arith, ◌≡◌, ◌≤◌, length, map, slice_get, Some, sym, ap, ◌∙◌, subst, refl}
 use Rattle.std.proofs.lemmas.Option.{slice_get-get_or}
 use Rattle.lc_board.proofs.ReturnedPasses.{still_in_order, taken_in_order}
 use Rattle.lc_board.specs.Limits.{capacity_limit}
@@ -24,7 +24,8 @@ finish-requires-after_bounds g c κs within =
     let same : length c.in-Ok-run_all.workers.items ≡ length c.in-Ok-start.passes.items =
     sym c.in-Ok-run_all.workers.ok.0 ∙ c.in-Ok-run_all.ensures.all ∙ c.in-Ok-start.passes.ok.0 in
     record {
-      room = subst (λ n. (1 ≤ n) × (n ≤ capacity_limit)) (sym board.0) (limits.some_room, limits.few_dirs);
+      room = subst (λ n. (1 ≤ n) × (n ≤ capacity_limit)) (sym board.0)
+          (c.requires.room.0, omega (arith, c.requires.room.1, limits.few_dirs));
       workers = subst (λ n. 1 ≤ n) (sym board.1) c.requires.workers.0;
       top = (_, board.2, ap (λ (j : JobModel). j.path) c.in-Ok.ensures);
       all = ap length c.in-Some.ensures.passes ∙ mapped (λ x. x.pass) c.in-Ok-run_all.workers.items ∙ same
