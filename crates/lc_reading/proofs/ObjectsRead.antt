@@ -3,7 +3,8 @@ use Rattle.std.proofs.Common.{◌≡◌, ◌≢◌, ◌∙◌, ℕ, Bool, true, 
 use Rattle.std.proofs.Common.{Some, None, option_map, inl, inr, append-nil, length, length-append, arith, ◌<◌}
 use Rattle.std.specs.Borrow.{Bor}
 use Rattle.std.specs.Str.{bytes_eq}
-use Rattle.std.specs.Prelude.{OnOk, is_some, Result, Ok, Err}
+use Rattle.std.specs.Global.{Global}
+use Rattle.std.specs.Prelude.{◌⊎◌, OnOk, is_some, Result, Ok, Err, Vec}
 use Rattle.std.specs.List.{flat_map}
 use Rattle.std.proofs.lemmas.List.Concat.{flat_map-append}
 use Rattle.lc_level.specs.FaultLines.{FaultLineModel}
@@ -21,7 +22,7 @@ use Rattle.lc_reading.specs.Lines.{IsFaultOf, IsFileOf, IsSkippedOf}
 use Rattle.lc_reading.specs.Lists.{BeginsWith, IsListOf}
 use Rattle.lc_reading.specs.MemberNames.{member_name}
 use Rattle.lc_reading.specs.Members.{Member, Lacks, members_of, members_with, named, values_at}
-use Rattle.lc_reading.specs.Objects.{IsObjectOf, IsPassed, IsTopMember, MayHaveLines, TakesMember, TakesObject, is_value}
+use Rattle.lc_reading.specs.Objects.{Fills, IsObjectOf, IsPassed, IsTopMember, MayHaveLines, TakesMember, TakesObject, is_value}
 use Rattle.lc_reading.specs.Rows.{IsRowOf}
 use Rattle.lc_reading.specs.declared.member_name.MemberName.{MemberName}
 use Rattle.lc_reading.specs.declared.member_name.MemberName.TheVariants as name
@@ -103,120 +104,97 @@ other_than k l m e is = ap (λ (s : List ℕ). bytes_eq s m) e ∙ is
 not_equal : (k l : List ℕ) → k ≢ l → bytes_eq k l ≡ false
 not_equal k l differ = false_from_ne_true _ (λ e. differ ((bytes_eq-Decides k l).0 e))
 
-none_if : {A : Type 0} (o : Option A) → is_some o ≡ false → o ≡ None
+pub none_if : {A : Type 0} (o : Option A) → is_some o ≡ false → o ≡ None
 none_if None e = refl
 none_if (Some a) e = absurd (cc)
 
--- the list `rows` was read
-pub rows_taken : (k : List ℕ) → k ≡ member_name name.Rows → (old new : Object) (before after : List Token) (lines : List ReadRow)
-    → is_some old.rows ≡ false → option_map (λ v. v.items) new.rows ≡ Some lines → new.values ≡ old.values
-    → new.files ≡ old.files
-    → new.skipped ≡ old.skipped
-    → new.faults ≡ old.faults
-    → BeginsWith (IsListOf IsRowOf) before after lines → TakesMember k old new before after
-rows_taken k e old new before after lines none filled vs same_files same_skipped same_faults next = record {
-  value = next.value;
-  tokens_are = next.tokens_are;
+-- ---- one list more, or another member
+
+abbrev items : {A : Type 0} → Option (Vec A Global) → Option (List A)
+items o = option_map (λ v. v.items) o
+
+-- a member with the name of a list fills it, and a member with another name leaves it
+abbrev Step : {L : Type 0} → (List Member → L → Type 0) → MemberName → List ℕ → Json → Option (List L) → Option (List L) → Type 0
+Step {L} Says n k j old new =
+    ((bytes_eq k (member_name n) ≡ false) × (new ≡ old))
+    ⊎ ((old ≡ None) × (bytes_eq k (member_name n) ≡ true) × ((ls : List L) × (new ≡ Some ls) × IsListOf Says j ls))
+
+stepped : {L : Type 0} (Says : List Member → L → Type 0) (n : MemberName) (ms : List Member) (k : List ℕ) (j : Json)
+    (old new : Option (List L)) → Step Says n k j old new → MayHaveLines Says n ms old → MayHaveLines Says n (ms ++ (k, j) ∷ []) new
+stepped Says n ms k j old new (inl kept) is =
+    subst (MayHaveLines Says n (ms ++ (k, j) ∷ [])) (sym kept.1) (lines_kept Says n ms k j old kept.0 is)
+stepped Says n ms k j old new (inr filled) is =
+    subst (MayHaveLines Says n (ms ++ (k, j) ∷ [])) (sym filled.2.1) (lines_filled Says n ms k j old filled.2.0 filled.0 filled.1 is filled.2.2)
+
+-- a member was read: each list takes its step, and the values are those of the members
+member_taken : (k : List ℕ) (old new : Object) (before after : List Token) (j : Json) → before ≡ json_tokens j ++ after
+    → ((ms : List Member) (n : MemberName) → is_value n ≡ true → named n (members_of old.values.items) ≡ named n ms
+    → named n (members_of new.values.items) ≡ named n (ms ++ (k, j) ∷ []))
+    → Step IsRowOf name.Rows k j (items old.rows) (items new.rows) → Step IsFileOf name.Files k j (items old.files) (items new.files)
+    → Step IsSkippedOf name.Left k j (items old.skipped) (items new.skipped)
+    → Step IsFaultOf name.Faults k j (items old.faults) (items new.faults) → TakesMember k old new before after
+member_taken k old new before after j tokens values rows files skipped faults = record {
+  value = j;
+  tokens_are = tokens;
   adds = λ ms o. record {
-    values = λ n is. ap (λ v. named n (members_of v.items)) vs ∙ o.values n is
-        ∙ sym (kept (member_name n) ms k next.value (apart (member_name name.Rows) (refl, (refl, (refl, (refl, (refl, (refl, tt)))))) k e
-        n is));
-    rows = subst (MayHaveLines IsRowOf name.Rows (ms ++ (k, next.value) ∷ [])) (sym filled)
-        (lines_filled IsRowOf name.Rows ms k next.value (option_map (λ v. v.items) old.rows) lines
-        (ap (λ x. option_map (λ v. v.items) x) (none_if old.rows none)) (equal_to k (member_name name.Rows) e) o.rows next.is);
-    files = subst (λ x. MayHaveLines IsFileOf name.Files (ms ++ (k, next.value) ∷ []) (option_map (λ v. v.items) x)) (sym same_files)
-        (lines_kept IsFileOf name.Files ms k next.value _ (other_than k (member_name name.Rows) (member_name name.Files) e refl) o.files);
-    skipped = subst (λ x. MayHaveLines IsSkippedOf name.Left (ms ++ (k, next.value) ∷ []) (option_map (λ v. v.items) x)) (sym same_skipped)
-        (lines_kept IsSkippedOf name.Left ms k next.value _ (other_than k (member_name name.Rows) (member_name name.Left) e refl)
-        o.skipped);
-    faults = subst (λ x. MayHaveLines IsFaultOf name.Faults (ms ++ (k, next.value) ∷ []) (option_map (λ v. v.items) x)) (sym same_faults)
-        (lines_kept IsFaultOf name.Faults ms k next.value _ (other_than k (member_name name.Rows) (member_name name.Faults) e refl)
-        o.faults);
+    values = λ n is. values ms n is (o.values n is);
+    rows = stepped IsRowOf name.Rows ms k j (items old.rows) (items new.rows) rows o.rows;
+    files = stepped IsFileOf name.Files ms k j (items old.files) (items new.files) files o.files;
+    skipped = stepped IsSkippedOf name.Left ms k j (items old.skipped) (items new.skipped) skipped o.skipped;
+    faults = stepped IsFaultOf name.Faults ms k j (items old.faults) (items new.faults) faults o.faults;
   };
 }
 
--- the list `files` was read
-pub files_taken : (k : List ℕ) → k ≡ member_name name.Files → (old new : Object) (before after : List Token) (lines : List FileLineModel)
-    → is_some old.files ≡ false → option_map (λ v. v.items) new.files ≡ Some lines → new.values ≡ old.values
-    → new.rows ≡ old.rows
-    → new.skipped ≡ old.skipped
-    → new.faults ≡ old.faults
-    → BeginsWith (IsListOf IsFileOf) before after lines → TakesMember k old new before after
-files_taken k e old new before after lines none filled vs same_rows same_skipped same_faults next = record {
-  value = next.value;
-  tokens_are = next.tokens_are;
-  adds = λ ms o. record {
-    values = λ n is. ap (λ v. named n (members_of v.items)) vs ∙ o.values n is
-        ∙ sym (kept (member_name n) ms k next.value (apart (member_name name.Files) (refl, (refl, (refl, (refl, (refl, (refl, tt)))))) k
-        e n is));
-    rows = subst (λ x. MayHaveLines IsRowOf name.Rows (ms ++ (k, next.value) ∷ []) (option_map (λ v. v.items) x)) (sym same_rows)
-        (lines_kept IsRowOf name.Rows ms k next.value _ (other_than k (member_name name.Files) (member_name name.Rows) e refl) o.rows);
-    files = subst (MayHaveLines IsFileOf name.Files (ms ++ (k, next.value) ∷ [])) (sym filled)
-        (lines_filled IsFileOf name.Files ms k next.value (option_map (λ v. v.items) old.files) lines
-        (ap (λ x. option_map (λ v. v.items) x) (none_if old.files none)) (equal_to k (member_name name.Files) e) o.files next.is);
-    skipped = subst (λ x. MayHaveLines IsSkippedOf name.Left (ms ++ (k, next.value) ∷ []) (option_map (λ v. v.items) x)) (sym same_skipped)
-        (lines_kept IsSkippedOf name.Left ms k next.value _ (other_than k (member_name name.Files) (member_name name.Left) e refl)
-        o.skipped);
-    faults = subst (λ x. MayHaveLines IsFaultOf name.Faults (ms ++ (k, next.value) ∷ []) (option_map (λ v. v.items) x)) (sym same_faults)
-        (lines_kept IsFaultOf name.Faults ms k next.value _ (other_than k (member_name name.Files) (member_name name.Faults) e refl)
-        o.faults);
-  };
-}
+-- a list was read
+module _ {L : Type 0} (Says : List Member → L → Type 0) (n : MemberName) (k : List ℕ) (e : k ≡ member_name n)
+    (old new : Option (Vec L Global)) (before after : List Token) (f : Fills Says old new before after) where
+  list_filled : Step Says n k f.begins.value (items old) (items new)
+  list_filled = inr (ap items f.none, equal_to k (member_name n) e, (f.lines, f.filled, f.begins.is))
 
--- the list `skipped` was read
-pub skipped_taken : (k : List ℕ) → k ≡ member_name name.Left
-    → (old new : Object) (before after : List Token) (lines : List SkippedLineModel)
-    → is_some old.skipped ≡ false → option_map (λ v. v.items) new.skipped ≡ Some lines → new.values ≡ old.values
-    → new.rows ≡ old.rows
-    → new.files ≡ old.files
-    → new.faults ≡ old.faults
-    → BeginsWith (IsListOf IsSkippedOf) before after lines → TakesMember k old new before after
-skipped_taken k e old new before after lines none filled vs same_rows same_files same_faults next = record {
-  value = next.value;
-  tokens_are = next.tokens_are;
-  adds = λ ms o. record {
-    values = λ n is. ap (λ v. named n (members_of v.items)) vs ∙ o.values n is
-        ∙ sym (kept (member_name n) ms k next.value (apart (member_name name.Left) (refl, (refl, (refl, (refl, (refl, (refl, tt)))))) k e
-        n is));
-    rows = subst (λ x. MayHaveLines IsRowOf name.Rows (ms ++ (k, next.value) ∷ []) (option_map (λ v. v.items) x)) (sym same_rows)
-        (lines_kept IsRowOf name.Rows ms k next.value _ (other_than k (member_name name.Left) (member_name name.Rows) e refl) o.rows);
-    files = subst (λ x. MayHaveLines IsFileOf name.Files (ms ++ (k, next.value) ∷ []) (option_map (λ v. v.items) x)) (sym same_files)
-        (lines_kept IsFileOf name.Files ms k next.value _ (other_than k (member_name name.Left) (member_name name.Files) e refl) o.files);
-    skipped = subst (MayHaveLines IsSkippedOf name.Left (ms ++ (k, next.value) ∷ [])) (sym filled)
-        (lines_filled IsSkippedOf name.Left ms k next.value (option_map (λ v. v.items) old.skipped) lines
-        (ap (λ x. option_map (λ v. v.items) x) (none_if old.skipped none)) (equal_to k (member_name name.Left) e) o.skipped next.is);
-    faults = subst (λ x. MayHaveLines IsFaultOf name.Faults (ms ++ (k, next.value) ∷ []) (option_map (λ v. v.items) x)) (sym same_faults)
-        (lines_kept IsFaultOf name.Faults ms k next.value _ (other_than k (member_name name.Left) (member_name name.Faults) e refl)
-        o.faults);
-  };
-}
+-- the values are those of the members, since the name is that of none
+values_kept : (k : List ℕ) (vs : List Member) (j : Json) → Apart k → (ms : List Member) (n : MemberName) → is_value n ≡ true
+    → named n vs ≡ named n ms → named n vs ≡ named n (ms ++ (k, j) ∷ [])
+values_kept k vs j differ ms n is same = same ∙ sym (kept (member_name n) ms k j (differ n is))
 
--- the list `faults` was read
-pub faults_taken : (k : List ℕ) → k ≡ member_name name.Faults → (old new : Object) (before after : List Token) (lines : List FaultLineModel)
-    → is_some old.faults ≡ false → option_map (λ v. v.items) new.faults ≡ Some lines → new.values ≡ old.values
-    → new.rows ≡ old.rows
-    → new.files ≡ old.files
-    → new.skipped ≡ old.skipped
-    → BeginsWith (IsListOf IsFaultOf) before after lines → TakesMember k old new before after
-faults_taken k e old new before after lines none filled vs same_rows same_files same_skipped next = record {
-  value = next.value;
-  tokens_are = next.tokens_are;
-  adds = λ ms o. record {
-    values = λ n is. ap (λ v. named n (members_of v.items)) vs ∙ o.values n is
-        ∙ sym (kept (member_name n) ms k next.value (apart (member_name name.Faults) (refl, (refl, (refl, (refl, (refl, (refl, tt)))))) k
-        e n is));
-    rows = subst (λ x. MayHaveLines IsRowOf name.Rows (ms ++ (k, next.value) ∷ []) (option_map (λ v. v.items) x)) (sym same_rows)
-        (lines_kept IsRowOf name.Rows ms k next.value _ (other_than k (member_name name.Faults) (member_name name.Rows) e refl) o.rows);
-    files = subst (λ x. MayHaveLines IsFileOf name.Files (ms ++ (k, next.value) ∷ []) (option_map (λ v. v.items) x)) (sym same_files)
-        (lines_kept IsFileOf name.Files ms k next.value _ (other_than k (member_name name.Faults) (member_name name.Files) e refl) o.files);
-    skipped = subst (λ x. MayHaveLines IsSkippedOf name.Left (ms ++ (k, next.value) ∷ []) (option_map (λ v. v.items) x)) (sym same_skipped)
-        (lines_kept IsSkippedOf name.Left ms k next.value _ (other_than k (member_name name.Faults) (member_name name.Left) e refl)
-        o.skipped);
-    faults = subst (MayHaveLines IsFaultOf name.Faults (ms ++ (k, next.value) ∷ [])) (sym filled)
-        (lines_filled IsFaultOf name.Faults ms k next.value (option_map (λ v. v.items) old.faults) lines
-        (ap (λ x. option_map (λ v. v.items) x) (none_if old.faults none)) (equal_to k (member_name name.Faults) e) o.faults next.is);
-  };
-}
+pub rows_filled : (k : List ℕ) → k ≡ member_name name.Rows → (old : Object) (rows : Option (Vec ReadRow Global)) (before after : List Token)
+    → Fills IsRowOf old.rows rows before after → TakesMember k old (record old { rows = rows }) before after
+rows_filled k e old rows before after f =
+    member_taken k old (record old { rows = rows }) before after f.begins.value f.begins.tokens_are
+    (values_kept k (members_of old.values.items) f.begins.value (apart (member_name name.Rows) (refl, (refl, (refl, (refl, (refl, (refl, tt)))))) k e))
+    (list_filled IsRowOf name.Rows k e old.rows rows before after f)
+    (inl (other_than k (member_name name.Rows) (member_name name.Files) e refl, refl))
+    (inl (other_than k (member_name name.Rows) (member_name name.Left) e refl, refl))
+    (inl (other_than k (member_name name.Rows) (member_name name.Faults) e refl, refl))
+
+pub files_filled : (k : List ℕ) → k ≡ member_name name.Files → (old : Object) (files : Option (Vec FileLineModel Global)) (before after : List Token)
+    → Fills IsFileOf old.files files before after → TakesMember k old (record old { files = files }) before after
+files_filled k e old files before after f =
+    member_taken k old (record old { files = files }) before after f.begins.value f.begins.tokens_are
+    (values_kept k (members_of old.values.items) f.begins.value (apart (member_name name.Files) (refl, (refl, (refl, (refl, (refl, (refl, tt)))))) k e))
+    (inl (other_than k (member_name name.Files) (member_name name.Rows) e refl, refl))
+    (list_filled IsFileOf name.Files k e old.files files before after f)
+    (inl (other_than k (member_name name.Files) (member_name name.Left) e refl, refl))
+    (inl (other_than k (member_name name.Files) (member_name name.Faults) e refl, refl))
+
+pub skipped_filled : (k : List ℕ) → k ≡ member_name name.Left → (old : Object) (skipped : Option (Vec SkippedLineModel Global)) (before after : List Token)
+    → Fills IsSkippedOf old.skipped skipped before after → TakesMember k old (record old { skipped = skipped }) before after
+skipped_filled k e old skipped before after f =
+    member_taken k old (record old { skipped = skipped }) before after f.begins.value f.begins.tokens_are
+    (values_kept k (members_of old.values.items) f.begins.value (apart (member_name name.Left) (refl, (refl, (refl, (refl, (refl, (refl, tt)))))) k e))
+    (inl (other_than k (member_name name.Left) (member_name name.Rows) e refl, refl))
+    (inl (other_than k (member_name name.Left) (member_name name.Files) e refl, refl))
+    (list_filled IsSkippedOf name.Left k e old.skipped skipped before after f)
+    (inl (other_than k (member_name name.Left) (member_name name.Faults) e refl, refl))
+
+pub faults_filled : (k : List ℕ) → k ≡ member_name name.Faults → (old : Object) (faults : Option (Vec FaultLineModel Global)) (before after : List Token)
+    → Fills IsFaultOf old.faults faults before after → TakesMember k old (record old { faults = faults }) before after
+faults_filled k e old faults before after f =
+    member_taken k old (record old { faults = faults }) before after f.begins.value f.begins.tokens_are
+    (values_kept k (members_of old.values.items) f.begins.value (apart (member_name name.Faults) (refl, (refl, (refl, (refl, (refl, (refl, tt)))))) k e))
+    (inl (other_than k (member_name name.Faults) (member_name name.Rows) e refl, refl))
+    (inl (other_than k (member_name name.Faults) (member_name name.Files) e refl, refl))
+    (inl (other_than k (member_name name.Faults) (member_name name.Left) e refl, refl))
+    (list_filled IsFaultOf name.Faults k e old.faults faults before after f)
 
 same_rest : (xs ys : List Json) (b : Bool) (j : Json) → xs ≡ ys → xs ++ cond b (j ∷ []) [] ≡ ys ++ cond b (j ∷ []) []
 same_rest xs ys b j e = ap (λ (s : List Json). s ++ cond b (j ∷ []) []) e
@@ -233,65 +211,26 @@ list_apart l all n is k e =
     ap (λ (s : List ℕ). bytes_eq s l) e ∙ each_of (λ n. bytes_eq (member_name n) l ≡ false) value_names all n (value_in n is)
 
 -- a member that is no list was read
-pub small_taken : (n : MemberName) → is_value n ≡ true → (k : List ℕ) → k ≡ member_name n → (old new : Object) (before after : List Token)
-    → (j : Json) → before ≡ json_tokens j ++ after → members_of new.values.items ≡ members_of old.values.items ++ (k, j) ∷ []
-    → new.rows ≡ old.rows
-    → new.files ≡ old.files
-    → new.skipped ≡ old.skipped
-    → new.faults ≡ old.faults
-    → TakesMember k old new before after
-small_taken n is k e old new before after j tokens pushed same_rows same_files same_skipped same_faults = record {
-  value = j;
-  tokens_are = tokens;
-  adds = λ ms o. record {
-    values = λ m is_m. ap (λ (s : List Member). named m s) pushed ∙ values_more (member_name m) (members_of old.values.items) k j
-        ∙ same_rest _ _ (bytes_eq k (member_name m)) j (o.values m is_m) ∙ sym (values_more (member_name m) ms k j);
-    rows = subst (λ x. MayHaveLines IsRowOf name.Rows (ms ++ (k, j) ∷ []) (option_map (λ v. v.items) x)) (sym same_rows)
-        (lines_kept IsRowOf name.Rows ms k j _ (list_apart (member_name name.Rows) (refl, (refl, (refl, (refl, (refl, (refl, tt)))))) n
-        is k e) o.rows);
-    files = subst (λ x. MayHaveLines IsFileOf name.Files (ms ++ (k, j) ∷ []) (option_map (λ v. v.items) x)) (sym same_files)
-        (lines_kept IsFileOf name.Files ms k j _ (list_apart (member_name name.Files) (refl, (refl, (refl, (refl, (refl, (refl, tt))))))
-        n is k e) o.files);
-    skipped = subst (λ x. MayHaveLines IsSkippedOf name.Left (ms ++ (k, j) ∷ []) (option_map (λ v. v.items) x)) (sym same_skipped)
-        (lines_kept IsSkippedOf name.Left ms k j _ (list_apart (member_name name.Left) (refl, (refl, (refl, (refl, (refl, (refl, tt))))))
-        n is k e) o.skipped);
-    faults = subst (λ x. MayHaveLines IsFaultOf name.Faults (ms ++ (k, j) ∷ []) (option_map (λ v. v.items) x)) (sym same_faults)
-        (lines_kept IsFaultOf name.Faults ms k j _ (list_apart (member_name name.Faults) (
-          refl,
-          (
-            refl,
-            (
-              refl,
-              (
-                refl,
-                (
-                  refl,
-                  (
-                    refl,
-                    tt,
-                  ),
-                ),
-              ),
-            ),
-          ),
-        ) n is k e) o.faults);
-  };
-}
+pub small_taken : (n : MemberName) → is_value n ≡ true → (k : List ℕ) → k ≡ member_name n → (old : Object)
+    (values : Vec (Bor (List ℕ) × Value Global) Global) (before after : List Token) (j : Json) → before ≡ json_tokens j ++ after
+    → members_of values.items ≡ members_of old.values.items ++ (k, j) ∷ [] → TakesMember k old (record old { values = values }) before after
+small_taken n is k e old values before after j tokens pushed =
+    member_taken k old (record old { values = values }) before after j tokens
+    (λ ms m is_m same. ap (λ (s : List Member). named m s) pushed ∙ values_more (member_name m) (members_of old.values.items) k j
+    ∙ same_rest _ _ (bytes_eq k (member_name m)) j same ∙ sym (values_more (member_name m) ms k j))
+    (inl (list_apart (member_name name.Rows) (refl, (refl, (refl, (refl, (refl, (refl, tt)))))) n is k e, refl))
+    (inl (list_apart (member_name name.Files) (refl, (refl, (refl, (refl, (refl, (refl, tt)))))) n is k e, refl))
+    (inl (list_apart (member_name name.Left) (refl, (refl, (refl, (refl, (refl, (refl, tt)))))) n is k e, refl))
+    (inl (list_apart (member_name name.Faults) (refl, (refl, (refl, (refl, (refl, (refl, tt)))))) n is k e, refl))
 
 -- a member was passed over
-pub other_taken : (k : List ℕ) → IsTopMember k Other → (old new : Object) → new ≡ old → (before after : List Token)
-    → IsPassed before after → TakesMember k old new before after
-other_taken k other old new same before after passed = subst (λ o. TakesMember k old o before after) (sym same) (record {
-  value = passed.value;
-  tokens_are = passed.tokens_are;
-  adds = λ ms o. record {
-    values = λ n is. o.values n is ∙ sym (kept (member_name n) ms k passed.value (not_equal k (member_name n) (other.4 n is)));
-    rows = lines_kept IsRowOf name.Rows ms k passed.value _ (not_equal k (member_name name.Rows) other.0) o.rows;
-    files = lines_kept IsFileOf name.Files ms k passed.value _ (not_equal k (member_name name.Files) other.1) o.files;
-    skipped = lines_kept IsSkippedOf name.Left ms k passed.value _ (not_equal k (member_name name.Left) other.2) o.skipped;
-    faults = lines_kept IsFaultOf name.Faults ms k passed.value _ (not_equal k (member_name name.Faults) other.3) o.faults;
-  };
-})
+pub other_taken : (k : List ℕ) → IsTopMember k Other → (o : Object) (before after : List Token) → IsPassed before after
+    → TakesMember k o o before after
+other_taken k other o before after passed =
+    member_taken k o o before after passed.value passed.tokens_are
+    (values_kept k (members_of o.values.items) passed.value (λ n is. not_equal k (member_name n) (other.4 n is)))
+    (inl (not_equal k (member_name name.Rows) other.0, refl)) (inl (not_equal k (member_name name.Files) other.1, refl))
+    (inl (not_equal k (member_name name.Left) other.2, refl)) (inl (not_equal k (member_name name.Faults) other.3, refl))
 
 -- ---- all members
 

@@ -1,10 +1,11 @@
 -- The members of a report.
-use Rattle.std.specs.Prelude.{◌≡◌, ◌≢◌, ◌++◌, ℕ, Bool, true, false, List, [], ◌∷◌, MatchOption, Option, option_map}
+use Rattle.std.specs.Prelude.{◌≡◌, ◌≢◌, ◌++◌, ℕ, Bool, true, false, List, [], ◌∷◌, MatchOption, Option, Some, None, option_map, Vec}
+use Rattle.std.specs.Global.{Global}
 use Rattle.json.specs.Json.{Json, object}
 use Rattle.json.specs.Token.{Token}
 use Rattle.json.specs.Tree.{json_tokens}
 use Rattle.lc_reading.specs.Lines.{IsFaultOf, IsFileOf, IsSkippedOf}
-use Rattle.lc_reading.specs.Lists.{IsListOf}
+use Rattle.lc_reading.specs.Lists.{BeginsWith, IsListOf}
 use Rattle.lc_reading.specs.MemberNames.{member_name}
 use Rattle.lc_reading.specs.Members.{Member, Has, Lacks, members_of, members_with, named}
 use Rattle.lc_reading.specs.Rows.{IsRowOf}
@@ -52,6 +53,14 @@ pub record IsObjectOf (ms : List Member) (o : Object) : Type 0 where
   pub files : MayHaveLines IsFileOf member.Files ms (option_map (λ v. v.items) o.files)
   pub skipped : MayHaveLines IsSkippedOf member.Left ms (option_map (λ v. v.items) o.skipped)
   pub faults : MayHaveLines IsFaultOf member.Faults ms (option_map (λ v. v.items) o.faults)
+
+-- a list that was not there was read from the tokens
+pub record Fills {L : Type 0} (Says : List Member → L → Type 0) (old new : Option (Vec L Global)) (before after : List Token) : Type 0
+  where
+    pub none : old ≡ None
+    pub lines : List L
+    pub filled : option_map (λ v. v.items) new ≡ Some lines
+    pub begins : BeginsWith (IsListOf Says) before after lines
 
 -- a member of this name was read from the tokens, and added to the object
 pub record TakesMember (k : List ℕ) (old new : Object) (before after : List Token) : Type 0 where

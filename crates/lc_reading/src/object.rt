@@ -1,13 +1,12 @@
 //! Reading the JSON object of a report, member by member.
 
-ghost use Rattle.std.specs.Prelude.{◌≡◌, ◌∷◌, true, option_map, IfOk, OnOk, [], ℕ, List};
+ghost use Rattle.std.specs.Prelude.{◌≡◌, ◌∷◌, true, option_map, IfOk, OnOk, []};
 ghost use Rattle.json.specs.Token.{begin_object};
 ghost use Rattle.json.proofs.Grammar.{key_token};
 ghost use Rattle.lc_reading.specs.MemberNames.{member_name};
-ghost use Rattle.lc_reading.specs.Objects.{IsObjectOf, IsPassed, TakesMember, TakesObject, is_value};
-ghost use Rattle.lc_reading.specs.declared.member_name.MemberName.TheVariants as name;
+ghost use Rattle.lc_reading.specs.Objects.{Fills, IsObjectOf, IsPassed, TakesMember, TakesObject, is_value};
 
-use crate::lists::{read_list, read_value};
+use crate::lists::{ListLine, read_list, read_value};
 use crate::member_name::MemberName;
 use crate::read_fault::{NoReport, ReadFault};
 use crate::rows::ReadRow;
@@ -39,67 +38,20 @@ fn no_members<'a>(alloc: Global) -> Object<'a>
     }
 }
 
-fn read_rows<'a>(
-    object: &mut Object<'a>,
+/// Reads the list that is the value of the member `name`, unless the list is there already.
+fn fill<'a, L: ListLine>(
+    list: &mut Option<Vec<L>>,
     alloc: Global,
     reader: &mut Reader<'a>,
+    name: MemberName,
 ) -> Result<(), ReadFault>
-    ensures { OnOk result ((k : List ℕ) → k ≡ member_name name.Rows
-        → TakesMember k object.old object.new reader.old reader.new) }
+    ensures { OnOk result (Fills L.is_of list.old list.new reader.old reader.new) }
 {
-    if object.rows.is_some() {
-        return Err(ReadFault::NoReport(NoReport::Twice(MemberName::Rows)));
+    if list.is_some() {
+        return Err(ReadFault::NoReport(NoReport::Twice(name)));
     }
-    let rows = read_list(alloc, reader, MemberName::Rows)?;
-    object.rows = Some(rows);
-    Ok(())
-}
-
-fn read_files<'a>(
-    object: &mut Object<'a>,
-    alloc: Global,
-    reader: &mut Reader<'a>,
-) -> Result<(), ReadFault>
-    ensures { OnOk result ((k : List ℕ) → k ≡ member_name name.Files
-        → TakesMember k object.old object.new reader.old reader.new) }
-{
-    if object.files.is_some() {
-        return Err(ReadFault::NoReport(NoReport::Twice(MemberName::Files)));
-    }
-    let files = read_list(alloc, reader, MemberName::Files)?;
-    object.files = Some(files);
-    Ok(())
-}
-
-fn read_skipped<'a>(
-    object: &mut Object<'a>,
-    alloc: Global,
-    reader: &mut Reader<'a>,
-) -> Result<(), ReadFault>
-    ensures { OnOk result ((k : List ℕ) → k ≡ member_name name.Left
-        → TakesMember k object.old object.new reader.old reader.new) }
-{
-    if object.skipped.is_some() {
-        return Err(ReadFault::NoReport(NoReport::Twice(MemberName::Left)));
-    }
-    let skipped = read_list(alloc, reader, MemberName::Left)?;
-    object.skipped = Some(skipped);
-    Ok(())
-}
-
-fn read_faults<'a>(
-    object: &mut Object<'a>,
-    alloc: Global,
-    reader: &mut Reader<'a>,
-) -> Result<(), ReadFault>
-    ensures { OnOk result ((k : List ℕ) → k ≡ member_name name.Faults
-        → TakesMember k object.old object.new reader.old reader.new) }
-{
-    if object.faults.is_some() {
-        return Err(ReadFault::NoReport(NoReport::Twice(MemberName::Faults)));
-    }
-    let faults = read_list(alloc, reader, MemberName::Faults)?;
-    object.faults = Some(faults);
+    let lines = read_list(alloc, reader, name)?;
+    *list = Some(lines);
     Ok(())
 }
 
@@ -139,10 +91,10 @@ fn read_member<'a>(
     ensures { OnOk result (TakesMember key.entry.now object.old object.new reader.old reader.new) }
 {
     match top_member(key) {
-        TopMember::Rows => read_rows(object, alloc, reader),
-        TopMember::Files => read_files(object, alloc, reader),
-        TopMember::Left => read_skipped(object, alloc, reader),
-        TopMember::Faults => read_faults(object, alloc, reader),
+        TopMember::Rows => fill(&mut object.rows, alloc, reader, MemberName::Rows),
+        TopMember::Files => fill(&mut object.files, alloc, reader, MemberName::Files),
+        TopMember::Left => fill(&mut object.skipped, alloc, reader, MemberName::Left),
+        TopMember::Faults => fill(&mut object.faults, alloc, reader, MemberName::Faults),
         TopMember::Value(name) => read_small(object, alloc, reader, key, name),
         TopMember::Other => skip(reader),
     }
