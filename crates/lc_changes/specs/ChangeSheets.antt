@@ -1,5 +1,5 @@
 -- What a comparison of two reports shows.
-use Rattle.std.specs.Prelude.{◌≡◌, ℕ, true, Bool, ◌||◌, if◌then◌else◌, is_some, List, [], ◌∷◌, codes, Option, Some, None}
+use Rattle.std.specs.Prelude.{◌≡◌, ℕ, true, false, Bool, ◌||◌, if◌then◌else◌, is_some, List, [], ◌∷◌, codes, Option, Some, None}
 use Rattle.std.specs.List.{list_any}
 use Rattle.lc_changes.specs.ChangeColumns.{changed_columns, changed_sums_columns, file_change_columns}
 use Rattle.lc_changes.specs.ChangeValues.{ChangedSumsModel, changed_sums_value, changed_value, file_change_value}
@@ -10,7 +10,7 @@ use Rattle.lc_rows.specs.SheetColumns.{first_key, keeps_columns}
 use Rattle.lc_rows.specs.Sheets.{section_of}
 use Rattle.lc_rows.specs.ShownRows.{parts_of}
 use Rattle.lc_rows.specs.Views.{first_of, rest_of}
-use Rattle.lc_sheet.specs.Sheets.{ComparisonModel, SectionModel}
+use Rattle.lc_sheet.specs.Sheets.{SectionModel, SheetModel}
 use Rattle.lc_sheet.specs.declared.column.Column.{Column}
 use Rattle.lc_sheet.specs.declared.form.Form.{Form}
 use Rattle.lc_sheet.specs.declared.table_options.Columns.{Columns}
@@ -38,11 +38,12 @@ total_sums old new = sums_line (codes "total") old new ∷ []
 
 -- ---- the comparison
 
--- what is shown of a comparison: the format and the form; the rows with their columns; the sums; the files, if they are listed
+-- what is shown of a comparison: the format and the form; the columns of rows and of files; the rows; the sums; the files, if they are listed
 pub record ShownChangesModel : Type 0 where
   pub format : Format
   pub form : Form
   pub columns : List Column
+  pub file_columns : List Column
   pub rows : List ChangedRowModel
   pub others : List ChangedSumsModel
   pub total : List ChangedSumsModel
@@ -51,22 +52,29 @@ pub record ShownChangesModel : Type 0 where
 
 abbrev pub files_section : ShownChangesModel → Option SectionModel
 files_section m =
-    if m.lists_files then Some (section_of (file_change_value m.form) (file_change_columns m.format m.form.by) m.files) else None
+    if m.lists_files then Some (section_of (file_change_value m.form) m.file_columns m.files) else None
 
-abbrev pub comparison_with : ShownChangesModel → ComparisonModel
+abbrev pub comparison_with : ShownChangesModel → SheetModel
 comparison_with m = record {
   rows = section_of (changed_value m.form) m.columns m.rows;
   others = section_of (changed_sums_value m.form) (changed_sums_columns m.format m.columns) m.others;
-  total = section_of (changed_sums_value m.form) (changed_sums_columns m.format m.columns) m.total;
+  totals = section_of (changed_sums_value m.form) (changed_sums_columns m.format m.columns) m.total;
+  compares = true;
+  some_binary = false;
+  directories = None;
+  entries = None;
   files = files_section m;
+  skipped = None;
+  faults = None;
 }
 
 -- the comparison that shows the first of these sorted rows and files, the sums over the other rows, and this total
-abbrev pub comparison_of : ChangeOptions → List ChangedSumsModel → List ChangedRowModel → List FileChangeModel → ComparisonModel
+abbrev pub comparison_of : ChangeOptions → List ChangedSumsModel → List ChangedRowModel → List FileChangeModel → SheetModel
 comparison_of options total rows files = comparison_with (record {
   format = options.format;
   form = form_by options.format options.by;
   columns = changed_columns options.format options.by;
+  file_columns = file_change_columns options.format options.by;
   rows = first_of options.top rows;
   others = other_sums (rest_of options.top rows);
   total = total;
@@ -76,7 +84,7 @@ comparison_of options total rows files = comparison_with (record {
 
 -- a comparison, and whether the reports differ in a row or in a listed file, whether the row or file is shown or not
 pub record ChangesModel : Type 0 where
-  pub sheet : ComparisonModel
+  pub sheet : SheetModel
   pub some_differ : Bool
 
 abbrev pub shown_with : ChangeOptions → List ChangedSumsModel → List ChangedRowModel → List FileChangeModel → Bool → ChangesModel

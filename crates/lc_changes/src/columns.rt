@@ -1,66 +1,91 @@
 //! The columns that each section of a comparison has in each format.
 
 ghost use Rattle.std.specs.Prelude.{◌≡◌, IfOk};
-ghost use Rattle.lc_changes.specs.ChangeColumns.{changed_columns, changed_numbers, changed_sums_columns, csv_changes, file_change_columns};
-ghost use Rattle.lc_changes.specs.ChangeColumns.{json_changes, listed_changes, numbers_by_report, numbers_in_turn, numbers_with_changes};
-ghost use Rattle.lc_changes.specs.ChangeColumns.{read_changes};
+ghost use Rattle.lc_changes.specs.ChangeColumns.{changed_columns, changed_numbers, changed_sums_columns, file_change_columns};
 
-use lc_rows::{keeps_columns, push_keys};
+use lc_rows::{keeps_columns, push_if, push_keys};
 use lc_sheet::{Column, Columns, Compared, Format, Number};
 use std::alloc::{AllocError, Global};
 
-fn numbers_in_turn() -> &'static [Column]
-    ensures { result.now ≡ numbers_in_turn }
-{
-    &[
-        Column::Old(Compared::Number(Number::Files)),
-        Column::New(Compared::Number(Number::Files)),
-        Column::Old(Compared::Number(Number::Lines)),
-        Column::New(Compared::Number(Number::Lines)),
-        Column::Old(Compared::Number(Number::Blank)),
-        Column::New(Compared::Number(Number::Blank)),
-        Column::Old(Compared::Number(Number::Bytes)),
-        Column::New(Compared::Number(Number::Bytes)),
-    ]
-}
+/// Each number of the old report, followed by the same number of the new report.
+const NUMBERS_IN_TURN: [Column; 8] = [
+    Column::Old(Compared::Number(Number::Files)),
+    Column::New(Compared::Number(Number::Files)),
+    Column::Old(Compared::Number(Number::Lines)),
+    Column::New(Compared::Number(Number::Lines)),
+    Column::Old(Compared::Number(Number::Blank)),
+    Column::New(Compared::Number(Number::Blank)),
+    Column::Old(Compared::Number(Number::Bytes)),
+    Column::New(Compared::Number(Number::Bytes)),
+];
 
-fn numbers_by_report() -> &'static [Column]
-    ensures { result.now ≡ numbers_by_report }
-{
-    &[
-        Column::Old(Compared::Number(Number::Files)),
-        Column::Old(Compared::Number(Number::Lines)),
-        Column::Old(Compared::Number(Number::Blank)),
-        Column::Old(Compared::Number(Number::Bytes)),
-        Column::New(Compared::Number(Number::Files)),
-        Column::New(Compared::Number(Number::Lines)),
-        Column::New(Compared::Number(Number::Blank)),
-        Column::New(Compared::Number(Number::Bytes)),
-    ]
-}
+/// The numbers of the old report, and then the numbers of the new report.
+const NUMBERS_BY_REPORT: [Column; 8] = [
+    Column::Old(Compared::Number(Number::Files)),
+    Column::Old(Compared::Number(Number::Lines)),
+    Column::Old(Compared::Number(Number::Blank)),
+    Column::Old(Compared::Number(Number::Bytes)),
+    Column::New(Compared::Number(Number::Files)),
+    Column::New(Compared::Number(Number::Lines)),
+    Column::New(Compared::Number(Number::Blank)),
+    Column::New(Compared::Number(Number::Bytes)),
+];
 
-fn numbers_with_changes() -> &'static [Column]
-    ensures { result.now ≡ numbers_with_changes }
-{
-    &[
-        Column::New(Compared::Number(Number::Files)),
-        Column::Difference(Number::Files),
-        Column::New(Compared::Number(Number::Lines)),
-        Column::Difference(Number::Lines),
-        Column::New(Compared::Number(Number::Blank)),
-        Column::Difference(Number::Blank),
-        Column::New(Compared::Number(Number::Bytes)),
-        Column::Difference(Number::Bytes),
-    ]
-}
+/// Each number of the new report, followed by its change.
+const NUMBERS_WITH_CHANGES: [Column; 8] = [
+    Column::New(Compared::Number(Number::Files)),
+    Column::Difference(Number::Files),
+    Column::New(Compared::Number(Number::Lines)),
+    Column::Difference(Number::Lines),
+    Column::New(Compared::Number(Number::Blank)),
+    Column::Difference(Number::Blank),
+    Column::New(Compared::Number(Number::Bytes)),
+    Column::Difference(Number::Bytes),
+];
+
+/// Each value of a file in the old report, followed by the same value in the new report.
+const VALUES_IN_TURN: [Column; 10] = [
+    Column::Old(Compared::Text),
+    Column::New(Compared::Text),
+    Column::Old(Compared::Eol),
+    Column::New(Compared::Eol),
+    Column::Old(Compared::Number(Number::Lines)),
+    Column::New(Compared::Number(Number::Lines)),
+    Column::Old(Compared::Number(Number::Blank)),
+    Column::New(Compared::Number(Number::Blank)),
+    Column::Old(Compared::Number(Number::Bytes)),
+    Column::New(Compared::Number(Number::Bytes)),
+];
+
+/// The values of a file in the old report, and then its values in the new report.
+const VALUES_BY_REPORT: [Column; 10] = [
+    Column::Old(Compared::Text),
+    Column::Old(Compared::Eol),
+    Column::Old(Compared::Number(Number::Lines)),
+    Column::Old(Compared::Number(Number::Blank)),
+    Column::Old(Compared::Number(Number::Bytes)),
+    Column::New(Compared::Text),
+    Column::New(Compared::Eol),
+    Column::New(Compared::Number(Number::Lines)),
+    Column::New(Compared::Number(Number::Blank)),
+    Column::New(Compared::Number(Number::Bytes)),
+];
+
+/// The columns of files in a list for reading.
+const READ_FILES: [Column; 4] = [
+    Column::Change,
+    Column::New(Compared::Number(Number::Lines)),
+    Column::Difference(Number::Lines),
+    Column::Path,
+];
 
 fn changed_numbers(format: Format) -> &'static [Column]
     ensures { result.now ≡ changed_numbers format }
 {
     match format {
-        Format::Tsv | Format::Csv => numbers_in_turn(),
-        Format::Json => numbers_by_report(),
-        Format::Table | Format::Markdown | Format::Html => numbers_with_changes(),
+        Format::Tsv | Format::Csv => &NUMBERS_IN_TURN,
+        Format::Json => &NUMBERS_BY_REPORT,
+        Format::Table | Format::Markdown | Format::Html => &NUMBERS_WITH_CHANGES,
     }
 }
 
@@ -83,127 +108,39 @@ pub(crate) fn changed_sums_columns(format: Format, rows: &[Column]) -> &[Column]
     ensures { result.now ≡ changed_sums_columns format rows.entry.now }
 {
     match format {
-        Format::Json | Format::Csv => numbers_by_report(),
+        Format::Json | Format::Csv => &NUMBERS_BY_REPORT,
         Format::Tsv | Format::Table | Format::Markdown | Format::Html => rows,
     }
 }
 
-fn listed_changes() -> &'static [Column]
-    ensures { result.now ≡ listed_changes }
+/// Makes the columns of a comparison's list of files. In records, files have their directory if rows are by directory.
+pub(crate) fn file_change_columns(
+    alloc: Global,
+    format: Format,
+    by: Columns,
+) -> Result<Vec<Column>, AllocError>
+    ensures { IfOk result (λ columns. columns.items ≡ file_change_columns format by) }
 {
-    &[
-        Column::Change,
-        Column::Old(Compared::Text),
-        Column::New(Compared::Text),
-        Column::Old(Compared::Eol),
-        Column::New(Compared::Eol),
-        Column::Old(Compared::Number(Number::Lines)),
-        Column::New(Compared::Number(Number::Lines)),
-        Column::Old(Compared::Number(Number::Blank)),
-        Column::New(Compared::Number(Number::Blank)),
-        Column::Old(Compared::Number(Number::Bytes)),
-        Column::New(Compared::Number(Number::Bytes)),
-        Column::Path,
-    ]
-}
-
-fn read_changes() -> &'static [Column]
-    ensures { result.now ≡ read_changes }
-{
-    &[
-        Column::Change,
-        Column::New(Compared::Number(Number::Lines)),
-        Column::Difference(Number::Lines),
-        Column::Path,
-    ]
-}
-
-fn csv_changes(by_directory: bool) -> &'static [Column]
-    ensures { result.now ≡ csv_changes by_directory }
-{
-    if by_directory {
-        &[
-            Column::Path,
-            Column::Change,
-            Column::Dir,
-            Column::Ext,
-            Column::Old(Compared::Text),
-            Column::New(Compared::Text),
-            Column::Old(Compared::Eol),
-            Column::New(Compared::Eol),
-            Column::Old(Compared::Number(Number::Lines)),
-            Column::New(Compared::Number(Number::Lines)),
-            Column::Old(Compared::Number(Number::Blank)),
-            Column::New(Compared::Number(Number::Blank)),
-            Column::Old(Compared::Number(Number::Bytes)),
-            Column::New(Compared::Number(Number::Bytes)),
-        ]
-    } else {
-        &[
-            Column::Path,
-            Column::Change,
-            Column::Ext,
-            Column::Old(Compared::Text),
-            Column::New(Compared::Text),
-            Column::Old(Compared::Eol),
-            Column::New(Compared::Eol),
-            Column::Old(Compared::Number(Number::Lines)),
-            Column::New(Compared::Number(Number::Lines)),
-            Column::Old(Compared::Number(Number::Blank)),
-            Column::New(Compared::Number(Number::Blank)),
-            Column::Old(Compared::Number(Number::Bytes)),
-            Column::New(Compared::Number(Number::Bytes)),
-        ]
-    }
-}
-
-fn json_changes(by_directory: bool) -> &'static [Column]
-    ensures { result.now ≡ json_changes by_directory }
-{
-    if by_directory {
-        &[
-            Column::Path,
-            Column::Dir,
-            Column::Ext,
-            Column::Change,
-            Column::Old(Compared::Text),
-            Column::Old(Compared::Eol),
-            Column::Old(Compared::Number(Number::Lines)),
-            Column::Old(Compared::Number(Number::Blank)),
-            Column::Old(Compared::Number(Number::Bytes)),
-            Column::New(Compared::Text),
-            Column::New(Compared::Eol),
-            Column::New(Compared::Number(Number::Lines)),
-            Column::New(Compared::Number(Number::Blank)),
-            Column::New(Compared::Number(Number::Bytes)),
-        ]
-    } else {
-        &[
-            Column::Path,
-            Column::Ext,
-            Column::Change,
-            Column::Old(Compared::Text),
-            Column::Old(Compared::Eol),
-            Column::Old(Compared::Number(Number::Lines)),
-            Column::Old(Compared::Number(Number::Blank)),
-            Column::Old(Compared::Number(Number::Bytes)),
-            Column::New(Compared::Text),
-            Column::New(Compared::Eol),
-            Column::New(Compared::Number(Number::Lines)),
-            Column::New(Compared::Number(Number::Blank)),
-            Column::New(Compared::Number(Number::Bytes)),
-        ]
-    }
-}
-
-/// Returns the columns of a comparison's list of files.
-pub(crate) fn file_change_columns(format: Format, by: Columns) -> &'static [Column]
-    ensures { result.now ≡ file_change_columns format by }
-{
+    let mut columns = Vec::new(alloc);
     match format {
-        Format::Tsv => listed_changes(),
-        Format::Csv => csv_changes(by.dir.is_some()),
-        Format::Json => json_changes(by.dir.is_some()),
-        Format::Table | Format::Markdown | Format::Html => read_changes(),
+        Format::Tsv => {
+            columns.push(Column::Change)?;
+            columns.extend_from_slice(&VALUES_IN_TURN)?;
+            columns.push(Column::Path)?;
+        }
+        Format::Csv => {
+            columns.extend_from_slice(&[Column::Path, Column::Change])?;
+            push_if(&mut columns, by.dir.is_some(), Column::Dir)?;
+            columns.push(Column::Ext)?;
+            columns.extend_from_slice(&VALUES_IN_TURN)?;
+        }
+        Format::Json => {
+            columns.push(Column::Path)?;
+            push_if(&mut columns, by.dir.is_some(), Column::Dir)?;
+            columns.extend_from_slice(&[Column::Ext, Column::Change])?;
+            columns.extend_from_slice(&VALUES_BY_REPORT)?;
+        }
+        Format::Table | Format::Markdown | Format::Html => columns.extend_from_slice(&READ_FILES)?,
     }
+    Ok(columns)
 }

@@ -16,14 +16,14 @@ use crate::options::ChangeOptions;
 use crate::rows::compared_rows;
 use crate::sorting::{keep_rows, sort_files, sort_rows};
 use crate::sums::{other_sums, total_sums};
-use lc_rows::{first_key, keeps_columns, split_at_top};
-use lc_sheet::{Column, Columns, ComparisonSheet, Form, Format, Section};
+use lc_rows::{Faults, Skipped, first_key, split_at_top};
+use lc_sheet::{Column, Columns, Form, Format, Section, Sheet};
 use lc_walk::Report;
 use std::alloc::{AllocError, Global};
 use std::marker::Model;
 
 /// The sheet of a comparison of two reports.
-pub type ChangeSheet<'a> = ComparisonSheet<'a, Changes<'a>, ChangedTotals, FileChanges<'a>>;
+pub type ChangeSheet<'a> = Sheet<'a, Changes<'a>, ChangedTotals, FileChanges<'a>, Skipped, Faults>;
 
 /// What a comparison shows of two reports. It owns its rows and files, which borrow from both reports. The sheet that
 /// [`comparison`](ShownChanges::comparison) returns borrows from it.
@@ -32,6 +32,7 @@ pub struct ShownChanges<'a> {
     format: Format,
     form: Form,
     columns: Vec<Column>,
+    file_columns: Vec<Column>,
     rows: Vec<ChangedRow<'a>>,
     others: Vec<ChangedSums>,
     total: Vec<ChangedSums>,
@@ -50,6 +51,7 @@ impl<'a> Model for ShownChanges<'a> {
         format = s.format;
         form = s.form;
         columns = s.columns.items;
+        file_columns = s.file_columns.items;
         rows = s.rows.items;
         others = s.others.items;
         total = s.total.items;
@@ -170,6 +172,7 @@ impl<'a> ShownChanges<'a> {
             format: options.format,
             form: form_by(options.format, options.by),
             columns: changed_columns(alloc, options.format, options.by)?,
+            file_columns: file_change_columns(alloc, options.format, options.by)?,
             rows,
             others,
             total,
@@ -184,11 +187,7 @@ impl<'a> ShownChanges<'a> {
         ensures { result ≡ self.entry.now.sheet.files }
     {
         if self.lists_files {
-            Some(Section::new(
-                self.form,
-                file_change_columns(self.format, self.form.by),
-                &self.files,
-            ))
+            Some(Section::new(self.form, &self.file_columns, &self.files))
         } else {
             None
         }
@@ -199,11 +198,17 @@ impl<'a> ShownChanges<'a> {
         ensures { result ≡ self.entry.now.sheet }
     {
         let sums_columns = changed_sums_columns(self.format, &self.columns);
-        ComparisonSheet {
+        Sheet {
             rows: Section::new(self.form, &self.columns, &self.rows),
             others: Section::new(self.form, sums_columns, &self.others),
-            total: Section::new(self.form, sums_columns, &self.total),
+            totals: Section::new(self.form, sums_columns, &self.total),
+            compares: true,
+            some_binary: false,
+            directories: None,
+            entries: None,
             files: self.files_section(),
+            skipped: None,
+            faults: None,
         }
     }
 

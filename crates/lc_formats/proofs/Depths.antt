@@ -1,11 +1,11 @@
 -- The value of a sheet is a document.
-use Rattle.std.proofs.Common.{◌≡◌, ℕ, ◌≤◌, Bool, true, false, cond, List, [], ◌∷◌, ◌++◌, map, codes, Option, Some, None}
+use Rattle.std.proofs.Common.{◌≡◌, ℕ, ◌≤◌, Bool, true, false, cond, if◌then◌else◌, List, [], ◌∷◌, ◌++◌, map, codes, Option, Some, None}
 use Rattle.std.proofs.Common.{option_and_then, slice_get, sym, ap, ◌∙◌, arith, append-nil}
 use Rattle.std.proofs.Common.{Result, Ok, Err, IfOk}
 use Rattle.std.specs.Prelude.{Vec}
 use Rattle.std.specs.Global.{Global}
 use Rattle.std.specs.Str.{is_utf8}
-use Rattle.json.specs.Json.{Json, string, if_last, max_depth, value}
+use Rattle.json.specs.Json.{Json, null, string, if_last, max_depth, value}
 use Rattle.json.specs.Lex.{tokens}
 use Rattle.json.specs.Print.{print}
 use Rattle.json.specs.Token.{Token}
@@ -16,18 +16,22 @@ use Rattle.lc_sheet.specs.Sheets.{SectionModel, SheetModel}
 use Rattle.lc_sheet.specs.Values.{ValueModel, missing, summed, blank, word, name, path, number, share, bar, difference}
 use Rattle.lc_sheet.specs.declared.column.Column.{Column}
 use Rattle.lc_text.specs.Names.{named}
-use Rattle.lc_formats.specs.JsonSheets.{entries_members, files_members, json_of, line_at, line_members, line_object, list_member}
-use Rattle.lc_formats.specs.JsonSheets.{list_members, number_members, object_members, skipped_members, totals_members, value_members}
-use Rattle.lc_formats.specs.JsonText.{Member, items_with, members_with, array_with, integer, bytes_member, bytes_name, IsDocument}
+use Rattle.lc_formats.specs.JsonLines.{change_object, column_in, lacks, line_members, line_object, members_in, object_of, part_members}
+use Rattle.lc_formats.specs.JsonLines.{side_value, value_members}
+use Rattle.lc_formats.specs.JsonSheets.{json_of, line_at, list_member, list_members, number_member, number_members, object_members}
+use Rattle.lc_formats.specs.JsonSheets.{some_list, totals_members}
+use Rattle.lc_formats.specs.declared.json_sides.Part.{Part}
+use Rattle.lc_formats.specs.declared.json_sides.Part.TheVariants.{Own, Old, New}
+use Rattle.lc_formats.specs.JsonText.{Member, items_with, members_with, array_with, integer, bytes_member, bytes_name, IsDocument, object_with}
 
 -- an array is as deep as its values
-pub items_within : {X : Type 0} (v : X → Json) (n : ℕ) → ((x : X) → depth (v x) ≤ n) → (xs : List X)
+items_within : {X : Type 0} (v : X → Json) (n : ℕ) → ((x : X) → depth (v x) ≤ n) → (xs : List X)
     → items_depth (items_with (map v xs)) ≤ n
 items_within v n each [] = omega arith
 items_within v n each (x ∷ xs) = let first = each x in let rest = items_within v n each xs in omega arith
 
 -- members of both lists
-pub both_within : (n : ℕ) (ms ns : List Member) → members_depth (members_with ms) ≤ n → members_depth (members_with ns) ≤ n
+both_within : (n : ℕ) (ms ns : List Member) → members_depth (members_with ms) ≤ n → members_depth (members_with ns) ≤ n
     → members_depth (members_with (ms ++ ns)) ≤ n
 both_within n [] ns a b = b
 both_within n (m ∷ ms) ns a b = let rest = both_within n ms ns (omega arith) b in omega arith
@@ -41,7 +45,7 @@ bytes_within n bytes =
     let inner = items_within integer 0 (λ k. omega arith) bytes in
     chosen_within (is_utf8 bytes) (n, string bytes) (bytes_name n, array_with (map integer bytes)) (omega arith) (omega arith)
 
-pub value_within : (c : Column) (v : ValueModel) → members_depth (members_with (value_members c v)) ≤ 1
+value_within : (c : Column) (v : ValueModel) → members_depth (members_with (value_members c v)) ≤ 1
 value_within c missing = omega arith
 value_within c summed = omega arith
 value_within c blank = omega arith
@@ -58,61 +62,98 @@ line_within [] vs = omega arith
 line_within (c ∷ cs) [] = omega arith
 line_within (c ∷ cs) (v ∷ vs) = both_within 1 (value_members c v) (line_members cs vs) (value_within c v) (line_within cs vs)
 
-object_within : (columns : List Column) (values : List ValueModel) → depth (line_object columns values) ≤ 2
-object_within columns values = let members = line_within columns values in omega arith
+line_object_within : (columns : List Column) (values : List ValueModel) → depth (line_object columns values) ≤ 2
+line_object_within columns values = let members = line_within columns values in omega arith
 
-list_within : (n : List ℕ) (s : SectionModel) → depth (list_member n s).1 ≤ 3
-list_within n s = let each = items_within (line_object s.columns) 2 (object_within s.columns) s.lines in omega arith
+-- ---- lines of two reports
 
-line_if_within : (n : List ℕ) (columns : List Column) (line : Option (List ValueModel))
-    → members_depth (members_with (object_members n columns line)) ≤ 3
-line_if_within n columns None = omega arith
-line_if_within n columns (Some values) = let own = object_within columns values in omega arith
+member_within : (c : Option Column) (v : ValueModel) → members_depth (members_with (members_in c v)) ≤ 1
+member_within None v = omega arith
+member_within (Some c) v = value_within c v
 
-line_at_within : (n : List ℕ) (i : ℕ) (s : SectionModel) → members_depth (members_with (line_at n i s)) ≤ 3
-line_at_within n i s = line_if_within n s.columns (slice_get s.lines i)
+part_within : (p : Part) (columns : List Column) (values : List ValueModel)
+    → members_depth (members_with (part_members p columns values)) ≤ 1
+part_within p [] vs = omega arith
+part_within p (c ∷ cs) [] = omega arith
+part_within p (c ∷ cs) (v ∷ vs) =
+    both_within 1 (members_in (column_in p c) v) (part_members p cs vs) (member_within (column_in p c) v) (part_within p cs vs)
 
-totals_within : (s : SectionModel) → members_depth (members_with (totals_members s)) ≤ 3
-totals_within s =
-    let total = line_at (codes "total") 0 s in
-    let text = line_at (codes "text") 1 s in
-    let binary = line_at (codes "binary") 2 s in
-    both_within 3 total (text ++ binary) (line_at_within (codes "total") 0 s)
-    (both_within 3 text binary (line_at_within (codes "text") 1 s) (line_at_within (codes "binary") 2 s))
+null_or_within : (b : Bool) (ms : List Member) → members_depth (members_with ms) ≤ 1 → depth (if b then null else object_with ms) ≤ 2
+null_or_within true ms within = omega arith
+null_or_within false ms within = omega arith
 
-entries_within : (entries : Option ℕ) → members_depth (members_with (entries_members entries)) ≤ 3
-entries_within None = omega arith
-entries_within (Some n) = omega arith
+side_within : (p : Part) (columns : List Column) (values : List ValueModel) → depth (side_value p columns values) ≤ 2
+side_within p columns values =
+    null_or_within (lacks p columns values) (part_members p columns values) (part_within p columns values)
 
-numbers_within : (s : SheetModel) → members_depth (members_with (number_members s)) ≤ 3
+sides_within : (a b : Json) → depth a ≤ 2 → depth b ≤ 2 → members_depth (members_with ((codes "old", a) ∷ (codes "new", b) ∷ [])) ≤ 2
+sides_within a b x y = omega arith
+
+change_within : (columns : List Column) (values : List ValueModel) → depth (change_object columns values) ≤ 3
+change_within columns values =
+    let old = side_value Old columns values in
+    let new = side_value New columns values in
+    let own = part_within Own columns values in
+    let sides = sides_within old new (side_within Old columns values) (side_within New columns values) in
+    let all = both_within 2 (part_members Own columns values) ((codes "old", old) ∷ (codes "new", new) ∷ []) (omega arith) sides in
+    omega arith
+
+object_within : (compares : Bool) (columns : List Column) (values : List ValueModel) → depth (object_of compares columns values) ≤ 3
+object_within true columns values = change_within columns values
+object_within false columns values = let one = line_object_within columns values in omega arith
+
+-- ---- sections
+
+list_within : (compares : Bool) (n : List ℕ) (s : SectionModel) → depth (list_member compares n s).1 ≤ 4
+list_within compares n s =
+    let each = items_within (object_of compares s.columns) 3 (object_within compares s.columns) s.lines in omega arith
+
+some_within : (compares : Bool) (n : List ℕ) (s : Option SectionModel) → members_depth (members_with (some_list compares n s)) ≤ 4
+some_within compares n None = omega arith
+some_within compares n (Some s) = let own = list_within compares n s in omega arith
+
+line_if_within : (compares : Bool) (n : List ℕ) (columns : List Column) (line : Option (List ValueModel))
+    → members_depth (members_with (object_members compares n columns line)) ≤ 4
+line_if_within compares n columns None = omega arith
+line_if_within compares n columns (Some values) = let own = object_within compares columns values in omega arith
+
+line_at_within : (compares : Bool) (n : List ℕ) (i : ℕ) (s : SectionModel) → members_depth (members_with (line_at compares n i s)) ≤ 4
+line_at_within compares n i s = line_if_within compares n s.columns (slice_get s.lines i)
+
+totals_within : (compares : Bool) (s : SectionModel) → members_depth (members_with (totals_members compares s)) ≤ 4
+totals_within compares s =
+    let total = line_at compares (codes "total") 0 s in
+    let text = line_at compares (codes "text") 1 s in
+    let binary = line_at compares (codes "binary") 2 s in
+    both_within 4 total (text ++ binary) (line_at_within compares (codes "total") 0 s)
+    (both_within 4 text binary (line_at_within compares (codes "text") 1 s) (line_at_within compares (codes "binary") 2 s))
+
+number_within : (n : List ℕ) (number : Option ℕ) → members_depth (members_with (number_member n number)) ≤ 4
+number_within n None = omega arith
+number_within n (Some k) = omega arith
+
+numbers_within : (s : SheetModel) → members_depth (members_with (number_members s)) ≤ 4
 numbers_within s =
-    let directories : Member = (codes "directories", integer s.directories) in
-    let entries = entries_within s.entries in
-    let counts : members_depth (members_with (directories ∷ entries_members s.entries)) ≤ 3 = omega arith in
-    both_within 3 (line_at (codes "others") 0 s.others) (totals_members s.totals ++ directories ∷ entries_members s.entries)
-    (line_at_within (codes "others") 0 s.others)
-    (both_within 3 (totals_members s.totals) (directories ∷ entries_members s.entries) (totals_within s.totals) counts)
+    let others = line_at s.compares (codes "others") 0 s.others in
+    let totals = totals_members s.compares s.totals in
+    let directories = number_member (codes "directories") s.directories in
+    let entries = number_member (codes "entries") s.entries in
+    both_within 4 others (totals ++ (directories ++ entries)) (line_at_within s.compares (codes "others") 0 s.others)
+    (both_within 4 totals (directories ++ entries) (totals_within s.compares s.totals)
+    (both_within 4 directories entries (number_within (codes "directories") s.directories) (number_within (codes "entries") s.entries)))
 
-files_within : (files : Option SectionModel) → members_depth (members_with (files_members files)) ≤ 3
-files_within None = omega arith
-files_within (Some files) = let own = list_within (codes "files") files in omega arith
-
-skipped_within : (entries : Option ℕ) (skipped : SectionModel) → members_depth (members_with (skipped_members entries skipped)) ≤ 3
-skipped_within None skipped = omega arith
-skipped_within (Some n) skipped = let own = list_within (codes "left") skipped in omega arith
-
-lists_within : (s : SheetModel) → members_depth (members_with (list_members s)) ≤ 3
+lists_within : (s : SheetModel) → members_depth (members_with (list_members s)) ≤ 4
 lists_within s =
-    let faults = list_member (codes "faults") s.faults in
-    let own = list_within (codes "faults") s.faults in
-    let last : members_depth (members_with (faults ∷ [])) ≤ 3 = omega arith in
-    both_within 3 (files_members s.files) (skipped_members s.entries s.skipped ++ faults ∷ []) (files_within s.files)
-    (both_within 3 (skipped_members s.entries s.skipped) (faults ∷ []) (skipped_within s.entries s.skipped) last)
+    let files = some_list s.compares (codes "files") s.files in
+    let skipped = some_list s.compares (codes "left") s.skipped in
+    let faults = some_list s.compares (codes "faults") s.faults in
+    both_within 4 files (skipped ++ faults) (some_within s.compares (codes "files") s.files)
+    (both_within 4 skipped faults (some_within s.compares (codes "left") s.skipped) (some_within s.compares (codes "faults") s.faults))
 
-sheet_within : (s : SheetModel) → depth (json_of s) ≤ 4
+sheet_within : (s : SheetModel) → depth (json_of s) ≤ 5
 sheet_within s =
-    let rows = list_within (codes "rows") s.rows in
-    let rest = both_within 3 (number_members s) (list_members s) (numbers_within s) (lists_within s) in
+    let rows = list_within s.compares (codes "rows") s.rows in
+    let rest = both_within 4 (number_members s) (list_members s) (numbers_within s) (lists_within s) in
     omega arith
 
 read_back : (j : Json) → depth j ≤ max_depth → (ts : List Token) → ts ≡ json_tokens j
@@ -121,17 +162,11 @@ read_back j shallow ts same =
     ap (λ o. option_and_then (λ (p : Json × List Token). if_last p.0 p.1) o)
     (ap (value max_depth) (same ∙ sym (append-nil (json_tokens j))) ∙ value-json_tokens j max_depth [] shallow)
 
--- a line that reads back as the tokens of a value is a document of it
-pub document_of : {E : Type 0} (j : Json) (answer : Result (Vec ℕ Global) E) → depth j ≤ max_depth
-    → IfOk answer (λ line. line.items ≡ print (json_tokens j) ++ codes "\n")
-    → IfOk answer (λ _. tokens (print (json_tokens j)) ≡ json_tokens j)
-    → IfOk answer (λ line. IsDocument j line.items)
-document_of j (Ok line) shallow text back = (print (json_tokens j), text, read_back j shallow _ back)
-document_of j (Err e) shallow text back = text
-
--- and so is one of a sheet
+-- a line that reads back as the tokens of a sheet's value is a document of it
 pub is_document : {E : Type 0} (s : SheetModel) (answer : Result (Vec ℕ Global) E)
     → IfOk answer (λ line. line.items ≡ print (json_tokens (json_of s)) ++ codes "\n")
     → IfOk answer (λ _. tokens (print (json_tokens (json_of s))) ≡ json_tokens (json_of s))
     → IfOk answer (λ line. IsDocument (json_of s) line.items)
-is_document s answer text back = let shallow = sheet_within s in document_of (json_of s) answer (omega arith) text back
+is_document s (Ok line) text back =
+    let shallow = sheet_within s in (print (json_tokens (json_of s)), text, read_back (json_of s) (omega arith) _ back)
+is_document s (Err e) text back = text

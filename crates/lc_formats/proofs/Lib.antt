@@ -7,8 +7,7 @@ pub mod Listed
 pub mod MarkdownLawProofs
 pub mod Sections
 pub mod Tokens
-pub mod ChangeDepths
-pub mod ChangeTokens
+pub mod SideTokens
 pub mod Widened
 pub mod Commas
 pub mod LastCells

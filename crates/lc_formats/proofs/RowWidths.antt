@@ -16,7 +16,7 @@ use Rattle.lc_formats.specs.Layouts.{has_no_end}
 use Rattle.lc_formats.specs.PaddedText.{padded_counts, padded_rows, padded_summary}
 use Rattle.lc_formats.specs.Readable.{AreReadable, AreRows, EndsInNumbers, IsNumeral, IsTabular}
 use Rattle.lc_formats.specs.Shares.{rounded_parts}
-use Rattle.lc_formats.specs.TableText.{count_cells, count_lines, counts, entries_line, row_lines, rows_in_columns, shown_lines}
+use Rattle.lc_formats.specs.TableText.{count_cells, count_lines, counts_of, entries_line, row_lines, rows_in_columns, shown_lines}
 use Rattle.lc_formats.specs.TableText.{shown_totals, summary, summary_widths}
 use Rattle.lc_formats.specs.WidthLaws.{CountsWidthLaw, SummaryWidthLaw}
 use Rattle.lc_formats.proofs.BlankEnds.{ends_bar, ends_change, ends_number, ends_share, shown_number}
@@ -213,20 +213,20 @@ rows_entries (Some n) =
     All-cons (IsRow count_sides) (count_cells (codes "entries") n) []
     (row_count (codes "entries") n (sound_ascii Left (codes "entries") refl refl) refl) (All-nil (IsRow count_sides))
 
-abbrev pub count_widths : SheetModel → List ℕ
-count_widths s = widths_of (count_lines s.directories s.entries)
-
-abbrev pub shown_counts : SheetModel → List (List ℕ)
-shown_counts s = map (shown (count_widths s)) (count_lines s.directories s.entries)
-
-pub even_counts : (s : SheetModel) → IsEven (span count_sides (count_widths s)) (shown_counts s) (padded_counts s) (counts s)
-even_counts s =
-    let first = count_cells (codes "directories") s.directories in
-    let more = entries_line s.entries in
+pub even_counts : (directories : ℕ) (entries : Option ℕ)
+    → IsEven (span count_sides (widths_of (count_lines directories entries)))
+    (map (shown (widths_of (count_lines directories entries))) (count_lines directories entries))
+    (padded_counts directories entries) (counts_of directories entries)
+even_counts directories entries =
+    let first = count_cells (codes "directories") directories in
+    let more = entries_line entries in
     let are = All-cons (IsRow count_sides) first more
-    (row_count (codes "directories") s.directories (sound_ascii Left (codes "directories") refl refl) refl) (rows_entries s.entries) in
-    even_lines count_sides (count_widths s) (first ∷ more) refl (rows_fit count_sides first more are).0 are
+    (row_count (codes "directories") directories (sound_ascii Left (codes "directories") refl refl) refl) (rows_entries entries) in
+    even_lines count_sides (widths_of (count_lines directories entries)) (first ∷ more) refl (rows_fit count_sides first more are).0 are
 
 -- the lines of directories and entries
 pub counts_law : CountsWidthLaw
-counts_law s = are_even (span count_sides (count_widths s)) (shown_counts s) (padded_counts s) (counts s) (even_counts s)
+counts_law directories entries =
+    let widths = widths_of (count_lines directories entries) in
+    are_even (span count_sides widths) (map (shown widths) (count_lines directories entries)) (padded_counts directories entries)
+    (counts_of directories entries) (even_counts directories entries)

@@ -1,5 +1,5 @@
 -- The tokens of arrays and objects by their parts.
-use Rattle.std.proofs.Common.{◌≡◌, ℕ, if◌then◌else◌, List, [], ◌∷◌, ◌++◌, map}
+use Rattle.std.proofs.Common.{◌≡◌, ℕ, Bool, if◌then◌else◌, List, [], ◌∷◌, ◌++◌, map}
 use Rattle.std.proofs.Common.{refl, sym, ◌∙◌, ap, append_assoc, append-nil, Some}
 use Rattle.std.specs.List.{flat_map}
 use Rattle.std.proofs.lemmas.Bool.{false_from_ne_true}
@@ -11,7 +11,8 @@ use Rattle.json.specs.Token.{Token, key, begin_object, end_object, end_array}
 use Rattle.json.specs.Tree.{json_tokens, items_tokens, members_tokens}
 use Rattle.lc_sheet.specs.Values.{ValueModel}
 use Rattle.lc_sheet.specs.declared.column.Column.{Column}
-use Rattle.lc_formats.specs.JsonSheets.{line_members, line_object, object_members, value_members}
+use Rattle.lc_formats.specs.JsonLines.{line_members, object_of, value_members}
+use Rattle.lc_formats.specs.JsonSheets.{object_members}
 use Rattle.lc_formats.specs.JsonText.{Member, items_with, members_with, array_with, object_with, integer, bytes_member, bytes_name}
 use Rattle.lc_formats.specs.JsonTokens.{member_tokens, members_tokens_of}
 
@@ -33,6 +34,14 @@ pub both_members : (text : List Token) (ms ns : List Member)
 both_members text ms ns =
     append_assoc text (members_tokens_of ms) (members_tokens_of ns)
     ∙ ap (λ (ts : List Token). text ++ ts) (sym (flat_map-append member_tokens ms ns))
+
+-- four lists of members, appended in turn
+pub four_members : (text : List Token) (ks ms ns os : List Member)
+    → (((text ++ members_tokens_of ks) ++ members_tokens_of ms) ++ members_tokens_of ns) ++ members_tokens_of os
+    ≡ text ++ members_tokens_of (ks ++ (ms ++ (ns ++ os)))
+four_members text ks ms ns os =
+    both_members ((text ++ members_tokens_of ks) ++ members_tokens_of ms) ns os ∙ both_members (text ++ members_tokens_of ks) ms (ns ++ os)
+    ∙ both_members text ks (ms ++ (ns ++ os))
 
 -- an object, appended in turn
 pub object_appended : (text : List Token) (ms : List Member)
@@ -68,10 +77,10 @@ pub in_turn_3 : {A : Type 0} (a b c d : List A) → ((a ++ b) ++ c) ++ d ≡ a +
 in_turn_3 a b c d = simp append_assoc
 
 -- a member of an object, appended in turn
-pub object_member_appended : (text : List Token) (n : List ℕ) (columns : List Column) (values : List ValueModel)
-    → (text ++ key n ∷ []) ++ json_tokens (line_object columns values)
-    ≡ text ++ members_tokens_of (object_members n columns (Some values))
-object_member_appended text n columns values = simp (append_assoc, append-nil)
+pub object_member_appended : (compares : Bool) (text : List Token) (n : List ℕ) (columns : List Column) (values : List ValueModel)
+    → (text ++ key n ∷ []) ++ json_tokens (object_of compares columns values)
+    ≡ text ++ members_tokens_of (object_members compares n columns (Some values))
+object_member_appended compares text n columns values = simp (append_assoc, append-nil)
 
 -- an object of a member and two lists of some, appended in turn
 pub sheet_appended : (text : List Token) (m : Member) (ms ns : List Member)

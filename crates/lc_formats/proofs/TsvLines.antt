@@ -4,7 +4,7 @@ use Rattle.std.specs.List.{flat_map}
 use Rattle.std.proofs.lemmas.List.Folds.{flat_map-map}
 use Rattle.lc_sheet.specs.Values.{ValueModel}
 use Rattle.lc_sheet.specs.declared.column.Column.{Column}
-use Rattle.lc_formats.specs.Tsv.{field_of, line_with, tagged_line}
+use Rattle.lc_formats.specs.Tsv.{field_of, line_with}
 use Rattle.lc_formats.specs.TsvParts.{after_tab, after_tabs}
 
 -- the first field, and the rest with a tab before each
@@ -31,7 +31,7 @@ line_written field first xs initial front next all one others end =
 -- the same, where the elements are the values of columns
 pub values_written : (value : Column → ValueModel) (first : List ℕ) (columns : List Column) (initial front next all : List ℕ)
     → front ≡ initial ++ first → next ≡ front ++ flat_map (λ column. after_tab (field_of (value column))) columns
-    → all ≡ next ++ codes "\n" → all ≡ initial ++ tagged_line first (map value columns)
+    → all ≡ next ++ codes "\n" → all ≡ initial ++ line_with (first ∷ map field_of (map value columns))
 values_written value first columns initial front next all one others end =
     line_written field_of first (map value columns) initial front next all one
     (others ∙ ap (λ l. front ++ l) (sym (flat_map-map (λ v. after_tab (field_of v)) value columns))) end

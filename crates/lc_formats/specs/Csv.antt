@@ -1,5 +1,5 @@
 -- The text of a sheet as CSV: records of one section, below the names of its columns.
-use Rattle.std.specs.Prelude.{ℕ, List, [], ◌∷◌, map, decimal, Option, Some, None}
+use Rattle.std.specs.Prelude.{ℕ, List, [], ◌∷◌, map, decimal, unwrap_or}
 use Rattle.std.specs.List.{flat_map}
 use Rattle.lc_sheet.specs.ColumnWords.{column_name}
 use Rattle.lc_sheet.specs.Sheets.{SectionModel, SheetModel}
@@ -24,19 +24,9 @@ field_of (difference old new) = []
 abbrev pub records_of : SectionModel → List (List (List ℕ))
 records_of s = map column_name s.columns ∷ map (map field_of) s.lines
 
--- the section of skipped entries if the sheet counts entries, and otherwise the section of rows
-abbrev pub skipped_or_rows : Option ℕ → SheetModel → SectionModel
-skipped_or_rows None s = s.rows
-skipped_or_rows (Some entries) s = s.skipped
-
--- the section of files if the sheet lists files, and otherwise the section of skipped entries or of rows
-abbrev pub section_among : Option SectionModel → SheetModel → SectionModel
-section_among None s = skipped_or_rows s.entries s
-section_among (Some files) s = files
-
--- the section whose lines are the records
+-- the section whose lines are the records: that of files if the sheet has it, or else that of skipped entries, or else that of rows
 abbrev pub csv_section : SheetModel → SectionModel
-csv_section s = section_among s.files s
+csv_section s = unwrap_or s.files (unwrap_or s.skipped s.rows)
 
 abbrev pub csv_of : SheetModel → List ℕ
 csv_of s = flat_map record_text (records_of (csv_section s))

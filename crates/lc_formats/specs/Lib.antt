@@ -5,8 +5,8 @@ pub mod CsvText
 pub mod CsvLaws
 pub mod JsonText
 pub mod JsonTokens
+pub mod JsonLines
 pub mod JsonSheets
-pub mod JsonChanges
 pub mod Columns
 pub mod Layouts
 pub mod Blanks
@@ -19,7 +19,7 @@ pub mod Widening
 pub mod MarkdownCells
 pub mod MarkdownText
 pub mod MarkdownLaws
-pub mod Changes
+pub mod Texts
 pub mod Readable
 pub mod CommaLaws
 pub mod ShareLaws

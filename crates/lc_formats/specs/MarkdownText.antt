@@ -39,16 +39,14 @@ abbrev pub if_listed : List (List ValueModel) → List ℕ → List ℕ
 if_listed [] text = []
 if_listed (l ∷ ls) text = text
 
--- a table with an empty line below it; a table with an empty line above it is below
-abbrev pub list_above : SectionModel → List ℕ
-list_above s = if_listed s.lines (section_table s ++ codes "\n")
+-- the table of a list with an empty line below it, if the sheet has the list; a table with an empty line above it is below
+abbrev pub list_above : Option SectionModel → List ℕ
+list_above None = []
+list_above (Some s) = if_listed s.lines (section_table s ++ codes "\n")
 
-abbrev pub list_below : SectionModel → List ℕ
-list_below s = if_listed s.lines (codes "\n" ++ section_table s)
-
-abbrev pub files_above : Option SectionModel → List ℕ
-files_above None = []
-files_above (Some files) = list_above files
+abbrev pub list_below : Option SectionModel → List ℕ
+list_below None = []
+list_below (Some s) = if_listed s.lines (codes "\n" ++ section_table s)
 
 -- ---- sheets
 
@@ -62,8 +60,13 @@ counts_with directories None = codes "| directories |\n| ---: |\n" ++ line_with 
 counts_with directories (Some entries) =
     codes "| directories | entries |\n| ---: | ---: |\n" ++ line_with Plain (number directories ∷ number entries ∷ [])
 
+-- the numbers below an empty line, if the sheet has them
+abbrev pub counts_below : Option ℕ → Option ℕ → List ℕ
+counts_below None entries = []
+counts_below (Some directories) entries = codes "\n" ++ counts_with directories entries
+
 -- what is listed, the rows with their sums, the numbers, and what could not be read
 abbrev pub markdown_of : SheetModel → List ℕ
 markdown_of s =
-    files_above s.files ++ list_above s.skipped ++ summary_with s.rows s.others (shown_totals s) ++ codes "\n"
-    ++ counts_with s.directories s.entries ++ list_below s.faults
+    list_above s.files ++ list_above s.skipped ++ summary_with s.rows s.others (shown_totals s)
+    ++ counts_below s.directories s.entries ++ list_below s.faults

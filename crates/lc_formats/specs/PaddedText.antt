@@ -1,6 +1,6 @@
 -- Parts of a text in columns with all the blanks of their columns.
-use Rattle.std.specs.Prelude.{ℕ, List, ◌++◌}
-use Rattle.lc_sheet.specs.Sheets.{SectionModel, SheetModel}
+use Rattle.std.specs.Prelude.{ℕ, List, ◌++◌, Option}
+use Rattle.lc_sheet.specs.Sheets.{SheetModel}
 use Rattle.lc_formats.specs.Blanks.{padded_line, padded_lines}
 use Rattle.lc_formats.specs.Cells.{heading_cells, section_cells}
 use Rattle.lc_formats.specs.Columns.{CellModel, rule_in, widths_of}
@@ -11,14 +11,12 @@ abbrev pub padded_rows : List ℕ → List CellModel → List (List CellModel) �
 padded_rows ws headings rows sums =
     padded_line ws headings ++ rule_in ws ++ padded_lines ws rows ++ rule_in ws ++ padded_lines ws sums
 
-abbrev pub padded_summary_of : SectionModel → SectionModel → SectionModel → List ℕ
-padded_summary_of rows others totals =
-    padded_rows (summary_widths rows others totals) (heading_cells rows.columns) (row_lines rows others) (section_cells totals)
-
 abbrev pub padded_summary : SheetModel → List ℕ
-padded_summary s = padded_summary_of s.rows s.others (shown_totals s)
+padded_summary s =
+    padded_rows (summary_widths s.rows s.others (shown_totals s)) (heading_cells s.rows.columns) (row_lines s.rows s.others)
+    (section_cells (shown_totals s))
 
 -- the numbers of directories and of their entries
-abbrev pub padded_counts : SheetModel → List ℕ
-padded_counts s =
-    padded_lines (widths_of (count_lines s.directories s.entries)) (count_lines s.directories s.entries)
+abbrev pub padded_counts : ℕ → Option ℕ → List ℕ
+padded_counts directories entries =
+    padded_lines (widths_of (count_lines directories entries)) (count_lines directories entries)

@@ -8,9 +8,9 @@ use Rattle.lc_formats.specs.Columns.{CellModel, widths_of, line_in, lines_in, ru
 
 -- ---- the rows and their sums
 
--- a section with all of its lines, or with the first line alone
+-- the lines of a section, or the first line alone, without a word
 abbrev pub shown_lines : Bool → SectionModel → SectionModel
-shown_lines all s = record s { lines = if all then s.lines else take 1 s.lines }
+shown_lines all s = record { tag = None; columns = s.columns; lines = if all then s.lines else take 1 s.lines }
 
 -- the sums over all files, and also the sums over text files and over binary files if some file is binary
 abbrev pub shown_totals : SheetModel → SectionModel
@@ -45,9 +45,10 @@ listing headings (l ∷ ls) = lines_in (widths_of (headings ∷ l ∷ ls)) (head
 abbrev pub section_listing : SectionModel → List ℕ
 section_listing s = listing (heading_cells s.columns) (section_cells s)
 
-abbrev pub files_listing : Option SectionModel → List ℕ
-files_listing None = []
-files_listing (Some s) = section_listing s
+-- the same, if the sheet has the list
+abbrev pub list_listing : Option SectionModel → List ℕ
+list_listing None = []
+list_listing (Some s) = section_listing s
 
 -- ---- the numbers of directories and of their entries
 
@@ -65,11 +66,13 @@ abbrev pub counts_of : ℕ → Option ℕ → List ℕ
 counts_of directories entries =
     lines_in (widths_of (count_lines directories entries)) (count_lines directories entries)
 
-abbrev pub counts : SheetModel → List ℕ
-counts s = counts_of s.directories s.entries
+-- the numbers below an empty line, if the sheet has them
+abbrev pub counts_below : Option ℕ → Option ℕ → List ℕ
+counts_below None entries = []
+counts_below (Some directories) entries = codes "\n" ++ counts_of directories entries
 
 -- ---- the whole text: what is listed, and last the rows with their sums
 
 abbrev pub table_of : SheetModel → List ℕ
 table_of s =
-    files_listing s.files ++ section_listing s.skipped ++ section_listing s.faults ++ summary s ++ codes "\n" ++ counts s
+    list_listing s.files ++ list_listing s.skipped ++ list_listing s.faults ++ summary s ++ counts_below s.directories s.entries

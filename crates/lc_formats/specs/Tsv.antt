@@ -1,6 +1,6 @@
 -- The text of a sheet with tabs between fields: a header, a line for each row, the sums, the directories, the files, the skipped entries,
 -- the errors.
-use Rattle.std.specs.Prelude.{ℕ, List, [], ◌∷◌, ◌++◌, map, take, codes, decimal, Option, Some, None}
+use Rattle.std.specs.Prelude.{ℕ, List, [], ◌∷◌, ◌++◌, false, map, codes, decimal, Option, Some, None}
 use Rattle.std.specs.List.{flat_map}
 use Rattle.lc_sheet.specs.ColumnWords.{column_name}
 use Rattle.lc_sheet.specs.Sheets.{SectionModel, SheetModel}
@@ -8,6 +8,7 @@ use Rattle.lc_sheet.specs.Values.{ValueModel, missing, summed, blank, word, name
 use Rattle.lc_sheet.specs.declared.column.Column.{Column}
 use Rattle.lc_text.specs.Escape.{escape_bytes, escape_path}
 use Rattle.lc_text.specs.Names.{named}
+use Rattle.lc_formats.specs.TableText.{shown_lines}
 
 -- a value as a field: a dash if the value is missing, a star if the line is summed over the column
 abbrev pub field_of : ValueModel → List ℕ
@@ -31,33 +32,27 @@ line_with (f ∷ g ∷ fs) = f ++ codes "\t" ++ line_with (g ∷ fs)
 abbrev pub header_line : List Column → List ℕ
 header_line columns = line_with (map column_name columns)
 
--- a line of rows or of sums
-abbrev pub values_line : List ValueModel → List ℕ
-values_line values = line_with (map field_of values)
+-- the fields of a line: the word that names it, if there is one, and its values
+abbrev pub values_line : Option (List ℕ) → List ValueModel → List ℕ
+values_line None values = line_with (map field_of values)
+values_line (Some tag) values = line_with (tag ∷ map field_of values)
 
--- a line that begins with a word
-abbrev pub tagged_line : List ℕ → List ValueModel → List ℕ
-tagged_line tag values = line_with (tag ∷ map field_of values)
+abbrev pub section_lines : SectionModel → List ℕ
+section_lines s = flat_map (values_line s.tag) s.lines
 
-abbrev pub tagged_lines : List ℕ → SectionModel → List ℕ
-tagged_lines tag s = flat_map (tagged_line tag) s.lines
+-- the line of a number, if the sheet has this number
+abbrev pub number_line : List ℕ → Option ℕ → List ℕ
+number_line tag None = []
+number_line tag (Some n) = line_with (tag ∷ decimal n ∷ [])
 
-abbrev pub number_line : List ℕ → ℕ → List ℕ
-number_line tag n = line_with (tag ∷ decimal n ∷ [])
+-- the lines of a list, if the sheet has this list
+abbrev pub list_lines : Option SectionModel → List ℕ
+list_lines None = []
+list_lines (Some s) = section_lines s
 
--- the line of the number of entries, if the sheet has this number
-abbrev pub entries_line : Option ℕ → List ℕ
-entries_line None = []
-entries_line (Some n) = number_line (codes "entries") n
-
--- the lines of files, if the sheet lists files
-abbrev pub file_lines : Option SectionModel → List ℕ
-file_lines None = []
-file_lines (Some s) = tagged_lines (codes "file") s
-
--- the text of a sheet; of the three lines of totals only the first is written, the sums over all files
+-- the text of a sheet; of the lines of totals only the first is written, the sums over all files
 abbrev pub tsv_of : SheetModel → List ℕ
 tsv_of s =
-    header_line s.rows.columns ++ flat_map values_line s.rows.lines ++ flat_map values_line s.others.lines
-    ++ flat_map values_line (take 1 s.totals.lines) ++ number_line (codes "directories") s.directories ++ entries_line s.entries
-    ++ file_lines s.files ++ tagged_lines (codes "left") s.skipped ++ tagged_lines (codes "fault") s.faults
+    header_line s.rows.columns ++ section_lines s.rows ++ section_lines s.others ++ section_lines (shown_lines false s.totals)
+    ++ number_line (codes "directories") s.directories ++ number_line (codes "entries") s.entries ++ list_lines s.files
+    ++ list_lines s.skipped ++ list_lines s.faults

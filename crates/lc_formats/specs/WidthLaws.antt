@@ -1,5 +1,5 @@
 -- How wide the lines of a text in columns are: of the rows with their sums, of the counts, and of each list.
-use Rattle.std.specs.Prelude.{◌≡◌, ℕ, false, List, [], ◌∷◌, ◌++◌, map, IfSome}
+use Rattle.std.specs.Prelude.{◌≡◌, ℕ, false, List, [], ◌∷◌, ◌++◌, map, Option, IfSome}
 use Rattle.std.specs.List.{All, AllZip}
 use Rattle.lc_sheet.specs.ColumnWords.{heading}
 use Rattle.lc_sheet.specs.Sheets.{SectionModel, SheetModel}
@@ -11,7 +11,7 @@ use Rattle.lc_formats.specs.Cells.{shown_text}
 use Rattle.lc_formats.specs.Columns.{width_of}
 use Rattle.lc_formats.specs.PaddedText.{padded_counts, padded_summary}
 use Rattle.lc_formats.specs.Readable.{IsListed, IsTabular}
-use Rattle.lc_formats.specs.TableText.{counts, section_listing, summary, table_of}
+use Rattle.lc_formats.specs.TableText.{counts_of, section_listing, summary, table_of}
 
 -- the lines have one width
 abbrev pub AreAsWide : List (List ℕ) → Type 0
@@ -49,7 +49,7 @@ SummaryWidthLaw = (s : SheetModel) → IsTabular s → AreEven (padded_summary s
 
 -- the lines of the numbers of directories and of entries have one width
 abbrev pub CountsWidthLaw : Type 0
-CountsWidthLaw = (s : SheetModel) → AreEven (padded_counts s) (counts s)
+CountsWidthLaw = (directories : ℕ) (entries : Option ℕ) → AreEven (padded_counts directories entries) (counts_of directories entries)
 
 -- a list whose last column ends its line is aligned
 abbrev pub ListingWidthLaw : Type 0
@@ -67,5 +67,5 @@ HasEnds s = IsListed s × All (λ line. HasEnd (last_text line)) s.lines
 -- no line of a text in columns ends with a blank if no last text of a listed line is empty or ends with a blank
 abbrev pub LineEndsLaw : Type 0
 LineEndsLaw =
-    (s : SheetModel) → IsTabular s → IfSome s.files HasEnds → HasEnds s.skipped → HasEnds s.faults
+    (s : SheetModel) → IsTabular s → IfSome s.files HasEnds → IfSome s.skipped HasEnds → IfSome s.faults HasEnds
     → All (λ line. ends_in_blank line ≡ false) (input_lines_of (table_of s))

@@ -1,6 +1,5 @@
-//! Laws about text that is printed as CSV. Each law is a theorem, which is the contract of a function that does nothing.
+//! A law about text that is printed as CSV: a theorem, which is the contract of a function that does nothing.
 
-ghost use Rattle.lc_formats.specs.ChangeLaws.{ComparisonRecordsLaw};
 ghost use Rattle.lc_formats.specs.CsvLaws.{RecordsLaw};
 
 /// The law that reading the CSV text of a sheet returns the printed records, and no other records. The records are the names of columns,
@@ -8,11 +7,4 @@ ghost use Rattle.lc_formats.specs.CsvLaws.{RecordsLaw};
 /// of its lines has a value in each column.
 pub fn csv_reads_back()
     ensures { RecordsLaw }
-{}
-
-/// The law that reading the CSV text of a comparison returns the printed records, and no other records. The records are the names of
-/// columns, and the lines of one section: the files or the rows. The law requires of this section what [`csv_reads_back`] requires of a
-/// section.
-pub fn csv_of_comparisons_reads_back()
-    ensures { ComparisonRecordsLaw }
 {}

@@ -2,7 +2,6 @@
 
 ghost use Rattle.std.specs.Prelude.{◌≡◌, [], ◌∷◌, ◌++◌, map, IfOk, OnOk};
 ghost use Rattle.std.specs.List.{flat_map};
-ghost use Rattle.lc_formats.specs.Changes.{csv_of_changes, files_or_rows};
 ghost use Rattle.lc_formats.specs.Csv.{csv_of, csv_section, field_of, records_of};
 ghost use Rattle.lc_formats.specs.CsvText.{record_text};
 ghost use Rattle.lc_sheet.specs.ColumnWords.{column_name};
@@ -10,7 +9,7 @@ ghost use Rattle.lc_sheet.specs.Sheets.{line_of, lines_of};
 ghost use Rattle.lc_sheet.specs.Values.{value_model};
 
 use crate::csv_records::{CsvText, Fields};
-use lc_sheet::{Column, ComparisonSheet, Form, Lines, Section, Sheet, Value};
+use lc_sheet::{Column, Form, Lines, Section, Sheet, Value};
 use std::alloc::{AllocError, Global};
 
 /// Appends a value as a field.
@@ -126,7 +125,7 @@ fn push_section<L: Lines>(
     push_lines::<L>(text, fields, form, columns, lines)
 }
 
-/// Appends the records of one section: of the files if the sheet lists files, otherwise of the skipped entries if these are requested, and
+/// Appends the records of one section: of the files if the sheet lists files, otherwise of the skipped entries if it lists these, and
 /// otherwise of the rows.
 fn push_records<R: Lines, T: Lines, F: Lines, S: Lines, E: Lines>(
     text: &mut CsvText,
@@ -138,18 +137,17 @@ fn push_records<R: Lines, T: Lines, F: Lines, S: Lines, E: Lines>(
     if let Some(files) = &sheet.files {
         return push_section(text, fields, files);
     }
-    if sheet.entries.is_some() {
-        return push_section(text, fields, &sheet.skipped);
+    if let Some(skipped) = &sheet.skipped {
+        return push_section(text, fields, skipped);
     }
     push_section(text, fields, &sheet.rows)
 }
 
 /// Makes the text of a sheet as CSV (RFC 4180): the names of columns, and below them records of one kind.
 ///
-/// If the sheet lists files, each file is a record. If the sheet lists no files, but skipped entries are requested (`entries` is not
-/// `None`), each skipped entry is a record. Otherwise each row is a record. Names and paths are not escaped. Fields are quoted where
-/// necessary.
-pub fn csv_text<R: Lines, T: Lines, F: Lines, S: Lines, E: Lines>(
+/// If the sheet lists files, each file is a record. If the sheet lists no files, but skipped entries, each skipped entry is a record.
+/// Otherwise each row is a record. Names and paths are not escaped. Fields are quoted where necessary.
+pub(crate) fn csv_text<R: Lines, T: Lines, F: Lines, S: Lines, E: Lines>(
     alloc: Global,
     sheet: &Sheet<'_, R, T, F, S, E>,
 ) -> Result<Vec<u8>, AllocError>
@@ -158,36 +156,5 @@ pub fn csv_text<R: Lines, T: Lines, F: Lines, S: Lines, E: Lines>(
     let mut text = CsvText::new(alloc);
     let mut fields = Fields::new(alloc);
     push_records(&mut text, &mut fields, sheet)?;
-    text.into_text()
-}
-
-/// Appends the records of the files if the comparison lists files, and otherwise of the rows.
-fn push_changes<R: Lines, T: Lines, F: Lines>(
-    text: &mut CsvText,
-    fields: &mut Fields,
-    sheet: &ComparisonSheet<'_, R, T, F>,
-) -> Result<(), AllocError>
-    ensures { OnOk result (text.new
-        ≡ text.old ++ flat_map record_text (records_of (files_or_rows sheet.now.files sheet.now.rows))) }
-{
-    if let Some(files) = &sheet.files {
-        return push_section(text, fields, files);
-    }
-    push_section(text, fields, &sheet.rows)
-}
-
-/// Makes the text of a comparison as CSV (RFC 4180): the names of columns, and below them records of one kind.
-///
-/// If the comparison lists files, each file is a record. Otherwise each row is a record. Names and paths are not escaped. Fields are quoted
-/// where necessary.
-pub fn csv_changes<R: Lines, T: Lines, F: Lines>(
-    alloc: Global,
-    sheet: &ComparisonSheet<'_, R, T, F>,
-) -> Result<Vec<u8>, AllocError>
-    ensures { IfOk result (λ text. text.items ≡ csv_of_changes sheet.now) }
-{
-    let mut text = CsvText::new(alloc);
-    let mut fields = Fields::new(alloc);
-    push_changes(&mut text, &mut fields, sheet)?;
     text.into_text()
 }

@@ -1,13 +1,12 @@
 //! The text of a sheet as JSON.
 
-ghost use Rattle.std.specs.Prelude.{◌≡◌, ◌++◌, IfOk, OnOk, option_map};
+ghost use Rattle.std.specs.Prelude.{◌≡◌, ◌++◌, IfOk, OnOk};
 ghost use Rattle.json.specs.Tree.{json_tokens};
-ghost use Rattle.lc_formats.specs.JsonSheets.{entries_members, files_members, json_of, json_text_of, list_members, number_members};
-ghost use Rattle.lc_formats.specs.JsonSheets.{skipped_members, totals_members};
+ghost use Rattle.lc_formats.specs.JsonSheets.{json_of, json_text_of, list_members, number_member, number_members, totals_members};
 ghost use Rattle.lc_formats.specs.JsonText.{IsDocument};
 ghost use Rattle.lc_formats.specs.JsonTokens.{members_tokens_of};
 
-use crate::json_values::{write_line_at, write_list};
+use crate::json_lists::{write_line_at, write_list, write_some};
 use crate::json_writer::JsonText;
 use lc_sheet::{Lines, Section, Sheet};
 use std::alloc::{AllocError, Global};
@@ -15,21 +14,23 @@ use std::alloc::{AllocError, Global};
 fn write_totals<T: Lines>(
     text: &mut JsonText,
     joined: &mut Vec<u8>,
+    compares: bool,
     totals: &Section<'_, T>,
 ) -> Result<(), AllocError>
-    ensures { OnOk result (text.new ≡ text.old ++ members_tokens_of (totals_members totals.now)) }
+    ensures { OnOk result (text.new ≡ text.old ++ members_tokens_of (totals_members compares totals.now)) }
 {
-    write_line_at(text, joined, "total", 0, totals)?;
-    write_line_at(text, joined, "text", 1, totals)?;
-    write_line_at(text, joined, "binary", 2, totals)?;
+    write_line_at(text, joined, compares, "total", 0, totals)?;
+    write_line_at(text, joined, compares, "text", 1, totals)?;
+    write_line_at(text, joined, compares, "binary", 2, totals)?;
     Ok(())
 }
 
-fn write_entries(text: &mut JsonText, entries: Option<u64>) -> Result<(), AllocError>
-    ensures { OnOk result (text.new ≡ text.old ++ members_tokens_of (entries_members entries)) }
+/// Writes the member of a number, if the sheet has the number.
+fn write_number(text: &mut JsonText, name: &str, number: Option<u64>) -> Result<(), AllocError>
+    ensures { OnOk result (text.new ≡ text.old ++ members_tokens_of (number_member name.now number)) }
 {
-    if let Some(entries) = entries {
-        text.integer_member("entries", u128::from(entries))?;
+    if let Some(number) = number {
+        text.integer_member(name, u128::from(number))?;
     }
     Ok(())
 }
@@ -41,38 +42,10 @@ fn write_numbers<R: Lines, T: Lines, F: Lines, S: Lines, E: Lines>(
 ) -> Result<(), AllocError>
     ensures { OnOk result (text.new ≡ text.old ++ members_tokens_of (number_members sheet.now)) }
 {
-    write_line_at(text, joined, "others", 0, &sheet.others)?;
-    write_totals(text, joined, &sheet.totals)?;
-    text.integer_member("directories", u128::from(sheet.directories))?;
-    write_entries(text, sheet.entries)?;
-    Ok(())
-}
-
-fn write_files<F: Lines>(
-    text: &mut JsonText,
-    joined: &mut Vec<u8>,
-    files: Option<&Section<'_, F>>,
-) -> Result<(), AllocError>
-    ensures { OnOk result (text.new
-        ≡ text.old ++ members_tokens_of (files_members (option_map (λ section. section.now) files.entry))) }
-{
-    if let Some(files) = files {
-        write_list(text, joined, "files", files)?;
-    }
-    Ok(())
-}
-
-fn write_skipped<S: Lines>(
-    text: &mut JsonText,
-    joined: &mut Vec<u8>,
-    entries: Option<u64>,
-    skipped: &Section<'_, S>,
-) -> Result<(), AllocError>
-    ensures { OnOk result (text.new ≡ text.old ++ members_tokens_of (skipped_members entries skipped.now)) }
-{
-    if entries.is_some() {
-        write_list(text, joined, "left", skipped)?;
-    }
+    write_line_at(text, joined, sheet.compares, "others", 0, &sheet.others)?;
+    write_totals(text, joined, sheet.compares, &sheet.totals)?;
+    write_number(text, "directories", sheet.directories)?;
+    write_number(text, "entries", sheet.entries)?;
     Ok(())
 }
 
@@ -83,9 +56,9 @@ fn write_lists<R: Lines, T: Lines, F: Lines, S: Lines, E: Lines>(
 ) -> Result<(), AllocError>
     ensures { OnOk result (text.new ≡ text.old ++ members_tokens_of (list_members sheet.now)) }
 {
-    write_files(text, joined, sheet.files.as_ref())?;
-    write_skipped(text, joined, sheet.entries, &sheet.skipped)?;
-    write_list(text, joined, "faults", &sheet.faults)?;
+    write_some(text, joined, sheet.compares, "files", &sheet.files)?;
+    write_some(text, joined, sheet.compares, "left", &sheet.skipped)?;
+    write_some(text, joined, sheet.compares, "faults", &sheet.faults)?;
     Ok(())
 }
 
@@ -97,7 +70,7 @@ fn write_sheet<R: Lines, T: Lines, F: Lines, S: Lines, E: Lines>(
     ensures { OnOk result (text.new ≡ text.old ++ json_tokens (json_of sheet.now)) }
 {
     text.begin_object()?;
-    write_list(text, joined, "rows", &sheet.rows)?;
+    write_list(text, joined, sheet.compares, "rows", &sheet.rows)?;
     write_numbers(text, joined, sheet)?;
     write_lists(text, joined, sheet)?;
     text.end_object()?;
@@ -108,8 +81,9 @@ fn write_sheet<R: Lines, T: Lines, F: Lines, S: Lines, E: Lines>(
 ///
 /// A list of lines, such as the rows, is an array of objects. A line of sums, such as the total, is an object. Each value is a member with
 /// the name of the value's column. There is no member for a column that does not apply to the line, or for a column over which the line is
-/// summed. Bytes that are not UTF-8 are an array of numbers, and the name of this array ends with `_bytes`.
-pub fn json_text<R: Lines, T: Lines, F: Lines, S: Lines, E: Lines>(
+/// summed. In a comparison, a line has the compared values in two objects, `old` and `new`; if a report lacks a file, its object in the
+/// file's line is null. Bytes that are not UTF-8 are an array of numbers, and the name of this array ends with `_bytes`.
+pub(crate) fn json_text<R: Lines, T: Lines, F: Lines, S: Lines, E: Lines>(
     alloc: Global,
     sheet: &Sheet<'_, R, T, F, S, E>,
 ) -> Result<Vec<u8>, AllocError>

@@ -1,17 +1,16 @@
-//! Values, lines and sections of a sheet as JSON.
+//! Values of a sheet as JSON, and those of a line.
 
-ghost use Rattle.std.specs.Prelude.{◌≡◌, ◌++◌, OnOk, flat_map};
-ghost use Rattle.json.specs.Tree.{json_tokens};
-ghost use Rattle.lc_sheet.specs.Sheets.{line_of, lines_of};
+ghost use Rattle.std.specs.Prelude.{◌≡◌, ◌++◌, OnOk};
+ghost use Rattle.lc_sheet.specs.Sheets.{line_of};
 ghost use Rattle.lc_sheet.specs.Values as value;
 ghost use Rattle.lc_sheet.specs.Values.{value_model};
 ghost use Rattle.lc_text.specs.Names.{name_model};
-ghost use Rattle.lc_formats.specs.JsonSheets.{line_at, line_members, line_object, list_member, value_members};
-ghost use Rattle.lc_formats.specs.JsonTokens.{member_tokens, members_tokens_of};
+ghost use Rattle.lc_formats.specs.JsonLines.{line_members, value_members};
+ghost use Rattle.lc_formats.specs.JsonTokens.{members_tokens_of};
 
 use crate::joined::{has_bytes_alone, join_name};
 use crate::json_writer::JsonText;
-use lc_sheet::{Column, Form, Lines, Section, Value};
+use lc_sheet::{Column, Form, Lines, Value};
 use lc_text::Name;
 use std::alloc::AllocError;
 
@@ -70,7 +69,8 @@ fn write_column<L: Lines>(
     write_value(text, joined, column, &L::value(line, form, column))
 }
 
-fn write_columns<L: Lines>(
+/// Writes the members for the values of a line in each column.
+pub(crate) fn write_columns<L: Lines>(
     text: &mut JsonText,
     joined: &mut Vec<u8>,
     form: Form,
@@ -82,73 +82,6 @@ fn write_columns<L: Lines>(
 {
     for column in columns {
         write_column::<L>(text, joined, form, *column, line)?;
-    }
-    Ok(())
-}
-
-/// Writes a line of a section as an object.
-fn write_line<L: Lines>(
-    text: &mut JsonText,
-    joined: &mut Vec<u8>,
-    form: Form,
-    columns: &[Column],
-    line: &L::Line,
-) -> Result<(), AllocError>
-    ensures { OnOk result (text.new
-        ≡ text.old ++ json_tokens (line_object columns.now (line_of (L.value_in form) columns.now line.now))) }
-{
-    text.begin_object()?;
-    write_columns::<L>(text, joined, form, columns, line)?;
-    text.end_object()?;
-    Ok(())
-}
-
-fn write_lines<L: Lines>(
-    text: &mut JsonText,
-    joined: &mut Vec<u8>,
-    form: Form,
-    columns: &[Column],
-    lines: &[L::Line],
-) -> Result<(), AllocError>
-    ensures { OnOk result (text.new ≡ text.old
-        ++ flat_map (λ values. json_tokens (line_object columns.now values)) (lines_of (L.value_in form) columns.now lines.now)) }
-{
-    for line in lines {
-        write_line::<L>(text, joined, form, columns, line)?;
-    }
-    Ok(())
-}
-
-/// Writes a member whose value is an array of the lines of a section.
-pub(crate) fn write_list<L: Lines>(
-    text: &mut JsonText,
-    joined: &mut Vec<u8>,
-    name: &str,
-    section: &Section<'_, L>,
-) -> Result<(), AllocError>
-    ensures { OnOk result (text.new ≡ text.old ++ member_tokens (list_member name.now section.now)) }
-{
-    let (form, columns, lines) = section.parts();
-    text.begin_list(name)?;
-    write_lines::<L>(text, joined, form, columns, lines)?;
-    text.end_array()?;
-    Ok(())
-}
-
-/// Writes a member whose value is the line at this index of a section, if the section has such a line.
-pub(crate) fn write_line_at<L: Lines>(
-    text: &mut JsonText,
-    joined: &mut Vec<u8>,
-    name: &str,
-    index: usize,
-    section: &Section<'_, L>,
-) -> Result<(), AllocError>
-    ensures { OnOk result (text.new ≡ text.old ++ members_tokens_of (line_at name.now index section.now)) }
-{
-    let (form, columns, lines) = section.parts();
-    if let Some(line) = lines.get(index) {
-        text.key(name)?;
-        write_line::<L>(text, joined, form, columns, line)?;
     }
     Ok(())
 }

@@ -1,13 +1,12 @@
 //! The text of a sheet as Markdown, with tables of GitHub Flavored Markdown.
 
-ghost use Rattle.std.specs.Prelude.{◌≡◌, ◌++◌, IfOk, OnOk, option_map};
-ghost use Rattle.lc_formats.specs.Changes.{markdown_of_changes};
-ghost use Rattle.lc_formats.specs.MarkdownText.{counts_with, files_above, lines_with, list_above, list_below, markdown_of};
+ghost use Rattle.std.specs.Prelude.{◌≡◌, ◌++◌, IfOk, OnOk};
+ghost use Rattle.lc_formats.specs.MarkdownText.{counts_below, counts_with, lines_with, list_above, list_below, markdown_of};
 ghost use Rattle.lc_formats.specs.MarkdownText.{section_table, summary_with};
 
 use crate::markdown_line::{Weight, push_headings, push_line, push_values};
 use crate::section_lines::{is_empty, shown_lines};
-use lc_sheet::{ComparisonSheet, Lines, Section, Sheet, Value};
+use lc_sheet::{Lines, Section, Sheet, Value};
 use std::alloc::{AllocError, Global};
 
 fn push_lines<L: Lines>(
@@ -39,14 +38,17 @@ fn push_table<L: Lines>(
     push_lines(text, Weight::Plain, section, made)
 }
 
-/// Appends the table of a section and an empty line. Appends nothing if the section has no lines.
+/// Appends the table of a list and an empty line. Appends nothing if the sheet does not have the list, or the list has no lines.
 fn push_list_above<L: Lines>(
     text: &mut Vec<u8>,
-    section: &Section<'_, L>,
+    list: &Option<Section<'_, L>>,
     made: &mut String,
 ) -> Result<(), AllocError>
-    ensures { OnOk result (text.new.items ≡ text.old.items ++ list_above section.now) }
+    ensures { OnOk result (text.new.items ≡ text.old.items ++ list_above list.now) }
 {
+    let Some(section) = list else {
+        return Ok(());
+    };
     if is_empty(section) {
         return Ok(());
     }
@@ -54,33 +56,22 @@ fn push_list_above<L: Lines>(
     text.extend_from_slice(b"\n")
 }
 
-/// Appends an empty line and the table of a section. Appends nothing if the section has no lines.
+/// Appends an empty line and the table of a list. Appends nothing if the sheet does not have the list, or the list has no lines.
 fn push_list_below<L: Lines>(
     text: &mut Vec<u8>,
-    section: &Section<'_, L>,
+    list: &Option<Section<'_, L>>,
     made: &mut String,
 ) -> Result<(), AllocError>
-    ensures { OnOk result (text.new.items ≡ text.old.items ++ list_below section.now) }
+    ensures { OnOk result (text.new.items ≡ text.old.items ++ list_below list.now) }
 {
+    let Some(section) = list else {
+        return Ok(());
+    };
     if is_empty(section) {
         return Ok(());
     }
     text.extend_from_slice(b"\n")?;
     push_table(text, section, made)
-}
-
-fn push_files<F: Lines>(
-    text: &mut Vec<u8>,
-    files: Option<&Section<'_, F>>,
-    made: &mut String,
-) -> Result<(), AllocError>
-    ensures { OnOk result (text.new.items
-        ≡ text.old.items ++ files_above (option_map (λ section. section.now) files.entry)) }
-{
-    match files {
-        None => Ok(()),
-        Some(files) => push_list_above(text, files, made),
-    }
 }
 
 /// Appends the table of rows, and the sums over them in bold.
@@ -126,15 +117,19 @@ fn push_both(
     Ok(())
 }
 
-/// Appends the number of directories, and the number of their entries if skipped entries are requested.
+/// Appends an empty line, the number of directories, and the number of their entries, if the sheet has them.
 fn push_counts(
     text: &mut Vec<u8>,
-    directories: u64,
+    directories: Option<u64>,
     entries: Option<u64>,
     made: &mut String,
 ) -> Result<(), AllocError>
-    ensures { OnOk result (text.new.items ≡ text.old.items ++ counts_with directories entries) }
+    ensures { OnOk result (text.new.items ≡ text.old.items ++ counts_below directories entries) }
 {
+    let Some(directories) = directories else {
+        return Ok(());
+    };
+    text.extend_from_slice(b"\n")?;
     match entries {
         None => push_directories(text, directories, made),
         Some(entries) => push_both(text, directories, entries, made),
@@ -145,7 +140,7 @@ fn push_counts(
 ///
 /// The lists of files and of skipped entries come first. Then come the rows, the sums over the rows in bold, and the number of directories.
 /// The list of errors comes last. Names are escaped as [`push_visible`](lc_text::push_visible) escapes them.
-pub fn markdown_text<R: Lines, T: Lines, F: Lines, S: Lines, E: Lines>(
+pub(crate) fn markdown_text<R: Lines, T: Lines, F: Lines, S: Lines, E: Lines>(
     alloc: Global,
     sheet: &Sheet<'_, R, T, F, S, E>,
 ) -> Result<Vec<u8>, AllocError>
@@ -153,35 +148,11 @@ pub fn markdown_text<R: Lines, T: Lines, F: Lines, S: Lines, E: Lines>(
 {
     let mut text = Vec::new(alloc);
     let mut made = String::new(alloc);
-    push_files(&mut text, sheet.files.as_ref(), &mut made)?;
+    push_list_above(&mut text, &sheet.files, &mut made)?;
     push_list_above(&mut text, &sheet.skipped, &mut made)?;
     let totals = shown_lines(sheet.some_binary, &sheet.totals);
     push_summary(&mut text, &sheet.rows, &sheet.others, &totals, &mut made)?;
-    text.extend_from_slice(b"\n")?;
     push_counts(&mut text, sheet.directories, sheet.entries, &mut made)?;
     push_list_below(&mut text, &sheet.faults, &mut made)?;
-    Ok(text)
-}
-
-/// Makes the text of a comparison as Markdown.
-///
-/// The list of files comes first. The rows come next, and the sums over the rows come last, in bold. Names are escaped as
-/// [`push_visible`](lc_text::push_visible) escapes them.
-pub fn markdown_changes<R: Lines, T: Lines, F: Lines>(
-    alloc: Global,
-    sheet: &ComparisonSheet<'_, R, T, F>,
-) -> Result<Vec<u8>, AllocError>
-    ensures { IfOk result (λ text. text.items ≡ markdown_of_changes sheet.now) }
-{
-    let mut text = Vec::new(alloc);
-    let mut made = String::new(alloc);
-    push_files(&mut text, sheet.files.as_ref(), &mut made)?;
-    push_summary(
-        &mut text,
-        &sheet.rows,
-        &sheet.others,
-        &sheet.total,
-        &mut made,
-    )?;
     Ok(text)
 }

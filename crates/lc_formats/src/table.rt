@@ -2,14 +2,13 @@
 
 ghost use Rattle.std.specs.Prelude.{◌≡◌, ◌++◌, [], ◌∷◌, IfOk, OnOk, string_bytes};
 ghost use Rattle.lc_formats.specs.Cells.{cells_of};
-ghost use Rattle.lc_formats.specs.Changes.{table_of_changes};
 ghost use Rattle.lc_formats.specs.Columns.{lines_in, widened, widths_of};
-ghost use Rattle.lc_formats.specs.TableText.{count_cells, counts_of, files_listing, row_lines, summary_of, table_of};
+ghost use Rattle.lc_formats.specs.TableText.{count_cells, counts_below, counts_of, list_listing, row_lines, summary_of, table_of};
 
 use crate::cells::{Cell, set_headings};
 use crate::section_lines::{fit_lines, push_lines, push_listing, shown_lines};
 use crate::widths::Widths;
-use lc_sheet::{ComparisonSheet, Lines, Section, Sheet, Side, Value};
+use lc_sheet::{Lines, Section, Sheet, Side, Value};
 use std::alloc::{AllocError, Global};
 
 fn fit_rows<'a, R: Lines, T: Lines>(
@@ -110,8 +109,7 @@ fn push_both(
     Ok(())
 }
 
-/// Appends the number of directories, and the number of their entries if skipped entries are requested.
-fn push_counts(
+fn push_numbers(
     alloc: Global,
     directories: u64,
     entries: Option<u64>,
@@ -127,18 +125,35 @@ fn push_counts(
     }
 }
 
-/// Appends the list of files, if the sheet has one.
-fn push_files<F: Lines>(
+/// Appends an empty line, the number of directories, and the number of their entries, if the sheet has them.
+fn push_counts(
     alloc: Global,
-    files: &Option<Section<'_, F>>,
+    directories: Option<u64>,
+    entries: Option<u64>,
     text: &mut String,
     made: &mut String,
 ) -> Result<(), AllocError>
-    ensures { OnOk result (string_bytes text.new ≡ string_bytes text.old ++ files_listing files.now) }
+    ensures { OnOk result (string_bytes text.new ≡ string_bytes text.old ++ counts_below directories entries) }
 {
-    match files {
+    let Some(directories) = directories else {
+        return Ok(());
+    };
+    text.push_str("\n")?;
+    push_numbers(alloc, directories, entries, text, made)
+}
+
+/// Appends a list, if the sheet has it.
+fn push_list<L: Lines>(
+    alloc: Global,
+    list: &Option<Section<'_, L>>,
+    text: &mut String,
+    made: &mut String,
+) -> Result<(), AllocError>
+    ensures { OnOk result (string_bytes text.new ≡ string_bytes text.old ++ list_listing list.now) }
+{
+    match list {
         None => Ok(()),
-        Some(files) => push_listing(alloc, files, text, made),
+        Some(section) => push_listing(alloc, section, text, made),
     }
 }
 
@@ -154,9 +169,9 @@ pub fn table_text<R: Lines, T: Lines, F: Lines, S: Lines, E: Lines>(
 {
     let mut text = String::new(alloc);
     let mut made = String::new(alloc);
-    push_files(alloc, &sheet.files, &mut text, &mut made)?;
-    push_listing(alloc, &sheet.skipped, &mut text, &mut made)?;
-    push_listing(alloc, &sheet.faults, &mut text, &mut made)?;
+    push_list(alloc, &sheet.files, &mut text, &mut made)?;
+    push_list(alloc, &sheet.skipped, &mut text, &mut made)?;
+    push_list(alloc, &sheet.faults, &mut text, &mut made)?;
     let totals = shown_lines(sheet.some_binary, &sheet.totals);
     push_summary(
         alloc,
@@ -166,35 +181,10 @@ pub fn table_text<R: Lines, T: Lines, F: Lines, S: Lines, E: Lines>(
         &mut text,
         &mut made,
     )?;
-    text.push_str("\n")?;
     push_counts(
         alloc,
         sheet.directories,
         sheet.entries,
-        &mut text,
-        &mut made,
-    )?;
-    Ok(text.into_bytes())
-}
-
-/// Makes the text of a comparison in human-readable columns.
-///
-/// The list of files comes first. The rows and the sums over the rows come last, because a terminal shows the end of a long text. Paths are
-/// escaped as [`push_visible`](lc_text::push_visible) escapes them.
-pub fn table_changes<R: Lines, T: Lines, F: Lines>(
-    alloc: Global,
-    sheet: &ComparisonSheet<'_, R, T, F>,
-) -> Result<Vec<u8>, AllocError>
-    ensures { IfOk result (λ text. text.items ≡ table_of_changes sheet.now) }
-{
-    let mut text = String::new(alloc);
-    let mut made = String::new(alloc);
-    push_files(alloc, &sheet.files, &mut text, &mut made)?;
-    push_summary(
-        alloc,
-        &sheet.rows,
-        &sheet.others,
-        &sheet.total,
         &mut text,
         &mut made,
     )?;

@@ -1,6 +1,6 @@
 //! Laws about text that is printed in human-readable columns. Each law is a theorem, which is the contract of a function that does nothing.
 
-ghost use Rattle.lc_formats.specs.ChangeLaws.{ChangeLaw, ComparisonEndsLaw, ComparisonWidthLaw, NoChangeLaw};
+ghost use Rattle.lc_formats.specs.ChangeLaws.{ChangeLaw, NoChangeLaw};
 ghost use Rattle.lc_formats.specs.CommaLaws.{CommasLaw};
 ghost use Rattle.lc_formats.specs.ShareLaws.{BarLengthLaw, NearestLaw, PartsLaw, WholeLaw};
 ghost use Rattle.lc_formats.specs.WidthLaws.{CountsWidthLaw, LineEndsLaw, ListingWidthLaw, SummaryWidthLaw};
@@ -11,7 +11,7 @@ pub fn numbers_with_commas_read_back()
     ensures { CommasLaw }
 {}
 
-/// The law that lines of a human-readable text have one width, before the blanks at the ends of the lines are removed. The headings, rows
+/// The law that lines of a human-readable text, of a report or of a comparison, have one width, before the blanks at the ends of the lines are removed. The headings, rows
 /// and sums have one width. The lines with the numbers of directories and of entries have one width. In a list of which only the last
 /// column is not padded, the lines have one width up to this column. The law requires printable words, and names whose bytes are numbers
 /// below 256. For the rows and sums, the law also requires that they have the same columns, that all these columns are padded, and that
@@ -47,12 +47,4 @@ pub fn bars_are_as_long_as_their_cells()
 pub fn changes_add_up_to_new_numbers()
     ensures change { ChangeLaw }
     ensures none { NoChangeLaw }
-{}
-
-/// The law that in the human-readable text of a comparison, the headings, rows and sums are padded to one width. The law requires of rows
-/// and sums what [`lines_of_a_part_are_as_wide`] requires. If the list of files is missing, or meets the requirements of
-/// [`lines_end_without_blanks`] for lists, no line of the text ends with a blank.
-pub fn lines_of_comparisons_are_as_wide()
-    ensures summary { ComparisonWidthLaw }
-    ensures ends { ComparisonEndsLaw }
 {}

@@ -1,21 +1,20 @@
 //! The text of a sheet as lines of fields, with tabs between the fields.
 
-ghost use Rattle.std.specs.Prelude.{◌≡◌, ◌++◌, OnOk, IfOk, map, take};
+ghost use Rattle.std.specs.Prelude.{◌≡◌, ◌++◌, OnOk, IfOk, option_map};
 ghost use Rattle.std.specs.List.{flat_map};
 ghost use Rattle.lc_sheet.specs.ColumnWords.{column_name};
 ghost use Rattle.lc_sheet.specs.Sheets.{line_of, lines_of};
 ghost use Rattle.lc_sheet.specs.Values.{value_model};
-ghost use Rattle.lc_formats.specs.Changes.{listed_lines, tsv_of_changes};
-ghost use Rattle.lc_formats.specs.Tsv.{entries_line, field_of, file_lines, header_line, number_line, tagged_line, tagged_lines, tsv_of};
-ghost use Rattle.lc_formats.specs.Tsv.{values_line};
+ghost use Rattle.lc_formats.specs.Tsv.{field_of, header_line, list_lines, number_line, section_lines, tsv_of, values_line};
 ghost use Rattle.lc_formats.specs.TsvParts.{after_tab};
 
 use crate::numbers::push_digits;
-use lc_sheet::{Column, ComparisonSheet, Form, Lines, Section, Sheet, Value};
+use crate::section_lines::shown_lines;
+use lc_sheet::{Column, Form, Lines, Section, Sheet, Value};
 use lc_text::{push_name, push_path};
 use std::alloc::{AllocError, Global};
 
-/// About how many bytes the line of a file takes. Room for all lines is reserved together, so that the text is copied less while it grows.
+/// About how many bytes a line takes. Room for all lines is reserved together, so that the text is copied less while it grows.
 const LINE_ROOM: usize = 64;
 
 /// Appends a value as a field.
@@ -77,14 +76,23 @@ fn push_fields<L: Lines>(
     Ok(())
 }
 
+/// Appends a line, with the word that names it before its values, if there is one.
 fn push_line<L: Lines>(
     text: &mut Vec<u8>,
+    tag: Option<&'static str>,
     form: Form,
     line: &L::Line,
     columns: &[Column],
 ) -> Result<(), AllocError>
-    ensures { OnOk result (text.new.items ≡ text.old.items ++ values_line (line_of (L.value_in form) columns.now line.now)) }
+    ensures { OnOk result (text.new.items ≡ text.old.items
+        ++ values_line (option_map (λ t. t.now) tag.entry) (line_of (L.value_in form) columns.now line.now)) }
 {
+    if let Some(tag) = tag {
+        text.extend_from_slice(tag.as_bytes())?;
+        push_fields::<L>(text, form, line, columns)?;
+        text.extend_from_slice(b"\n")?;
+        return Ok(());
+    }
     let Some((first, rest)) = columns.split_first() else {
         return text.extend_from_slice(b"\n");
     };
@@ -94,91 +102,37 @@ fn push_line<L: Lines>(
     Ok(())
 }
 
-/// Appends a line that begins with the word `tag`, which names the kind of the line.
-fn push_tagged_line<L: Lines>(
-    text: &mut Vec<u8>,
-    tag: &'static str,
-    form: Form,
-    line: &L::Line,
-    columns: &[Column],
-) -> Result<(), AllocError>
-    ensures { OnOk result (text.new.items ≡ text.old.items ++ tagged_line tag.now (line_of (L.value_in form) columns.now line.now)) }
-{
-    text.extend_from_slice(tag.as_bytes())?;
-    push_fields::<L>(text, form, line, columns)?;
-    text.extend_from_slice(b"\n")?;
-    Ok(())
-}
-
 fn push_lines<L: Lines>(
     text: &mut Vec<u8>,
+    tag: Option<&'static str>,
     form: Form,
     columns: &[Column],
     lines: &[L::Line],
 ) -> Result<(), AllocError>
-    ensures { OnOk result (text.new.items ≡ text.old.items ++ flat_map values_line (lines_of (L.value_in form) columns.now lines.now)) }
+    ensures { OnOk result (text.new.items ≡ text.old.items
+        ++ flat_map (values_line (option_map (λ t. t.now) tag.entry)) (lines_of (L.value_in form) columns.now lines.now)) }
 {
     for line in lines {
-        push_line::<L>(text, form, line, columns)?;
-    }
-    Ok(())
-}
-
-fn push_tagged_lines<L: Lines>(
-    text: &mut Vec<u8>,
-    tag: &'static str,
-    form: Form,
-    columns: &[Column],
-    lines: &[L::Line],
-) -> Result<(), AllocError>
-    ensures { OnOk result (text.new.items
-        ≡ text.old.items ++ flat_map (tagged_line tag.now) (lines_of (L.value_in form) columns.now lines.now)) }
-{
-    for line in lines {
-        push_tagged_line::<L>(text, tag, form, line, columns)?;
+        push_line::<L>(text, tag, form, line, columns)?;
     }
     Ok(())
 }
 
 fn push_section<L: Lines>(text: &mut Vec<u8>, section: &Section<'_, L>) -> Result<(), AllocError>
-    ensures { OnOk result (text.new.items ≡ text.old.items ++ flat_map values_line section.now.lines) }
-{
-    let (form, columns, lines) = section.parts();
-    push_lines::<L>(text, form, columns, lines)
-}
-
-/// Appends the first line of a section, if the section has a line.
-fn push_first<L: Lines>(text: &mut Vec<u8>, section: &Section<'_, L>) -> Result<(), AllocError>
-    ensures { OnOk result (text.new.items ≡ text.old.items ++ flat_map values_line (take 1 section.now.lines)) }
-{
-    let (form, columns, lines) = section.parts();
-    match lines.split_first() {
-        None => Ok(()),
-        Some((line, _)) => push_line::<L>(text, form, line, columns),
-    }
-}
-
-fn push_tagged_section<L: Lines>(
-    text: &mut Vec<u8>,
-    tag: &'static str,
-    section: &Section<'_, L>,
-) -> Result<(), AllocError>
-    ensures { OnOk result (text.new.items ≡ text.old.items ++ tagged_lines tag.now section.now) }
+    ensures { OnOk result (text.new.items ≡ text.old.items ++ section_lines section.now) }
 {
     let (form, columns, lines) = section.parts();
     text.reserve(lines.len().saturating_mul(LINE_ROOM))?;
-    push_tagged_lines::<L>(text, tag, form, columns, lines)
+    push_lines::<L>(text, section.tag(), form, columns, lines)
 }
 
-fn push_files<L: Lines>(
-    text: &mut Vec<u8>,
-    files: &Option<Section<'_, L>>,
-) -> Result<(), AllocError>
-    ensures { OnOk result (text.new.items ≡ text.old.items ++ file_lines files.now) }
+/// Appends the lines of a list, if the sheet has the list.
+fn push_list<L: Lines>(text: &mut Vec<u8>, list: &Option<Section<'_, L>>) -> Result<(), AllocError>
+    ensures { OnOk result (text.new.items ≡ text.old.items ++ list_lines list.now) }
 {
-    match files {
+    match list {
         None => Ok(()),
-        Some(section) => push_tagged_section(text, "file", section),
+        Some(section) => push_section(text, section),
     }
 }
 
@@ -204,30 +158,29 @@ fn push_header(text: &mut Vec<u8>, columns: &[Column]) -> Result<(), AllocError>
     Ok(())
 }
 
-fn push_number_line(text: &mut Vec<u8>, tag: &'static str, number: u64) -> Result<(), AllocError>
+/// Appends the line of a number, if the sheet has the number.
+fn push_number_line(
+    text: &mut Vec<u8>,
+    tag: &'static str,
+    number: Option<u64>,
+) -> Result<(), AllocError>
     ensures { OnOk result (text.new.items ≡ text.old.items ++ number_line tag.now number) }
 {
+    let Some(number) = number else {
+        return Ok(());
+    };
     text.extend_from_slice(tag.as_bytes())?;
     text.extend_from_slice(b"\t")?;
     push_digits(text, u128::from(number))?;
     text.extend_from_slice(b"\n")
 }
 
-fn push_entries(text: &mut Vec<u8>, entries: Option<u64>) -> Result<(), AllocError>
-    ensures { OnOk result (text.new.items ≡ text.old.items ++ entries_line entries) }
-{
-    match entries {
-        None => Ok(()),
-        Some(entries) => push_number_line(text, "entries", entries),
-    }
-}
-
 /// Makes the text of a sheet as lines of fields, with tabs between the fields.
 ///
 /// The text has a header, a line for each shown row, a line with the sums over the rows that are cut off (if any), and a line with the
-/// total. Next come the number of directories, and the number of entries if skipped entries are requested. Last come the files if the sheet
-/// lists files, the skipped entries, and the errors. Paths are escaped as [`escape`](lc_text::escape) escapes them.
-pub fn tsv_text<R: Lines, T: Lines, F: Lines, S: Lines, E: Lines>(
+/// total. Next come the number of directories and the number of entries, and last the files, the skipped entries and the errors, each if
+/// the sheet has them. Paths are escaped as [`escape`](lc_text::escape) escapes them.
+pub(crate) fn tsv_text<R: Lines, T: Lines, F: Lines, S: Lines, E: Lines>(
     alloc: Global,
     sheet: &Sheet<'_, R, T, F, S, E>,
 ) -> Result<Vec<u8>, AllocError>
@@ -237,43 +190,11 @@ pub fn tsv_text<R: Lines, T: Lines, F: Lines, S: Lines, E: Lines>(
     push_header(&mut text, sheet.rows.columns())?;
     push_section(&mut text, &sheet.rows)?;
     push_section(&mut text, &sheet.others)?;
-    push_first(&mut text, &sheet.totals)?;
+    push_section(&mut text, &shown_lines(false, &sheet.totals))?;
     push_number_line(&mut text, "directories", sheet.directories)?;
-    push_entries(&mut text, sheet.entries)?;
-    push_files(&mut text, &sheet.files)?;
-    push_tagged_section(&mut text, "left", &sheet.skipped)?;
-    push_tagged_section(&mut text, "fault", &sheet.faults)?;
-    Ok(text)
-}
-
-/// Appends a line for each file, if the comparison lists files. No word is before the values of the file.
-fn push_listed<L: Lines>(
-    text: &mut Vec<u8>,
-    files: &Option<Section<'_, L>>,
-) -> Result<(), AllocError>
-    ensures { OnOk result (text.new.items ≡ text.old.items ++ flat_map values_line (listed_lines files.now)) }
-{
-    match files {
-        None => Ok(()),
-        Some(section) => push_section(text, section),
-    }
-}
-
-/// Makes the text of a comparison as lines of fields, with tabs between the fields.
-///
-/// The text has a header, a line for each shown row, a line with the sums over the rows that are cut off (if any), and a line with the
-/// total. If the comparison lists files, a line for each file comes last. Paths are escaped as [`escape`](lc_text::escape) escapes them.
-pub fn tsv_changes<R: Lines, T: Lines, F: Lines>(
-    alloc: Global,
-    sheet: &ComparisonSheet<'_, R, T, F>,
-) -> Result<Vec<u8>, AllocError>
-    ensures { IfOk result (λ text. text.items ≡ tsv_of_changes sheet.now) }
-{
-    let mut text = Vec::new(alloc);
-    push_header(&mut text, sheet.rows.columns())?;
-    push_section(&mut text, &sheet.rows)?;
-    push_section(&mut text, &sheet.others)?;
-    push_section(&mut text, &sheet.total)?;
-    push_listed(&mut text, &sheet.files)?;
+    push_number_line(&mut text, "entries", sheet.entries)?;
+    push_list(&mut text, &sheet.files)?;
+    push_list(&mut text, &sheet.skipped)?;
+    push_list(&mut text, &sheet.faults)?;
     Ok(text)
 }

@@ -5,7 +5,7 @@ use Rattle.std.specs.Str.{is_utf8}
 use Rattle.std.proofs.lemmas.List.Elements.{recursion_from_All}
 use Rattle.json.specs.Json.{Json, string}
 use Rattle.lc_census.specs.EolWords.{eol_word}
-use Rattle.lc_formats.specs.JsonSheets.{line_members, value_members}
+use Rattle.lc_formats.specs.JsonLines.{line_members, value_members}
 use Rattle.lc_formats.specs.JsonText.{Member, bytes_member}
 use Rattle.lc_formats.specs.Readable.{AreBytes}
 use Rattle.lc_level.specs.FaultLines.{FaultLineModel}

@@ -2,7 +2,7 @@
 use Rattle.std.proofs.Common.{◌≡◌, ◌∙◌, List, [], ◌∷◌, map, refl, sym, subst}
 use Rattle.std.specs.List.{AllByRecursion}
 use Rattle.json.specs.Json.{Json}
-use Rattle.lc_formats.specs.JsonSheets.{line_members, line_object}
+use Rattle.lc_formats.specs.JsonLines.{line_members, line_object}
 use Rattle.lc_formats.specs.JsonText.{array_with, object_with}
 use Rattle.lc_reading.specs.Lists.{AreLinesOf, IsLineOf}
 use Rattle.lc_reading.specs.Members.{Member, named}

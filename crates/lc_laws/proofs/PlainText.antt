@@ -7,7 +7,7 @@ use Rattle.std.proofs.lemmas.List.Folds.{flat_map-map}
 use Rattle.std.proofs.lemmas.List.Sorted.{length_permutation}
 use Rattle.std.specs.List.{flat_map}
 use Rattle.lc_census.specs.EolWords.{eol_word}
-use Rattle.lc_formats.specs.Tsv.{entries_line, field_of, file_lines, header_line, line_with, tagged_line, tagged_lines, tsv_of, values_line}
+use Rattle.lc_formats.specs.Tsv.{field_of, header_line, line_with, list_lines, number_line, tsv_of, values_line}
 use Rattle.lc_level.specs.FaultLines.{FaultLineModel}
 use Rattle.lc_level.specs.FaultWords.{fault_word}
 use Rattle.lc_level.specs.Level.{FileLineModel}
@@ -15,7 +15,7 @@ use Rattle.lc_rows.specs.Kept.{whole_form}
 use Rattle.lc_rows.specs.Kinds.{extension_value, fault_value, file_value, row_value, skipped_value, sums_value, word_value}
 use Rattle.lc_rows.specs.Laws.{all_columns}
 use Rattle.lc_rows.specs.SheetColumns.{fault_columns, listed_columns, listed_skipped, row_columns}
-use Rattle.lc_rows.specs.Sheets.{listed_files, section_of, sheet_among, totals_lines}
+use Rattle.lc_rows.specs.Sheets.{list_of, listed_files, section_of, sheet_among, totals_lines}
 use Rattle.lc_rows.specs.ShownRows.{part_of_row}
 use Rattle.lc_rows.specs.Views.{view_of}
 use Rattle.lc_rows.specs.declared.classes.ClassSums.{ClassSums}
@@ -51,7 +51,7 @@ dotted (Some b) = simp append-nil
 abbrev columns : List Column
 columns = row_columns (plain_options false)
 
-row_printed : (r : TallyRowModel) → values_line (line_of (row_value whole_form) columns (part_of_row all_columns r)) ≡ row_line r
+row_printed : (r : TallyRowModel) → values_line None (line_of (row_value whole_form) columns (part_of_row all_columns r)) ≡ row_line r
 row_printed r =
     let extension = or_dash (option_map (λ b. codes "." ++ escape_bytes b) r.key.extension) in
     let more = eol_word r.key.eol ∷ numbers r.sums in
@@ -59,7 +59,7 @@ row_printed r =
     ∙ ap (λ t. line_with (extension ∷ t ∷ more)) (dashed (text_word r.key.text))
     ∙ tabbed (extension ∷ or_dash (text_word r.key.text) ∷ more)
 
-file_printed : (f : FileLineModel) → tagged_line (codes "file") (line_of (file_value whole_form) listed_columns f) ≡ file_line f
+file_printed : (f : FileLineModel) → values_line (Some (codes "file")) (line_of (file_value whole_form) listed_columns f) ≡ file_line f
 file_printed f =
     let more = eol_word f.count.eol ∷ decimal f.count.lines ∷ decimal f.count.blank ∷ decimal f.count.bytes ∷ escape_path f.path ∷ [] in
     ap (λ t. line_with (codes "file" ∷ t ∷ more)) (dashed (text_word f.text))
@@ -71,32 +71,36 @@ each : {X : Type 0} {text page : X → List ℕ} (xs : List X) → ((x : X) → 
 each xs same = ap (λ f. flat_map f xs) (fun_ext same)
 
 rows_printed : (rs : List TallyRowModel)
-    → flat_map values_line (lines_of (row_value whole_form) columns (map (part_of_row all_columns) rs)) ≡ flat_map row_line rs
+    → flat_map (values_line None) (lines_of (row_value whole_form) columns (map (part_of_row all_columns) rs)) ≡ flat_map row_line rs
 rows_printed rs =
-    flat_map-map values_line (line_of (row_value whole_form) columns) (map (part_of_row all_columns) rs)
-    ∙ flat_map-map (λ r. values_line (line_of (row_value whole_form) columns r)) (part_of_row all_columns) rs
+    flat_map-map (values_line None) (line_of (row_value whole_form) columns) (map (part_of_row all_columns) rs)
+    ∙ flat_map-map (λ r. values_line None (line_of (row_value whole_form) columns r)) (part_of_row all_columns) rs
     ∙ each rs row_printed
 
 total_printed : (totals : Sums) (classes : ClassSums)
-    → flat_map values_line (take 1 (lines_of (sums_value whole_form) columns (totals_lines totals classes)))
+    → flat_map (values_line None) (take 1 (lines_of (sums_value whole_form) columns (totals_lines totals classes)))
     ≡ line (codes "total" ∷ codes "*" ∷ codes "*" ∷ numbers totals)
 total_printed totals classes = append-nil _ ∙ tabbed (codes "total" ∷ codes "*" ∷ codes "*" ∷ numbers totals)
 
-entries_unprinted : (n : ℕ) (left_out : Bool) → left_out ≡ false → entries_line (if left_out then Some n else None) ≡ []
+entries_unprinted : (n : ℕ) (left_out : Bool) → left_out ≡ false → number_line (codes "entries") (if left_out then Some n else None) ≡ []
 entries_unprinted n left_out none = rw none refl
 
+skipped_unprinted : (r : Report) (left_out : Bool) → left_out ≡ false
+    → list_lines (if left_out then Some (list_of (codes "left") (section_of (skipped_value whole_form) listed_skipped r.skipped.items)) else None) ≡ []
+skipped_unprinted r left_out none = rw none refl
+
 files_printed : (b : Bool) (fs : List FileLineModel)
-    → file_lines (if b then Some (section_of (file_value whole_form) listed_columns (listed_files b fs)) else None)
+    → list_lines (if b then Some (list_of (codes "file") (section_of (file_value whole_form) listed_columns (listed_files b fs))) else None)
     ≡ (if b then flat_map file_line fs else [])
 files_printed true fs =
-    flat_map-map (tagged_line (codes "file")) (line_of (file_value whole_form) listed_columns) fs ∙ each fs file_printed
+    flat_map-map (values_line (Some (codes "file"))) (line_of (file_value whole_form) listed_columns) fs ∙ each fs file_printed
 files_printed false fs = refl
 
 faults_printed : (fs : List FaultLineModel)
-    → tagged_lines (codes "fault") (section_of (fault_value whole_form) fault_columns fs)
+    → flat_map (values_line (Some (codes "fault"))) (lines_of (fault_value whole_form) fault_columns fs)
     ≡ flat_map (λ (f : FaultLineModel). line (codes "fault" ∷ fault_word f.word ∷ escape_path f.path ∷ [])) fs
 faults_printed fs =
-    flat_map-map (tagged_line (codes "fault")) (line_of (fault_value whole_form) fault_columns) fs
+    flat_map-map (values_line (Some (codes "fault"))) (line_of (fault_value whole_form) fault_columns) fs
     ∙ each fs (λ f. tabbed (codes "fault" ∷ fault_word f.word ∷ escape_path f.path ∷ []))
 
 -- ---- the text
@@ -112,10 +116,10 @@ plain_table_law b r classes s unlisted sheet =
     ap tsv_of sheet.has.is
     ∙ ap (λ fs. tsv_of (sheet_among (plain_options b) r classes (view_of None sheet.has.rows (listed_files b fs)))) sheet.are_files
     ∙ in_a_row (header_line columns)
-    (ap (λ rs. flat_map values_line (lines_of (row_value whole_form) columns rs)) (sheet.has.are_rows.2 ∙ sheet.has.are_rows.1)
+    (ap (λ rs. flat_map (values_line None) (lines_of (row_value whole_form) columns rs)) (sheet.has.are_rows.2 ∙ sheet.has.are_rows.1)
     ∙ rows_printed r.rows.items) (total_printed r.totals classes) (tabbed (codes "directories" ∷ decimal r.directories ∷ []))
     (entries_unprinted r.entries r.lists.left_out unlisted.unlisted) (files_printed b r.files.items)
-    (ap (λ ls. tagged_lines (codes "left") (section_of (skipped_value whole_form) listed_skipped ls)) unlisted.none)
+    (skipped_unprinted r r.lists.left_out unlisted.unlisted)
     (faults_printed r.faults.items)
 
 -- ---- walks

@@ -3,7 +3,7 @@ use Rattle.std.proofs.Common.{◌≡◌, ◌∙◌, ◌||◌, ℕ, Bool, true, f
 use Rattle.std.proofs.Common.{if◌then◌else◌, map}
 use Rattle.std.specs.Str.{bytes_eq, is_utf8}
 use Rattle.json.specs.Json.{Json, string}
-use Rattle.lc_formats.specs.JsonSheets.{line_members, value_members}
+use Rattle.lc_formats.specs.JsonLines.{line_members, value_members}
 use Rattle.lc_formats.specs.JsonText.{array_with, bytes_name, integer}
 use Rattle.lc_reading.specs.Members.{values_at}
 use Rattle.lc_sheet.specs.ColumnWords.{column_name}

@@ -2,7 +2,8 @@
 use Rattle.std.proofs.Common.{◌≡◌, ℕ, Bool, true, false, List, [], ◌∷◌, ◌++◌, map, codes, Option, None, refl, sym}
 use Rattle.std.proofs.Common.{subst, is_some}
 use Rattle.json.specs.Json.{Json}
-use Rattle.lc_formats.specs.JsonSheets.{json_of, line_members, line_object}
+use Rattle.lc_formats.specs.JsonLines.{line_members, line_object}
+use Rattle.lc_formats.specs.JsonSheets.{json_of}
 use Rattle.lc_formats.specs.JsonText.{Member, array_with, integer, object_with}
 use Rattle.lc_level.specs.FaultLines.{FaultLineModel}
 use Rattle.lc_level.specs.Level.{FileLineModel, SkippedLineModel}

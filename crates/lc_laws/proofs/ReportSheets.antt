@@ -39,7 +39,7 @@ use Rattle.lc_rows.specs.Kinds.{row_value, share_value, bar_value, skipped_value
 use Rattle.lc_rows.specs.Classes.{classes_of}
 use Rattle.lc_rows.specs.RowKeys.{ShownRowModel}
 use Rattle.lc_rows.specs.SheetColumns.{column_if, fault_columns, key_columns, listed_columns, listed_skipped, number_columns}
-use Rattle.lc_rows.specs.Sheets.{form_of, others_lines, section_of, sheet_of, totals_lines}
+use Rattle.lc_rows.specs.Sheets.{form_of, list_of, others_lines, section_of, sheet_of, totals_lines}
 use Rattle.lc_rows.specs.declared.classes.ClassSums.{ClassSums}
 use Rattle.lc_rows.specs.Views.{ViewModel}
 use Rattle.lc_census.specs.EolWords.{eol_word}
@@ -293,7 +293,7 @@ any_all [] = All-nil (λ x. Unit {0})
 any_all (x ∷ xs) = All-cons (λ x. Unit {0}) x xs tt (any_all xs)
 
 files_listed : (b : Bool) (form : Form) (fs : List FileLineModel)
-    → IfSome (if b then Some (section_of (file_value form) listed_columns fs) else None) IsListed
+    → IfSome (if b then Some (list_of (codes "file") (section_of (file_value form) listed_columns fs)) else None) IsListed
 files_listed true form fs = record {
   opened = refl;
   readable = listed_of (file_value form) (λ f. Unit {0}) listed_columns
@@ -301,15 +301,17 @@ files_listed true form fs = record {
 }
 files_listed false form fs = tt
 
-skipped_listed : (form : Form) (ls : List SkippedLineModel) → All HasSkippedBytes ls
-    → IsListed (section_of (skipped_value form) listed_skipped ls)
-skipped_listed form ls small = record {
+skipped_listed : (b : Bool) (form : Form) (ls : List SkippedLineModel) → All HasSkippedBytes ls
+    → IfSome (if b then Some (list_of (codes "left") (section_of (skipped_value form) listed_skipped ls)) else None) IsListed
+skipped_listed false form ls small = tt
+skipped_listed true form ls small = record {
   opened = refl;
   readable = listed_of (skipped_value form) HasSkippedBytes listed_skipped
       (λ l is. (reason_plain l.reason, (place_readable l.path l.reason is.0 is.1, ((refl, tt, end_plain l.kind l.reason), tt)))) ls small;
 }
 
-faults_listed : (form : Form) (fs : List FaultLineModel) → IsListed (section_of (fault_value form) fault_columns fs)
+faults_listed : (form : Form) (fs : List FaultLineModel)
+    → IsListed (list_of (codes "fault") (section_of (fault_value form) fault_columns fs))
 faults_listed form fs = record {
   opened = refl;
   readable = listed_of (fault_value form) (λ f. Unit {0}) fault_columns (λ f is. (fault_plain f.word, (tt, tt))) fs (any_all fs);
@@ -327,7 +329,7 @@ in_table options r v small skipped =
         totals = sums_section options form (totals_lines r.totals classes) (totals_plain r.totals classes);
       };
       files_listed = files_listed options.files form v.files;
-      skipped_listed = skipped_listed form r.skipped.items skipped;
+      skipped_listed = skipped_listed r.lists.left_out form r.skipped.items skipped;
       faults_listed = faults_listed form r.faults.items;
     }
 

@@ -1,6 +1,6 @@
 -- What a text as CSV shows of a report has columns, and a value in each.
-use Rattle.std.proofs.Common.{◌≡◌, ℕ, ◌+◌, ◌<◌, Bool, true, false, if◌then◌else◌, List, [], ◌++◌, length, Some, None}
-use Rattle.std.proofs.Common.{ap, arith, length-append, ◌∙◌}
+use Rattle.std.proofs.Common.{◌≡◌, ℕ, ◌+◌, ◌<◌, Bool, true, false, if◌then◌else◌, List, [], ◌++◌, length, codes, Option, Some, None}
+use Rattle.std.proofs.Common.{ap, arith, length-append, unwrap_or, ◌∙◌}
 use Rattle.std.specs.List.{slice_index_or}
 use Rattle.std.proofs.lemmas.List.{length-map}
 use Rattle.std.proofs.lemmas.List.Elements.{All-map}
@@ -13,17 +13,17 @@ use Rattle.lc_sheet.specs.declared.table_options.Format.TheVariants.{Tsv, Table,
 use Rattle.lc_sheet.specs.declared.table_options.TableOptions.{TableOptions}
 use Rattle.lc_walk.specs.declared.report.Report.{Report}
 use Rattle.lc_rows.specs.Kinds.{file_value, row_value, skipped_value}
-use Rattle.lc_rows.specs.SheetColumns.{file_columns, keeps_columns, key_columns, number_columns, row_columns, share_columns, skipped_columns}
-use Rattle.lc_rows.specs.Sheets.{form_of, section_of, sheet_of}
+use Rattle.lc_rows.specs.SheetColumns.{file_columns, keeps_columns, key_columns, number_columns, row_columns, share_columns}
+use Rattle.lc_rows.specs.SheetColumns.{skipped_columns}
+use Rattle.lc_rows.specs.Sheets.{form_of, list_of, section_of, sheet_of}
 use Rattle.lc_rows.specs.Views.{ViewModel}
-use Rattle.lc_formats.specs.Csv.{section_among}
 use Rattle.lc_formats.specs.CsvLaws.{HasColumns}
 use Rattle.lc_laws.specs.SheetReadable.{SheetRecordsLaw}
 
 -- lines in columns have a value in each
-made_with : {X : Type 0} (value : X → Column → ValueModel) (columns : List Column) (lines : List X) → 0 < length columns
-    → HasColumns (section_of value columns lines)
-made_with value columns lines some = record {
+made_with : {X : Type 0} (tag : Option (List ℕ)) (value : X → Column → ValueModel) (columns : List Column) (lines : List X)
+    → 0 < length columns → HasColumns (record (section_of value columns lines) { tag = tag })
+made_with tag value columns lines some = record {
   some = some;
   each = All-map (λ (values : List ValueModel). length values ≡ length columns) (line_of value columns) lines
       (λ k d within. length-map columns (value (slice_index_or lines k d)));
@@ -59,17 +59,19 @@ file_columns_some Html by = omega arith
 
 module _ (options : TableOptions) (r : Report) (v : ViewModel) where
   at : (files left_out : Bool)
-      → HasColumns (section_among
-      (if files then Some (section_of (file_value (form_of options r.totals v.rows)) (file_columns options.format options.by) v.files) else None)
-      (record (sheet_of options r v) { entries = if left_out then Some r.entries else None }))
+      → HasColumns (unwrap_or
+      (if files then Some (list_of (codes "file") (section_of (file_value (form_of options r.totals v.rows))
+      (file_columns options.format options.by) v.files)) else None)
+      (unwrap_or (if left_out then Some (list_of (codes "left") (section_of (skipped_value (form_of options r.totals v.rows))
+      (skipped_columns options.format) r.skipped.items)) else None) (sheet_of options r v).rows))
   at true left_out =
-      made_with (file_value (form_of options r.totals v.rows)) (file_columns options.format options.by) v.files
+      made_with (Some (codes "file")) (file_value (form_of options r.totals v.rows)) (file_columns options.format options.by) v.files
       (file_columns_some options.format options.by)
   at false true =
-      made_with (skipped_value (form_of options r.totals v.rows)) (skipped_columns options.format) r.skipped.items
+      made_with (Some (codes "left")) (skipped_value (form_of options r.totals v.rows)) (skipped_columns options.format) r.skipped.items
       (skipped_columns_some options.format)
   at false false =
-      made_with (row_value (form_of options r.totals v.rows)) (row_columns options) v.rows (row_columns_some options)
+      made_with None (row_value (form_of options r.totals v.rows)) (row_columns options) v.rows (row_columns_some options)
 
 pub sheet_columns : SheetRecordsLaw
 sheet_columns options r v = at options r v options.files r.lists.left_out

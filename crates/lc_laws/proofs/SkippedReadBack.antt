@@ -6,7 +6,7 @@ use Rattle.std.specs.Option.{IfSome}
 use Rattle.std.specs.Str.{is_utf8}
 use Rattle.std.proofs.lemmas.Bool.{ltb-true}
 use Rattle.std.proofs.lemmas.List.Elements.{All-append, All-nil, All-take, All-from_recursion, recursion_from_All}
-use Rattle.lc_formats.specs.JsonSheets.{line_members, value_members}
+use Rattle.lc_formats.specs.JsonLines.{line_members, value_members}
 use Rattle.lc_formats.specs.JsonText.{Member, bytes_member}
 use Rattle.lc_formats.specs.Readable.{AreBytes}
 use Rattle.lc_level.specs.Level.{SkippedLineModel}

@@ -120,7 +120,7 @@ pub record IsReadFrom (r : Report) (reports : List ReadReport) : Type 0 where
   pub is : IsReadBack r read
 
 -- the report of each walk that lists its files, and the part of it that meets conditions, is read back. A text is a document of its sheet
--- and a line feed, as `json_text` writes it. If these reports are in the text, as `read_reports` reads it, they are this one report
+-- and a line feed, as `text` writes it. If these reports are in the text, as `read_reports` reads it, they are this one report
 abbrev pub ReadBackLaw : (List ℕ → Listings) → (List ℕ → Contents) → Type 0
 ReadBackLaw lists gives =
     (o : Options) (options : TableOptions) (r : Report) (s : SheetModel) (text : List ℕ) (reports : List ReadReport)

@@ -31,8 +31,8 @@ HasSkippedBytes l = AreBytes l.path × HasByteName l.reason
 pub record IsReadableSheet (s : SheetModel) : Type 0 where
   pub tabular : IsTabular s
   pub files_listed : IfSome s.files IsListed
-  pub skipped_listed : IsListed s.skipped
-  pub faults_listed : IsListed s.faults
+  pub skipped_listed : IfSome s.skipped IsListed
+  pub faults_listed : IfSome s.faults IsListed
 
 -- the sheet of each report for the format Table is readable if names are bytes, so the laws of the widths of a text in columns hold of it
 abbrev pub ReadableSheetLaw : Type 0

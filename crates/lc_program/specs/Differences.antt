@@ -8,9 +8,7 @@ use Rattle.lc_arguments.specs.declared.diff.DiffRequest.{DiffRequest}
 use Rattle.lc_arguments.specs.declared.table.TableRequest.{TableRequest}
 use Rattle.lc_changes.specs.ChangeSheets.{AreChangesOf, ChangesModel}
 use Rattle.lc_changes.specs.declared.options.ChangeOptions.{ChangeOptions}
-use Rattle.lc_formats.specs.Changes.{csv_of_changes, markdown_of_changes, table_of_changes, tsv_of_changes}
-use Rattle.lc_formats.specs.JsonChanges.{json_of_changes, json_text_of_changes}
-use Rattle.lc_formats.specs.JsonText.{IsDocument}
+use Rattle.lc_formats.specs.Texts.{IsTextIn}
 use Rattle.lc_io.specs.Reads.{Answer}
 use Rattle.lc_io.specs.Writes.{StopsWriting, Writes}
 use Rattle.lc_io.specs.declared.printing.PrintFault.{PrintFault}
@@ -30,11 +28,9 @@ use Rattle.lc_program.specs.declared.cause.Cause.{Cause}
 use Rattle.lc_program.specs.declared.cause.Cause.TheVariants.{Memory}
 use Rattle.lc_program.specs.declared.comparison.Comparison.{Comparison}
 use Rattle.lc_rows.specs.Kept.{IsKept}
-use Rattle.lc_sheet.specs.Sheets.{ComparisonModel}
 use Rattle.lc_sheet.specs.declared.column.Number.TheVariants.{Lines}
 use Rattle.lc_sheet.specs.declared.table_options.Columns.{Columns}
 use Rattle.lc_sheet.specs.declared.table_options.Format.{Format}
-use Rattle.lc_sheet.specs.declared.table_options.Format.TheVariants.{Tsv, Table, Json, Csv, Markdown, Html}
 use Rattle.lc_sheet.specs.declared.table_options.Order.{Order}
 use Rattle.lc_sheet.specs.declared.table_options.Order.TheVariants.{Name, Largest}
 use Rattle.lc_sums.specs.Needs.{needs_of}
@@ -75,20 +71,11 @@ compared_lists d = record { files = (compared_needs d).files; left_out = false }
 
 -- ---- what is printed
 
--- a text is that of a comparison in a format. HTML has no picture of changes, and would be the table
-abbrev pub IsTextOfChanges : Format → ComparisonModel → List ℕ → Type 0
-IsTextOfChanges Tsv s text = text ≡ tsv_of_changes s
-IsTextOfChanges Table s text = text ≡ table_of_changes s
-IsTextOfChanges Json s text = (text ≡ json_text_of_changes s) × IsDocument (json_of_changes s) text
-IsTextOfChanges Csv s text = text ≡ csv_of_changes s
-IsTextOfChanges Markdown s text = text ≡ markdown_of_changes s
-IsTextOfChanges Html s text = text ≡ table_of_changes s
-
 -- a text is that of the changes from one report to another, and `differ` is whether there are changes
 pub record IsChangesText (options : ChangeOptions) (old new : Report) (text : List ℕ) (differ : Bool) : Type 0 where
   pub changes : ChangesModel
   pub are_changes : AreChangesOf options old new changes
-  pub is_text : IsTextOfChanges options.format changes.sheet text
+  pub is_text : IsTextIn options.format changes.sheet text
   pub is_differ : differ ≡ changes.some_differ
 
 module _ {O : Type 0} (may_take : O → List ℕ → Result ℕ Failed → O → Type 0) where

@@ -4,7 +4,7 @@ ghost use Rattle.std.specs.Prelude.{◌≡◌, true, IfOk};
 ghost use Rattle.lc_arguments.specs.TableWords.{number_of};
 ghost use Rattle.lc_arguments.specs.Words.{IsDiffWithinLimits};
 ghost use Rattle.lc_changes.specs.ChangeSheets.{HasFilesFor};
-ghost use Rattle.lc_program.specs.Differences.{AnswersChanges, AnswersDiff, AnswersSides, IsChangesText, IsTextOfChanges, PrintsChanges};
+ghost use Rattle.lc_program.specs.Differences.{AnswersChanges, AnswersDiff, AnswersSides, IsChangesText, PrintsChanges};
 ghost use Rattle.lc_program.specs.Differences.{change_options, change_order, compared_columns, compared_lists, compared_needs};
 ghost use Rattle.lc_program.specs.Systems.{system_may};
 
@@ -21,8 +21,8 @@ use crate::system::System;
 use crate::unnamed::unnamed_lines;
 use lc_arguments::{DiffRequest, TableRequest};
 use lc_census::Source;
-use lc_changes::{ChangeOptions, ChangeSheet, ShownChanges};
-use lc_formats::{csv_changes, json_changes, markdown_changes, table_changes, tsv_changes};
+use lc_changes::{ChangeOptions, ShownChanges};
+use lc_formats::text;
 use lc_level::NamedAttributes;
 use lc_rows::keep;
 use lc_sheet::{Columns, Format, Number, Order};
@@ -93,18 +93,6 @@ fn compared_lists(asked: &DiffRequest<'_>) -> ReportLists
     }
 }
 
-fn text_in(alloc: Global, format: Format, sheet: &ChangeSheet<'_>) -> Result<Vec<u8>, AllocError>
-    ensures { IfOk result (λ text. IsTextOfChanges format sheet.now text.items) }
-{
-    match format {
-        Format::Tsv => tsv_changes(alloc, sheet),
-        Format::Table | Format::Html => table_changes(alloc, sheet),
-        Format::Json => json_changes(alloc, sheet),
-        Format::Csv => csv_changes(alloc, sheet),
-        Format::Markdown => markdown_changes(alloc, sheet),
-    }
-}
-
 /// Makes the text of the changes from one report to another. Also returns whether there are changes.
 fn changes_text(
     alloc: Global,
@@ -118,7 +106,7 @@ fn changes_text(
 {
     let shown = ShownChanges::of(alloc, old, new, options)?;
     let sheet = shown.comparison();
-    let text = text_in(alloc, options.format, &sheet)?;
+    let text = text(alloc, options.format, &sheet)?;
     Ok((text, shown.some_differ()))
 }
 

@@ -1,40 +1,25 @@
 //! Making and writing the text of a report.
 
-ghost use Rattle.std.specs.Prelude.{◌≡◌, false, IfOk};
-ghost use Rattle.lc_program.specs.ReportTexts.{HasSheetWith, IsPrinted, IsReordered, IsTextIn, IsTextOf, IsTextWith, is_picture};
+ghost use Rattle.std.specs.Prelude.{IfOk};
+ghost use Rattle.lc_program.specs.ReportTexts.{HasSheetWith, IsPrinted, IsReordered, IsTextOf, IsTextWith};
 ghost use Rattle.lc_program.specs.Runs.{AnswersTable};
 ghost use Rattle.lc_rows.specs.WalkedReports.{HasFilesFor};
 
-use lc_formats::{csv_text, json_text, markdown_text, table_text, tsv_text};
+use lc_formats::text;
 use lc_picture::page;
-use lc_rows::{ClassSums, ReportSheet, Shown, keep, sort_files};
+use lc_rows::{ClassSums, Shown, keep, sort_files};
 use lc_sheet::{Format, ReportOptions, TableOptions};
 use lc_text::{PrintFault, Sink, print};
 use lc_walk::Report;
 use std::alloc::{AllocError, Global};
 
-fn text_in(alloc: Global, format: Format, sheet: &ReportSheet<'_>) -> Result<Vec<u8>, AllocError>
-    requires sheet { is_picture format ≡ false }
-    ensures { IfOk result (λ text. IsTextIn format sheet.now text.items) }
-{
-    match format {
-        Format::Tsv => tsv_text(alloc, sheet),
-        Format::Table => table_text(alloc, sheet),
-        Format::Json => json_text(alloc, sheet),
-        Format::Csv => csv_text(alloc, sheet),
-        Format::Markdown => markdown_text(alloc, sheet),
-        Format::Html => unreachable!(),
-    }
-}
-
-/// Makes the text of a report in any format but HTML. `classes` has the sums over text files and over binary files.
+/// Makes the text of the sheet of a report. `classes` has the sums over text files and over binary files.
 fn sheet_text(
     alloc: Global,
     report: &mut Report,
     classes: ClassSums,
     options: TableOptions,
 ) -> Result<Vec<u8>, AllocError>
-    requires sheet { is_picture options.format ≡ false }
     requires files { HasFilesFor options report.now.lists }
     ensures text { IfOk result (λ text. HasSheetWith options report.old classes text.items) }
     ensures left { IsReordered report.old report.new }
@@ -42,7 +27,7 @@ fn sheet_text(
     sort_files(options.sort, &mut report.files);
     let shown = Shown::with_classes(alloc, report, classes, &options)?;
     let sheet = shown.sheet();
-    let text = text_in(alloc, options.format, &sheet)?;
+    let text = text(alloc, options.format, &sheet)?;
     Ok(text)
 }
 

@@ -1,6 +1,6 @@
 -- The files in the sheet of a report.
 use Rattle.std.proofs.Common.{◌≡◌, ℕ, Bool, true, false, if◌then◌else◌, List, [], ◌∷◌, map, Option, Some, None, refl, sym, ap, ap₂, ◌∙◌}
-use Rattle.std.proofs.Common.{subst}
+use Rattle.std.proofs.Common.{codes, subst}
 use Rattle.std.specs.Prelude.{unwrap_or}
 use Rattle.lc_sheet.specs.Sheets.{SectionModel, SheetModel, line_of, lines_of}
 use Rattle.lc_sheet.specs.declared.form.Form.{Form}
@@ -9,7 +9,7 @@ use Rattle.lc_sheet.specs.declared.table_options.Format.TheVariants.{Tsv, Table,
 use Rattle.lc_rows.specs.Kinds.{file_value}
 use Rattle.lc_rows.specs.SheetColumns.{file_columns}
 use Rattle.lc_rows.specs.SheetLaws.{SheetFilesLaw, path_at}
-use Rattle.lc_rows.specs.Sheets.{form_of, listed_files, section_of}
+use Rattle.lc_rows.specs.Sheets.{form_of, list_of, listed_files, section_of}
 use Rattle.lc_rows.specs.Views.{first_of, view_of}
 use Rattle.lc_level.specs.Level.{FileLineModel}
 
@@ -31,7 +31,8 @@ paths_of_lines format form (f ∷ fs) = ap₂ (λ p ps. p ∷ ps) (path_of_line 
 
 -- a section of files is there only where files are listed
 paths_listed : (listed : Bool) (format : Format) (form : Form) (top : Option ℕ) (fs : List FileLineModel) (section : SectionModel)
-    → (if listed then Some (section_of (file_value form) (file_columns format form.by) (first_of top (listed_files listed fs))) else None)
+    → (if listed then Some (list_of (codes "file") (section_of (file_value form) (file_columns format form.by)
+    (first_of top (listed_files listed fs)))) else None)
     ≡ Some section
     → map (path_at section.columns) section.lines ≡ map (λ (f : FileLineModel). f.path) (first_of top fs)
 paths_listed true format form top fs section is =

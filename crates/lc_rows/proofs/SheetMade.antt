@@ -9,7 +9,7 @@ use Rattle.lc_sheet.specs.declared.table_options.TableOptions.{TableOptions}
 use Rattle.lc_walk.specs.declared.report.Report.{Report}
 use Rattle.lc_rows.specs.Kinds.{NamedSumsModel}
 use Rattle.lc_rows.specs.RowKeys.{ShownRowModel}
-use Rattle.lc_rows.specs.SheetColumns.{row_columns}
+use Rattle.lc_rows.specs.SheetColumns.{file_columns, row_columns}
 use Rattle.lc_rows.specs.Sheets.{HasFilesWith, IsSheetWith, form_of, others_lines, sheet_among, sheet_with, totals_lines}
 use Rattle.lc_rows.specs.ShownFiles.{AreFilesSorted}
 use Rattle.lc_rows.specs.Views.{ViewModel}
@@ -17,14 +17,15 @@ use Rattle.lc_rows.specs.declared.classes.ClassSums.{ClassSums}
 use Rattle.lc_level.specs.Level.{FileLineModel}
 
 -- where each part is that of a view, the sheet is that of the view
-pub made : (options : TableOptions) (r : Report) (classes : ClassSums) (v : ViewModel) (form : Form) (columns : List Column)
-    (rows : List ShownRowModel) (others totals : List NamedSumsModel) (files : List FileLineModel)
-    → form ≡ form_of options r.totals rows → columns ≡ row_columns options → rows ≡ v.rows → others ≡ others_lines v.others
-    → totals ≡ totals_lines r.totals classes → files ≡ v.files
+pub made : (options : TableOptions) (r : Report) (classes : ClassSums) (v : ViewModel) (form : Form)
+    (columns of_files : List Column) (rows : List ShownRowModel) (others totals : List NamedSumsModel) (files : List FileLineModel)
+    → form ≡ form_of options r.totals rows → columns ≡ row_columns options → of_files ≡ file_columns options.format options.by
+    → rows ≡ v.rows → others ≡ others_lines v.others → totals ≡ totals_lines r.totals classes → files ≡ v.files
     → sheet_with (record {
       format = options.format;
       form = form;
       columns = columns;
+      file_columns = of_files;
       rows = rows;
       others = others;
       totals = totals;
@@ -33,8 +34,9 @@ pub made : (options : TableOptions) (r : Report) (classes : ClassSums) (v : View
       files = files;
     }) r
     ≡ sheet_among options r classes v
-made options r classes v form columns rows others totals files is_form are_columns are_rows are_others are_totals are_files =
-    rw (is_form, are_columns, are_rows, are_others, are_totals, are_files) refl
+made options r classes v form columns of_files rows others totals files is_form are_columns file_columns_are are_rows are_others are_totals
+    are_files =
+    rw (is_form, are_columns, file_columns_are, are_rows, are_others, are_totals, are_files) refl
 
 -- once its files are sorted in place, the sheet of what the report is then is a sheet of the report
 pub is_sheet : (options : TableOptions) (r : Report) (classes : ClassSums) (files : Vec FileLineModel Global) (s : SheetModel)

@@ -1,5 +1,7 @@
 -- The columns that each section of a sheet has in each format.
 use Rattle.std.specs.Prelude.{Bool, true, false, if◌then◌else◌, List, [], ◌∷◌, ◌++◌, is_some}
+use Rattle.lc_rows.specs.declared.columns.TheConstants.{LISTED_FAULTS, LISTED_FILES, LISTED_SKIPPED, NUMBERS, RECORDED_FILES}
+use Rattle.lc_rows.specs.declared.columns.TheConstants.{SKIPPED_RECORDS}
 use Rattle.lc_sheet.specs.declared.column.Column.{Column}
 use Rattle.lc_sheet.specs.declared.column.Column.TheVariants as column
 use Rattle.lc_sheet.specs.declared.column.Number.TheVariants as number
@@ -14,11 +16,7 @@ column_if kept c = if kept then c ∷ [] else []
 -- whether a format shows the columns of keys that rows are summed over
 abbrev pub keeps_columns : Format → Bool
 keeps_columns Tsv = true
-keeps_columns Table = false
-keeps_columns Json = false
-keeps_columns Csv = false
-keeps_columns Markdown = false
-keeps_columns Html = false
+keeps_columns other = false
 
 -- the columns of the rows' keys: those that rows are grouped by, and in some formats also those that rows are summed over
 abbrev pub key_columns : Bool → Columns → List Column
@@ -32,18 +30,16 @@ first_key all by =
     if is_some by.dir then column.Dir else if (if all then true else by.ext) then column.Ext
     else if by.text then column.Text else column.Eol
 
+-- the columns of numbers in rows and sums
 abbrev pub number_columns : List Column
-number_columns =
-    column.Number number.Files ∷ column.Number number.Lines ∷ column.Number number.Blank ∷ column.Number number.Bytes ∷ []
+number_columns = NUMBERS
 
 -- the columns of shares and bars
 abbrev pub share_columns : Format → List Column
-share_columns Tsv = []
 share_columns Table = column.Share ∷ column.Bar ∷ []
-share_columns Json = []
-share_columns Csv = []
-share_columns Markdown = column.Share ∷ []
 share_columns Html = column.Share ∷ column.Bar ∷ []
+share_columns Markdown = column.Share ∷ []
+share_columns other = []
 
 abbrev pub row_columns : TableOptions → List Column
 row_columns options =
@@ -52,45 +48,33 @@ row_columns options =
 
 -- the columns of sums in a table whose rows have these columns: only numbers in the formats in which sums have no line among the rows
 abbrev pub sums_columns : Format → List Column → List Column
-sums_columns Tsv rows = rows
-sums_columns Table rows = rows
 sums_columns Json rows = number_columns
 sums_columns Csv rows = number_columns
-sums_columns Markdown rows = rows
-sums_columns Html rows = rows
+sums_columns other rows = rows
 
--- the columns of files in listed lines, and in records
+-- the columns of files in lists, and in records; records have the directory if rows are by directory
 abbrev pub listed_columns : List Column
-listed_columns =
-    column.Text ∷ column.Eol ∷ column.Number number.Lines ∷ column.Number number.Blank ∷ column.Number number.Bytes ∷ column.Path ∷ []
+listed_columns = LISTED_FILES
 
 abbrev pub recorded_columns : Bool → List Column
-recorded_columns by_directory =
-    column.Path ∷ (column_if by_directory column.Dir ++ column.Ext ∷ column.Text ∷ column.Eol
-    ∷ column.Number number.Lines ∷ column.Number number.Blank ∷ column.Number number.Bytes ∷ [])
+recorded_columns by_directory = column.Path ∷ (column_if by_directory column.Dir ++ RECORDED_FILES)
 
 abbrev pub file_columns : Format → Columns → List Column
-file_columns Tsv by = listed_columns
-file_columns Table by = listed_columns
 file_columns Json by = recorded_columns (is_some by.dir)
 file_columns Csv by = recorded_columns (is_some by.dir)
-file_columns Markdown by = listed_columns
-file_columns Html by = listed_columns
+file_columns other by = listed_columns
 
--- the columns of skipped entries in listed lines, and in records
+-- the columns of skipped entries in lists, and in records
 abbrev pub listed_skipped : List Column
-listed_skipped = column.Reason ∷ column.Place ∷ column.Entry ∷ []
+listed_skipped = LISTED_SKIPPED
 
 abbrev pub recorded_skipped : List Column
-recorded_skipped = column.Path ∷ column.Kind ∷ column.Reason ∷ column.File ∷ column.Line ∷ column.Attribute ∷ []
+recorded_skipped = SKIPPED_RECORDS
 
 abbrev pub skipped_columns : Format → List Column
-skipped_columns Tsv = listed_skipped
-skipped_columns Table = listed_skipped
 skipped_columns Json = recorded_skipped
 skipped_columns Csv = recorded_skipped
-skipped_columns Markdown = listed_skipped
-skipped_columns Html = listed_skipped
+skipped_columns other = listed_skipped
 
 abbrev pub fault_columns : List Column
-fault_columns = column.Fault ∷ column.Site ∷ []
+fault_columns = LISTED_FAULTS

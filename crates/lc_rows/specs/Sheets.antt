@@ -1,5 +1,5 @@
 -- The sheet of a report.
-use Rattle.std.specs.Prelude.{◌≡◌, ℕ, max, Bool, if◌then◌else◌, List, [], ◌∷◌, codes, unwrap_or, Option, Some, None}
+use Rattle.std.specs.Prelude.{◌≡◌, ℕ, max, Bool, false, if◌then◌else◌, List, [], ◌∷◌, codes, unwrap_or, Option, Some, None}
 use Rattle.lc_sheet.specs.Sheets.{SectionModel, SheetModel, lines_of}
 use Rattle.lc_sheet.specs.Values.{ValueModel}
 use Rattle.lc_sheet.specs.declared.column.Column.{Column}
@@ -57,12 +57,13 @@ totals_lines totals classes =
 
 -- ---- the sheet
 
--- what is shown of a report: the format and the form; the rows with their columns; the sums, and whether a file is binary; the files, if
--- they are listed
+-- what is shown of a report: the format and the form; the columns of rows and of files; the rows; the sums, and whether a file is binary;
+-- the files, if they are listed
 pub record ShownModel : Type 0 where
   pub format : Format
   pub form : Form
   pub columns : List Column
+  pub file_columns : List Column
   pub rows : List ShownRowModel
   pub others : List NamedSumsModel
   pub totals : List NamedSumsModel
@@ -71,23 +72,29 @@ pub record ShownModel : Type 0 where
   pub files : List FileLineModel
 
 abbrev pub section_of : {X : Type 0} → (X → Column → ValueModel) → List Column → List X → SectionModel
-section_of value columns lines = record { columns = columns; lines = lines_of value columns lines }
+section_of value columns lines = record { tag = None; columns = columns; lines = lines_of value columns lines }
+
+-- a section whose lines are named by a word
+abbrev pub list_of : List ℕ → SectionModel → SectionModel
+list_of word s = record s { tag = Some word }
 
 abbrev pub files_section : ShownModel → Option SectionModel
 files_section m =
-    if m.lists_files then Some (section_of (file_value m.form) (file_columns m.format m.form.by) m.files) else None
+    if m.lists_files then Some (list_of (codes "file") (section_of (file_value m.form) m.file_columns m.files)) else None
 
 abbrev pub sheet_with : ShownModel → Report → SheetModel
 sheet_with m r = record {
   rows = section_of (row_value m.form) m.columns m.rows;
   others = section_of (sums_value m.form) (sums_columns m.format m.columns) m.others;
   totals = section_of (sums_value m.form) (sums_columns m.format m.columns) m.totals;
+  compares = false;
   some_binary = m.some_binary;
-  directories = r.directories;
+  directories = Some r.directories;
   entries = if r.lists.left_out then Some r.entries else None;
   files = files_section m;
-  skipped = section_of (skipped_value m.form) (skipped_columns m.format) r.skipped.items;
-  faults = section_of (fault_value m.form) fault_columns r.faults.items;
+  skipped = if r.lists.left_out
+      then Some (list_of (codes "left") (section_of (skipped_value m.form) (skipped_columns m.format) r.skipped.items)) else None;
+  faults = Some (list_of (codes "fault") (section_of (fault_value m.form) fault_columns r.faults.items));
 }
 
 abbrev pub shown_of : TableOptions → Report → ClassSums → ViewModel → ShownModel
@@ -95,6 +102,7 @@ shown_of options r classes v = record {
   format = options.format;
   form = form_of options r.totals v.rows;
   columns = row_columns options;
+  file_columns = file_columns options.format options.by;
   rows = v.rows;
   others = others_lines v.others;
   totals = totals_lines r.totals classes;

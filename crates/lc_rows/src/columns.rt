@@ -1,24 +1,64 @@
 //! The columns that each section of a sheet has in each format.
 
 ghost use Rattle.std.specs.Prelude.{◌≡◌, ◌++◌, if◌then◌else◌, [], IfOk, OnOk};
-ghost use Rattle.lc_rows.specs.SheetColumns.{column_if, fault_columns, file_columns, first_key, keeps_columns, key_columns, listed_columns};
-ghost use Rattle.lc_rows.specs.SheetColumns.{listed_skipped, number_columns, recorded_columns, recorded_skipped, row_columns};
+ghost use Rattle.lc_rows.specs.SheetColumns.{column_if, file_columns, first_key, keeps_columns, key_columns, row_columns};
 ghost use Rattle.lc_rows.specs.SheetColumns.{share_columns, skipped_columns, sums_columns};
 
 use lc_sheet::{Column, Columns, Format, Number, TableOptions};
 use std::alloc::{AllocError, Global};
 
+/// The columns of the numbers of rows and sums.
+const NUMBERS: [Column; 4] = [
+    Column::Number(Number::Files),
+    Column::Number(Number::Lines),
+    Column::Number(Number::Blank),
+    Column::Number(Number::Bytes),
+];
+
+/// The columns of files in lists.
+const LISTED_FILES: [Column; 6] = [
+    Column::Text,
+    Column::Eol,
+    Column::Number(Number::Lines),
+    Column::Number(Number::Blank),
+    Column::Number(Number::Bytes),
+    Column::Path,
+];
+
+/// The columns of files in records, after those of the path and of the directory.
+const RECORDED_FILES: [Column; 6] = [
+    Column::Ext,
+    Column::Text,
+    Column::Eol,
+    Column::Number(Number::Lines),
+    Column::Number(Number::Blank),
+    Column::Number(Number::Bytes),
+];
+
+/// The columns of skipped entries in lists, and below in records.
+const LISTED_SKIPPED: [Column; 3] = [Column::Reason, Column::Place, Column::Entry];
+
+const SKIPPED_RECORDS: [Column; 6] = [
+    Column::Path,
+    Column::Kind,
+    Column::Reason,
+    Column::File,
+    Column::Line,
+    Column::Attribute,
+];
+
+/// The columns of errors.
+pub(crate) const LISTED_FAULTS: [Column; 2] = [Column::Fault, Column::Site];
+
 /// Returns whether a format shows the columns `ext`, `text` and `eol` of rows, even if the rows are summed over them.
 pub fn keeps_columns(format: Format) -> bool
     ensures { result ≡ keeps_columns format }
 {
-    match format {
-        Format::Tsv => true,
-        Format::Table | Format::Json | Format::Csv | Format::Markdown | Format::Html => false,
-    }
+    matches!(format, Format::Tsv)
 }
 
-fn push_if(columns: &mut Vec<Column>, kept: bool, column: Column) -> Result<(), AllocError>
+/// Adds a column, if `kept` is true.
+pub fn push_if(columns: &mut Vec<Column>, kept: bool, column: Column) -> Result<(), AllocError>
     ensures { OnOk result (columns.new.items ≡ columns.old.items ++ column_if kept column) }
 {
     if kept {
@@ -40,17 +80,6 @@ pub fn first_key(format: Format, by: Columns) -> Column
     } else {
         Column::Eol
     }
-}
-
-fn number_columns() -> &'static [Column]
-    ensures { result.now ≡ number_columns }
-{
-    &[
-        Column::Number(Number::Files),
-        Column::Number(Number::Lines),
-        Column::Number(Number::Blank),
-        Column::Number(Number::Bytes),
-    ]
 }
 
 fn share_columns(format: Format) -> &'static [Column]
@@ -91,7 +120,7 @@ pub(crate) fn row_columns(alloc: Global, options: &TableOptions) -> Result<Vec<C
 {
     let mut columns = Vec::new(alloc);
     push_keys(&mut columns, keeps_columns(options.format), options.by)?;
-    columns.extend_from_slice(number_columns())?;
+    columns.extend_from_slice(&NUMBERS)?;
     push_shares(&mut columns, options)?;
     Ok(columns)
 }
@@ -101,78 +130,31 @@ pub(crate) fn sums_columns(format: Format, rows: &[Column]) -> &[Column]
     ensures { result.now ≡ sums_columns format rows.entry.now }
 {
     match format {
-        Format::Json | Format::Csv => number_columns(),
+        Format::Json | Format::Csv => &NUMBERS,
         Format::Tsv | Format::Table | Format::Markdown | Format::Html => rows,
     }
 }
 
-fn listed_columns() -> &'static [Column]
-    ensures { result.now ≡ listed_columns }
+/// Makes the columns of a list of files. In records, files have their directory if rows are by directory.
+pub(crate) fn file_columns(
+    alloc: Global,
+    format: Format,
+    by: Columns,
+) -> Result<Vec<Column>, AllocError>
+    ensures { IfOk result (λ columns. columns.items ≡ file_columns format by) }
 {
-    &[
-        Column::Text,
-        Column::Eol,
-        Column::Number(Number::Lines),
-        Column::Number(Number::Blank),
-        Column::Number(Number::Bytes),
-        Column::Path,
-    ]
-}
-
-fn recorded_columns(by_directory: bool) -> &'static [Column]
-    ensures { result.now ≡ recorded_columns by_directory }
-{
-    if by_directory {
-        &[
-            Column::Path,
-            Column::Dir,
-            Column::Ext,
-            Column::Text,
-            Column::Eol,
-            Column::Number(Number::Lines),
-            Column::Number(Number::Blank),
-            Column::Number(Number::Bytes),
-        ]
-    } else {
-        &[
-            Column::Path,
-            Column::Ext,
-            Column::Text,
-            Column::Eol,
-            Column::Number(Number::Lines),
-            Column::Number(Number::Blank),
-            Column::Number(Number::Bytes),
-        ]
-    }
-}
-
-/// Returns the columns of a list of files.
-pub(crate) fn file_columns(format: Format, by: Columns) -> &'static [Column]
-    ensures { result.now ≡ file_columns format by }
-{
+    let mut columns = Vec::new(alloc);
     match format {
-        Format::Json | Format::Csv => recorded_columns(by.dir.is_some()),
-        Format::Tsv | Format::Table | Format::Markdown | Format::Html => listed_columns(),
+        Format::Json | Format::Csv => {
+            columns.push(Column::Path)?;
+            push_if(&mut columns, by.dir.is_some(), Column::Dir)?;
+            columns.extend_from_slice(&RECORDED_FILES)?;
+        }
+        Format::Tsv | Format::Table | Format::Markdown | Format::Html => columns.extend_from_slice(
+            &LISTED_FILES,
+        )?,
     }
-}
-
-fn listed_skipped() -> &'static [Column]
-    ensures { result.now ≡ listed_skipped }
-{
-    &[Column::Reason, Column::Place, Column::Entry]
-}
-
-fn recorded_skipped() -> &'static [Column]
-    ensures { result.now ≡ recorded_skipped }
-{
-    &[
-        Column::Path,
-        Column::Kind,
-        Column::Reason,
-        Column::File,
-        Column::Line,
-        Column::Attribute,
-    ]
+    Ok(columns)
 }
 
 /// Returns the columns of a list of skipped entries.
@@ -180,14 +162,7 @@ pub(crate) fn skipped_columns(format: Format) -> &'static [Column]
     ensures { result.now ≡ skipped_columns format }
 {
     match format {
-        Format::Json | Format::Csv => recorded_skipped(),
-        Format::Tsv | Format::Table | Format::Markdown | Format::Html => listed_skipped(),
+        Format::Tsv | Format::Table | Format::Markdown | Format::Html => &LISTED_SKIPPED,
+        Format::Json | Format::Csv => &SKIPPED_RECORDS,
     }
-}
-
-/// Returns the columns of a list of errors.
-pub(crate) fn fault_columns() -> &'static [Column]
-    ensures { result.now ≡ fault_columns }
-{
-    &[Column::Fault, Column::Site]
 }

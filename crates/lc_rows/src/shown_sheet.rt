@@ -8,7 +8,7 @@ ghost use Rattle.lc_rows.specs.WalkedReports.{HasFilesFor};
 
 use crate::classes::ClassSums;
 use crate::columns::{
-    fault_columns, file_columns, first_key, row_columns, skipped_columns, sums_columns,
+    LISTED_FAULTS, file_columns, first_key, row_columns, skipped_columns, sums_columns,
 };
 use crate::cut::{split_at_top, sums_of_some};
 use crate::kinds::{Faults, Files, NamedSums, Rows, Skipped, Totals};
@@ -29,6 +29,7 @@ pub struct Shown<'a> {
     format: Format,
     form: Form,
     columns: Vec<Column>,
+    file_columns: Vec<Column>,
     rows: Vec<ShownRow<'a>>,
     others: Vec<NamedSums>,
     totals: Vec<NamedSums>,
@@ -50,6 +51,7 @@ impl<'a> Model for Shown<'a> {
       format = s.format;
       form = s.form;
       columns = s.columns.items;
+      file_columns = s.file_columns.items;
       rows = s.rows.items;
       others = s.others.items;
       totals = s.totals.items;
@@ -222,6 +224,7 @@ impl<'a> Shown<'a> {
             format: options.format,
             form: form_of(options, report.totals, &rows),
             columns: row_columns(alloc, options)?,
+            file_columns: file_columns(alloc, options.format, options.by)?,
             rows,
             others: others_lines(alloc, others)?,
             totals: totals_lines(alloc, report.totals, classes)?,
@@ -247,11 +250,19 @@ impl<'a> Shown<'a> {
         ensures { result ≡ self.entry.now.files }
     {
         if self.lists_files {
-            Some(Section::new(
-                self.form,
-                file_columns(self.format, self.form.by),
-                self.files,
-            ))
+            let files = Section::new(self.form, &self.file_columns, self.files);
+            Some(files.tagged("file"))
+        } else {
+            None
+        }
+    }
+
+    fn skipped_section(&'a self) -> Option<Section<'a, Skipped>>
+        ensures { result ≡ self.entry.now.skipped }
+    {
+        if self.report.lists.left_out {
+            let columns = skipped_columns(self.format);
+            Some(Section::new(self.form, columns, &self.report.skipped).tagged("left"))
         } else {
             None
         }
@@ -262,20 +273,18 @@ impl<'a> Shown<'a> {
         ensures { result ≡ self.entry.now }
     {
         let sums_columns = sums_columns(self.format, &self.columns);
+        let faults = Section::new(self.form, &LISTED_FAULTS, &self.report.faults);
         Sheet {
             rows: Section::new(self.form, &self.columns, &self.rows),
             others: Section::new(self.form, sums_columns, &self.others),
             totals: Section::new(self.form, sums_columns, &self.totals),
+            compares: false,
             some_binary: self.some_binary,
-            directories: self.report.directories,
+            directories: Some(self.report.directories),
             entries: self.entries(),
             files: self.files_section(),
-            skipped: Section::new(
-                self.form,
-                skipped_columns(self.format),
-                &self.report.skipped,
-            ),
-            faults: Section::new(self.form, fault_columns(), &self.report.faults),
+            skipped: self.skipped_section(),
+            faults: Some(faults.tagged("fault")),
         }
     }
 }

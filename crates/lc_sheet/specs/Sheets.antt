@@ -3,8 +3,9 @@ use Rattle.std.specs.Prelude.{ℕ, Bool, List, map, Option}
 use Rattle.lc_sheet.specs.Values.{ValueModel}
 use Rattle.lc_sheet.specs.declared.column.Column.{Column}
 
--- a section: its columns, and for each line its values in these columns
+-- a section: a word that may name its lines, its columns, and for each line its values in these columns
 pub record SectionModel : Type 0 where
+  pub tag : Option (List ℕ)
   pub columns : List Column
   pub lines : List (List ValueModel)
 
@@ -16,20 +17,16 @@ line_of value columns line = map (value line) columns
 abbrev pub lines_of : {X : Type 0} → (X → Column → ValueModel) → List Column → List X → List (List ValueModel)
 lines_of value columns lines = map (line_of value columns) lines
 
+-- a sheet of a report, or of a comparison of two reports, which has the rows, the sums over the rows that are cut off if there are any, the
+-- total, and the files
 pub record SheetModel : Type 0 where
   pub rows : SectionModel
   pub others : SectionModel
   pub totals : SectionModel
+  pub compares : Bool
   pub some_binary : Bool
-  pub directories : ℕ
+  pub directories : Option ℕ
   pub entries : Option ℕ
   pub files : Option SectionModel
-  pub skipped : SectionModel
-  pub faults : SectionModel
-
--- a comparison of two reports: the rows, the sums over the rows that are cut off if there are any, the total, and the files
-pub record ComparisonModel : Type 0 where
-  pub rows : SectionModel
-  pub others : SectionModel
-  pub total : SectionModel
-  pub files : Option SectionModel
+  pub skipped : Option SectionModel
+  pub faults : Option SectionModel

@@ -6,13 +6,12 @@
 //! - `form`: what rows are grouped by, in which column a line of sums has its name, and what shares are computed from
 //! - `lines`: the trait of a kind of lines, such as rows or files
 //! - `section`: lines of one kind, and the columns in which they are shown
-//! - `sheet`, `comparison_sheet`: the sections of a report, and the sections of a comparison of two reports
+//! - `sheet`: the sections of a report, or of a comparison of two reports
 //! - `table_options`: the format of a table, its columns, its order, and where it is cut
 //! - `condition`: conditions on files, such as `lines>1000`
 #![tactic(auto)]
 
 mod column;
-mod comparison_sheet;
 mod condition;
 mod form;
 mod lines;
@@ -22,7 +21,6 @@ mod table_options;
 mod value;
 
 pub use column::{Column, Compared, Number, Side};
-pub use comparison_sheet::ComparisonSheet;
 pub use condition::{Comparison, Condition, Test, needs_files};
 pub use form::{Form, Shares};
 pub use lines::Lines;

@@ -1,6 +1,6 @@
 //! The sections of a sheet: lines, each with a value in each column.
 
-ghost use Rattle.std.specs.Prelude.{◌≡◌};
+ghost use Rattle.std.specs.Prelude.{◌≡◌, Some, None, option_map};
 ghost use Rattle.lc_sheet.specs.Sheets.{SectionModel, lines_of};
 
 use crate::column::Column;
@@ -11,29 +11,65 @@ use std::marker::Model;
 /// A section of a sheet: lines of the kind `L`, and the columns in which they are shown.
 #[derive(Drop)]
 pub struct Section<'a, L: Lines> {
+    tag: Option<&'static str>,
     form: Form,
     columns: &'a [Column],
     lines: &'a [L::Line],
 }
 
 impl<'a, L: Lines> Model for Section<'a, L> {
+    ghost use Rattle.std.specs.Prelude.{option_map};
     ghost use Rattle.lc_sheet.specs.Sheets.{SectionModel, lines_of};
 
     ghost Value = { SectionModel };
 
-    ghost view = { λ s. record { columns = s.columns.now; lines = lines_of (L.value_in s.form) s.columns.now s.lines.now } };
+    ghost view = { λ s. record {
+      tag = option_map (λ t. t.now) s.tag;
+      columns = s.columns.now;
+      lines = lines_of (L.value_in s.form) s.columns.now s.lines.now;
+    } };
 }
 
 impl<'a, L: Lines> Section<'a, L> {
     /// Makes a section of these lines in these columns.
     pub fn new(form: Form, columns: &'a [Column], lines: &'a [L::Line]) -> Section<'a, L>
-        ensures { result ≡ record { columns = columns.entry.now; lines = lines_of (L.value_in form) columns.entry.now lines.entry.now } }
+        ensures { result ≡ record {
+          tag = None;
+          columns = columns.entry.now;
+          lines = lines_of (L.value_in form) columns.entry.now lines.entry.now;
+        } }
     {
         Section {
+            tag: None,
             form,
             columns,
             lines,
         }
+    }
+
+    /// Returns the section with a word that names its lines, as `file` does. Lines of fields begin with this word.
+    pub fn tagged(self, tag: &'static str) -> Section<'a, L>
+        ensures { result ≡ record { tag = Some tag.now; columns = self.entry.columns; lines = self.entry.lines } }
+    {
+        let Section {
+            form,
+            columns,
+            lines,
+            ..
+        } = self;
+        Section {
+            tag: Some(tag),
+            form,
+            columns,
+            lines,
+        }
+    }
+
+    /// Returns the word that names the lines of the section, if there is one.
+    pub fn tag(&self) -> Option<&'static str>
+        ensures { option_map (λ t. t.now) result ≡ self.now.tag }
+    {
+        self.tag
     }
 
     /// Returns the columns of the section.

@@ -129,7 +129,7 @@ fn push_section<L: Lines>(text: &mut Vec<u8>, section: &Section<'_, L>) -> Resul
 fn push_sheet(text: &mut Vec<u8>, sheet: &ChangeSheet<'_>) -> Result<(), AllocError> {
     push_section(text, &sheet.rows)?;
     push_section(text, &sheet.others)?;
-    push_section(text, &sheet.total)?;
+    push_section(text, &sheet.totals)?;
     if let Some(files) = &sheet.files {
         push_section(text, files)?;
     }

@@ -1,8 +1,12 @@
 //! Reads comparisons in the short form that the tests use, and prints them.
 
+ghost use Rattle.std.specs.Prelude.{◌≡◌, true};
+
 use crate::samples::{Sample, Samples, Version};
-use lc_formats::{csv_changes, json_changes, markdown_changes, table_changes, tsv_changes};
-use lc_sheet::{Column, Columns, Compared, ComparisonSheet, Form, Format, Number, Section};
+use lc_changes::{ChangeOptions, ShownChanges};
+use lc_formats::text;
+use lc_sheet::{Column, Columns, Form, Format, Section, Sheet};
+use lc_walk::{Findings, Report, ReportLists, Tally};
 use std::alloc::{AllocError, Global};
 use std::process::Abort;
 use std::test::Fail;
@@ -30,143 +34,32 @@ pub(super) struct Case<'a> {
 }
 
 const FORM: Form = Form {
-    by: Columns::ALL,
+    by: Columns {
+        dir: None,
+        ext: true,
+        text: false,
+        eol: false,
+    },
     first: Column::Ext,
     shares: None,
 };
 
-const OLD_FILES: Column = Column::Old(Compared::Number(Number::Files));
-
-const OLD_LINES: Column = Column::Old(Compared::Number(Number::Lines));
-
-const OLD_BLANK: Column = Column::Old(Compared::Number(Number::Blank));
-
-const OLD_BYTES: Column = Column::Old(Compared::Number(Number::Bytes));
-
-const NEW_FILES: Column = Column::New(Compared::Number(Number::Files));
-
-const NEW_LINES: Column = Column::New(Compared::Number(Number::Lines));
-
-const NEW_BLANK: Column = Column::New(Compared::Number(Number::Blank));
-
-const NEW_BYTES: Column = Column::New(Compared::Number(Number::Bytes));
-
-const TABBED_ROWS: &[Column] = &[
-    Column::Ext,
-    Column::Text,
-    Column::Eol,
-    OLD_FILES,
-    NEW_FILES,
-    OLD_LINES,
-    NEW_LINES,
-    OLD_BLANK,
-    NEW_BLANK,
-    OLD_BYTES,
-    NEW_BYTES,
-];
-
-const RECORDED_ROWS: &[Column] = &[
-    Column::Ext,
-    OLD_FILES,
-    NEW_FILES,
-    OLD_LINES,
-    NEW_LINES,
-    OLD_BLANK,
-    NEW_BLANK,
-    OLD_BYTES,
-    NEW_BYTES,
-];
-
-const OBJECT_ROWS: &[Column] = &[
-    Column::Ext,
-    OLD_FILES,
-    OLD_LINES,
-    OLD_BLANK,
-    OLD_BYTES,
-    NEW_FILES,
-    NEW_LINES,
-    NEW_BLANK,
-    NEW_BYTES,
-];
-
-const OBJECT_SUMS: &[Column] = &[
-    OLD_FILES, OLD_LINES, OLD_BLANK, OLD_BYTES, NEW_FILES, NEW_LINES, NEW_BLANK, NEW_BYTES,
-];
-
-const SHOWN_ROWS: &[Column] = &[
-    Column::Ext,
-    NEW_FILES,
-    Column::Difference(Number::Files),
-    NEW_LINES,
-    Column::Difference(Number::Lines),
-    NEW_BLANK,
-    Column::Difference(Number::Blank),
-    NEW_BYTES,
-    Column::Difference(Number::Bytes),
-];
-
-const TABBED_FILES: &[Column] = &[
-    Column::Change,
-    Column::Old(Compared::Text),
-    Column::New(Compared::Text),
-    Column::Old(Compared::Eol),
-    Column::New(Compared::Eol),
-    OLD_LINES,
-    NEW_LINES,
-    OLD_BLANK,
-    NEW_BLANK,
-    OLD_BYTES,
-    NEW_BYTES,
-    Column::Path,
-];
-
-const RECORDED_FILES: &[Column] = &[
-    Column::Path,
-    Column::Change,
-    Column::Ext,
-    Column::Old(Compared::Text),
-    Column::New(Compared::Text),
-    Column::Old(Compared::Eol),
-    Column::New(Compared::Eol),
-    OLD_LINES,
-    NEW_LINES,
-    OLD_BLANK,
-    NEW_BLANK,
-    OLD_BYTES,
-    NEW_BYTES,
-];
-
-const OBJECT_FILES: &[Column] = &[
-    Column::Path,
-    Column::Ext,
-    Column::Change,
-    Column::Old(Compared::Text),
-    Column::Old(Compared::Eol),
-    OLD_LINES,
-    OLD_BLANK,
-    OLD_BYTES,
-    Column::New(Compared::Text),
-    Column::New(Compared::Eol),
-    NEW_LINES,
-    NEW_BLANK,
-    NEW_BYTES,
-];
-
-const SHOWN_FILES: &[Column] = &[
-    Column::Change,
-    NEW_LINES,
-    Column::Difference(Number::Lines),
-    Column::Path,
-];
-
-/// Returns the columns of rows, of sums and of files in a format.
-fn columns_of(format: Format) -> [&'static [Column]; 3] {
-    match format {
-        Format::Tsv => [TABBED_ROWS, TABBED_ROWS, TABBED_FILES],
-        Format::Csv => [RECORDED_ROWS, RECORDED_ROWS, RECORDED_FILES],
-        Format::Json => [OBJECT_ROWS, OBJECT_SUMS, OBJECT_FILES],
-        Format::Table | Format::Markdown | Format::Html => [SHOWN_ROWS, SHOWN_ROWS, SHOWN_FILES],
-    }
+/// Makes a report without files.
+fn no_files(alloc: Global) -> Report
+    ensures { result.lists.files ≡ true }
+{
+    let lists = ReportLists {
+        files: true,
+        left_out: false,
+    };
+    let findings = Findings {
+        directories: 1,
+        entries: 0,
+        files: Vec::new(alloc),
+        faults: Vec::new(alloc),
+        skipped: Vec::new(alloc),
+    };
+    Report::new(Tally::new(alloc), lists, findings)
 }
 
 fn of_row([files, lines, blank, bytes]: [u128; 4]) -> Version {
@@ -230,38 +123,55 @@ fn files(alloc: Global, all: &[File]) -> Result<Vec<Sample>, AllocError> {
     Ok(samples)
 }
 
-/// Makes the text of a comparison in a format. The text is empty for HTML.
-fn text_in(
+/// Returns the columns that a comparison has in a format: of rows, of sums and of files.
+fn columns_of(
     alloc: Global,
     format: Format,
-    sheet: &ComparisonSheet<'_, Samples, Samples, Samples>,
-) -> Result<Vec<u8>, AllocError> {
-    match format {
-        Format::Tsv => tsv_changes(alloc, sheet),
-        Format::Csv => csv_changes(alloc, sheet),
-        Format::Json => json_changes(alloc, sheet),
-        Format::Table => table_changes(alloc, sheet),
-        Format::Markdown => markdown_changes(alloc, sheet),
-        Format::Html => Ok(Vec::new(alloc)),
-    }
+) -> Result<(Vec<Column>, Vec<Column>, Vec<Column>), AllocError> {
+    let options = ChangeOptions {
+        format,
+        by: FORM.by,
+        sort: None,
+        top: None,
+        files: true,
+        all: false,
+    };
+    let (old, new) = (no_files(alloc), no_files(alloc));
+    let shown = ShownChanges::of(alloc, &old, &new, &options)?;
+    let sheet = shown.comparison();
+    let files = match &sheet.files {
+        Some(files) => files.columns().to_vec(alloc)?,
+        None => Vec::new(alloc),
+    };
+    let rows = sheet.rows.columns().to_vec(alloc)?;
+    let sums = sheet.totals.columns().to_vec(alloc)?;
+    Ok((rows, sums, files))
 }
 
-/// Makes the text of the comparison of a case.
+/// Makes the text of the comparison of a case, with the columns that a comparison has in its format.
 pub(super) fn text_of(alloc: Global, case: &Case<'_>) -> Result<Vec<u8>, AllocError> {
-    let [row_columns, sums_columns, file_columns] = columns_of(case.format);
+    let (row_columns, sums_columns, file_columns) = columns_of(alloc, case.format)?;
     let all = rows(alloc, case.rows)?;
     let others = rows(alloc, case.others)?;
     let total = [row(&case.total)];
     let listed = files(alloc, case.files.unwrap_or(&[]))?;
-    let sheet = ComparisonSheet {
-        rows: Section::new(FORM, row_columns, &all),
-        others: Section::new(FORM, sums_columns, &others),
-        total: Section::new(FORM, sums_columns, &total),
-        files: case
-            .files
-            .map(|_| Section::new(FORM, file_columns, &listed)),
+    let section = match case.files {
+        Some(_) => Some(Section::new(FORM, &file_columns, &listed)),
+        None => None,
     };
-    text_in(alloc, case.format, &sheet)
+    let sheet: Sheet<'_, Samples, Samples, Samples, Samples, Samples> = Sheet {
+        rows: Section::new(FORM, &row_columns, &all),
+        others: Section::new(FORM, &sums_columns, &others),
+        totals: Section::new(FORM, &sums_columns, &total),
+        compares: true,
+        some_binary: false,
+        directories: None,
+        entries: None,
+        files: section,
+        skipped: None,
+        faults: None,
+    };
+    text(alloc, case.format, &sheet)
 }
 
 /// Checks that the comparison of each case has the text of the case.

@@ -1,6 +1,6 @@
 //! Tests of reports that are read from JSON and printed again.
 
-use lc_formats::json_text;
+use lc_formats::text;
 use lc_reading::{ReadFault, ReadReport, read_reports};
 use lc_rows::Shown;
 use lc_sheet::{Columns, Format, TableOptions};
@@ -150,7 +150,7 @@ fn text_of(
         ..ROWS
     };
     let shown = Shown::of(alloc, &read.report, &options)?;
-    json_text(alloc, &shown.sheet())
+    text(alloc, options.format, &shown.sheet())
 }
 
 /// Returns the reports of a text, if it is read.

@@ -146,8 +146,13 @@ fn push_sheet(text: &mut Vec<u8>, sheet: &ReportSheet<'_>) -> Result<(), AllocEr
     if let Some(files) = &sheet.files {
         push_section(text, files)?;
     }
-    push_section(text, &sheet.skipped)?;
-    push_section(text, &sheet.faults)
+    if let Some(skipped) = &sheet.skipped {
+        push_section(text, skipped)?;
+    }
+    if let Some(faults) = &sheet.faults {
+        push_section(text, faults)?;
+    }
+    Ok(())
 }
 
 fn text_of(alloc: Global, options: &TableOptions) -> Result<Vec<u8>, AllocError> {

@@ -4,7 +4,7 @@ use Rattle.std.proofs.lemmas.List.{get_or_default}
 use Rattle.json.specs.Token.{Token}
 use Rattle.lc_sheet.specs.declared.column.Column.{Column}
 use Rattle.lc_sheet.specs.declared.column.Column.TheVariants.{Dir}
-use Rattle.lc_formats.specs.JsonSheets.{value_members}
+use Rattle.lc_formats.specs.JsonLines.{value_members}
 use Rattle.lc_formats.specs.JsonTokens.{members_tokens_of}
 use Rattle.lc_formats.proofs.Listed.{one_written}
 use Rattle.lc_formats.proofs.Tokens.{line_tokens}

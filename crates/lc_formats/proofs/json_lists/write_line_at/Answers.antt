@@ -1,0 +1,38 @@
+use Rattle.std.proofs.Common.{List, ◌++◌, Option, Some, sym, ap, ◌∙◌, append-nil}
+use Rattle.json.specs.Token.{Token}
+use Rattle.json.specs.Tree.{json_tokens}
+use Rattle.lc_sheet.specs.Sheets.{line_of}
+use Rattle.lc_sheet.specs.Values.{ValueModel}
+use Rattle.lc_sheet.specs.declared.column.Column.{Column}
+use Rattle.lc_formats.specs.JsonLines.{object_of}
+use Rattle.lc_formats.specs.JsonSheets.{object_members}
+use Rattle.lc_formats.specs.JsonTokens.{members_tokens_of}
+use Rattle.lc_formats.proofs.Sections.{line_there, line_missing}
+use Rattle.lc_formats.proofs.Tokens.{object_member_appended}
+use Rattle.lc_formats.proofs.json_lists.write_line_at.Goals as goal
+
+pub returns-in_ok-write_line : goal.returns-in_ok-write_line
+returns-in_ok-write_line g c =
+    let parts = c.parts.result in
+    let section = c.args.section.now in
+    let line = c.in-Some.line.now in
+    let lookup = c.in-Some.ensures.lookup in
+    let values = line_of (g.L.Lines.value_in parts.0) parts.1.now line in
+    let is = line_there (g.L.Lines.value_in parts.0) parts.1.now parts.2.now section.lines c.args.index line
+    c.parts.ensures.lines lookup.3.0 lookup.1 in
+    c.in_ok-write_line.ensures ∙ ap (λ (ts : List Token). ts ++ json_tokens (object_of c.args.compares parts.1.now values)) c.in_ok-key.ensures
+    ∙ object_member_appended c.args.compares c.args.text.now c.args.name.now parts.1.now values
+    ∙ ap (λ (columns : List Column). c.args.text.now ++ members_tokens_of (object_members c.args.compares c.args.name.now columns (Some values)))
+    c.parts.ensures.columns
+    ∙ ap (λ (l : Option (List ValueModel)). c.args.text.now ++ members_tokens_of (object_members c.args.compares c.args.name.now section.columns l))
+    (sym is)
+
+pub returns-in_default : goal.returns-in_default
+returns-in_default g c =
+    let parts = c.parts.result in
+    let section = c.args.section.now in
+    let is = line_missing (g.L.Lines.value_in parts.0) parts.1.now parts.2.now section.lines c.args.index
+    c.parts.ensures.lines c.in_default.ensures.lookup.3 in
+    sym (append-nil c.args.text.now)
+    ∙ ap (λ (l : Option (List ValueModel)). c.args.text.now ++ members_tokens_of (object_members c.args.compares c.args.name.now section.columns l))
+    (sym is)

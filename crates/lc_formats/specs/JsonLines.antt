@@ -1,0 +1,106 @@
+-- The JSON values of lines of a sheet.
+use Rattle.std.specs.Prelude.{ℕ, Bool, true, false, ◌&&◌, if◌then◌else◌, List, [], ◌∷◌, ◌++◌, codes, Option, Some, None}
+use Rattle.json.specs.Json.{Json, null, string}
+use Rattle.lc_sheet.specs.ColumnWords.{column_name}
+use Rattle.lc_sheet.specs.Values.{ValueModel, missing, summed, blank, word, name, path, number, share, bar, difference}
+use Rattle.lc_sheet.specs.declared.column.Column.{Column}
+use Rattle.lc_sheet.specs.declared.column.Column.TheVariants as column
+use Rattle.lc_sheet.specs.declared.column.Compared.{Compared}
+use Rattle.lc_sheet.specs.declared.column.Compared.TheVariants as compared
+use Rattle.lc_text.specs.Names.{named}
+use Rattle.lc_formats.specs.JsonText.{Member, bytes_member, integer, object_with}
+use Rattle.lc_formats.specs.declared.json_sides.Part.{Part}
+use Rattle.lc_formats.specs.declared.json_sides.Part.TheVariants.{Own, Old, New}
+
+-- ---- a line of one report
+
+-- the member of a value in a column; there is none if the line is summed over the column, or if the column does not apply to the line
+abbrev pub value_members : Column → ValueModel → List Member
+value_members c missing = (column_name c, null) ∷ []
+value_members c summed = []
+value_members c blank = []
+value_members c (word w) = (column_name c, string w) ∷ []
+value_members c (name n) = bytes_member (column_name c) (named (λ bytes. bytes) n) ∷ []
+value_members c (path p) = bytes_member (column_name c) p ∷ []
+value_members c (number n) = (column_name c, integer n) ∷ []
+value_members c (share part whole) = []
+value_members c (bar part whole) = []
+value_members c (difference old new) = []
+
+-- the members of the values of a line, one in each column
+abbrev pub line_members : List Column → List ValueModel → List Member
+line_members [] values = []
+line_members (c ∷ cs) [] = []
+line_members (c ∷ cs) (v ∷ vs) = value_members c v ++ line_members cs vs
+
+abbrev pub line_object : List Column → List ValueModel → Json
+line_object columns values = object_with (line_members columns values)
+
+-- ---- the parts of a line of two reports: what it has of neither report, of the old one, and of the new one
+
+-- the column whose name a compared value has in the objects `old` and `new`
+abbrev pub compared_column : Compared → Column
+compared_column compared.Text = column.Text
+compared_column compared.Eol = column.Eol
+compared_column (compared.Number n) = column.Number n
+
+-- the column whose name a value gets in a part of a line, if the value belongs to this part; first for the part of neither report
+abbrev pub own_column : Column → Option Column
+own_column (column.Old c) = None
+own_column (column.New c) = None
+own_column other = Some other
+
+abbrev pub old_column : Column → Option Column
+old_column (column.Old c) = Some (compared_column c)
+old_column other = None
+
+abbrev pub new_column : Column → Option Column
+new_column (column.New c) = Some (compared_column c)
+new_column other = None
+
+abbrev pub column_in : Part → Column → Option Column
+column_in Own c = own_column c
+column_in Old c = old_column c
+column_in New c = new_column c
+
+-- the member of a value in a column, or none if the value belongs to another part
+abbrev pub members_in : Option Column → ValueModel → List Member
+members_in None v = []
+members_in (Some c) v = value_members c v
+
+-- the members of a line that belong to a part
+abbrev pub part_members : Part → List Column → List ValueModel → List Member
+part_members p [] values = []
+part_members p (c ∷ cs) [] = []
+part_members p (c ∷ cs) (v ∷ vs) = members_in (column_in p c) v ++ part_members p cs vs
+
+abbrev pub is_missing : ValueModel → Bool
+is_missing missing = true
+is_missing blank = true
+is_missing other = false
+
+-- whether a value is missing, or belongs to another part
+abbrev pub lacks_in : Option Column → ValueModel → Bool
+lacks_in None v = true
+lacks_in (Some c) v = is_missing v
+
+-- whether all values of a line that belong to a part are missing
+abbrev pub lacks : Part → List Column → List ValueModel → Bool
+lacks p [] values = true
+lacks p (c ∷ cs) [] = true
+lacks p (c ∷ cs) (v ∷ vs) = lacks_in (column_in p c) v && lacks p cs vs
+
+-- the object of a line's values in one report, or null if the report lacks all of them, as those of a file that it does not have
+abbrev pub side_value : Part → List Column → List ValueModel → Json
+side_value p columns values = if lacks p columns values then null else object_with (part_members p columns values)
+
+abbrev pub change_members : List Column → List ValueModel → List Member
+change_members columns values =
+    part_members Own columns values ++ (codes "old", side_value Old columns values) ∷ (codes "new", side_value New columns values) ∷ []
+
+abbrev pub change_object : List Column → List ValueModel → Json
+change_object columns values = object_with (change_members columns values)
+
+-- the object of a line, in a sheet that compares two reports or in another
+abbrev pub object_of : Bool → List Column → List ValueModel → Json
+object_of compares columns values = if compares then change_object columns values else line_object columns values

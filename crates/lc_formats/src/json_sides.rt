@@ -1,0 +1,161 @@
+//! A line of a sheet that compares two reports as JSON: a value of one report is in the object `old` or `new`.
+
+ghost use Rattle.std.specs.Prelude.{◌≡◌, ◌++◌, OnOk};
+ghost use Rattle.json.specs.Tree.{json_tokens};
+ghost use Rattle.lc_sheet.specs.Sheets.{line_of};
+ghost use Rattle.lc_sheet.specs.Values.{value_model};
+ghost use Rattle.lc_formats.specs.JsonLines.{change_object, column_in, compared_column, is_missing, lacks, lacks_in, members_in, part_members};
+ghost use Rattle.lc_formats.specs.JsonLines.{side_value};
+ghost use Rattle.lc_formats.specs.JsonTokens.{members_tokens_of};
+
+use crate::json_values::write_value;
+use crate::json_writer::JsonText;
+use lc_sheet::{Column, Compared, Form, Lines, Value};
+use std::alloc::AllocError;
+
+/// One of the three parts of the JSON object for a line of a comparison.
+#[derive(Clone, Copy)]
+enum Part {
+    /// The members that belong to neither report, such as `ext`.
+    Own,
+    /// The members in `old`: the values of the old report.
+    Old,
+    /// The members in `new`: the values of the new report.
+    New,
+}
+
+/// Returns the column whose name a compared value has in the objects `old` and `new`.
+fn compared_column(compared: Compared) -> Column
+    ensures { result ≡ compared_column compared }
+{
+    match compared {
+        Compared::Text => Column::Text,
+        Compared::Eol => Column::Eol,
+        Compared::Number(number) => Column::Number(number),
+    }
+}
+
+impl Part {
+    /// Returns the column whose name the value in `column` gets in this part, or `None` if the value belongs to another part.
+    fn column(self, column: Column) -> Option<Column>
+        ensures { result ≡ column_in self column }
+    {
+        match (self, column) {
+            (Part::Own, Column::Old(_) | Column::New(_)) => None,
+            (Part::Own, other) => Some(other),
+            (Part::Old, Column::Old(compared)) => Some(compared_column(compared)),
+            (Part::New, Column::New(compared)) => Some(compared_column(compared)),
+            (Part::Old | Part::New, _) => None,
+        }
+    }
+}
+
+fn is_missing(value: Value<'_>) -> bool
+    ensures { result ≡ is_missing (value_model value.entry) }
+{
+    matches!(value, Value::Missing | Value::Blank)
+}
+
+/// Returns whether a part of a line lacks the value in a column: the line has no value there, or the value belongs to another part.
+fn lacks_in<L: Lines>(part: Part, form: Form, column: Column, line: &L::Line) -> bool
+    ensures { result ≡ lacks_in (column_in part column) (L.value_in form line.now column) }
+{
+    match part.column(column) {
+        None => true,
+        Some(_) => is_missing(L::value(line, form, column)),
+    }
+}
+
+/// Returns whether a line has no value that belongs to this part.
+fn lacks<L: Lines>(part: Part, form: Form, columns: &[Column], line: &L::Line) -> bool
+    ensures { result ≡ lacks part columns.now (line_of (L.value_in form) columns.now line.now) }
+{
+    let mut rest = columns;
+    'columns: while let Some((column, others)) = rest.split_first() {
+        if !lacks_in::<L>(part, form, *column, line) {
+            return false;
+        }
+        rest = others;
+    }
+    true
+}
+
+/// Writes the member for the value of a line in a column, if the value belongs to the part.
+fn write_member<L: Lines>(
+    text: &mut JsonText,
+    joined: &mut Vec<u8>,
+    part: Part,
+    form: Form,
+    column: Column,
+    line: &L::Line,
+) -> Result<(), AllocError>
+    ensures { OnOk result (text.new
+        ≡ text.old ++ members_tokens_of (members_in (column_in part column) (L.value_in form line.now column))) }
+{
+    match part.column(column) {
+        None => Ok(()),
+        Some(named) => write_value(text, joined, named, &L::value(line, form, column)),
+    }
+}
+
+/// Writes the members of a line that belong to the part.
+fn write_part<L: Lines>(
+    text: &mut JsonText,
+    joined: &mut Vec<u8>,
+    part: Part,
+    form: Form,
+    columns: &[Column],
+    line: &L::Line,
+) -> Result<(), AllocError>
+    ensures { OnOk result (text.new
+        ≡ text.old ++ members_tokens_of (part_members part columns.now (line_of (L.value_in form) columns.now line.now))) }
+{
+    let mut rest = columns;
+    'columns: while let Some((column, others)) = rest.split_first() {
+        write_member::<L>(text, joined, part, form, *column, line)?;
+        rest = others;
+    }
+    Ok(())
+}
+
+/// Writes the values of one report in a line as an object, or null if the report lacks the line.
+fn write_side<L: Lines>(
+    text: &mut JsonText,
+    joined: &mut Vec<u8>,
+    part: Part,
+    form: Form,
+    columns: &[Column],
+    line: &L::Line,
+) -> Result<(), AllocError>
+    ensures { OnOk result (text.new
+        ≡ text.old ++ json_tokens (side_value part columns.now (line_of (L.value_in form) columns.now line.now))) }
+{
+    if lacks::<L>(part, form, columns, line) {
+        return text.null();
+    }
+    text.begin_object()?;
+    write_part::<L>(text, joined, part, form, columns, line)?;
+    text.end_object()?;
+    Ok(())
+}
+
+/// Writes a line of a comparison as an object.
+pub(crate) fn write_change<L: Lines>(
+    text: &mut JsonText,
+    joined: &mut Vec<u8>,
+    form: Form,
+    columns: &[Column],
+    line: &L::Line,
+) -> Result<(), AllocError>
+    ensures { OnOk result (text.new
+        ≡ text.old ++ json_tokens (change_object columns.now (line_of (L.value_in form) columns.now line.now))) }
+{
+    text.begin_object()?;
+    write_part::<L>(text, joined, Part::Own, form, columns, line)?;
+    text.key("old")?;
+    write_side::<L>(text, joined, Part::Old, form, columns, line)?;
+    text.key("new")?;
+    write_side::<L>(text, joined, Part::New, form, columns, line)?;
+    text.end_object()?;
+    Ok(())
+}
