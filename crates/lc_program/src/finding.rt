@@ -16,28 +16,29 @@ use lc_arguments::{CountRequest, WalkRequest, unslashed};
 use lc_reports::{joined, named};
 use lc_text::push_visible;
 use lc_tree::FileSystems;
-use lc_walk::{Options, Report, WalkFault, walk, walk_small};
+use lc_walk::{Options, Report, WalkFault, walk_first};
 use std::alloc::{AllocError, Global};
 use std::sync::Wait;
 use std::thread::Threads;
 
-/// How many directories a command counts.
-#[derive(Clone, Copy)]
-pub(crate) enum HowMany {
-    /// One directory.
-    One,
-    /// Several directories, most of which may be small.
-    Several,
+/// How many directories the first boards of all walks of a command have numbers for, all together: as many as two walks have by default.
+/// Making them takes a few thousandths of a second.
+const FIRST_NUMBERS: u32 = 131_072;
+
+/// Returns how many directories the first board of each walk has numbers for, if a command walks this many directories.
+pub(crate) fn first_numbers(walks: usize) -> u32 {
+    let walks = u32::try_from(walks).unwrap_or(u32::MAX).max(1);
+    (FIRST_NUMBERS / walks).max(64)
 }
 
-/// Walks the directory with this name, and returns the report.
+/// Walks the directory with this name, first with a board for `first` directories, and returns the report.
 pub(crate) fn walk_of<R: Threads + Wait + Sync + AllocGlobal, Y: System>(
     rt: &R,
     system: &Y,
     directory: &str,
     entered: FileSystems,
     options: &Options<'_>,
-    many: HowMany,
+    first: u32,
 ) -> Result<Report, WalkFault>
     requires limits { AreWithinLimits options.now }
     ensures { Walks (Y.Tree.lists (Y.tree system.now directory.now entered)) (Y.Tree.gives (Y.tree system.now directory.now entered))
@@ -46,10 +47,7 @@ pub(crate) fn walk_of<R: Threads + Wait + Sync + AllocGlobal, Y: System>(
     let Ok(tree) = system.tree(rt.alloc(), directory, entered) else {
         return Err(WalkFault::Memory);
     };
-    match many {
-        HowMany::One => walk(rt, rt.alloc(), &tree, options),
-        HowMany::Several => walk_small(rt, rt.alloc(), &tree, options),
-    }
+    walk_first(rt, rt.alloc(), &tree, options, first)
 }
 
 /// Makes the line that names one of several directories, and says why its walk ended without a report.
@@ -91,6 +89,7 @@ fn walk_below<R: Threads + Wait + Sync + AllocGlobal, Y: System>(
     directory: &str,
     entered: FileSystems,
     options: &Options<'_>,
+    first: u32,
 ) -> Result<Report, Cause>
     requires limits { AreWithinLimits options.now }
     ensures found { IfOk result (IsWalkedBelow
@@ -98,7 +97,7 @@ fn walk_below<R: Threads + Wait + Sync + AllocGlobal, Y: System>(
     ensures none { IfErr result (EndsIn
         (λ d. Walks (Y.Tree.lists (Y.tree system.now d entered)) (Y.Tree.gives (Y.tree system.now d entered)) options.now) directory.now) }
 {
-    match walk_of(rt, system, directory, entered, options, HowMany::Several) {
+    match walk_of(rt, system, directory, entered, options, first) {
         Ok(report) => {
             let report = named(rt.alloc(), unslashed(directory), report)?;
             Ok(report)
@@ -124,8 +123,9 @@ fn walks_below<R: Threads + Wait + Sync + AllocGlobal, Y: System>(
         (map (λ d. d.now) directories.now)) }
 {
     let mut reports = Vec::with_capacity(rt.alloc(), directories.len())?;
+    let first = first_numbers(directories.len());
     for directory in directories {
-        reports.push(walk_below(rt, system, directory, entered, options)?)?;
+        reports.push(walk_below(rt, system, directory, entered, options, first)?)?;
     }
     Ok(reports)
 }
@@ -183,7 +183,8 @@ fn found_in<R: Threads + Wait + Sync + AllocGlobal, Y: System>(
     if directories.len() != 1 {
         return found_in_all(rt, system, directories, entered, options);
     }
-    let report = walk_of(rt, system, directories[0], entered, options, HowMany::One)?;
+    let first = first_numbers(1);
+    let report = walk_of(rt, system, directories[0], entered, options, first)?;
     Ok(report)
 }
 

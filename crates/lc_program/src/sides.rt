@@ -7,7 +7,7 @@ ghost use Rattle.lc_walk.specs.WalkOptions.{AreWithinLimits};
 
 use crate::cause::Cause;
 use crate::faults::has_path;
-use crate::finding::{HowMany, cause_in, entered_by, walk_of};
+use crate::finding::{cause_in, entered_by, first_numbers, walk_of};
 use crate::report_files::read_one;
 use crate::report_lines::{cause_of_sum, unread_cause};
 use crate::system::System;
@@ -77,7 +77,7 @@ fn counted_side<R: Threads + Wait + Sync + AllocGlobal, Y: System>(
         name,
         entered_by(how.walk),
         how.options,
-        HowMany::Several,
+        first_numbers(2),
     ) {
         Ok(report) => report,
         Err(fault) => return Err(cause_in(rt.alloc(), name, fault)),

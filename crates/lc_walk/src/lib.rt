@@ -45,5 +45,5 @@ pub use row::{BrokenRow, Child, FaultedRow, ListedParts, ListedRow, Row};
 pub use served_job::ServedJob;
 pub use tally::{KeyRef, Sums, Tally, TallyRow, added_up, extension};
 pub use walk_fault::WalkFault;
-pub use walking::{walk, walk_on, walk_small};
+pub use walking::{walk, walk_first, walk_on};
 pub use worker::{StopReason, Worker, WorkerResult};

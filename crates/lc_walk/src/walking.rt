@@ -113,9 +113,6 @@ pub fn walk<T: Tree, R: Threads + Wait + Sync>(
     walk_on::<Words<Job, Row>, T, R>(rt, alloc, tree, options)
 }
 
-/// The number of directories for which `walk_small` makes its first board.
-const FEW_DIRS: u32 = 64;
-
 /// Returns whether a tree's top can't be listed or has at most one entry, so that several workers would not walk it faster than one.
 fn is_small<T: Tree>(alloc: Global, tree: &T) -> bool {
     match tree.names(alloc, b"") {
@@ -125,13 +122,15 @@ fn is_small<T: Tree>(alloc: Global, tree: &T) -> bool {
     }
 }
 
-/// Like `walk`, but for one of many trees, most of which are small. The trees that a walk with few numbers or with one worker can't walk are
-/// walked again, so a large tree takes more time than with `walk`, and a small one less: it takes no large board, and perhaps no thread.
-pub fn walk_small<T: Tree, R: Threads + Wait + Sync>(
+/// Like `walk`, but first with smaller boards, which take less time to make: with a board of one number if the top has at most one entry,
+/// and with a board of `few` numbers if that is fewer than the tree may have directories. A tree that such a board is too small for is
+/// walked again.
+pub fn walk_first<T: Tree, R: Threads + Wait + Sync>(
     rt: &R,
     alloc: Global,
     tree: &T,
     options: &Options<'_>,
+    few: u32,
 ) -> Result<Report, WalkFault>
     requires limits { AreWithinLimits options.now }
     ensures { Walks (T.lists tree.now) (T.gives tree.now) options.now result }
@@ -141,10 +140,10 @@ pub fn walk_small<T: Tree, R: Threads + Wait + Sync>(
             return Ok(report);
         }
     }
-    if options.max_dirs > FEW_DIRS {
-        let threads = options.threads;
+    let threads = options.threads;
+    if 1 <= few && few < options.max_dirs {
         if let Ok(report) = walk_by::<Words<Job, Row>, T, R>(
-            rt, alloc, tree, options, threads, FEW_DIRS,
+            rt, alloc, tree, options, threads, few,
         ) {
             return Ok(report);
         }

@@ -4,7 +4,7 @@ use crate::walk::drawn::draw_tree;
 use crate::walk::walked::{BOARDS, Case, NO_LISTS, check, check_node, report_of, walk_options};
 use lc_level::Filters;
 use lc_tree::{MemTree, Node};
-use lc_walk::{Report, WalkFault, walk_small};
+use lc_walk::{Report, WalkFault, walk_first};
 use std::alloc::{AllocError, Global};
 use std::process::Abort;
 use std::sync::Wait;
@@ -62,11 +62,13 @@ fn as_many_directories_as_are_taken(rt: HostRuntime) -> Result<(), Fail> {
     Ok(())
 }
 
-/// Numbers of directories for which `walk_small` needs a board of one number, of a few, or of all that it may have.
+/// Numbers of directories for which `walk_first` needs a board of one number, of a few, or of all that it may have.
 const SMALL_AND_LARGE: &[u32] = &[1, 64, 65, 100];
 
-/// The greatest number of directories of the trees that `walk_small` walks in these tests.
+/// The greatest number of directories of the trees that `walk_first` walks in these tests, and those that it tries first.
 const MOST_OF_SEVERAL: u32 = 100;
+
+const TRIED_FIRST: u32 = 64;
 
 /// Walks a tree of this many directories as one of several.
 fn walk_one_of_several<R: Threads + Wait + Sync + Abort>(
@@ -77,7 +79,8 @@ fn walk_one_of_several<R: Threads + Wait + Sync + Abort>(
     let top = draw_tree(alloc, SEED, count)?.top;
     let filters = Filters::none(alloc);
     let options = walk_options(rt, 2, MOST_OF_SEVERAL, NO_LISTS, &filters);
-    Ok(walk_small(rt, alloc, &MemTree::new(&top), &options))
+    let tree = MemTree::new(&top);
+    Ok(walk_first(rt, alloc, &tree, &options, TRIED_FIRST))
 }
 
 #[test]
