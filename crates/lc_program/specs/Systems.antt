@@ -1,7 +1,9 @@
 -- What a system may answer about the names on a command line.
 use Rattle.std.specs.Prelude.{ℕ, List, Option}
 use Rattle.lc_tree.specs.Trees.{Listings, Contents}
+use Rattle.lc_tree.specs.declared.tree.Tree.{Ghosts as TreeGhosts}
 use Rattle.lc_tree.specs.declared.file_systems.FileSystems.{FileSystems}
+use Rattle.lc_program.specs.declared.system.System.{Ghosts as SystemGhosts}
 use Rattle.lc_program.specs.declared.repository.Repository.{Repository}
 use Rattle.lc_program.specs.declared.unread_reason.UnreadReason.{UnreadReason}
 
@@ -18,8 +20,14 @@ pub record SystemMay : Type 1 where
   pub lie : List ℕ → Option Repository → Type 0
   pub stand : List ℕ → Option (List ℕ) → Type 0
 
-abbrev pub system_may : (List ℕ → FileSystems → List ℕ → Listings) → (List ℕ → FileSystems → List ℕ → Contents) → (List ℕ → Contents)
-    → (List ℕ → Option UnreadReason → Type 0) → (List ℕ → Option UnreadReason → Type 0) → (List ℕ → Option Repository → Type 0)
-    → (List ℕ → Option (List ℕ) → Type 0) → SystemMay
-system_may list give hold unlist unread lie stand =
-    record { list = list; give = give; hold = hold; unlist = unlist; unread = unread; lie = lie; stand = stand }
+-- what a system may answer, by the definitions of its trees and its own
+abbrev pub may_of : {Y T F G H : Type 0} → TreeGhosts T F → SystemGhosts Y T G H → Y → SystemMay
+may_of trees own system = record {
+  list = λ dir entered. trees.lists (own.tree system dir entered);
+  give = λ dir entered. trees.gives (own.tree system dir entered);
+  hold = own.holds system;
+  unlist = own.unlists system;
+  unread = own.unreads system;
+  lie = own.lies system;
+  stand = own.stands system;
+}

@@ -2,7 +2,7 @@
 
 ghost use Rattle.lc_arguments.specs.Words.{IsWithinLimits};
 ghost use Rattle.lc_program.specs.Requests.{AnswersRequest};
-ghost use Rattle.lc_program.specs.Systems.{system_may};
+ghost use Rattle.lc_program.specs.Systems.{may_of};
 
 use crate::answered::Answered;
 use crate::cause::Cause;
@@ -29,9 +29,7 @@ pub(crate) fn answer<R: Threads + Wait + Sync + AllocGlobal, Y: System, S: Sourc
     out: &mut O,
 ) -> Result<Answered, Cause>
     requires limits { IsWithinLimits request.now }
-    ensures { AnswersRequest (system_may (λ dir entered. Y.Tree.lists (Y.tree system.now dir entered))
-        (λ dir entered. Y.Tree.gives (Y.tree system.now dir entered)) (Y.holds system.now)
-        (Y.unlists system.now) (Y.unreads system.now) (Y.lies system.now) (Y.stands system.now))
+    ensures { AnswersRequest (may_of Y.Tree.Tree Y.System system.now)
         S.may_give O.may_take terminals.output request.now input.old out.old result input.new out.new }
 {
     let style = terminals.style();

@@ -6,7 +6,7 @@ ghost use Rattle.lc_arguments.specs.Words.{IsDiffWithinLimits};
 ghost use Rattle.lc_changes.specs.ChangeSheets.{HasFilesFor};
 ghost use Rattle.lc_program.specs.Differences.{AnswersChanges, AnswersDiff, AnswersSides, IsChangesText, PrintsChanges};
 ghost use Rattle.lc_program.specs.Differences.{change_options, change_order, compared_columns, compared_lists, compared_needs};
-ghost use Rattle.lc_program.specs.Systems.{system_may};
+ghost use Rattle.lc_program.specs.Systems.{may_of};
 
 use crate::answered::Answered;
 use crate::cause::Cause;
@@ -159,9 +159,7 @@ fn compare_sides<R: Threads + Wait + Sync + AllocGlobal, Y: System, S: Source, O
     out: &mut O,
 ) -> Result<Answered, Cause>
     requires limits { IsDiffWithinLimits asked.now }
-    ensures { AnswersSides (system_may (λ dir entered. Y.Tree.lists (Y.tree system.now dir entered))
-        (λ dir entered. Y.Tree.gives (Y.tree system.now dir entered)) (Y.holds system.now)
-        (Y.unlists system.now) (Y.unreads system.now) (Y.lies system.now) (Y.stands system.now))
+    ensures { AnswersSides (may_of Y.Tree.Tree Y.System system.now)
         S.may_give O.may_take format asked.now input.old out.old result input.new out.new }
 {
     let filters = read_filters(rt.alloc(), system, &asked.walk.filters)?;
@@ -196,9 +194,7 @@ pub(crate) fn compare<R: Threads + Wait + Sync + AllocGlobal, Y: System, S: Sour
     out: &mut O,
 ) -> Result<Answered, Cause>
     requires limits { IsDiffWithinLimits asked.now }
-    ensures { AnswersDiff (system_may (λ dir entered. Y.Tree.lists (Y.tree system.now dir entered))
-        (λ dir entered. Y.Tree.gives (Y.tree system.now dir entered)) (Y.holds system.now)
-        (Y.unlists system.now) (Y.unreads system.now) (Y.lies system.now) (Y.stands system.now))
+    ensures { AnswersDiff (may_of Y.Tree.Tree Y.System system.now)
         S.may_give O.may_take format asked.now input.old out.old result input.new out.new }
 {
     refuse_choices(rt.alloc(), system, &asked.walk, asked.old, asked.new)?;

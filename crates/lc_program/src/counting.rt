@@ -5,7 +5,7 @@ ghost use Rattle.lc_arguments.specs.Combinations.{is_picture};
 ghost use Rattle.lc_arguments.specs.Words.{IsCountWithinLimits};
 ghost use Rattle.lc_arguments.specs.TableWords.{options_in};
 ghost use Rattle.lc_program.specs.Counts.{AnswersApart, AnswersCount, Prints, after_spaces, lists_of, one_text};
-ghost use Rattle.lc_program.specs.Systems.{system_may};
+ghost use Rattle.lc_program.specs.Systems.{may_of};
 ghost use Rattle.lc_program.specs.WalkRequests.{IsAskedBy};
 ghost use Rattle.lc_rows.specs.Laws.{all_columns};
 ghost use Rattle.lc_rows.specs.WalkedReports.{ListsFilesFor};
@@ -108,9 +108,7 @@ fn print_found<R: Threads + Wait + Sync + AllocGlobal, Y: System, O: Sink>(
 ) -> Result<Report, Cause>
     requires limits { AreWithinLimits options.now }
     requires files { ListsFilesFor options.now (options_in format all_columns asked.now.table) }
-    ensures { Prints (system_may (λ dir entered. Y.Tree.lists (Y.tree system.now dir entered))
-        (λ dir entered. Y.Tree.gives (Y.tree system.now dir entered)) (Y.holds system.now)
-        (Y.unlists system.now) (Y.unreads system.now) (Y.lies system.now) (Y.stands system.now))
+    ensures { Prints (may_of Y.Tree.Tree Y.System system.now)
         O.may_take format asked.now options.now out.old result out.new }
 {
     let mut report = found(rt, system, asked, options)?;
@@ -134,9 +132,7 @@ fn count_apart<R: Threads + Wait + Sync + AllocGlobal, Y: System, S: Source, O: 
     out: &mut O,
 ) -> Result<Answered, Cause>
     requires limits { IsCountWithinLimits asked.now }
-    ensures { AnswersApart (system_may (λ dir entered. Y.Tree.lists (Y.tree system.now dir entered))
-        (λ dir entered. Y.Tree.gives (Y.tree system.now dir entered)) (Y.holds system.now)
-        (Y.unlists system.now) (Y.unreads system.now) (Y.lies system.now) (Y.stands system.now))
+    ensures { AnswersApart (may_of Y.Tree.Tree Y.System system.now)
         S.may_give O.may_take format asked.now input.old out.old result input.new out.new }
 {
     let filters = read_filters(rt.alloc(), system, &asked.walk.filters)?;
@@ -165,9 +161,7 @@ pub(crate) fn count<R: Threads + Wait + Sync + AllocGlobal, Y: System, S: Source
     out: &mut O,
 ) -> Result<Answered, Cause>
     requires limits { IsCountWithinLimits asked.now }
-    ensures { AnswersCount (system_may (λ dir entered. Y.Tree.lists (Y.tree system.now dir entered))
-        (λ dir entered. Y.Tree.gives (Y.tree system.now dir entered)) (Y.holds system.now)
-        (Y.unlists system.now) (Y.unreads system.now) (Y.lies system.now) (Y.stands system.now))
+    ensures { AnswersCount (may_of Y.Tree.Tree Y.System system.now)
         S.may_give O.may_take format asked.now input.old out.old result input.new out.new }
 {
     refuse_unless_apart(rt.alloc(), system, &asked.directories)?;

@@ -2,7 +2,7 @@
 
 ghost use Rattle.std.specs.Prelude.{◌≡◌};
 ghost use Rattle.lc_program.specs.Requests.{AnswersExplanation, AnswersPaths};
-ghost use Rattle.lc_program.specs.Systems.{system_may};
+ghost use Rattle.lc_program.specs.Systems.{may_of};
 
 use crate::answered::Answered;
 use crate::cause::Cause;
@@ -55,9 +55,7 @@ pub(crate) fn explain_asked<Y: System, S: Source, O: Sink>(
     input: &mut S,
     out: &mut O,
 ) -> Result<Answered, Cause>
-    ensures { AnswersExplanation (system_may (λ dir entered. Y.Tree.lists (Y.tree system.now dir entered))
-        (λ dir entered. Y.Tree.gives (Y.tree system.now dir entered)) (Y.holds system.now)
-        (Y.unlists system.now) (Y.unreads system.now) (Y.lies system.now) (Y.stands system.now))
+    ensures { AnswersExplanation (may_of Y.Tree.Tree Y.System system.now)
         S.may_give O.may_take style asked.now input.old out.old result input.new out.new }
 {
     let filters = read_filters(alloc, system, &asked.filters)?;

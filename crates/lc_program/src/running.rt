@@ -3,7 +3,7 @@
 ghost use Rattle.std.specs.Prelude.{◌≡◌, ◌&&◌, map, nat_lt};
 ghost use Rattle.lc_program.specs.Program.{Advises, Comments, Ends, TellsUnread, status_of, streams_may};
 ghost use Rattle.lc_program.specs.Replies.{ending_of, has_failure};
-ghost use Rattle.lc_program.specs.Systems.{system_may};
+ghost use Rattle.lc_program.specs.Systems.{may_of};
 ghost use Rattle.lc_program.specs.declared.ending.Ending.{Ending};
 
 use crate::answered::Answered;
@@ -152,9 +152,7 @@ fn end_of<R: Threads + Wait + Sync + AllocGlobal, Y: System, W: AsStr, S: Source
     terminals: Terminals,
     streams: &mut Streams<S, O, E>,
 ) -> Ending
-    ensures { Ends (system_may (λ dir entered. Y.Tree.lists (Y.tree system.now dir entered))
-        (λ dir entered. Y.Tree.gives (Y.tree system.now dir entered)) (Y.holds system.now)
-        (Y.unlists system.now) (Y.unreads system.now) (Y.lies system.now) (Y.stands system.now))
+    ensures { Ends (may_of Y.Tree.Tree Y.System system.now)
         (streams_may S.may_give O.may_take E.may_take) (map W.text words.now) terminals streams.old result streams.new }
 {
     let Streams { input, out, err } = streams;
@@ -215,9 +213,7 @@ pub fn program<
     E: Sink,
 >(rt: &R, system: &Y, words: &[W], terminals: Terminals, streams: &mut Streams<S, O, E>) -> u8
     ensures { (ending : Ending) × (result ≡ status_of ending)
-        × Ends (system_may (λ dir entered. Y.Tree.lists (Y.tree system.now dir entered))
-        (λ dir entered. Y.Tree.gives (Y.tree system.now dir entered)) (Y.holds system.now)
-        (Y.unlists system.now) (Y.unreads system.now) (Y.lies system.now) (Y.stands system.now))
+        × Ends (may_of Y.Tree.Tree Y.System system.now)
         (streams_may S.may_give O.may_take E.may_take) (map W.text words.now) terminals streams.old ending streams.new }
 {
     end_of(rt, system, words, terminals, streams).status()

@@ -2,7 +2,7 @@
 
 ghost use Rattle.std.specs.Prelude.{◌≡◌, true, IfOk};
 ghost use Rattle.lc_program.specs.Sides.{CountsSide, GivesSide, GivesSides, IsSide, ReadsSide, is_no_directory};
-ghost use Rattle.lc_program.specs.Systems.{system_may};
+ghost use Rattle.lc_program.specs.Systems.{may_of};
 ghost use Rattle.lc_walk.specs.WalkOptions.{AreWithinLimits};
 
 use crate::cause::Cause;
@@ -65,9 +65,7 @@ fn counted_side<R: Threads + Wait + Sync + AllocGlobal, Y: System>(
     how: SideOptions<'_>,
 ) -> Result<Report, Cause>
     requires limits { AreWithinLimits how.options.now }
-    ensures counts { CountsSide (system_may (λ dir entered. Y.Tree.lists (Y.tree system.now dir entered))
-        (λ dir entered. Y.Tree.gives (Y.tree system.now dir entered)) (Y.holds system.now)
-        (Y.unlists system.now) (Y.unreads system.now) (Y.lies system.now) (Y.stands system.now))
+    ensures counts { CountsSide (may_of Y.Tree.Tree Y.System system.now)
         how.entry.walk.now how.entry.options.now name.now result }
     ensures files { IfOk result (λ report. how.entry.options.now.lists.files ≡ true → report.lists.files ≡ true) }
 {
@@ -97,9 +95,7 @@ fn read_side<Y: System, S: Source>(
     needs: Needs,
     input: &mut S,
 ) -> Result<Report, Cause>
-    ensures reads { ReadsSide (system_may (λ dir entered. Y.Tree.lists (Y.tree system.now dir entered))
-        (λ dir entered. Y.Tree.gives (Y.tree system.now dir entered)) (Y.holds system.now)
-        (Y.unlists system.now) (Y.unreads system.now) (Y.lies system.now) (Y.stands system.now))
+    ensures reads { ReadsSide (may_of Y.Tree.Tree Y.System system.now)
         S.may_give needs name.now input.old result input.new }
     ensures files { IfOk result (λ report. needs.files ≡ true → report.lists.files ≡ true) }
 {
@@ -120,9 +116,7 @@ fn side<R: Threads + Wait + Sync + AllocGlobal, Y: System, S: Source>(
 ) -> Result<Report, Cause>
     requires limits { AreWithinLimits how.options.now }
     requires lists { how.options.now.lists.files ≡ how.needs.files }
-    ensures gives { GivesSide (system_may (λ dir entered. Y.Tree.lists (Y.tree system.now dir entered))
-        (λ dir entered. Y.Tree.gives (Y.tree system.now dir entered)) (Y.holds system.now)
-        (Y.unlists system.now) (Y.unreads system.now) (Y.lies system.now) (Y.stands system.now))
+    ensures gives { GivesSide (may_of Y.Tree.Tree Y.System system.now)
         S.may_give how.entry.walk.now how.entry.options.now how.entry.needs name.now input.old result input.new }
     ensures files { IfOk result (λ report. how.entry.needs.files ≡ true → report.lists.files ≡ true) }
 {
@@ -142,9 +136,7 @@ pub(crate) fn both_sides<R: Threads + Wait + Sync + AllocGlobal, Y: System, S: S
 ) -> Result<(Report, Report), Cause>
     requires limits { AreWithinLimits how.options.now }
     requires lists { how.options.now.lists.files ≡ how.needs.files }
-    ensures gives { GivesSides (system_may (λ dir entered. Y.Tree.lists (Y.tree system.now dir entered))
-        (λ dir entered. Y.Tree.gives (Y.tree system.now dir entered)) (Y.holds system.now)
-        (Y.unlists system.now) (Y.unreads system.now) (Y.lies system.now) (Y.stands system.now))
+    ensures gives { GivesSides (may_of Y.Tree.Tree Y.System system.now)
         S.may_give how.entry.walk.now how.entry.options.now how.entry.needs names.entry.0.now names.entry.1.now input.old result input.new }
     ensures files { IfOk result (λ both. how.entry.needs.files ≡ true → (both.0.lists.files ≡ true) × (both.1.lists.files ≡ true)) }
 {

@@ -7,7 +7,7 @@ ghost use Rattle.lc_program.specs.Counts.{after_spaces, one_text};
 ghost use Rattle.lc_program.specs.ReportTexts.{IsPrintedWith, classes_kept};
 ghost use Rattle.lc_program.specs.Runs.{AnswersText};
 ghost use Rattle.lc_program.specs.Sums.{AnswersSum, PrintsParts, PrintsSum, classes_in, columns_of, needed_by, typed_text};
-ghost use Rattle.lc_program.specs.Systems.{system_may};
+ghost use Rattle.lc_program.specs.Systems.{may_of};
 ghost use Rattle.lc_rows.specs.WalkedReports.{HasFilesFor};
 
 use crate::answered::Answered;
@@ -193,9 +193,7 @@ pub(crate) fn sum<Y: System, S: Source, O: Sink>(
     input: &mut S,
     out: &mut O,
 ) -> Result<Answered, Cause>
-    ensures { AnswersSum (system_may (λ dir entered. Y.Tree.lists (Y.tree system.now dir entered))
-        (λ dir entered. Y.Tree.gives (Y.tree system.now dir entered)) (Y.holds system.now)
-        (Y.unlists system.now) (Y.unreads system.now) (Y.lies system.now) (Y.stands system.now))
+    ensures { AnswersSum (may_of Y.Tree.Tree Y.System system.now)
         S.may_give O.may_take format asked.now input.old out.old result input.new out.new }
 {
     let parts = read_all(alloc, system, &asked.reports, input)?;

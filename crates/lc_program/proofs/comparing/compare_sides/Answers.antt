@@ -1,7 +1,7 @@
 use Rattle.std.proofs.Common.{◌∙◌, ℕ, List, Ok, Err, ap, inl, inr, map, refl, string_bytes, subst}
 use Rattle.lc_level.specs.NamedAttributes.{attributes_of}
 use Rattle.lc_program.specs.Differences.{compared_lists, compared_needs}
-use Rattle.lc_program.specs.Systems.{SystemMay, system_may}
+use Rattle.lc_program.specs.Systems.{SystemMay, may_of}
 use Rattle.lc_program.specs.Unnamed.{AreUnnamedLines}
 use Rattle.lc_program.proofs.ChangesReplied.{compare_done, compare_replied}
 use Rattle.lc_program.proofs.ComparedNeeds.{files_needed, sides_given}
@@ -64,9 +64,7 @@ returns-in_err-filters-2 g c =
 pub returns-in_err-old : goal.returns-in_err-old
 returns-in_err-old g c =
     let system = c.args.system.now in
-    let may : SystemMay = system_may (λ dir entered. g.Y.Tree.Tree.lists (g.Y.System.tree system dir entered))
-    (λ dir entered. g.Y.Tree.Tree.gives (g.Y.System.tree system dir entered)) (g.Y.System.holds system) (g.Y.System.unlists system)
-    (g.Y.System.unreads system) (g.Y.System.lies system) (g.Y.System.stands system) in
+    let may : SystemMay = may_of g.Y.Tree.Tree g.Y.System system in
     let d = c.args.asked.now in
     inl (
       c.in_ok-filters.ensures.0,
@@ -108,9 +106,7 @@ print_kept-requires-clause-new_files g c asked =
 pub returns-in_err-compared : goal.returns-in_err-compared
 returns-in_err-compared g c =
     let system = c.args.system.now in
-    let may : SystemMay = system_may (λ dir entered. g.Y.Tree.Tree.lists (g.Y.System.tree system dir entered))
-    (λ dir entered. g.Y.Tree.Tree.gives (g.Y.System.tree system dir entered)) (g.Y.System.holds system) (g.Y.System.unlists system)
-    (g.Y.System.unreads system) (g.Y.System.lies system) (g.Y.System.stands system) in
+    let may : SystemMay = may_of g.Y.Tree.Tree g.Y.System system in
     let d = c.args.asked.now in
     inl (
       c.in_ok-filters.ensures.0,
@@ -146,9 +142,7 @@ returns-in_err-compared g c =
 pub returns : goal.returns
 returns g c =
     let system = c.args.system.now in
-    let may : SystemMay = system_may (λ dir entered. g.Y.Tree.Tree.lists (g.Y.System.tree system dir entered))
-    (λ dir entered. g.Y.Tree.Tree.gives (g.Y.System.tree system dir entered)) (g.Y.System.holds system) (g.Y.System.unlists system)
-    (g.Y.System.unreads system) (g.Y.System.lies system) (g.Y.System.stands system) in
+    let may : SystemMay = may_of g.Y.Tree.Tree g.Y.System system in
     let d = c.args.asked.now in
     inl (
       c.in_ok-filters.ensures.0,

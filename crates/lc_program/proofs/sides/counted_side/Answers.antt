@@ -1,14 +1,12 @@
 use Rattle.std.proofs.Common.{inl, refl}
 use Rattle.lc_program.proofs.SidesGiven.{side_counted, side_unlisted}
-use Rattle.lc_program.specs.Systems.{SystemMay, system_may}
+use Rattle.lc_program.specs.Systems.{SystemMay, may_of}
 use Rattle.lc_program.proofs.sides.counted_side.Goals as goal
 
 pub returns-then-has_path-clause-counts : goal.returns-then-has_path-clause-counts
 returns-then-has_path-clause-counts g c =
     let system = c.args.system.now in
-    let may : SystemMay = system_may (λ dir entered. g.Y.Tree.Tree.lists (g.Y.System.tree system dir entered))
-    (λ dir entered. g.Y.Tree.Tree.gives (g.Y.System.tree system dir entered)) (g.Y.System.holds system) (g.Y.System.unlists system)
-    (g.Y.System.unreads system) (g.Y.System.lies system) (g.Y.System.stands system) in
+    let may : SystemMay = may_of g.Y.Tree.Tree g.Y.System system in
     side_unlisted may c.args.how.walk.now c.args.how.options.now c.args.name.now c.entered_by.result c.entered_by.ensures c.in-Ok.report _
     c.deref.result.now c.has_path.result c.unread_cause.result c.in-Ok.ensures c.has_path.ensures c.if-has_path.true refl
     c.deref.ensures.value (inl (c.in_ok-why.why, c.in_ok-why.ensures, c.unread_cause.ensures))
@@ -16,8 +14,6 @@ returns-then-has_path-clause-counts g c =
 pub returns-clause-counts : goal.returns-clause-counts
 returns-clause-counts g c =
     let system = c.args.system.now in
-    let may : SystemMay = system_may (λ dir entered. g.Y.Tree.Tree.lists (g.Y.System.tree system dir entered))
-    (λ dir entered. g.Y.Tree.Tree.gives (g.Y.System.tree system dir entered)) (g.Y.System.holds system) (g.Y.System.unlists system)
-    (g.Y.System.unreads system) (g.Y.System.lies system) (g.Y.System.stands system) in
+    let may : SystemMay = may_of g.Y.Tree.Tree g.Y.System system in
     side_counted may c.args.how.walk.now c.args.how.options.now c.args.name.now c.entered_by.result c.entered_by.ensures c.in-Ok.report _
     c.deref.result.now c.has_path.result c.in-Ok.ensures c.has_path.ensures c.if-has_path.false refl c.deref.ensures.value

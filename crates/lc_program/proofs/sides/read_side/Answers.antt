@@ -1,14 +1,12 @@
 use Rattle.std.proofs.Common.{inr, refl}
 use Rattle.lc_program.proofs.SidesGiven.{side_unread}
-use Rattle.lc_program.specs.Systems.{SystemMay, system_may}
+use Rattle.lc_program.specs.Systems.{SystemMay, may_of}
 use Rattle.lc_program.proofs.sides.read_side.Goals as goal
 
 pub returns-in_err-parts-clause-reads : goal.returns-in_err-parts-clause-reads
 returns-in_err-parts-clause-reads g c =
     let system = c.args.system.now in
-    let may : SystemMay = system_may (λ dir entered. g.Y.Tree.Tree.lists (g.Y.System.tree system dir entered))
-    (λ dir entered. g.Y.Tree.Tree.gives (g.Y.System.tree system dir entered)) (g.Y.System.holds system) (g.Y.System.unlists system)
-    (g.Y.System.unreads system) (g.Y.System.lies system) (g.Y.System.stands system) in
+    let may : SystemMay = may_of g.Y.Tree.Tree g.Y.System system in
     side_unread may g.S.Source.may_give c.args.needs c.args.name.now c.args.input.now c.read_one.new.input c.from_residual.result
     c.in_err-parts.field-0.0 c.from_residual.ensures.1 c.in_err-parts.ensures.refused
 
