@@ -4,8 +4,8 @@ use crate::lines::Lines;
 use crate::section::Section;
 use std::marker::Model;
 
-/// What is shown of a report: its rows, sums, files, skipped entries and errors. What is shown of a comparison of two reports has no counts,
-/// no skipped entries and no errors.
+/// What is shown of a report: its rows, sums, files, skipped entries and errors. What is shown of a comparison of two reports has no
+/// counts, no skipped entries and no errors.
 #[derive(Drop)]
 pub struct Sheet<'a, R: Lines, T: Lines, F: Lines, S: Lines, E: Lines> {
     /// The shown rows of the report's table.
