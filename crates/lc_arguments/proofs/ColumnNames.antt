@@ -164,18 +164,6 @@ refuses depth c d n left all g dir ext text eol are =
           are.no_others,
         ))
 
--- columns by the same names have directories, or none of them has
-pub same_dir : (names : List (List ℕ)) (depth : ℕ) (c d : Columns) → AreNamesOf names depth c → AreNamesOf names depth d
-    → is_some c.dir ≡ true → is_some d.dir ≡ true
-same_dir names depth c d of_c of_d has = go (is_some d.dir) refl
-  where
-    go : (b : Bool) → is_some d.dir ≡ b → b ≡ true
-    go true is = refl
-    go false is =
-        let one : once_if (is_some c.dir) ≡ 1 = ap once_if has in
-        let none : once_if (is_some d.dir) ≡ 0 = ap once_if is in
-        absurd (omega (arith, one, none, of_c.dir, of_d.dir))
-
 -- directories are cut to a number of segments that is within the limit of what was given, or one
 pub depth_within : (depth : Option ℕ) (columns : Option Columns) (by : Option (List ℕ)) → AreColumnsBy by depth columns
     → 1 ≤ unwrap_or depth 1 → unwrap_or depth 1 ≤ max_depth

@@ -13,7 +13,7 @@ use Rattle.std.specs.Prelude.{Some, codes, option_map, unwrap_or}
 use Rattle.clap.specs.Walk.{Row}
 use Rattle.lc_arguments.specs.CommandLine.{check_app, count_app}
 use Rattle.lc_arguments.specs.Explained.{AnswersCountIn, AnswersCountWords, AnswersExplainWords, AnswersSumIn, AnswersSumWords}
-use Rattle.lc_arguments.specs.Explained.{AnswersBy, AnswersTable, IsRefusal, IsRefusedFor, IsUnread}
+use Rattle.lc_arguments.specs.Explained.{AnswersTable, IsRefusal, IsRefusedFor, IsUnread}
 use Rattle.lc_arguments.specs.Repeated.{is_allowed}
 use Rattle.lc_arguments.specs.Words.{AskNothing, AsksNoCount, AsksNoSum, IsNoRequestBy, MayRefuse, MayShow}
 use Rattle.lc_arguments.specs.ReadNumbers.{AreCutsIn, AreNumbersIn}
@@ -74,19 +74,6 @@ pub refused_with : (No More : Type 0) (why : ParseExit) → (No → More) → Is
 refused_with No More (Shown text) follows bad = bad
 refused_with No More (Refused text) follows bad = follows bad
 refused_with No More Memory follows bad = tt
-
--- what asks for nothing of the one kind asks for nothing of the other, which has such a part
-pub refused_part : {A B : Type 0} (Is : A → Type 0) (Has : B → Type 0) (why : ParseExit) → ((b : B) → Has b → (a : A) × Is a)
-    → AnswersBy {A = A} Is (Err why) → AnswersBy {A = B} Has (Err why)
-refused_part Is Has (Shown text) part none = none
-refused_part Is Has (Refused text) part none = λ b has. let p = part b has in none p.0 p.1
-refused_part Is Has Memory part none = tt
-
--- a refusal of what nothing is
-pub nothing_for : {A : Type 0} (Is : A → Type 0) (why : ParseExit) → IsRefusal why → ((a : A) → ¬ Is a) → AnswersBy {A = A} Is (Err why)
-nothing_for Is (Shown text) refusal none = refusal
-nothing_for Is (Refused text) refusal none = none
-nothing_for Is Memory refusal none = tt
 
 -- what is passed on refuses the count
 pub no_count_in : (rows : List Row) (numbers : Numbers) (answer : Result CountRequest ParseExit) (why : ParseExit) (No : Type 0)

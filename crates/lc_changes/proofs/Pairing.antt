@@ -58,11 +58,6 @@ module _ {X K : Type 0} (key : X → K) (cmp : K → K → Ordering) where
       pub news_rise : Rises key cmp news
       pub rest : (ps : List (PairModel X)) → ArePaired key cmp olds news ps → ArePaired key cmp all_olds all_news (pairs ++ ps)
 
-  pub pairing_first : {L : Type 0} (make : PairModel X → L) (olds news : List X) → Rises key cmp olds → Rises key cmp news
-      → IsPairing make olds news [] olds news
-  pairing_first make olds news olds_rise news_rise =
-      record { pairs = []; made = refl; olds_rise = olds_rise; news_rise = news_rise; rest = λ ps paired. paired }
-
   -- one pair more
   pairing_with : {L : Type 0} (make : PairModel X → L) (all_olds all_news : List X) (done : List L) (p : PairModel X) (os ns : List X)
       → HasOneKey key p → Below cmp (pair_key key p) (map key os) → Below cmp (pair_key key p) (map key ns) → Rises key cmp os

@@ -81,9 +81,6 @@ module _ {X K : Type 0} (key : X → K) (cmp : K → K → Ordering) (total : Is
   new_keyed (both x y) same = (refl, tt)
 
 module _ {X K : Type 0} (key : X → K) (keys : K → Bool) where
-  any_key : List X → Bool
-  any_key xs = list_any (λ x. keys (key x)) xs
-
   one_side : (a b c : Bool) → (a || (b || c)) ≡ ((a || b) || c)
   one_side true b c = refl
   one_side false b c = refl

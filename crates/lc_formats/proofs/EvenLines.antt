@@ -28,11 +28,6 @@ abbrev pub AreSound : List CellModel → Type 0
 AreSound [] = Unit {0}
 AreSound (c ∷ cs) = IsSound c.side c.text × AreSound cs
 
--- lines of sound cells are joined to sound ones
-pub sound-append : (xs ys : List CellModel) → AreSound xs → AreSound ys → AreSound (xs ++ ys)
-sound-append [] ys a b = b
-sound-append (x ∷ xs) ys a b = (a.0, sound-append xs ys a.1 b)
-
 -- an open end is the last cell
 abbrev pub is_layout : List Side → Bool
 is_layout [] = true

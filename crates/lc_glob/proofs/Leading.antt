@@ -1,5 +1,5 @@
 -- How segments match names from their end, and lead to it.
-use Rattle.std.proofs.Common.{◌≡◌, ◌↔◌, IsTrue, ℕ, Bool, true, false, List, [], ◌∷◌, ◌++◌, refl, sym, ◌∙◌, subst, ap}
+use Rattle.std.proofs.Common.{◌≡◌, ◌↔◌, ℕ, Bool, true, false, List, [], ◌∷◌, ◌++◌, refl, sym, ◌∙◌, subst, ap}
 use Rattle.std.proofs.lemmas.{List.append-nil, Bool.false≢true}
 use Rattle.lc_glob.specs.{Tokens.TokenModel, Fits.Fits, Patterns.{SegmentModel, plain, double_star}, Matches.MatchesPath, Leads.Leads}
 use Rattle.lc_glob.proofs.After.{after_empty, after_end}
@@ -107,20 +107,6 @@ when_end s r us path above n e q =
 pub when_none : (s r : List SegmentModel) (us : List TokenModel) (path : List (List ℕ)) → s ≡ r ++ plain us ∷ [] → path ≡ []
     → Leads s path → ⊥
 when_none s r us path e q h = plain_none r us (subst (Leads (r ++ plain us ∷ [])) q (subst (λ (l : List SegmentModel). Leads l path) e h))
-
--- what tells whether the segments match the names, by the last of both
-not_matched : (above : List (List ℕ)) (n : List ℕ) → MatchesPath [] (above ++ n ∷ []) → ⊥
-not_matched [] n h = h
-not_matched (x ∷ above) n h = h
-
--- no segments match no path that has a name
-pub none_spelled : (s : List SegmentModel) (path above : List (List ℕ)) (n : List ℕ) → s ≡ [] → path ≡ above ++ n ∷ []
-    → IsTrue false ↔ MatchesPath s path
-none_spelled s path above n e q = (
-  λ h. absurd (false≢true h),
-  λ h. absurd (not_matched above n
-      (subst (λ (l : List SegmentModel). MatchesPath l (above ++ n ∷ [])) e (subst (MatchesPath s) q h))),
-)
 
 -- a double star at the end matches a path where the segments lead to what stands above its last name
 pub double_spelled : (T : Type 0) (s r : List SegmentModel) (path above : List (List ℕ)) (n : List ℕ) → s ≡ r ++ double_star ∷ []

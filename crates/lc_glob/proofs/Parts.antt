@@ -73,9 +73,3 @@ join_put_on (Some t) next = join_put t.0 (next t.1)
 pub join_start : (bytes : List ℕ) → parts 0 bytes ≡ join [] [] (parts 0 bytes)
 join_start [] = refl
 join_start (b ∷ bs) = join_put_on (lexeme b bs) (λ j. parts j bs)
-
--- equal parts join equally
-pub joined : (all o : Option (List (List TokenModel))) (d e : List (List TokenModel)) (c f : List TokenModel) → all ≡ join d c o
-    → e ≡ d → f ≡ c → all ≡ join e f o
-joined all o d e c f same de cf =
-    same ∙ ap (λ (l : List (List TokenModel)). join l c o) (sym de) ∙ ap (λ (l : List TokenModel). join e l o) (sym cf)

@@ -25,7 +25,6 @@ use Rattle.lc_rules.specs.declared.rule_source.RuleSource.{RuleSource}
 use Rattle.lc_tree.specs.Listing.{EntryModel}
 use Rattle.lc_tree.specs.declared.entry.Kind.{Kind}
 use Rattle.lc_tree.specs.declared.entry.Kind.TheVariants.{File, Dir, Other}
-use Rattle.lc_walk.specs.Found.{Found}
 use Rattle.lc_walk.specs.FoundAt.{IsListed, WalksInto, LeadsTo}
 use Rattle.lc_walk.specs.ReportLines.{skipped_paths}
 use Rattle.lc_walk.specs.RecursiveWalk.{walk_of}
@@ -81,9 +80,6 @@ module _ (Enters : Entering) (s : FiltersModel) (whole : s.only ≡ []) (x : Exp
     (report : IsReportOf asked (walk_of s depth top t) r) (files : asked.files ≡ true) (skipped_ones : asked.left_out ≡ true)
     (path : List ℕ) (kind : Kind) (entry : IsEntryBy s top t path kind)
     (kept : IsSaidKept x → Contains (skipped_paths r.skipped.items) path → ⊥) where
-  abbrev xs : List Found
-  xs = walk_of s depth top t
-
   -- ---- one directory to which names lead
 
   module _ (place : List (List ℕ)) (k : JobModel) (leads : LeadsTo s top t place k) (shallow : length place < depth) where

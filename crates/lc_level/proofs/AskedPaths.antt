@@ -182,10 +182,6 @@ entries_of_part p (item ∷ items) = at (p (entry_of item)) (entries_of_part p i
 pub all_take_part : (d : List ℕ) (items : List Item) → part_of [] d items ≡ items
 all_take_part d items = filter_all (λ item. takes_part [] d (entry_of item)) (λ item. refl) items
 
--- and none is absent
-pub none_absent : (d : List ℕ) (items : List Item) → absent_from [] d items ≡ []
-none_absent d items = refl
-
 -- ---- paths that no entry leads to
 
 led_by_items : (items : List Item) (rest : List ℕ)

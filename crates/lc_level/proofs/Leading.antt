@@ -1,25 +1,23 @@
 -- Which paths have a directory in them, and which entries lead to them.
 use Rattle.std.proofs.Common.{◌≡◌, ℕ, suc, ◌==◌, ◌+◌, ◌<◌, Bool, true, false, not, ◌&&◌, ◌||◌, cond, List, [], ◌∷◌, ◌++◌}
-use Rattle.std.proofs.Common.{map, length, get_or, take, drop, refl, sym, ◌∙◌, ap, subst, append_assoc, bytes_eq, Option, Some, None}
-use Rattle.std.proofs.Common.{arith, find, Bor}
+use Rattle.std.proofs.Common.{length, get_or, take, drop, refl, sym, ◌∙◌, ap, subst, append_assoc, bytes_eq, Option, Some, None}
+use Rattle.std.proofs.Common.{arith, find}
 use Rattle.std.specs.List.{filter, list_any, before_first, position_or_len, AllByRecursion}
 use Rattle.std.specs.Option.{is_some}
 use Rattle.std.proofs.lemmas.Bool.{and_parts, eqb-true, or_parts}
 use Rattle.std.proofs.lemmas.Cmp.{nat_list_eq_equiv}
-use Rattle.std.proofs.lemmas.List.{drop_more, take-append-drop, get_or_at, map-append}
+use Rattle.std.proofs.lemmas.List.{drop_more, take-append-drop, get_or_at}
 use Rattle.std.proofs.Math.Seq.{take-append_seam}
 use Rattle.lc_glob.specs.Bytes.{slash}
 use Rattle.lc_glob.specs.Path.{is_good_name}
 use Rattle.lc_glob.specs.Pieces.{is_byte}
-use Rattle.lc_level.specs.Level.{absent_faults}
 use Rattle.lc_level.specs.Narrowing.{after, stands_below, leads_to, has_part, WantedModel}
-use Rattle.lc_level.specs.PathSteps.{is_cut_among, is_led_to, unled}
+use Rattle.lc_level.specs.PathSteps.{is_cut_among, is_led_to}
 use Rattle.lc_level.proofs.AskedPaths.{after_is, after_front, filter_all, passes}
 use Rattle.lc_level.proofs.Searching.{is_named, named_tells}
 use Rattle.lc_level.proofs.WellFormed.{same_bytes, bytes_same, clash, good_one, IsGoodName}
 use Rattle.lc_tree.specs.Kinds.{is_dir}
 use Rattle.lc_tree.specs.Listing.{EntryModel, IsListing, have_good_names}
-use Rattle.lc_level.specs.FaultLines.{FaultLineModel}
 
 or_true : (a : Bool) → (a || true) ≡ true
 or_true true = refl
@@ -136,28 +134,9 @@ leads_below e rests none dir =
     leads_by e rests ∙ ap (λ b. b || list_any (λ rest. is_dir e.kind && stands_below rest e.name) rests) none
     ∙ ap (λ k. list_any (λ rest. k && stands_below rest e.name) rests) dir
 
-no_one : {X : Type 0} (xs : List X) → list_any (λ x. false) xs ≡ false
-no_one [] = refl
-no_one (x ∷ xs) = no_one xs
-
-pub leads_nowhere : (e : EntryModel) (rests : List (List ℕ)) → list_any (bytes_eq e.name) rests ≡ false → is_dir e.kind ≡ false
-    → list_any (leads_to e) rests ≡ false
-leads_nowhere e rests none dir =
-    leads_by e rests ∙ ap (λ b. b || list_any (λ rest. is_dir e.kind && stands_below rest e.name) rests) none
-    ∙ ap (λ k. list_any (λ rest. k && stands_below rest e.name) rests) dir ∙ no_one rests
-
 -- of a directory that is asked for as a whole all entries take part
 pub whole_part : (w : WantedModel) (es : List EntryModel) → w.whole ≡ true → es ≡ filter (has_part w) es
 whole_part w es whole = sym (filter_all (has_part w) (λ e. ap (λ b. b || list_any (leads_to e) w.rests) whole) es)
-
--- and of another those that lead to one of the paths below it
-pub led_part : (w : WantedModel) (es : List EntryModel) → w.whole ≡ false
-    → filter (λ e. list_any (leads_to e) w.rests) es ≡ filter (has_part w) es
-led_part w [] whole = refl
-led_part w (e ∷ es) whole =
-    ap (λ b. cond (b || list_any (leads_to e) w.rests) (e ∷ filter (λ e. list_any (leads_to e) w.rests) es)
-    (filter (λ e. list_any (leads_to e) w.rests) es)) (sym whole)
-    ∙ ap (λ l. cond (has_part w e) (e ∷ l) l) (led_part w es whole)
 
 -- ---- the entry of a path's first name
 
@@ -224,26 +203,3 @@ led_by_named es rest name listing is =
     led_by_first es rest listing.good
     ∙ ap (λ n. list_any (λ (e : EntryModel). bytes_eq n e.name && leads_to e rest) es) (sym is)
     ∙ named_tells name (λ (e : EntryModel). leads_to e rest) es listing.order
-
--- ---- paths to which none leads
-
-unled_first : (es : List EntryModel) (rest : List ℕ) (rests : List (List ℕ))
-    → unled es (rest ∷ rests) ≡ unled es (rest ∷ []) ++ unled es rests
-unled_first es rest rests = at (not (is_led_to es rest))
-  where
-    at : (b : Bool) → cond b (rest ∷ unled es rests) (unled es rests) ≡ cond b (rest ∷ []) [] ++ unled es rests
-    at true = refl
-    at false = refl
-
--- the faults so far, and those of the paths that are left, one path on
-pub faults_step : (es : List EntryModel) (paths : List (Bor (List ℕ))) (i : ℕ) (rest : Bor (List ℕ)) (others : List (Bor (List ℕ)))
-    (old new all : List FaultLineModel) → drop i paths ≡ rest ∷ others → new ≡ old ++ absent_faults (unled es (rest.now ∷ []))
-    → old ++ absent_faults (unled es (map (λ (r : Bor (List ℕ)). r.now) (drop i paths))) ≡ all
-    → new ++ absent_faults (unled es (map (λ (r : Bor (List ℕ)). r.now) others)) ≡ all
-faults_step es paths i rest others old new all left gains before =
-    let later : List (List ℕ) = map (λ (r : Bor (List ℕ)). r.now) others in
-    ap (λ l. l ++ absent_faults (unled es later)) gains
-    ∙ append_assoc old (absent_faults (unled es (rest.now ∷ []))) (absent_faults (unled es later))
-    ∙ ap (λ l. old ++ l)
-    (sym (map-append _ (unled es (rest.now ∷ [])) (unled es later)) ∙ ap absent_faults (sym (unled_first es rest.now later)))
-    ∙ ap (λ (rs : List (Bor (List ℕ))). old ++ absent_faults (unled es (map (λ (r : Bor (List ℕ)). r.now) rs))) (sym left) ∙ before

@@ -1,8 +1,7 @@
 -- Which files patterns include, by the directories above them.
-use Rattle.std.proofs.Common.{◌≡◌, ◌∙◌, ◌<◌, ◌+◌, ℕ, zero-add, true, false, List, length, get_or}
-use Rattle.std.proofs.Common.{sym, subst, arith, ⊎_elim}
+use Rattle.std.proofs.Common.{◌≡◌, ◌∙◌, ◌<◌, ℕ, zero-add, true, false, List, length, get_or}
+use Rattle.std.proofs.Common.{sym, subst}
 use Rattle.std.specs.List.{range_with_len}
-use Rattle.std.proofs.lemmas.Bool.{cases_lt}
 use Rattle.std.proofs.lemmas.List.Folds.{list_any_none, list_any-from_Any}
 use Rattle.std.proofs.lemmas.List.FromFn.{get_or-range_with_len, length-range_with_len}
 use Rattle.lc_rules.specs.IgnoreRules.{RuleModel}
@@ -16,13 +15,6 @@ module _ (patterns : List RuleModel) (path : List ℕ) where
   -- no directory that ends before this place is matched
   abbrev pub NoneBefore : ℕ → Type 0
   NoneBefore n = (k : ℕ) → k < n → is_matched_parent patterns path k ≡ false
-
-  -- one place more
-  pub none_more : (n : ℕ) → NoneBefore n → is_matched_parent patterns path n ≡ false → NoneBefore (n + 1)
-  none_more n none here k low =
-      ⊎_elim (λ before. none k before)
-      (λ after. let same : n ≡ k = omega (arith, low, after) in subst (λ j. is_matched_parent patterns path j ≡ false) same here)
-      (cases_lt k n)
 
   -- none in all of the path
   pub none_matched : NoneBefore (length path) → has_matched_parent patterns path ≡ false

@@ -6,7 +6,7 @@ use Rattle.std.specs.Global.{Global}
 use Rattle.std.specs.List.{filter, list_any, flat_map}
 use Rattle.lc_level.specs.Answers.{Item, Items, entry_of, entries_of}
 use Rattle.lc_level.specs.Deep.{is_too_deep, has_too_deep}
-use Rattle.lc_level.specs.Enters.{IsEntered, EntersLevel}
+use Rattle.lc_level.specs.Enters.{IsEntered}
 use Rattle.lc_level.specs.Job.{JobModel}
 use Rattle.lc_level.specs.Classified.{kept_file, kept_directory, skipped_entry, ClassifiesAll}
 use Rattle.lc_level.specs.Level.{absent_faults}
@@ -47,12 +47,6 @@ module _ (s : FiltersModel) (e : Entered) (w : WantedModel) (directory : List �
       ∙ ap (λ d. absent_faults (unled e.entries.items (rests s.only d))) at
 
 module _ (lists : List ℕ → Listings) (gives : List ℕ → Contents) (left_out : Bool) (s : FiltersModel) (j : JobModel) where
-  -- what stops entering a directory stops opening it
-  pub enter_refused : (texts : Bool) (u : OpenFault) → EntersLevel lists gives j texts (Err u) → OpensLevel lists gives left_out s j (Err u)
-  enter_refused texts (Faulted site word) (a, may, well_formed, is) = (a, may, well_formed, is s)
-  enter_refused texts Memory e = tt
-  enter_refused texts TooDeep e = absurd e
-
   -- the entries of a directory that was entered are a listing
   pub are_listed : (texts : Bool) (e : Entered) → IsEntered lists gives j texts e → IsListing e.entries.items
   are_listed texts e c =

@@ -30,15 +30,6 @@ module _ (gives : List ℕ → Contents) (j : JobModel) where
     counted = counted_next gives j s.done n absent old new (Ok u) u refl s.counted added;
   }
 
-  -- a name more is left
-  pub rest_last : (n : Vec ℕ Global) (names rest : Names) (absent : List FaultLineModel) (found : CountedFiles)
-      → CountsSome gives j names absent rest found → CountsSome gives j (names ++ n ∷ []) absent (rest ++ n ∷ []) found
-  rest_last n names rest absent found s = record {
-    done = s.done;
-    all = sym (append_assoc s.done rest (n ∷ [])) ∙ ap (λ l. l ++ n ∷ []) s.all;
-    counted = s.counted;
-  }
-
   -- what is counted of consecutive names is counted of all
   pub both_counted : (ns ms : List (List ℕ)) (absent : List FaultLineModel) (before later both : CountedFiles)
       → IsCounted gives j ns absent before → IsCounted gives j ms [] later → both.files.items ≡ before.files.items ++ later.files.items

@@ -1,6 +1,6 @@
 -- Sorted paths seen from a directory: those that come before its own are skipped, and what follows these is none of them.
 use Rattle.std.proofs.Common.{◌≡◌, ℕ, zero, suc, Bool, true, false, List, [], ◌∷◌, length, map, drop, refl, sym, ◌∙◌, ap}
-use Rattle.std.proofs.Common.{subst, Some, None, Bor, arith, nat_eq}
+use Rattle.std.proofs.Common.{subst, None, Bor, arith, nat_eq}
 use Rattle.std.specs.List.{filter_map, cons_option, AllByRecursion}
 use Rattle.std.specs.List.Sorted.{IsPartitionPoint, IsStrictlySortedBy}
 use Rattle.lc_glob.specs.Lists.{is_empty}
@@ -74,10 +74,6 @@ module _ (d : List ℕ) where
         (sorted_head bytes_cmp path.now (lent others) (subst (λ ps. AreInOrder (lent ps)) left (order_left i paths order)))
         (subst (λ ps. AllByRecursion (λ p. comes_before d p ≡ false) (lent ps)) left
         (each_skipped (λ p. comes_before d p ≡ false) i paths past)).0 none
-
-    -- what is seen of the first and of those after it
-    pub one_seen : (rest : List ℕ) → rest_from d path.now ≡ Some rest → seen (drop i paths) ≡ rest ∷ seen others
-    one_seen rest is = ap seen left ∙ ap (λ o. cons_option o (seen others)) is
 
 -- no lent path is none
 pub none_lent : (paths : List (Bor (List ℕ))) → is_empty (lent paths) ≡ nat_eq (length paths) 0

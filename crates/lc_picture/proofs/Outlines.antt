@@ -12,7 +12,7 @@ use Rattle.lc_sheet.specs.Values.{ValueModel}
 use Rattle.lc_sheet.specs.declared.column.Number.{Number}
 use Rattle.lc_picture.specs.declared.scale.Scale.{Scale}
 use Rattle.lc_picture.specs.declared.small_directories.SmallDirectories.{SmallDirectories}
-use Rattle.lc_picture.specs.Boxes.{BoxModel, box_of, boxes_in, closing, closings, drawn_boxes, is_open, label}
+use Rattle.lc_picture.specs.Boxes.{BoxModel, box_of, boxes_in, closings, drawn_boxes, is_open, label}
 use Rattle.lc_picture.specs.Boxes.{left_beside, next_box, opening, others_in, others_space, small_box, space, tag_end, title_of}
 use Rattle.lc_picture.specs.Chart.{cell, cells, cells_in, coloured_line, coloured_lines, plain_line, plain_lines}
 use Rattle.lc_picture.specs.Colours.{main_colour, path_of, rows_from, shared_colour}
@@ -166,10 +166,6 @@ left_same by depth n [] = refl
 left_same by depth n (b ∷ bs) =
     ap (λ (left : ℕ). if nat_le b.depth depth then n else left)
     (left_same by depth (if b.depth == depth + 1 then n - number_in by b.sums else n) bs)
-
-closings_nameless : (n : ℕ) → map nameless (closings n) ≡ closings n
-closings_nameless zero = refl
-closings_nameless (suc n) = ap (λ (ps : List Piece). closing ∷ ps) (closings_nameless n)
 
 box_nameless : (scale : Scale) (within : ℕ) (b : BoxModel) (bs : List BoxModel)
     → map nameless (next_box scale within (outline b) (map outline bs)) ≡ map nameless (next_box scale within b bs)

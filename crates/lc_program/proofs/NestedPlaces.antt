@@ -169,11 +169,6 @@ one_holds_sorted ps sorted cause moved (front, back, outer, inner, more, held, t
     (front, back, outer, inner, IsPermutation-trans ps sorted (front ++ outer ∷ inner ∷ back) moved more, held, told)
 
 module _ (may_stand : List ℕ → Option (List ℕ) → Type 0) where
-  pub few_names : (names : List (List ℕ)) → length names < 2 → AreApart may_stand names
-  few_names [] few = tt
-  few_names (n ∷ []) few = tt
-  few_names (m ∷ n ∷ ns) few = absurd (omega arith)
-
   pub many_names : (names : List (List ℕ)) (paths : List (Option (List ℕ))) → AllZip may_stand names paths
       → NoneHolds (places_of names paths) → AreApart may_stand names
   many_names [] paths all apart = tt

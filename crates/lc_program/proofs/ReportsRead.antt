@@ -37,12 +37,6 @@ module _ {I : Type 0} (may_give : I → ℕ → Answer → I → Type 0) (holds 
     pub refuses : (cause : Cause) (read : I) → RefusesFirst may_give holds may_unread rest input cause read
         → RefusesFirst may_give holds may_unread all before cause read
 
-  pub none_read : (all : List Typed) (before : I) (parts : List Part) → parts ≡ [] → IsReadTo all before all before parts
-  none_read all before parts none = record {
-    reads = λ more read is. subst (λ ps. ReadsAll may_give holds all before (ps ++ more) read) (sym none) is;
-    refuses = λ cause read is. is;
-  }
-
   pub one_read : (all rest others : List Typed) (typed : Typed) (before input between : I) (parts first new : List Part)
       → IsReadTo all before rest input parts → rest ≡ typed ∷ others → ReadsParts may_give holds typed input first between
       → new ≡ parts ++ first → IsReadTo all before others between new

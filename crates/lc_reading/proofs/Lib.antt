@@ -2,7 +2,6 @@ pub mod Decimals
 pub mod JsonKinds
 pub mod LentObjects
 pub mod ListsRead
-pub mod NulSums
 pub mod ObjectsRead
 pub mod ReportsRead
 pub mod TextsRead

@@ -1,6 +1,5 @@
 -- Lists that were read value by value.
-use Rattle.std.proofs.Common.{◌≡◌, ◌∙◌, ℕ, List, [], ◌∷◌, ◌++◌, refl, sym, ap, append_assoc, append-nil, Some, Result, Ok, Err}
-use Rattle.std.specs.Prelude.{IfOk}
+use Rattle.std.proofs.Common.{◌≡◌, ◌∙◌, ℕ, List, [], ◌∷◌, ◌++◌, refl, sym, ap, append_assoc, append-nil, Some}
 use Rattle.std.specs.List.{flat_map}
 use Rattle.std.proofs.lemmas.List.Concat.{flat_map-append}
 use Rattle.json.specs.Json.{Json, array, value, after_end_array}
@@ -16,11 +15,6 @@ pub value_taken : (d : ℕ) (old new : List Token) (j : Json) → value d old �
 value_taken d old new j e = value-json_tokens_back d old new j e
 
 module _ {L : Type 0} (Says : List Member → L → Type 0) where
-  pub line_taken : {E : Type 0} (old new : List Token) (j : Json) (r : Result L E) → old ≡ json_tokens j ++ new → IfOk r (IsLineOf Says j)
-      → IfOk r (BeginsWith (IsLineOf Says) old new)
-  line_taken old new j (Ok l) tokens is = record { value = j; tokens_are = tokens; is = is }
-  line_taken old new j (Err e) tokens is = is
-
   lines_pushed : (js : List Json) (ls : List L) (j : Json) (l : L) → AreLinesOf Says js ls → IsLineOf Says j l
       → AreLinesOf Says (js ++ j ∷ []) (ls ++ l ∷ [])
   lines_pushed [] [] j l are is = (is, tt)
@@ -41,9 +35,6 @@ tokens_of_items (j ∷ js) =
     ∙ sym (append_assoc (json_tokens j) (flat_map json_tokens js) (end_array ∷ []))
 
 module _ {L : Type 0} (Says : List Member → L → Type 0) where
-  pub none_so_far : (start : List Token) → SoFar Says start start []
-  none_so_far start = record { values = []; tokens_are = refl; each = tt }
-
   pub one_more : (start now new : List Token) (lines : List L) (l : L) → SoFar Says start now lines → BeginsWith (IsLineOf Says) now new l
       → SoFar Says start new (lines ++ l ∷ [])
   one_more start now new lines l far next = record {

@@ -1,12 +1,11 @@
 -- The members of an object that is read member by member.
 use Rattle.std.proofs.Common.{◌≡◌, ◌≢◌, ◌∙◌, ℕ, Bool, true, false, cond, List, [], ◌∷◌, ◌++◌, refl, sym, ap, subst, append_assoc, Option}
-use Rattle.std.proofs.Common.{Some, None, option_map, inl, inr, append-nil, length, length-append, arith, ◌<◌}
+use Rattle.std.proofs.Common.{Some, None, option_map, inl, inr}
 use Rattle.std.specs.Borrow.{Bor}
 use Rattle.std.specs.Str.{bytes_eq}
 use Rattle.std.specs.Global.{Global}
 use Rattle.std.specs.Prelude.{◌⊎◌, OnOk, is_some, Result, Ok, Err, Vec}
 use Rattle.std.specs.List.{flat_map}
-use Rattle.std.proofs.lemmas.List.Concat.{flat_map-append}
 use Rattle.lc_level.specs.FaultLines.{FaultLineModel}
 use Rattle.lc_level.specs.Level.{FileLineModel, SkippedLineModel}
 use Rattle.std.proofs.lemmas.Slice.Eq.{bytes_eq-Decides}
@@ -249,22 +248,6 @@ tokens_of_members (m ∷ ms) =
     ap (λ (ts : List Token). key m.0 ∷ (json_tokens m.1 ++ ts)) (tokens_of_members ms)
     ∙ sym (append_assoc (member_tokens m) (flat_map member_tokens ms) (end_object ∷ []))
 
-pub no_member_so_far : (o : Object) (start : List Token) → IsObjectOf [] o → MembersSoFar o start start
-no_member_so_far o start is = record { members = []; tokens_are = refl; is = is }
-
-pub one_member_more : (old new : Object) (start now between after : List Token) (k : List ℕ) → MembersSoFar old start now
-    → now ≡ key k ∷ between
-    → TakesMember k old new between after → MembersSoFar new start after
-one_member_more old new start now between after k far named takes = record {
-  members = far.members ++ (k, takes.value) ∷ [];
-  tokens_are = far.tokens_are
-      ∙ ap (λ (ts : List Token). flat_map member_tokens far.members ++ ts) (named ∙ ap (λ (ts : List Token). key k ∷ ts) takes.tokens_are)
-      ∙ sym (append_assoc (flat_map member_tokens far.members) (key k ∷ json_tokens takes.value) after)
-      ∙ ap (λ (ts : List Token). (flat_map member_tokens far.members ++ key k ∷ ts) ++ after) (sym (append-nil (json_tokens takes.value)))
-      ∙ ap (λ (ts : List Token). ts ++ after) (sym (flat_map-append member_tokens far.members ((k, takes.value) ∷ [])));
-  is = takes.adds far.members far.is;
-}
-
 pub all_members_read : (o : Object) (start now after : List Token) → MembersSoFar o start now → now ≡ end_object ∷ after
     → TakesObject o (begin_object ∷ start) after
 all_members_read o start now after far ended = record {
@@ -275,13 +258,6 @@ all_members_read o start now after far ended = record {
       ∙ ap (λ (ts : List Token). ts ++ after) (sym (tokens_of_members far.members)));
   is = far.is;
 }
-
--- a member takes tokens
-pub fewer : (k : List ℕ) (old new : Object) (now between after : List Token) → now ≡ key k ∷ between
-    → TakesMember k old new between after → length after < length now
-fewer k old new now between after named takes =
-    let a = length-append (json_tokens takes.value) after in let b = ap (λ (ts : List Token). length ts) named in
-    let d = ap (λ (ts : List Token). length ts) takes.tokens_are in omega arith
 
 pub on_ok : {A E : Type 0} {P Q : Type 0} (r : Result A E) → (P → Q) → OnOk r P → OnOk r Q
 on_ok (Ok a) f p = f p

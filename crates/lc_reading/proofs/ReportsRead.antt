@@ -97,9 +97,6 @@ files_among ms None columns rows total k may (inl kept) =
 files_among ms None columns rows total k may (inr kept) =
     subst (λ b. FilesOf ms b k.files.items total.files) (sym kept.0.unlisted) (may, kept.0.none, kept.1)
 
-every_column : RowColumns
-every_column = record { ext = true; text = true; eol = true }
-
 abbrev RowsKept : Bool → RowColumns → RowColumns → List TallyRowModel → List TallyRowModel → Type 0
 RowsKept has_files kept columns rows made =
     MatchBool has_files (kept ≡ record { ext = true; text = true; eol = true }) ((kept ≡ columns) × AddsUp rows made)

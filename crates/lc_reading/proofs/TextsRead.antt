@@ -1,21 +1,20 @@
 -- Texts that are cut and read one after another.
-use Rattle.std.proofs.Common.{◌≡◌, ◌∙◌, ◌<◌, ℕ, List, [], ◌∷◌, ◌++◌, length, refl, sym, ap, append_assoc, append-nil, Option, Some, None}
-use Rattle.std.proofs.Common.{option_and_then, true, false, arith, Result, Ok, Err}
-use Rattle.std.specs.List.{flat_map, list_all}
+use Rattle.std.proofs.Common.{◌≡◌, ◌∙◌, ℕ, List, [], ◌∷◌, ◌++◌, sym, ap, append_assoc, append-nil, Option, Some, None}
+use Rattle.std.proofs.Common.{option_and_then, false, arith, Result, Ok, Err}
+use Rattle.std.specs.List.{flat_map}
 use Rattle.std.specs.Prelude.{IfOk, MatchOption, is_some}
 use Rattle.std.proofs.lemmas.List.Concat.{flat_map-append}
 use Rattle.json.specs.Json.{Json, document, if_last, max_depth, object, skip_value, value}
 use Rattle.json.specs.Lex.{tokens}
 use Rattle.json.specs.Token.{Token}
 use Rattle.json.specs.Tree.{depth, json_tokens}
-use Rattle.json.specs.Word.{is_space}
 use Rattle.json.proofs.Found.{Some_inj, one_reading}
 use Rattle.json.proofs.Grammar.{left_some}
 use Rattle.json.proofs.Printed.Trees.{value-json_tokens}
 use Rattle.lc_reading.specs.Members.{Member, members_with}
 use Rattle.lc_reading.specs.Objects.{IsObjectOf, TakesObject}
 use Rattle.lc_reading.specs.Reports.{IsReportOf}
-use Rattle.lc_reading.specs.Texts.{AreReportTexts, AreReportsOf, IsJson, IsReportText}
+use Rattle.lc_reading.specs.Texts.{AreReportTexts, IsJson, IsReportText}
 use Rattle.lc_reading.specs.declared.object.Object.{Object}
 use Rattle.lc_reading.specs.declared.read_report.ReadReport.{ReadReport}
 
@@ -61,9 +60,6 @@ texts_pushed [] (q ∷ qs) t r are is = absurd are
 texts_pushed (u ∷ us) [] t r are is = absurd are
 texts_pushed (u ∷ us) (q ∷ qs) t r are is = (are.0, texts_pushed us qs t r are.1 is)
 
-pub no_text_so_far : (text : List ℕ) → TextsSoFar text text []
-no_text_so_far text = record { texts = []; front = refl; each = tt }
-
 pub one_text_more : (text rest piece more : List ℕ) (reports : List ReadReport) (r : ReadReport) → TextsSoFar text rest reports
     → rest ≡ piece ++ more
     → IsReportText piece r → TextsSoFar text more (reports ++ r ∷ [])
@@ -74,18 +70,6 @@ one_text_more text rest piece more reports r far cut is = record {
       ∙ ap (λ (s : List ℕ). (flat_map (λ t. t) far.texts ++ s) ++ more) (sym (append-nil piece))
       ∙ ap (λ (s : List ℕ). s ++ more) (sym (flat_map-append (λ t. t) far.texts (piece ∷ [])));
   each = texts_pushed far.texts reports piece r far.each is;
-}
-
-pub all_texts_read : (text rest : List ℕ) (reports : List ReadReport) → TextsSoFar text rest reports → list_all is_space rest ≡ true
-    → 0 < length reports
-    → AreReportsOf text reports
-all_texts_read text rest reports far blank some = record {
-  texts = far.texts;
-  blank = rest;
-  whole = far.front;
-  is_blank = blank;
-  each = far.each;
-  some = some;
 }
 
 pub if_ok : {A E : Type 0} (P Q : A → Type 0) (r : Result A E) → ((a : A) → P a → Q a) → IfOk r P → IfOk r Q

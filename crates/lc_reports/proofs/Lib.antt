@@ -6,5 +6,4 @@ pub mod NamedPaths
 pub mod NumbersInTurn
 pub mod OneReport
 pub mod Orders
-pub mod RowsInTurn
 pub mod Uniting

@@ -49,12 +49,6 @@ level_next n r (suc j) is =
 row_next : (n : ℕ) (r : ShownRowModel) → level_parts n r ≡ flat_map (level_parts n) (next_above n r) ++ own_row n r ∷ []
 row_next n r = level_next n r (level_to n (row_key r)) refl
 
-pub no_next : (n : ℕ) (r : ShownRowModel) → level_to n (row_key r) ≡ 0 → next_above n r ≡ []
-no_next n r none = ap (λ m. next_at m r) none
-
-pub one_next : (n : ℕ) (r : ShownRowModel) (j : ℕ) → level_to n (row_key r) ≡ suc j → next_above n r ≡ row_at j r ∷ []
-one_next n r j is = ap (λ m. next_at m r) is
-
 -- ---- rows of the same sums
 
 have_same : (rs : List ShownRowModel) → HaveSumsOf rs rs

@@ -45,11 +45,6 @@ first_of_none : (n : ℕ) → to_name n [] ≡ []
 first_of_none zero = refl
 first_of_none (suc n) = refl
 
--- what is left of a number behind a name, and behind no name
-name_left : (n : ℕ) (b : Bool) → suc n - (if b then 0 else 1) ≡ (if b then suc n else n)
-name_left n true = omega arith
-name_left n false = omega arith
-
 levels_more : (n : ℕ) (s t : List ℕ) (ss : List (List ℕ)) (b : Bool) → is_no_name s ≡ b
     → ((k : ℕ) → levels (to_name k (t ∷ ss)) ≡ min k (levels (t ∷ ss)))
     → levels (s ∷ to_name (suc n - names_in s) (t ∷ ss)) ≡ min (suc n) (names_in s + levels (t ∷ ss))

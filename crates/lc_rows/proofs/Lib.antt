@@ -13,7 +13,6 @@ pub mod ChildrenLaw
 pub mod ViewLaws
 pub mod ClassLaw
 pub mod SumsInRange
-pub mod KeptMade
 pub mod KeptParts
 pub mod KeptTotals
 pub mod SheetMade

@@ -15,7 +15,7 @@ use Rattle.lc_glob.specs.Bytes.{slash}
 use Rattle.lc_glob.specs.Path.{is_no_name, segments_of}
 use Rattle.lc_glob.specs.Pieces.{is_byte}
 use Rattle.memchr.specs.Find.{IsLastByte, is_byte as found}
-use Rattle.lc_rows.specs.Directories.{after_name, directory_before, first_names, level_of, levels, name_of, names_in, parent_of, to_name}
+use Rattle.lc_rows.specs.Directories.{after_name, directory_before, first_names, levels, name_of, names_in, parent_of, to_name}
 
 -- how many bytes are after the last slash, at place i
 name_length : (path : List ℕ) (i : ℕ) → IsLastByte (found slash) path (Some i)
@@ -87,9 +87,6 @@ pub record IsCut (path rest : List ℕ) (n left : ℕ) : Type 0 where
   pub bytes : path ≡ flat_map (λ name. name ++ slash ∷ []) names ++ rest
   pub first : to_name n (segments_of path) ≡ names ++ to_name left (segments_of rest)
   pub after : after_name n (segments_of path) ≡ after_name left (segments_of rest)
-
-pub cut_none : (path : List ℕ) (n : ℕ) → IsCut path path n n
-cut_none path n = record { names = []; segments = refl; bytes = refl; first = refl; after = refl }
 
 -- one segment more
 pub cut_more : (path rest name below : List ℕ) (n left next : ℕ) → IsCut path rest n left → 0 < left
@@ -176,9 +173,6 @@ pub record IsPassed (path rest : List ℕ) (level : ℕ) : Type 0 where
   pub names : levels (segments_of path) + 1 ≡ level + levels (segments_of rest)
   pub room : level + length rest ≤ length path + 1
 
-pub passed_none : (path : List ℕ) → IsPassed path path 1
-passed_none path = record { names = omega arith; room = omega arith }
-
 level_more : (name : List ℕ) (ss : List (List ℕ)) → (ss ≡ [] → ⊥) → levels (name ∷ ss) ≡ names_in name + levels ss
 level_more name [] some = absurd (some refl)
 level_more name (s ∷ ss) some = refl
@@ -197,11 +191,3 @@ passed_more path rest name below level next passed first whole more =
     let names = passed.names in
     let room = passed.room in
     record { names = omega arith; room = omega arith }
-
-pub passed_last : (path rest name : List ℕ) (level : ℕ) → IsPassed path rest level → segments_of rest ≡ name ∷ [] → 0 < length path
-    → level ≡ level_of path
-passed_last [] rest name level passed last some = absurd (omega arith)
-passed_last (b ∷ bs) rest name level passed last some =
-    let one : levels (segments_of rest) ≡ 1 = ap levels last in
-    let names = passed.names in
-    omega arith

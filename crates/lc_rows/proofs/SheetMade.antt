@@ -1,8 +1,5 @@
 -- A sheet that is made of parts.
 use Rattle.std.proofs.Common.{◌≡◌, List, refl}
-use Rattle.std.specs.Prelude.{Vec}
-use Rattle.std.specs.Global.{Global}
-use Rattle.lc_sheet.specs.Sheets.{SheetModel}
 use Rattle.lc_sheet.specs.declared.column.Column.{Column}
 use Rattle.lc_sheet.specs.declared.form.Form.{Form}
 use Rattle.lc_sheet.specs.declared.table_options.TableOptions.{TableOptions}
@@ -10,8 +7,7 @@ use Rattle.lc_walk.specs.declared.report.Report.{Report}
 use Rattle.lc_rows.specs.Kinds.{NamedSumsModel}
 use Rattle.lc_rows.specs.RowKeys.{ShownRowModel}
 use Rattle.lc_rows.specs.SheetColumns.{file_columns, row_columns}
-use Rattle.lc_rows.specs.Sheets.{HasFilesWith, IsSheetWith, form_of, others_lines, sheet_among, sheet_with, totals_lines}
-use Rattle.lc_rows.specs.ShownFiles.{AreFilesSorted}
+use Rattle.lc_rows.specs.Sheets.{form_of, others_lines, sheet_among, sheet_with, totals_lines}
 use Rattle.lc_rows.specs.Views.{ViewModel}
 use Rattle.lc_rows.specs.declared.classes.ClassSums.{ClassSums}
 use Rattle.lc_level.specs.Level.{FileLineModel}
@@ -37,13 +33,3 @@ pub made : (options : TableOptions) (r : Report) (classes : ClassSums) (v : View
 made options r classes v form columns of_files rows others totals files is_form are_columns file_columns_are are_rows are_others are_totals
     are_files =
     rw (is_form, are_columns, file_columns_are, are_rows, are_others, are_totals, are_files) refl
-
--- once its files are sorted in place, the sheet of what the report is then is a sheet of the report
-pub is_sheet : (options : TableOptions) (r : Report) (classes : ClassSums) (files : Vec FileLineModel Global) (s : SheetModel)
-    → AreFilesSorted options.sort r.files.items files.items → HasFilesWith options (record r { files = files }) classes files.items s
-    → IsSheetWith options r classes s
-is_sheet options r classes files s are_files has = record {
-  files = files.items;
-  are_files = are_files;
-  has = record { rows = has.rows; are_rows = has.are_rows; is = has.is };
-}

@@ -7,7 +7,6 @@ use Rattle.lc_walk.specs.Sums.{IsInRange, plus}
 use Rattle.lc_walk.specs.TallyRows.{TallyRowModel, sums_of_rows}
 use Rattle.lc_walk.specs.declared.tally.sums.Sums.{Sums}
 use Rattle.lc_rows.specs.Classes.{binary_sums, is_binary, text_sums}
-use Rattle.lc_rows.specs.RowKeys.{ShownRowModel, sums_of_shown}
 
 -- no sum is larger
 pub record IsAtMost (s t : Sums) : Type 0 where
@@ -23,27 +22,6 @@ in_range s t most fits = record {
   blank = let a = most.blank in let b = fits.blank in omega arith;
   bytes = let a = most.bytes in let b = fits.bytes in omega arith;
 }
-
--- the first rows and the next one
-pub next_row : (rs : List TallyRowModel) (i : ℕ) (d : TallyRowModel) → i < length rs → IsInRange (sums_of_rows rs)
-    → IsInRange (plus (sums_of_rows (take i rs)) (get_or rs i d).sums)
-next_row rs i d low =
-    in_range (plus (sums_of_rows (take i rs)) (get_or rs i d).sums) (sums_of_rows rs) (record {
-      files = sum_by_more_le (λ (r : TallyRowModel). r.sums.files) rs i d low;
-      lines = sum_by_more_le (λ (r : TallyRowModel). r.sums.lines) rs i d low;
-      blank = sum_by_more_le (λ (r : TallyRowModel). r.sums.blank) rs i d low;
-      bytes = sum_by_more_le (λ (r : TallyRowModel). r.sums.bytes) rs i d low;
-    })
-
-pub next_shown : (rs : List ShownRowModel) (i : ℕ) (d : ShownRowModel) → i < length rs → IsInRange (sums_of_shown rs)
-    → IsInRange (plus (sums_of_shown (take i rs)) (get_or rs i d).sums)
-next_shown rs i d low =
-    in_range (plus (sums_of_shown (take i rs)) (get_or rs i d).sums) (sums_of_shown rs) (record {
-      files = sum_by_more_le (λ (r : ShownRowModel). r.sums.files) rs i d low;
-      lines = sum_by_more_le (λ (r : ShownRowModel). r.sums.lines) rs i d low;
-      blank = sum_by_more_le (λ (r : ShownRowModel). r.sums.blank) rs i d low;
-      bytes = sum_by_more_le (λ (r : ShownRowModel). r.sums.bytes) rs i d low;
-    })
 
 -- ---- rows that pass a test
 

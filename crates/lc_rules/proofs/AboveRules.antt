@@ -133,22 +133,6 @@ decided_early rules older newer names count all found whole room some before k d
     at None some e = absurd (cc)
     at (Some r) some e = ap (λ o. option_or o (last_match (at_depth 0 older) dir true)) e
 
--- a name put after those of the first directories leaves them
-pub cut_kept : (path ends : List ℕ) (names : List (Bor (List ℕ))) (count : ℕ) (name : Bor (List ℕ)) → AreCut path ends names count
-    → AreCut path ends (set names count name) count
-cut_kept path ends names count name before k low =
-    before k low ∙ ap names_of (sym (take-set-le (k + 1) names count name (omega (arith, low))))
-
--- the last name
-pub names_all : (path front left : List ℕ) (name : Bor (List ℕ)) (names : List (Bor (List ℕ))) (count : ℕ) → path ≡ front ++ left
-    → segments_of left ≡ name.now ∷ [] → ((more : List ℕ) → segments_of (front ++ more) ≡ names_of (take count names) ++ segments_of more)
-    → count < length names → segments_of path ≡ names_of (take (count + 1) (set names count name))
-names_all path front left name names count whole one closed low =
-    let next : count + 1 ≡ suc count = omega arith in
-    ap segments_of whole ∙ closed left ∙ ap (λ (l : List (List ℕ)). names_of (take count names) ++ l) one
-    ∙ sym (ap (λ (n : ℕ). names_of (take n (set names count name))) next ∙ ap names_of (take-suc-set names count name low)
-    ∙ map-append (λ n. n.now) (take count names) (name ∷ []))
-
 -- a pattern matches what is no directory where it matches directories and isn't for them only
 kinds : (dead only is_dir told : Bool) → (not dead && (not only || is_dir) && told)
     ≡ ((not dead && (not only || true) && told) && (not only || is_dir))

@@ -21,12 +21,6 @@ none_decides {query} {todo} {r} ready none = record {
   empty = ready.empty;
 }
 
--- equal assignments decide the same
-pub decides_same : {query : Query} {todo other : List AssignmentModel} {old new : Resolver} {found : Option State} → todo ≡ other
-    → Decides query other old found new → Decides query todo old found new
-decides_same {query} {todo} {other} {old} {new} {found} e d =
-    subst (λ (l : List AssignmentModel). Decides query l old found new) (sym e) d
-
 -- what is found among the first is found among all
 pub first_decides : {query : Query} {first : List AssignmentModel} (rest : List AssignmentModel) {old new : Resolver}
     {found : Option State} {state : State} → found ≡ Some state → Decides query first old found new

@@ -91,11 +91,6 @@ kept key old new h n q = has_name-insert key old new h n ∙ ap (cond (bytes_eq 
     same true = refl
     same false = refl
 
--- a name that is there is found by its bytes
-pub has_name-same : (names : BTreeSet (Vec ℕ Global)) (name n : List ℕ) → has_name names name ≡ true → bytes_eq name n ≡ true
-    → has_name names n ≡ true
-has_name-same names name n h e = ap (has_name names) (sym (same_bytes name n e)) ∙ h
-
 is_marked-cons : (n : List ℕ) (ns : List (List ℕ)) (w : List ℕ) → is_marked (n ∷ ns) w ≡ (bytes_eq n w || is_marked ns w)
 is_marked-cons n ns w = elim (bytes_eq n w) as
     (λ b. is_some (cond b (Some set) (decided (marked ns) w)) ≡ (b || is_marked ns w)) [ true ↦ refl | false ↦ refl ]

@@ -12,9 +12,3 @@ pub appended_same : {T E : Type 0} (answer : Result T E) (old new more text : Li
     → text ≡ more → OnOk answer (new ≡ old ++ text)
 appended_same (Ok v) old new more text is same = is ∙ ap (λ l. old ++ l) (sym same)
 appended_same (Err e) old new more text is same = tt
-
--- the last piece of a whole was appended, if there was memory
-pub last_piece : {E : Type 0} (answer : Result (Unit {0}) E) (new old end whole : List ℕ)
-    → new ≡ (if is_ok answer then old ++ end else old) → old ++ end ≡ whole → OnOk answer (new ≡ whole)
-last_piece (Ok _) new old end whole is same = is ∙ same
-last_piece (Err _) new old end whole is same = tt

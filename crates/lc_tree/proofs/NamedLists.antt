@@ -1,7 +1,7 @@
 -- What a directory lists by its names.
 use Rattle.std.proofs.Common.{ℕ, List, Result, Ok, Err, inl, inr, refl}
 use Rattle.lc_tree.specs.Listing.{EntryModel, IsAnswerFor}
-use Rattle.lc_tree.specs.Named.{Looks, Names, AreAmong, AreEntriesOf, GivesNames, IsFirstFault, ListsNamed, ListsThese}
+use Rattle.lc_tree.specs.Named.{Looks, Names, AreAmong, AreEntriesOf, ListsNamed, ListsThese}
 use Rattle.lc_tree.specs.Trees.{Listings, Lists}
 use Rattle.lc_tree.specs.declared.read_fault.ReadFault.{ReadFault}
 use Rattle.lc_tree.specs.declared.read_fault.ReadFault.TheVariants as fault
@@ -27,15 +27,6 @@ module _ (shows : Looks) (names : List (List ℕ)) where
       at (Ok listed) is = (found, are, is)
       at (Err refused) is = inr (found, are, is)
 
-  -- some name has a fault
-  pub of_fault : (refused : ReadFault) → IsFirstFault shows names refused → Lists (ListsThese shows names) (Err refused)
-  of_fault fault.Failed is = inl is
-  of_fault fault.Unnamed is = inl is
-  of_fault fault.BadName is = inl is
-  of_fault fault.Twice is = inl is
-  of_fault fault.TooMany is = inl is
-  of_fault fault.Memory is = tt
-
 module _ (may : Names) (shows : Looks) where
   -- names that may be given are listed
   pub of_names : (names : List (List ℕ)) (answer : Result (List EntryModel) ReadFault) → may (Ok names)
@@ -51,12 +42,3 @@ module _ (may : Names) (shows : Looks) where
   of_refusal fault.Twice is = inr (fault.Twice, is, refl)
   of_refusal fault.TooMany is = inr (fault.TooMany, is, refl)
   of_refusal fault.Memory is = tt
-
-  -- the call gave none
-  pub of_call : (refused : ReadFault) → GivesNames may (Err refused) → Lists (ListsNamed may shows) (Err refused)
-  of_call fault.Failed is = of_refusal fault.Failed is
-  of_call fault.Unnamed is = of_refusal fault.Unnamed is
-  of_call fault.BadName is = of_refusal fault.BadName is
-  of_call fault.Twice is = of_refusal fault.Twice is
-  of_call fault.TooMany is = of_refusal fault.TooMany is
-  of_call fault.Memory is = tt

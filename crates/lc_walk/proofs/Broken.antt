@@ -15,12 +15,6 @@ use Rattle.lc_walk.specs.declared.report.tree_check.TreeFault.TheVariants as tre
 abbrev pub NoneFor : BrokenCause → List (Ended Row) → Type 0
 NoneFor cause rows = (i : ℕ) (e : Ended Row) → slice_get rows i ≡ Some e → IsBrokenBy cause (row_of e) → ⊥
 
--- a whole row is Broken for no cause
-pub unbroken : (r : Row) (c : BrokenCause) → IsWhole r → IsBrokenBy c r → ⊥
-unbroken (Listed r) c w b = b
-unbroken (Faulted r) c w b = b
-unbroken (Broken r) c w b = w
-
 whole_row : (r : Row) → (IsBrokenBy Memory r → ⊥) → (IsBrokenBy TooManyDirs r → ⊥) → (IsBrokenBy TooDeep r → ⊥) → IsWhole r
 whole_row (Listed r) a b c = tt
 whole_row (Faulted r) a b c = tt

@@ -1,6 +1,6 @@
 -- What tallies stand for.
-use Rattle.std.proofs.Common.{◌≡◌, ℕ, ◌+◌, ◌<◌, ◌≤◌, ◌^◌, Bool, cond, List, [], ◌∷◌, ◌++◌, refl, sym, ◌∙◌, ap}
-use Rattle.std.proofs.Common.{subst, arith, zero-add, length-append}
+use Rattle.std.proofs.Common.{◌≡◌, ℕ, ◌+◌, ◌<◌, ◌≤◌, ◌^◌, Bool, List, [], ◌++◌, refl, sym, ◌∙◌, ap}
+use Rattle.std.proofs.Common.{subst, arith, length-append}
 use Rattle.std.specs.List.{sum_by}
 use Rattle.std.specs.List.Sorted.{IsPermutation}
 use Rattle.std.proofs.lemmas.List.Sums.{sum_by-append, length-filter}
@@ -8,11 +8,11 @@ use Rattle.std.proofs.lemmas.List.Sorted.{sum_by-IsPermutation, length_permutati
 use Rattle.std.proofs.lemmas.List.Elements.{All-append, filter-append}
 use Rattle.lc_walk.specs.Key.{Key, same_key}
 use Rattle.lc_walk.specs.TallyRows.{TallyRowModel, sums_of_rows, rows_with, HasSumsOf, Gains, AddsUp}
-use Rattle.lc_walk.specs.Sums.{plus, no_files, one_file, IsModest}
-use Rattle.lc_walk.specs.Tally.{Grows, TallyModel, TallyHolds, IsTally, StandsFor, CountedFile, sums_of_files, files_with, key_of}
+use Rattle.lc_walk.specs.Sums.{plus, no_files, IsModest}
+use Rattle.lc_walk.specs.Tally.{TallyModel, TallyHolds, IsTally, StandsFor, CountedFile, sums_of_files, files_with, key_of}
 use Rattle.lc_walk.specs.declared.tally.sums.Sums.{Sums}
-use Rattle.lc_walk.proofs.Filtered.{part, sum_by-filter, filter_push, length-filter_push}
-use Rattle.lc_walk.proofs.RowSums.{same_sums, gained_sums, key_gained, filled_gained, sums_of_both, key_sums_of_both}
+use Rattle.lc_walk.proofs.Filtered.{part, sum_by-filter}
+use Rattle.lc_walk.proofs.RowSums.{same_sums, sums_of_both, key_sums_of_both}
 use Rattle.lc_walk.proofs.Totals.{same_totals, totals_gained}
 
 -- files of two lists
@@ -24,32 +24,6 @@ files_append : (j : Key) (fs gs : List CountedFile)
     → sums_of_files (files_with j (fs ++ gs)) ≡ plus (sums_of_files (files_with j fs)) (sums_of_files (files_with j gs))
 files_append j fs gs =
     ap sums_of_files (filter-append (λ (f : CountedFile). same_key j (key_of f)) fs gs) ∙ both (files_with j fs) (files_with j gs)
-
-single : (f : CountedFile) → sums_of_files (f ∷ []) ≡ one_file f.count
-single f = same_sums _ _ refl (zero-add f.count.lines) (zero-add f.count.blank) (zero-add f.count.bytes)
-
-one_more : (j : Key) (fs : List CountedFile) (f : CountedFile)
-    → sums_of_files (files_with j (fs ++ f ∷ [])) ≡ plus (sums_of_files (files_with j fs))
-    (cond (same_key j (key_of f)) (one_file f.count) no_files)
-one_more j fs f =
-    let p : CountedFile → Bool = λ g. same_key j (key_of g) in
-    gained_sums (p f) (one_file f.count) _ _ (length-filter_push p fs f) (filter_push p (λ g. g.count.lines) fs f)
-    (filter_push p (λ g. g.count.blank) fs f) (filter_push p (λ g. g.count.bytes) fs f)
-
--- a tally of some files, and one file more
-pub stands_more : (old new : TallyModel) (fs : List CountedFile) (f : CountedFile) (k : Key) (s : Sums) → k ≡ key_of f
-    → s ≡ one_file f.count → Grows old new k s → StandsFor old fs → StandsFor new (fs ++ f ∷ [])
-stands_more old new fs f k s is_key is_sums grown stood =
-    let at : (j : Key) → cond (same_key j k) s no_files ≡ cond (same_key j (key_of f)) (one_file f.count) no_files =
-    λ j. ap (λ (u : Key). cond (same_key j u) s no_files) is_key ∙ ap (λ (u : Sums). cond (same_key j (key_of f)) u no_files) is_sums in
-    let some : s.files ≡ 1 = ap (λ (u : Sums). u.files) is_sums in
-    record {
-      sums = λ j. key_gained old.rows new.rows k j s grown.rows ∙ ap (λ (u : Sums). plus u (cond (same_key j k) s no_files)) (stood.sums j)
-          ∙ ap (λ (u : Sums). plus (sums_of_files (files_with j fs)) u) (at j) ∙ sym (one_more j fs f);
-      filled = filled_gained old.rows new.rows k s grown.rows (omega arith) stood.filled;
-      totals = grown.totals ∙ ap (λ (u : Sums). plus u s) stood.totals ∙ ap (λ (u : Sums). plus (sums_of_files fs) u) is_sums
-          ∙ ap (λ (u : Sums). plus (sums_of_files fs) u) (sym (single f)) ∙ sym (both fs (f ∷ []));
-    }
 
 -- the rows of two tallies together
 pub stands_both : (a b t : TallyModel) (fs gs : List CountedFile) → HasSumsOf (a.rows ++ b.rows) t.rows

@@ -38,7 +38,6 @@ pub mod Reach
 pub mod Reports
 pub mod RowEnds
 pub mod RowSums
-pub mod SumsInTurn
 pub mod RowTrees
 pub mod SameWalks
 pub mod RulesThatIgnore

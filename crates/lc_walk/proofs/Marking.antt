@@ -1,6 +1,6 @@
 -- The steps of going through the rows' children.
 use Rattle.std.proofs.Common.{◌≡◌, ◌≢◌, ℕ, zero, suc, ◌+◌, ◌<◌, ◌≤◌, ◌==◌, Bool, true, false, List, [], ◌∷◌, length, slice_get}
-use Rattle.std.proofs.Common.{slice_set, replicate, refl, sym, ◌∙◌, ap, arith, subst, Some, ◌⊎◌, inl, inr, eq-eqb}
+use Rattle.std.proofs.Common.{slice_set, refl, sym, ◌∙◌, ap, arith, subst, Some, ◌⊎◌, inl, inr, eq-eqb}
 use Rattle.std.proofs.lemmas.Option.{slice_get_within}
 use Rattle.std.proofs.lemmas.Bool.{eqb-true, cases_lt}
 use Rattle.lc_board.proofs.Places.{get_set_same, get_set_other}
@@ -245,23 +245,6 @@ module _ (rows : List (Ended Row)) where
           split (inl b) = inl b
           split (inr b) = let same : p ≡ at = omega arith in inr (same, inside p i k edge same)
 
-  no_marks : (n k : ℕ) → slice_get (replicate n false) k ≡ Some true → ⊥
-  no_marks zero k e = cc
-  no_marks (suc n) zero e = cc
-  no_marks (suc n) (suc k) e = no_marks n k e
-
-  -- at first nothing is marked
-  pub marks_start : (linked : List Bool) → linked ≡ replicate (length rows) false → length linked ≡ length rows → AreLinked rows 0 0 linked
-  marks_start linked is long = record {
-    long = long;
-    unnamed = λ k s f p i z edge. none p i z;
-    links = λ k s t. absurd (no_marks (length rows) k (ap (λ l. slice_get l k) (sym is) ∙ t));
-  }
-    where
-      none : (p i : ℕ) → Seen 0 0 p i → ⊥
-      none p i (inl l) = omega arith
-      none p i (inr x) = let u = x.1 in omega arith
-
   -- all rows were seen
   all_seen : (p i k : ℕ) → IsEdge rows p i k → Seen (length rows) 0 p i
   all_seen p i k edge = inl (slice_get_within rows p edge.above edge.is)
@@ -288,17 +271,6 @@ module _ (rows : List (Ended Row)) where
         path = ap (λ r. (job_of (row_of r)).path) (sym row) ∙ h.path;
         only = λ p i edge. h.only p i (all_seen p i k edge) edge;
       }
-    where
-      one_row : (x y : Ended Row) → Some x ≡ Some y → x ≡ y
-      one_row x y e = cc
-
-  -- without a row there is no top
-  pub torn_empty : length rows ≡ 0 → IsPlaced rows 0 → ⊥
-  torn_empty z p = let low = slice_get_within rows 0 p.0 p.1 in omega arith
-
-  -- a top with another path than the empty one is none
-  pub torn_top : (e : Ended Row) → slice_get rows 0 ≡ Some e → ((job_of (row_of e)).path ≡ [] → ⊥) → IsPlaced rows 0 → ⊥
-  torn_top e is other p = other (ap (λ r. (job_of (row_of r)).path) (one_row e p.0 (sym is ∙ p.1)) ∙ p.2)
     where
       one_row : (x y : Ended Row) → Some x ≡ Some y → x ≡ y
       one_row x y e = cc

@@ -1,6 +1,6 @@
 -- The numbers that a walk of a history's tree reaches: each once.
 use Rattle.std.proofs.Common.{◌≡◌, ◌≢◌, ℕ, zero, suc, ◌+◌, ◌<◌, ◌≤◌, ◌==◌, Bool, true, false, cond, List, [], ◌∷◌, ◌++◌, refl, sym, ◌∙◌}
-use Rattle.std.proofs.Common.{ap, arith, IsPermutation, ◌⊎◌, inl, inr}
+use Rattle.std.proofs.Common.{ap, arith, ◌⊎◌, inl, inr}
 use Rattle.std.proofs.lemmas.Bool.{eqb-true, cases_lt}
 use Rattle.std.specs.List.{flat_map}
 use Rattle.lc_board.specs.State.{Absent, status}
@@ -8,7 +8,7 @@ use Rattle.lc_board.specs.LegalHistory.{posts_under, IsLegal}
 use Rattle.lc_board.specs.Numbers.{HasNumbers}
 use Rattle.lc_board.specs.declared.event.Event.{Event}
 use Rattle.lc_walk.specs.TreeOfRows.{numbers_below}
-use Rattle.lc_board.proofs.Weights.{weigh, weigh-append, weigh-sum, weigh-flat_map, weigh-on, each-map, only, only_same, times, permuted}
+use Rattle.lc_board.proofs.Weights.{weigh, weigh-append, weigh-sum, weigh-flat_map, weigh-on, each-map, only, only_same, times}
 use Rattle.lc_board.proofs.PostedNumbers.{numbers, all_present, within, below, counted_twice, Known, known, start, once, not_among}
 
 -- from i, at most so many levels deep
@@ -49,10 +49,6 @@ module _ {J R : Type 0} (c n : ℕ) (top : J) (h : List (Event J R)) (room : 1 �
       omega arith
 
 -- ---- the numbers are those below n
-
-last_is : (b : Bool) (m : ℕ) → b ≡ false → m + (cond b 1 0 + 0) ≡ m
-last_is true m e = cc
-last_is false m e = omega arith
 
 -- a number from the bound on is not below it
 pub times_past : (p n : ℕ) → n ≤ p → times p (numbers_below n) ≡ 0
@@ -103,9 +99,3 @@ pub reach_times : {J R : Type 0} (c n : ℕ) (top : J) (h : List (Event J R)) �
     (depth : ℕ) → c ≤ depth → (p : ℕ) → times p (reach h depth 0) ≡ times p (numbers_below m)
 reach_times c n top h room legal m has depth deep p =
     reach_weight c n top h room legal (only p 1) depth deep ∙ all_numbers c n h legal m has p
-
--- so all are reached, each once
-pub reached : {J R : Type 0} (c n : ℕ) (top : J) (h : List (Event J R)) → 1 ≤ c → IsLegal c n h → (m : ℕ) → HasNumbers m h →
-    (depth : ℕ) → c ≤ depth → IsPermutation (reach h depth 0) (numbers_below m)
-reached c n top h room legal m has depth deep =
-    permuted (reach h depth 0) (numbers_below m) (reach_times c n top h room legal m has depth deep)

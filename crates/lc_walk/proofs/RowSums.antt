@@ -1,16 +1,16 @@
 -- The sums of rows.
-use Rattle.std.proofs.Common.{◌≡◌, ℕ, ◌+◌, ◌<◌, Bool, true, false, cond, List, [], ◌∷◌, ◌++◌, refl, sym, ◌∙◌, ap, arith, length, subst}
+use Rattle.std.proofs.Common.{◌≡◌, ℕ, ◌+◌, ◌<◌, Bool, List, [], ◌∷◌, ◌++◌, refl, sym, ◌∙◌, ap, arith, length, subst}
 use Rattle.std.proofs.Common.{length-append, zero-add}
 use Rattle.std.specs.List.{filter, sum_by, All}
 use Rattle.std.specs.List.Sorted.{IsPermutation}
 use Rattle.std.specs.declared.cmp.Ordering.TheVariants.{Equal}
 use Rattle.std.proofs.lemmas.List.{get_or_append_left, get_or-append-add}
 use Rattle.std.proofs.lemmas.List.Sums.{sum_by-append}
-use Rattle.std.proofs.lemmas.List.Elements.{All-append, All-cons, filter-append}
+use Rattle.std.proofs.lemmas.List.Elements.{All-append, filter-append}
 use Rattle.std.proofs.lemmas.List.Sorted.{sum_by-IsPermutation, All-permutation}
 use Rattle.lc_walk.specs.Key.{Key, key_cmp, same_key}
-use Rattle.lc_walk.specs.TallyRows.{TallyRowModel, sums_of_rows, rows_with, HasSumsOf, Gains, row_with}
-use Rattle.lc_walk.specs.Sums.{plus, no_files}
+use Rattle.lc_walk.specs.TallyRows.{TallyRowModel, sums_of_rows, rows_with, HasSumsOf}
+use Rattle.lc_walk.specs.Sums.{plus}
 use Rattle.lc_walk.specs.declared.tally.sums.Sums.{Sums}
 use Rattle.lc_walk.proofs.Filtered.{part, sum_by-filter}
 use Rattle.lc_walk.proofs.Keys.{same_to_all}
@@ -18,12 +18,6 @@ use Rattle.lc_walk.proofs.Keys.{same_to_all}
 -- sums with the same fields are the same
 pub same_sums : (a b : Sums) → a.files ≡ b.files → a.lines ≡ b.lines → a.blank ≡ b.blank → a.bytes ≡ b.bytes → a ≡ b
 same_sums a b f l k n = λ i. record { files = f i; lines = l i; blank = k i; bytes = n i }
-
--- sums that gained s where the test holds
-pub gained_sums : (b : Bool) (s a t : Sums) → t.files ≡ a.files + cond b s.files 0 → t.lines ≡ a.lines + cond b s.lines 0
-    → t.blank ≡ a.blank + cond b s.blank 0 → t.bytes ≡ a.bytes + cond b s.bytes 0 → t ≡ plus a (cond b s no_files)
-gained_sums true s a t f l k n = same_sums t (plus a s) f l k n
-gained_sums false s a t f l k n = same_sums t (plus a no_files) f l k n
 
 -- a test of rows that sees their keys alone
 abbrev pub SeesKeys : (TallyRowModel → Bool) → Type 0
@@ -84,13 +78,6 @@ key_sums_of_both k xs ys =
 pub sums_of_one : (r : TallyRowModel) → sums_of_rows (r ∷ []) ≡ r.sums
 sums_of_one r = same_sums _ _ (zero-add r.sums.files) (zero-add r.sums.lines) (zero-add r.sums.blank) (zero-add r.sums.bytes)
 
-pub key_sums_of_one : (k : Key) (r : TallyRowModel) → sums_of_rows (rows_with k (r ∷ [])) ≡ cond (same_key k r.key) r.sums no_files
-key_sums_of_one k r = at (same_key k r.key)
-  where
-    at : (b : Bool) → sums_of_rows (cond b (r ∷ []) []) ≡ cond b r.sums no_files
-    at true = sums_of_one r
-    at false = refl
-
 pub front_of : (P : TallyRowModel → Type 0) (xs ys : List TallyRowModel) → All P (xs ++ ys) → All P xs
 front_of P xs ys all i d lt = subst P (get_or_append_left xs ys d i lt) (all i d (omega (arith, length-append xs ys)))
 
@@ -106,21 +93,3 @@ has_both xs ys us vs a b =
           ∙ ap (plus (sums_of_rows (rows_with k xs))) (b.sums k) ∙ sym (key_sums_of_both k xs us);
       filled = λ f. All-append P ys vs (a.filled (front_of P xs us f)) (b.filled (back_of P xs us f));
     }
-
--- one row more
-pub has_more : (xs rows new : List TallyRowModel) (k : Key) (s : Sums) → HasSumsOf xs rows → Gains rows new k s
-    → HasSumsOf (xs ++ row_with k s ∷ []) new
-has_more xs rows new k s has gained = has_further (xs ++ row_with k s ∷ []) (rows ++ row_with k s ∷ []) new
-    (has_both xs rows (row_with k s ∷ []) (row_with k s ∷ []) has (has_same (row_with k s ∷ []))) gained
-
--- what a key's sums have gained
-pub key_gained : (old new : List TallyRowModel) (k j : Key) (s : Sums) → Gains old new k s
-    → sums_of_rows (rows_with j new) ≡ plus (sums_of_rows (rows_with j old)) (cond (same_key j k) s no_files)
-key_gained old new k j s gained = gained.sums j ∙ key_sums_of_both j old (row_with k s ∷ [])
-    ∙ ap (plus (sums_of_rows (rows_with j old))) (key_sums_of_one j (row_with k s))
-
-pub filled_gained : (old new : List TallyRowModel) (k : Key) (s : Sums) → Gains old new k s → 0 < s.files
-    → All (λ r. 0 < r.sums.files) old → All (λ r. 0 < r.sums.files) new
-filled_gained old new k s gained some all =
-    let P : TallyRowModel → Type 0 = λ r. 0 < r.sums.files in
-    gained.filled (All-append P old (row_with k s ∷ []) all (All-cons P (row_with k s) [] some (λ i d lt. absurd (omega arith))))

@@ -91,18 +91,6 @@ module _ (bytes : List ℕ) (front : List (List ℕ)) (left : List ℕ) (line : 
   pub pieces_more : pieces_of 10 bytes ≡ (front ++ line ∷ []) ++ more
   pieces_more = pieces ∙ sym (append_assoc front (line ∷ []) more)
 
--- without a line of dashes all bytes are rules
-pub rules_part-all : (bytes : List ℕ) (pieces : List (List ℕ)) → pieces_of 10 bytes ≡ pieces → list_any is_dashes pieces ≡ false
-    → bytes ≡ rules_part bytes
-rules_part-all bytes pieces are plain =
-    sym (ap (rules_by bytes) are ∙ ap (λ b. cond b (flat_map with_feed (before_first is_dashes pieces)) bytes) plain)
-
--- without a line of dashes there are no paths
-pub paths_part-none : (bytes : List ℕ) (pieces : List (List ℕ)) → pieces_of 10 bytes ≡ pieces → list_any is_dashes pieces ≡ false
-    → [] ≡ paths_part bytes
-paths_part-none bytes pieces are plain =
-    sym (ap paths_by are ∙ ap (λ b. cond b (join_with_byte 10 (after_first is_dashes pieces)) []) plain)
-
 -- the paths after a line feed
 pub paths_joined : (rest : List ℕ) → rest ≡ join_with_byte 10 (pieces_of 10 rest)
 paths_joined rest = sym (join_with_byte-slice_split 10 rest)
