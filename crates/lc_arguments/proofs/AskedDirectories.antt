@@ -1,13 +1,8 @@
 -- The directories that words ask for, and their paths without the slashes at their end.
 use Rattle.std.proofs.Common.{◌≡◌, ◌∙◌, ◌-◌, ◌&&◌, ℕ, Bool, true, false, List, [], ◌∷◌, length, map, take, drop, refl, ap, ap₂, sym, cond}
-use Rattle.std.proofs.Common.{eqb, arith}
-use Rattle.std.proofs.Math.Bool.{and-false, and-true}
-use Rattle.std.specs.Borrow.{Bor}
-use Rattle.std.specs.Cmp.Lexicographic.{pointwise}
-use Rattle.std.specs.List.{list_all}
-use Rattle.std.proofs.lemmas.Simd.{map-map}
-use Rattle.lc_glob.specs.Bytes.{slash}
-use Rattle.lc_glob.specs.Pieces.{is_byte}
+use Rattle.std.proofs.{Common.{eqb, arith}, Math.Bool.{and-false, and-true}, lemmas.Simd.map-map}
+use Rattle.std.specs.{Borrow.Bor, Cmp.Lexicographic.pointwise, List.list_all}
+use Rattle.lc_glob.specs.{Bytes.slash, Pieces.is_byte}
 use Rattle.lc_arguments.specs.Directories.{are_distinct, unslashed}
 
 -- a byte that is a slash comes last

@@ -1,9 +1,6 @@
 -- The paths that words ask for.
-use Rattle.std.proofs.Common.{◌≡◌, ◌∙◌, ◌<◌, ℕ, true, List, length, map, ap, sym}
-use Rattle.std.specs.Borrow.{Bor}
-use Rattle.std.specs.List.{list_any, slice_index_or}
-use Rattle.std.proofs.lemmas.List.Folds.{list_any_at}
-use Rattle.std.proofs.lemmas.Simd.{map-map}
+use Rattle.std.proofs.{Common.{◌≡◌, ◌∙◌, ◌<◌, ℕ, true, List, length, map, ap, sym}, lemmas.{List.Folds.list_any_at, Simd.map-map}}
+use Rattle.std.specs.{Borrow.Bor, List.{list_any, slice_index_or}}
 use Rattle.clap.proofs.WalkLemmas.{list_any-map}
 use Rattle.lc_arguments.specs.Words.{is_bad_part, part_of}
 

@@ -1,14 +1,9 @@
 -- Names of columns among the words.
 use Rattle.std.proofs.Common.{◌≡◌, ◌∙◌, ◌+◌, ◌≤◌, ℕ, suc, Bool, true, false, cond, List, [], ◌∷◌, length, filter, Option, Some, None}
-use Rattle.std.proofs.Common.{codes, is_some, unwrap_or, IfSome}
-use Rattle.std.proofs.Common.{refl, ap, sym, arith}
-use Rattle.std.specs.Borrow.{Bor}
-use Rattle.std.specs.Str.{bytes_eq}
-use Rattle.std.specs.Bool.{Decides}
-use Rattle.std.proofs.lemmas.Slice.Eq.{bytes_eq-Decides}
+use Rattle.std.proofs.{Common.{codes, is_some, unwrap_or, IfSome, refl, ap, sym, arith}, lemmas.Slice.Eq.bytes_eq-Decides}
+use Rattle.std.specs.{Borrow.Bor, Str.bytes_eq, Bool.Decides}
 use Rattle.lc_sheet.specs.declared.table_options.Columns.{Columns}
-use Rattle.lc_arguments.specs.Options.{max_depth}
-use Rattle.lc_arguments.specs.TableWords.{AreColumnsBy, AreNamesOf, how_many, how_often, once_if}
+use Rattle.lc_arguments.specs.{Options.max_depth, TableWords.{AreColumnsBy, AreNamesOf, how_many, how_often, once_if}}
 
 -- the bytes that are left, and one for the name before their end
 abbrev pub left_over : Option (Bor (List ℕ)) → ℕ

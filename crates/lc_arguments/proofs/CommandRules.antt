@@ -1,31 +1,17 @@
 -- Arguments that are made of rows, commands that are given them in turn, and what is read of a number among these.
-use Rattle.std.proofs.Common.{◌≡◌, ◌∙◌, ◌+◌, ◌<◌, ℕ, zero, suc, Bool, true, false, not, ◌||◌, cond, List, [], ◌∷◌, ◌++◌, length}
-use Rattle.std.proofs.Common.{map, take, get_or, refl, sym, ap, ap₂, subst, arith}
-use Rattle.std.proofs.lemmas.Bool.{and_parts}
-use Rattle.std.specs.Prelude.{pos, Option, Some, None}
-use Rattle.std.specs.List.{All, filter, list_any, slice_index_or}
-use Rattle.std.specs.Str.{bytes_eq}
-use Rattle.std.proofs.lemmas.List.{append-nil, get_or-map, length-map, map-append, take_more}
-use Rattle.std.proofs.lemmas.List.Elements.{All-cons, All-nil, filter-append}
+use Rattle.std.proofs.Common.{◌≡◌, ◌∙◌, ◌+◌, ◌<◌, ℕ, zero, suc, Bool, true, false, not, ◌||◌, cond, List, [], ◌∷◌, ◌++◌, length, map}
+use Rattle.std.proofs.{Common.{take, get_or, refl, sym, ap, ap₂, subst, arith}, lemmas.Bool.and_parts}
+use Rattle.std.proofs.lemmas.List.{append-nil, get_or-map, length-map, map-append, take_more, Elements.{All-cons, All-nil, filter-append}}
 use Rattle.std.proofs.lemmas.List.Folds.{list_any_at}
 use Rattle.std.proofs.lemmas.Slice.Eq.{bytes_eq-Decides}
-use Rattle.clap.specs.Built.{AddsArg, AddsInTurn, AddsSubcommand, FitsChain, HasDistinctIds}
-use Rattle.clap.specs.Lexer.{without_minus}
-use Rattle.clap.specs.Matches.{found_of, one_text}
-use Rattle.clap.specs.Values.{IsSignedIn}
-use Rattle.clap.specs.declared.builder.arg.Arg.{Arg}
-use Rattle.clap.specs.declared.builder.command.Command.{Command}
-use Rattle.clap.specs.declared.builder.command.Command.TheViews.{out-Command}
-use Rattle.clap.specs.declared.builder.value_parser.ValueParser.{ValueParser}
-use Rattle.clap.specs.declared.builder.value_parser.ValueParser.TheVariants.{Signed}
-use Rattle.clap.specs.Simple.{App, app_of, new_rule, with_rule, with_subcommand}
-use Rattle.clap.specs.Walk.{Rule, rule_of}
-use Rattle.lc_arguments.specs.CommandLine.{app_with, bare_app, option_rule, rules_in, with_rules, with_subcommands}
-use Rattle.lc_arguments.specs.CountArgs.{AreArgsOf, AreCommandsOf, IsArgOf, IsBare, IsCommandOf}
-use Rattle.lc_arguments.specs.Directories.{are_distinct}
-use Rattle.lc_arguments.specs.Options.{OptionModel, is_of, option_model}
-use Rattle.lc_arguments.specs.ReadNumbers.{ReadsWithin}
-use Rattle.lc_arguments.specs.declared.option_row.OptionRow.{OptionRow}
+use Rattle.std.specs.{Prelude.{pos, Option, Some, None}, List.{All, filter, list_any, slice_index_or}, Str.bytes_eq}
+use Rattle.clap.specs.{Built.{AddsArg, AddsInTurn, AddsSubcommand, FitsChain, HasDistinctIds}, Lexer.without_minus, Matches.found_of}
+use Rattle.clap.specs.{Matches.one_text, Values.IsSignedIn, declared.builder.{arg.Arg.Arg, command.Command.{Command, TheViews.out-Command}}}
+use Rattle.clap.specs.{declared.builder.value_parser.ValueParser.{ValueParser, TheVariants.Signed}, Simple.{App, app_of, new_rule}}
+use Rattle.clap.specs.{Simple.{with_rule, with_subcommand}, Walk.{Rule, rule_of}}
+use Rattle.lc_arguments.specs.{CommandLine.{app_with, bare_app, option_rule, rules_in, with_rules, with_subcommands}, CountArgs.AreArgsOf}
+use Rattle.lc_arguments.specs.{CountArgs.{AreCommandsOf, IsArgOf, IsBare, IsCommandOf}, Directories.are_distinct, Options.OptionModel}
+use Rattle.lc_arguments.specs.{Options.{is_of, option_model}, ReadNumbers.ReadsWithin, declared.option_row.OptionRow.OptionRow}
 use Rattle.lc_arguments.specs.declared.option_row.Subcommand.{Subcommand}
 use Rattle.lc_arguments.proofs.ReadValues.{read_in_chain}
 

@@ -1,8 +1,7 @@
 -- The conditions of the texts that were read so far, and of one more.
-use Rattle.std.proofs.Common.{◌≡◌, ◌∙◌, ◌+◌, ◌<◌, ℕ, List, [], ◌∷◌, ◌++◌, length, map, take, get_or, sym, ap}
+use Rattle.std.proofs.{Common.{◌≡◌, ◌∙◌, ◌+◌, ◌<◌, ℕ, List, [], ◌∷◌, ◌++◌, length, map, take, get_or, sym, ap}, lemmas.List.map-append}
+use Rattle.std.proofs.lemmas.List.{take_more, Elements.filter_map-append}
 use Rattle.std.specs.Borrow.{Bor}
-use Rattle.std.proofs.lemmas.List.{map-append, take_more}
-use Rattle.std.proofs.lemmas.List.Elements.{filter_map-append}
 use Rattle.lc_sheet.specs.Conditions.{ConditionModel}
 use Rattle.lc_arguments.specs.ConditionWords.{condition_of, conditions_of}
 

@@ -1,35 +1,16 @@
 -- Words that ask for what there is not: values of options, tables, counts.
-use Rattle.std.proofs.Common.{◌≡◌, ◌∙◌, ◌<◌, ◌&&◌, ℕ, zero, suc, Bool, true, false, not, List, [], ◌∷◌, length, map}
-use Rattle.std.proofs.Common.{refl, ap, inl, inr, sym}
-use Rattle.std.proofs.Common.{subst, Result, Err, Option, arith}
-use Rattle.std.proofs.Math.Bool.{and-false}
-use Rattle.std.specs.Borrow.{Bor}
-use Rattle.std.specs.List.{list_all, slice_index_or}
-use Rattle.std.specs.Result.{IsErrAnd}
-use Rattle.std.proofs.lemmas.Result.{err_from_is_err_and}
-use Rattle.clap.specs.Faults.{fault_of}
-use Rattle.clap.specs.Simple.{App, matches_of}
-use Rattle.std.specs.Prelude.{Some, codes, option_map, unwrap_or}
-use Rattle.clap.specs.Walk.{Row}
-use Rattle.lc_arguments.specs.CommandLine.{check_app, count_app}
-use Rattle.lc_arguments.specs.Explained.{AnswersCountIn, AnswersCountWords, AnswersExplainWords, AnswersSumIn, AnswersSumWords}
-use Rattle.lc_arguments.specs.Explained.{AnswersTable, IsRefusal, IsRefusedFor, IsUnread}
-use Rattle.lc_arguments.specs.Repeated.{is_allowed}
-use Rattle.lc_arguments.specs.Words.{AskNothing, AsksNoCount, AsksNoSum, IsNoRequestBy, MayRefuse, MayShow}
-use Rattle.lc_arguments.specs.ReadNumbers.{AreCutsIn, AreNumbersIn}
-use Rattle.lc_arguments.specs.Words.{count_words, faults_in, other_faults_in}
-use Rattle.lc_arguments.specs.declared.count.CountRequest.{CountRequest}
-use Rattle.lc_arguments.specs.declared.numbers.Cuts.{Cuts}
-use Rattle.lc_arguments.specs.declared.numbers.Numbers.{Numbers}
-use Rattle.lc_arguments.specs.declared.repeated.Repeated.{Repeated}
-use Rattle.lc_arguments.specs.declared.diff.DiffRequest.{DiffRequest}
-use Rattle.lc_arguments.specs.declared.sum.SumRequest.{SumRequest}
-use Rattle.lc_arguments.specs.declared.walk_request.WalkRequest.{WalkRequest}
-use Rattle.lc_arguments.specs.Explained.{AnswersDiffIn, AnswersDiffWords, AnswersWalkIn}
-use Rattle.lc_arguments.specs.Words.{AsksNoDiff, AsksNoWalk}
-use Rattle.lc_arguments.specs.declared.table.TableRequest.{TableRequest}
-use Rattle.lc_arguments.specs.declared.request.ParseExit.{ParseExit}
-use Rattle.lc_arguments.specs.declared.request.ParseExit.TheVariants.{Shown, Refused, Memory}
+use Rattle.std.proofs.Common.{◌≡◌, ◌∙◌, ◌<◌, ◌&&◌, ℕ, zero, suc, Bool, true, false, not, List, [], ◌∷◌, length, map, refl, ap, inl, inr}
+use Rattle.std.proofs.{Common.{sym, subst, Result, Err, Option, arith}, Math.Bool.and-false, lemmas.Result.err_from_is_err_and}
+use Rattle.std.specs.{Borrow.Bor, List.{list_all, slice_index_or}, Result.IsErrAnd, Prelude.{Some, codes, option_map, unwrap_or}}
+use Rattle.clap.specs.{Faults.fault_of, Simple.{App, matches_of}, Walk.Row}
+use Rattle.lc_arguments.specs.{CommandLine.{check_app, count_app}, Explained.{AnswersCountIn, AnswersCountWords, AnswersExplainWords}}
+use Rattle.lc_arguments.specs.Explained.{AnswersSumIn, AnswersSumWords, AnswersTable, IsRefusal, IsRefusedFor, IsUnread, AnswersDiffIn}
+use Rattle.lc_arguments.specs.{Explained.{AnswersDiffWords, AnswersWalkIn}, Repeated.is_allowed, Words.{AskNothing, AsksNoCount, AsksNoSum}}
+use Rattle.lc_arguments.specs.Words.{IsNoRequestBy, MayRefuse, MayShow, count_words, faults_in, other_faults_in, AsksNoDiff, AsksNoWalk}
+use Rattle.lc_arguments.specs.{ReadNumbers.{AreCutsIn, AreNumbersIn}, declared.count.CountRequest.CountRequest}
+use Rattle.lc_arguments.specs.declared.{numbers.{Cuts.Cuts, Numbers.Numbers}, repeated.Repeated.Repeated, diff.DiffRequest.DiffRequest}
+use Rattle.lc_arguments.specs.declared.{sum.SumRequest.SumRequest, walk_request.WalkRequest.WalkRequest, table.TableRequest.TableRequest}
+use Rattle.lc_arguments.specs.declared.request.ParseExit.{ParseExit, TheVariants.{Shown, Refused, Memory}}
 
 -- where nothing wrong was found, all is right
 pub none_wrong : (right : Bool) → false ≡ not right → right ≡ true

@@ -2,8 +2,7 @@
 use Rattle.std.proofs.Common.{◌≡◌, ◌∙◌, ◌+◌, ◌||◌, ◌&&◌, ℕ, Bool, true, false, not, List, [], ◌∷◌, length, refl, ap, cond, Some, None}
 use Rattle.std.proofs.Common.{arith}
 use Rattle.std.specs.List.{after_first, before_first, list_any, position_or_len}
-use Rattle.lc_glob.specs.Bytes.{slash}
-use Rattle.lc_glob.specs.Pieces.{is_byte}
+use Rattle.lc_glob.specs.{Bytes.slash, Pieces.is_byte}
 use Rattle.lc_rules.specs.Bytes.{equals_sign}
 use Rattle.lc_arguments.specs.Reports.{named_of}
 

@@ -1,31 +1,17 @@
 -- A value that was read of an argument passed the argument's parser.
 use Rattle.std.proofs.Common.{◌++◌, ◌||◌, ◌≡◌, ◌∙◌, ◌<◌, ◌≤◌, ap, ℕ, zero, suc, Bool, true, false, List, [], ◌∷◌, length, Option, Some}
-use Rattle.std.proofs.Common.{None, refl, sym, subst, inl, inr, arith}
-use Rattle.std.specs.List.{All, slice_index_or}
-use Rattle.std.specs.Str.{bytes_eq}
-use Rattle.std.specs.Prelude.{option_map, slice_get, unwrap_or, ◌^◌, Result, Ok, pos}
-use Rattle.std.specs.Str.Parse.{ParsesUnsigned, digits_value, without_leading_plus}
-use Rattle.clap.specs.Lexer.{without_minus}
-use Rattle.clap.specs.Values.{IsSignedIn}
-use Rattle.clap.specs.Matches.{ReadsOne}
-use Rattle.clap.proofs.CallerReads.{signed_reads}
-use Rattle.std.specs.Borrow.{Bor}
-use Rattle.std.proofs.lemmas.Slice.Eq.{bytes_eq-Decides}
-use Rattle.std.proofs.lemmas.List.{append-nil, append_assoc}
-use Rattle.std.proofs.lemmas.List.Elements.{All-get_or, All-nil}
-use Rattle.clap.specs.Facts.{args_of, groups_of, IsParsed, Entry, EntryPasses, PassesArg, HasReading, parser_of, parser_of_value}
-use Rattle.clap.specs.Built.{AddsInTurn, HasDistinctIds, FitsChain, KeepsList, IsPlain, IsPlainArg, IsParsedFrom, IsAuto, AddsArg}
-use Rattle.clap.specs.Built.{SameRules}
-use Rattle.clap.specs.Matches.{matched_of, one_text, found_of, has_subcommand}
-use Rattle.clap.specs.Values.{Accepts, read_as, reading_of}
-use Rattle.clap.specs.declared.builder.value_parser.Reading.{Reading}
-use Rattle.clap.proofs.CallerLemmas.{entry_by_id, same_rules_by_id, added_plain}
-use Rattle.clap.specs.declared.builder.arg.Arg.{Arg}
-use Rattle.clap.specs.declared.builder.command.Command.{Command}
-use Rattle.clap.specs.declared.builder.command.Command.TheViews.{out-Command}
-use Rattle.clap.specs.declared.builder.value_parser.ValueParser.{ValueParser}
-use Rattle.clap.specs.declared.parser.matches.ArgMatches.{ArgMatches}
-use Rattle.clap.specs.declared.parser.matches.MatchedArg.{MatchedArg}
+use Rattle.std.proofs.{Common.{None, refl, sym, subst, inl, inr, arith}, lemmas.Slice.Eq.bytes_eq-Decides}
+use Rattle.std.proofs.lemmas.List.{append-nil, append_assoc, Elements.{All-get_or, All-nil}}
+use Rattle.std.specs.{List.{All, slice_index_or}, Str.{bytes_eq, Parse.{ParsesUnsigned, digits_value, without_leading_plus}}}
+use Rattle.std.specs.{Prelude.{option_map, slice_get, unwrap_or, ◌^◌, Result, Ok, pos}, Borrow.Bor}
+use Rattle.clap.specs.{Lexer.without_minus, Values.{IsSignedIn, Accepts, read_as, reading_of}, Matches.{ReadsOne, matched_of, one_text}}
+use Rattle.clap.specs.{Matches.{found_of, has_subcommand}, Facts.{args_of, groups_of, IsParsed, Entry, EntryPasses, PassesArg, HasReading}}
+use Rattle.clap.specs.{Facts.{parser_of, parser_of_value}, Built.{AddsInTurn, HasDistinctIds, FitsChain, KeepsList, IsPlain, IsPlainArg}}
+use Rattle.clap.specs.Built.{IsParsedFrom, IsAuto, AddsArg, SameRules}
+use Rattle.clap.specs.declared.builder.{value_parser.{Reading.Reading, ValueParser.ValueParser}, arg.Arg.Arg}
+use Rattle.clap.specs.declared.builder.command.Command.{Command, TheViews.out-Command}
+use Rattle.clap.specs.declared.parser.matches.{ArgMatches.ArgMatches, MatchedArg.MatchedArg}
+use Rattle.clap.proofs.{CallerReads.signed_reads, CallerLemmas.{entry_by_id, same_rules_by_id, added_plain}}
 
 -- the rest of a list of which all pass
 all_rest : {X : Type 0} (P : X → Type 0) (x : X) (xs : List X) → All P (x ∷ xs) → All P xs

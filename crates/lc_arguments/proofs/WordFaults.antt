@@ -1,28 +1,16 @@
 -- Words that fail, and what is said of them.
 use Rattle.std.proofs.Common.{◌≡◌, ◌∙◌, ℕ, Bool, true, false, List, [], refl, ap, sym, subst, inl, inr, Result, Err, Option, Some, None}
 use Rattle.std.proofs.Common.{codes}
-use Rattle.std.specs.Borrow.{Bor}
-use Rattle.std.specs.Prelude.{map, option_map, unwrap_or}
-use Rattle.std.specs.Str.Parse.{digits_value, without_leading_plus}
-use Rattle.clap.specs.Faults.{fault_of, is_simple_and_free}
-use Rattle.clap.specs.Kinds.{FailsBy, HasKind, Kinds}
-use Rattle.clap.specs.Simple.{App, HasMatchesOf, app_of, is_simple, matches_of}
-use Rattle.clap.specs.Matches.{found_of, first_value, matched_of, one_text, raw_values}
-use Rattle.clap.specs.Values.{kind_of}
-use Rattle.clap.specs.Walk.{Row, Text, all_of, first_of, one_of, rows_of}
-use Rattle.clap.proofs.WalkLemmas.{first_value-rows, one_text-rows, raw_values-rows}
-use Rattle.clap.specs.declared.builder.command.Command.{Command}
-use Rattle.clap.specs.declared.error.Error.{Error}
+use Rattle.std.specs.{Borrow.Bor, Prelude.{map, option_map, unwrap_or}, Str.Parse.{digits_value, without_leading_plus}}
+use Rattle.clap.specs.{Faults.{fault_of, is_simple_and_free}, Kinds.{FailsBy, HasKind, Kinds}, Simple.{App, HasMatchesOf, app_of}}
+use Rattle.clap.specs.{Simple.{is_simple, matches_of}, Matches.{found_of, first_value, matched_of, one_text, raw_values}, Values.kind_of}
+use Rattle.clap.specs.{Walk.{Row, Text, all_of, first_of, one_of, rows_of}, declared.{builder.command.Command.Command, error.Error.Error}}
+use Rattle.clap.specs.declared.parser.matches.{ArgMatches.ArgMatches, Found.Found}
+use Rattle.clap.proofs.{WalkLemmas.{first_value-rows, one_text-rows, raw_values-rows}, OnLiterals.clap_on_literals}
+use Rattle.lc_arguments.specs.{CommandLine.{count_app, check_app, diff_app, explain_app, lc_app, sum_app}, Explained.Explains, Words.IsFlag}
+use Rattle.lc_arguments.specs.{Words.{IsText, IsNoRequestBy, texts_read}, ReadNumbers.{IsNumber, number_if_given}}
+use Rattle.lc_arguments.specs.declared.request.ParseExit.{ParseExit, TheVariants.{Shown, Refused, Memory}}
 use Rattle.clap.specs.declared.error.kind.ErrorKind.TheVariants as kind
-use Rattle.clap.specs.declared.parser.matches.ArgMatches.{ArgMatches}
-use Rattle.clap.specs.declared.parser.matches.Found.{Found}
-use Rattle.clap.proofs.OnLiterals.{clap_on_literals}
-use Rattle.lc_arguments.specs.CommandLine.{count_app, check_app, diff_app, explain_app, lc_app, sum_app}
-use Rattle.lc_arguments.specs.Explained.{Explains}
-use Rattle.lc_arguments.specs.Words.{IsFlag, IsText, IsNoRequestBy, texts_read}
-use Rattle.lc_arguments.specs.ReadNumbers.{IsNumber, number_if_given}
-use Rattle.lc_arguments.specs.declared.request.ParseExit.{ParseExit}
-use Rattle.lc_arguments.specs.declared.request.ParseExit.TheVariants.{Shown, Refused, Memory}
 
 -- the command count is of the simple kind, of which clap says all
 pub count_is_simple : is_simple count_app ≡ true

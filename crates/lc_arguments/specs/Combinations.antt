@@ -1,17 +1,11 @@
 -- Options of a count that go together.
 use Rattle.std.specs.Prelude.{◌&&◌, ◌||◌, ℕ, Bool, true, false, not, is_some, length, nat_lt, List, Option, Some, None, codes}
-use Rattle.std.specs.Option.{option_map_or}
-use Rattle.std.specs.Str.{bytes_eq}
+use Rattle.std.specs.{Option.option_map_or, Str.bytes_eq}
 use Rattle.clap.specs.Walk.{is_empty}
-use Rattle.lc_sheet.specs.declared.table_options.Columns.{Columns}
-use Rattle.lc_sheet.specs.declared.table_options.Format.{Format}
-use Rattle.lc_sheet.specs.declared.table_options.Format.TheVariants.{Table, Csv, Markdown, Html}
-use Rattle.lc_sheet.specs.declared.table_options.Order.{Order}
-use Rattle.lc_sheet.specs.declared.table_options.Order.TheVariants.{Name}
-use Rattle.lc_arguments.specs.declared.count.CountRequest.{CountRequest}
-use Rattle.lc_arguments.specs.declared.diff.DiffRequest.{DiffRequest}
-use Rattle.lc_arguments.specs.declared.walk_request.WalkRequest.{WalkRequest}
-use Rattle.lc_arguments.specs.declared.table.TableRequest.{TableRequest}
+use Rattle.lc_sheet.specs.declared.table_options.{Columns.Columns, Format.{Format, TheVariants.{Table, Csv, Markdown, Html}}}
+use Rattle.lc_sheet.specs.declared.table_options.Order.{Order, TheVariants.Name}
+use Rattle.lc_arguments.specs.declared.{count.CountRequest.CountRequest, diff.DiffRequest.DiffRequest}
+use Rattle.lc_arguments.specs.declared.{walk_request.WalkRequest.WalkRequest, table.TableRequest.TableRequest}
 
 -- the named format shows each row's share of the total if `--share` is used; without a named format, `--share` means a table, which does
 abbrev pub shows_shares : Option Format → Bool

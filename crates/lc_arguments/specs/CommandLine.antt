@@ -1,14 +1,10 @@
 -- The commands and their arguments, as clap sees them.
 use Rattle.std.specs.Prelude.{ℕ, true, List, [], ◌∷◌, map, filter, pos, Option, Some, None, codes}
-use Rattle.clap.specs.Simple.{App, Shape, new_app, new_rule, on_top, with_rule, with_subcommand}
-use Rattle.clap.specs.Walk.{Rule}
-use Rattle.clap.specs.declared.builder.action.ArgAction.TheVariants.{Append, Set, SetTrue}
-use Rattle.clap.specs.declared.builder.value_parser.ValueParser.TheVariants.{Signed}
+use Rattle.clap.specs.{Simple.{App, Shape, new_app, new_rule, on_top, with_rule, with_subcommand}, Walk.Rule}
+use Rattle.clap.specs.declared.builder.{action.ArgAction.TheVariants.{Append, Set, SetTrue}, value_parser.ValueParser.TheVariants.Signed}
 use Rattle.lc_arguments.specs.Options.{OptionModel, is_of, options}
-use Rattle.lc_arguments.specs.declared.option_row.Kind.{Kind}
-use Rattle.lc_arguments.specs.declared.option_row.Kind.TheVariants.{Flag, Text, Texts, Number, Word, Words}
-use Rattle.lc_arguments.specs.declared.option_row.Subcommand.{Subcommand}
-use Rattle.lc_arguments.specs.declared.option_row.Subcommand.TheVariants.{Count, Explain, Check, Sum, Diff}
+use Rattle.lc_arguments.specs.declared.option_row.Kind.{Kind, TheVariants.{Flag, Text, Texts, Number, Word, Words}}
+use Rattle.lc_arguments.specs.declared.option_row.Subcommand.{Subcommand, TheVariants.{Count, Explain, Check, Sum, Diff}}
 
 -- an argument of this kind with this name: an option without a value, with a text, with a text and repeatable, or with a number from 1 to a
 -- limit; or, without a hyphen, a required argument, or any number of arguments

@@ -1,19 +1,11 @@
 -- The conditions that words ask for: a column, an operator and values, as in `eol=crlf,mixed` and `lines > 1000`.
-use Rattle.std.specs.Prelude.{ℕ, ◌==◌, ◌&&◌, ◌||◌, ◌+◌, ◌*◌, ◌-◌, Bool, true, false}
-use Rattle.std.specs.Prelude.{not, nat_le, cond, List, [], ◌∷◌, ◌++◌, length, take, drop, codes}
-use Rattle.std.specs.Prelude.{Option, Some, None}
-use Rattle.std.specs.List.{filter_map, list_all, list_any}
-use Rattle.std.specs.Str.{bytes_eq}
-use Rattle.lc_glob.specs.Bytes.{slash}
-use Rattle.lc_glob.specs.Pieces.{is_byte, pieces_of}
+use Rattle.std.specs.Prelude.{ℕ, ◌==◌, ◌&&◌, ◌||◌, ◌+◌, ◌*◌, ◌-◌, Bool, true, false, not, nat_le, cond, List, [], ◌∷◌, ◌++◌, length, take}
+use Rattle.std.specs.{Prelude.{drop, codes, Option, Some, None}, List.{filter_map, list_all, list_any}, Str.bytes_eq}
+use Rattle.lc_glob.specs.{Bytes.slash, Pieces.{is_byte, pieces_of}}
 use Rattle.lc_rules.specs.Bytes.{equals_sign, space}
-use Rattle.lc_sheet.specs.ColumnWords.{column_name}
-use Rattle.lc_sheet.specs.Conditions.{ConditionModel, comma, compared, none_of, one_of}
-use Rattle.lc_sheet.specs.declared.column.Column.{Column}
-use Rattle.lc_sheet.specs.declared.column.Column.TheVariants.{Ext, Text, Eol, Number}
-use Rattle.lc_sheet.specs.declared.column.Number.TheVariants.{Lines, Blank, Bytes}
-use Rattle.lc_sheet.specs.declared.condition.Comparison.{Comparison}
-use Rattle.lc_sheet.specs.declared.condition.Comparison.TheVariants.{Less, AtMost, Equal, Unequal, AtLeast, Greater}
+use Rattle.lc_sheet.specs.{ColumnWords.column_name, Conditions.{ConditionModel, comma, compared, none_of, one_of}}
+use Rattle.lc_sheet.specs.declared.column.{Column.{Column, TheVariants.{Ext, Text, Eol, Number}}, Number.TheVariants.{Lines, Blank, Bytes}}
+use Rattle.lc_sheet.specs.declared.condition.Comparison.{Comparison, TheVariants.{Less, AtMost, Equal, Unequal, AtLeast, Greater}}
 
 abbrev pub exclamation_mark : ℕ
 exclamation_mark = 33

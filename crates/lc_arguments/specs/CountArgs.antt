@@ -1,15 +1,9 @@
 -- Arguments of a command, as they are made.
-use Rattle.std.specs.Prelude.{◌≡◌, ℕ, Bool, false, not, ◌||◌, List, [], ◌∷◌, codes}
-use Rattle.std.specs.Str.{bytes_eq}
-use Rattle.clap.specs.Built.{FitsChain}
-use Rattle.clap.specs.Facts.{args_of, groups_of}
-use Rattle.clap.specs.Simple.{App, app_of}
-use Rattle.clap.specs.Walk.{Rule, rule_of}
-use Rattle.clap.specs.declared.builder.arg.Arg.{Arg}
-use Rattle.clap.specs.declared.builder.command.Command.{Command}
-use Rattle.clap.specs.declared.builder.command.Command.TheViews.{out-Command}
-use Rattle.lc_arguments.specs.CommandLine.{bare_app, count_app, diff_app, sum_app}
-use Rattle.lc_arguments.specs.ReadNumbers.{ReadsCountWithinLimits, ReadsCutsWithinLimits}
+use Rattle.std.specs.{Prelude.{◌≡◌, ℕ, Bool, false, not, ◌||◌, List, [], ◌∷◌, codes}, Str.bytes_eq}
+use Rattle.clap.specs.{Built.FitsChain, Facts.{args_of, groups_of}, Simple.{App, app_of}, Walk.{Rule, rule_of}}
+use Rattle.clap.specs.declared.builder.{arg.Arg.Arg, command.Command.{Command, TheViews.out-Command}}
+use Rattle.lc_arguments.specs.{CommandLine.{bare_app, count_app, diff_app, sum_app}, ReadNumbers.ReadsCountWithinLimits}
+use Rattle.lc_arguments.specs.ReadNumbers.{ReadsCutsWithinLimits}
 
 -- a name that is not empty, and is not `help` or `version`, which each command has
 abbrev pub is_own_name : List ℕ → Bool

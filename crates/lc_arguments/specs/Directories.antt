@@ -1,9 +1,6 @@
 -- The directories of a count.
-use Rattle.std.specs.Prelude.{◌&&◌, ℕ, Bool, true, not, cond, List, [], ◌∷◌}
-use Rattle.std.specs.List.{list_all, list_any}
-use Rattle.std.specs.Str.{bytes_eq}
-use Rattle.lc_glob.specs.Bytes.{slash}
-use Rattle.lc_glob.specs.Pieces.{is_byte}
+use Rattle.std.specs.{Prelude.{◌&&◌, ℕ, Bool, true, not, cond, List, [], ◌∷◌}, List.{list_all, list_any}, Str.bytes_eq}
+use Rattle.lc_glob.specs.{Bytes.slash, Pieces.is_byte}
 
 -- the path of a directory without the slashes at its end
 abbrev pub unslashed : List ℕ → List ℕ

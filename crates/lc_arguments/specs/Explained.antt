@@ -1,45 +1,23 @@
 -- What an error of clap becomes.
-use Rattle.std.specs.Prelude.{◌≡◌, ◌≢◌, ◌⊎◌, ℕ, true, false, List, [], map, codes, Result, Ok, Err, Option, option_map}
-use Rattle.std.specs.Global.{Vec}
-use Rattle.std.specs.List.{list_any}
-use Rattle.clap.specs.Faults.{fault_of}
-use Rattle.clap.specs.Simple.{App, matches_of}
-use Rattle.clap.specs.Values.{kind_of}
-use Rattle.clap.specs.declared.error.Error.{Error}
-use Rattle.clap.specs.declared.error.kind.ErrorKind.TheVariants.{OutOfMemory}
-use Rattle.std.specs.Borrow.{Bor}
-use Rattle.lc_arguments.specs.CommandLine.{count_app, check_app, diff_app, explain_app, lc_app, sum_app}
-use Rattle.lc_arguments.specs.Words.{IsText, IsNoRequestBy, IsCheckOf, IsCountOf, IsExplainOf, IsSumOf, MayRefuse, MayShow}
-use Rattle.lc_arguments.specs.Words.{AsksNoCount, AsksNoSum, AsksNoTable, AreFiltersOf, IsFitCountOf, IsFitSumOf}
-use Rattle.lc_arguments.specs.ReadNumbers.{AreCutsIn, AreNumbersIn}
-use Rattle.lc_sheet.specs.Conditions.{ConditionModel}
-use Rattle.lc_arguments.specs.Words.{AreConditionsOf, IsWholeTableIn, Misvalue, directories_read, is_bad_part, part_of, reports_read}
-use Rattle.lc_arguments.specs.Words.{texts_read, values_read}
-use Rattle.lc_arguments.specs.Directories.{are_distinct, unslashed}
-use Rattle.lc_arguments.specs.Repeated.{are_allowed}
-use Rattle.lc_arguments.specs.Reports.{name_reports, named_of, report_model}
-use Rattle.clap.specs.Walk.{Row}
-use Rattle.lc_sheet.specs.declared.table_options.Columns.{Columns}
-use Rattle.lc_sheet.specs.declared.table_options.Format.{Format}
-use Rattle.lc_sheet.specs.declared.table_options.Order.{Order}
-use Rattle.lc_arguments.specs.TableWords.{AreColumnsBy, IsTableBy, format_word, order_word}
-use Rattle.lc_arguments.specs.declared.numbers.Cuts.{Cuts}
-use Rattle.lc_arguments.specs.declared.numbers.Numbers.{Numbers}
-use Rattle.lc_arguments.specs.declared.repeated.Repeated.{Repeated}
-use Rattle.lc_arguments.specs.declared.table.TableRequest.{TableRequest}
-use Rattle.lc_arguments.specs.declared.request.ParseExit.{ParseExit}
-use Rattle.lc_arguments.specs.declared.request.ParseExit.TheVariants.{Shown, Refused, Memory}
-use Rattle.lc_arguments.specs.declared.request.Request.{Request}
-use Rattle.lc_arguments.specs.declared.request.Request.TheVariants.{CheckJoined}
-use Rattle.lc_arguments.specs.declared.check.CheckRequest.{CheckRequest}
-use Rattle.lc_arguments.specs.declared.count.CountRequest.{CountRequest}
-use Rattle.lc_arguments.specs.declared.filter_request.FilterRequest.{FilterRequest}
-use Rattle.lc_arguments.specs.declared.explain.ExplainRequest.{ExplainRequest}
-use Rattle.lc_arguments.specs.declared.reports.NamedReport.{NamedReport}
-use Rattle.lc_arguments.specs.declared.sum.SumRequest.{SumRequest}
-use Rattle.lc_arguments.specs.declared.diff.DiffRequest.{DiffRequest}
+use Rattle.std.specs.{Prelude.{◌≡◌, ◌≢◌, ◌⊎◌, ℕ, true, false, List, [], map, codes, Result, Ok, Err, Option, option_map}, Global.Vec}
+use Rattle.std.specs.{List.list_any, Borrow.Bor}
+use Rattle.clap.specs.{Faults.fault_of, Simple.{App, matches_of}, Values.kind_of, declared.error.Error.Error}
+use Rattle.clap.specs.{declared.error.kind.ErrorKind.TheVariants.OutOfMemory, Walk.Row}
+use Rattle.lc_arguments.specs.{CommandLine.{count_app, check_app, diff_app, explain_app, lc_app, sum_app}, Words.{IsText, IsNoRequestBy}}
+use Rattle.lc_arguments.specs.Words.{IsCheckOf, IsCountOf, IsExplainOf, IsSumOf, MayRefuse, MayShow, AsksNoCount, AsksNoSum, AsksNoTable}
+use Rattle.lc_arguments.specs.Words.{AreFiltersOf, IsFitCountOf, IsFitSumOf, AreConditionsOf, IsWholeTableIn, Misvalue, directories_read}
+use Rattle.lc_arguments.specs.Words.{is_bad_part, part_of, reports_read, texts_read, values_read, AsksNoDiff, AsksNoWalk, IsDiffOf}
+use Rattle.lc_arguments.specs.{Words.{IsFitDiffOf, IsWalkOf}, ReadNumbers.{AreCutsIn, AreNumbersIn}, Directories.{are_distinct, unslashed}}
+use Rattle.lc_arguments.specs.{Repeated.are_allowed, Reports.{name_reports, named_of, report_model}, TableWords.{AreColumnsBy, IsTableBy}}
+use Rattle.lc_arguments.specs.{TableWords.{format_word, order_word}, declared.numbers.{Cuts.Cuts, Numbers.Numbers}}
+use Rattle.lc_arguments.specs.declared.{repeated.Repeated.Repeated, table.TableRequest.TableRequest}
+use Rattle.lc_arguments.specs.declared.request.ParseExit.{ParseExit, TheVariants.{Shown, Refused, Memory}}
+use Rattle.lc_arguments.specs.declared.request.Request.{Request, TheVariants.CheckJoined}
+use Rattle.lc_arguments.specs.declared.{check.CheckRequest.CheckRequest, count.CountRequest.CountRequest}
+use Rattle.lc_arguments.specs.declared.{filter_request.FilterRequest.FilterRequest, explain.ExplainRequest.ExplainRequest}
+use Rattle.lc_arguments.specs.declared.{reports.NamedReport.NamedReport, sum.SumRequest.SumRequest, diff.DiffRequest.DiffRequest}
 use Rattle.lc_arguments.specs.declared.walk_request.WalkRequest.{WalkRequest}
-use Rattle.lc_arguments.specs.Words.{AsksNoDiff, AsksNoWalk, IsDiffOf, IsFitDiffOf, IsWalkOf}
+use Rattle.lc_sheet.specs.{Conditions.ConditionModel, declared.table_options.{Columns.Columns, Format.Format, Order.Order}}
 
 -- what an error of clap becomes: a text of help or of the version is shown; any other error refuses the words, unless memory runs out
 abbrev pub Explains : Error → ParseExit → Type 0

@@ -1,16 +1,11 @@
 -- Which arguments a text names: help names the arguments of its command, and a usage error names one argument.
-use Rattle.std.specs.Prelude.{◌≡◌, ◌⊎◌, ℕ, Bool, true, false, cond, is_some, bytes_eq, List, [], ◌∷◌, ◌++◌, codes, string_bytes}
-use Rattle.std.specs.Prelude.{Option, Some, None, ⊤}
-use Rattle.std.specs.Str.Iter.{HasSubslice}
+use Rattle.std.specs.Prelude.{◌≡◌, ◌⊎◌, ℕ, Bool, true, false, cond, is_some, bytes_eq, List, [], ◌∷◌, ◌++◌, codes, string_bytes, Option}
+use Rattle.std.specs.{Prelude.{Some, None, ⊤}, Str.Iter.HasSubslice}
 use Rattle.lc_text.specs.Visible.{visible_bytes}
-use Rattle.lc_arguments.specs.Options.{OptionModel, is_of, options}
-use Rattle.lc_arguments.specs.Words.{count_words}
-use Rattle.lc_arguments.specs.declared.option_row.Kind.{Kind}
-use Rattle.lc_arguments.specs.declared.option_row.Kind.TheVariants.{Flag, Text, Texts, Number, Word, Words}
-use Rattle.lc_arguments.specs.declared.option_row.Subcommand.{Subcommand}
-use Rattle.lc_arguments.specs.declared.option_row.Subcommand.TheVariants.{Count, Explain, Check, Diff, Sum}
-use Rattle.lc_arguments.specs.declared.request.ParseExit.{ParseExit}
-use Rattle.lc_arguments.specs.declared.request.ParseExit.TheVariants.{Shown, Refused, Memory}
+use Rattle.lc_arguments.specs.{Options.{OptionModel, is_of, options}, Words.count_words}
+use Rattle.lc_arguments.specs.declared.option_row.Kind.{Kind, TheVariants.{Flag, Text, Texts, Number, Word, Words}}
+use Rattle.lc_arguments.specs.declared.option_row.Subcommand.{Subcommand, TheVariants.{Count, Explain, Check, Diff, Sum}}
+use Rattle.lc_arguments.specs.declared.request.ParseExit.{ParseExit, TheVariants.{Shown, Refused, Memory}}
 
 -- what a message of clap has before and after the name of an argument: the hyphens of an option; or, without a hyphen, `<` and `>` around a
 -- required argument, and `[` and `]` around one that may be omitted

@@ -1,11 +1,8 @@
 -- The arguments of all commands, as clap sees them.
 use Rattle.std.specs.Prelude.{ℕ, Bool, true, false, List, [], ◌∷◌, Option, Some, None, option_map, codes}
-use Rattle.lc_arguments.specs.declared.option_row.Commands.{Commands}
-use Rattle.lc_arguments.specs.declared.option_row.Kind.{Kind}
-use Rattle.lc_arguments.specs.declared.option_row.Kind.TheVariants.{Flag, Text, Texts, Number, Word, Words}
+use Rattle.lc_arguments.specs.declared.option_row.{Commands.Commands, Kind.{Kind, TheVariants.{Flag, Text, Texts, Number, Word, Words}}}
 use Rattle.lc_arguments.specs.declared.option_row.OptionRow.{OptionRow}
-use Rattle.lc_arguments.specs.declared.option_row.Subcommand.{Subcommand}
-use Rattle.lc_arguments.specs.declared.option_row.Subcommand.TheVariants.{Count, Explain, Check, Diff, Sum}
+use Rattle.lc_arguments.specs.declared.option_row.Subcommand.{Subcommand, TheVariants.{Count, Explain, Check, Diff, Sum}}
 
 -- an argument: its name, its letter, its kind, its default, and the commands that have it
 pub record OptionModel : Type 0 where

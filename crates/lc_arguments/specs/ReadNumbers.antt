@@ -1,18 +1,10 @@
 -- The numbers that were read of options.
-use Rattle.std.specs.Prelude.{◌≡◌, ◌≤◌, ℕ, List, pos, Some, Option, unwrap_or, option_map, codes}
-use Rattle.std.specs.Str.Parse.{digits_value, without_leading_plus}
-use Rattle.clap.specs.Built.{IsParsedFrom}
-use Rattle.clap.specs.Lexer.{without_minus}
-use Rattle.clap.specs.Matches.{found_of}
+use Rattle.std.specs.{Prelude.{◌≡◌, ◌≤◌, ℕ, List, pos, Some, Option, unwrap_or, option_map, codes}, Str.Parse.digits_value}
+use Rattle.std.specs.Str.Parse.{without_leading_plus}
+use Rattle.clap.specs.{Built.IsParsedFrom, Lexer.without_minus, Matches.found_of, Values.IsSignedIn, Walk.{Row, one_of}}
+use Rattle.clap.specs.declared.{builder.command.Command.Command, parser.matches.{ArgMatches.ArgMatches, Found.Found}}
+use Rattle.lc_arguments.specs.{Options.{max_depth, max_dirs, max_threads, max_top}, declared.numbers.{Cuts.Cuts, Numbers.Numbers}}
 use Rattle.clap.specs.Matches as matches
-use Rattle.clap.specs.Values.{IsSignedIn}
-use Rattle.clap.specs.Walk.{Row, one_of}
-use Rattle.clap.specs.declared.builder.command.Command.{Command}
-use Rattle.clap.specs.declared.parser.matches.ArgMatches.{ArgMatches}
-use Rattle.clap.specs.declared.parser.matches.Found.{Found}
-use Rattle.lc_arguments.specs.Options.{max_depth, max_dirs, max_threads, max_top}
-use Rattle.lc_arguments.specs.declared.numbers.Cuts.{Cuts}
-use Rattle.lc_arguments.specs.declared.numbers.Numbers.{Numbers}
 
 -- the value that was read of this argument, if there is one, is a number from `low` to `high`
 abbrev pub IsReadWithin : Found → List ℕ → ℕ → ℕ → Type 0

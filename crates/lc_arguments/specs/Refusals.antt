@@ -2,8 +2,7 @@
 use Rattle.std.specs.Prelude.{◌≡◌, ◌||◌, ◌++◌, ℕ, nat_eq, cond, List, codes, flat_map, encode_utf8, string_bytes}
 use Rattle.lc_glob.specs.Bytes.{backslash}
 use Rattle.lc_text.specs.Visible.{visible_bytes}
-use Rattle.lc_arguments.specs.declared.request.ParseExit.{ParseExit}
-use Rattle.lc_arguments.specs.declared.request.ParseExit.TheVariants.{Shown, Refused, Memory}
+use Rattle.lc_arguments.specs.declared.request.ParseExit.{ParseExit, TheVariants.{Shown, Refused, Memory}}
 
 -- a character of a message: line feeds and backslashes as they are, any other as a terminal shows it
 abbrev pub message_char : ℕ → List ℕ

@@ -1,13 +1,9 @@
 -- The values of options that may be used several times: attributes, patterns, and conditions.
-use Rattle.std.specs.Prelude.{◌++◌, ◌&&◌, ℕ, Bool, true, not, nat_le, List, [], ◌∷◌, length, flat_map, is_some, codes}
-use Rattle.std.specs.List.{before_first, list_all, list_any}
+use Rattle.std.specs.{Prelude.{◌++◌, ◌&&◌, ℕ, Bool, true, not, nat_le, List, [], ◌∷◌, length, flat_map, is_some, codes}, List.before_first}
+use Rattle.std.specs.List.{list_all, list_any}
 use Rattle.lc_glob.specs.Pieces.{is_byte}
-use Rattle.lc_rules.specs.AttrLines.{is_negated}
-use Rattle.lc_rules.specs.AttrWords.{is_name}
-use Rattle.lc_rules.specs.Bytes.{equals_sign, line_feed}
-use Rattle.lc_rules.specs.Limits.{max_rule_bytes}
-use Rattle.lc_arguments.specs.ConditionWords.{condition_of}
-use Rattle.lc_arguments.specs.declared.repeated.Repeated.{Repeated}
+use Rattle.lc_rules.specs.{AttrLines.is_negated, AttrWords.is_name, Bytes.{equals_sign, line_feed}, Limits.max_rule_bytes}
+use Rattle.lc_arguments.specs.{ConditionWords.condition_of, declared.repeated.Repeated.Repeated}
 use Rattle.lc_arguments.specs.declared.repeated.Repeated.TheVariants.{Attributes, Excluded, Included, Conditions}
 
 -- `ATTR` or `ATTR=VALUE`: an attribute can have the name (gitattributes(5), DESCRIPTION)

@@ -1,11 +1,7 @@
 -- The reports of a sum, which may have names.
-use Rattle.std.specs.Prelude.{◌&&◌, ℕ, Bool, true, not, cond, List, [], ◌∷◌, codes, Option, Some, None, option_map}
-use Rattle.std.specs.List.{after_first, before_first, list_all, list_any}
-use Rattle.std.specs.Option.{option_map_or}
-use Rattle.std.specs.Str.{bytes_eq}
-use Rattle.lc_glob.specs.Bytes.{slash}
-use Rattle.lc_glob.specs.Path.{is_good_name}
-use Rattle.lc_glob.specs.Pieces.{is_byte}
+use Rattle.std.specs.{Prelude.{◌&&◌, ℕ, Bool, true, not, cond, List, [], ◌∷◌, codes, Option, Some, None, option_map}, List.after_first}
+use Rattle.std.specs.{List.{before_first, list_all, list_any}, Option.option_map_or, Str.bytes_eq}
+use Rattle.lc_glob.specs.{Bytes.slash, Path.is_good_name, Pieces.is_byte}
 use Rattle.lc_rules.specs.Bytes.{equals_sign}
 use Rattle.lc_arguments.specs.declared.reports.NamedReport.{NamedReport}
 

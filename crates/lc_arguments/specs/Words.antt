@@ -1,43 +1,23 @@
 -- The requests that the words of a command line make.
 use Rattle.std.specs.Prelude.{◌≡◌, ◌≢◌, ◌⊎◌, ◌≤◌, ◌==◌, ◌&&◌, ◌||◌, not, ℕ, Bool, true, false, cond, List, [], ◌∷◌, Some, None, Option}
-use Rattle.std.specs.Prelude.{Result, Ok, Err, unwrap_or, option_map, map, codes, IfSome}
-use Rattle.std.specs.Borrow.{Bor}
-use Rattle.std.specs.List.{list_any}
-use Rattle.std.specs.Str.{bytes_eq}
-use Rattle.clap.specs.Faults.{fault_of}
-use Rattle.clap.specs.Kinds.{IsAmong, Kinds}
-use Rattle.clap.specs.Simple.{matches_of}
-use Rattle.clap.specs.Walk.{Row, all_of, first_of, one_of}
-use Rattle.clap.specs.declared.error.kind.ErrorKind.{ErrorKind}
-use Rattle.clap.specs.declared.error.kind.ErrorKind.TheVariants.{DisplayHelp, DisplayVersion}
-use Rattle.lc_glob.specs.Bytes.{hyphen, slash}
-use Rattle.lc_glob.specs.Pieces.{is_byte}
-use Rattle.lc_arguments.specs.CommandLine.{count_app, check_app, diff_app, explain_app, lc_app, sum_app}
-use Rattle.lc_arguments.specs.Options.{max_depth, max_dirs, max_threads}
-use Rattle.lc_arguments.specs.Combinations.{diff_fits, fit_together, table_fits}
-use Rattle.lc_arguments.specs.ConditionWords.{all_conditions}
-use Rattle.lc_arguments.specs.Directories.{are_distinct, or_default, unslashed}
-use Rattle.lc_arguments.specs.Repeated.{are_allowed, id_of}
-use Rattle.lc_arguments.specs.declared.repeated.Repeated.{Repeated}
-use Rattle.lc_arguments.specs.declared.repeated.Repeated.TheVariants.{Attributes, Excluded, Included, Conditions}
-use Rattle.lc_arguments.specs.Reports.{name_reports, named_of, report_model}
-use Rattle.lc_arguments.specs.declared.reports.NamedReport.{NamedReport}
-use Rattle.lc_arguments.specs.declared.diff.DiffRequest.{DiffRequest}
-use Rattle.lc_arguments.specs.declared.sum.SumRequest.{SumRequest}
+use Rattle.std.specs.{Prelude.{Result, Ok, Err, unwrap_or, option_map, map, codes, IfSome}, Borrow.Bor, List.list_any, Str.bytes_eq}
+use Rattle.clap.specs.{Faults.fault_of, Kinds.{IsAmong, Kinds}, Simple.matches_of, Walk.{Row, all_of, first_of, one_of}}
+use Rattle.clap.specs.declared.error.kind.ErrorKind.{ErrorKind, TheVariants.{DisplayHelp, DisplayVersion}}
+use Rattle.lc_glob.specs.{Bytes.{hyphen, slash}, Pieces.is_byte}
+use Rattle.lc_arguments.specs.{CommandLine.{count_app, check_app, diff_app, explain_app, lc_app, sum_app}, Options.{max_depth, max_dirs}}
+use Rattle.lc_arguments.specs.{Options.max_threads, Combinations.{diff_fits, fit_together, table_fits}, ConditionWords.all_conditions}
+use Rattle.lc_arguments.specs.{Directories.{are_distinct, or_default, unslashed}, Repeated.{are_allowed, id_of}}
+use Rattle.lc_arguments.specs.declared.repeated.Repeated.{Repeated, TheVariants.{Attributes, Excluded, Included, Conditions}}
+use Rattle.lc_arguments.specs.declared.{reports.NamedReport.NamedReport, diff.DiffRequest.DiffRequest, sum.SumRequest.SumRequest}
 use Rattle.lc_arguments.specs.declared.walk_request.WalkRequest.{WalkRequest}
-use Rattle.lc_arguments.specs.ReadNumbers.{IsNumber, number_if_given}
-use Rattle.lc_arguments.specs.declared.request.ParseExit.{ParseExit}
-use Rattle.lc_arguments.specs.declared.request.ParseExit.TheVariants.{Shown, Refused, Memory}
-use Rattle.lc_arguments.specs.declared.request.Request.{Request}
-use Rattle.lc_arguments.specs.declared.request.Request.TheVariants.{CheckJoined, Check, Count, Diff, Explain, Sum}
+use Rattle.lc_arguments.specs.declared.request.ParseExit.{ParseExit, TheVariants.{Shown, Refused, Memory}}
+use Rattle.lc_arguments.specs.declared.request.Request.{Request, TheVariants.{CheckJoined, Check, Count, Diff, Explain, Sum}}
+use Rattle.lc_arguments.specs.declared.{table.TableRequest.TableRequest, check.CheckRequest.CheckRequest, count.CountRequest.CountRequest}
+use Rattle.lc_arguments.specs.declared.{filter_request.FilterRequest.FilterRequest, explain.ExplainRequest.ExplainRequest}
+use Rattle.lc_arguments.specs.{Reports.{name_reports, named_of, report_model}, ReadNumbers.{IsNumber, number_if_given}}
+use Rattle.lc_arguments.specs.TableWords.{IsTableBy}
 use Rattle.lc_sheet.specs.Conditions.{ConditionModel}
 use Rattle.lc_text.specs.PathLines.{is_bad_path, is_top, path_of, undotted}
-use Rattle.lc_arguments.specs.declared.table.TableRequest.{TableRequest}
-use Rattle.lc_arguments.specs.TableWords.{IsTableBy}
-use Rattle.lc_arguments.specs.declared.check.CheckRequest.{CheckRequest}
-use Rattle.lc_arguments.specs.declared.count.CountRequest.{CountRequest}
-use Rattle.lc_arguments.specs.declared.filter_request.FilterRequest.{FilterRequest}
-use Rattle.lc_arguments.specs.declared.explain.ExplainRequest.{ExplainRequest}
 
 -- the directories in a table's rows, if the rows have any, are cut to at least 1 segment and at most `max_depth` segments
 abbrev pub IsTableWithinLimits : TableRequest → Type 0

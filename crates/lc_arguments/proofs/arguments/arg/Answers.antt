@@ -1,5 +1,4 @@
-use Rattle.lc_arguments.specs.CommandLine.{kind_rule, option_rule, with_letter}
-use Rattle.lc_arguments.specs.Options.{option_model}
+use Rattle.lc_arguments.specs.{CommandLine.{kind_rule, option_rule, with_letter}, Options.option_model}
 use Rattle.lc_arguments.proofs.arguments.arg.Goals as goal
 
 pub returns : goal.returns

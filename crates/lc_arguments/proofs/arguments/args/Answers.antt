@@ -1,8 +1,6 @@
-use Rattle.std.proofs.Common.{◌∙◌, ap, sym}
+use Rattle.std.proofs.{Common.{◌∙◌, ap, sym}, lemmas.List.Folds.list_all-map}
 use Rattle.std.specs.List.{list_all}
-use Rattle.std.proofs.lemmas.List.Folds.{list_all-map}
-use Rattle.lc_arguments.specs.CountArgs.{is_own_name}
-use Rattle.lc_arguments.specs.Options.{OptionModel, option_model}
+use Rattle.lc_arguments.specs.{CountArgs.is_own_name, Options.{OptionModel, option_model}}
 use Rattle.lc_arguments.proofs.arguments.args.Goals as goal
 
 -- each row of the table has a name of its own

@@ -1,11 +1,8 @@
 use Rattle.std.proofs.Common.{◌∙◌, List, ap, map, subst, sym, take}
 use Rattle.clap.specs.declared.builder.arg.Arg.{Arg}
-use Rattle.lc_arguments.specs.CommandLine.{rules_in}
-use Rattle.lc_arguments.specs.CountArgs.{AreArgsOf}
-use Rattle.lc_arguments.specs.Options.{option_model}
-use Rattle.lc_arguments.proofs.CommandRules.{none_more, one_more}
+use Rattle.lc_arguments.specs.{CommandLine.rules_in, CountArgs.AreArgsOf, Options.option_model}
+use Rattle.lc_arguments.proofs.{CommandRules.{none_more, one_more}, arguments.args_of.Goals.{then-has+in_ok-push, else-has}}
 use Rattle.lc_arguments.proofs.arguments.args_of.Goals as goal
-use Rattle.lc_arguments.proofs.arguments.args_of.Goals.{then-has+in_ok-push, else-has}
 
 pub loop-row-preserved : goal.loop-row-preserved
 loop-row-preserved c = elim c.if-has.branch [

@@ -1,7 +1,5 @@
 use Rattle.std.proofs.Common.{map, take}
-use Rattle.lc_arguments.specs.CommandLine.{rules_in}
-use Rattle.lc_arguments.specs.CountArgs.{AreArgsOf}
-use Rattle.lc_arguments.specs.Options.{option_model}
+use Rattle.lc_arguments.specs.{CommandLine.rules_in, CountArgs.AreArgsOf, Options.option_model}
 use Rattle.lc_arguments.proofs.arguments.args_of.Given as goal
 
 abbrev pub invariant-loop-row : goal.invariant-loop-row

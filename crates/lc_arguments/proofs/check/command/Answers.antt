@@ -1,8 +1,6 @@
-use Rattle.std.proofs.Common.{codes}
-use Rattle.std.proofs.lemmas.Result.{IfOk-weaker}
+use Rattle.std.proofs.{Common.codes, lemmas.Result.IfOk-weaker}
 use Rattle.clap.specs.Built.{AddsArg, AddsInTurn}
-use Rattle.lc_arguments.specs.CommandLine.{check_app, check_rules}
-use Rattle.lc_arguments.specs.CountArgs.{IsCommandOf}
+use Rattle.lc_arguments.specs.{CommandLine.{check_app, check_rules}, CountArgs.IsCommandOf}
 use Rattle.lc_arguments.proofs.CommandRules.{given, seen_with}
 use Rattle.lc_arguments.proofs.check.command.Goals as goal
 

@@ -1,7 +1,5 @@
 use Rattle.std.proofs.Common.{◌≡◌, ℕ, true, false, cond, List, length, take, drop, Option, Some, None, option_map, ap, sym, ◌∙◌, ◌+◌}
-use Rattle.std.specs.Borrow.{Bor}
-use Rattle.std.specs.Prelude.{MatchOption}
-use Rattle.std.specs.Str.{bytes_eq}
+use Rattle.std.specs.{Borrow.Bor, Prelude.MatchOption, Str.bytes_eq}
 use Rattle.lc_arguments.specs.ConditionWords.{after_front}
 use Rattle.lc_arguments.proofs.condition_text.after_front.Goals as goal
 

@@ -1,9 +1,7 @@
 use Rattle.std.proofs.Common.{codes, refl}
-use Rattle.clap.specs.Matches.{found_of}
-use Rattle.clap.specs.Walk.{rows_of}
+use Rattle.clap.specs.{Matches.found_of, Walk.rows_of}
 use Rattle.lc_arguments.specs.declared.repeated.Repeated.TheVariants.{Conditions}
-use Rattle.lc_arguments.proofs.Misnaming.{refused_with}
-use Rattle.lc_arguments.proofs.WordFaults.{flag_of}
+use Rattle.lc_arguments.proofs.{Misnaming.refused_with, WordFaults.flag_of}
 use Rattle.lc_arguments.proofs.conditions.conditions_in.Goals as goal
 
 pub returns-in-Err : goal.returns-in-Err

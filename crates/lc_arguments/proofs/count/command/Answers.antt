@@ -1,9 +1,6 @@
-use Rattle.std.proofs.Common.{codes, refl}
-use Rattle.std.proofs.lemmas.Result.{IfOk-weaker}
+use Rattle.std.proofs.{Common.{codes, refl}, lemmas.Result.IfOk-weaker}
 use Rattle.clap.specs.Built.{AddsArg, AddsInTurn}
-use Rattle.lc_arguments.specs.CommandLine.{count_rules}
-use Rattle.lc_arguments.specs.CountArgs.{IsCountCommand}
-use Rattle.lc_arguments.specs.Options.{max_depth, max_dirs, max_threads, max_top}
+use Rattle.lc_arguments.specs.{CommandLine.count_rules, CountArgs.IsCountCommand, Options.{max_depth, max_dirs, max_threads, max_top}}
 use Rattle.lc_arguments.proofs.CommandRules.{given, reads_number, seen_with}
 use Rattle.lc_arguments.proofs.count.command.Goals as goal
 

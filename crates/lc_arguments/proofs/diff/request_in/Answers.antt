@@ -1,10 +1,7 @@
 use Rattle.std.proofs.Common.{codes, inl, inr, refl}
-use Rattle.clap.specs.Matches.{found_of}
-use Rattle.clap.specs.Walk.{rows_of}
-use Rattle.lc_arguments.specs.ReadNumbers.{AreCutsIn}
-use Rattle.lc_arguments.specs.Words.{AsksNoTable, AsksNoWalk, Misvalue}
-use Rattle.lc_arguments.proofs.WordFaults.{flag_of, text_or}
-use Rattle.lc_arguments.proofs.Misnaming.{no_diff_in}
+use Rattle.clap.specs.{Matches.found_of, Walk.rows_of}
+use Rattle.lc_arguments.specs.{ReadNumbers.AreCutsIn, Words.{AsksNoTable, AsksNoWalk, Misvalue}}
+use Rattle.lc_arguments.proofs.{WordFaults.{flag_of, text_or}, Misnaming.no_diff_in}
 use Rattle.lc_arguments.proofs.diff.request_in.Goals as goal
 
 pub returns-in_err-walk : goal.returns-in_err-walk

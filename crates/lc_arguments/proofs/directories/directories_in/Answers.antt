@@ -1,8 +1,6 @@
 use Rattle.std.proofs.Common.{◌∙◌, List, ℕ, ap, codes, refl, subst}
-use Rattle.clap.specs.Matches.{found_of}
-use Rattle.clap.specs.Walk.{rows_of}
-use Rattle.lc_arguments.specs.Directories.{or_default}
-use Rattle.lc_arguments.specs.Explained.{AnswersDirectories}
+use Rattle.clap.specs.{Matches.found_of, Walk.rows_of}
+use Rattle.lc_arguments.specs.{Directories.or_default, Explained.AnswersDirectories}
 use Rattle.lc_arguments.proofs.WordFaults.{texts_of}
 use Rattle.lc_arguments.proofs.directories.directories_in.Goals as goal
 

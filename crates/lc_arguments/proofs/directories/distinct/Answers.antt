@@ -1,6 +1,5 @@
 use Rattle.std.proofs.Common.{◌∙◌, map, refl, sym}
-use Rattle.lc_arguments.proofs.AskedDirectories.{names_lent}
-use Rattle.lc_arguments.proofs.Misnaming.{none_wrong, one_wrong, refused_for}
+use Rattle.lc_arguments.proofs.{AskedDirectories.names_lent, Misnaming.{none_wrong, one_wrong, refused_for}}
 use Rattle.lc_arguments.proofs.directories.distinct.Goals as goal
 
 pub returns-in-None : goal.returns-in-None

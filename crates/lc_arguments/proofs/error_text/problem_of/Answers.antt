@@ -1,5 +1,4 @@
-use Rattle.std.proofs.Common.{Some, None, refl, inl, inr, arith, codes}
-use Rattle.std.proofs.lemmas.Str.Pattern.{split_text_parts}
+use Rattle.std.proofs.{Common.{Some, None, refl, inl, inr, arith, codes}, lemmas.Str.Pattern.split_text_parts}
 use Rattle.lc_arguments.proofs.Paragraphs.{none_before}
 use Rattle.lc_arguments.proofs.error_text.problem_of.Goals as goal
 

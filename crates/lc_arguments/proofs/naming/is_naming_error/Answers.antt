@@ -1,5 +1,4 @@
-use Rattle.std.proofs.Common.{◌≡◌, true, map}
-use Rattle.std.proofs.lemmas.Result.{IfOk-weaker}
+use Rattle.std.proofs.{Common.{◌≡◌, true, map}, lemmas.Result.IfOk-weaker}
 use Rattle.lc_arguments.specs.Naming.{IsNamingError, NamesOne}
 use Rattle.lc_arguments.proofs.naming.is_naming_error.Goals as goal
 

@@ -1,7 +1,5 @@
-use Rattle.std.proofs.Common.{◌≡◌, sym, true, map, subst}
-use Rattle.std.proofs.lemmas.Result.{IfOk-weaker}
-use Rattle.lc_arguments.specs.Naming.{IsTextOf, NamesAll}
-use Rattle.lc_arguments.specs.Options.{option_model}
+use Rattle.std.proofs.{Common.{◌≡◌, sym, true, map, subst}, lemmas.Result.IfOk-weaker}
+use Rattle.lc_arguments.specs.{Naming.{IsTextOf, NamesAll}, Options.option_model}
 use Rattle.lc_arguments.proofs.naming.is_text_for.Goals as goal
 
 pub returns-in-None : goal.returns-in-None

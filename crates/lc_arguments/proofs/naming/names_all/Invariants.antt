@@ -1,6 +1,5 @@
 use Rattle.std.proofs.Common.{length, map}
-use Rattle.lc_arguments.specs.Naming.{NamesAll}
-use Rattle.lc_arguments.specs.Options.{option_model}
+use Rattle.lc_arguments.specs.{Naming.NamesAll, Options.option_model}
 use Rattle.lc_arguments.proofs.naming.names_all.Given as goal
 
 abbrev pub invariant-rows : goal.invariant-rows

@@ -1,7 +1,5 @@
-use Rattle.std.proofs.Common.{◌≡◌, true, map, inl, inr, subst}
-use Rattle.std.proofs.lemmas.Result.{IfOk-weaker}
-use Rattle.lc_arguments.specs.Naming.{NamesOne, NamesSome}
-use Rattle.lc_arguments.specs.Options.{option_model}
+use Rattle.std.proofs.{Common.{◌≡◌, true, map, inl, inr, subst}, lemmas.Result.IfOk-weaker}
+use Rattle.lc_arguments.specs.{Naming.{NamesOne, NamesSome}, Options.option_model}
 use Rattle.lc_arguments.proofs.naming.names_one.Goals as goal
 
 pub returns-then-quoted : goal.returns-then-quoted

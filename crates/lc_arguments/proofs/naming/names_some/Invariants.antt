@@ -1,6 +1,5 @@
 use Rattle.std.proofs.Common.{length, map}
-use Rattle.lc_arguments.specs.Naming.{NamesSome}
-use Rattle.lc_arguments.specs.Options.{option_model}
+use Rattle.lc_arguments.specs.{Naming.NamesSome, Options.option_model}
 use Rattle.lc_arguments.proofs.naming.names_some.Given as goal
 
 abbrev pub invariant-rows : goal.invariant-rows

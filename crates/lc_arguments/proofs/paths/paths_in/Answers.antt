@@ -1,6 +1,5 @@
 use Rattle.std.proofs.Common.{List, ℕ, codes, refl, subst}
-use Rattle.clap.specs.Matches.{found_of}
-use Rattle.clap.specs.Walk.{rows_of}
+use Rattle.clap.specs.{Matches.found_of, Walk.rows_of}
 use Rattle.lc_arguments.specs.Explained.{AnswersPaths}
 use Rattle.lc_arguments.proofs.WordFaults.{texts_of}
 use Rattle.lc_arguments.proofs.paths.paths_in.Goals as goal

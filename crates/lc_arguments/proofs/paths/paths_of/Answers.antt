@@ -1,8 +1,7 @@
 use Rattle.std.proofs.Common.{◌∙◌, ap, map, sym, take_all, ℕ, List, Bor}
 use Rattle.std.specs.List.{list_any}
 use Rattle.lc_arguments.specs.Words.{is_bad_part, part_of}
-use Rattle.lc_arguments.proofs.AskedPaths.{one_misplaced, paths_lent, some_bad}
-use Rattle.lc_arguments.proofs.Misnaming.{refused_for}
+use Rattle.lc_arguments.proofs.{AskedPaths.{one_misplaced, paths_lent, some_bad}, Misnaming.refused_for}
 use Rattle.lc_arguments.proofs.paths.paths_of.Goals as goal
 
 pub returns-then-is_bad_part : goal.returns-then-is_bad_part

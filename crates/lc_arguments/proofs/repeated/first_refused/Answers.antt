@@ -1,5 +1,4 @@
-use Rattle.std.proofs.Common.{◌∙◌, not, ap, sym, take_all}
-use Rattle.std.proofs.lemmas.List.Folds.{list_all-map}
+use Rattle.std.proofs.{Common.{◌∙◌, not, ap, sym, take_all}, lemmas.List.Folds.list_all-map}
 use Rattle.std.specs.List.{list_all}
 use Rattle.lc_arguments.specs.Repeated.{is_allowed}
 use Rattle.lc_arguments.proofs.Misnaming.{one_not_allowed}

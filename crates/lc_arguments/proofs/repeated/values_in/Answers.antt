@@ -1,8 +1,6 @@
 use Rattle.std.proofs.Common.{List, ℕ, refl, subst}
-use Rattle.clap.specs.Matches.{found_of}
-use Rattle.clap.specs.Walk.{rows_of}
-use Rattle.lc_arguments.specs.Explained.{AnswersRepeated}
-use Rattle.lc_arguments.specs.Repeated.{id_of}
+use Rattle.clap.specs.{Matches.found_of, Walk.rows_of}
+use Rattle.lc_arguments.specs.{Explained.AnswersRepeated, Repeated.id_of}
 use Rattle.lc_arguments.proofs.WordFaults.{texts_of}
 use Rattle.lc_arguments.proofs.repeated.values_in.Goals as goal
 

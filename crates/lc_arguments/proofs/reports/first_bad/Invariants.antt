@@ -1,6 +1,5 @@
 use Rattle.std.proofs.Common.{◌≡◌, length, map}
-use Rattle.std.specs.Prelude.{not}
-use Rattle.std.specs.List.{find, list_all}
+use Rattle.std.specs.{Prelude.not, List.{find, list_all}}
 use Rattle.lc_arguments.specs.Reports.{is_good_report, named_of}
 use Rattle.lc_arguments.proofs.reports.first_bad.Given as goal
 

@@ -1,6 +1,5 @@
-use Rattle.std.proofs.Common.{◌∙◌, ◌&&◌, ap₂, sym, List, ℕ}
+use Rattle.std.proofs.{Common.{◌∙◌, ◌&&◌, ap₂, sym, List, ℕ}, lemmas.Simd.map-map}
 use Rattle.std.specs.Borrow.{Bor}
-use Rattle.std.proofs.lemmas.Simd.{map-map}
 use Rattle.lc_arguments.specs.Reports.{named_of}
 use Rattle.lc_arguments.proofs.Misnaming.{none_wrong}
 use Rattle.lc_arguments.proofs.reports.reports_of.Goals as goal

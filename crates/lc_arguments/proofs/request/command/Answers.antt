@@ -1,7 +1,6 @@
 use Rattle.std.proofs.lemmas.Result.{IfOk-weaker}
 use Rattle.clap.specs.Built.{AddsInTurn, AddsSubcommand}
-use Rattle.lc_arguments.specs.CommandLine.{bare_lc_app, lc_app, subcommand_apps}
-use Rattle.lc_arguments.specs.CountArgs.{IsCommandOf}
+use Rattle.lc_arguments.specs.{CommandLine.{bare_lc_app, lc_app, subcommand_apps}, CountArgs.IsCommandOf}
 use Rattle.lc_arguments.proofs.CommandRules.{subcommands_in_turn}
 use Rattle.lc_arguments.proofs.request.command.Goals as goal
 

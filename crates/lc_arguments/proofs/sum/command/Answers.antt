@@ -1,9 +1,6 @@
-use Rattle.std.proofs.Common.{codes, refl}
-use Rattle.std.proofs.lemmas.Result.{IfOk-weaker}
+use Rattle.std.proofs.{Common.{codes, refl}, lemmas.Result.IfOk-weaker}
 use Rattle.clap.specs.Built.{AddsArg, AddsInTurn}
-use Rattle.lc_arguments.specs.CommandLine.{sum_rules}
-use Rattle.lc_arguments.specs.CountArgs.{IsSumCommand}
-use Rattle.lc_arguments.specs.Options.{max_depth, max_top}
+use Rattle.lc_arguments.specs.{CommandLine.sum_rules, CountArgs.IsSumCommand, Options.{max_depth, max_top}}
 use Rattle.lc_arguments.proofs.CommandRules.{given, reads_number, seen_with}
 use Rattle.lc_arguments.proofs.sum.command.Goals as goal
 

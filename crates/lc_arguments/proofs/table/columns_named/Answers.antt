@@ -1,14 +1,13 @@
-use Rattle.std.proofs.Common.{◌∙◌, ◌≡◌, ℕ, not, ap, List, ◌∷◌, codes, subst, sym}
-use Rattle.std.proofs.lemmas.Bool.Decides.{Decides-eqb}
+use Rattle.std.proofs.{Common.{◌∙◌, ◌≡◌, ℕ, not, ap, List, ◌∷◌, codes, subst, sym}, lemmas.Bool.Decides.Decides-eqb}
 use Rattle.std.proofs.lemmas.Slice.Eq.{slice_eq-Decides}
 use Rattle.lc_glob.specs.Pieces.{pieces_left, pieces_of}
 use Rattle.lc_arguments.specs.TableWords.{comma}
 use Rattle.lc_arguments.proofs.ColumnNames.{StillNames, is_not, joins_eol, joins_text, refuses}
-use Rattle.lc_arguments.proofs.table.columns_named.Goals as goal
 use Rattle.lc_arguments.proofs.table.columns_named.Goals.{else-eq-via-then-eq+else-is_none, else-eq-via-else-eq}
 use Rattle.lc_arguments.proofs.table.columns_named.Goals.{else-eq-2-via-then-eq-2+else-not-columns, else-eq-2-via-else-eq-2}
 use Rattle.lc_arguments.proofs.table.columns_named.Goals.{else-eq-3-via-then-eq-3+else-not-columns-2, else-eq-3-via-else-eq-3}
 use Rattle.lc_arguments.proofs.table.columns_named.Goals.{else-eq-4-via-then-eq-4+else-not-columns-3, else-eq-4-via-else-eq-4}
+use Rattle.lc_arguments.proofs.table.columns_named.Goals as goal
 
 pub returns-else-eq-4 : goal.returns-else-eq-4
 returns-else-eq-4 c d =

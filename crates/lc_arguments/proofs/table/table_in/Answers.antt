@@ -1,13 +1,8 @@
 use Rattle.std.proofs.Common.{ℕ, codes, refl, subst}
 use Rattle.std.specs.Prelude.{Option}
-use Rattle.clap.specs.Matches.{found_of}
-use Rattle.clap.specs.Walk.{rows_of}
-use Rattle.lc_arguments.specs.Words.{AsksNoTable, IsTableAt}
-use Rattle.lc_arguments.specs.ReadNumbers.{AreCutsIn}
-use Rattle.lc_arguments.specs.declared.table.TableRequest.{TableRequest}
-use Rattle.lc_arguments.proofs.ColumnNames.{depth_within}
-use Rattle.lc_arguments.proofs.Misnaming.{answers_table_as, refused_with}
-use Rattle.lc_arguments.proofs.WordFaults.{flag_of, text_of}
+use Rattle.clap.specs.{Matches.found_of, Walk.rows_of}
+use Rattle.lc_arguments.specs.{Words.{AsksNoTable, IsTableAt}, ReadNumbers.AreCutsIn, declared.table.TableRequest.TableRequest}
+use Rattle.lc_arguments.proofs.{ColumnNames.depth_within, Misnaming.{answers_table_as, refused_with}, WordFaults.{flag_of, text_of}}
 use Rattle.lc_arguments.proofs.table.table_in.Goals as goal
 
 pub returns-in-Ok : goal.returns-in-Ok

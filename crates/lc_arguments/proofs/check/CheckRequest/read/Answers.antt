@@ -1,6 +1,5 @@
 use Rattle.std.proofs.Common.{map, codes, refl, Ok}
-use Rattle.clap.specs.Matches.{found_of}
-use Rattle.clap.specs.Simple.{matches_of}
+use Rattle.clap.specs.{Matches.found_of, Simple.matches_of}
 use Rattle.lc_arguments.specs.CommandLine.{check_app}
 use Rattle.lc_arguments.proofs.WordFaults.{check_is_free, check_is_simple, fails_as, flag_of, matches_as, no_request_of, text_or}
 use Rattle.lc_arguments.proofs.check.CheckRequest.read.Goals as goal

@@ -1,13 +1,9 @@
 use Rattle.std.proofs.Common.{inr, map, subst, List, Err, Ok}
-use Rattle.clap.specs.Simple.{matches_of}
-use Rattle.clap.specs.Walk.{Row}
-use Rattle.lc_arguments.specs.CommandLine.{count_app}
-use Rattle.lc_arguments.specs.Explained.{AnswersCountIn}
-use Rattle.lc_arguments.specs.Combinations.{fit_together}
-use Rattle.lc_arguments.specs.Words.{AsksNoCount, IsCountOf}
+use Rattle.clap.specs.{Simple.matches_of, Walk.Row}
+use Rattle.lc_arguments.specs.{CommandLine.count_app, Explained.AnswersCountIn, Combinations.fit_together, Words.{AsksNoCount, IsCountOf}}
 use Rattle.lc_arguments.specs.ReadNumbers.{AreNumbersIn}
-use Rattle.lc_arguments.proofs.WordFaults.{count_is_free, count_is_simple, fails_as, matches_as, no_request_of}
-use Rattle.lc_arguments.proofs.Misnaming.{none_wrong, one_wrong, refused_for, refused_with, unread_by, unread_for}
+use Rattle.lc_arguments.proofs.{WordFaults.{count_is_free, count_is_simple, fails_as, matches_as, no_request_of}, Misnaming.none_wrong}
+use Rattle.lc_arguments.proofs.Misnaming.{one_wrong, refused_for, refused_with, unread_by, unread_for}
 use Rattle.lc_arguments.proofs.count.CountRequest.read.Goals as goal
 
 pub returns-in-Err : goal.returns-in-Err

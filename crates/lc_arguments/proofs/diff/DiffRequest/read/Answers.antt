@@ -1,13 +1,9 @@
 use Rattle.std.proofs.Common.{inr, map, subst, List, Err, Ok}
-use Rattle.clap.specs.Simple.{matches_of}
-use Rattle.clap.specs.Walk.{Row}
-use Rattle.lc_arguments.specs.CommandLine.{diff_app}
-use Rattle.lc_arguments.specs.Explained.{AnswersDiffIn}
-use Rattle.lc_arguments.specs.Combinations.{diff_fits}
-use Rattle.lc_arguments.specs.Words.{AsksNoDiff, IsDiffOf}
+use Rattle.clap.specs.{Simple.matches_of, Walk.Row}
+use Rattle.lc_arguments.specs.{CommandLine.diff_app, Explained.AnswersDiffIn, Combinations.diff_fits, Words.{AsksNoDiff, IsDiffOf}}
 use Rattle.lc_arguments.specs.ReadNumbers.{AreNumbersIn}
-use Rattle.lc_arguments.proofs.WordFaults.{diff_is_free, diff_is_simple, fails_as, matches_as, no_request_of}
-use Rattle.lc_arguments.proofs.Misnaming.{none_wrong, one_wrong, refused_for, refused_with, unread_by, unread_for}
+use Rattle.lc_arguments.proofs.{WordFaults.{diff_is_free, diff_is_simple, fails_as, matches_as, no_request_of}, Misnaming.none_wrong}
+use Rattle.lc_arguments.proofs.Misnaming.{one_wrong, refused_for, refused_with, unread_by, unread_for}
 use Rattle.lc_arguments.proofs.diff.DiffRequest.read.Goals as goal
 
 pub returns-in-Err : goal.returns-in-Err

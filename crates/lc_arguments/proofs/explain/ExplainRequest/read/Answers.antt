@@ -1,14 +1,9 @@
 use Rattle.std.proofs.Common.{◌∙◌, ap, codes, refl, subst, List, Err, Ok}
 use Rattle.std.specs.Prelude.{map}
-use Rattle.clap.specs.Matches.{found_of}
-use Rattle.clap.specs.Simple.{matches_of}
-use Rattle.clap.specs.Walk.{Row}
-use Rattle.lc_arguments.specs.CommandLine.{explain_app}
-use Rattle.lc_arguments.specs.Explained.{AnswersFilters}
-use Rattle.lc_arguments.specs.Words.{AreFiltersOf, Misvalue}
-use Rattle.lc_arguments.proofs.WordFaults.{explain_is_free, explain_is_simple, fails_as, flag_of, matches_as}
-use Rattle.lc_arguments.proofs.WordFaults.{no_request_of, text_or, texts_of}
-use Rattle.lc_arguments.proofs.Misnaming.{unread_by, unread_for}
+use Rattle.clap.specs.{Matches.found_of, Simple.matches_of, Walk.Row}
+use Rattle.lc_arguments.specs.{CommandLine.explain_app, Explained.AnswersFilters, Words.{AreFiltersOf, Misvalue}}
+use Rattle.lc_arguments.proofs.WordFaults.{explain_is_free, explain_is_simple, fails_as, flag_of, matches_as, no_request_of, text_or}
+use Rattle.lc_arguments.proofs.{WordFaults.texts_of, Misnaming.{unread_by, unread_for}}
 use Rattle.lc_arguments.proofs.explain.ExplainRequest.read.Goals as goal
 
 pub returns-in-Err : goal.returns-in-Err

@@ -1,9 +1,7 @@
 use Rattle.std.proofs.Common.{arith, codes, refl}
 use Rattle.std.specs.Str.Parse.{ParsesUnsigned, ExplainsUnsignedError, HasUnsignedDigitsIfOk}
-use Rattle.clap.specs.Matches.{found_of, one_text}
-use Rattle.clap.specs.Walk.{rows_of}
-use Rattle.lc_arguments.proofs.ReadValues.{number_read}
-use Rattle.lc_arguments.proofs.WordFaults.{number_of}
+use Rattle.clap.specs.{Matches.{found_of, one_text}, Walk.rows_of}
+use Rattle.lc_arguments.proofs.{ReadValues.number_read, WordFaults.number_of}
 use Rattle.lc_arguments.proofs.numbers.Numbers.read.Goals as goal
 
 pub returns : goal.returns

@@ -1,13 +1,9 @@
 use Rattle.std.proofs.Common.{inr, map, subst, List, Err, Ok}
-use Rattle.clap.specs.Simple.{matches_of}
-use Rattle.clap.specs.Walk.{Row}
-use Rattle.lc_arguments.specs.CommandLine.{sum_app}
-use Rattle.lc_arguments.specs.Explained.{AnswersSumIn}
-use Rattle.lc_arguments.specs.Combinations.{table_fits}
-use Rattle.lc_arguments.specs.Words.{AsksNoSum, IsSumOf}
+use Rattle.clap.specs.{Simple.matches_of, Walk.Row}
+use Rattle.lc_arguments.specs.{CommandLine.sum_app, Explained.AnswersSumIn, Combinations.table_fits, Words.{AsksNoSum, IsSumOf}}
 use Rattle.lc_arguments.specs.ReadNumbers.{AreCutsIn}
-use Rattle.lc_arguments.proofs.WordFaults.{sum_is_free, sum_is_simple, fails_as, matches_as, no_request_of}
-use Rattle.lc_arguments.proofs.Misnaming.{none_wrong, one_wrong, refused_for, refused_with, unread_by, unread_for}
+use Rattle.lc_arguments.proofs.{WordFaults.{sum_is_free, sum_is_simple, fails_as, matches_as, no_request_of}, Misnaming.none_wrong}
+use Rattle.lc_arguments.proofs.Misnaming.{one_wrong, refused_for, refused_with, unread_by, unread_for}
 use Rattle.lc_arguments.proofs.sum.SumRequest.read.Goals as goal
 
 pub returns-in-Err : goal.returns-in-Err

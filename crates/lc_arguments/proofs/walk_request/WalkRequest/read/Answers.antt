@@ -1,9 +1,7 @@
 use Rattle.std.proofs.Common.{codes, inl, inr, refl}
-use Rattle.clap.specs.Matches.{found_of}
-use Rattle.clap.specs.Walk.{rows_of}
+use Rattle.clap.specs.{Matches.found_of, Walk.rows_of}
 use Rattle.lc_arguments.specs.Words.{Misplace, Misvalue}
-use Rattle.lc_arguments.proofs.WordFaults.{flag_of, text_of}
-use Rattle.lc_arguments.proofs.Misnaming.{no_walk_in}
+use Rattle.lc_arguments.proofs.{WordFaults.{flag_of, text_of}, Misnaming.no_walk_in}
 use Rattle.lc_arguments.proofs.walk_request.WalkRequest.read.Goals as goal
 
 pub returns-in_err-filters : goal.returns-in_err-filters
