@@ -1,10 +1,9 @@
 -- The definitions, computed on short histories.
 use Rattle.std.proofs.Common.{◌≡◌, ◌≢◌, ℕ, ◌<◌, ◌≤◌, ◌==◌, ◌↔◌, cond, Bool, true, false, [], ◌∷◌, slice_get, refl, sym, ◌∙◌, arith}
 use Rattle.std.proofs.lemmas.{Bool.ne_eqb, Option.slice_get_past}
-use Rattle.lc_board.specs.{State.{Absent, Open, Claimed, Returned, Faulted, status}, LegalHistory.IsLegal}
-use Rattle.lc_board.specs.RowsInPlace.{job_got, job_posted, row_given}
-use Rattle.lc_board.specs.Scripts.{two_workers, own_post, one_fault, two_rows, fault_row, ScriptsAreLegal}
-use Rattle.lc_board.specs.declared.event.Event.TheVariants.{Post, Claim, Return}
+use Rattle.lc_board.specs.{State.{Absent, Open, Claimed, Returned, Faulted, status}, LegalHistory.IsLegal, RowsInPlace.job_got}
+use Rattle.lc_board.specs.{RowsInPlace.{job_posted, row_given}, Scripts.{two_workers, own_post, one_fault, two_rows, fault_row}}
+use Rattle.lc_board.specs.{Scripts.ScriptsAreLegal, declared.event.Event.TheVariants.{Post, Claim, Return}}
 use Rattle.lc_board.proofs.Places.{each}
 
 -- before anything is claimed, everybody is idle

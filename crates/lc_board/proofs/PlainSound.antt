@@ -2,9 +2,8 @@
 use Rattle.std.proofs.Common.{◌≡◌, ◌≢◌, ℕ, zero, suc, ◌<◌, ◌≤◌, ◌+◌, List, [], ◌∷◌, ◌++◌, length, slice_get, slice_set, slice_index_or}
 use Rattle.std.proofs.{Common.{replicate, Option, Some, None, refl, sym, ◌∙◌, ap, subst, arith, length-append}, lemmas.List.length-set}
 use Rattle.std.proofs.lemmas.Option.{slice_get_past, slice_get_within}
-use Rattle.lc_board.specs.{Limits.capacity_limit, PlainBoard.{Board, held_by, cell_at, first_board}, PlainCalls.IsOpen}
-use Rattle.lc_board.specs.{PlainFields.{IsSound, IsHeldBy}, declared.plain.cell.Cell.{Cell, TheVariants.{Waiting, Held, Done}}}
-use Rattle.lc_board.specs.declared.answers.Ended.{Ended}
+use Rattle.lc_board.specs.{Limits.capacity_limit, PlainBoard.{Board, held_by, cell_at, first_board}, PlainCalls.IsOpen, PlainFields.IsSound}
+use Rattle.lc_board.specs.{PlainFields.IsHeldBy, declared.{plain.cell.Cell.{Cell, TheVariants.{Waiting, Held, Done}}, answers.Ended.Ended}}
 use Rattle.lc_board.proofs.Places.{each, each_set, each_push, index_set_same, index_set_other, get_set_other, get_set_same}
 
 abbrev nobody : ℕ → List (Option ℕ)

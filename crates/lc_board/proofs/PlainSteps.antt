@@ -2,15 +2,14 @@
 use Rattle.std.proofs.Common.{◌≡◌, ◌≢◌, ℕ, zero, suc, ◌<◌, ◌≤◌, ◌+◌, List, [], ◌∷◌, ◌++◌, map, length, slice_get, slice_set, Option, Some}
 use Rattle.std.proofs.Common.{None, option_map, refl, sym, ◌∙◌, ap, subst, arith, length-append, ◌↔◌}
 use Rattle.std.proofs.lemmas.{List.{length-set, nil_from_length}, Option.{slice_get-map, slice_get_past, slice_get_within}}
-use Rattle.lc_board.specs.State.{Status, Absent, Open, Claimed, Returned, Faulted, status}
-use Rattle.lc_board.specs.{LegalHistory.{posts_under, IsIdle, IsOver, IsAllowed, IsLegal}, Part.worker_of, ClosedBoard.{Shows, IsUnended}}
-use Rattle.lc_board.specs.RowsInPlace.{job_posted, job_got, row_given, InPlace}
-use Rattle.lc_board.specs.PlainBoard.{Board, cell_at, IsCellOf, IsAfter, first_board}
-use Rattle.lc_board.specs.{PlainCalls.{IsOpen, IsHeld, IsLeft, NoneOpen, NoneHeld, cell_of}, declared.event.Event.Event}
-use Rattle.lc_board.specs.declared.{event.Event.TheVariants.{Post, Claim, Return, Fault, Over}, plain.cell.Cell.Cell}
-use Rattle.lc_board.specs.{declared.{plain.cell.Cell.TheVariants.{Waiting, Held, Done}, answers.Ended.Ended}, Numbers.HasNumbers}
-use Rattle.lc_board.specs.declared.answers.Ended.TheVariants as ended
+use Rattle.lc_board.specs.{State.{Status, Absent, Open, Claimed, Returned, Faulted, status}, LegalHistory.{posts_under, IsIdle, IsOver}}
+use Rattle.lc_board.specs.{LegalHistory.{IsAllowed, IsLegal}, Part.worker_of, ClosedBoard.{Shows, IsUnended}, RowsInPlace.job_posted}
+use Rattle.lc_board.specs.{RowsInPlace.{job_got, row_given, InPlace}, PlainBoard.{Board, cell_at, IsCellOf, IsAfter, first_board}}
+use Rattle.lc_board.specs.PlainCalls.{IsOpen, IsHeld, IsLeft, NoneOpen, NoneHeld, cell_of}
+use Rattle.lc_board.specs.declared.event.Event.{Event, TheVariants.{Post, Claim, Return, Fault, Over}}
+use Rattle.lc_board.specs.{declared.{plain.cell.Cell.{Cell, TheVariants.{Waiting, Held, Done}}, answers.Ended.Ended}, Numbers.HasNumbers}
 use Rattle.lc_board.proofs.Places.{get_none, at_same, at_other, each_set, each_push}
+use Rattle.lc_board.specs.declared.answers.Ended.TheVariants as ended
 
 -- what a status that has ended, or is absent, is not
 pub unended : (s t : Status) → s ≡ t → ¬ IsUnended t → (s ≢ Open) × ((w : ℕ) → s ≢ Claimed w)

@@ -1,19 +1,20 @@
 -- The numbers that all workers ended are the numbers of a history that is over, each once.
 use Rattle.std.proofs.Common.{◌≡◌, ◌≢◌, ℕ, zero, suc, ◌+◌, ◌<◌, ◌≤◌, ◌==◌, Bool, true, false, cond, List, [], ◌∷◌, ◌++◌, length, map}
 use Rattle.std.proofs.Common.{slice_get, refl, sym, ◌∙◌, ap, arith, subst, Option, Some, None, ◌⊎◌, inl, inr, IsPermutation, sum_by}
-use Rattle.std.proofs.lemmas.{Bool.{cases_lt, eqb-true, ne_eqb, or_cases}, List.Sums.{sum_by-append, sum_by-cons}}
-use Rattle.std.proofs.lemmas.Map.Steps.{length-le_from_distinct_below}
+use Rattle.std.proofs.lemmas.Bool.{cases_lt, eqb-true, ne_eqb, or_cases}
+use Rattle.std.proofs.lemmas.List.Sums.{sum_by-append, sum_by-cons}
 use Rattle.std.proofs.lemmas.List.Sorted.{IsPermutation-refl, IsPermutation-trans, IsPermutation-cons, IsPermutation-middle}
 use Rattle.std.proofs.lemmas.List.Sorted.{IsPermutation-append_right, IsPermutation-map, sum_by-IsPermutation}
+use Rattle.std.proofs.lemmas.Map.Steps.{length-le_from_distinct_below}
 use Rattle.std.specs.List.{flat_map, range_with_len, enumerate_from, list_any, IsDistinct, AllByRecursion}
-use Rattle.lc_board.specs.{State.{Status, Absent, Open, Claimed, Returned, Faulted, status}, Part.{worker_of, part}}
-use Rattle.lc_board.specs.{LegalHistory.{IsAllowed, IsLegal, IsOver}, RowsInPlace.row_given, Numbers.{HasNumbers, ends_of, posts_of}}
-use Rattle.lc_board.specs.{Ends.ends, Laws.{Counts, PostedOnce, StaysLegal, FewNumbers, FewEnds, RowsAreEnds, SumsOfRows}}
+use Rattle.lc_board.specs.{State.{Status, Absent, Open, Claimed, Returned, Faulted, status}, Part.{worker_of, part}, LegalHistory.IsAllowed}
+use Rattle.lc_board.specs.{LegalHistory.{IsLegal, IsOver}, RowsInPlace.row_given, Numbers.{HasNumbers, ends_of, posts_of}, Ends.ends}
+use Rattle.lc_board.specs.Laws.{Counts, PostedOnce, StaysLegal, FewNumbers, FewEnds, RowsAreEnds, SumsOfRows}
 use Rattle.lc_board.specs.declared.{event.Event.{Event, TheVariants.{Post, Claim, Return, Fault, Over}}, answers.Ended.Ended}
+use Rattle.lc_board.proofs.{Places.{at_same, at_other}, Growths.{part_own, part_else}, NumbersOnce.{numbers_once, named}, Weights.each-map}
+use Rattle.lc_board.proofs.{Weights.{only, times, permuted}, PostedNumbers.{start, within}, EndedNumbers.{IsGiven, ends_given, no_end}}
+use Rattle.lc_board.proofs.EndedNumbers.{row_means_ended, claimed_has_no_row}
 use Rattle.lc_board.specs.declared.answers.Ended.TheVariants as ended
-use Rattle.lc_board.proofs.{Places.{at_same, at_other}, Growths.{part_own, part_else}, NumbersOnce.{numbers_once, named}}
-use Rattle.lc_board.proofs.{Weights.{each-map, only, times, permuted}, PostedNumbers.{start, within}}
-use Rattle.lc_board.proofs.EndedNumbers.{IsGiven, ends_given, no_end, row_means_ended, claimed_has_no_row}
 
 -- 0 was never posted
 abbrev posts_wanted : Bool → ℕ

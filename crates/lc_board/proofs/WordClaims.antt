@@ -1,25 +1,23 @@
 -- A look at a word keeps the row of words, and so does a claim of an open number.
-use Rattle.std.proofs.Common.{◌≡◌, ◌≢◌, ℕ, eqb, subst, ◌+◌, ◌*◌, ◌<◌, ◌≤◌, ◌⊎◌, Bool, true, false, List, [], ◌∷◌, length, get_or, set, sym}
-use Rattle.std.proofs.{Common.{refl, ap, ◌∙◌, inl, inr, ⊎_elim, arith, length-set, Option, Some, None}, lemmas.Bool.Decides.nat_tests}
-use mathlib.Core.Logic.{dite}
-use mathlib.Core.Option.{some, none}
+use Rattle.std.proofs.Common.{◌≡◌, ◌≢◌, ℕ, eqb, subst, ◌+◌, ◌*◌, ◌<◌, ◌≤◌, ◌⊎◌, Bool, true, false, List, [], ◌∷◌, length, get_or, set}
+use Rattle.std.proofs.{Common.{sym, refl, ap, ◌∙◌, inl, inr, ⊎_elim, arith, length-set, Option, Some, None}, lemmas.Bool.Decides.nat_tests}
+use mathlib.Core.{Logic.dite, Option.{some, none}}
 use native.Mathlib.Decide.{ℕ_discrete, dec_lt}
-use lib.ListN.{get_elem?}
-use lib.Seq.{set-get_or}
+use lib.{ListN.get_elem?, Seq.set-get_or}
 use prog.Atomic.{either}
 use Rattle.std.specs.Prelude.{MatchBool}
 use Rattle.atomic_table.specs.Table.{State, Act, keeps, takes, stepped, step, Allows, Valid, carried_after}
 use Rattle.atomic_table.proofs.Lists.{set_else, exchanged}
 use Rattle.lc_board.specs.{State.{Absent, Open, Claimed, status}, Part.part, LegalHistory.{IsAllowed, IsLegal}, Holding.holding}
-use Rattle.lc_board.specs.{Growth.{rank, put, job_at}, WordCode.{shown, code, word_of, is_absent, is_open, has_ended}}
-use Rattle.lc_board.specs.{WordRow.{Seated, SlotHolds, Knows, IsRow}, declared.{words.coding.Word.Word, event.Event.Event}}
-use Rattle.lc_board.specs.declared.{event.Event.TheVariants.{Claim, Over}, words.view.{Slot.{Slot, TheVariants.Job}, View.View}}
-use Rattle.lc_board.specs.WordSteps.{ExtendsFairly, AddsEvent, SomeHolds, Finds, HasLooked, looked, TakesJob, claimed, low_after}
-use Rattle.lc_board.specs.WordSteps.{TakesStep, last_look}
+use Rattle.lc_board.specs.{Growth.{rank, put, job_at}, WordCode.{shown, code, word_of, is_absent, is_open, has_ended}, WordRow.Seated}
+use Rattle.lc_board.specs.WordRow.{SlotHolds, Knows, IsRow}
+use Rattle.lc_board.specs.declared.words.{coding.Word.Word, view.{Slot.{Slot, TheVariants.Job}, View.View}}
+use Rattle.lc_board.specs.{declared.event.Event.{Event, TheVariants.{Claim, Over}}, WordSteps.{ExtendsFairly, AddsEvent, SomeHolds, Finds}}
+use Rattle.lc_board.specs.WordSteps.{HasLooked, looked, TakesJob, claimed, low_after, TakesStep, last_look}
+use Rattle.lc_board.proofs.{HeldClaims.part_tells_claim, Growths.{at_put, put_else, whole, part_own, part_else}, WordCodes.decoded}
+use Rattle.lc_board.proofs.{WordCodes.{absent_is, not_open, ended_rank}, WordsMoved.{apart_same, agree_put, held_is, still_ended, IsTold}}
+use Rattle.lc_board.proofs.WordsMoved.{IsNext, steps_on, lies_stay, IsTurn, turned}
 use Rattle.lc_board.specs.declared.words.coding.Word.TheVariants as word
-use Rattle.lc_board.proofs.{HeldClaims.part_tells_claim, Growths.{at_put, put_else, whole, part_own, part_else}}
-use Rattle.lc_board.proofs.WordCodes.{decoded, absent_is, not_open, ended_rank}
-use Rattle.lc_board.proofs.WordsMoved.{apart_same, agree_put, held_is, still_ended, IsTold, IsNext, steps_on, lies_stay, IsTurn, turned}
 
 low_tells : (cap i low : ℕ) (x : Word) (z : ℕ) → z < low_after cap i low x → (z < low) ⊎ ((z ≡ i) × (has_ended x ≡ true))
 low_tells cap i low x z h = grind (arith, nat_tests)

@@ -1,25 +1,22 @@
 -- A claim ends, by the row that is given; or its slot goes home, as the board is closed.
-use Rattle.std.proofs.Common.{◌≡◌, ◌≢◌, ℕ, subst, ◌+◌, ◌<◌, true, List, [], ◌∷◌, length, get_or, set, sym, refl, ap, ◌∙◌, arith, length-set}
-use Rattle.std.proofs.Common.{Option, Some, None}
-use mathlib.Core.Logic.{dite}
-use mathlib.Core.Option.{some, none}
+use Rattle.std.proofs.Common.{◌≡◌, ◌≢◌, ℕ, subst, ◌+◌, ◌<◌, true, List, [], ◌∷◌, length, get_or, set, sym, refl, ap, ◌∙◌, arith}
+use Rattle.std.proofs.Common.{length-set, Option, Some, None}
+use mathlib.Core.{Logic.dite, Option.{some, none}}
 use native.Mathlib.Decide.{ℕ_discrete}
-use lib.ListN.{get_elem?}
-use lib.Seq.{set-get_or}
+use lib.{ListN.get_elem?, Seq.set-get_or}
 use Rattle.atomic_table.specs.Table.{gives, stepped, step, rest, Allows}
 use Rattle.atomic_table.proofs.Lists.{set_else, set_here}
-use Rattle.lc_board.specs.{State.{Absent, Claimed, status}, Part.worker_of, LegalHistory.{posts_under, IsAllowed, IsLegal}}
-use Rattle.lc_board.specs.{Holding.{holding, posted}, RowsInPlace.row_given, Growth.{rank, put, job_at, IsRight}}
-use Rattle.lc_board.specs.{Ending.{MayEnd, end_event, row_in}, WordCode.{shown, code, end_word}}
-use Rattle.lc_board.specs.{WordRow.{Homes, Seated, SlotHolds, Knows, IsRow}, declared.{words.coding.Word.Word, event.Event.Event}}
-use Rattle.lc_board.specs.declared.{words.view.{Slot.{Slot, TheVariants.{Empty, Row}}, View.View}, answers.Ended.Ended}
-use Rattle.lc_board.specs.WordSteps.{AddsEvent, put_down}
+use Rattle.lc_board.specs.{State.{Absent, Claimed, status}, Part.worker_of, LegalHistory.{posts_under, IsAllowed, IsLegal}, Holding.holding}
+use Rattle.lc_board.specs.{Holding.posted, RowsInPlace.row_given, Growth.{rank, put, job_at, IsRight}, Ending.{MayEnd, end_event, row_in}}
+use Rattle.lc_board.specs.{WordCode.{shown, code, end_word}, WordRow.{Homes, Seated, SlotHolds, Knows, IsRow}}
+use Rattle.lc_board.specs.declared.{words.{coding.Word.Word, view.{Slot.{Slot, TheVariants.{Empty, Row}}, View.View}}, event.Event.Event}
+use Rattle.lc_board.specs.{declared.answers.Ended.Ended, WordSteps.{AddsEvent, put_down}}
+use Rattle.lc_board.proofs.{HeldClaims.posted_nothing, Growths.{at_put, put_here, put_else, part_own, part_else}, WordsMoved.agree_put}
+use Rattle.lc_board.proofs.{WordsMoved.{of_shown, held_is, IsNext, still_ended, IsTold, steps_on, lies_stay, IsTurn, turned}, WordClaims.St}
+use Rattle.lc_board.proofs.WordClaims.{added, next_same, told_same}
 use Rattle.lc_board.specs.declared.words.coding.Word.TheVariants as word
 use Rattle.lc_board.specs.WordSteps as steps
 use Rattle.lc_board.specs.declared.answers.Ended.TheVariants as ended
-use Rattle.lc_board.proofs.{HeldClaims.posted_nothing, Growths.{at_put, put_here, put_else, part_own, part_else}}
-use Rattle.lc_board.proofs.WordsMoved.{agree_put, of_shown, held_is, IsNext, still_ended, IsTold, steps_on, lies_stay, IsTurn, turned}
-use Rattle.lc_board.proofs.WordClaims.{St, added, next_same, told_same}
 
 taken_same : (a b : ℕ) → Claimed a ≡ Claimed b → a ≡ b
 taken_same a b e = cc

@@ -2,13 +2,12 @@
 use Rattle.std.proofs.Common.{◌≡◌, ℕ, ◌<◌, ◌≤◌, ◌⊎◌, ⊎_elim, Bool, true, false, refl, ap, sym, ◌∙◌, subst, arith}
 use Rattle.std.proofs.lemmas.Bool.Decides.{nat_tests}
 use Rattle.std.specs.Prelude.{MatchBool}
-use Rattle.lc_board.specs.{State.{Open, Claimed, status}, Growth.{GoesOn, rank}, WordPass.{IsListed, AreListed, AreTaken}}
-use Rattle.lc_board.specs.WordSteps.{IsFair, AddsEvent, ExtendsFairly, Finds, HasLooked, taken_after, last_look}
-use Rattle.lc_board.specs.{WordCode.{is_open, is_taken}, declared.words.coding.Word.Word}
+use Rattle.lc_board.specs.{State.{Open, Claimed, status}, Growth.{GoesOn, rank}, WordPass.{IsListed, AreListed, AreTaken}, WordSteps.IsFair}
+use Rattle.lc_board.specs.{WordSteps.{AddsEvent, ExtendsFairly, Finds, HasLooked, taken_after, last_look}, WordCode.{is_open, is_taken}}
+use Rattle.lc_board.specs.declared.words.{coding.Word.Word, newest.Newest.Newest, view.View.View}
 use Rattle.lc_board.specs.declared.event.Event.{Event, TheVariants.{Post, Claim, Over}}
-use Rattle.lc_board.specs.declared.words.{newest.Newest.Newest, view.View.View}
-use Rattle.lc_board.specs.declared.words.coding.Word.TheVariants as word
 use Rattle.lc_board.proofs.Growths.{longer, put_here, rank_from}
+use Rattle.lc_board.specs.declared.words.coding.Word.TheVariants as word
 
 -- which numbers are below the mark after a look
 taken_tells : (i taken : ℕ) (x : Word) (z : ℕ) → z < taken_after i taken x → (z < taken) ⊎ ((z ≡ i) × (is_taken x ≡ true))

@@ -1,8 +1,7 @@
 -- A number is drawn, and then opened with a job.
 use Rattle.std.proofs.Common.{◌≡◌, ◌≢◌, ℕ, eqb, subst, ◌+◌, ◌*◌, ◌<◌, true, cond, List, [], ◌∷◌, length, get_or, set, sym, refl, ap, ◌∙◌}
 use Rattle.std.proofs.Common.{arith, length-set, Option, Some}
-use mathlib.Core.Logic.{dite}
-use mathlib.Core.Option.{some, none}
+use mathlib.Core.{Logic.dite, Option.{some, none}}
 use native.Mathlib.Decide.{ℕ_discrete, dec_le}
 use lib.ListN.{get_elem?}
 use prog.Atomic.{either}
@@ -10,13 +9,13 @@ use Rattle.std.specs.Prelude.{MatchBool}
 use Rattle.atomic_table.specs.Table.{Act, keeps, takes, gives, stepped, step, rest, Allows, Valid, carried_after}
 use Rattle.atomic_table.proofs.Lists.{set_else, set_here, exchanged}
 use Rattle.lc_board.specs.{State.{Absent, Open, Claimed, status}, LegalHistory.IsLegal, Holding.holding, Growth.{put, job_at}}
-use Rattle.lc_board.specs.{WordCode.{shown, code, word_of, is_absent}, WordRow.{Seated, SlotHolds, Knows, IsRow}}
-use Rattle.lc_board.specs.{WordSteps.{IsFair, AddsEvent, TakesEmpty, drew, stepped_over, opened}, declared.event.Event.Event}
-use Rattle.lc_board.specs.declared.{event.Event.TheVariants.Post, words.view.{Slot.{Slot, TheVariants.{Empty, Job}}, View.View}}
+use Rattle.lc_board.specs.{WordCode.{shown, code, word_of, is_absent}, WordRow.{Seated, SlotHolds, Knows, IsRow}, WordSteps.IsFair}
+use Rattle.lc_board.specs.{WordSteps.{AddsEvent, TakesEmpty, drew, stepped_over, opened}, declared.event.Event.{Event, TheVariants.Post}}
+use Rattle.lc_board.specs.declared.words.view.{Slot.{Slot, TheVariants.{Empty, Job}}, View.View}
+use Rattle.lc_board.proofs.{Growths.{at_put, put_here, put_else, whole, part_own, part_else}, WordCodes.not_absent, WordsMoved.agree_put}
+use Rattle.lc_board.proofs.{WordsMoved.{held_is, still_ended, IsTold, steps_on, IsTurn, turned}, WordClaims.{St, face_here, unwritten}}
+use Rattle.lc_board.proofs.WordClaims.{next_same, told_same}
 use Rattle.lc_board.specs.declared.words.coding.Word.TheVariants as word
-use Rattle.lc_board.proofs.{Growths.{at_put, put_here, put_else, whole, part_own, part_else}, WordCodes.not_absent}
-use Rattle.lc_board.proofs.WordsMoved.{agree_put, held_is, still_ended, IsTold, steps_on, IsTurn, turned}
-use Rattle.lc_board.proofs.WordClaims.{St, face_here, unwritten, next_same, told_same}
 
 held_same : (a b : ℕ) → word.Drawn a ≡ word.Drawn b → a ≡ b
 held_same a b e = cc

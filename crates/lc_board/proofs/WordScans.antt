@@ -8,13 +8,12 @@ use Rattle.lc_board.specs.{State.{Status, Absent, Open, status}, LegalHistory.Is
 use Rattle.lc_board.specs.WordSteps.{IsFair, AddsEvent, ExtendsFairly, Extends, OthersHeld, Waits, SomeHolds, Finds, HasLooked, low_after}
 use Rattle.lc_board.specs.{WordSteps.{is_last_word, last_look, larger}, WordCode.{is_absent, is_open, has_ended, is_busy}}
 use Rattle.lc_board.specs.{WordPass.AreTaken, WordsBoard.{AnswersWordsClaim, IsSamePass, TriesClaim, known}, WordBounds.MeetsOpen}
-use Rattle.lc_board.specs.declared.{words.pass.WordsPass.WordsPass, event.Event.{Event, TheVariants.{Post, Claim, Over}}}
-use Rattle.lc_board.specs.declared.words.{Words.Words, coding.Word.Word, view.View.View}
-use Rattle.lc_board.specs.declared.answers.Claim.{Claim as Answer}
-use Rattle.lc_board.specs.declared.answers.Claim.TheVariants as answer
-use Rattle.lc_board.specs.declared.words.coding.Word.TheVariants as word
+use Rattle.lc_board.specs.declared.words.{pass.WordsPass.WordsPass, Words.Words, coding.Word.Word, view.View.View}
+use Rattle.lc_board.specs.declared.{event.Event.{Event, TheVariants.{Post, Claim, Over}}, answers.Claim.Claim as Answer}
 use Rattle.lc_board.proofs.{Growths.{rank_from, whole, goes_trans, rank_zero, legal_before}, WordCodes.{absent_is, open_is}}
 use Rattle.lc_board.proofs.WordMarks.{stays_taken}
+use Rattle.lc_board.specs.declared.answers.Claim.TheVariants as answer
+use Rattle.lc_board.specs.declared.words.coding.Word.TheVariants as word
 
 -- a look at another number than the low mark, or at one after which others may be used, is not the last
 last_no : (cap i low : ℕ) (x : Word) → low ≢ i → last_look cap i low x ≡ false

@@ -2,18 +2,17 @@
 use Rattle.std.proofs.Common.{◌≡◌, ◌≢◌, ℕ, zero, suc, eqb, subst, ◌+◌, ◌<◌, ◌≤◌, ◌⊎◌, Bool, true, false, cond, ltb, List, [], ◌∷◌, ◌++◌}
 use Rattle.std.proofs.Common.{length, get_or, set, replicate, map, sym, refl, ap, ◌∙◌, inl, inr, ⊎_elim, arith, length-set, Option, Some}
 use Rattle.std.proofs.{Common.None, lemmas.List.append-nil}
-use mathlib.Core.Path.{Path}
-use mathlib.Core.Option.{some, some-injective, some-ne-none}
-use mathlib.Core.Option as maybe
+use mathlib.Core.{Path.Path, Option.{some, some-injective, some-ne-none}}
 use lib.ListN.{get_elem?}
 use Rattle.atomic_table.specs.Table.{State, Splits, Joins, opening}
 use Rattle.atomic_table.proofs.Lists.{at_set, set_else}
-use Rattle.lc_board.specs.{State.{Absent, Open, Claimed, status}, Part.part, Growth.put, WordCode.code}
-use Rattle.lc_board.specs.{WordRow.{Homes, SlotHolds, HasJoined, Knows, IsRow}, declared.{words.coding.Word.Word, event.Event.Event}}
-use Rattle.lc_board.specs.declared.words.view.{Slot.{Slot, TheVariants.{Empty, Job}}, View.View}
+use Rattle.lc_board.specs.{State.{Absent, Open, Claimed, status}, Part.part, Growth.put, WordCode.code, WordRow.{Homes, SlotHolds}}
+use Rattle.lc_board.specs.WordRow.{HasJoined, Knows, IsRow}
+use Rattle.lc_board.specs.declared.{words.{coding.Word.Word, view.{Slot.{Slot, TheVariants.{Empty, Job}}, View.View}}, event.Event.Event}
 use Rattle.lc_board.specs.WordSteps.{view_before_split, left_of_split, larger, right_of_split, merged, spent}
-use Rattle.lc_board.specs.declared.words.coding.Word.TheVariants as word
 use Rattle.lc_board.proofs.{Growths.{at_put, put_here, put_else}, WordsMoved.{same_some, agree_put}}
+use mathlib.Core.Option as maybe
+use Rattle.lc_board.specs.declared.words.coding.Word.TheVariants as word
 
 at_end : {A : Type 0} (l : List A) (a b : A) (j : ℕ) → get_elem? (l ++ a ∷ []) j ≡ some b
     → (get_elem? l j ≡ some b) ⊎ ((j ≡ length l) × (a ≡ b))

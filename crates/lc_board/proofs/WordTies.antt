@@ -5,10 +5,9 @@ use mathlib.Core.Path.{Path}
 use Rattle.std.specs.Prelude.{IsSome}
 use Rattle.atomic_table.specs.Table.{Step, rest}
 use Rattle.lc_board.specs.{Holding.{holding, posted}, WordCode.{word_of, is_absent, is_open}, WordRow.Seated}
-use Rattle.lc_board.specs.declared.{words.{coding.Word.Word, view.Slot.{Slot, TheVariants.{Empty, Job, Row}}}, event.Event.Event}
-use Rattle.lc_board.specs.declared.words.view.View.{View}
-use Rattle.lc_board.specs.WordSteps.{Same, TakesStep, HasLooked, Leaves, looked, TakesJob, claimed, TriesDraw, OpensDrawn, stepped_over}
-use Rattle.lc_board.specs.WordPass.{IsTied, kind, tag, tags_as, carried_as}
+use Rattle.lc_board.specs.declared.words.{coding.Word.Word, view.{Slot.{Slot, TheVariants.{Empty, Job, Row}}, View.View}}
+use Rattle.lc_board.specs.{declared.event.Event.Event, WordSteps.{Same, TakesStep, HasLooked, Leaves, looked, TakesJob, claimed, TriesDraw}}
+use Rattle.lc_board.specs.{WordSteps.{OpensDrawn, stepped_over}, WordPass.{IsTied, kind, tag, tags_as, carried_as}}
 use Rattle.lc_board.proofs.WordCodes.{match_true, match_false}
 
 -- a claim that is there has a number

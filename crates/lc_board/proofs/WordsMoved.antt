@@ -1,17 +1,16 @@
 -- What stays of the row of words when one number and one pass move.
-use Rattle.std.proofs.Common.{◌∷◌, ◌≡◌, ◌≢◌, ◌↔◌, ℕ, eqb, subst, ◌+◌, ◌<◌, true, false, cond, List, length, get_or, set, sym, refl, ap, ◌∙◌}
-use Rattle.std.proofs.Common.{⊎_elim, arith, length-set, get_or-set_same, get_or-set_other, Option, Some, None}
-use mathlib.Core.Path.{Path}
-use mathlib.Core.Option.{some}
+use Rattle.std.proofs.Common.{◌∷◌, ◌≡◌, ◌≢◌, ◌↔◌, ℕ, eqb, subst, ◌+◌, ◌<◌, true, false, cond, List, length, get_or, set, sym, refl, ap}
+use Rattle.std.proofs.Common.{◌∙◌, ⊎_elim, arith, length-set, get_or-set_same, get_or-set_other, Option, Some, None}
+use mathlib.Core.{Path.Path, Option.some}
 use lib.ListN.{get_elem?}
 use Rattle.atomic_table.specs.Table.{State}
 use Rattle.atomic_table.proofs.Lists.{at_set}
 use Rattle.lc_board.specs.{State.{Status, Claimed, status}, Part.part, LegalHistory.IsLegal, Holding.holding, RowsInPlace.row_given}
-use Rattle.lc_board.specs.{Growth.{GoesOn, IsEnded, put, job_at, IsMatched}, WordCode.{shown, code}}
-use Rattle.lc_board.specs.{WordRow.{Homes, SlotHolds, HasJoined, Knows, ShowsState, IsRow}, WordSteps.IsFair}
+use Rattle.lc_board.specs.{Growth.{GoesOn, IsEnded, put, job_at, IsMatched}, WordCode.{shown, code}, WordRow.{Homes, SlotHolds, HasJoined}}
+use Rattle.lc_board.specs.{WordRow.{Knows, ShowsState, IsRow}, WordSteps.IsFair}
 use Rattle.lc_board.specs.declared.{words.{coding.Word.Word, view.{Slot.Slot, View.View}}, event.Event.Event}
-use Rattle.lc_board.specs.declared.words.coding.Word.TheVariants as word
 use Rattle.lc_board.proofs.{HeldClaims.part_tells_claim, Growths.{at_put, put_else, whole, goes_trans, rank_most, rank_from}}
+use Rattle.lc_board.specs.declared.words.coding.Word.TheVariants as word
 
 -- a number is the same for the worker u
 pub record IsApart (u : ℕ) (faces faces' : ℕ → Word) : Type 0 where

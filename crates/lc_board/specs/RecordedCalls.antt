@@ -1,9 +1,8 @@
 -- What the calls of the board under a lock return.
 use Rattle.std.specs.Prelude.{◌≡◌, ◌≢◌, ℕ, ◌<◌, Bool, true, false, List, ◌∷◌, map, Some, None, Result, Ok, Err, slice_get}
-use Rattle.lc_board.specs.{Part.part, Bare.bare, PlainBoard.{Board, IsFull, workers_of, held_by, posts_by, Adds}}
-use Rattle.lc_board.specs.{PlainCalls.{AnswersClaim, AnswersPost, IsLeftLeast, NoneLeft}, Pass.Pass, ClosedBoard.Promises}
-use Rattle.lc_board.specs.{RecordedBoard.Record, declared.{event.Event.Event, answers.{Claim.Claim, CloseFault.CloseFault}}}
-use Rattle.lc_board.specs.declared.answers.PostFault.{PostFault}
+use Rattle.lc_board.specs.{Part.part, Bare.bare, PlainBoard.{Board, IsFull, workers_of, held_by, posts_by, Adds}, PlainCalls.AnswersClaim}
+use Rattle.lc_board.specs.{PlainCalls.{AnswersPost, IsLeftLeast, NoneLeft}, Pass.Pass, ClosedBoard.Promises, RecordedBoard.Record}
+use Rattle.lc_board.specs.declared.{event.Event.Event, answers.{Claim.Claim, CloseFault.CloseFault, PostFault.PostFault}}
 use Rattle.lc_board.specs.declared.event.Event.TheVariants as event
 use Rattle.lc_board.specs.declared.answers.Claim.TheVariants as answer
 use Rattle.lc_board.specs.declared.answers.CloseFault.TheVariants as close

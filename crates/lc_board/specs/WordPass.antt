@@ -1,8 +1,7 @@
 -- How the fields of a pass of a board of words agree with what the pass knows and which slots it holds.
 use Rattle.std.specs.Prelude.{◌≡◌, ℕ, ◌<◌, ◌≤◌, true, List, [], ◌∷◌, map, Option, Some, None}
 use Rattle.lc_board.specs.{Holding.{holding, posted}, State.status, Growth.{IsTaken, rank}, WordRow.Seated, declared.event.Event.Event}
-use Rattle.lc_board.specs.declared.words.newest.Newest.{Newest}
-use Rattle.lc_board.specs.declared.words.view.Slot.{Slot, TheVariants.{Empty, Job, Row}}
+use Rattle.lc_board.specs.declared.words.{newest.Newest.Newest, view.Slot.{Slot, TheVariants.{Empty, Job, Row}}}
 
 -- the kind of a slot, as a number: two numbers are equal in one way only, which is not known of slots
 abbrev pub kind : {J R : Type 0} → Slot J R → ℕ

@@ -1,10 +1,9 @@
 use Rattle.std.proofs.Common.{ℕ, arith, sym, ap, subst, ◌∙◌, ◌+◌, ◌<◌, refl, ◌∷◌}
 use Rattle.atomic_table.specs.Table.{rest}
-use Rattle.lc_board.specs.{declared.words.view.Slot.TheVariants.Job, Holding.holding, WordSteps.TakesStep}
-use Rattle.lc_board.specs.WordPass.{AreListed, AreTaken, IsTied}
-use Rattle.lc_board.proofs.WordMarks.{keeps_looked, listed_more, listed_on, marked_added, marked_looked}
-use Rattle.lc_board.proofs.WordTies.{holds_some, first_job, tied_passed, tied_posted}
-use Rattle.lc_board.proofs.{WordBounds.{steps_both, takes_one}, WordScans.try_posted}
+use Rattle.lc_board.specs.{declared.words.view.Slot.TheVariants.Job, Holding.holding, WordSteps.TakesStep, WordPass.{AreListed, AreTaken}}
+use Rattle.lc_board.specs.WordPass.{IsTied}
+use Rattle.lc_board.proofs.{WordMarks.{keeps_looked, listed_more, listed_on, marked_added, marked_looked}, WordTies.{holds_some, first_job}}
+use Rattle.lc_board.proofs.{WordTies.{tied_passed, tied_posted}, WordBounds.{steps_both, takes_one}, WordScans.try_posted}
 use Rattle.lc_board.proofs.words.Words.draw_and_open.Goals as goal
 
 pub open_drawn-requires-clause-may : goal.open_drawn-requires-clause-may

@@ -1,6 +1,5 @@
 use Rattle.std.proofs.Common.{◌≢◌, ℕ, ◌<◌, ◌+◌, ◌∙◌, false, get_or, set, sym, ap, arith, get_or-set_same, get_or-set_other}
-use mathlib.Core.Logic.{dite}
-use mathlib.Core.Option.{some, some-injective}
+use mathlib.Core.{Logic.dite, Option.{some, some-injective}}
 use native.Mathlib.Decide.{ℕ_discrete}
 use lib.ListN.{get_elem?}
 use Rattle.std.specs.Mem.Slots.{slots_items, slots_filled, slots_len, slots_counts}
