@@ -1,5 +1,4 @@
-use Rattle.std.proofs.Common.{◌≡◌, ◌<◌, Some, length, sym, ap, ◌∙◌}
-use Rattle.std.proofs.lemmas.Option.{slice_get-get_or}
+use Rattle.std.proofs.{Common.{◌≡◌, ◌<◌, Some, length, sym, ap, ◌∙◌}, lemmas.Option.slice_get-get_or}
 use Rattle.lc_board.specs.Pass.{holding}
 use Rattle.lc_board.proofs.ReturnedPasses.{still_in_order}
 use Rattle.lc_board_tests.proofs.board.fill.fill.Goals as goal

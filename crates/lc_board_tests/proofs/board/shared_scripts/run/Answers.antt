@@ -1,5 +1,4 @@
-use Rattle.std.proofs.Common.{◌<◌, length, refl, ap, arith}
-use Rattle.std.proofs.lemmas.Option.{slice_get_read}
+use Rattle.std.proofs.{Common.{◌<◌, length, refl, ap, arith}, lemmas.Option.slice_get_read}
 use Rattle.lc_board.proofs.ReturnedPasses.{used_in_order}
 use Rattle.lc_board_tests.proofs.board.shared_scripts.run.Goals as goal
 
