@@ -1,12 +1,9 @@
 -- The words of one block tell where a line was blank so far.
-use Rattle.std.proofs.Common.{◌≡◌, ℕ, zero, suc, ◌+◌, ◌%◌, ◌^◌, ◌<◌, Bool, true, false, ◌&&◌, ◌||◌, List, get_or, refl, sym, ap, ap₂}
-use Rattle.std.proofs.Common.{◌∙◌, arith}
-use Rattle.std.proofs.lemmas.Bool.{or_parts}
+use Rattle.std.proofs.Common.{◌≡◌, ℕ, zero, suc, ◌+◌, ◌%◌, ◌^◌, ◌<◌, Bool, true, false, ◌&&◌, ◌||◌, List, get_or, refl, sym, ap, ap₂, ◌∙◌}
+use Rattle.std.proofs.{Common.arith, lemmas.Bool.or_parts, Math.Bool.{and_comm, or-false}}
 use lib.Bits.{bit_and, bit_or, bit_xor}
 use mir.Val.{bool_byte}
-use Rattle.std.proofs.Math.Bool.{and_comm, or-false}
-use Rattle.lc_census.specs.Lanes.{test, xor, Bits, Marks, cr_before, blank_before}
-use Rattle.lc_census.specs.Bytes.{is_cr, is_end, is_space}
+use Rattle.lc_census.specs.{Lanes.{test, xor, Bits, Marks, cr_before, blank_before}, Bytes.{is_cr, is_end, is_space}}
 use Rattle.lc_census.proofs.Bits.Test.{test-and, test-or, test-xor, shl, test-shl_one, test-shl_low, test-byte_zero, test-byte_suc}
 use Rattle.lc_census.proofs.Bits.Test.{test-mod, test-zero}
 use Rattle.lc_census.proofs.Bits.Adder.{carry, test-add, most}

@@ -1,13 +1,11 @@
 -- Counts of set bits, and the scan's fields over a list.
 use Rattle.std.proofs.Common.{add_assoc, ◌≡◌, ℕ, zero, suc, ◌+◌, ◌/◌, ◌%◌, ◌^◌, ◌<◌, Bool, not, ◌&&◌, ◌||◌, ◌==◌, List, [], ◌∷◌, ◌++◌}
 use Rattle.std.proofs.Common.{length, get_or, refl, sym, ap, ap₂, ◌∙◌, arith, mod-lt, zero-lt-suc, add-zero, pow-suc}
-use Rattle.std.specs.Int.RustNames.{count_ones}
 use Rattle.std.proofs.lemmas.Nat.Bits.{bit_at_lowest, bit_at-suc}
+use Rattle.std.specs.Int.RustNames.{count_ones}
 use lib.Count.{ones_step, ones-le}
-use Rattle.lc_census.specs.declared.scan.Scan.{Scan}
-use Rattle.lc_census.specs.Lanes.{test, cr_before, blank_before, still_blank, count_first}
-use Rattle.lc_census.specs.Bytes.{is_lf, is_cr, one_if, is_nul}
-use Rattle.lc_census.specs.Scan.{after, after_all}
+use Rattle.lc_census.specs.{declared.scan.Scan.Scan, Lanes.{test, cr_before, blank_before, still_blank, count_first}, Bytes.{is_lf, is_cr}}
+use Rattle.lc_census.specs.{Bytes.{one_if, is_nul}, Scan.{after, after_all}}
 use Rattle.lc_census.proofs.Bits.Test.{bit_cases}
 
 -- the number of set bits is the number of places where they are set

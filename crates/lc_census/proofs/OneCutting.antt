@@ -1,12 +1,10 @@
 -- That bytes have one cutting, which is that of `TheCutting`.
 use Rattle.std.proofs.Common.{◌≡◌, ℕ, true, false, ◌||◌, ◌⊎◌, inl, inr, List, [], ◌∷◌, ◌++◌, refl, sym, ap, subst, ◌∙◌, eqb-true}
-use Rattle.std.specs.List.{list_any}
 use Rattle.std.proofs.lemmas.Bool.{cases_Bool, or_from, or_parts}
-use Rattle.lc_census.specs.Bytes.{is_lf, is_cr}
-use Rattle.lc_census.specs.Cutting.{End, lf, cr_lf, cr, Line, Cutting, HasNoEnd, bytes_of, joined, starts_with_lf, AreLines, IsCutting}
-use Rattle.lc_census.specs.Cutting.{HasOneCutting}
-use Rattle.lc_census.specs.Bytes.{is_end}
-use Rattle.lc_census.specs.TheCutting.{line, cutting, with_cr, with_text, by_byte, before, cut}
+use Rattle.std.specs.List.{list_any}
+use Rattle.lc_census.specs.{Bytes.{is_lf, is_cr, is_end}, Cutting.{End, lf, cr_lf, cr, Line, Cutting, HasNoEnd, bytes_of, joined}}
+use Rattle.lc_census.specs.{Cutting.{starts_with_lf, AreLines, IsCutting, HasOneCutting}, TheCutting.{line, cutting, with_cr, with_text}}
+use Rattle.lc_census.specs.TheCutting.{by_byte, before, cut}
 
 -- a byte is LF, CR or neither
 pub by_kind : (P : ℕ → Type 0) → P 10 → P 13 → ((x : ℕ) → is_lf x ≡ false → is_cr x ≡ false → P x) → (x : ℕ) → P x

@@ -1,7 +1,6 @@
 -- The mark of a rest, by the last byte.
 use Rattle.std.proofs.Common.{◌≡◌, ℕ, suc, ◌-◌, ◌<◌, Bool, not, List, [], ◌∷◌, ◌++◌, length, get_or, refl, ap, ◌∙◌, arith}
-use Rattle.lc_census.specs.Bytes.{is_end}
-use Rattle.lc_census.specs.Fed.{rest_after}
+use Rattle.lc_census.specs.{Bytes.is_end, Fed.rest_after}
 
 -- the mark after two pieces
 pub rest_after-append : (b : Bool) (xs ys : List ℕ) → rest_after b (xs ++ ys) ≡ rest_after (rest_after b xs) ys

@@ -1,9 +1,6 @@
 -- The counts stay small.
 use Rattle.std.proofs.Common.{◌≡◌, ℕ, suc, ◌+◌, ◌≤◌, ◌^◌, Bool, true, false, not, ◌&&◌, ◌||◌, List, [], ◌∷◌, length, arith, subst}
-use Rattle.lc_census.specs.declared.scan.Scan.{Scan}
-use Rattle.lc_census.specs.Scan.{after, after_all, HasRoom}
-use Rattle.lc_census.specs.Bytes.{one_if, is_lf, is_cr, is_nul}
-use Rattle.lc_census.specs.Fed.{IsSmall}
+use Rattle.lc_census.specs.{declared.scan.Scan.Scan, Scan.{after, after_all, HasRoom}, Bytes.{one_if, is_lf, is_cr, is_nul}, Fed.IsSmall}
 
 one_le : (b : Bool) → one_if b ≤ 1
 one_le true = omega arith

@@ -2,23 +2,13 @@
 pub mod Ends
 pub mod Blank
 pub mod Rest
-use Rattle.std.proofs.Common.{◌≡◌, ℕ, suc, eqb, ◌+◌, ◌-◌, ◌⊎◌, inl, inr, Bool, true, false, not, ◌&&◌, ◌||◌, List, [], ◌∷◌}
-use Rattle.std.proofs.Common.{length, refl, sym, ap, ◌∙◌, arith, zero-add, eqb-true}
-use Rattle.std.specs.List.{list_any}
-use Rattle.lc_census.specs.declared.scan.Scan.{Scan}
-use Rattle.lc_census.specs.Bytes.{is_nul, one_if}
-use Rattle.lc_census.specs.Scan.{after, after_all}
-use Rattle.lc_census.specs.Cutting.{End, lf, cr_lf, cr, Line, is_empty, same_end}
-use Rattle.lc_census.specs.Census.{is_blank_text, class_of, has_end, count_of}
-use Rattle.lc_census.specs.declared.line_count.Count.{Count}
-use Rattle.std.specs.List.{count_by}
-use Rattle.std.proofs.lemmas.List.Sums.{sum_by-cons}
-use Rattle.std.proofs.lemmas.Bool.{cases_Bool}
-use Rattle.lc_census.specs.Fed.{rest_after}
-use Rattle.lc_census.specs.Scan.{start}
-use Rattle.lc_census.specs.TheCutting.{cut}
-use Rattle.lc_census.proofs.Tells.Ends.{passing, ends_of, lf_run, cr_run, crlf_run}
-use Rattle.lc_census.proofs.Tells.Blank.{blank_whole, blank_run}
+use Rattle.std.proofs.Common.{◌≡◌, ℕ, suc, eqb, ◌+◌, ◌-◌, ◌⊎◌, inl, inr, Bool, true, false, not, ◌&&◌, ◌||◌, List, [], ◌∷◌, length, refl}
+use Rattle.std.proofs.{Common.{sym, ap, ◌∙◌, arith, zero-add, eqb-true}, lemmas.{List.Sums.sum_by-cons, Bool.cases_Bool}}
+use Rattle.std.specs.List.{list_any, count_by}
+use Rattle.lc_census.specs.{declared.{scan.Scan.Scan, line_count.Count.Count}, Bytes.{is_nul, one_if}, Scan.{after, after_all, start}}
+use Rattle.lc_census.specs.{Cutting.{End, lf, cr_lf, cr, Line, is_empty, same_end}, Census.{is_blank_text, class_of, has_end, count_of}}
+use Rattle.lc_census.specs.{Fed.rest_after, TheCutting.cut}
+use Rattle.lc_census.proofs.Tells.{Ends.{passing, ends_of, lf_run, cr_run, crlf_run}, Blank.{blank_whole, blank_run}}
 use Rattle.lc_census.proofs.Tells.Rest.{after_end, goes, goes_run, is_blank_after, rest_run}
 
 -- NUL

@@ -3,13 +3,10 @@ use Rattle.std.proofs.Common.{◌≡◌, ℕ, ◌+◌, ◌/◌, ◌^◌, ◌<◌
 use Rattle.std.proofs.Common.{ap₂, ◌∙◌, arith}
 use Rattle.std.specs.Int.RustNames.{count_ones}
 use lib.Bits.{bit_and, bit_or, bit_xor, and_le_l, or_lt}
-use Rattle.lc_census.specs.declared.scan.Scan.{Scan}
-use Rattle.lc_census.specs.Lanes.{xor, cr_before, blank_before, count_first, Bits, Marks}
-use Rattle.lc_census.specs.Bytes.{is_lf, is_cr, is_space, is_nul}
-use Rattle.lc_census.specs.Scan.{after_all}
-use Rattle.lc_census.proofs.Bits.Test.{test-and, test-or, test-xor, top_bit}
-use Rattle.lc_census.proofs.Counts.{ones_bits, crlf_at, blank_at, lf_all, cr_all, nul_all, crlf_all, blank_all, after_cr_all}
-use Rattle.lc_census.proofs.Counts.{is_blank_all, state_same}
+use Rattle.lc_census.specs.{declared.scan.Scan.Scan, Lanes.{xor, cr_before, blank_before, count_first, Bits, Marks}, Bytes.{is_lf, is_cr}}
+use Rattle.lc_census.specs.{Bytes.{is_space, is_nul}, Scan.after_all}
+use Rattle.lc_census.proofs.{Bits.Test.{test-and, test-or, test-xor, top_bit}, Counts.{ones_bits, crlf_at, blank_at, lf_all, cr_all}}
+use Rattle.lc_census.proofs.Counts.{nul_all, crlf_all, blank_all, after_cr_all, is_blank_all, state_same}
 
 lone : (l c : Bool) → xor l (l && c) ≡ (l && not c)
 lone true true = refl

@@ -1,11 +1,7 @@
 -- The census of bytes, by how they are cut into lines.
-use Rattle.std.specs.Prelude.{◌≡◌, ℕ, ◌+◌, Bool, true, false, not, ◌&&◌, List, length, count_by}
-use Rattle.std.specs.List.{list_any, list_all}
-use Rattle.lc_census.specs.Bytes.{is_space, is_nul, one_if}
-use Rattle.lc_census.specs.Cutting.{End, lf, cr_lf, cr, Line, Cutting, is_empty, same_end, IsCutting}
-use Rattle.lc_census.specs.declared.line_count.Count.{Count}
-use Rattle.lc_census.specs.declared.line_count.Eol.{Eol}
-use Rattle.lc_census.specs.declared.line_count.Eol.TheVariants.{NoEnd, Lf, CrLf, Cr, Mixed, Nul}
+use Rattle.std.specs.{Prelude.{◌≡◌, ℕ, ◌+◌, Bool, true, false, not, ◌&&◌, List, length, count_by}, List.{list_any, list_all}}
+use Rattle.lc_census.specs.{Bytes.{is_space, is_nul, one_if}, Cutting.{End, lf, cr_lf, cr, Line, Cutting, is_empty, same_end, IsCutting}}
+use Rattle.lc_census.specs.declared.line_count.{Count.Count, Eol.{Eol, TheVariants.{NoEnd, Lf, CrLf, Cr, Mixed, Nul}}}
 
 -- whether a text has only spaces and tabs, or nothing
 abbrev pub is_blank_text : List ℕ → Bool

@@ -1,9 +1,6 @@
 -- What a count of a reader's bytes answers, by the reads that it made.
-use Rattle.std.specs.Prelude.{◌≡◌, ℕ, ◌≤◌, List, Result, Ok, Err}
-use Rattle.std.specs.List.{concat}
-use Rattle.lc_census.specs.declared.line_count.Count.{Count}
-use Rattle.lc_census.specs.declared.counting.CensusFault.{CensusFault}
-use Rattle.lc_census.specs.declared.counting.CensusFault.TheVariants.{Read, Endless, Memory}
+use Rattle.std.specs.{Prelude.{◌≡◌, ℕ, ◌≤◌, List, Result, Ok, Err}, List.concat}
+use Rattle.lc_census.specs.declared.{line_count.Count.Count, counting.CensusFault.{CensusFault, TheVariants.{Read, Endless, Memory}}}
 use Rattle.lc_census.specs.Census.{IsCensus}
 use Rattle.lc_io.specs.Reads.{Answer, RoomOf, at_end, at_failure, at_neither, Reads, read_count}
 

@@ -1,6 +1,5 @@
 -- Bytes as lines: each a text with its end, and a rest after the last end.
-use Rattle.std.specs.Prelude.{◌≡◌, ℕ, Bool, true, false, ◌&&◌, List, [], ◌∷◌, ◌++◌}
-use Rattle.std.specs.List.{list_any}
+use Rattle.std.specs.{Prelude.{◌≡◌, ℕ, Bool, true, false, ◌&&◌, List, [], ◌∷◌, ◌++◌}, List.list_any}
 use Rattle.lc_census.specs.Bytes.{is_end}
 
 -- how a line ends

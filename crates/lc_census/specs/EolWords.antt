@@ -1,7 +1,6 @@
 -- The words of line ends.
 use Rattle.std.specs.Prelude.{ℕ, List, codes}
-use Rattle.lc_census.specs.declared.line_count.Eol.{Eol}
-use Rattle.lc_census.specs.declared.line_count.Eol.TheVariants.{NoEnd, Lf, CrLf, Cr, Mixed, Nul}
+use Rattle.lc_census.specs.declared.line_count.Eol.{Eol, TheVariants.{NoEnd, Lf, CrLf, Cr, Mixed, Nul}}
 
 -- the word by which reports name how lines end
 abbrev pub eol_word : Eol → List ℕ

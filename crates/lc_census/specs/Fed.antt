@@ -1,8 +1,6 @@
 -- What a census keeps of the bytes that it was fed.
 use Rattle.std.specs.Prelude.{◌≡◌, ℕ, ◌+◌, ◌≤◌, ◌^◌, Bool, false, not, List, [], ◌∷◌, length}
-use Rattle.lc_census.specs.declared.scan.Scan.{Scan}
-use Rattle.lc_census.specs.Scan.{start, after_all}
-use Rattle.lc_census.specs.Bytes.{is_end, one_if}
+use Rattle.lc_census.specs.{declared.scan.Scan.Scan, Scan.{start, after_all}, Bytes.{is_end, one_if}}
 
 pub record CensusModel : Type 0 where
   pub scan : Scan

@@ -1,6 +1,5 @@
 -- The lanes of a vector of bytes as the bits of a word.
-use Rattle.std.specs.Prelude.{◌≡◌, ℕ, zero, suc, ◌+◌, ◌<◌, List, Bool, true, false, not, ◌&&◌, ◌||◌, ◌==◌, get_or}
-use Rattle.std.specs.Int.{bit_at}
+use Rattle.std.specs.{Prelude.{◌≡◌, ℕ, zero, suc, ◌+◌, ◌<◌, List, Bool, true, false, not, ◌&&◌, ◌||◌, ◌==◌, get_or}, Int.bit_at}
 use Rattle.lc_census.specs.Bytes.{is_cr, is_end, is_space, one_if}
 
 -- whether bit i of x is set

@@ -1,7 +1,6 @@
 -- The scan of bytes one after another, which both bodies of a census do.
 use Rattle.std.specs.Prelude.{ℕ, true, false, ◌+◌, ◌<◌, ◌^◌, List, [], ◌∷◌, not, ◌&&◌, ◌||◌}
-use Rattle.lc_census.specs.Bytes.{is_lf, is_cr, is_end, is_space, is_nul, one_if}
-use Rattle.lc_census.specs.declared.scan.Scan.{Scan}
+use Rattle.lc_census.specs.{Bytes.{is_lf, is_cr, is_end, is_space, is_nul, one_if}, declared.scan.Scan.Scan}
 
 -- the state of a scan before the first byte
 abbrev pub start : Scan

@@ -1,7 +1,6 @@
 -- The cutting of bytes into lines, as a value: from the last byte to the first.
 use Rattle.std.specs.Prelude.{ℕ, Bool, true, false, List, [], ◌∷◌}
-use Rattle.lc_census.specs.Bytes.{is_lf, is_cr}
-use Rattle.lc_census.specs.Cutting.{End, lf, cr_lf, cr, Line, Cutting, starts_with_lf}
+use Rattle.lc_census.specs.{Bytes.{is_lf, is_cr}, Cutting.{End, lf, cr_lf, cr, Line, Cutting, starts_with_lf}}
 
 abbrev pub line : List ℕ → End → Line
 line t e = record { text = t; end = e }

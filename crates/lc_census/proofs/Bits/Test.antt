@@ -1,13 +1,9 @@
 -- One bit of a word as a Bool, through each operation.
-use Rattle.std.proofs.Common.{◌≡◌, ℕ, zero, suc, ◌+◌, ◌-◌, ◌*◌, ◌/◌, ◌%◌, ◌^◌, ◌<◌, min, max, Bool, true, false, ◌&&◌, ◌||◌, ◌==◌}
-use Rattle.std.proofs.Common.{List, get_or, cond, refl, sym, ap, ◌∙◌, subst, arith}
-use Rattle.std.proofs.Common.{le_of_suc-le-suc, not-suc-le-zero, mul_assoc}
+use Rattle.std.proofs.Common.{◌≡◌, ℕ, zero, suc, ◌+◌, ◌-◌, ◌*◌, ◌/◌, ◌%◌, ◌^◌, ◌<◌, min, max, Bool, true, false, ◌&&◌, ◌||◌, ◌==◌, List}
+use Rattle.std.proofs.Common.{get_or, cond, refl, sym, ap, ◌∙◌, subst, arith, le_of_suc-le-suc, not-suc-le-zero, mul_assoc}
+use Rattle.std.proofs.lemmas.{Nat.Bits.{bit_at-lt, bit_at-pow_other, bit_at-zero, bit_at_and, bit_at_or, bit_at_xor}, Simd.bit_mask_l}
 use Rattle.std.specs.Int.{bit_at}
-use Rattle.std.proofs.lemmas.Nat.Bits.{bit_at-lt, bit_at-pow_other, bit_at-zero, bit_at_and, bit_at_or, bit_at_xor}
-use Rattle.std.proofs.lemmas.Simd.{bit_mask_l}
-use lib.Bits.{bit_and, bit_or, bit_xor, shifted_even}
-use lib.Pow.{field, mod-mod-pow, shr-shr, shl-shr, pow-add}
-use lib.Lanes.{mask_l}
+use lib.{Bits.{bit_and, bit_or, bit_xor, shifted_even}, Pow.{field, mod-mod-pow, shr-shr, shl-shr, pow-add}, Lanes.mask_l}
 use mir.Val.{bool_byte}
 use Rattle.lc_census.specs.Lanes.{test, xor}
 

@@ -1,14 +1,10 @@
 -- The scan counts the blank lines of the cutting.
 use Rattle.std.proofs.Common.{◌≡◌, ℕ, ◌+◌, Bool, true, false, not, ◌&&◌, ◌||◌, List, [], ◌∷◌, refl, sym, ap, ap₂, ◌∙◌, arith}
-use Rattle.lc_census.specs.declared.scan.Scan.{Scan}
-use Rattle.lc_census.specs.Bytes.{is_lf, is_cr, is_end, is_space, one_if}
-use Rattle.lc_census.specs.Scan.{after, after_all}
-use Rattle.lc_census.specs.Cutting.{End, lf, cr_lf, cr, Line, Cutting, starts_with_lf}
-use Rattle.lc_census.specs.Census.{is_blank_text}
-use Rattle.lc_census.specs.TheCutting.{line, cut, before, with_cr, with_text}
-use Rattle.lc_census.proofs.OneCutting.{before-text, by_kind}
 use Rattle.std.proofs.Math.Bool.{and-false, and-true, and_assoc}
-use Rattle.lc_census.proofs.Tells.Ends.{passing}
+use Rattle.lc_census.specs.{declared.scan.Scan.Scan, Bytes.{is_lf, is_cr, is_end, is_space, one_if}, Scan.{after, after_all}, Cutting.End}
+use Rattle.lc_census.specs.{Cutting.{lf, cr_lf, cr, Line, Cutting, starts_with_lf}, Census.is_blank_text, TheCutting.{line, cut, before}}
+use Rattle.lc_census.specs.TheCutting.{with_cr, with_text}
+use Rattle.lc_census.proofs.{OneCutting.{before-text, by_kind}, Tells.Ends.passing}
 
 -- blank lines, where a says that a CR stood before the first, and b that the line so far is blank
 abbrev pub blank_ends : Bool → Bool → List Line → ℕ

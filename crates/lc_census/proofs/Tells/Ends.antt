@@ -1,12 +1,9 @@
 -- The scan counts the ends of the cutting.
 use Rattle.std.proofs.Common.{◌≡◌, ℕ, ◌+◌, Bool, true, false, ◌&&◌, List, [], ◌∷◌, refl, sym, ap, ap₂, ◌∙◌, arith, zero-add}
-use Rattle.lc_census.specs.declared.scan.Scan.{Scan}
-use Rattle.lc_census.specs.Bytes.{is_lf, is_cr, one_if}
-use Rattle.lc_census.specs.Scan.{after, after_all}
-use Rattle.lc_census.specs.Cutting.{End, lf, cr_lf, cr, Line, Cutting, starts_with_lf, same_end}
-use Rattle.lc_census.specs.TheCutting.{line, cut, before, with_cr, with_text}
-use Rattle.lc_census.proofs.OneCutting.{before-text, by_kind}
 use Rattle.std.proofs.Math.Bool.{and-true}
+use Rattle.lc_census.specs.{declared.scan.Scan.Scan, Bytes.{is_lf, is_cr, one_if}, Scan.{after, after_all}, Cutting.{End, lf, cr_lf, cr}}
+use Rattle.lc_census.specs.{Cutting.{Line, Cutting, starts_with_lf, same_end}, TheCutting.{line, cut, before, with_cr, with_text}}
+use Rattle.lc_census.proofs.OneCutting.{before-text, by_kind}
 
 -- how many pass, from the front
 abbrev pub passing : {X : Type 0} → (X → Bool) → List X → ℕ

@@ -1,14 +1,9 @@
 -- The scan knows of the rest of the cutting whether there is one, and whether it is blank.
-use Rattle.std.proofs.Common.{◌≡◌, ℕ, Bool, true, false, not, ◌&&◌, ◌||◌, List, [], ◌∷◌, refl, sym, ap, ap₂, ◌∙◌}
-use Rattle.lc_census.specs.declared.scan.Scan.{Scan}
-use Rattle.lc_census.specs.Bytes.{is_end, is_space}
-use Rattle.lc_census.specs.Scan.{after, after_all}
-use Rattle.lc_census.specs.Cutting.{Line, Cutting, is_empty, starts_with_lf}
-use Rattle.lc_census.specs.Census.{is_blank_text}
-use Rattle.lc_census.specs.Fed.{rest_after}
-use Rattle.lc_census.specs.TheCutting.{cut, before, with_cr, with_text}
+use Rattle.std.proofs.{Common.{◌≡◌, ℕ, Bool, true, false, not, ◌&&◌, ◌||◌, List, [], ◌∷◌, refl, sym, ap, ap₂, ◌∙◌}, Math.Bool.and-true}
+use Rattle.std.proofs.Math.Bool.{and_assoc, or-true}
+use Rattle.lc_census.specs.{declared.scan.Scan.Scan, Bytes.{is_end, is_space}, Scan.{after, after_all}, Cutting.{Line, Cutting, is_empty}}
+use Rattle.lc_census.specs.{Cutting.starts_with_lf, Census.is_blank_text, Fed.rest_after, TheCutting.{cut, before, with_cr, with_text}}
 use Rattle.lc_census.proofs.OneCutting.{before-text, by_kind}
-use Rattle.std.proofs.Math.Bool.{and-true, and_assoc, or-true}
 
 -- what f says of a rest, where b is known of the line before the bytes; the end of a line makes that fresh
 module _ (f : Bool → List ℕ → Bool) (fresh : Bool) where

@@ -1,6 +1,5 @@
 use Rattle.std.proofs.Common.{◌≡◌, ℕ, ◌+◌, ◌<◌, [], ◌∷◌, ◌++◌, length, take, refl, sym, ap, subst, ◌∙◌, arith, length-append, length-take}
-use Rattle.std.proofs.lemmas.List.{append-nil}
-use Rattle.std.proofs.lemmas.List.Folds.{concat-append}
+use Rattle.std.proofs.lemmas.List.{append-nil, Folds.concat-append}
 use Rattle.std.specs.List.{concat}
 use Rattle.lc_census.specs.Fed.{LeadTo}
 use Rattle.lc_io.specs.Reads.{Answer, gave, failed, at_end, at_failure, RoomOf, MayRead}

@@ -1,6 +1,4 @@
-use Rattle.std.proofs.Common.{ℕ, eqb, false, map, ap, ◌∙◌, arith, w8}
-use Rattle.std.proofs.lemmas.Simd.{bitmask_splat}
-use Rattle.std.proofs.lemmas.List.{get_or-map}
+use Rattle.std.proofs.{Common.{ℕ, eqb, false, map, ap, ◌∙◌, arith, w8}, lemmas.{Simd.bitmask_splat, List.get_or-map}}
 use Rattle.lc_census.specs.Lanes.{test}
 use Rattle.lc_census.proofs.Bits.Test.{test-mask_l}
 use Rattle.lc_census.proofs.simd.equal_to.Goals as goal

@@ -1,8 +1,6 @@
 use Rattle.std.proofs.Common.{◌≡◌, ℕ, eqb, cond, Bool, true, false, ◌||◌, List, [], ◌∷◌, map, refl, ap, ap₂, ◌∙◌, arith}
-use Rattle.std.proofs.lemmas.Simd.{zip2_splat}
-use Rattle.std.proofs.lemmas.List.{get_or-map}
-use lib.Bits.{bit_or}
-use lib.Lanes.{zip2, mask_l, top}
+use Rattle.std.proofs.lemmas.{Simd.zip2_splat, List.get_or-map}
+use lib.{Bits.bit_or, Lanes.{zip2, mask_l, top}}
 use Rattle.lc_census.specs.Lanes.{test}
 use Rattle.lc_census.proofs.Bits.Test.{test-mod, test-mask_l}
 use Rattle.lc_census.proofs.simd.equal_to_either.Goals as goal

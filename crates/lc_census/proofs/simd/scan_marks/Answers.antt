@@ -1,6 +1,5 @@
 use Rattle.std.proofs.Common.{◌||◌, ap₂, ◌∙◌, refl, rules}
-use Rattle.lc_census.proofs.Bits.Test.{test-or}
-use Rattle.lc_census.proofs.Words.{block_is}
+use Rattle.lc_census.proofs.{Bits.Test.test-or, Words.block_is}
 use Rattle.lc_census.proofs.simd.scan_marks.Goals as goal
 
 pub blank_befores-blank-requires-clause-ends : goal.blank_befores-blank-requires-clause-ends

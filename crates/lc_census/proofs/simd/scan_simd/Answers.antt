@@ -1,9 +1,7 @@
-use Rattle.std.proofs.Common.{◌≡◌, ◌+◌, ◌-◌, length, drop, sym, ap, subst, ◌∙◌, arith}
-use Rattle.std.proofs.lemmas.Simd.{chunk-drop, length-chunk}
+use Rattle.std.proofs.{Common.{◌≡◌, ◌+◌, ◌-◌, length, drop, sym, ap, subst, ◌∙◌, arith}, lemmas.Simd.{chunk-drop, length-chunk}}
 use lib.Lanes.{chunk}
 use Rattle.lc_census.specs.Scan.{after_all, HasRoom}
-use Rattle.lc_census.proofs.Counts.{after_all-append}
-use Rattle.lc_census.proofs.Small.{room_after}
+use Rattle.lc_census.proofs.{Counts.after_all-append, Small.room_after}
 use Rattle.lc_census.proofs.simd.scan_simd.Goals as goal
 
 pub loop-at-preserved : goal.loop-at-preserved

@@ -1,9 +1,6 @@
 use Rattle.std.proofs.Common.{◌+◌, ◌<◌, ◌≤◌, ◌^◌, length, false, not, sym, ap, ◌∙◌, length-append, arith}
-use Rattle.lc_census.specs.Scan.{start, after_all}
-use Rattle.lc_census.specs.Fed.{rest_after}
-use Rattle.lc_census.proofs.Counts.{after_all-append}
-use Rattle.lc_census.proofs.Rest.{rest_after-append, rest_after_last}
-use Rattle.lc_census.proofs.Small.{small_all}
+use Rattle.lc_census.specs.{Scan.{start, after_all}, Fed.rest_after}
+use Rattle.lc_census.proofs.{Counts.after_all-append, Rest.{rest_after-append, rest_after_last}, Small.small_all}
 use Rattle.lc_census.proofs.census.Census.feed.Goals as goal
 
 pub invariant_of-self-in-len1-up : goal.invariant_of-self-in-len1-up

@@ -1,11 +1,7 @@
 use Rattle.std.proofs.Common.{◌≡◌, ◌+◌, ◌-◌, Bool, true, false, ◌&&◌, refl, ap, ◌∙◌}
 use mir.Val.{bool_byte}
-use Rattle.lc_census.specs.Bytes.{one_if}
-use Rattle.lc_census.specs.Fed.{CensusModel}
-use Rattle.lc_census.specs.declared.line_count.Count.{Count}
-use Rattle.lc_census.specs.TheCutting.{cut}
-use Rattle.lc_census.proofs.OneCutting.{cut_is}
-use Rattle.lc_census.proofs.Tells.{told, scan_tells}
+use Rattle.lc_census.specs.{Bytes.one_if, Fed.CensusModel, declared.line_count.Count.Count, TheCutting.cut}
+use Rattle.lc_census.proofs.{OneCutting.cut_is, Tells.{told, scan_tells}}
 use Rattle.lc_census.proofs.census.Census.finish.Goals as goal
 
 byte_is : (b : Bool) → bool_byte b ≡ one_if b
