@@ -1,14 +1,11 @@
 -- Files that are sorted by their paths, each path once.
 use Rattle.std.proofs.Common.{◌≡◌, ℕ, Bool, true, false, cond, ◌||◌, List, [], ◌∷◌, map, refl, sym, ◌∙◌, ap, IsPermutation}
-use Rattle.std.specs.Cmp.{IsTotalOrder}
-use Rattle.std.specs.List.{AllByRecursion, dedup, list_any}
-use Rattle.std.specs.List.Sorted.{IsSorted, IsStrictlySortedBy}
-use Rattle.std.specs.Ordering.{eq_by_cmp, on}
-use Rattle.std.specs.declared.cmp.Ordering.TheVariants.{Less}
 use Rattle.std.proofs.lemmas.Cmp.{nat_list_cmp_total, on_total}
 use Rattle.std.proofs.lemmas.List.Kept.{Contains-from_dedup, IsStrictlySortedBy-dedup}
 use Rattle.std.proofs.lemmas.List.Sorted.{Contains-permutation, IsPermutation-sym, list_any-IsPermutation}
 use Rattle.std.proofs.lemmas.Map.Lookups.{exact_bytes}
+use Rattle.std.specs.{Cmp.IsTotalOrder, List.{AllByRecursion, dedup, list_any, Sorted.{IsSorted, IsStrictlySortedBy}}, Ordering.eq_by_cmp}
+use Rattle.std.specs.{Ordering.on, declared.cmp.Ordering.TheVariants.Less}
 use Rattle.lc_changes.specs.FileChanges.{AreByPath, file_path}
 use Rattle.lc_level.specs.Level.{FileLineModel}
 use Rattle.lc_tree.specs.ByteOrder.{bytes_cmp}

@@ -1,23 +1,16 @@
 -- Rows of a comparison add up to the rows of both reports: each of these is in exactly one row.
 use Rattle.std.proofs.Common.{◌≡◌, ℕ, ◌+◌, Bool, true, false, cond, ◌||◌, List, [], ◌∷◌, map, refl, sym, ◌∙◌, ap, arith}
-use Rattle.std.specs.Cmp.{IsTotalOrder}
-use Rattle.std.specs.List.{All, AllByRecursion, Contains, filter, list_any, sum_by}
-use Rattle.std.specs.List.Sorted.{IsStrictlySortedBy}
-use Rattle.std.specs.Ordering.{eq_by_cmp, is_eq, ordering_reverse}
-use Rattle.std.specs.declared.cmp.Ordering.{Ordering}
 use Rattle.std.proofs.lemmas.Cmp.{eq_by_cmp_equiv, tied_itself}
-use Rattle.std.proofs.lemmas.List.Elements.{All-contains_itself, All-weaker, recursion_from_All}
-use Rattle.std.proofs.lemmas.List.Folds.{list_any_at}
-use Rattle.std.proofs.lemmas.List.Sums.{sum_by-cons}
+use Rattle.std.proofs.lemmas.List.{Elements.{All-contains_itself, All-weaker, recursion_from_All}, Folds.list_any_at, Sums.sum_by-cons}
 use Rattle.std.proofs.lemmas.Map.Lookups.{CmpEqualImpliesEq}
+use Rattle.std.specs.{Cmp.IsTotalOrder, List.{All, AllByRecursion, Contains, filter, list_any, sum_by, Sorted.IsStrictlySortedBy}}
+use Rattle.std.specs.{Ordering.{eq_by_cmp, is_eq, ordering_reverse}, declared.cmp.Ordering.Ordering}
 use Rattle.lc_changes.proofs.Pairing.{Below}
 use Rattle.lc_changes.specs.Changes.{ChangedRowModel, changed_key, sums_at}
 use Rattle.lc_level.proofs.AskedPaths.{list_any-map}
 use Rattle.lc_rows.proofs.SameKeys.{exact_row_keys, row_key_cmp_total}
 use Rattle.lc_rows.specs.RowKeys.{RowKey, ShownRowModel, has_within, row_key, row_key_cmp, same_row_key, sums_of_shown, sums_over}
-use Rattle.lc_walk.proofs.Filtered.{part, sum_by-filter}
-use Rattle.lc_walk.proofs.Keys.{equal_if}
-use Rattle.lc_walk.proofs.RowSums.{same_sums}
+use Rattle.lc_walk.proofs.{Filtered.{part, sum_by-filter}, Keys.equal_if, RowSums.same_sums}
 use Rattle.lc_walk.specs.declared.tally.sums.Sums.{Sums}
 
 sum_of_both : {X : Type 0} (f g : X → ℕ) (xs : List X) → sum_by (λ x. f x + g x) xs ≡ sum_by f xs + sum_by g xs

@@ -1,14 +1,9 @@
 -- Changes are from the old number to the new one.
 use Rattle.std.proofs.Common.{◌≡◌, Option, Some, None, refl}
-use Rattle.lc_changes.specs.FileChanges.{side_number}
-use Rattle.lc_changes.specs.ChangeValues.{side_value}
-use Rattle.lc_changes.specs.Laws.{DifferencesLaw}
+use Rattle.lc_changes.specs.{FileChanges.side_number, ChangeValues.side_value, Laws.DifferencesLaw}
 use Rattle.lc_level.specs.Level.{FileLineModel}
-use Rattle.lc_sheet.specs.Conditions.{number_of}
-use Rattle.lc_sheet.specs.Values.{difference}
+use Rattle.lc_sheet.specs.{Conditions.number_of, Values.difference, declared.{column.Number.Number, form.Form.Form}}
 use Rattle.lc_sheet.specs.declared.column.Compared.TheVariants as compared
-use Rattle.lc_sheet.specs.declared.column.Number.{Number}
-use Rattle.lc_sheet.specs.declared.form.Form.{Form}
 
 number_of_side : (form : Form) (file : Option FileLineModel) (n : Number)
     → side_number n file ≡ number_of (side_value form file (compared.Number n))

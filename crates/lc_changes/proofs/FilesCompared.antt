@@ -1,15 +1,14 @@
 -- Files that are set side by side are those at their paths.
 use Rattle.std.proofs.Common.{◌≡◌, ℕ, Bool, true, false, cond, ◌||◌, List, [], ◌∷◌, map, Option, refl, sym, ◌∙◌, ap, subst}
-use Rattle.std.specs.List.{All, AllByRecursion, Contains, filter, flat_map, list_any}
-use Rattle.std.specs.List.Sorted.{IsStrictlySortedBy}
 use Rattle.std.proofs.lemmas.Cmp.{nat_list_cmp_total}
 use Rattle.std.proofs.lemmas.List.Elements.{All-contains_itself, All-filter, All-from_recursion, All-head, All-map, All-weaker}
 use Rattle.std.proofs.lemmas.List.Elements.{filter_passes, recursion_from_All}
 use Rattle.std.proofs.lemmas.Map.Lookups.{exact_bytes}
+use Rattle.std.specs.List.{All, AllByRecursion, Contains, filter, flat_map, list_any, Sorted.IsStrictlySortedBy}
 use Rattle.lc_changes.proofs.Sides.{have_their_keys, keys_of_pairs, new_keyed, old_keyed}
 use Rattle.lc_changes.specs.FileChanges.{FileChangeModel, AreByPath, AreFilesCompared, IsFileAt, changed_path, file_of_pair, file_path}
-use Rattle.lc_changes.specs.FileChanges.{same_path}
-use Rattle.lc_changes.specs.Pairs.{AreMadeOfPairs, HasOneKey, PairModel, added, both, new_of, old_of, pair_key, removed}
+use Rattle.lc_changes.specs.{FileChanges.same_path, Pairs.{AreMadeOfPairs, HasOneKey, PairModel, added, both, new_of, old_of, pair_key}}
+use Rattle.lc_changes.specs.Pairs.{removed}
 use Rattle.lc_level.proofs.AskedPaths.{list_any-map}
 use Rattle.lc_level.specs.Level.{FileLineModel}
 use Rattle.lc_tree.specs.ByteOrder.{bytes_cmp}

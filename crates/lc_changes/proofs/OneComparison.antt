@@ -1,20 +1,12 @@
 -- Two reports have only one comparison.
-use Rattle.std.proofs.Common.{◌≡◌, ℕ, Bool, true, false, not, ◌&&◌, ◌||◌, List, [], ◌∷◌, map, Option, Some, None}
-use Rattle.std.proofs.Common.{refl, sym, ◌∙◌, ap, subst}
-use Rattle.std.specs.Cmp.{IsTotalOrder}
-use Rattle.std.specs.List.{AllByRecursion, list_any}
-use Rattle.std.specs.List.Sorted.{IsStrictlySortedBy}
-use Rattle.std.specs.Ordering.{eq_by_cmp, is_eq, ordering_reverse}
-use Rattle.std.specs.declared.cmp.Ordering.{Ordering}
-use Rattle.std.specs.declared.cmp.Ordering.TheVariants.{Less, Equal, Greater}
-use Rattle.std.proofs.lemmas.Cmp.{nat_list_cmp_total, tied_itself}
-use Rattle.std.proofs.lemmas.List.Elements.{recursion_from_All}
+use Rattle.std.proofs.Common.{◌≡◌, ℕ, Bool, true, false, not, ◌&&◌, ◌||◌, List, [], ◌∷◌, map, Option, Some, None, refl, sym, ◌∙◌, ap}
+use Rattle.std.proofs.{Common.subst, lemmas.{Cmp.{nat_list_cmp_total, tied_itself}, List.Elements.recursion_from_All}}
 use Rattle.std.proofs.lemmas.Map.Lookups.{CmpEqualImpliesEq, exact_bytes}
-use Rattle.lc_changes.proofs.Pairing.{Below}
-use Rattle.lc_changes.specs.Changes.{ChangedRowModel, AreCompared, changed_key, sums_at}
-use Rattle.lc_changes.proofs.SelfLaw.{both_hold, not_missing, one_at}
-use Rattle.lc_changes.specs.FileChanges.{FileChangeModel, AreFilesCompared, IsFileAt, changed_path, file_path}
-use Rattle.lc_changes.specs.Laws.{FilesOnceLaw, OneComparisonLaw, RowsOnceLaw}
+use Rattle.std.specs.{Cmp.IsTotalOrder, List.{AllByRecursion, list_any, Sorted.IsStrictlySortedBy}, Ordering.{eq_by_cmp, is_eq}}
+use Rattle.std.specs.{Ordering.ordering_reverse, declared.cmp.Ordering.{Ordering, TheVariants.{Less, Equal, Greater}}}
+use Rattle.lc_changes.proofs.{Pairing.Below, SelfLaw.{both_hold, not_missing, one_at}}
+use Rattle.lc_changes.specs.{Changes.{ChangedRowModel, AreCompared, changed_key, sums_at}, FileChanges.{FileChangeModel, AreFilesCompared}}
+use Rattle.lc_changes.specs.{FileChanges.{IsFileAt, changed_path, file_path}, Laws.{FilesOnceLaw, OneComparisonLaw, RowsOnceLaw}}
 use Rattle.lc_level.specs.Level.{FileLineModel}
 use Rattle.lc_tree.specs.ByteOrder.{AreApart, bytes_cmp}
 use Rattle.lc_level.proofs.AskedPaths.{list_any-map}

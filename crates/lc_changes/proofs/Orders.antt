@@ -1,10 +1,8 @@
 -- Rows are in a total order by a change and their keys, and files by a change and their paths.
-use Rattle.std.specs.Cmp.{IsTotalOrder, IsStrictWeakOrder}
-use Rattle.std.specs.Ordering.{is_lt}
-use Rattle.std.proofs.lemmas.Cmp.{back_total, nat_cmp_total, nat_list_cmp_total, on_total, then_total}
-use Rattle.std.proofs.lemmas.List.Sorted.{ranks_by}
-use Rattle.lc_changes.specs.Changes.{ChangedRowModel, change_cmp, changed_key, row_change}
-use Rattle.lc_changes.specs.FileChanges.{FileChangeModel, changed_path, file_change, file_change_cmp}
+use Rattle.std.specs.{Cmp.{IsTotalOrder, IsStrictWeakOrder}, Ordering.is_lt}
+use Rattle.std.proofs.lemmas.{Cmp.{back_total, nat_cmp_total, nat_list_cmp_total, on_total, then_total}, List.Sorted.ranks_by}
+use Rattle.lc_changes.specs.{Changes.{ChangedRowModel, change_cmp, changed_key, row_change}, FileChanges.{FileChangeModel, changed_path}}
+use Rattle.lc_changes.specs.FileChanges.{file_change, file_change_cmp}
 use Rattle.lc_rows.proofs.SameKeys.{row_key_cmp_total}
 use Rattle.lc_sheet.specs.declared.column.Number.{Number}
 

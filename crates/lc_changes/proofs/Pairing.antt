@@ -1,15 +1,8 @@
 -- Two lists in the order of keys, set side by side.
-use Rattle.std.proofs.Common.{◌≡◌, List, [], ◌∷◌, ◌++◌, map, Some, None}
-use Rattle.std.proofs.Common.{refl, sym, ◌∙◌, ap, subst, append-nil, append_assoc}
-use Rattle.std.specs.Cmp.{IsTotalOrder}
-use Rattle.std.specs.List.{AllByRecursion, flat_map}
-use Rattle.std.specs.List.Sorted.{IsStrictlySortedBy}
-use Rattle.std.specs.Ordering.{ordering_reverse}
-use Rattle.std.specs.declared.cmp.Ordering.{Ordering}
-use Rattle.std.specs.declared.cmp.Ordering.TheVariants.{Less, Equal, Greater}
-use Rattle.std.proofs.lemmas.List.{map_push}
-use Rattle.std.proofs.lemmas.List.Elements.{All-cons, All-nil}
-use Rattle.std.proofs.lemmas.Map.Lookups.{CmpEqualImpliesEq}
+use Rattle.std.proofs.Common.{◌≡◌, List, [], ◌∷◌, ◌++◌, map, Some, None, refl, sym, ◌∙◌, ap, subst, append-nil, append_assoc}
+use Rattle.std.proofs.lemmas.{List.{map_push, Elements.{All-cons, All-nil}}, Map.Lookups.CmpEqualImpliesEq}
+use Rattle.std.specs.{Cmp.IsTotalOrder, List.{AllByRecursion, flat_map, Sorted.IsStrictlySortedBy}, Ordering.ordering_reverse}
+use Rattle.std.specs.declared.cmp.Ordering.{Ordering, TheVariants.{Less, Equal, Greater}}
 use Rattle.lc_changes.specs.Pairs.{ArePaired, AreMadeOfPairs, HasOneKey, NextModel, PairModel, added, both, left_of, new_of, next_by}
 use Rattle.lc_changes.specs.Pairs.{next_of, old_of, pair_key, removed}
 

@@ -1,11 +1,10 @@
 -- Rows that are set side by side have the sums of their keys.
 use Rattle.std.proofs.Common.{◌≡◌, Bool, ◌||◌, List, [], ◌∷◌, map, refl, sym, ◌∙◌, ap, subst, zero-add}
-use Rattle.std.specs.List.{All, AllByRecursion, flat_map, list_any}
-use Rattle.std.specs.List.Sorted.{IsStrictlySortedBy}
 use Rattle.std.proofs.lemmas.List.Elements.{All-from_recursion, All-map, All-weaker, recursion_from_All}
+use Rattle.std.specs.List.{All, AllByRecursion, flat_map, list_any, Sorted.IsStrictlySortedBy}
 use Rattle.lc_changes.proofs.Sides.{have_their_keys, keys_of_pairs, new_keyed, old_keyed}
-use Rattle.lc_changes.specs.Changes.{ChangedRowModel, AreCompared, changed_key, row_of_pair, sums_at}
-use Rattle.lc_changes.specs.Pairs.{AreMadeOfPairs, HasOneKey, PairModel, added, both, new_of, old_of, pair_key, removed}
+use Rattle.lc_changes.specs.{Changes.{ChangedRowModel, AreCompared, changed_key, row_of_pair, sums_at}, Pairs.{AreMadeOfPairs, HasOneKey}}
+use Rattle.lc_changes.specs.Pairs.{PairModel, added, both, new_of, old_of, pair_key, removed}
 use Rattle.lc_level.proofs.AskedPaths.{list_any-map}
 use Rattle.lc_level.specs.Level.{FileLineModel}
 use Rattle.lc_rows.proofs.SameKeys.{row_key_cmp_total}
@@ -13,8 +12,7 @@ use Rattle.lc_rows.specs.RowKeys.{RowKey, ShownRowModel, has_within, row_key, ro
 use Rattle.lc_rows.specs.ShownRows.{AreAddedUp, parts_of}
 use Rattle.lc_sheet.specs.declared.table_options.Columns.{Columns}
 use Rattle.lc_walk.proofs.RowSums.{same_sums}
-use Rattle.lc_walk.specs.TallyRows.{TallyRowModel}
-use Rattle.lc_walk.specs.declared.tally.sums.Sums.{Sums}
+use Rattle.lc_walk.specs.{TallyRows.TallyRowModel, declared.tally.sums.Sums.Sums}
 
 sums_of_one : (r : ShownRowModel) → sums_of_shown (r ∷ []) ≡ r.sums
 sums_of_one r = same_sums _ _ (zero-add _) (zero-add _) (zero-add _) (zero-add _)

@@ -1,36 +1,23 @@
 -- A report does not differ from itself.
-use Rattle.std.proofs.Common.{◌≡◌, ℕ, ◌==◌, Bool, true, false, cond, if◌then◌else◌, suc, zero, not, ◌&&◌, ◌||◌}
-use Rattle.std.proofs.Common.{List, [], ◌∷◌, map, length, Option, Some, None}
-use Rattle.std.proofs.Common.{refl, sym, ◌∙◌, ap, subst, arith, ⊎_elim, IsPermutation}
-use Rattle.std.proofs.Math.Seq.{take-nil}
-use Rattle.std.specs.Cmp.{nat_eq_equiv}
-use Rattle.std.specs.List.{AllByRecursion, Contains, IsDistinct, filter, list_any}
-use Rattle.std.specs.Ordering.{is_eq}
+use Rattle.std.proofs.Common.{◌≡◌, ℕ, ◌==◌, Bool, true, false, cond, if◌then◌else◌, suc, zero, not, ◌&&◌, ◌||◌, List, [], ◌∷◌, map}
+use Rattle.std.proofs.{Common.{length, Option, Some, None, refl, sym, ◌∙◌, ap, subst, arith, ⊎_elim, IsPermutation}, Math.Seq.take-nil}
 use Rattle.std.proofs.lemmas.Cmp.{nat_list_cmp_total, tied_itself}
 use Rattle.std.proofs.lemmas.List.{nil_from_length}
 use Rattle.std.proofs.lemmas.List.Elements.{All-contains, All-from_recursion, Contains-append_cases, Contains-push_cases}
 use Rattle.std.proofs.lemmas.List.Elements.{recursion_from_All}
-use Rattle.std.proofs.lemmas.List.Folds.{list_any_at}
-use Rattle.std.proofs.lemmas.List.Sorted.{length_permutation}
-use Rattle.lc_changes.specs.ChangeColumns.{changed_columns, changed_sums_columns, file_change_columns}
-use Rattle.lc_changes.specs.ChangeSheets.{comparison_of, form_by, other_sums, total_sums}
-use Rattle.lc_changes.specs.ChangeValues.{ChangedSumsModel, changed_sums_value, changed_value, file_change_value}
-use Rattle.lc_changes.specs.Changes.{ChangedRowModel, AreChangesSorted, AreCompared, changed_key, differs, kept_rows, sums_at}
-use Rattle.lc_changes.specs.FileChanges.{FileChangeModel, AreFileChangesSorted, AreFilesChanged, AreFilesCompared, IsFileAt}
-use Rattle.lc_changes.specs.FileChanges.{are_same_counts, changed_path, file_path, is_changed, same_path, sides_differ}
-use Rattle.lc_changes.specs.Laws.{SelfLaw, has_no_line}
+use Rattle.std.proofs.lemmas.List.{Folds.list_any_at, Sorted.length_permutation}
+use Rattle.std.specs.{Cmp.nat_eq_equiv, List.{AllByRecursion, Contains, IsDistinct, filter, list_any}, Ordering.is_eq}
+use Rattle.lc_changes.specs.{ChangeColumns.{changed_columns, changed_sums_columns, file_change_columns}, ChangeSheets.comparison_of}
+use Rattle.lc_changes.specs.{ChangeSheets.{form_by, other_sums, total_sums}, ChangeValues.{ChangedSumsModel, changed_sums_value}}
+use Rattle.lc_changes.specs.{ChangeValues.{changed_value, file_change_value}, Changes.{ChangedRowModel, AreChangesSorted, AreCompared}}
+use Rattle.lc_changes.specs.{Changes.{changed_key, differs, kept_rows, sums_at}, FileChanges.{FileChangeModel, AreFileChangesSorted}}
+use Rattle.lc_changes.specs.FileChanges.{AreFilesChanged, AreFilesCompared, IsFileAt, are_same_counts, changed_path, file_path}
+use Rattle.lc_changes.specs.{FileChanges.{is_changed, same_path, sides_differ}, Laws.{SelfLaw, has_no_line}}
 use Rattle.lc_level.specs.Level.{FileLineModel}
-use Rattle.lc_rows.specs.RowKeys.{ShownRowModel}
-use Rattle.lc_rows.specs.Sheets.{section_of}
-use Rattle.lc_rows.specs.ShownRows.{parts_of}
-use Rattle.lc_rows.specs.Views.{first_of, rest_of}
-use Rattle.lc_sheet.specs.Sheets.{lines_of}
-use Rattle.lc_sheet.specs.Values.{ValueModel}
-use Rattle.lc_sheet.specs.declared.column.Column.{Column}
-use Rattle.lc_sheet.specs.declared.column.Number.{Number}
+use Rattle.lc_rows.specs.{RowKeys.ShownRowModel, Sheets.section_of, ShownRows.parts_of, Views.{first_of, rest_of}}
+use Rattle.lc_sheet.specs.{Sheets.lines_of, Values.ValueModel, declared.column.{Column.Column, Number.Number}}
 use Rattle.lc_tree.specs.ByteOrder.{AreApart, bytes_cmp}
-use Rattle.lc_walk.specs.Key.{eol_place, text_place}
-use Rattle.lc_walk.specs.declared.tally.sums.Sums.{Sums}
+use Rattle.lc_walk.specs.{Key.{eol_place, text_place}, declared.tally.sums.Sums.Sums}
 
 -- ---- rows
 

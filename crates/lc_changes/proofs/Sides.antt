@@ -1,14 +1,8 @@
 -- What lists that are set side by side have of each key.
-use Rattle.std.proofs.Common.{◌≡◌, Bool, true, false, cond, ◌||◌, List, [], ◌∷◌, ◌++◌, map}
-use Rattle.std.proofs.Common.{refl, sym, ◌∙◌, ap, append-nil}
-use Rattle.std.specs.Cmp.{IsTotalOrder}
-use Rattle.std.specs.List.{AllByRecursion, filter, flat_map, list_any}
-use Rattle.std.specs.List.Sorted.{IsStrictlySortedBy}
-use Rattle.std.specs.Ordering.{eq_by_cmp, is_eq, ordering_reverse}
-use Rattle.std.specs.declared.cmp.Ordering.{Ordering}
-use Rattle.std.specs.declared.cmp.Ordering.TheVariants.{Less}
-use Rattle.std.proofs.lemmas.Cmp.{tied_itself}
-use Rattle.std.proofs.lemmas.List.Elements.{filter-append}
+use Rattle.std.proofs.Common.{◌≡◌, Bool, true, false, cond, ◌||◌, List, [], ◌∷◌, ◌++◌, map, refl, sym, ◌∙◌, ap, append-nil}
+use Rattle.std.proofs.lemmas.{Cmp.tied_itself, List.Elements.filter-append}
+use Rattle.std.specs.{Cmp.IsTotalOrder, List.{AllByRecursion, filter, flat_map, list_any, Sorted.IsStrictlySortedBy}, Ordering.eq_by_cmp}
+use Rattle.std.specs.{Ordering.{is_eq, ordering_reverse}, declared.cmp.Ordering.{Ordering, TheVariants.Less}}
 use Rattle.lc_changes.proofs.Pairing.{Below}
 use Rattle.lc_changes.specs.Pairs.{HasOneKey, PairModel, added, both, new_of, old_of, pair_key, removed}
 

@@ -1,18 +1,13 @@
 -- A comparison has the sums that tables of both reports show.
-use Rattle.std.proofs.Common.{◌≡◌, Bool, true, false, ◌||◌, List, Option, refl, sym, ◌∙◌, ap}
-use Rattle.std.specs.Bool.{MatchBool}
-use Rattle.std.specs.List.{All, list_any}
-use Rattle.std.proofs.lemmas.List.Elements.{All-weaker}
+use Rattle.std.proofs.{Common.{◌≡◌, Bool, true, false, ◌||◌, List, Option, refl, sym, ◌∙◌, ap}, lemmas.List.Elements.All-weaker}
+use Rattle.std.specs.{Bool.MatchBool, List.{All, list_any}}
 use Rattle.lc_changes.proofs.CountedOnce.{counted_once}
-use Rattle.lc_changes.specs.Changes.{ChangedRowModel, changed_key, sums_at}
-use Rattle.lc_changes.specs.Laws.{TablesLaw}
+use Rattle.lc_changes.specs.{Changes.{ChangedRowModel, changed_key, sums_at}, Laws.TablesLaw}
 use Rattle.lc_level.specs.Level.{FileLineModel}
-use Rattle.lc_rows.proofs.Folding.{AreAlike, alike_permuted, alike_sums}
-use Rattle.lc_rows.proofs.RowLaws.{moved}
-use Rattle.lc_rows.specs.RowKeys.{RowKey, ShownRowModel, has_within, rows_within, same_row_key, sums_of_shown}
-use Rattle.lc_rows.specs.ShownRows.{AreAddedUp, AreShown, keeps_all, parts_of}
-use Rattle.lc_sheet.specs.declared.column.Number.{Number}
-use Rattle.lc_sheet.specs.declared.table_options.Columns.{Columns}
+use Rattle.lc_rows.proofs.{Folding.{AreAlike, alike_permuted, alike_sums}, RowLaws.moved}
+use Rattle.lc_rows.specs.{RowKeys.{RowKey, ShownRowModel, has_within, rows_within, same_row_key, sums_of_shown}, ShownRows.AreAddedUp}
+use Rattle.lc_rows.specs.ShownRows.{AreShown, keeps_all, parts_of}
+use Rattle.lc_sheet.specs.declared.{column.Number.Number, table_options.Columns.Columns}
 use Rattle.lc_walk.specs.TallyRows.{TallyRowModel}
 
 -- the sums and the keys of summed rows are those of their parts

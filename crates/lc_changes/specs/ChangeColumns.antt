@@ -3,11 +3,8 @@ use Rattle.std.specs.Prelude.{List, [], ◌∷◌, ◌++◌, is_some}
 use Rattle.lc_changes.specs.declared.columns.TheConstants.{NUMBERS_BY_REPORT, NUMBERS_IN_TURN, NUMBERS_WITH_CHANGES, READ_FILES}
 use Rattle.lc_changes.specs.declared.columns.TheConstants.{VALUES_BY_REPORT, VALUES_IN_TURN}
 use Rattle.lc_rows.specs.SheetColumns.{column_if, keeps_columns, key_columns}
-use Rattle.lc_sheet.specs.declared.column.Column.{Column}
+use Rattle.lc_sheet.specs.declared.{column.Column.Column, table_options.{Columns.Columns, Format.{Format, TheVariants.{Tsv, Json, Csv}}}}
 use Rattle.lc_sheet.specs.declared.column.Column.TheVariants as column
-use Rattle.lc_sheet.specs.declared.table_options.Columns.{Columns}
-use Rattle.lc_sheet.specs.declared.table_options.Format.{Format}
-use Rattle.lc_sheet.specs.declared.table_options.Format.TheVariants.{Tsv, Json, Csv}
 
 abbrev pub changed_numbers : Format → List Column
 changed_numbers Tsv = NUMBERS_IN_TURN

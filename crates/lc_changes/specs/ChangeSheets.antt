@@ -1,23 +1,15 @@
 -- What a comparison of two reports shows.
 use Rattle.std.specs.Prelude.{◌≡◌, ℕ, true, false, Bool, ◌||◌, if◌then◌else◌, is_some, List, [], ◌∷◌, codes, Option, Some, None}
 use Rattle.std.specs.List.{list_any}
-use Rattle.lc_changes.specs.ChangeColumns.{changed_columns, changed_sums_columns, file_change_columns}
-use Rattle.lc_changes.specs.ChangeValues.{ChangedSumsModel, changed_sums_value, changed_value, file_change_value}
-use Rattle.lc_changes.specs.Changes.{ChangedRowModel, AreChangesSorted, AreCompared, differs, kept_rows, new_sums_of, old_sums_of}
+use Rattle.lc_changes.specs.{ChangeColumns.{changed_columns, changed_sums_columns, file_change_columns}, ChangeValues.ChangedSumsModel}
+use Rattle.lc_changes.specs.{ChangeValues.{changed_sums_value, changed_value, file_change_value}, Changes.ChangedRowModel}
+use Rattle.lc_changes.specs.Changes.{AreChangesSorted, AreCompared, differs, kept_rows, new_sums_of, old_sums_of}
 use Rattle.lc_changes.specs.FileChanges.{FileChangeModel, AreFileChangesSorted, AreFilesChanged, is_changed}
 use Rattle.lc_changes.specs.declared.options.ChangeOptions.{ChangeOptions}
-use Rattle.lc_rows.specs.SheetColumns.{first_key, keeps_columns}
-use Rattle.lc_rows.specs.Sheets.{section_of}
-use Rattle.lc_rows.specs.ShownRows.{parts_of}
-use Rattle.lc_rows.specs.Views.{first_of, rest_of}
-use Rattle.lc_sheet.specs.Sheets.{SectionModel, SheetModel}
-use Rattle.lc_sheet.specs.declared.column.Column.{Column}
-use Rattle.lc_sheet.specs.declared.form.Form.{Form}
-use Rattle.lc_sheet.specs.declared.table_options.Columns.{Columns}
-use Rattle.lc_sheet.specs.declared.table_options.Format.{Format}
-use Rattle.lc_walk.specs.declared.options.ReportLists.{ReportLists}
-use Rattle.lc_walk.specs.declared.report.Report.{Report}
-use Rattle.lc_walk.specs.declared.tally.sums.Sums.{Sums}
+use Rattle.lc_rows.specs.{SheetColumns.{first_key, keeps_columns}, Sheets.section_of, ShownRows.parts_of, Views.{first_of, rest_of}}
+use Rattle.lc_sheet.specs.{Sheets.{SectionModel, SheetModel}, declared.{column.Column.Column, form.Form.Form}}
+use Rattle.lc_sheet.specs.declared.table_options.{Columns.Columns, Format.Format}
+use Rattle.lc_walk.specs.declared.{options.ReportLists.ReportLists, report.Report.Report, tally.sums.Sums.Sums}
 
 -- the form of lines: the columns that rows are grouped by, and the column of the names of sums
 abbrev pub form_by : Format → Columns → Form

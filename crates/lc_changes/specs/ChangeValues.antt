@@ -1,17 +1,13 @@
 -- The lines of a comparison: the values that rows, sums and files have in each column.
 use Rattle.std.specs.Prelude.{ℕ, List, codes, Option, Some, None}
-use Rattle.lc_changes.specs.Changes.{ChangedRowModel}
-use Rattle.lc_changes.specs.FileChanges.{FileChangeModel, either_file, side_number}
+use Rattle.lc_changes.specs.{Changes.ChangedRowModel, FileChanges.{FileChangeModel, either_file, side_number}}
 use Rattle.lc_level.specs.Level.{FileLineModel}
-use Rattle.lc_rows.specs.Kinds.{NamedSumsModel, file_value, row_value, sums_value}
-use Rattle.lc_rows.specs.ShownRows.{number_in}
+use Rattle.lc_rows.specs.{Kinds.{NamedSumsModel, file_value, row_value, sums_value}, ShownRows.number_in}
 use Rattle.lc_sheet.specs.Values.{ValueModel, missing, blank, word, number, difference}
-use Rattle.lc_sheet.specs.declared.column.Column.{Column}
-use Rattle.lc_sheet.specs.declared.column.Column.TheVariants as column
-use Rattle.lc_sheet.specs.declared.column.Compared.{Compared}
-use Rattle.lc_sheet.specs.declared.column.Compared.TheVariants as compared
-use Rattle.lc_sheet.specs.declared.form.Form.{Form}
+use Rattle.lc_sheet.specs.declared.{column.{Column.Column, Compared.Compared}, form.Form.Form}
 use Rattle.lc_walk.specs.declared.tally.sums.Sums.{Sums}
+use Rattle.lc_sheet.specs.declared.column.Column.TheVariants as column
+use Rattle.lc_sheet.specs.declared.column.Compared.TheVariants as compared
 
 -- ---- rows
 

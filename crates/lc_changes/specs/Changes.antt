@@ -1,16 +1,12 @@
 -- The rows of a comparison: for each key the sums of both reports.
 use Rattle.std.specs.Prelude.{◌≡◌, ℕ, ◌+◌, ◌-◌, ◌==◌, Bool, ◌&&◌, ◌||◌, not, if◌then◌else◌, List, map, filter, Option, Some, None}
-use Rattle.std.specs.List.{All, list_any}
-use Rattle.std.specs.List.Sorted.{IsPermutation, IsSorted, IsStrictlySortedBy}
-use Rattle.std.specs.Ordering.{nat_cmp, on, then_cmp}
+use Rattle.std.specs.{List.{All, list_any, Sorted.{IsPermutation, IsSorted, IsStrictlySortedBy}}, Ordering.{nat_cmp, on, then_cmp}}
 use Rattle.std.specs.declared.cmp.Ordering.{Ordering}
 use Rattle.lc_changes.specs.Pairs.{PairModel, removed, added, both}
 use Rattle.lc_rows.specs.RowKeys.{RowKey, ShownRowModel, has_within, row_key, row_key_cmp, row_with, rows_within, same_row_key}
-use Rattle.lc_rows.specs.RowKeys.{sums_of_shown, sums_over}
-use Rattle.lc_rows.specs.ShownRows.{number_in}
+use Rattle.lc_rows.specs.{RowKeys.{sums_of_shown, sums_over}, ShownRows.number_in}
 use Rattle.lc_sheet.specs.declared.column.Number.{Number}
-use Rattle.lc_walk.specs.Sums.{no_files}
-use Rattle.lc_walk.specs.declared.tally.sums.Sums.{Sums}
+use Rattle.lc_walk.specs.{Sums.no_files, declared.tally.sums.Sums.Sums}
 
 -- a row of the new report, and the sums of its key in the old report
 pub record ChangedRowModel : Type 0 where

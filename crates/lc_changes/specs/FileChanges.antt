@@ -1,13 +1,8 @@
 -- The files of a comparison: files that one report alone has, and files that differ between both.
-use Rattle.std.specs.Prelude.{◌≡◌, ℕ, ◌==◌, Bool, true, false, ◌&&◌, ◌||◌, not, List, [], map, filter, Option, Some, None}
-use Rattle.std.specs.Bool.{MatchBool}
-use Rattle.std.specs.List.{All, Contains, list_any}
-use Rattle.std.specs.List.Sorted.{IsPermutation, IsSorted, IsStrictlySortedBy}
-use Rattle.std.specs.Option.{MatchOption, option_or, option_map_or}
-use Rattle.std.specs.Ordering.{eq_by_cmp, nat_cmp, on, then_cmp}
-use Rattle.std.specs.declared.cmp.Ordering.{Ordering}
-use Rattle.lc_changes.specs.Changes.{distance}
-use Rattle.lc_changes.specs.Pairs.{PairModel, removed, added, both}
+use Rattle.std.specs.{Prelude.{◌≡◌, ℕ, ◌==◌, Bool, true, false, ◌&&◌, ◌||◌, not, List, [], map, filter, Option, Some, None}, Bool.MatchBool}
+use Rattle.std.specs.{List.{All, Contains, list_any, Sorted.{IsPermutation, IsSorted, IsStrictlySortedBy}}, Option.{MatchOption, option_or}}
+use Rattle.std.specs.{Option.option_map_or, Ordering.{eq_by_cmp, nat_cmp, on, then_cmp}, declared.cmp.Ordering.Ordering}
+use Rattle.lc_changes.specs.{Changes.distance, Pairs.{PairModel, removed, added, both}}
 use Rattle.lc_level.specs.Level.{FileLineModel}
 use Rattle.lc_rows.specs.ShownFiles.{file_number}
 use Rattle.lc_sheet.specs.declared.column.Number.{Number}

@@ -1,26 +1,17 @@
 -- What is true of comparisons.
-use Rattle.std.specs.Prelude.{◌≡◌, Bool, false, ◌||◌, List, [], map, Option}
-use Rattle.std.specs.List.{All, list_any}
-use Rattle.std.specs.Option.{MatchOption}
-use Rattle.lc_changes.specs.ChangeSheets.{AreChangesOf, ChangesModel}
-use Rattle.lc_changes.specs.ChangeValues.{ChangedSumsModel, changed_sums_value, changed_value, file_change_value}
-use Rattle.lc_changes.specs.Changes.{ChangedRowModel, AreCompared, changed_key, new_sums_of, old_sums_of, sums_at}
-use Rattle.lc_changes.specs.FileChanges.{FileChangeModel, AreFilesCompared, file_path}
+use Rattle.std.specs.{Prelude.{◌≡◌, Bool, false, ◌||◌, List, [], map, Option}, List.{All, list_any}, Option.MatchOption}
+use Rattle.lc_changes.specs.{ChangeSheets.{AreChangesOf, ChangesModel}, ChangeValues.{ChangedSumsModel, changed_sums_value, changed_value}}
+use Rattle.lc_changes.specs.{ChangeValues.file_change_value, Changes.{ChangedRowModel, AreCompared, changed_key, new_sums_of, old_sums_of}}
+use Rattle.lc_changes.specs.{Changes.sums_at, FileChanges.{FileChangeModel, AreFilesCompared, file_path}}
 use Rattle.lc_changes.specs.declared.options.ChangeOptions.{ChangeOptions}
 use Rattle.lc_level.specs.Level.{FileLineModel}
-use Rattle.lc_rows.specs.RowKeys.{RowKey, ShownRowModel, has_within, sums_of_shown}
-use Rattle.lc_rows.specs.ShownRows.{AreShown, parts_of}
-use Rattle.lc_sheet.specs.Conditions.{number_of}
-use Rattle.lc_sheet.specs.Sheets.{SectionModel}
-use Rattle.lc_sheet.specs.Values.{ValueModel, difference}
-use Rattle.lc_sheet.specs.declared.column.Column.{Column}
-use Rattle.lc_sheet.specs.declared.column.Column.TheVariants as column
-use Rattle.lc_sheet.specs.declared.column.Compared.TheVariants as compared
-use Rattle.lc_sheet.specs.declared.column.Number.{Number}
-use Rattle.lc_sheet.specs.declared.form.Form.{Form}
-use Rattle.lc_sheet.specs.declared.table_options.Columns.{Columns}
+use Rattle.lc_rows.specs.{RowKeys.{RowKey, ShownRowModel, has_within, sums_of_shown}, ShownRows.{AreShown, parts_of}}
+use Rattle.lc_sheet.specs.{Conditions.number_of, Sheets.SectionModel, Values.{ValueModel, difference}}
+use Rattle.lc_sheet.specs.declared.{column.{Column.Column, Number.Number}, form.Form.Form, table_options.Columns.Columns}
 use Rattle.lc_tree.specs.ByteOrder.{AreApart}
 use Rattle.lc_walk.specs.declared.report.Report.{Report}
+use Rattle.lc_sheet.specs.declared.column.Column.TheVariants as column
+use Rattle.lc_sheet.specs.declared.column.Compared.TheVariants as compared
 
 -- ---- a report and itself
 

@@ -1,9 +1,6 @@
 -- Two lists set side by side: elements that have the same key in both lists are a pair.
-use Rattle.std.specs.Prelude.{◌≡◌, Bool, true, false, List, [], ◌∷◌, map, flat_map, Option, Some, None}
-use Rattle.std.specs.List.{All}
-use Rattle.std.specs.List.Sorted.{IsStrictlySortedBy}
-use Rattle.std.specs.declared.cmp.Ordering.{Ordering}
-use Rattle.std.specs.declared.cmp.Ordering.TheVariants.{Less, Equal, Greater}
+use Rattle.std.specs.{Prelude.{◌≡◌, Bool, true, false, List, [], ◌∷◌, map, flat_map, Option, Some, None}, List.All}
+use Rattle.std.specs.{List.Sorted.IsStrictlySortedBy, declared.cmp.Ordering.{Ordering, TheVariants.{Less, Equal, Greater}}}
 
 -- an element of the old list alone, an element of the new list alone, or an element of each list
 pub data PairModel (X : Type 0) : Type 0 where

@@ -1,6 +1,4 @@
-use Rattle.std.proofs.Common.{rules, subst, sym}
-use Rattle.std.proofs.lemmas.Fn.{always_returns_same, dedup_same}
-use Rattle.std.proofs.lemmas.List.Sorted.{ranks_by}
+use Rattle.std.proofs.{Common.{rules, subst, sym}, lemmas.{Fn.{always_returns_same, dedup_same}, List.Sorted.ranks_by}}
 use Rattle.std.specs.Ordering.{is_lt}
 use Rattle.lc_changes.proofs.ByPath.{by_path, have_one_path, path_cmp_total}
 use Rattle.lc_changes.specs.FileChanges.{AreByPath}

@@ -1,5 +1,4 @@
-use Rattle.std.proofs.Common.{rules}
-use Rattle.std.proofs.lemmas.Fn.{filter_same}
+use Rattle.std.proofs.{Common.rules, lemmas.Fn.filter_same}
 use Rattle.lc_changes.specs.FileChanges.{is_changed}
 use Rattle.lc_changes.proofs.files.keep_changed.Goals as goal
 

@@ -1,6 +1,5 @@
 use Rattle.lc_changes.proofs.Pairing.{pairing_last, pairing_next}
-use Rattle.std.proofs.lemmas.Cmp.{nat_list_cmp_total}
-use Rattle.std.proofs.lemmas.Map.Lookups.{exact_bytes}
+use Rattle.std.proofs.lemmas.{Cmp.nat_list_cmp_total, Map.Lookups.exact_bytes}
 use Rattle.lc_changes.specs.FileChanges.{file_of_pair, file_path}
 use Rattle.lc_tree.specs.ByteOrder.{bytes_cmp}
 use Rattle.lc_changes.proofs.files.paired_files.Goals as goal

@@ -1,6 +1,5 @@
-use Rattle.std.proofs.Common.{rules}
+use Rattle.std.proofs.{Common.rules, lemmas.Fn.always_returns_same}
 use Rattle.std.specs.Ordering.{is_lt}
-use Rattle.std.proofs.lemmas.Fn.{always_returns_same}
 use Rattle.lc_changes.specs.FileChanges.{FileChangeModel, file_change_cmp}
 use Rattle.lc_changes.proofs.Orders.{file_changes_rank}
 use Rattle.lc_changes.proofs.sorting.sort_files_by.Goals as goal

@@ -1,6 +1,5 @@
-use Rattle.std.proofs.Common.{rules}
+use Rattle.std.proofs.{Common.rules, lemmas.Fn.always_returns_same}
 use Rattle.std.specs.Ordering.{is_lt}
-use Rattle.std.proofs.lemmas.Fn.{always_returns_same}
 use Rattle.lc_changes.specs.Changes.{ChangedRowModel, change_cmp}
 use Rattle.lc_changes.proofs.Orders.{changes_rank}
 use Rattle.lc_changes.proofs.sorting.sort_rows_by.Goals as goal
