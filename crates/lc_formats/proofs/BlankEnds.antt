@@ -1,18 +1,11 @@
 -- Texts without the blanks at their ends.
-use Rattle.std.proofs.Common.{◌≡◌, ℕ, zero, suc, ◌/◌, ◌%◌, Bool, true, false, not, ◌==◌, ◌&&◌, if◌then◌else◌}
-use Rattle.std.proofs.Common.{List, [], ◌∷◌, ◌++◌, codes, decimal, refl, ap, ap₂, ◌∙◌, arith}
-use Rattle.std.specs.Fmt.{digit_glyph, digits, digits_onto}
-use Rattle.std.specs.Int.{abs_diff}
-use Rattle.std.specs.List.{list_all}
-use Rattle.std.proofs.lemmas.Bool.{and_parts, and_from, not-true}
-use Rattle.std.proofs.lemmas.Bool.Decides.{nat_tests}
+use Rattle.std.proofs.Common.{◌≡◌, ℕ, zero, suc, ◌/◌, ◌%◌, Bool, true, false, not, ◌==◌, ◌&&◌, if◌then◌else◌, List, [], ◌∷◌, ◌++◌, codes}
+use Rattle.std.proofs.{Common.{decimal, refl, ap, ap₂, ◌∙◌, arith}, lemmas.Bool.{and_parts, and_from, not-true, Decides.nat_tests}}
 use Rattle.std.proofs.lemmas.List.Folds.{list_all-append}
-use Rattle.lc_formats.specs.Blanks.{char_before, ends_in_blank, without_blanks}
-use Rattle.lc_formats.specs.CellWords.{change_word, sign, with_commas}
-use Rattle.lc_formats.specs.Columns.{has_text, spaces}
-use Rattle.lc_formats.specs.Shares.{bar, share_word}
-use Rattle.lc_formats.proofs.Bars.{of_bar}
-use Rattle.lc_formats.proofs.OneLine.{all_weaker, encode_without, is_no_feed, is_numeral, is_one_line, numerals}
+use Rattle.std.specs.{Fmt.{digit_glyph, digits, digits_onto}, Int.abs_diff, List.list_all}
+use Rattle.lc_formats.specs.{Blanks.{char_before, ends_in_blank, without_blanks}, CellWords.{change_word, sign, with_commas}}
+use Rattle.lc_formats.specs.{Columns.{has_text, spaces}, Shares.{bar, share_word}}
+use Rattle.lc_formats.proofs.{Bars.of_bar, OneLine.{all_weaker, encode_without, is_no_feed, is_numeral, is_one_line, numerals}}
 
 -- whether there is nothing
 abbrev pub is_none : {X : Type 0} → List X → Bool

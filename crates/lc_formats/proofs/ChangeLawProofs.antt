@@ -1,11 +1,8 @@
 -- Proofs of what is true of the changes of numbers.
 use Rattle.std.proofs.Common.{◌≡◌, ◌+◌, ℕ, nat_lt, Bool, true, false, if◌then◌else◌, [], ◌++◌, codes, decimal, refl, ap, ◌∙◌, arith}
+use Rattle.std.proofs.lemmas.{Bool.{ltb-true, Decides.nat_tests}, Fmt.decimal_digit}
 use Rattle.std.specs.Int.{abs_diff}
-use Rattle.std.proofs.lemmas.Bool.{ltb-true}
-use Rattle.std.proofs.lemmas.Bool.Decides.{nat_tests}
-use Rattle.std.proofs.lemmas.Fmt.{decimal_digit}
-use Rattle.lc_formats.specs.CellWords.{change_word, with_commas}
-use Rattle.lc_formats.specs.ChangeLaws.{ChangeLaw, NoChangeLaw, gained, lost, number_in}
+use Rattle.lc_formats.specs.{CellWords.{change_word, with_commas}, ChangeLaws.{ChangeLaw, NoChangeLaw, gained, lost, number_in}}
 use Rattle.lc_formats.proofs.CommaLawProofs.{commas_law}
 
 apart_none : (old new : ℕ) → nat_lt old new ≡ false → nat_lt new old ≡ false → abs_diff old new ≡ 0

@@ -1,13 +1,9 @@
 -- What is true of numbers with commas.
-use Rattle.std.proofs.Common.{◌≡◌, ℕ, suc, ◌<◌, ◌≤◌, Bool, true, false, not, ◌==◌, nat_lt, ◌&&◌, ◌%◌, if◌then◌else◌, List, [], ◌∷◌}
-use Rattle.std.proofs.Common.{◌++◌, length, get_or, filter, codes, decimal, refl, ap, ap₂, ◌∙◌, arith}
+use Rattle.std.proofs.Common.{◌≡◌, ℕ, suc, ◌<◌, ◌≤◌, Bool, true, false, not, ◌==◌, nat_lt, ◌&&◌, ◌%◌, if◌then◌else◌, List, [], ◌∷◌, ◌++◌}
+use Rattle.std.proofs.{Common.{length, get_or, filter, codes, decimal, refl, ap, ap₂, ◌∙◌, arith}, lemmas.Bool.ne_eqb}
+use Rattle.std.proofs.lemmas.{Fmt.decimal_is_IsNumeral_wide, List.Elements.filter-append, Str.Parse.digit_at}
 use Rattle.std.specs.Str.Parse.{digits_value}
-use Rattle.std.proofs.lemmas.Bool.{ne_eqb}
-use Rattle.std.proofs.lemmas.Fmt.{decimal_is_IsNumeral_wide}
-use Rattle.std.proofs.lemmas.List.Elements.{filter-append}
-use Rattle.std.proofs.lemmas.Str.Parse.{digit_at}
-use Rattle.lc_formats.specs.CellWords.{comma, with_commas}
-use Rattle.lc_formats.specs.CommaLaws.{CommasLaw}
+use Rattle.lc_formats.specs.{CellWords.{comma, with_commas}, CommaLaws.CommasLaw}
 
 gone_if : (b : Bool) → filter (λ d. not (d == 44)) (if b then codes "," else []) ≡ []
 gone_if true = refl

@@ -1,10 +1,8 @@
 -- Records of lines, as the code writes them.
-use Rattle.std.proofs.Common.{◌≡◌, ℕ, ◌≤◌, List, ◌++◌, length, map, take, sym, ap, ◌∙◌, take_all}
+use Rattle.std.proofs.{Common.{◌≡◌, ℕ, ◌≤◌, List, ◌++◌, length, map, take, sym, ap, ◌∙◌, take_all}, lemmas.List.Folds.flat_map-map}
 use Rattle.std.specs.List.{flat_map}
-use Rattle.std.proofs.lemmas.List.Folds.{flat_map-map}
 use Rattle.lc_sheet.specs.Values.{ValueModel}
-use Rattle.lc_formats.specs.Csv.{field_of}
-use Rattle.lc_formats.specs.CsvText.{record_text}
+use Rattle.lc_formats.specs.{Csv.field_of, CsvText.record_text}
 
 -- a record of each line is written
 pub records_written : {X : Type 0} (values : X → List ValueModel) (xs : List X) (i : ℕ) (initial all : List ℕ) → length xs ≤ i

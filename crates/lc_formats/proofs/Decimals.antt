@@ -1,16 +1,10 @@
 -- What `decimal` writes is a number of JSON, also past 64 bits.
-use Rattle.std.proofs.Common.{◌≡◌, ℕ, zero, suc, ◌+◌, ◌%◌, ◌^◌, ◌<◌, ◌≤◌, false, cond, ◌==◌, List, [], ◌∷◌, length, drop, get_or}
-use Rattle.std.proofs.Common.{Some, option_and_then, decimal, refl, ap, ◌∙◌, arith}
-use Rattle.std.proofs.lemmas.Bool.{ne_eqb, le-leb, and_from}
-use Rattle.std.proofs.lemmas.List.{drop_all}
-use Rattle.std.proofs.Common.{length-append}
+use Rattle.std.proofs.Common.{◌≡◌, ℕ, zero, suc, ◌+◌, ◌%◌, ◌^◌, ◌<◌, ◌≤◌, false, cond, ◌==◌, List, [], ◌∷◌, length, drop, get_or, Some}
+use Rattle.std.proofs.{Common.{option_and_then, decimal, refl, ap, ◌∙◌, arith, length-append}, lemmas.Bool.{ne_eqb, le-leb, and_from}}
+use Rattle.std.proofs.lemmas.{List.drop_all, Fmt.{decimal_is_IsNumeral_wide, decimal_digit, decimal_by_steps_wide}, Str.Parse.digit_at}
 use lib.ListN.{get_or-append}
-use Rattle.std.proofs.lemmas.Fmt.{decimal_is_IsNumeral_wide, decimal_digit, decimal_by_steps_wide}
-use Rattle.std.proofs.lemmas.Str.Parse.{digit_at}
-use Rattle.std.specs.List.{prefix_len}
-use Rattle.std.specs.Char.{is_ascii_digit}
-use Rattle.json.specs.Word.{head, after_whole, after_fraction, after_exponent, after_number}
-use Rattle.json.specs.Print.{IsNumber}
+use Rattle.std.specs.{List.prefix_len, Char.is_ascii_digit}
+use Rattle.json.specs.{Word.{head, after_whole, after_fraction, after_exponent, after_number}, Print.IsNumber}
 
 all_digits : (ds : List ℕ) → ((i : ℕ) → i < length ds → (48 ≤ get_or ds i 0) × (get_or ds i 0 ≤ 57))
     → prefix_len is_ascii_digit ds ≡ length ds

@@ -1,28 +1,18 @@
 -- The value of a sheet is a document.
 use Rattle.std.proofs.Common.{◌≡◌, ℕ, ◌≤◌, Bool, true, false, cond, if◌then◌else◌, List, [], ◌∷◌, ◌++◌, map, codes, Option, Some, None}
-use Rattle.std.proofs.Common.{option_and_then, slice_get, sym, ap, ◌∙◌, arith, append-nil}
-use Rattle.std.proofs.Common.{Result, Ok, Err, IfOk}
-use Rattle.std.specs.Prelude.{Vec}
-use Rattle.std.specs.Global.{Global}
-use Rattle.std.specs.Str.{is_utf8}
-use Rattle.json.specs.Json.{Json, null, string, if_last, max_depth, value}
-use Rattle.json.specs.Lex.{tokens}
-use Rattle.json.specs.Print.{print}
-use Rattle.json.specs.Token.{Token}
-use Rattle.json.specs.Tree.{json_tokens, depth, items_depth, members_depth}
+use Rattle.std.proofs.Common.{option_and_then, slice_get, sym, ap, ◌∙◌, arith, append-nil, Result, Ok, Err, IfOk}
+use Rattle.std.specs.{Prelude.Vec, Global.Global, Str.is_utf8}
+use Rattle.json.specs.{Json.{Json, null, string, if_last, max_depth, value}, Lex.tokens, Print.print, Token.Token, Tree.json_tokens}
+use Rattle.json.specs.Tree.{depth, items_depth, members_depth}
 use Rattle.json.proofs.Printed.Trees.{value-json_tokens}
-use Rattle.lc_sheet.specs.ColumnWords.{column_name}
-use Rattle.lc_sheet.specs.Sheets.{SectionModel, SheetModel}
-use Rattle.lc_sheet.specs.Values.{ValueModel, missing, summed, blank, word, name, path, number, share, bar, difference}
-use Rattle.lc_sheet.specs.declared.column.Column.{Column}
+use Rattle.lc_sheet.specs.{ColumnWords.column_name, Sheets.{SectionModel, SheetModel}, Values.{ValueModel, missing, summed, blank, word}}
+use Rattle.lc_sheet.specs.{Values.{name, path, number, share, bar, difference}, declared.column.Column.Column}
 use Rattle.lc_text.specs.Names.{named}
 use Rattle.lc_formats.specs.JsonLines.{change_object, column_in, lacks, line_members, line_object, members_in, object_of, part_members}
-use Rattle.lc_formats.specs.JsonLines.{side_value, value_members}
-use Rattle.lc_formats.specs.JsonSheets.{json_of, line_at, list_member, list_members, number_member, number_members, object_members}
-use Rattle.lc_formats.specs.JsonSheets.{some_list, totals_members}
-use Rattle.lc_formats.specs.declared.json_sides.Part.{Part}
-use Rattle.lc_formats.specs.declared.json_sides.Part.TheVariants.{Own, Old, New}
-use Rattle.lc_formats.specs.JsonText.{Member, items_with, members_with, array_with, integer, bytes_member, bytes_name, IsDocument, object_with}
+use Rattle.lc_formats.specs.{JsonLines.{side_value, value_members}, JsonSheets.{json_of, line_at, list_member, list_members, number_member}}
+use Rattle.lc_formats.specs.{JsonSheets.{number_members, object_members, some_list, totals_members}, declared.json_sides.Part.Part}
+use Rattle.lc_formats.specs.{declared.json_sides.Part.TheVariants.{Own, Old, New}, JsonText.{Member, items_with, members_with, array_with}}
+use Rattle.lc_formats.specs.JsonText.{integer, bytes_member, bytes_name, IsDocument, object_with}
 
 -- an array is as deep as its values
 items_within : {X : Type 0} (v : X → Json) (n : ℕ) → ((x : X) → depth (v x) ≤ n) → (xs : List X)

@@ -1,19 +1,13 @@
 -- Lines of cells in columns that fit them have one width, up to an open end.
-use Rattle.std.proofs.Common.{◌≡◌, ℕ, suc, ◌+◌, ◌-◌, ◌≤◌, Bool, true, false, List, [], ◌∷◌, ◌++◌, length, map, codes}
-use Rattle.std.proofs.Common.{slice_index, refl, sym, ap, ap₂, ◌∙◌, arith, append_assoc, append-nil}
-use Rattle.std.specs.List.{All, AllZip}
-use Rattle.std.specs.Str.{IsUtf8}
-use Rattle.std.proofs.lemmas.List.Elements.{All-cons, All-head, All-nil, All-tail}
-use Rattle.std.proofs.lemmas.List.{length-map}
-use Rattle.std.proofs.lemmas.Str.{IsUtf8-append, IsUtf8-nil}
-use Rattle.lc_formats.specs.Blanks.{padded_from, padded_line}
-use Rattle.lc_formats.specs.Columns.{CellModel, cell_widths, gap, spaces, text_at}
-use Rattle.lc_formats.specs.Columns.{width_at, width_of, wider, widened, widths_of}
-use Rattle.lc_sheet.specs.declared.column.Side.{Side}
-use Rattle.lc_sheet.specs.declared.column.Side.TheVariants.{Left, Right, End}
-use Rattle.lc_formats.proofs.OneLine.{is_one_line, one_line-append}
-use Rattle.lc_formats.proofs.Spacing.{width_of-space, width_of-after, width_of-before, width_of-next}
-use Rattle.lc_formats.proofs.Spacing.{width_of-nil, utf8_spaces, one_line_spaces}
+use Rattle.std.proofs.Common.{◌≡◌, ℕ, suc, ◌+◌, ◌-◌, ◌≤◌, Bool, true, false, List, [], ◌∷◌, ◌++◌, length, map, codes, slice_index, refl}
+use Rattle.std.proofs.Common.{sym, ap, ap₂, ◌∙◌, arith, append_assoc, append-nil}
+use Rattle.std.proofs.lemmas.{List.{Elements.{All-cons, All-head, All-nil, All-tail}, length-map}, Str.{IsUtf8-append, IsUtf8-nil}}
+use Rattle.std.specs.{List.{All, AllZip}, Str.IsUtf8}
+use Rattle.lc_formats.specs.{Blanks.{padded_from, padded_line}, Columns.{CellModel, cell_widths, gap, spaces, text_at, width_at, width_of}}
+use Rattle.lc_formats.specs.Columns.{wider, widened, widths_of}
+use Rattle.lc_sheet.specs.declared.column.Side.{Side, TheVariants.{Left, Right, End}}
+use Rattle.lc_formats.proofs.{OneLine.{is_one_line, one_line-append}, Spacing.{width_of-space, width_of-after, width_of-before}}
+use Rattle.lc_formats.proofs.Spacing.{width_of-next, width_of-nil, utf8_spaces, one_line_spaces}
 
 abbrev pub sides : List CellModel → List Side
 sides cells = map (λ c. c.side) cells

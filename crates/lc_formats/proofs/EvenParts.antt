@@ -1,24 +1,18 @@
 -- The lines of a part of a table: lines of cells that are alike, and lines of hyphens.
 use Rattle.std.proofs.Common.{◌≡◌, ℕ, ◌+◌, true, false, List, [], ◌∷◌, ◌++◌, length, map, codes, replicate, refl, sym, ap, ◌∙◌, arith}
-use Rattle.std.proofs.Common.{append_assoc, append-nil, ap₂, subst, suc, zero}
-use Rattle.std.specs.List.{All, AllZip}
-use Rattle.std.proofs.lemmas.List.{length-map, map-append, replicate-append-replicate}
+use Rattle.std.proofs.{Common.{append_assoc, append-nil, ap₂, subst, suc, zero}, lemmas.List.{length-map, map-append}}
+use Rattle.std.proofs.lemmas.List.{replicate-append-replicate}
 use Rattle.std.proofs.lemmas.List.Elements.{All-append, All-cons, All-head, All-nil, All-same, All-tail, All-weaker}
+use Rattle.std.specs.List.{All, AllZip}
 use Rattle.lc_text.specs.Lines.{input_lines_of}
-use Rattle.lc_formats.specs.Blanks.{ends_in_blank, padded_line, padded_lines, without_blanks}
-use Rattle.lc_formats.specs.Columns.{CellModel, line_in, lines_in, rule_in, widths_of, width_of}
-use Rattle.lc_formats.specs.TableText.{listing}
-use Rattle.lc_formats.specs.WidthLaws.{AreEven, HasEnd, IsAlignedListing}
-use Rattle.lc_sheet.specs.declared.column.Side.{Side}
-use Rattle.lc_sheet.specs.declared.column.Side.TheVariants.{Left, Right, End}
-use Rattle.lc_formats.proofs.BlankEnds.{ends-append, ends_without, one_line_without, without_none}
-use Rattle.lc_formats.proofs.EvenLines.{AreSound, Fit, end_at, end_of, front, is_layout, line_parted}
-use Rattle.lc_formats.proofs.EvenLines.{one_line_end, one_line_front, side_width, sides, span}
-use Rattle.lc_formats.proofs.EvenLines.{width_of-front, widths_fit}
-use Rattle.lc_formats.proofs.LinesApart.{IsLined, lined-append, lined-one, input_lines_of-lined}
-use Rattle.lc_formats.proofs.OneLine.{is_one_line, one_line-append}
+use Rattle.lc_formats.specs.{Blanks.{ends_in_blank, padded_line, padded_lines, without_blanks}, Columns.{CellModel, line_in, lines_in}}
+use Rattle.lc_formats.specs.{Columns.{rule_in, widths_of, width_of}, TableText.listing, WidthLaws.{AreEven, HasEnd, IsAlignedListing}}
 use Rattle.lc_formats.specs.Layouts.{has_no_end, is_open}
-use Rattle.lc_formats.proofs.PrintedLines.{EndsBare, layout_open, line_open, line_printed}
+use Rattle.lc_sheet.specs.declared.column.Side.{Side, TheVariants.{Left, Right, End}}
+use Rattle.lc_formats.proofs.{BlankEnds.{ends-append, ends_without, one_line_without, without_none}, EvenLines.{AreSound, Fit, end_at}}
+use Rattle.lc_formats.proofs.EvenLines.{end_of, front, is_layout, line_parted, one_line_end, one_line_front, side_width, sides, span}
+use Rattle.lc_formats.proofs.{EvenLines.{width_of-front, widths_fit}, LinesApart.{IsLined, lined-append, lined-one, input_lines_of-lined}}
+use Rattle.lc_formats.proofs.{OneLine.{is_one_line, one_line-append}, PrintedLines.{EndsBare, layout_open, line_open, line_printed}}
 use Rattle.lc_formats.proofs.Spacing.{one_line_hyphens, width_of-hyphens}
 
 -- a line whose cells are at these sides

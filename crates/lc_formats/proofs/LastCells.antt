@@ -1,9 +1,7 @@
 -- The last cells of a line, one after the other.
 use Rattle.std.proofs.Common.{◌≡◌, ℕ, ◌+◌, ◌-◌, ◌<◌, ◌≤◌, Bool, true, false, if◌then◌else◌, List, [], ◌∷◌, ◌++◌, length, take, get_or}
-use Rattle.std.proofs.Common.{sym, ap, ◌∙◌, arith}
-use Rattle.std.proofs.lemmas.List.{take_more, map-append}
-use Rattle.lc_formats.specs.Cells.{cell_model, cells_of}
-use Rattle.lc_formats.specs.Columns.{CellModel, before_shown, is_shown, shown_cells}
+use Rattle.std.proofs.{Common.{sym, ap, ◌∙◌, arith}, lemmas.List.{take_more, map-append}}
+use Rattle.lc_formats.specs.{Cells.{cell_model, cells_of}, Columns.{CellModel, before_shown, is_shown, shown_cells}}
 use Rattle.lc_formats.specs.declared.cells.Cell.{Cell}
 
 -- a last cell that is shown ends its line

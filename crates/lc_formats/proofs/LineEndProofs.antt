@@ -1,20 +1,13 @@
 -- No line of a text in columns ends in a blank.
-use Rattle.std.proofs.Common.{◌≡◌, ℕ, false, List, map, Option, Some, None}
-use Rattle.std.specs.List.{All}
-use Rattle.std.specs.Option.{IfSome}
-use Rattle.std.proofs.lemmas.List.Elements.{All-same}
+use Rattle.std.proofs.{Common.{◌≡◌, ℕ, false, List, map, Option, Some, None}, lemmas.List.Elements.All-same}
+use Rattle.std.specs.{List.All, Option.IfSome}
 use Rattle.lc_text.specs.Lines.{input_lines_of}
 use Rattle.lc_sheet.specs.Sheets.{SectionModel}
-use Rattle.lc_formats.specs.Blanks.{ends_in_blank}
-use Rattle.lc_formats.specs.PaddedText.{padded_counts, padded_summary}
-use Rattle.lc_formats.specs.Columns.{widths_of}
-use Rattle.lc_formats.specs.TableText.{count_lines, counts_below, counts_of, list_listing, summary, table_of}
-use Rattle.lc_formats.specs.WidthLaws.{HasEnds, LineEndsLaw}
-use Rattle.lc_formats.proofs.EvenLines.{span}
-use Rattle.lc_formats.proofs.EvenParts.{IsClean, clean-append, clean_even, clean_feed, clean_nothing, shown}
-use Rattle.lc_formats.proofs.LinesApart.{input_lines_of-lined}
-use Rattle.lc_formats.proofs.ListingWidths.{section_clean}
-use Rattle.lc_formats.proofs.RowWidths.{count_sides, even_counts, even_summary, summary_lines, summary_span}
+use Rattle.lc_formats.specs.{Blanks.ends_in_blank, PaddedText.{padded_counts, padded_summary}, Columns.widths_of, TableText.count_lines}
+use Rattle.lc_formats.specs.{TableText.{counts_below, counts_of, list_listing, summary, table_of}, WidthLaws.{HasEnds, LineEndsLaw}}
+use Rattle.lc_formats.proofs.{EvenLines.span, EvenParts.{IsClean, clean-append, clean_even, clean_feed, clean_nothing, shown}}
+use Rattle.lc_formats.proofs.{LinesApart.input_lines_of-lined, ListingWidths.section_clean, RowWidths.{count_sides, even_counts}}
+use Rattle.lc_formats.proofs.RowWidths.{even_summary, summary_lines, summary_span}
 
 -- the lines of a text that is clean
 clean_lines : (text : List ℕ) → IsClean text → All (λ line. ends_in_blank line ≡ false) (input_lines_of text)

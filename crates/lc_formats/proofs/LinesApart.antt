@@ -1,12 +1,10 @@
 -- The lines of a text that is written line by line.
-use Rattle.std.proofs.Common.{◌≡◌, ℕ, true, false, ◌==◌, List, [], ◌∷◌, ◌++◌, codes, flat_map, refl, ap, ◌∙◌, append_assoc, append-nil, sym}
-use Rattle.std.specs.List.{All}
-use Rattle.std.proofs.lemmas.Bool.{and_parts, not-true}
-use Rattle.std.proofs.lemmas.List.Elements.{All-append, All-cons, All-nil, All-head, All-tail}
-use Rattle.std.proofs.lemmas.List.Splits.{slice_split_at}
+use Rattle.std.proofs.Common.{◌≡◌, ℕ, true, false, ◌==◌, List, [], ◌∷◌, ◌++◌, codes, flat_map, refl, ap, ◌∙◌, append_assoc, append-nil}
+use Rattle.std.proofs.{Common.sym, lemmas.Bool.{and_parts, not-true}}
+use Rattle.std.proofs.lemmas.List.{Elements.{All-append, All-cons, All-nil, All-head, All-tail}, Splits.slice_split_at}
 use Rattle.std.proofs.lemmas.Grind.{flat_map-append}
-use Rattle.lc_text.specs.Lines.{with_feed}
-use Rattle.lc_text.specs.Lines.{input_lines_of}
+use Rattle.std.specs.List.{All}
+use Rattle.lc_text.specs.Lines.{with_feed, input_lines_of}
 use Rattle.lc_text.proofs.LinesOf.{input_lines_of-first}
 use Rattle.lc_formats.proofs.OneLine.{is_no_feed, is_one_line}
 

@@ -1,23 +1,16 @@
 -- How wide the lines of what is listed are.
-use Rattle.std.proofs.Common.{◌≡◌, ℕ, true, List, [], ◌∷◌, ◌++◌, map, refl, sym, ap₂, append-nil, subst}
+use Rattle.std.proofs.{Common.{◌≡◌, ℕ, true, List, [], ◌∷◌, ◌++◌, map, refl, sym, ap₂, append-nil, subst}, lemmas.List.Elements.All-cons}
+use Rattle.std.proofs.lemmas.List.Elements.{All-head, All-map, All-nil, All-tail, All-weaker}
 use Rattle.std.specs.List.{All}
-use Rattle.std.proofs.lemmas.List.Elements.{All-cons, All-head, All-map, All-nil, All-tail, All-weaker}
-use Rattle.lc_sheet.specs.ColumnWords.{heading, side_of}
-use Rattle.lc_sheet.specs.Sheets.{SectionModel}
-use Rattle.lc_sheet.specs.Values.{ValueModel}
-use Rattle.lc_sheet.specs.declared.column.Column.{Column}
+use Rattle.lc_sheet.specs.{ColumnWords.{heading, side_of}, Sheets.SectionModel, Values.ValueModel, declared.column.Column.Column}
+use Rattle.lc_sheet.specs.declared.column.Side.{Side, TheVariants.{Left, Right, End}}
+use Rattle.lc_formats.specs.{Cells.{heading_cells, line_cells, section_cells, shown_text}, Layouts.is_open, Readable.AreReadable}
+use Rattle.lc_formats.specs.{Readable.IsListed, TableText.section_listing, WidthLaws.{HasEnd, HasEnds, IsAlignedListing, ListingWidthLaw}}
+use Rattle.lc_formats.specs.WidthLaws.{last_heading, last_text}
+use Rattle.lc_formats.proofs.{EvenLines.{end_at, end_of}, EvenParts.{IsClean, IsLike, listing_aligned, listing_clean}}
+use Rattle.lc_formats.proofs.SoundValues.{like_headings, like_line}
 use Rattle.lc_sheet.specs.declared.column.Column.TheVariants as column
 use Rattle.lc_sheet.specs.declared.column.Compared.TheVariants as compared
-use Rattle.lc_sheet.specs.declared.column.Side.{Side}
-use Rattle.lc_sheet.specs.declared.column.Side.TheVariants.{Left, Right, End}
-use Rattle.lc_formats.specs.Cells.{heading_cells, line_cells, section_cells, shown_text}
-use Rattle.lc_formats.specs.Layouts.{is_open}
-use Rattle.lc_formats.specs.Readable.{AreReadable, IsListed}
-use Rattle.lc_formats.specs.TableText.{section_listing}
-use Rattle.lc_formats.specs.WidthLaws.{HasEnd, HasEnds, IsAlignedListing, ListingWidthLaw, last_heading, last_text}
-use Rattle.lc_formats.proofs.EvenLines.{end_at, end_of}
-use Rattle.lc_formats.proofs.EvenParts.{IsClean, IsLike, listing_aligned, listing_clean}
-use Rattle.lc_formats.proofs.SoundValues.{like_headings, like_line}
 
 -- ---- the last text of a line is its open end
 

@@ -1,13 +1,11 @@
 -- What is true of texts as Markdown.
-use Rattle.std.proofs.Common.{◌≡◌, ◌==◌, ◌||◌, ◌&&◌, ℕ, nat_eq, Bool, true, false, if◌then◌else◌, List, [], ◌∷◌, ◌++◌, codes}
-use Rattle.std.proofs.Common.{refl, sym, ap, ◌∙◌, flat_map}
+use Rattle.std.proofs.Common.{◌≡◌, ◌==◌, ◌||◌, ◌&&◌, ℕ, nat_eq, Bool, true, false, if◌then◌else◌, List, [], ◌∷◌, ◌++◌, codes, refl, sym}
+use Rattle.std.proofs.{Common.{ap, ◌∙◌, flat_map}, lemmas.Bool.{and_parts, eqb-true, ne_eqb, or_parts}}
 use Rattle.std.specs.List.{list_any, starts_with}
-use Rattle.std.proofs.lemmas.Bool.{and_parts, eqb-true, ne_eqb, or_parts}
 use Rattle.lc_glob.specs.Lists.{is_empty}
-use Rattle.lc_formats.specs.Blanks.{ends_in_blank}
-use Rattle.lc_formats.specs.MarkdownCells.{begins_address, break_in, cell_byte, is_markup, markdown, markdown_from}
-use Rattle.lc_formats.specs.MarkdownLaws.{BlankLaw, EscapedLaw, LinkLaw, UnescapedLaw, Sight, plain, escaped, numbered, tag}
-use Rattle.lc_formats.specs.MarkdownLaws.{in_text, seen, bytes_of, is_bare_markup, text_to_tag, begins_domain, begins_link, has_link}
+use Rattle.lc_formats.specs.{Blanks.ends_in_blank, MarkdownCells.{begins_address, break_in, cell_byte, is_markup, markdown, markdown_from}}
+use Rattle.lc_formats.specs.MarkdownLaws.{BlankLaw, EscapedLaw, LinkLaw, UnescapedLaw, Sight, plain, escaped, numbered, tag, in_text}
+use Rattle.lc_formats.specs.MarkdownLaws.{seen, bytes_of, is_bare_markup, text_to_tag, begins_domain, begins_link, has_link}
 
 clash : {Q : Type 0} → true ≡ false → Q
 clash e = absurd (cc)

@@ -1,21 +1,17 @@
 -- Texts without a line feed, and texts that are UTF-8.
 use Rattle.std.proofs.Common.{◌≡◌, ℕ, zero, suc, ◌/◌, ◌%◌, ◌<◌, Bool, true, false, not, ◌==◌, ◌&&◌, ◌||◌, nat_lt, nat_eq, if◌then◌else◌}
-use Rattle.std.proofs.Common.{List, [], ◌∷◌, ◌++◌, length, get_or, codes, decimal, encode_utf8, flat_map}
-use Rattle.std.proofs.Common.{refl, sym, ap, ap₂, ◌∙◌, arith, inl, inr, append-nil}
-use Rattle.std.specs.List.{All, list_all}
-use Rattle.std.specs.Fmt.{digit_glyph, digits, digits_onto}
-use Rattle.std.specs.Str.{IsUtf8, chars, is_utf8, all_scalars}
-use Rattle.std.proofs.lemmas.Bool.{and_parts, and_from, or_left, lt-ltb, ltb-true, ne_eqb}
-use Rattle.std.proofs.lemmas.Bool.Decides.{nat_tests}
-use Rattle.std.proofs.lemmas.List.Elements.{All-cons, All-head, All-nil, All-tail}
-use Rattle.std.proofs.lemmas.List.Folds.{list_all-append}
+use Rattle.std.proofs.Common.{List, [], ◌∷◌, ◌++◌, length, get_or, codes, decimal, encode_utf8, flat_map, refl, sym, ap, ap₂, ◌∙◌, arith}
+use Rattle.std.proofs.Common.{inl, inr, append-nil}
+use Rattle.std.proofs.lemmas.Bool.{and_parts, and_from, or_left, lt-ltb, ltb-true, ne_eqb, Decides.nat_tests}
+use Rattle.std.proofs.lemmas.List.{Elements.{All-cons, All-head, All-nil, All-tail}, Folds.list_all-append}
 use Rattle.std.proofs.lemmas.Str.{IsUtf8-append, IsUtf8-nil, IsUtf8-encode, IsUtf8-from_is_utf8, scalars-chars, inside_one}
+use Rattle.std.specs.{List.{All, list_all}, Fmt.{digit_glyph, digits, digits_onto}, Str.{IsUtf8, chars, is_utf8, all_scalars}}
 use lib.Utf8.{encode, scalar, scalar_cases}
 use Rattle.json.proofs.Printed.Utf8.{are_ascii, IsUtf8-are_ascii}
 use Rattle.lc_glob.specs.Bytes.{backslash}
 use Rattle.lc_formats.specs.CellWords.{comma, with_commas}
-use Rattle.lc_text.specs.Escape.{hex_byte, hex_digit, is_control, escape_byte}
-use Rattle.lc_text.specs.Visible.{is_hidden, visible_byte, visible_bytes, visible_char}
+use Rattle.lc_text.specs.{Escape.{hex_byte, hex_digit, is_control, escape_byte}, Visible.{is_hidden, visible_byte, visible_bytes}}
+use Rattle.lc_text.specs.Visible.{visible_char}
 
 abbrev pub is_no_feed : ℕ → Bool
 is_no_feed b = not (b == 10)

@@ -1,14 +1,12 @@
 -- What is printed of a line: its cells up to the last that is shown.
 use Rattle.std.proofs.Common.{◌≡◌, ℕ, suc, ◌+◌, ◌-◌, ◌≤◌, Bool, true, false, not, if◌then◌else◌, List, [], ◌∷◌, ◌++◌, length, codes}
 use Rattle.std.proofs.Common.{slice_index, refl, sym, ap, ap₂, ◌∙◌, arith, append_assoc, append-nil}
-use Rattle.lc_formats.specs.Blanks.{char_before, ends_in_blank, padded_from, padded_line, without_blanks}
-use Rattle.lc_formats.specs.Columns.{CellModel, before_shown, cells_from, gap, is_shown, line_in, shown_cells, spaces, text_at}
-use Rattle.lc_formats.specs.Columns.{text_before, width_of}
-use Rattle.lc_formats.specs.Layouts.{has_no_end, is_open}
-use Rattle.lc_sheet.specs.declared.column.Side.{Side}
-use Rattle.lc_sheet.specs.declared.column.Side.TheVariants.{Left, Right, End}
-use Rattle.lc_formats.proofs.BlankEnds.{blank_spaces, drop_end, ends-append, is_none, keep_end, some_after, without_none}
-use Rattle.lc_formats.proofs.EvenLines.{Fit, front, front_at, is_layout, sides}
+use Rattle.lc_formats.specs.{Blanks.{char_before, ends_in_blank, padded_from, padded_line, without_blanks}, Columns.CellModel}
+use Rattle.lc_formats.specs.Columns.{before_shown, cells_from, gap, is_shown, line_in, shown_cells, spaces, text_at, text_before}
+use Rattle.lc_formats.specs.{Columns.width_of, Layouts.{has_no_end, is_open}}
+use Rattle.lc_sheet.specs.declared.column.Side.{Side, TheVariants.{Left, Right, End}}
+use Rattle.lc_formats.proofs.{BlankEnds.{blank_spaces, drop_end, ends-append, is_none, keep_end, some_after, without_none}, EvenLines.Fit}
+use Rattle.lc_formats.proofs.EvenLines.{front, front_at, is_layout, sides}
 
 -- ---- a line of cells in columns
 

@@ -1,18 +1,11 @@
 -- A reader of CSV gives back the records of a section.
-use Rattle.std.proofs.Common.{◌≡◌, ℕ, ◌<◌, List, [], ◌∷◌, length, map, refl, sym, arith}
+use Rattle.std.proofs.{Common.{◌≡◌, ℕ, ◌<◌, List, [], ◌∷◌, length, map, refl, sym, arith}, lemmas.List.Elements.{All-head, All-tail}}
 use Rattle.std.specs.List.{All, flat_map}
-use Rattle.std.proofs.lemmas.List.Elements.{All-head, All-tail}
 use Rattle.csv.proofs.RoundTrip.{read-write}
-use Rattle.csv.specs.Machine.{next_record}
-use Rattle.csv.specs.Reading.{AreRecords, Reached, default_config}
-use Rattle.csv.specs.Writing.{read_back}
+use Rattle.csv.specs.{Machine.next_record, Reading.{AreRecords, Reached, default_config}, Writing.read_back}
 use Rattle.csv.specs.declared.parser.State.TheVariants.{StartRecord}
-use Rattle.lc_sheet.specs.ColumnWords.{column_name}
-use Rattle.lc_sheet.specs.Sheets.{SectionModel}
-use Rattle.lc_sheet.specs.Values.{ValueModel}
-use Rattle.lc_formats.specs.Csv.{csv_section, field_of, records_of}
-use Rattle.lc_formats.specs.CsvLaws.{HasColumns, RecordsLaw}
-use Rattle.lc_formats.specs.CsvText.{record_text}
+use Rattle.lc_sheet.specs.{ColumnWords.column_name, Sheets.SectionModel, Values.ValueModel}
+use Rattle.lc_formats.specs.{Csv.{csv_section, field_of, records_of}, CsvLaws.{HasColumns, RecordsLaw}, CsvText.record_text}
 
 -- a record that has a field reads back as it is
 whole : {X : Type 0} (field : X → List ℕ) (xs : List X) → 0 < length xs → read_back (map field xs) ≡ map field xs

@@ -1,29 +1,20 @@
 -- How wide the lines of rows, of their sums and of the last numbers are.
-use Rattle.std.proofs.Common.{◌≡◌, ℕ, Bool, true, false, if◌then◌else◌, List, [], ◌∷◌, ◌++◌, length, map, codes, replicate, Option}
-use Rattle.std.proofs.Common.{Some, None, refl, sym, ap, ◌∙◌, subst, arith}
+use Rattle.std.proofs.Common.{◌≡◌, ℕ, Bool, true, false, if◌then◌else◌, List, [], ◌∷◌, ◌++◌, length, map, codes, replicate, Option, Some}
+use Rattle.std.proofs.{Common.{None, refl, sym, ap, ◌∙◌, subst, arith}, lemmas.List.Elements.{All-append, All-cons, All-head, All-nil}}
+use Rattle.std.proofs.lemmas.List.Elements.{All-tail, All-take}
 use Rattle.std.specs.List.{All}
-use Rattle.std.proofs.lemmas.List.Elements.{All-append, All-cons, All-head, All-nil, All-tail, All-take}
-use Rattle.lc_sheet.specs.ColumnWords.{heading, side_of}
-use Rattle.lc_sheet.specs.Sheets.{SectionModel, SheetModel}
-use Rattle.lc_sheet.specs.Values.{ValueModel, missing, summed, blank, word, name, path, number, share, bar, difference}
-use Rattle.lc_sheet.specs.declared.column.Column.{Column}
-use Rattle.lc_sheet.specs.declared.column.Side.{Side}
-use Rattle.lc_sheet.specs.declared.column.Side.TheVariants.{Left, Right, End}
-use Rattle.lc_formats.specs.Blanks.{ends_in_blank}
-use Rattle.lc_formats.specs.Cells.{cell_of, heading_cells, line_cells, section_cells, shown_text}
-use Rattle.lc_formats.specs.Columns.{CellModel, before_shown, has_text, is_shown, shown_cells, widths_of}
-use Rattle.lc_formats.specs.Layouts.{has_no_end}
-use Rattle.lc_formats.specs.PaddedText.{padded_counts, padded_rows, padded_summary}
-use Rattle.lc_formats.specs.Readable.{AreReadable, AreRows, EndsInNumbers, IsNumeral, IsTabular}
-use Rattle.lc_formats.specs.Shares.{rounded_parts}
-use Rattle.lc_formats.specs.TableText.{count_cells, count_lines, counts_of, entries_line, row_lines, rows_in_columns, shown_lines}
-use Rattle.lc_formats.specs.TableText.{shown_totals, summary, summary_widths}
+use Rattle.lc_sheet.specs.{ColumnWords.{heading, side_of}, Sheets.{SectionModel, SheetModel}, Values.{ValueModel, missing, summed, blank}}
+use Rattle.lc_sheet.specs.{Values.{word, name, path, number, share, bar, difference}, declared.column.Column.Column}
+use Rattle.lc_sheet.specs.declared.column.Side.{Side, TheVariants.{Left, Right, End}}
+use Rattle.lc_formats.specs.{Blanks.ends_in_blank, Cells.{cell_of, heading_cells, line_cells, section_cells, shown_text}, Columns.CellModel}
+use Rattle.lc_formats.specs.{Columns.{before_shown, has_text, is_shown, shown_cells, widths_of}, Layouts.has_no_end}
+use Rattle.lc_formats.specs.{PaddedText.{padded_counts, padded_rows, padded_summary}, Readable.{AreReadable, AreRows, EndsInNumbers}}
+use Rattle.lc_formats.specs.{Readable.{IsNumeral, IsTabular}, Shares.rounded_parts, TableText.{count_cells, count_lines, counts_of}}
+use Rattle.lc_formats.specs.TableText.{entries_line, row_lines, rows_in_columns, shown_lines, shown_totals, summary, summary_widths}
 use Rattle.lc_formats.specs.WidthLaws.{CountsWidthLaw, SummaryWidthLaw}
-use Rattle.lc_formats.proofs.BlankEnds.{ends_bar, ends_change, ends_number, ends_share, shown_number}
-use Rattle.lc_formats.proofs.EvenLines.{Fit, IsSound, span}
+use Rattle.lc_formats.proofs.{BlankEnds.{ends_bar, ends_change, ends_number, ends_share, shown_number}, EvenLines.{Fit, IsSound, span}}
 use Rattle.lc_formats.proofs.EvenParts.{IsEven, IsRow, are_even, even-append, even_line, even_lines, even_rule, rows_fit, shown}
-use Rattle.lc_formats.proofs.PrintedLines.{EndsBare}
-use Rattle.lc_formats.proofs.SoundValues.{like_headings, like_line, sound_ascii, sound_value}
+use Rattle.lc_formats.proofs.{PrintedLines.EndsBare, SoundValues.{like_headings, like_line, sound_ascii, sound_value}}
 
 -- ---- the ends of the lines
 

@@ -1,9 +1,7 @@
 -- One line of a section.
 use Rattle.std.proofs.Common.{◌≡◌, ℕ, ◌<◌, ◌≤◌, List, length, get_or, slice_get, Some, None, option_map, sym, ap, ◌∙◌}
 use Rattle.std.proofs.lemmas.Option.{slice_get-get_or, slice_get-map, slice_get_past}
-use Rattle.lc_sheet.specs.Sheets.{line_of, lines_of}
-use Rattle.lc_sheet.specs.Values.{ValueModel}
-use Rattle.lc_sheet.specs.declared.column.Column.{Column}
+use Rattle.lc_sheet.specs.{Sheets.{line_of, lines_of}, Values.ValueModel, declared.column.Column.Column}
 
 -- a line that was read
 pub line_there : {X : Type 0} (value : X → Column → ValueModel) (columns : List Column) (lines : List X) (shown : List (List ValueModel))

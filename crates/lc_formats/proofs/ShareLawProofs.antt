@@ -1,10 +1,8 @@
 -- What is true of shares.
 use Rattle.std.proofs.Common.{◌≡◌, ◌<◌, ◌≤◌, ◌+◌, ◌*◌, ◌/◌, ℕ, Bool, true, false, ◌==◌, if◌then◌else◌, refl, ap, ◌∙◌, arith}
-use Rattle.std.proofs.Math.Nat.{div-mul-le_self, lt-div-mul-add, mul-le-mul_left}
-use Rattle.std.proofs.lemmas.Bool.{eqb-false, ne_eqb}
+use Rattle.std.proofs.{Math.Nat.{div-mul-le_self, lt-div-mul-add, mul-le-mul_left}, lemmas.Bool.{eqb-false, ne_eqb}}
 use Rattle.std.proofs.lemmas.Nat.{div-mul-add, div_below}
-use Rattle.lc_formats.specs.ShareLaws.{NearestLaw, PartsLaw, WholeLaw}
-use Rattle.lc_formats.specs.Shares.{rounded_parts}
+use Rattle.lc_formats.specs.{ShareLaws.{NearestLaw, PartsLaw, WholeLaw}, Shares.rounded_parts}
 
 -- of something, the quotient
 some_parts : (count part whole : ℕ) → 0 < whole → rounded_parts count part whole ≡ (2 * count * part + whole) / (2 * whole)

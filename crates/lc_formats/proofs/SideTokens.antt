@@ -1,15 +1,9 @@
 -- The tokens of a line of a comparison by its parts.
-use Rattle.std.proofs.Common.{◌≡◌, ℕ, Bool, false, if◌then◌else◌, List, [], ◌∷◌, ◌++◌, map, sym, ap, ◌∙◌}
-use Rattle.std.proofs.Common.{append_assoc, append-nil}
-use Rattle.json.specs.Json.{Json, null}
-use Rattle.json.specs.Token.{Token, key, begin_object, end_object}
-use Rattle.json.specs.Tree.{json_tokens}
-use Rattle.lc_sheet.specs.Values.{ValueModel}
-use Rattle.lc_sheet.specs.declared.column.Column.{Column}
-use Rattle.lc_formats.specs.JsonLines.{column_in, lacks, members_in, part_members, side_value}
-use Rattle.lc_formats.specs.JsonText.{Member, object_with}
-use Rattle.lc_formats.specs.JsonTokens.{members_tokens_of}
-use Rattle.lc_formats.specs.declared.json_sides.Part.{Part}
+use Rattle.std.proofs.Common.{◌≡◌, ℕ, Bool, false, if◌then◌else◌, List, [], ◌∷◌, ◌++◌, map, sym, ap, ◌∙◌, append_assoc, append-nil}
+use Rattle.json.specs.{Json.{Json, null}, Token.{Token, key, begin_object, end_object}, Tree.json_tokens}
+use Rattle.lc_sheet.specs.{Values.ValueModel, declared.column.Column.Column}
+use Rattle.lc_formats.specs.{JsonLines.{column_in, lacks, members_in, part_members, side_value}, JsonText.{Member, object_with}}
+use Rattle.lc_formats.specs.{JsonTokens.members_tokens_of, declared.json_sides.Part.Part}
 use Rattle.lc_formats.proofs.Tokens.{both_members, object_appended}
 
 -- one column more of a part

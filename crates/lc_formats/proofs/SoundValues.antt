@@ -1,28 +1,18 @@
 -- The texts of values are in one line, and UTF-8.
-use Rattle.std.proofs.Common.{◌≡◌, ℕ, ◌/◌, ◌%◌, nat_lt, Bool, true, false, if◌then◌else◌, List, [], ◌∷◌, ◌++◌, map, codes}
-use Rattle.std.proofs.Common.{decimal, encode_utf8, Option, Some, None, refl, ap, arith}
-use Rattle.std.specs.Int.{abs_diff}
-use Rattle.std.specs.Str.{IsUtf8}
-use Rattle.std.proofs.lemmas.Bool.Decides.{nat_tests}
+use Rattle.std.proofs.Common.{◌≡◌, ℕ, ◌/◌, ◌%◌, nat_lt, Bool, true, false, if◌then◌else◌, List, [], ◌∷◌, ◌++◌, map, codes, decimal}
+use Rattle.std.proofs.{Common.{encode_utf8, Option, Some, None, refl, ap, arith}, lemmas.Bool.Decides.nat_tests}
 use Rattle.std.proofs.lemmas.Str.{IsUtf8-append, IsUtf8-encode}
+use Rattle.std.specs.{Int.abs_diff, Str.IsUtf8}
 use lib.Utf8.{low_scalar}
 use Rattle.json.proofs.Printed.Utf8.{are_ascii, IsUtf8-are_ascii}
-use Rattle.lc_text.specs.Names.{NameModel, line_end}
-use Rattle.lc_text.specs.Visible.{visible_bytes, visible_path}
-use Rattle.lc_sheet.specs.ColumnWords.{heading, side_of}
-use Rattle.lc_sheet.specs.Values.{ValueModel, missing, summed, blank, word, name, path, number, share, bar, difference}
-use Rattle.lc_sheet.specs.declared.column.Column.{Column}
-use Rattle.lc_sheet.specs.declared.column.Side.{Side}
-use Rattle.lc_sheet.specs.declared.column.Side.TheVariants.{Left, Right, End}
-use Rattle.lc_formats.specs.CellWords.{change_word, sign, with_commas}
-use Rattle.lc_formats.specs.Cells.{heading_cells, line_cells, shown_text}
-use Rattle.lc_formats.specs.Readable.{AreReadable, HasBytes, IsPlain, IsReadable, is_printable}
-use Rattle.lc_formats.specs.Shares.{bar as bar_text, rounded_parts, share_word}
-use Rattle.lc_formats.proofs.Bars.{of_bar}
-use Rattle.lc_formats.proofs.EvenLines.{IsSound}
-use Rattle.lc_formats.proofs.EvenParts.{IsLike}
-use Rattle.lc_formats.proofs.OneLine.{is_no_feed, is_one_line, low_text, one_line-append, one_line-decimal, one_line-encode}
-use Rattle.lc_formats.proofs.OneLine.{one_line-number, one_line-visible, utf8-visible}
+use Rattle.lc_text.specs.{Names.{NameModel, line_end}, Visible.{visible_bytes, visible_path}}
+use Rattle.lc_sheet.specs.{ColumnWords.{heading, side_of}, Values.{ValueModel, missing, summed, blank, word, name, path, number, share}}
+use Rattle.lc_sheet.specs.{Values.{bar, difference}, declared.column.{Column.Column, Side.{Side, TheVariants.{Left, Right, End}}}}
+use Rattle.lc_formats.specs.{CellWords.{change_word, sign, with_commas}, Cells.{heading_cells, line_cells, shown_text}}
+use Rattle.lc_formats.specs.{Readable.{AreReadable, HasBytes, IsPlain, IsReadable, is_printable}, Shares.{bar as bar_text, rounded_parts}}
+use Rattle.lc_formats.specs.Shares.{share_word}
+use Rattle.lc_formats.proofs.{Bars.of_bar, EvenLines.IsSound, EvenParts.IsLike, OneLine.{is_no_feed, is_one_line, low_text}}
+use Rattle.lc_formats.proofs.OneLine.{one_line-append, one_line-decimal, one_line-encode, one_line-number, one_line-visible, utf8-visible}
 
 -- ---- texts at a side
 

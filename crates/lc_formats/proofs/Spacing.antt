@@ -1,18 +1,13 @@
 -- The width of a text with spaces: a space takes one column, whatever is before it and after it.
 use Rattle.std.proofs.Common.{◌≡◌, ℕ, zero, suc, ◌+◌, ◌<◌, Bool, true, false, List, [], ◌∷◌, ◌++◌, replicate, refl, sym, ap, ◌∙◌, arith}
-use Rattle.std.specs.Int.{is_in_range}
-use Rattle.std.specs.List.{list_all}
-use Rattle.std.proofs.lemmas.List.{length-replicate}
-use Rattle.std.specs.Str.{IsAscii, IsUtf8, chars}
-use Rattle.std.proofs.lemmas.Bool.{and_from}
-use Rattle.std.proofs.lemmas.Str.{chars-append, chars-IsAscii, chars-nil, IsUtf8-append, IsUtf8-nil}
-use Rattle.std.proofs.lemmas.Str.Ascii.{IsAscii-cons, IsAscii-nil}
+use Rattle.std.proofs.lemmas.{List.length-replicate, Bool.and_from}
+use Rattle.std.proofs.lemmas.Str.{chars-append, chars-IsAscii, chars-nil, IsUtf8-append, IsUtf8-nil, Ascii.{IsAscii-cons, IsAscii-nil}}
+use Rattle.std.specs.{Int.is_in_range, List.list_all, Str.{IsAscii, IsUtf8, chars}}
 use Rattle.json.proofs.Printed.Utf8.{IsUtf8-are_ascii}
 use Rattle.lc_formats.proofs.OneLine.{is_no_feed, is_one_line}
-use Rattle.unicode_width.specs.declared.state.State.{State}
-use Rattle.unicode_width.specs.Width.{is_emoji_variation_base, Reading, plain, step, past_emoji, read_before, str_width}
-use Rattle.unicode_width.proofs.Computing.{unicode_width}
-use Rattle.unicode_width.proofs.Rules.{is_simple, str_width-append_simple, str_width-printable}
+use Rattle.unicode_width.specs.{declared.state.State.State, Width.{is_emoji_variation_base, Reading, plain, step, past_emoji, read_before}}
+use Rattle.unicode_width.specs.Width.{str_width}
+use Rattle.unicode_width.proofs.{Computing.unicode_width, Rules.{is_simple, str_width-append_simple, str_width-printable}}
 use Rattle.lc_formats.specs.Columns.{width_of, spaces}
 
 no_emoji_base : is_emoji_variation_base 32 ≡ false

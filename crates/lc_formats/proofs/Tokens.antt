@@ -1,20 +1,13 @@
 -- The tokens of arrays and objects by their parts.
-use Rattle.std.proofs.Common.{◌≡◌, ℕ, Bool, if◌then◌else◌, List, [], ◌∷◌, ◌++◌, map}
-use Rattle.std.proofs.Common.{refl, sym, ◌∙◌, ap, append_assoc, append-nil, Some}
-use Rattle.std.specs.List.{flat_map}
-use Rattle.std.proofs.lemmas.Bool.{false_from_ne_true}
-use Rattle.std.proofs.lemmas.List.Concat.{flat_map-append}
-use Rattle.std.specs.Str.{IsUtf8, is_utf8}
-use Rattle.std.proofs.lemmas.Str.{IsUtf8-from_is_utf8, is_utf8-from_IsUtf8}
-use Rattle.json.specs.Json.{Json, string}
-use Rattle.json.specs.Token.{Token, key, begin_object, end_object, end_array}
-use Rattle.json.specs.Tree.{json_tokens, items_tokens, members_tokens}
-use Rattle.lc_sheet.specs.Values.{ValueModel}
-use Rattle.lc_sheet.specs.declared.column.Column.{Column}
-use Rattle.lc_formats.specs.JsonLines.{line_members, object_of, value_members}
-use Rattle.lc_formats.specs.JsonSheets.{object_members}
-use Rattle.lc_formats.specs.JsonText.{Member, items_with, members_with, array_with, object_with, integer, bytes_member, bytes_name}
-use Rattle.lc_formats.specs.JsonTokens.{member_tokens, members_tokens_of}
+use Rattle.std.proofs.Common.{◌≡◌, ℕ, Bool, if◌then◌else◌, List, [], ◌∷◌, ◌++◌, map, refl, sym, ◌∙◌, ap, append_assoc, append-nil, Some}
+use Rattle.std.proofs.lemmas.{Bool.false_from_ne_true, List.Concat.flat_map-append, Str.{IsUtf8-from_is_utf8, is_utf8-from_IsUtf8}}
+use Rattle.std.specs.{List.flat_map, Str.{IsUtf8, is_utf8}}
+use Rattle.json.specs.{Json.{Json, string}, Token.{Token, key, begin_object, end_object, end_array}, Tree.{json_tokens, items_tokens}}
+use Rattle.json.specs.Tree.{members_tokens}
+use Rattle.lc_sheet.specs.{Values.ValueModel, declared.column.Column.Column}
+use Rattle.lc_formats.specs.{JsonLines.{line_members, object_of, value_members}, JsonSheets.object_members, JsonText.{Member, items_with}}
+use Rattle.lc_formats.specs.{JsonText.{members_with, array_with, object_with, integer, bytes_member, bytes_name}, JsonTokens.member_tokens}
+use Rattle.lc_formats.specs.JsonTokens.{members_tokens_of}
 
 -- an array has the tokens of its values, and a bracket
 pub array_tokens : {X : Type 0} (value : X → Json) (xs : List X)

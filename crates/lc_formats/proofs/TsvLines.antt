@@ -1,11 +1,9 @@
 -- Lines with tabs, as the code writes them.
-use Rattle.std.proofs.Common.{◌≡◌, ℕ, ◌≤◌, List, [], ◌∷◌, ◌++◌, length, map, take, codes, sym, ap, ◌∙◌, append_assoc, append-nil, take_all}
+use Rattle.std.proofs.Common.{◌≡◌, ℕ, ◌≤◌, List, [], ◌∷◌, ◌++◌, length, map, take, codes, sym, ap, ◌∙◌, append_assoc, append-nil}
+use Rattle.std.proofs.{Common.take_all, lemmas.List.Folds.flat_map-map}
 use Rattle.std.specs.List.{flat_map}
-use Rattle.std.proofs.lemmas.List.Folds.{flat_map-map}
-use Rattle.lc_sheet.specs.Values.{ValueModel}
-use Rattle.lc_sheet.specs.declared.column.Column.{Column}
-use Rattle.lc_formats.specs.Tsv.{field_of, line_with}
-use Rattle.lc_formats.specs.TsvParts.{after_tab, after_tabs}
+use Rattle.lc_sheet.specs.{Values.ValueModel, declared.column.Column.Column}
+use Rattle.lc_formats.specs.{Tsv.{field_of, line_with}, TsvParts.{after_tab, after_tabs}}
 
 -- the first field, and the rest with a tab before each
 pub by_tabs : (first : List ℕ) (fields : List (List ℕ)) → line_with (first ∷ fields) ≡ first ++ after_tabs fields ++ codes "\n"

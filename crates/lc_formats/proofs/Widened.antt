@@ -1,13 +1,9 @@
 -- Widths of columns, one cell more at a time.
 use Rattle.std.proofs.Common.{◌≡◌, ℕ, zero, suc, ◌+◌, ◌<◌, ◌≤◌, max, List, [], ◌∷◌, ◌++◌, length, map, take, get_or, set, refl, sym, ap}
-use Rattle.std.proofs.Common.{◌∙◌, ◌==◌, false, codes, arith}
-use Rattle.std.proofs.Common.{append_assoc, append-nil}
-use Rattle.std.proofs.lemmas.List.{take_more, map-append, length-map, length-take-le, get_or_default}
-use Rattle.std.proofs.lemmas.List.Concat.{flat_map-append}
+use Rattle.std.proofs.{Common.{◌∙◌, ◌==◌, false, codes, arith, append_assoc, append-nil}, lemmas.List.{take_more, map-append, length-map}}
+use Rattle.std.proofs.lemmas.List.{length-take-le, get_or_default, Concat.flat_map-append}
 use Rattle.lc_formats.specs.Columns.{CellModel, cell_widths, line_in, lines_in, listing_in, rule_in, wider, widened, widths_of, width_at}
-use Rattle.lc_formats.specs.Cells.{cell_model, cells_of}
-use Rattle.lc_formats.specs.TableText.{listing, rows_in_columns}
-use Rattle.lc_formats.specs.declared.cells.Cell.{Cell}
+use Rattle.lc_formats.specs.{Cells.{cell_model, cells_of}, TableText.{listing, rows_in_columns}, declared.cells.Cell.Cell}
 use Rattle.lc_formats.specs.Widening.{with_width}
 
 -- a column that there is

@@ -1,6 +1,5 @@
 -- Numbers in cells.
-use Rattle.std.specs.Prelude.{ℕ, ◌%◌, ◌==◌, ◌&&◌, nat_lt, if◌then◌else◌, List, [], ◌∷◌, ◌++◌, length, codes, decimal}
-use Rattle.std.specs.Int.{abs_diff}
+use Rattle.std.specs.{Prelude.{ℕ, ◌%◌, ◌==◌, ◌&&◌, nat_lt, if◌then◌else◌, List, [], ◌∷◌, ◌++◌, length, codes, decimal}, Int.abs_diff}
 
 -- a comma if the number of digits that follow is a multiple of three and not 0
 abbrev pub comma : List ℕ → List ℕ

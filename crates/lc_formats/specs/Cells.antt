@@ -1,15 +1,9 @@
 -- The cells that show the values of a section, and the texts in them.
 use Rattle.std.specs.Prelude.{ℕ, List, [], ◌∷◌, map, codes, decimal}
-use Rattle.lc_text.specs.Names.{named}
-use Rattle.lc_text.specs.Visible.{visible_bytes, visible_path}
-use Rattle.lc_sheet.specs.ColumnWords.{heading, side_of}
-use Rattle.lc_sheet.specs.Sheets.{SectionModel}
-use Rattle.lc_sheet.specs.Values.{ValueModel, missing, summed, blank, word, name, path, number, share, bar, difference, value_model}
-use Rattle.lc_sheet.specs.declared.column.Column.{Column}
-use Rattle.lc_sheet.specs.declared.column.Side.{Side}
-use Rattle.lc_formats.specs.CellWords.{change_word, with_commas}
-use Rattle.lc_formats.specs.Columns.{CellModel}
-use Rattle.lc_formats.specs.Shares.{bar as bar_text, rounded_parts, share_word}
+use Rattle.lc_text.specs.{Names.named, Visible.{visible_bytes, visible_path}}
+use Rattle.lc_sheet.specs.{ColumnWords.{heading, side_of}, Sheets.SectionModel, Values.{ValueModel, missing, summed, blank, word, name}}
+use Rattle.lc_sheet.specs.{Values.{path, number, share, bar, difference, value_model}, declared.column.{Column.Column, Side.Side}}
+use Rattle.lc_formats.specs.{CellWords.{change_word, with_commas}, Columns.CellModel, Shares.{bar as bar_text, rounded_parts, share_word}}
 use Rattle.lc_formats.specs.declared.cells.Cell.{Cell}
 
 -- the text of a value for reading: `-` if the value is missing, and nothing if the column is summed over or does not apply

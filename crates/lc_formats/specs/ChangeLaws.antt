@@ -1,6 +1,5 @@
 -- What is true of the changes of numbers.
-use Rattle.std.specs.Prelude.{◌≡◌, ◌<◌, ◌^◌, ◌+◌, ◌==◌, ℕ, not, if◌then◌else◌, List, [], ◌∷◌, filter, codes}
-use Rattle.std.specs.Str.Parse.{digits_value}
+use Rattle.std.specs.{Prelude.{◌≡◌, ◌<◌, ◌^◌, ◌+◌, ◌==◌, ℕ, not, if◌then◌else◌, List, [], ◌∷◌, filter, codes}, Str.Parse.digits_value}
 use Rattle.lc_formats.specs.CellWords.{change_word}
 
 -- the number whose digits a text has, without the commas

@@ -1,9 +1,8 @@
 -- Lines of cells in columns, each as wide as its widest cell.
-use Rattle.std.specs.Prelude.{ℕ, ◌+◌, ◌-◌, max, Bool, true, false, if◌then◌else◌, List, [], ◌∷◌, ◌++◌, map}
-use Rattle.std.specs.Prelude.{slice_index, replicate, flat_map, chars, codes}
+use Rattle.std.specs.Prelude.{ℕ, ◌+◌, ◌-◌, max, Bool, true, false, if◌then◌else◌, List, [], ◌∷◌, ◌++◌, map, slice_index, replicate}
+use Rattle.std.specs.Prelude.{flat_map, chars, codes}
 use Rattle.unicode_width.specs.Width.{str_width}
-use Rattle.lc_sheet.specs.declared.column.Side.{Side}
-use Rattle.lc_sheet.specs.declared.column.Side.TheVariants.{Left, Right, End}
+use Rattle.lc_sheet.specs.declared.column.Side.{Side, TheVariants.{Left, Right, End}}
 
 -- a cell: a text, and the side of its column at which the text is aligned
 pub record CellModel : Type 0 where

@@ -1,6 +1,5 @@
 -- What is true of numbers with commas.
-use Rattle.std.specs.Prelude.{◌≡◌, ℕ, ◌<◌, ◌^◌, ◌==◌, not, filter, decimal}
-use Rattle.std.specs.Str.Parse.{digits_value}
+use Rattle.std.specs.{Prelude.{◌≡◌, ℕ, ◌<◌, ◌^◌, ◌==◌, not, filter, decimal}, Str.Parse.digits_value}
 use Rattle.lc_formats.specs.CellWords.{with_commas}
 
 -- the digits of a number without the commas have the value of the number

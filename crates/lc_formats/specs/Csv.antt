@@ -1,9 +1,7 @@
 -- The text of a sheet as CSV: records of one section, below the names of its columns.
-use Rattle.std.specs.Prelude.{ℕ, List, [], ◌∷◌, map, decimal, unwrap_or}
-use Rattle.std.specs.List.{flat_map}
-use Rattle.lc_sheet.specs.ColumnWords.{column_name}
-use Rattle.lc_sheet.specs.Sheets.{SectionModel, SheetModel}
-use Rattle.lc_sheet.specs.Values.{ValueModel, missing, summed, blank, word, name, path, number, share, bar, difference}
+use Rattle.std.specs.{Prelude.{ℕ, List, [], ◌∷◌, map, decimal, unwrap_or}, List.flat_map}
+use Rattle.lc_sheet.specs.{ColumnWords.column_name, Sheets.{SectionModel, SheetModel}, Values.{ValueModel, missing, summed, blank, word}}
+use Rattle.lc_sheet.specs.Values.{name, path, number, share, bar, difference}
 use Rattle.lc_text.specs.Names.{named}
 use Rattle.lc_formats.specs.CsvText.{record_text}
 

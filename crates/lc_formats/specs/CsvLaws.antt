@@ -1,10 +1,7 @@
 -- What is true of texts as CSV.
-use Rattle.std.specs.Prelude.{◌≡◌, ◌<◌, List, length}
-use Rattle.std.specs.List.{All}
-use Rattle.csv.specs.Reading.{AreRecords, default_config}
-use Rattle.csv.specs.declared.parser.State.TheVariants.{StartRecord}
-use Rattle.lc_sheet.specs.Sheets.{SectionModel, SheetModel}
-use Rattle.lc_sheet.specs.Values.{ValueModel}
+use Rattle.std.specs.{Prelude.{◌≡◌, ◌<◌, List, length}, List.All}
+use Rattle.csv.specs.{Reading.{AreRecords, default_config}, declared.parser.State.TheVariants.StartRecord}
+use Rattle.lc_sheet.specs.{Sheets.{SectionModel, SheetModel}, Values.ValueModel}
 use Rattle.lc_formats.specs.Csv.{csv_of, csv_section, records_of}
 
 -- a section that has columns, and whose lines have a value in each column

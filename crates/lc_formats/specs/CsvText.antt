@@ -1,8 +1,6 @@
 -- A text of records (RFC 4180).
-use Rattle.std.specs.Prelude.{◌≡◌, ℕ, false, List, Vec}
-use Rattle.std.specs.Global.{Global}
-use Rattle.csv.specs.Writing.{default_writer, fields_written, has_written, row_text, writer_setup}
-use Rattle.csv.specs.declared.writer.Writer.{Writer}
+use Rattle.std.specs.{Prelude.{◌≡◌, ℕ, false, List, Vec}, Global.Global}
+use Rattle.csv.specs.{Writing.{default_writer, fields_written, has_written, row_text, writer_setup}, declared.writer.Writer.Writer}
 
 -- a record of these fields (RFC 4180), with a line feed at its end
 abbrev pub record_text : List (List ℕ) → List ℕ

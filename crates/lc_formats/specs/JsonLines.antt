@@ -1,16 +1,13 @@
 -- The JSON values of lines of a sheet.
 use Rattle.std.specs.Prelude.{ℕ, Bool, true, false, ◌&&◌, if◌then◌else◌, List, [], ◌∷◌, ◌++◌, codes, Option, Some, None}
 use Rattle.json.specs.Json.{Json, null, string}
-use Rattle.lc_sheet.specs.ColumnWords.{column_name}
-use Rattle.lc_sheet.specs.Values.{ValueModel, missing, summed, blank, word, name, path, number, share, bar, difference}
-use Rattle.lc_sheet.specs.declared.column.Column.{Column}
-use Rattle.lc_sheet.specs.declared.column.Column.TheVariants as column
-use Rattle.lc_sheet.specs.declared.column.Compared.{Compared}
-use Rattle.lc_sheet.specs.declared.column.Compared.TheVariants as compared
+use Rattle.lc_sheet.specs.{ColumnWords.column_name, Values.{ValueModel, missing, summed, blank, word, name, path, number, share, bar}}
+use Rattle.lc_sheet.specs.{Values.difference, declared.column.{Column.Column, Compared.Compared}}
 use Rattle.lc_text.specs.Names.{named}
-use Rattle.lc_formats.specs.JsonText.{Member, bytes_member, integer, object_with}
-use Rattle.lc_formats.specs.declared.json_sides.Part.{Part}
+use Rattle.lc_formats.specs.{JsonText.{Member, bytes_member, integer, object_with}, declared.json_sides.Part.Part}
 use Rattle.lc_formats.specs.declared.json_sides.Part.TheVariants.{Own, Old, New}
+use Rattle.lc_sheet.specs.declared.column.Column.TheVariants as column
+use Rattle.lc_sheet.specs.declared.column.Compared.TheVariants as compared
 
 -- ---- a line of one report
 

@@ -1,13 +1,8 @@
 -- The JSON value of a sheet, and its text.
 use Rattle.std.specs.Prelude.{ℕ, Bool, List, [], ◌∷◌, ◌++◌, map, codes, slice_get, Option, Some, None}
-use Rattle.json.specs.Json.{Json}
-use Rattle.json.specs.Print.{print}
-use Rattle.json.specs.Tree.{json_tokens}
-use Rattle.lc_sheet.specs.Sheets.{SectionModel, SheetModel}
-use Rattle.lc_sheet.specs.Values.{ValueModel}
-use Rattle.lc_sheet.specs.declared.column.Column.{Column}
-use Rattle.lc_formats.specs.JsonLines.{object_of}
-use Rattle.lc_formats.specs.JsonText.{Member, array_with, integer, object_with}
+use Rattle.json.specs.{Json.Json, Print.print, Tree.json_tokens}
+use Rattle.lc_sheet.specs.{Sheets.{SectionModel, SheetModel}, Values.ValueModel, declared.column.Column.Column}
+use Rattle.lc_formats.specs.{JsonLines.object_of, JsonText.{Member, array_with, integer, object_with}}
 
 -- ---- sections
 

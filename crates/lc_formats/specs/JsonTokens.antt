@@ -1,8 +1,6 @@
 -- The tokens of the members of a JSON object, in order.
-use Rattle.std.specs.Prelude.{List, ◌∷◌}
-use Rattle.std.specs.List.{flat_map}
-use Rattle.json.specs.Token.{Token, key}
-use Rattle.json.specs.Tree.{json_tokens}
+use Rattle.std.specs.{Prelude.{List, ◌∷◌}, List.flat_map}
+use Rattle.json.specs.{Token.{Token, key}, Tree.json_tokens}
 use Rattle.lc_formats.specs.JsonText.{Member}
 
 abbrev pub member_tokens : Member → List Token

@@ -1,7 +1,6 @@
 -- Lines whose last cell ends the line without padding, and lines without such a cell.
 use Rattle.std.specs.Prelude.{Bool, true, false, List, [], ◌∷◌}
-use Rattle.lc_sheet.specs.declared.column.Side.{Side}
-use Rattle.lc_sheet.specs.declared.column.Side.TheVariants.{Left, Right, End}
+use Rattle.lc_sheet.specs.declared.column.Side.{Side, TheVariants.{Left, Right, End}}
 
 -- whether no cell ends its line
 abbrev pub has_no_end : List Side → Bool

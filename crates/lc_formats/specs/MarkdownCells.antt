@@ -1,13 +1,9 @@
 -- Cells of a table of GitHub Flavored Markdown.
-use Rattle.std.specs.Prelude.{ℕ, nat_eq, ◌==◌, Bool, true, false, ◌&&◌, ◌||◌, if◌then◌else◌, List, [], ◌∷◌, ◌++◌, codes}
-use Rattle.std.specs.List.{list_any, starts_with}
+use Rattle.std.specs.{Prelude.{ℕ, nat_eq, ◌==◌, Bool, true, false, ◌&&◌, ◌||◌, if◌then◌else◌, List, [], ◌∷◌, ◌++◌, codes}, List.list_any}
+use Rattle.std.specs.List.{starts_with}
 use Rattle.lc_glob.specs.Lists.{is_empty}
-use Rattle.lc_sheet.specs.Values.{ValueModel}
-use Rattle.lc_sheet.specs.declared.column.Side.{Side}
-use Rattle.lc_sheet.specs.declared.column.Side.TheVariants.{Left, Right, End}
-use Rattle.lc_formats.specs.Cells.{shown_text}
-use Rattle.lc_formats.specs.declared.markdown_line.Weight.{Weight}
-use Rattle.lc_formats.specs.declared.markdown_line.Weight.TheVariants.{Plain, Bold}
+use Rattle.lc_sheet.specs.{Values.ValueModel, declared.column.Side.{Side, TheVariants.{Left, Right, End}}}
+use Rattle.lc_formats.specs.{Cells.shown_text, declared.markdown_line.Weight.{Weight, TheVariants.{Plain, Bold}}}
 
 -- the bytes that Markdown may take as markup in a cell
 abbrev pub is_markup : ℕ → Bool

@@ -1,9 +1,7 @@
 -- What is true of texts as Markdown.
-use Rattle.std.specs.Prelude.{◌≡◌, ◌==◌, ◌+◌, ◌-◌, ◌*◌, ◌||◌, ℕ, nat_eq, Bool, false, if◌then◌else◌}
-use Rattle.std.specs.Prelude.{List, [], ◌∷◌, codes, flat_map}
+use Rattle.std.specs.Prelude.{◌≡◌, ◌==◌, ◌+◌, ◌-◌, ◌*◌, ◌||◌, ℕ, nat_eq, Bool, false, if◌then◌else◌, List, [], ◌∷◌, codes, flat_map}
 use Rattle.std.specs.List.{list_any, starts_with}
-use Rattle.lc_formats.specs.Blanks.{ends_in_blank}
-use Rattle.lc_formats.specs.MarkdownCells.{is_markup, markdown}
+use Rattle.lc_formats.specs.{Blanks.ends_in_blank, MarkdownCells.{is_markup, markdown}}
 
 -- what a reader of Markdown sees in a cell: a byte as it is, a byte behind a backslash, a byte that is written by its number, or a tag
 pub data Sight : Type 0 where

@@ -1,12 +1,8 @@
 -- The text of a sheet as Markdown: tables of GitHub Flavored Markdown, with empty lines between the tables.
 use Rattle.std.specs.Prelude.{ℕ, List, [], ◌∷◌, ◌++◌, map, flat_map, codes, Option, Some, None}
-use Rattle.lc_sheet.specs.ColumnWords.{heading, side_of}
-use Rattle.lc_sheet.specs.Sheets.{SectionModel, SheetModel}
-use Rattle.lc_sheet.specs.Values.{ValueModel, word, number}
+use Rattle.lc_sheet.specs.{ColumnWords.{heading, side_of}, Sheets.{SectionModel, SheetModel}, Values.{ValueModel, word, number}}
 use Rattle.lc_sheet.specs.declared.column.Column.{Column}
-use Rattle.lc_formats.specs.MarkdownCells.{rule_cell, value_cell}
-use Rattle.lc_formats.specs.TableText.{shown_totals}
-use Rattle.lc_formats.specs.declared.markdown_line.Weight.{Weight}
+use Rattle.lc_formats.specs.{MarkdownCells.{rule_cell, value_cell}, TableText.shown_totals, declared.markdown_line.Weight.Weight}
 use Rattle.lc_formats.specs.declared.markdown_line.Weight.TheVariants.{Plain, Bold}
 
 -- ---- lines

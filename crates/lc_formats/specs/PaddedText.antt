@@ -1,10 +1,8 @@
 -- Parts of a text in columns with all the blanks of their columns.
 use Rattle.std.specs.Prelude.{ℕ, List, ◌++◌, Option}
 use Rattle.lc_sheet.specs.Sheets.{SheetModel}
-use Rattle.lc_formats.specs.Blanks.{padded_line, padded_lines}
-use Rattle.lc_formats.specs.Cells.{heading_cells, section_cells}
-use Rattle.lc_formats.specs.Columns.{CellModel, rule_in, widths_of}
-use Rattle.lc_formats.specs.TableText.{count_lines, row_lines, shown_totals, summary_widths}
+use Rattle.lc_formats.specs.{Blanks.{padded_line, padded_lines}, Cells.{heading_cells, section_cells}, Columns.{CellModel, rule_in}}
+use Rattle.lc_formats.specs.{Columns.widths_of, TableText.{count_lines, row_lines, shown_totals, summary_widths}}
 
 -- the headings, the rows and the sums, with lines of hyphens between them
 abbrev pub padded_rows : List ℕ → List CellModel → List (List CellModel) → List (List CellModel) → List ℕ

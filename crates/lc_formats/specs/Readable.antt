@@ -1,12 +1,8 @@
 -- What laws require of the values of a sheet: words are printable, and bytes are below 256.
-use Rattle.std.specs.Prelude.{◌≡◌, ◌<◌, ℕ, ◌&&◌, nat_lt, Bool, true, List, ◌∷◌, ◌++◌, map, ⊤}
-use Rattle.std.specs.List.{All, AllZip, list_all}
-use Rattle.lc_sheet.specs.ColumnWords.{side_of}
-use Rattle.lc_sheet.specs.Sheets.{SectionModel, SheetModel}
-use Rattle.lc_sheet.specs.Values.{ValueModel, missing, summed, blank, word, name, path, number, share, bar, difference}
-use Rattle.lc_sheet.specs.declared.column.Column.{Column}
-use Rattle.lc_sheet.specs.declared.column.Side.{Side}
-use Rattle.lc_sheet.specs.declared.column.Side.TheVariants.{Left, Right, End}
+use Rattle.std.specs.{Prelude.{◌≡◌, ◌<◌, ℕ, ◌&&◌, nat_lt, Bool, true, List, ◌∷◌, ◌++◌, map, ⊤}, List.{All, AllZip, list_all}}
+use Rattle.lc_sheet.specs.{ColumnWords.side_of, Sheets.{SectionModel, SheetModel}, Values.{ValueModel, missing, summed, blank, word, name}}
+use Rattle.lc_sheet.specs.{Values.{path, number, share, bar, difference}, declared.column.Column.Column}
+use Rattle.lc_sheet.specs.declared.column.Side.{Side, TheVariants.{Left, Right, End}}
 use Rattle.lc_formats.specs.Layouts.{has_no_end, is_open}
 
 -- a printable character of ASCII

@@ -1,10 +1,7 @@
 -- The text of a sheet for reading: sections in columns, with empty lines between the sections.
 use Rattle.std.specs.Prelude.{ℕ, Bool, if◌then◌else◌, List, [], ◌∷◌, ◌++◌, take, codes, Option, Some, None}
-use Rattle.lc_sheet.specs.Sheets.{SectionModel, SheetModel}
-use Rattle.lc_sheet.specs.Values.{word, number}
-use Rattle.lc_sheet.specs.declared.column.Side.TheVariants.{Left, Right}
-use Rattle.lc_formats.specs.Cells.{cell_at, heading_cells, section_cells}
-use Rattle.lc_formats.specs.Columns.{CellModel, widths_of, line_in, lines_in, rule_in}
+use Rattle.lc_sheet.specs.{Sheets.{SectionModel, SheetModel}, Values.{word, number}, declared.column.Side.TheVariants.{Left, Right}}
+use Rattle.lc_formats.specs.{Cells.{cell_at, heading_cells, section_cells}, Columns.{CellModel, widths_of, line_in, lines_in, rule_in}}
 
 -- ---- the rows and their sums
 

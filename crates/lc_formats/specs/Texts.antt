@@ -1,14 +1,8 @@
 -- The text of a sheet in a format.
 use Rattle.std.specs.Prelude.{◌≡◌, ℕ, List}
-use Rattle.lc_sheet.specs.Sheets.{SheetModel}
-use Rattle.lc_sheet.specs.declared.table_options.Format.{Format}
-use Rattle.lc_sheet.specs.declared.table_options.Format.TheVariants.{Tsv, Table, Json, Csv, Markdown, Html}
-use Rattle.lc_formats.specs.Csv.{csv_of}
-use Rattle.lc_formats.specs.JsonSheets.{json_of, json_text_of}
-use Rattle.lc_formats.specs.JsonText.{IsDocument}
-use Rattle.lc_formats.specs.MarkdownText.{markdown_of}
-use Rattle.lc_formats.specs.TableText.{table_of}
-use Rattle.lc_formats.specs.Tsv.{tsv_of}
+use Rattle.lc_sheet.specs.{Sheets.SheetModel, declared.table_options.Format.{Format, TheVariants.{Tsv, Table, Json, Csv, Markdown, Html}}}
+use Rattle.lc_formats.specs.{Csv.csv_of, JsonSheets.{json_of, json_text_of}, JsonText.IsDocument, MarkdownText.markdown_of}
+use Rattle.lc_formats.specs.{TableText.table_of, Tsv.tsv_of}
 
 -- a text is that of a sheet in a format; a page of HTML has a picture in place of a sheet, whose text would be the table
 abbrev pub IsTextIn : Format → SheetModel → List ℕ → Type 0

@@ -1,13 +1,9 @@
 -- The text of a sheet with tabs between fields: a header, a line for each row, the sums, the directories, the files, the skipped entries,
 -- the errors.
-use Rattle.std.specs.Prelude.{ℕ, List, [], ◌∷◌, ◌++◌, false, map, codes, decimal, Option, Some, None}
-use Rattle.std.specs.List.{flat_map}
-use Rattle.lc_sheet.specs.ColumnWords.{column_name}
-use Rattle.lc_sheet.specs.Sheets.{SectionModel, SheetModel}
-use Rattle.lc_sheet.specs.Values.{ValueModel, missing, summed, blank, word, name, path, number, share, bar, difference}
-use Rattle.lc_sheet.specs.declared.column.Column.{Column}
-use Rattle.lc_text.specs.Escape.{escape_bytes, escape_path}
-use Rattle.lc_text.specs.Names.{named}
+use Rattle.std.specs.{Prelude.{ℕ, List, [], ◌∷◌, ◌++◌, false, map, codes, decimal, Option, Some, None}, List.flat_map}
+use Rattle.lc_sheet.specs.{ColumnWords.column_name, Sheets.{SectionModel, SheetModel}, Values.{ValueModel, missing, summed, blank, word}}
+use Rattle.lc_sheet.specs.{Values.{name, path, number, share, bar, difference}, declared.column.Column.Column}
+use Rattle.lc_text.specs.{Escape.{escape_bytes, escape_path}, Names.named}
 use Rattle.lc_formats.specs.TableText.{shown_lines}
 
 -- a value as a field: a dash if the value is missing, a star if the line is summed over the column

@@ -1,6 +1,5 @@
 -- Parts of lines with tabs, as the code makes them.
-use Rattle.std.specs.Prelude.{ℕ, List, ◌++◌, codes}
-use Rattle.std.specs.List.{flat_map}
+use Rattle.std.specs.{Prelude.{ℕ, List, ◌++◌, codes}, List.flat_map}
 
 -- a tab before a field
 abbrev pub after_tab : List ℕ → List ℕ

@@ -1,17 +1,10 @@
 -- How wide the lines of a text in columns are: of the rows with their sums, of the counts, and of each list.
-use Rattle.std.specs.Prelude.{◌≡◌, ℕ, false, List, [], ◌∷◌, ◌++◌, map, Option, IfSome}
-use Rattle.std.specs.List.{All, AllZip}
-use Rattle.lc_sheet.specs.ColumnWords.{heading}
-use Rattle.lc_sheet.specs.Sheets.{SectionModel, SheetModel}
-use Rattle.lc_sheet.specs.Values.{ValueModel}
-use Rattle.lc_sheet.specs.declared.column.Column.{Column}
+use Rattle.std.specs.{Prelude.{◌≡◌, ℕ, false, List, [], ◌∷◌, ◌++◌, map, Option, IfSome}, List.{All, AllZip}}
+use Rattle.lc_sheet.specs.{ColumnWords.heading, Sheets.{SectionModel, SheetModel}, Values.ValueModel, declared.column.Column.Column}
 use Rattle.lc_text.specs.Lines.{input_lines_of}
-use Rattle.lc_formats.specs.Blanks.{ends_in_blank, without_blanks}
-use Rattle.lc_formats.specs.Cells.{shown_text}
-use Rattle.lc_formats.specs.Columns.{width_of}
-use Rattle.lc_formats.specs.PaddedText.{padded_counts, padded_summary}
-use Rattle.lc_formats.specs.Readable.{IsListed, IsTabular}
-use Rattle.lc_formats.specs.TableText.{counts_of, section_listing, summary, table_of}
+use Rattle.lc_formats.specs.{Blanks.{ends_in_blank, without_blanks}, Cells.shown_text, Columns.width_of, PaddedText.padded_counts}
+use Rattle.lc_formats.specs.{PaddedText.padded_summary, Readable.{IsListed, IsTabular}, TableText.{counts_of, section_listing, summary}}
+use Rattle.lc_formats.specs.TableText.{table_of}
 
 -- the lines have one width
 abbrev pub AreAsWide : List (List ℕ) → Type 0

@@ -1,8 +1,7 @@
 use Rattle.std.proofs.Common.{◌≡◌, ◌++◌, map, take}
 use Rattle.std.specs.List.{flat_map}
 use Rattle.lc_sheet.specs.Sheets.{line_of}
-use Rattle.lc_formats.specs.Csv.{field_of}
-use Rattle.lc_formats.specs.CsvText.{record_text}
+use Rattle.lc_formats.specs.{Csv.field_of, CsvText.record_text}
 use Rattle.lc_formats.proofs.csv_sheet.push_lines.Given as goal
 
 abbrev pub invariant-loop-line : goal.invariant-loop-line

@@ -1,5 +1,4 @@
-use Rattle.std.proofs.Common.{◌∙◌, ap, ◌++◌, map, sym}
-use Rattle.std.proofs.lemmas.Simd.{map-map}
+use Rattle.std.proofs.{Common.{◌∙◌, ap, ◌++◌, map, sym}, lemmas.Simd.map-map}
 use Rattle.lc_formats.specs.Csv.{field_of}
 use Rattle.lc_formats.proofs.csv_sheet.set_fields.Goals as goal
 

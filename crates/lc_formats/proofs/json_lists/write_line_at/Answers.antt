@@ -1,14 +1,8 @@
 use Rattle.std.proofs.Common.{List, ◌++◌, Option, Some, sym, ap, ◌∙◌, append-nil}
-use Rattle.json.specs.Token.{Token}
-use Rattle.json.specs.Tree.{json_tokens}
-use Rattle.lc_sheet.specs.Sheets.{line_of}
-use Rattle.lc_sheet.specs.Values.{ValueModel}
-use Rattle.lc_sheet.specs.declared.column.Column.{Column}
-use Rattle.lc_formats.specs.JsonLines.{object_of}
-use Rattle.lc_formats.specs.JsonSheets.{object_members}
-use Rattle.lc_formats.specs.JsonTokens.{members_tokens_of}
-use Rattle.lc_formats.proofs.Sections.{line_there, line_missing}
-use Rattle.lc_formats.proofs.Tokens.{object_member_appended}
+use Rattle.json.specs.{Token.Token, Tree.json_tokens}
+use Rattle.lc_sheet.specs.{Sheets.line_of, Values.ValueModel, declared.column.Column.Column}
+use Rattle.lc_formats.specs.{JsonLines.object_of, JsonSheets.object_members, JsonTokens.members_tokens_of}
+use Rattle.lc_formats.proofs.{Sections.{line_there, line_missing}, Tokens.object_member_appended}
 use Rattle.lc_formats.proofs.json_lists.write_line_at.Goals as goal
 
 pub returns-in_ok-write_line : goal.returns-in_ok-write_line

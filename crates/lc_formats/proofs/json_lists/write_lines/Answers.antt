@@ -1,10 +1,7 @@
-use Rattle.std.proofs.Common.{List, ◌++◌, take_all, sym, ap, ◌∙◌}
+use Rattle.std.proofs.{Common.{List, ◌++◌, take_all, sym, ap, ◌∙◌}, lemmas.List.Folds.flat_map-map}
 use Rattle.std.specs.List.{flat_map}
-use Rattle.std.proofs.lemmas.List.Folds.{flat_map-map}
-use Rattle.json.specs.Token.{Token}
-use Rattle.json.specs.Tree.{json_tokens}
-use Rattle.lc_sheet.specs.Sheets.{line_of}
-use Rattle.lc_sheet.specs.Values.{ValueModel}
+use Rattle.json.specs.{Token.Token, Tree.json_tokens}
+use Rattle.lc_sheet.specs.{Sheets.line_of, Values.ValueModel}
 use Rattle.lc_formats.specs.JsonLines.{object_of}
 use Rattle.lc_formats.proofs.Listed.{one_written}
 use Rattle.lc_formats.proofs.json_lists.write_lines.Goals as goal

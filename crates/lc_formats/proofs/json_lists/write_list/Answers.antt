@@ -1,7 +1,6 @@
 use Rattle.std.proofs.Common.{List, [], ◌∷◌, ◌++◌, sym, ap, ◌∙◌}
 use Rattle.std.specs.List.{flat_map}
-use Rattle.json.specs.Token.{Token, key, begin_array, end_array}
-use Rattle.json.specs.Tree.{json_tokens}
+use Rattle.json.specs.{Token.{Token, key, begin_array, end_array}, Tree.json_tokens}
 use Rattle.lc_sheet.specs.Values.{ValueModel}
 use Rattle.lc_formats.specs.JsonLines.{object_of}
 use Rattle.lc_formats.proofs.Tokens.{array_tokens, in_turn_3}

@@ -1,8 +1,5 @@
 use Rattle.std.proofs.Common.{◌≡◌, List, ◌++◌, codes, IfOk, ap, subst, ◌∙◌}
-use Rattle.json.specs.Lex.{tokens}
-use Rattle.json.specs.Print.{print}
-use Rattle.json.specs.Token.{Token}
-use Rattle.json.specs.Tree.{json_tokens}
+use Rattle.json.specs.{Lex.tokens, Print.print, Token.Token, Tree.json_tokens}
 use Rattle.lc_formats.specs.JsonSheets.{json_of}
 use Rattle.lc_formats.proofs.Depths.{is_document}
 use Rattle.lc_formats.proofs.json_sheet.json_text.Goals as goal

@@ -1,7 +1,6 @@
 use Rattle.std.proofs.Common.{◌++◌, codes, ap, ◌∙◌}
 use Rattle.lc_sheet.specs.Sheets.{SheetModel}
-use Rattle.lc_formats.specs.JsonSheets.{line_at, number_member, number_members, totals_members}
-use Rattle.lc_formats.specs.JsonTokens.{members_tokens_of}
+use Rattle.lc_formats.specs.{JsonSheets.{line_at, number_member, number_members, totals_members}, JsonTokens.members_tokens_of}
 use Rattle.lc_formats.proofs.Tokens.{four_members}
 use Rattle.lc_formats.proofs.json_sheet.write_numbers.Goals as goal
 

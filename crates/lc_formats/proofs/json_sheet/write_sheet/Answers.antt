@@ -1,7 +1,6 @@
 use Rattle.std.proofs.Common.{◌≡◌, ◌++◌, codes, ap, ◌∙◌}
 use Rattle.lc_sheet.specs.Sheets.{SheetModel}
-use Rattle.lc_formats.specs.JsonSheets.{list_member, list_members, number_members}
-use Rattle.lc_formats.specs.JsonTokens.{member_tokens}
+use Rattle.lc_formats.specs.{JsonSheets.{list_member, list_members, number_members}, JsonTokens.member_tokens}
 use Rattle.lc_formats.proofs.Tokens.{sheet_appended}
 use Rattle.lc_formats.proofs.json_sheet.write_sheet.Goals as goal
 

@@ -1,7 +1,6 @@
 use Rattle.std.proofs.Common.{codes}
 use Rattle.lc_sheet.specs.Sheets.{line_of}
-use Rattle.lc_formats.specs.JsonLines.{part_members, side_value}
-use Rattle.lc_formats.specs.declared.json_sides.Part.TheVariants.{Own, Old, New}
+use Rattle.lc_formats.specs.{JsonLines.{part_members, side_value}, declared.json_sides.Part.TheVariants.{Own, Old, New}}
 use Rattle.lc_formats.proofs.SideTokens.{change_appended}
 use Rattle.lc_formats.proofs.json_sides.write_change.Goals as goal
 

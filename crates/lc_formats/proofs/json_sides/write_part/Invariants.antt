@@ -1,7 +1,6 @@
 use Rattle.std.proofs.Common.{◌≡◌, ◌++◌, length}
 use Rattle.lc_sheet.specs.Sheets.{line_of}
-use Rattle.lc_formats.specs.JsonLines.{part_members}
-use Rattle.lc_formats.specs.JsonTokens.{members_tokens_of}
+use Rattle.lc_formats.specs.{JsonLines.part_members, JsonTokens.members_tokens_of}
 use Rattle.lc_formats.proofs.json_sides.write_part.Given as goal
 
 abbrev pub invariant-columns : goal.invariant-columns

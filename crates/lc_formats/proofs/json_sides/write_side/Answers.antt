@@ -1,10 +1,8 @@
 use Rattle.std.proofs.Common.{◌++◌, ap, ◌∙◌}
-use Rattle.json.specs.Json.{Json}
-use Rattle.json.specs.Tree.{json_tokens}
+use Rattle.json.specs.{Json.Json, Tree.json_tokens}
 use Rattle.lc_sheet.specs.Sheets.{line_of}
 use Rattle.lc_formats.specs.JsonLines.{part_members}
-use Rattle.lc_formats.proofs.SideTokens.{side_there}
-use Rattle.lc_formats.proofs.Tokens.{object_appended}
+use Rattle.lc_formats.proofs.{SideTokens.side_there, Tokens.object_appended}
 use Rattle.lc_formats.proofs.json_sides.write_side.Goals as goal
 
 pub returns : goal.returns

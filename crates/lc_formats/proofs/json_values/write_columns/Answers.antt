@@ -1,13 +1,9 @@
-use Rattle.std.proofs.Common.{List, ◌++◌, get_or, take_all, ap, ◌∙◌}
+use Rattle.std.proofs.{Common.{List, ◌++◌, get_or, take_all, ap, ◌∙◌}, lemmas.List.get_or_default}
 use Rattle.std.specs.List.{flat_map}
-use Rattle.std.proofs.lemmas.List.{get_or_default}
 use Rattle.json.specs.Token.{Token}
-use Rattle.lc_sheet.specs.declared.column.Column.{Column}
-use Rattle.lc_sheet.specs.declared.column.Column.TheVariants.{Dir}
-use Rattle.lc_formats.specs.JsonLines.{value_members}
-use Rattle.lc_formats.specs.JsonTokens.{members_tokens_of}
-use Rattle.lc_formats.proofs.Listed.{one_written}
-use Rattle.lc_formats.proofs.Tokens.{line_tokens}
+use Rattle.lc_sheet.specs.declared.column.Column.{Column, TheVariants.Dir}
+use Rattle.lc_formats.specs.{JsonLines.value_members, JsonTokens.members_tokens_of}
+use Rattle.lc_formats.proofs.{Listed.one_written, Tokens.line_tokens}
 use Rattle.lc_formats.proofs.json_values.write_columns.Goals as goal
 
 pub loop-column-preserved : goal.loop-column-preserved

@@ -1,7 +1,6 @@
 use Rattle.std.proofs.Common.{◌≡◌, ◌++◌, take}
 use Rattle.std.specs.List.{flat_map}
-use Rattle.lc_formats.specs.JsonLines.{value_members}
-use Rattle.lc_formats.specs.JsonTokens.{members_tokens_of}
+use Rattle.lc_formats.specs.{JsonLines.value_members, JsonTokens.members_tokens_of}
 use Rattle.lc_formats.proofs.json_values.write_columns.Given as goal
 
 abbrev pub invariant-loop-column : goal.invariant-loop-column

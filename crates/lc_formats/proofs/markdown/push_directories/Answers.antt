@@ -1,7 +1,6 @@
 use Rattle.std.proofs.Common.{ℕ, [], ◌∷◌, ◌++◌, codes, ap, ◌∙◌}
 use Rattle.lc_sheet.specs.Values.{number}
-use Rattle.lc_formats.specs.MarkdownText.{line_with}
-use Rattle.lc_formats.specs.declared.markdown_line.Weight.TheVariants.{Plain}
+use Rattle.lc_formats.specs.{MarkdownText.line_with, declared.markdown_line.Weight.TheVariants.Plain}
 use Rattle.lc_formats.proofs.Listed.{appended_more}
 use Rattle.lc_formats.proofs.markdown.push_directories.Goals as goal
 

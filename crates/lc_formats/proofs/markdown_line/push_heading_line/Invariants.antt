@@ -1,7 +1,5 @@
 use Rattle.std.proofs.Common.{◌≡◌, ◌++◌, flat_map, length, map}
-use Rattle.lc_formats.specs.MarkdownCells.{value_cell}
-use Rattle.lc_formats.specs.MarkdownText.{heading_value}
-use Rattle.lc_formats.specs.declared.markdown_line.Weight.TheVariants.{Plain}
+use Rattle.lc_formats.specs.{MarkdownCells.value_cell, MarkdownText.heading_value, declared.markdown_line.Weight.TheVariants.Plain}
 use Rattle.lc_formats.proofs.markdown_line.push_heading_line.Given as goal
 
 abbrev pub invariant-columns : goal.invariant-columns

@@ -1,7 +1,6 @@
 use Rattle.std.proofs.Common.{◌≡◌, ◌++◌, map, take, flat_map}
 use Rattle.lc_sheet.specs.Values.{value_model}
-use Rattle.lc_formats.specs.MarkdownCells.{value_cell}
-use Rattle.lc_formats.specs.declared.markdown_line.Weight.TheVariants.{Plain}
+use Rattle.lc_formats.specs.{MarkdownCells.value_cell, declared.markdown_line.Weight.TheVariants.Plain}
 use Rattle.lc_formats.proofs.markdown_line.push_values.Given as goal
 
 abbrev pub invariant-loop-value : goal.invariant-loop-value

@@ -1,7 +1,6 @@
 use Rattle.std.proofs.Common.{◌≡◌, length, map}
 use Rattle.lc_sheet.specs.Sheets.{lines_of}
-use Rattle.lc_formats.specs.Cells.{line_cells}
-use Rattle.lc_formats.specs.Columns.{widened}
+use Rattle.lc_formats.specs.{Cells.line_cells, Columns.widened}
 use Rattle.lc_formats.proofs.section_lines.fit_lines.Given as goal
 
 abbrev pub invariant-lines : goal.invariant-lines

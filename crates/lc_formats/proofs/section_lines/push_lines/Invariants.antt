@@ -1,7 +1,6 @@
 use Rattle.std.proofs.Common.{◌≡◌, ◌++◌, length, map, string_bytes}
 use Rattle.lc_sheet.specs.Sheets.{lines_of}
-use Rattle.lc_formats.specs.Cells.{line_cells}
-use Rattle.lc_formats.specs.Columns.{lines_in}
+use Rattle.lc_formats.specs.{Cells.line_cells, Columns.lines_in}
 use Rattle.lc_formats.proofs.section_lines.push_lines.Given as goal
 
 abbrev pub invariant-lines : goal.invariant-lines

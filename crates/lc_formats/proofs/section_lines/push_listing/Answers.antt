@@ -1,7 +1,5 @@
 use Rattle.std.proofs.Common.{List, ℕ, ◌∷◌, ap, sym, ◌∙◌, string_bytes}
-use Rattle.lc_formats.specs.Cells.{heading_cells, line_cells, section_cells}
-use Rattle.lc_formats.specs.Columns.{listing_in, widened}
-use Rattle.lc_formats.specs.TableText.{section_listing}
+use Rattle.lc_formats.specs.{Cells.{heading_cells, line_cells, section_cells}, Columns.{listing_in, widened}, TableText.section_listing}
 use Rattle.lc_text.proofs.Appended.{appended_same}
 use Rattle.lc_formats.proofs.Widened.{listed_some}
 use Rattle.lc_formats.proofs.section_lines.push_listing.Goals as goal

@@ -1,6 +1,5 @@
 use Rattle.std.proofs.Common.{List, ◌++◌, ap, ◌∙◌, string_bytes}
-use Rattle.lc_formats.specs.Cells.{cells_of, heading_cells, section_cells}
-use Rattle.lc_formats.specs.Columns.{CellModel, cell_widths, line_in, wider}
+use Rattle.lc_formats.specs.{Cells.{cells_of, heading_cells, section_cells}, Columns.{CellModel, cell_widths, line_in, wider}}
 use Rattle.lc_formats.proofs.Widened.{some_listed}
 use Rattle.lc_formats.proofs.section_lines.push_some.Goals as goal
 

@@ -1,6 +1,5 @@
 use Rattle.std.proofs.Common.{List, ℕ, sym, ap, ◌∙◌}
-use Rattle.lc_formats.specs.Cells.{section_cells}
-use Rattle.lc_formats.specs.Columns.{widened}
+use Rattle.lc_formats.specs.{Cells.section_cells, Columns.widened}
 use Rattle.lc_formats.proofs.Widened.{widened-append}
 use Rattle.lc_formats.proofs.table.fit_rows.Goals as goal
 

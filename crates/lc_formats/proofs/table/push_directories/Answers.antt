@@ -1,6 +1,5 @@
 use Rattle.std.proofs.Common.{◌++◌, List, ℕ, ap, ◌∙◌, string_bytes}
-use Rattle.lc_formats.specs.Cells.{cells_of}
-use Rattle.lc_formats.specs.Columns.{cell_widths, wider}
+use Rattle.lc_formats.specs.{Cells.cells_of, Columns.{cell_widths, wider}}
 use Rattle.lc_formats.proofs.Widened.{line_alone}
 use Rattle.lc_formats.proofs.table.push_directories.Goals as goal
 

@@ -1,6 +1,5 @@
 use Rattle.std.proofs.Common.{◌++◌, [], List, ℕ, ap, ◌∙◌, string_bytes}
-use Rattle.lc_formats.specs.Cells.{cells_of, heading_cells, section_cells}
-use Rattle.lc_formats.specs.Columns.{CellModel, cell_widths, line_in, wider}
+use Rattle.lc_formats.specs.{Cells.{cells_of, heading_cells, section_cells}, Columns.{CellModel, cell_widths, line_in, wider}}
 use Rattle.lc_formats.specs.TableText.{row_lines}
 use Rattle.lc_formats.proofs.Widened.{rows_written}
 use Rattle.lc_formats.proofs.table.push_summary.Goals as goal

@@ -1,5 +1,4 @@
-use Rattle.lc_formats.proofs.ListingWidths.{listing_law}
-use Rattle.lc_formats.proofs.RowWidths.{counts_law, summary_law}
+use Rattle.lc_formats.proofs.{ListingWidths.listing_law, RowWidths.{counts_law, summary_law}}
 use Rattle.lc_formats.proofs.table_laws.lines_of_a_part_are_as_wide.Goals as goal
 
 pub returns-clause-summary : goal.returns-clause-summary

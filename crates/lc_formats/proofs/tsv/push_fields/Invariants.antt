@@ -1,7 +1,6 @@
 use Rattle.std.proofs.Common.{◌≡◌, ◌++◌, take}
 use Rattle.std.specs.List.{flat_map}
-use Rattle.lc_formats.specs.Tsv.{field_of}
-use Rattle.lc_formats.specs.TsvParts.{after_tab}
+use Rattle.lc_formats.specs.{Tsv.field_of, TsvParts.after_tab}
 use Rattle.lc_formats.proofs.tsv.push_fields.Given as goal
 
 abbrev pub invariant-loop-column : goal.invariant-loop-column

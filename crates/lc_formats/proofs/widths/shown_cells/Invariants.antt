@@ -1,6 +1,5 @@
 use Rattle.std.proofs.Common.{◌≡◌, ◌≤◌, length, take}
-use Rattle.lc_formats.specs.Cells.{cells_of}
-use Rattle.lc_formats.specs.Columns.{shown_cells}
+use Rattle.lc_formats.specs.{Cells.cells_of, Columns.shown_cells}
 use Rattle.lc_formats.proofs.widths.shown_cells.Given as goal
 
 abbrev pub invariant-count : goal.invariant-count

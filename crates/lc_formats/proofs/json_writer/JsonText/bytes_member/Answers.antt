@@ -1,6 +1,5 @@
-use Rattle.std.proofs.Common.{List, ◌++◌, ap, ◌∙◌}
+use Rattle.std.proofs.Common.{List, ◌++◌, ap, ◌∙◌, ℕ, ◌∷◌, []}
 use Rattle.json.specs.Token.{key, string}
-use Rattle.std.proofs.Common.{ℕ, ◌∷◌, []}
 use Rattle.lc_formats.proofs.Tokens.{text_tokens, listed_tokens}
 use Rattle.lc_formats.proofs.json_writer.JsonText.bytes_member.Goals as goal
 

@@ -1,6 +1,5 @@
 use Rattle.std.proofs.Common.{◌≡◌, take}
-use Rattle.lc_formats.specs.Cells.{cells_of}
-use Rattle.lc_formats.specs.Columns.{cell_widths, wider}
+use Rattle.lc_formats.specs.{Cells.cells_of, Columns.{cell_widths, wider}}
 use Rattle.lc_formats.proofs.widths.Widths.fit.Given as goal
 
 abbrev pub invariant-loop-column : goal.invariant-loop-column

@@ -1,6 +1,5 @@
 use Rattle.std.proofs.Common.{◌≡◌, ◌++◌, drop, string_bytes}
-use Rattle.lc_formats.specs.Cells.{cells_of}
-use Rattle.lc_formats.specs.Columns.{cells_from}
+use Rattle.lc_formats.specs.{Cells.cells_of, Columns.cells_from}
 use Rattle.lc_formats.proofs.widths.Widths.push_line.Given as goal
 
 abbrev pub invariant-loop-column : goal.invariant-loop-column
