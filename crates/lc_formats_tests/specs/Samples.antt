@@ -1,15 +1,11 @@
 -- The values that a sample, a line for tests, has in each column.
 use Rattle.std.specs.Prelude.{ℕ, Option, Some, None}
 use Rattle.lc_sheet.specs.Values.{ValueModel, missing, summed, blank, word, path, number, difference}
-use Rattle.lc_sheet.specs.declared.column.Column.{Column}
-use Rattle.lc_sheet.specs.declared.column.Column.TheVariants as column
-use Rattle.lc_sheet.specs.declared.column.Compared.{Compared}
-use Rattle.lc_sheet.specs.declared.column.Compared.TheVariants as compared
-use Rattle.lc_sheet.specs.declared.column.Number.{Number}
-use Rattle.lc_sheet.specs.declared.column.Number.TheVariants.{Files, Lines, Blank, Bytes}
+use Rattle.lc_sheet.specs.declared.column.{Column.Column, Compared.Compared, Number.{Number, TheVariants.{Files, Lines, Blank, Bytes}}}
 use Rattle.lc_sheet.specs.declared.form.Form.{Form}
-use Rattle.lc_formats_tests.specs.declared.samples.Sample.{Sample}
-use Rattle.lc_formats_tests.specs.declared.samples.Version.{Version}
+use Rattle.lc_formats_tests.specs.declared.samples.{Sample.Sample, Version.Version}
+use Rattle.lc_sheet.specs.declared.column.Column.TheVariants as column
+use Rattle.lc_sheet.specs.declared.column.Compared.TheVariants as compared
 
 abbrev pub number_in : Number → Version → ℕ
 number_in Files v = v.files
