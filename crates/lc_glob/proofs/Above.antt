@@ -1,16 +1,16 @@
 -- What the flags of names tell after one segment of a pattern more.
-use Rattle.std.proofs.Common.{◌≡◌, ◌≢◌, ◌↔◌, ◌≤◌, ◌<◌, ◌+◌, ◌*◌, IsTrue, ℕ, zero, suc, Bool, false, true, List, [], ◌∷◌, ◌++◌, length, map}
-use Rattle.std.proofs.Common.{take, drop, get_or, replicate, refl, sym, ◌∙◌, ap, subst, arith, append_assoc, take-take, ⊎_elim, set}
+use Rattle.std.proofs.Common.{◌≡◌, ◌≢◌, ◌↔◌, ◌≤◌, ◌<◌, ◌+◌, ◌*◌, IsTrue, ℕ, zero, suc, Bool, false, true, List, [], ◌∷◌, ◌++◌, length}
+use Rattle.std.proofs.Common.{map, take, drop, get_or, replicate, refl, sym, ◌∙◌, ap, subst, arith, append_assoc, take-take, ⊎_elim, set}
 use Rattle.std.proofs.Math.Seq.{take-suc, take-append_seam}
 use Rattle.std.proofs.lemmas.List.{append-nil, take-append-drop, length-append, length-take-le, map-append, length-map, get_or-replicate}
-use Rattle.std.proofs.lemmas.{List.{get_or-map, get_or-set_same, get_or-set_other}, Bool.{false≢true, cases_lt}}
+use Rattle.std.proofs.lemmas.List.{get_or-map, get_or-set_same, get_or-set_other}
+use Rattle.std.proofs.lemmas.Bool.{false≢true, cases_lt}
 use Rattle.std.specs.{Borrow.Bor, List.list_any}
 use Rattle.lc_glob.specs.{Above.{names_of, IsSet, AreSet, Before, UpTo, TellMatches}, Tokens.{TokenModel, literal, is_star}}
-use Rattle.lc_glob.specs.{Costs.{tokens_with_ends, bytes_with_ends, full_cost}, Fits.Fits}
-use Rattle.lc_glob.specs.{Patterns.{SegmentModel, plain, double_star, PatternModel}, Matches.{MatchesPath, FitsLast, SegmentsMatch}}
-use Rattle.lc_glob.specs.Leads.{Leads}
-use Rattle.lc_glob.proofs.Ends.{bytes_with_ends-end, tokens_with_ends-end}
-use Rattle.lc_glob.proofs.{Leading.{plain_none, plain_end, plain_spelled, double_spelled}, Matching.decided}
+use Rattle.lc_glob.specs.{Costs.{tokens_with_ends, bytes_with_ends, full_cost}, Fits.Fits, Patterns.{SegmentModel, plain, double_star}}
+use Rattle.lc_glob.specs.{Patterns.PatternModel, Matches.{MatchesPath, FitsLast, SegmentsMatch}, Leads.Leads}
+use Rattle.lc_glob.proofs.{Ends.{bytes_with_ends-end, tokens_with_ends-end}, Leading.{plain_none, plain_end, plain_spelled, double_spelled}}
+use Rattle.lc_glob.proofs.Matching.{decided}
 
 -- what holds of some front of a list
 abbrev Front : (List (List ℕ) → Type 0) → List (List ℕ) → Type 0

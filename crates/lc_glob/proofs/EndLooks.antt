@@ -1,14 +1,12 @@
 -- A pattern with a literal at an end matches no path that has another byte there.
 use Rattle.std.proofs.Common.{◌≡◌, ◌⊎◌, ◌≤◌, ◌+◌, ◌-◌, ◌*◌, ℕ, Bool, true, false, cond, nat_eq, List, [], ◌∷◌, ◌++◌, map, None, IsTrue}
-use Rattle.std.proofs.{Common.{IsFalse, inl, inr, refl, sym, ◌∙◌, ap, subst, arith}, lemmas.Bool.{true_from_ne_false}}
-use Rattle.std.proofs.lemmas.List.{map-append}
+use Rattle.std.proofs.{Common.{IsFalse, inl, inr, refl, sym, ◌∙◌, ap, subst, arith}, lemmas.{Bool.true_from_ne_false, List.map-append}}
 use Rattle.std.specs.List.{onto_first, slice_split}
 use Rattle.lc_glob.specs.{Tokens.{TokenModel, literal, any_byte, star, class}, ByteTests.StripsFirst, Costs.{tokens_with_ends, full_cost}}
 use Rattle.lc_glob.specs.{Elements.{IsLiteral, EndsWithLiteral, BeginsWithLiteral}, EndLooks.{HasLiteralEnd, DiffersAtEnd}, Fits.Fits}
-use Rattle.lc_glob.specs.{Matches.{MatchesPath, FitsLast}, TokenLists.{tokens_model, is_separator}, Path.segments_of}
-use Rattle.lc_glob.specs.{Patterns.{SegmentModel, plain, double_star}, Reading.{is_double_star, segment_from}}
-use Rattle.lc_glob.specs.Simple.{byte_token, tokens_of_end, bytes_segment, ends_segment, exact_segment}
-use Rattle.lc_glob.specs.declared.token.Token.{Token, TheVariants.Literal}
+use Rattle.lc_glob.specs.{Matches.{MatchesPath, FitsLast}, TokenLists.{tokens_model, is_separator}, Path.segments_of, Patterns.SegmentModel}
+use Rattle.lc_glob.specs.{Patterns.{plain, double_star}, Reading.{is_double_star, segment_from}, Simple.{byte_token, tokens_of_end}}
+use Rattle.lc_glob.specs.{Simple.{bytes_segment, ends_segment, exact_segment}, declared.token.Token.{Token, TheVariants.Literal}}
 use Rattle.lc_glob.proofs.{Bounds.path_some, Ends.tokens_with_ends-end, Fitting.{end_stuck, front_stuck}, Leading.plain_spelled}
 use Rattle.lc_glob.proofs.{TokenLists.model_before, Naming.{last_part, first_part}}
 

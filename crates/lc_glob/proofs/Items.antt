@@ -1,14 +1,13 @@
 -- The items of a bracket.
-use Rattle.std.proofs.Common.{length-drop, not, ◌&&◌, ◌||◌, add-zero, nat_eq, ◌≡◌, ◌<◌, ◌≤◌, ◌+◌, ◌-◌, ℕ, zero, suc, Bool, true}
-use Rattle.std.proofs.Common.{false, cond, List, [], ◌∷◌, ◌++◌, length, take, drop, Option, Some, None, refl, sym, ◌∙◌, ap}
-use Rattle.std.proofs.{Common.{arith, append_assoc}, lemmas.List.{take_rest, append-nil, map-append, Sums.position_or_len_is}}
-use Rattle.std.proofs.lemmas.Bool.{false_from_ne_true}
+use Rattle.std.proofs.Common.{length-drop, not, ◌&&◌, ◌||◌, add-zero, nat_eq, ◌≡◌, ◌<◌, ◌≤◌, ◌+◌, ◌-◌, ℕ, zero, suc, Bool, true, false}
+use Rattle.std.proofs.Common.{cond, List, [], ◌∷◌, ◌++◌, length, take, drop, Option, Some, None, refl, sym, ◌∙◌, ap, arith, append_assoc}
+use Rattle.std.proofs.lemmas.{List.{take_rest, append-nil, map-append, Sums.position_or_len_is}, Bool.false_from_ne_true}
 use mir.Val.{bool_byte}
 use Rattle.std.specs.List.{position_or_len}
 use Rattle.memchr.specs.Find.{IsFirstByte, is_byte}
-use Rattle.lc_glob.specs.Brackets.{element, range_from, from_element, plain_item, item, as_set}
-use Rattle.lc_glob.specs.{Brackets.{bracket, items, items_on, taken_more}, TokenLists.range_tokens, Pushes.{Pushes, kept_tokens}}
-use Rattle.lc_glob.specs.{Tokens.class, declared.token.Token.{Token, TheVariants.{Open, Range}}}
+use Rattle.lc_glob.specs.Brackets.{element, range_from, from_element, plain_item, item, as_set, bracket, items, items_on, taken_more}
+use Rattle.lc_glob.specs.{TokenLists.range_tokens, Pushes.{Pushes, kept_tokens}, Tokens.class, declared.token.Token.Token}
+use Rattle.lc_glob.specs.declared.token.Token.TheVariants.{Open, Range}
 
 -- an item that is no class: an element, and perhaps a range from it
 pub plain_is : (b x used : ℕ) (rest : List ℕ) (found : Option (List (ℕ × ℕ) × ℕ)) → element b rest ≡ Some (x, used)

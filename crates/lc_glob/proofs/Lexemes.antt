@@ -1,10 +1,9 @@
 -- The tokens of a pattern, lexeme by lexeme.
-use Rattle.std.proofs.Common.{◌≡◌, ◌≢◌, ◌-◌, ℕ, Bool, cond, nat_eq, false, List, [], ◌∷◌, ◌++◌, length, map, take, drop, Option, None, Some}
-use Rattle.std.proofs.{Common.{refl, sym, ◌∙◌, ap, subst}, lemmas.{Bool.ne_eqb, List.{map-append, Elements.{All-nil, All-cons}}}}
+use Rattle.std.proofs.Common.{◌≡◌, ◌≢◌, ◌-◌, ℕ, Bool, cond, nat_eq, false, List, [], ◌∷◌, ◌++◌, length, map, take, drop, Option, None}
+use Rattle.std.proofs.{Common.{Some, refl, sym, ◌∙◌, ap, subst}, lemmas.{Bool.ne_eqb, List.{map-append, Elements.{All-nil, All-cons}}}}
 use Rattle.std.specs.List.{All, slice_split}
-use Rattle.lc_glob.specs.{Brackets.bracket, TokenLists.{is_separator, tokens_model, range_tokens}}
-use Rattle.lc_glob.specs.Pushes.{Pushes, kept_tokens, lexeme_tokens}
-use Rattle.lc_glob.specs.Reading.{LexemeModel, separator, one, as_lexeme, byte_lexeme, lexeme, parts, quoted}
+use Rattle.lc_glob.specs.{Brackets.bracket, TokenLists.{is_separator, tokens_model, range_tokens}, Pushes.{Pushes, kept_tokens}}
+use Rattle.lc_glob.specs.{Pushes.lexeme_tokens, Reading.{LexemeModel, separator, one, as_lexeme, byte_lexeme, lexeme, parts, quoted}}
 use Rattle.lc_glob.specs.{Tokens.{TokenModel, literal, any_byte, star, class}, declared.token.Token.Token}
 use Rattle.lc_glob.specs.declared.token.Token.TheVariants.{Literal, AnyByte, Star, Open, Separator}
 use Rattle.lc_glob.proofs.{TokenLists.{model_before, bracket_alone, ranges_inside}, Naming.{EndsIn, ends_more, ends_cut, ends_now}}

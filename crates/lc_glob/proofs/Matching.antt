@@ -1,9 +1,8 @@
 -- The test of a match is the relation.
 use Rattle.std.proofs.Common.{◌≡◌, ◌⊎◌, ℕ, Bool, true, false, not, ◌&&◌, ◌||◌, List, [], ◌∷◌, ◌++◌, IsTrue, inl, inr, refl, ap, subst}
 use Rattle.std.specs.Bool.{Decides, one_answer}
-use Rattle.lc_glob.specs.{Tokens.{TokenModel, literal, any_byte, star, class, takes}, Fits.Fits}
-use Rattle.lc_glob.specs.Patterns.{SegmentModel, plain, double_star, PatternModel}
-use Rattle.lc_glob.specs.{Matches.{MatchesPath, FitsLast, SegmentsMatch, Matches}, Path.segments_of}
+use Rattle.lc_glob.specs.{Tokens.{TokenModel, literal, any_byte, star, class, takes}, Fits.Fits, Patterns.{SegmentModel, plain}}
+use Rattle.lc_glob.specs.{Patterns.{double_star, PatternModel}, Matches.{MatchesPath, FitsLast, SegmentsMatch, Matches}, Path.segments_of}
 use Rattle.lc_glob.specs.IsMatch.{some_rest, fits, matches_path, fits_last_name, fits_last, segments_match, is_match}
 use Rattle.lc_glob.proofs.After.{After, after_none, after_more, after_empty, after_cut}
 

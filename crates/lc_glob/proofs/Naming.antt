@@ -1,9 +1,10 @@
 -- Elements cut by separators, by the place of the first or the last of these.
-use Rattle.std.proofs.Common.{length-drop, ◌≡◌, ◌↔◌, ◌<◌, ◌+◌, ◌-◌, ℕ, Bool, true, false, IsTrue, nat_eq, List, [], ◌∷◌, ◌++◌, length, take}
-use Rattle.std.proofs.Common.{drop, get_or, refl, sym, ◌∙◌, ap, ap₂, subst, length-append, Option, Some, None, arith, append_assoc}
+use Rattle.std.proofs.Common.{length-drop, ◌≡◌, ◌↔◌, ◌<◌, ◌+◌, ◌-◌, ℕ, Bool, true, false, IsTrue, nat_eq, List, [], ◌∷◌, ◌++◌, length}
+use Rattle.std.proofs.Common.{take, drop, get_or, refl, sym, ◌∙◌, ap, ap₂, subst, length-append, Option, Some, None, arith, append_assoc}
 use Rattle.std.proofs.lemmas.List.Splits.{slice_split_none, slice_split-cons_yes, slice_split-cons_no, length-slice_split, slice_split_at}
 use Rattle.std.proofs.lemmas.List.{take_rest, take-append-drop, drop_more, get_or-drop, append-nil, nil_from_length}
-use Rattle.std.proofs.{lemmas.{List.Elements.{All-append, All-nil}, Bool.false_from_ne_true}, Math.Seq.{take-append_seam, drop-append_seam}}
+use Rattle.std.proofs.lemmas.List.Elements.{All-append, All-nil}
+use Rattle.std.proofs.{lemmas.Bool.false_from_ne_true, Math.Seq.{take-append_seam, drop-append_seam}}
 use Rattle.std.specs.{List.{onto_first, All, slice_split}, Borrow.Bor}
 use Rattle.memchr.specs.Find.{IsLastByte, is_byte}
 use Rattle.lc_glob.specs.{Bytes.slash, Path.segments_of, Pieces.cuts_left}

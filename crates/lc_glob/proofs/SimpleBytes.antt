@@ -3,9 +3,8 @@ use Rattle.std.proofs.Common.{◌≡◌, ℕ, Bool, true, false, not, ◌&&◌, 
 use Rattle.std.proofs.{Common.ap, lemmas.Bool.{false≢true, eqb-true, and_parts}}
 use Rattle.std.specs.List.{list_all, onto_first}
 use Rattle.lc_glob.specs.{Tokens.{TokenModel, literal, any_byte, star}, Patterns.{SegmentModel, plain, double_star}, Path.segments_of}
-use Rattle.lc_glob.specs.Reading.{LexemeModel, separator, one, lexeme, put, parts, is_double_star}
-use Rattle.lc_glob.specs.Simple.{is_simple, is_literal, byte_token, byte_parts, bytes_segment, is_end, tokens_of_end, is_ends_segment}
-use Rattle.lc_glob.specs.Simple.{ends_segment}
+use Rattle.lc_glob.specs.{Reading.{LexemeModel, separator, one, lexeme, put, parts, is_double_star}, Simple.{is_simple, is_literal}}
+use Rattle.lc_glob.specs.Simple.{byte_token, byte_parts, bytes_segment, is_end, tokens_of_end, is_ends_segment, ends_segment}
 use Rattle.lc_glob.proofs.{Naming.{HasFirst, has_first}, Parts.at_lexeme}
 
 -- bytes that are literals

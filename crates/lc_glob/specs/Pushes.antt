@@ -1,8 +1,7 @@
 -- The stored tokens of what a pattern's bytes are read as.
 use Rattle.std.specs.Prelude.{ℕ, ◌≡◌, List, [], ◌∷◌, ◌++◌, Option, Some, None}
-use Rattle.lc_glob.specs.{TokenLists.range_tokens, Reading.{LexemeModel, separator, one}}
-use Rattle.lc_glob.specs.{Tokens.{TokenModel, literal, any_byte, star, class}, declared.token.Token.Token}
-use Rattle.lc_glob.specs.declared.token.Token.TheVariants.{Literal, AnyByte, Star, Open, Separator}
+use Rattle.lc_glob.specs.{TokenLists.range_tokens, Reading.{LexemeModel, separator, one}, Tokens.{TokenModel, literal, any_byte, star}}
+use Rattle.lc_glob.specs.{Tokens.class, declared.token.Token.{Token, TheVariants.{Literal, AnyByte, Star, Open, Separator}}}
 
 -- the stored tokens of one token of a segment
 abbrev pub kept_tokens : TokenModel → List Token

@@ -1,7 +1,6 @@
 use Rattle.std.proofs.Common.{arith}
 use Rattle.lc_glob.specs.{Above.names_of, Views.{segments_ref_model, tokens_ref_model}}
-use Rattle.lc_glob.proofs.Above.{matched_star, matched_plain, star_cost, plain_cost, names_length}
-use Rattle.lc_glob.proofs.Ends.{end_segment, end_double}
+use Rattle.lc_glob.proofs.{Above.{matched_star, matched_plain, star_cost, plain_cost, names_length}, Ends.{end_segment, end_double}}
 use Rattle.lc_glob.proofs.match_above.match_above.Goals as goal
 
 pub returns-in-DoubleStar-clause-set : goal.returns-in-DoubleStar-clause-set

@@ -1,7 +1,6 @@
 use Rattle.std.proofs.{Common.{ap, arith, sym, ◌∙◌}, lemmas.Bool.false≢true}
 use Rattle.lc_glob.specs.{Path.segments_of, Views.segments_ref_model}
-use Rattle.lc_glob.proofs.Leading.{double_spelled, plain_spelled}
-use Rattle.lc_glob.proofs.Ends.{end_segment, end_double, above_cost, end_cost, spell_cost}
+use Rattle.lc_glob.proofs.{Leading.{double_spelled, plain_spelled}, Ends.{end_segment, end_double, above_cost, end_cost, spell_cost}}
 use Rattle.lc_glob.proofs.match_path.matches_path.Goals as goal
 
 pub returns-then-allow-clause-matches_path : goal.returns-then-allow-clause-matches_path
