@@ -1,13 +1,9 @@
 -- A text that is written in pieces, as it is made.
-use Rattle.std.proofs.Common.{◌≡◌, ℕ, ◌++◌, ◌∙◌, List, [], ◌∷◌, Result, Ok, Err, refl, sym, ap, ap₂, append_assoc, append-nil}
-use Rattle.std.proofs.Common.{subst, ⊎_elim}
-use Rattle.std.proofs.lemmas.List.Folds.{concat-append}
-use Rattle.lc_io.specs.declared.source.Failed.{Failed}
-use Rattle.lc_io.specs.Blocks.{EmptiesFull, AnswersBlock, WritesAllBut}
-use Rattle.lc_io.specs.Pieces.{WritesPieces, WritesInPieces, WritesPrefix, StopsInPieces, AnswersInPieces}
-use Rattle.lc_io.specs.Writes.{Writes, StopsWriting, AnswersPrint}
-use Rattle.lc_io.specs.declared.printing.PrintFault.{PrintFault}
-use Rattle.lc_io.specs.declared.printing.PrintFault.TheVariants.{Write, Memory}
+use Rattle.std.proofs.Common.{◌≡◌, ℕ, ◌++◌, ◌∙◌, List, [], ◌∷◌, Result, Ok, Err, refl, sym, ap, ap₂, append_assoc, append-nil, subst}
+use Rattle.std.proofs.{Common.⊎_elim, lemmas.List.Folds.concat-append}
+use Rattle.lc_io.specs.{declared.{source.Failed.Failed, printing.PrintFault.{PrintFault, TheVariants.{Write, Memory}}}, Blocks.EmptiesFull}
+use Rattle.lc_io.specs.{Blocks.{AnswersBlock, WritesAllBut}, Pieces.{WritesPieces, WritesInPieces, WritesPrefix, StopsInPieces}}
+use Rattle.lc_io.specs.{Pieces.AnswersInPieces, Writes.{Writes, StopsWriting, AnswersPrint}}
 
 module _ {S : Type 0} (may_take : S → List ℕ → Result ℕ Failed → S → Type 0) where
   -- one more piece

@@ -1,12 +1,8 @@
 -- Writes in turn.
 use Rattle.std.proofs.Common.{◌≡◌, ℕ, ◌<◌, ◌≤◌, ◌++◌, List, [], ◌∷◌, length, drop, refl, ap, sym, subst, ◌∙◌, append-nil, append_assoc}
-use Rattle.std.specs.Prelude.{Result, Ok, Vec}
-use Rattle.std.specs.Global.{Global}
-use Rattle.std.specs.List.{concat}
 use Rattle.std.proofs.Math.Seq.{drop-length}
-use Rattle.lc_io.specs.declared.source.Failed.{Failed}
-use Rattle.lc_io.specs.Pieces.{WritesPieces, WritesInPieces}
-use Rattle.lc_io.specs.Writes.{AppendsAll, TakesCounts, Writes}
+use Rattle.std.specs.{Prelude.{Result, Ok, Vec}, Global.Global, List.concat}
+use Rattle.lc_io.specs.{declared.source.Failed.Failed, Pieces.{WritesPieces, WritesInPieces}, Writes.{AppendsAll, TakesCounts, Writes}}
 
 -- one more write at the end
 pub takes_more : {S : Type 0} (may_take : S → List ℕ → Result ℕ Failed → S → Type 0) (old : S) (text counts : List ℕ) (mid : S)

@@ -1,10 +1,7 @@
 -- A text that is written in blocks as it is made.
 use Rattle.std.specs.Prelude.{◌≡◌, ◌⊎◌, ℕ, ◌<◌, ◌≤◌, List, [], ◌++◌, length, Result, Ok, Err}
-use Rattle.lc_io.specs.declared.source.Failed.{Failed}
-use Rattle.lc_io.specs.Pieces.{WritesInPieces}
-use Rattle.lc_io.specs.Writes.{Writes, StopsWriting}
-use Rattle.lc_io.specs.declared.printing.PrintFault.{PrintFault}
-use Rattle.lc_io.specs.declared.printing.PrintFault.TheVariants.{Write, Memory}
+use Rattle.lc_io.specs.declared.{source.Failed.Failed, printing.PrintFault.{PrintFault, TheVariants.{Write, Memory}}}
+use Rattle.lc_io.specs.{Pieces.WritesInPieces, Writes.{Writes, StopsWriting}}
 
 -- the number of bytes from which on a block is full
 abbrev pub block_size : ℕ

@@ -1,10 +1,7 @@
 -- A text that is written in pieces, each of them by writes of its own.
-use Rattle.std.specs.Prelude.{◌≡◌, ℕ, List, [], ◌∷◌, ◌++◌, Result, Ok, Err}
-use Rattle.std.specs.List.{concat}
-use Rattle.lc_io.specs.declared.source.Failed.{Failed}
-use Rattle.lc_io.specs.Writes.{Writes, StopsWriting}
-use Rattle.lc_io.specs.declared.printing.PrintFault.{PrintFault}
-use Rattle.lc_io.specs.declared.printing.PrintFault.TheVariants.{Write, Memory}
+use Rattle.std.specs.{Prelude.{◌≡◌, ℕ, List, [], ◌∷◌, ◌++◌, Result, Ok, Err}, List.concat}
+use Rattle.lc_io.specs.{declared.{source.Failed.Failed, printing.PrintFault.{PrintFault, TheVariants.{Write, Memory}}}, Writes.Writes}
+use Rattle.lc_io.specs.Writes.{StopsWriting}
 
 module _ {S : Type 0} (may_take : S → List ℕ → Result ℕ Failed → S → Type 0) where
   -- these pieces were written in turn, each of them whole

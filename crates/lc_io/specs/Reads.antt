@@ -1,6 +1,5 @@
 -- What the reads of a call gave: pieces, and then the end, a failure or neither.
-use Rattle.std.specs.Prelude.{◌≡◌, ◌≢◌, ℕ, ◌+◌, ◌<◌, List, [], ◌∷◌, length, take, Result, Ok, Err}
-use Rattle.std.specs.List.{concat}
+use Rattle.std.specs.{Prelude.{◌≡◌, ◌≢◌, ℕ, ◌+◌, ◌<◌, List, [], ◌∷◌, length, take, Result, Ok, Err}, List.concat}
 
 -- what one read gave: the bytes that it put at the front of the buffer, or a failure
 pub data Answer : Type 0 where

@@ -1,6 +1,5 @@
 -- What a read of a reader of std may give, by the bytes that it is known to have left.
-use Rattle.std.specs.Prelude.{◌≡◌, ℕ, ◌<◌, List, [], Option}
-use Rattle.std.specs.Io.KnownBytes.{Consumes, IsAtEnd, Keeps}
+use Rattle.std.specs.{Prelude.{◌≡◌, ℕ, ◌<◌, List, [], Option}, Io.KnownBytes.{Consumes, IsAtEnd, Keeps}}
 use Rattle.lc_io.specs.Reads.{Answer, gave, failed}
 
 -- a piece has the first of the known bytes, and if the buffer is not empty, it is empty only if no byte is left; a failure leaves the known

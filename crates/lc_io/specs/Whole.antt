@@ -1,8 +1,7 @@
 -- What a call answers that reads a reader whole, up to a limit.
 use Rattle.std.specs.Prelude.{◌≡◌, ◌≢◌, ℕ, ◌+◌, ◌≤◌, List, [], ◌++◌, length, Result, Ok, Err}
-use Rattle.lc_io.specs.declared.whole.WholeFault.{WholeFault}
-use Rattle.lc_io.specs.declared.whole.WholeFault.TheVariants.{Read, TooLong, Memory}
-use Rattle.lc_io.specs.Reads.{Answer, AnyRoom, at_end, at_failure, at_neither, GivesBytes}
+use Rattle.lc_io.specs.{declared.whole.WholeFault.{WholeFault, TheVariants.{Read, TooLong, Memory}}, Reads.{Answer, AnyRoom, at_end}}
+use Rattle.lc_io.specs.Reads.{at_failure, at_neither, GivesBytes}
 
 -- what the call answers, by its reads, and the bytes that it leaves
 abbrev pub AnswersWhole : {S : Type 0} → (S → ℕ → Answer → S → Type 0) → ℕ → S → Result (Unit {0}) WholeFault → List ℕ → S → Type 0

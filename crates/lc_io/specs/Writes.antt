@@ -1,9 +1,6 @@
 -- The writes of one call.
-use Rattle.std.specs.Prelude.{◌≡◌, ℕ, ◌<◌, ◌≤◌, ◌⊎◌, List, [], ◌∷◌, ◌++◌, length, drop, Result, Ok, Err, Vec}
-use Rattle.std.specs.Global.{Global}
-use Rattle.lc_io.specs.declared.source.Failed.{Failed}
-use Rattle.lc_io.specs.declared.printing.PrintFault.{PrintFault}
-use Rattle.lc_io.specs.declared.printing.PrintFault.TheVariants.{Write, Memory}
+use Rattle.std.specs.{Prelude.{◌≡◌, ℕ, ◌<◌, ◌≤◌, ◌⊎◌, List, [], ◌∷◌, ◌++◌, length, drop, Result, Ok, Err, Vec}, Global.Global}
+use Rattle.lc_io.specs.declared.{source.Failed.Failed, printing.PrintFault.{PrintFault, TheVariants.{Write, Memory}}}
 
 -- a vector takes all bytes, or no byte if an allocation fails
 abbrev pub AppendsAll : Vec ℕ Global → List ℕ → Result ℕ Failed → Vec ℕ Global → Type 0

@@ -1,5 +1,4 @@
-use Rattle.std.proofs.Common.{◌<◌, [], ◌∷◌, ◌++◌, arith}
-use Rattle.std.proofs.lemmas.List.{take_rest}
+use Rattle.std.proofs.{Common.{◌<◌, [], ◌∷◌, ◌++◌, arith}, lemmas.List.take_rest}
 use Rattle.lc_io.proofs.Taking.{takes_more}
 use Rattle.lc_io.proofs.printing.print.Goals as goal
 

@@ -1,6 +1,5 @@
 use Rattle.std.proofs.Common.{◌≡◌, ℕ, ◌+◌, ◌-◌, ◌<◌, ◌≤◌, List, [], ◌++◌, length, take, drop, min, sym, ap, subst, ◌∙◌, arith}
-use Rattle.std.proofs.Common.{length-append, length-take}
-use Rattle.std.proofs.lemmas.List.{take-append-le}
+use Rattle.std.proofs.{Common.{length-append, length-take}, lemmas.List.take-append-le}
 use Rattle.lc_io.specs.Reads.{Answer, gave, at_end, at_failure, at_neither, AnyRoom, GivesBytes}
 use Rattle.lc_io.proofs.Runs.{gives_more, gives_stop, take_some}
 use Rattle.lc_io.proofs.whole.read_whole.Goals as goal
