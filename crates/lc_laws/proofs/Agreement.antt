@@ -2,33 +2,20 @@
 use Rattle.std.proofs.Common.{◌≡◌, ℕ, ◌+◌, ◌≤◌, true, false, cond, List, [], length, refl, sym, ◌∙◌, ap, subst, arith, inl, inr}
 use Rattle.std.specs.List.{Contains}
 use Rattle.lc_paths.specs.Explanations.Explained.{Explanation, ignored, cited, said_for, IsExplained, said_of_none}
-use Rattle.lc_paths.specs.Explanations.Laws.{IsSaidKept, EntryLaw}
-use Rattle.lc_paths.specs.Explanations.OpenDirs.{DirStack, MayEnter}
+use Rattle.lc_paths.specs.Explanations.{Laws.{IsSaidKept, EntryLaw}, OpenDirs.{DirStack, MayEnter}}
 use Rattle.lc_paths.specs.declared.explaining.explain_options.ExplainOptions.{ExplainOptions}
 use Rattle.lc_glob.specs.Path.{path_in, segments_of}
-use Rattle.lc_level.specs.Answers.{Tree}
-use Rattle.lc_level.specs.Level.{Reason, named_git, by_rule, by_attribute, not_included, other_kind, counted, skipped}
-use Rattle.lc_level.specs.Filters.{FiltersModel}
-use Rattle.lc_level.specs.TopJob.{top_job}
+use Rattle.lc_level.specs.{Answers.Tree, Level.{Reason, named_git, by_rule, by_attribute, not_included, other_kind, counted, skipped}}
+use Rattle.lc_level.specs.{Filters.FiltersModel, TopJob.top_job}
 use Rattle.lc_text.specs.PathLines.{is_bad_path}
 use Rattle.lc_tree.specs.Trees.{Listings, Contents}
-use Rattle.lc_walk.specs.ReportLines.{skipped_paths}
-use Rattle.lc_walk.specs.RecursiveWalk.{walk_of}
-use Rattle.lc_walk.specs.WalkOptions.{asked_by, top_of}
-use Rattle.lc_walk.specs.FoundReports.{IsReportOf}
-use Rattle.lc_walk.specs.declared.options.Options.{Options}
-use Rattle.lc_walk.specs.declared.options.ReportLists.{ReportLists}
-use Rattle.lc_walk.specs.declared.report.Report.{Report}
-use Rattle.lc_walk.proofs.FoundByPlace.{place_by_walk}
-use Rattle.lc_walk.proofs.RowTrees.{by_answers}
-use Rattle.lc_laws.specs.ByAnswers.{EntersBy, SaysEntering, IsEntryBy}
-use Rattle.lc_laws.specs.CountsExplained.{AskAlike, IsSaidSkipped, AgreesOn, AnswersExplainedLaw, ExplainedLaw}
-use Rattle.lc_laws.specs.ReportedPaths.{IsCounted, IsSkipped}
-use Rattle.lc_laws.proofs.ExplainedEntries.{told}
-use Rattle.lc_laws.proofs.Following.{IsSaidBelow, entry_agrees}
-use Rattle.lc_laws.proofs.Items.{entry_by_lists}
-use Rattle.lc_laws.proofs.OneWay.{Entering, IsKnown, known_by_tree, known_by_one}
-use Rattle.lc_laws.proofs.ReportLists.{counted_found, skipped_found, skipped_somehow}
+use Rattle.lc_walk.specs.{ReportLines.skipped_paths, RecursiveWalk.walk_of, WalkOptions.{asked_by, top_of}, FoundReports.IsReportOf}
+use Rattle.lc_walk.specs.declared.{options.{Options.Options, ReportLists.ReportLists}, report.Report.Report}
+use Rattle.lc_walk.proofs.{FoundByPlace.place_by_walk, RowTrees.by_answers}
+use Rattle.lc_laws.specs.{ByAnswers.{EntersBy, SaysEntering, IsEntryBy}, CountsExplained.{AskAlike, IsSaidSkipped, AgreesOn}}
+use Rattle.lc_laws.specs.{CountsExplained.{AnswersExplainedLaw, ExplainedLaw}, ReportedPaths.{IsCounted, IsSkipped}}
+use Rattle.lc_laws.proofs.{ExplainedEntries.told, Following.{IsSaidBelow, entry_agrees}, Items.entry_by_lists, OneWay.{Entering, IsKnown}}
+use Rattle.lc_laws.proofs.{OneWay.{known_by_tree, known_by_one}, ReportLists.{counted_found, skipped_found, skipped_somehow}}
 use Rattle.lc_laws.proofs.SameWay.{said_by_other}
 
 -- what is said for a reason, by any citing of its rule

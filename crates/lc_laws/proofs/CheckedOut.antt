@@ -3,51 +3,26 @@ use Rattle.std.proofs.Common.{◌≡◌, ℕ, ◌+◌, ◌<◌, ◌≤◌, Bool,
 use Rattle.std.proofs.Common.{sym, ◌∙◌, ap, subst, arith, Some, ◌⊎◌, inl, inr, length-append, append_assoc, codes}
 use Rattle.std.proofs.Math.Seq.{get_or-append_seam, take-append_seam}
 use Rattle.std.specs.List.{Contains}
-use Rattle.lc_paths.specs.Explanations.OpenDirs.{kind_in}
-use Rattle.lc_paths.proofs.Explanations.PathSegments.{names_below}
+use Rattle.lc_paths.specs.{Explanations.OpenDirs.kind_in, Checks.CheckText.{file_verdict, is_ignored, has_ignored_parent, verdict_word}}
+use Rattle.lc_paths.specs.Checks.CheckText.{path_word}
+use Rattle.lc_paths.proofs.{Explanations.PathSegments.names_below, Checks.Directories.{is_ignored_parent-slash, has_ignored_parent-some}}
 use Rattle.lc_glob.proofs.Naming.{has_first, segments_apart}
-use Rattle.lc_glob.specs.Bytes.{slash}
-use Rattle.lc_glob.specs.Path.{path_in, segments_of}
-use Rattle.lc_level.specs.Answers.{Item, name_of, entry_of, entries_of, Tree}
-use Rattle.lc_level.specs.Job.{JobModel}
-use Rattle.lc_level.specs.Level.{SkippedLineModel, by_rule}
-use Rattle.lc_level.specs.Filters.{FiltersModel, no_filters}
-use Rattle.lc_level.specs.TopJob.{top_job}
+use Rattle.lc_glob.specs.{Bytes.slash, Path.{path_in, segments_of}}
+use Rattle.lc_level.specs.{Answers.{Item, name_of, entry_of, entries_of, Tree}, Job.JobModel, Level.{SkippedLineModel, by_rule}}
+use Rattle.lc_level.specs.{Filters.{FiltersModel, no_filters}, TopJob.top_job}
 use Rattle.lc_level.proofs.WellFormed.{Spread}
-use Rattle.lc_rules.specs.IgnoreChains.{rules_in}
-use Rattle.lc_rules.specs.IgnoreLaws.{LastMatchLaw}
-use Rattle.lc_rules.specs.IgnoreRules.{RuleModel, rules_of}
-use Rattle.lc_rules.specs.Verdicts.{at_depth, last_match, verdict_from}
-use Rattle.lc_rules.specs.declared.rule_source.RuleSource.{RuleSource}
-use Rattle.lc_rules.specs.declared.verdicts.Verdict.{Verdict}
-use Rattle.lc_rules.specs.declared.verdicts.Verdict.TheVariants.{Ignored, Included, NoRule}
-use Rattle.lc_paths.specs.Checks.CheckText.{file_verdict, is_ignored, has_ignored_parent, verdict_word, path_word}
+use Rattle.lc_rules.specs.{IgnoreChains.rules_in, IgnoreLaws.LastMatchLaw, IgnoreRules.{RuleModel, rules_of}, Verdicts.at_depth}
+use Rattle.lc_rules.specs.{Verdicts.{last_match, verdict_from}, declared.rule_source.RuleSource.RuleSource}
+use Rattle.lc_rules.specs.declared.verdicts.Verdict.{Verdict, TheVariants.{Ignored, Included, NoRule}}
 use Rattle.lc_text.specs.PathLines.{is_bad_path}
-use Rattle.lc_paths.proofs.Checks.Directories.{is_ignored_parent-slash, has_ignored_parent-some}
-use Rattle.lc_tree.specs.Kinds.{is_dir}
-use Rattle.lc_tree.specs.Paths.{names_of_path}
-use Rattle.lc_tree.specs.Trees.{Listings, Contents}
-use Rattle.lc_tree.specs.declared.entry.Kind.{Kind}
-use Rattle.lc_tree.specs.declared.entry.Kind.TheVariants.{Dir}
-use Rattle.lc_walk.specs.Accounts.{RuleLaw}
-use Rattle.lc_walk.specs.FoundAt.{IsListed, LeadsTo}
-use Rattle.lc_walk.specs.GivenAnswers.{HasListings, IsGiven}
-use Rattle.lc_walk.specs.RecursiveWalk.{walk_of}
-use Rattle.lc_walk.specs.WalkOptions.{asked_by, top_of}
-use Rattle.lc_walk.specs.FoundReports.{IsReportOf}
-use Rattle.lc_walk.specs.declared.options.Options.{Options}
-use Rattle.lc_walk.specs.declared.options.ReportLists.{ReportLists}
-use Rattle.lc_walk.specs.declared.report.Report.{Report}
-use Rattle.lc_walk.proofs.Elements.{In, is_in, contains}
-use Rattle.lc_walk.proofs.Levels.{well_formed_items}
-use Rattle.lc_walk.proofs.RowTrees.{by_answers}
-use Rattle.lc_laws.specs.ByAnswers.{kind_before, IsEntryBy}
-use Rattle.lc_laws.specs.CountsChecked.{ReadsTopRules, AsksRulesAlone, IsCheckedOut, IsRuledOut, CheckAgrees, AnswersCheckedLaw}
-use Rattle.lc_laws.specs.CountsChecked.{CheckedLaw}
-use Rattle.lc_laws.specs.ReportedPaths.{IsSkipped}
-use Rattle.lc_laws.proofs.Checking.{decided}
-use Rattle.lc_laws.proofs.Items.{named_item, entry_by_lists}
-use Rattle.lc_laws.proofs.OneWay.{kind_found, good_name, one_segment, place_names}
+use Rattle.lc_tree.specs.{Kinds.is_dir, Paths.names_of_path, Trees.{Listings, Contents}, declared.entry.Kind.{Kind, TheVariants.Dir}}
+use Rattle.lc_walk.specs.{Accounts.RuleLaw, FoundAt.{IsListed, LeadsTo}, GivenAnswers.{HasListings, IsGiven}, RecursiveWalk.walk_of}
+use Rattle.lc_walk.specs.{WalkOptions.{asked_by, top_of}, FoundReports.IsReportOf}
+use Rattle.lc_walk.specs.declared.{options.{Options.Options, ReportLists.ReportLists}, report.Report.Report}
+use Rattle.lc_walk.proofs.{Elements.{In, is_in, contains}, Levels.well_formed_items, RowTrees.by_answers}
+use Rattle.lc_laws.specs.{ByAnswers.{kind_before, IsEntryBy}, CountsChecked.{ReadsTopRules, AsksRulesAlone, IsCheckedOut, IsRuledOut}}
+use Rattle.lc_laws.specs.{CountsChecked.{CheckAgrees, AnswersCheckedLaw, CheckedLaw}, ReportedPaths.IsSkipped}
+use Rattle.lc_laws.proofs.{Checking.decided, Items.{named_item, entry_by_lists}, OneWay.{kind_found, good_name, one_segment, place_names}}
 use Rattle.lc_laws.proofs.TopRules.{rules_at, reads_by_lists}
 
 -- ---- the words of a check

@@ -1,53 +1,28 @@
 -- What a check says of an entry that no rule of the report leaves out.
-use Rattle.std.proofs.Common.{◌≡◌, ◌≢◌, ℕ, ◌+◌, ◌<◌, ◌≤◌, Bool, true, false, nat_eq}
-use Rattle.std.proofs.Common.{◌&&◌, cond, List, [], ◌∷◌, ◌++◌, length, take, get_or, refl}
-use Rattle.std.proofs.Common.{sym, ◌∙◌, ap, subst, arith, Option, Some, None, Result, Ok, Err, ◌⊎◌, inl, inr, length-append, append_assoc}
-use Rattle.std.proofs.Common.{append-nil, codes}
-use Rattle.std.specs.List.{Contains, AllByRecursion}
-use Rattle.std.specs.Option.{is_none, option_map_or, option_or}
-use Rattle.std.proofs.Math.Seq.{get_or-append_seam, take-append_seam}
-use Rattle.lc_paths.specs.Explanations.OpenDirs.{OpenDirModel, open_dir}
-use Rattle.lc_paths.proofs.Explanations.PathSegments.{below_child, joined_end}
+use Rattle.std.proofs.Common.{◌≡◌, ◌≢◌, ℕ, ◌+◌, ◌<◌, ◌≤◌, Bool, true, false, nat_eq, ◌&&◌, cond, List, [], ◌∷◌, ◌++◌, length, take}
+use Rattle.std.proofs.Common.{get_or, refl, sym, ◌∙◌, ap, subst, arith, Option, Some, None, Result, Ok, Err, ◌⊎◌, inl, inr, length-append}
+use Rattle.std.proofs.{Common.{append_assoc, append-nil, codes}, Math.Seq.{get_or-append_seam, take-append_seam}}
+use Rattle.std.specs.{List.{Contains, AllByRecursion}, Option.{is_none, option_map_or, option_or}}
+use Rattle.lc_paths.specs.{Explanations.OpenDirs.{OpenDirModel, open_dir}, Checks.CheckText.{file_verdict, is_ignored, is_ignored_parent}}
+use Rattle.lc_paths.specs.Checks.CheckText.{has_ignored_parent, IsClearTo}
+use Rattle.lc_paths.proofs.{Explanations.PathSegments.{below_child, joined_end}, Checks.Directories.is_ignored_parent-slash}
+use Rattle.lc_paths.proofs.Checks.Directories.{has_ignored_parent-clear, clear-more}
 use Rattle.lc_glob.proofs.Naming.{some_segment}
-use Rattle.lc_glob.specs.Bytes.{slash}
-use Rattle.lc_glob.specs.Path.{path_in, segments_of}
-use Rattle.lc_level.specs.Answers.{Item, file_item, directory_item, other_item, name_of, entry_of, Tree}
-use Rattle.lc_level.specs.FaultLines.{FaultLineModel}
-use Rattle.lc_level.specs.Job.{JobModel}
-use Rattle.lc_level.specs.Level.{Reason, named_git, by_rule, other_kind, walked, include_reason}
-use Rattle.lc_level.specs.Level.{skipped, rule_reason, reason_at, reason_of, file_fate, fate_of}
-use Rattle.lc_level.specs.Level.{child_job}
-use Rattle.lc_level.specs.Filters.{FiltersModel, include_rules, no_filters, patterns_for}
-use Rattle.lc_level.specs.TopJob.{top_job}
+use Rattle.lc_glob.specs.{Bytes.slash, Path.{path_in, segments_of}}
+use Rattle.lc_level.specs.{Answers.{Item, file_item, directory_item, other_item, name_of, entry_of, Tree}, FaultLines.FaultLineModel}
+use Rattle.lc_level.specs.{Job.JobModel, Level.{Reason, named_git, by_rule, other_kind, walked, include_reason, skipped, rule_reason}}
+use Rattle.lc_level.specs.{Level.{reason_at, reason_of, file_fate, fate_of, child_job}, Filters.{FiltersModel, include_rules, no_filters}}
+use Rattle.lc_level.specs.{Filters.patterns_for, TopJob.top_job}
 use Rattle.lc_level.proofs.WellFormed.{Spread, other_bytes}
-use Rattle.lc_rules.specs.IgnoreChains.{rules_in}
-use Rattle.lc_rules.specs.IgnoreRules.{RuleModel}
-use Rattle.lc_rules.specs.Verdicts.{at_depth, last_match, verdict_from}
-use Rattle.lc_rules.specs.declared.rule_source.RuleSource.{RuleSource}
-use Rattle.lc_rules.specs.declared.verdicts.Verdict.{Verdict}
-use Rattle.lc_rules.specs.declared.verdicts.Verdict.TheVariants.{Ignored, Included}
-use Rattle.lc_paths.specs.Checks.CheckText.{file_verdict, is_ignored, is_ignored_parent, has_ignored_parent, IsClearTo}
-use Rattle.lc_paths.proofs.Checks.Directories.{is_ignored_parent-slash, has_ignored_parent-clear, clear-more}
-use Rattle.lc_tree.specs.Kinds.{is_dir}
-use Rattle.lc_tree.specs.declared.entry.Kind.{Kind}
-use Rattle.lc_tree.specs.declared.entry.Kind.TheVariants.{File, Dir, Other}
-use Rattle.lc_walk.specs.FoundAt.{IsListed, WalksInto, LeadsTo}
-use Rattle.lc_walk.specs.GivenAnswers.{HasListings}
-use Rattle.lc_walk.specs.RecursiveWalk.{walk_of}
-use Rattle.lc_walk.specs.FoundReports.{IsReportOf}
-use Rattle.lc_walk.specs.declared.options.ReportLists.{ReportLists}
-use Rattle.lc_walk.specs.declared.report.Report.{Report}
-use Rattle.lc_walk.proofs.Elements.{In, is_in}
-use Rattle.lc_walk.proofs.Levels.{well_formed_items}
-use Rattle.lc_walk.proofs.OneTree.{leads_on}
-use Rattle.lc_laws.specs.ByAnswers.{IsEntryBy}
-use Rattle.lc_laws.specs.CountsChecked.{IsRuledOut}
-use Rattle.lc_laws.specs.ReportedPaths.{IsSkipped}
-use Rattle.lc_laws.proofs.FirstSegments.{first_cut}
-use Rattle.lc_laws.proofs.Items.{IsItem, named_item, directory_is}
-use Rattle.lc_laws.proofs.OneWay.{entered_listed, good_name}
-use Rattle.lc_laws.proofs.Placed.{fault_there, skipped_there}
-use Rattle.lc_laws.proofs.TakingPart.{part_has}
+use Rattle.lc_rules.specs.{IgnoreChains.rules_in, IgnoreRules.RuleModel, Verdicts.{at_depth, last_match, verdict_from}}
+use Rattle.lc_rules.specs.declared.{rule_source.RuleSource.RuleSource, verdicts.Verdict.{Verdict, TheVariants.{Ignored, Included}}}
+use Rattle.lc_tree.specs.{Kinds.is_dir, declared.entry.Kind.{Kind, TheVariants.{File, Dir, Other}}}
+use Rattle.lc_walk.specs.{FoundAt.{IsListed, WalksInto, LeadsTo}, GivenAnswers.HasListings, RecursiveWalk.walk_of, FoundReports.IsReportOf}
+use Rattle.lc_walk.specs.declared.{options.ReportLists.ReportLists, report.Report.Report}
+use Rattle.lc_walk.proofs.{Elements.{In, is_in}, Levels.well_formed_items, OneTree.leads_on}
+use Rattle.lc_laws.specs.{ByAnswers.IsEntryBy, CountsChecked.IsRuledOut, ReportedPaths.IsSkipped}
+use Rattle.lc_laws.proofs.{FirstSegments.first_cut, Items.{IsItem, named_item, directory_is}, OneWay.{entered_listed, good_name}}
+use Rattle.lc_laws.proofs.{Placed.{fault_there, skipped_there}, TakingPart.part_has}
 
 -- ---- a path whose directories are not ignored
 

@@ -1,48 +1,27 @@
 -- What is said of an entry tells where the report has it.
 use Rattle.std.proofs.Common.{◌≡◌, ℕ, ◌+◌, ◌<◌, ◌≤◌, Bool, true, false, List, [], ◌∷◌, ◌++◌, length, refl, sym, ◌∙◌, ap, subst, arith}
 use Rattle.std.proofs.Common.{Option, Some, None, Result, Ok, Err, MatchResult, ◌⊎◌, inl, inr, length-append, append_assoc}
-use Rattle.std.specs.List.{Contains}
-use Rattle.std.specs.Option.{is_none, option_map_or, option_or}
-use Rattle.lc_paths.specs.Explanations.Explained.{CitedRule, Explanation, faulted, below, ignored, cited, said_for, said_by}
-use Rattle.lc_paths.specs.Explanations.Explained.{said_of, kind_asked, is_directory, OnTheWay, IsSaid}
-use Rattle.lc_paths.specs.Explanations.Laws.{IsSaidKept}
-use Rattle.lc_paths.specs.Explanations.OpenDirs.{OpenDirModel, DirStack, open_dir, kind_in}
+use Rattle.std.specs.{List.Contains, Option.{is_none, option_map_or, option_or}}
+use Rattle.lc_paths.specs.Explanations.Explained.{CitedRule, Explanation, faulted, below, ignored, cited, said_for, said_by, said_of}
+use Rattle.lc_paths.specs.Explanations.Explained.{kind_asked, is_directory, OnTheWay, IsSaid}
+use Rattle.lc_paths.specs.Explanations.{Laws.IsSaidKept, OpenDirs.{OpenDirModel, DirStack, open_dir, kind_in}}
 use Rattle.lc_paths.proofs.Explanations.PathSegments.{below_child, joined_end}
 use Rattle.lc_glob.proofs.Naming.{some_segment}
-use Rattle.lc_glob.specs.Bytes.{slash}
-use Rattle.lc_glob.specs.Path.{path_in, segments_of}
+use Rattle.lc_glob.specs.{Bytes.slash, Path.{path_in, segments_of}}
 use Rattle.lc_level.specs.Answers.{Item, file_item, directory_item, other_item, name_of, entry_of, entries_of, Tree}
-use Rattle.lc_level.specs.FaultLines.{FaultLineModel}
-use Rattle.lc_level.specs.Job.{JobModel}
-use Rattle.lc_level.specs.Level.{Reason, named_git, by_rule, by_attribute, not_included, other_kind, walked, skipped, file_fate}
-use Rattle.lc_level.specs.Level.{fate_of, file_reason, reason_of, reason_for, child_job}
+use Rattle.lc_level.specs.{FaultLines.FaultLineModel, Job.JobModel, Level.{Reason, named_git, by_rule, by_attribute, not_included}}
+use Rattle.lc_level.specs.Level.{other_kind, walked, skipped, file_fate, fate_of, file_reason, reason_of, reason_for, child_job}
 use Rattle.lc_level.specs.Filters.{FiltersModel}
 use Rattle.lc_level.proofs.WellFormed.{Spread}
-use Rattle.lc_rules.specs.IgnoreChains.{rules_in}
-use Rattle.lc_rules.specs.IgnoreRules.{RuleModel}
-use Rattle.lc_rules.specs.Verdicts.{last_match}
-use Rattle.lc_rules.specs.declared.rule_source.RuleSource.{RuleSource}
-use Rattle.lc_tree.specs.Listing.{EntryModel}
-use Rattle.lc_tree.specs.declared.entry.Kind.{Kind}
-use Rattle.lc_tree.specs.declared.entry.Kind.TheVariants.{File, Dir, Other}
-use Rattle.lc_walk.specs.FoundAt.{IsListed, WalksInto, LeadsTo}
-use Rattle.lc_walk.specs.ReportLines.{skipped_paths}
-use Rattle.lc_walk.specs.RecursiveWalk.{walk_of}
-use Rattle.lc_walk.specs.FoundReports.{IsReportOf}
-use Rattle.lc_walk.specs.declared.options.ReportLists.{ReportLists}
-use Rattle.lc_walk.specs.declared.report.Report.{Report}
-use Rattle.lc_walk.proofs.Elements.{In}
-use Rattle.lc_walk.proofs.Levels.{well_formed_items}
-use Rattle.lc_walk.proofs.OneTree.{leads_on}
-use Rattle.lc_laws.specs.ByAnswers.{IsEntryBy}
-use Rattle.lc_laws.specs.CountsExplained.{TellsOf}
-use Rattle.lc_laws.specs.ReportedPaths.{IsSkipped, IsKept, IsSkippedAbove}
-use Rattle.lc_laws.proofs.FirstSegments.{first_cut}
-use Rattle.lc_laws.proofs.Following.{asked_as_it_is, went_into, IsSaidBelow, IsSaidIn, said_in, on_the_way, said_at_end}
-use Rattle.lc_laws.proofs.OneWay.{entered_listed, kind_found, good_name, Entering, IsKnown}
-use Rattle.lc_laws.proofs.Items.{IsItem, named_item, directory_is}
-use Rattle.lc_laws.proofs.Placed.{fault_there, skipped_there, file_there}
-use Rattle.lc_laws.proofs.TakingPart.{part_has}
+use Rattle.lc_rules.specs.{IgnoreChains.rules_in, IgnoreRules.RuleModel, Verdicts.last_match, declared.rule_source.RuleSource.RuleSource}
+use Rattle.lc_tree.specs.{Listing.EntryModel, declared.entry.Kind.{Kind, TheVariants.{File, Dir, Other}}}
+use Rattle.lc_walk.specs.{FoundAt.{IsListed, WalksInto, LeadsTo}, ReportLines.skipped_paths, RecursiveWalk.walk_of, FoundReports.IsReportOf}
+use Rattle.lc_walk.specs.declared.{options.ReportLists.ReportLists, report.Report.Report}
+use Rattle.lc_walk.proofs.{Elements.In, Levels.well_formed_items, OneTree.leads_on}
+use Rattle.lc_laws.specs.{ByAnswers.IsEntryBy, CountsExplained.TellsOf, ReportedPaths.{IsSkipped, IsKept, IsSkippedAbove}}
+use Rattle.lc_laws.proofs.{FirstSegments.first_cut, Following.{asked_as_it_is, went_into, IsSaidBelow, IsSaidIn, said_in, on_the_way}}
+use Rattle.lc_laws.proofs.{Following.said_at_end, OneWay.{entered_listed, kind_found, good_name, Entering, IsKnown}, Items.IsItem}
+use Rattle.lc_laws.proofs.{Items.{named_item, directory_is}, Placed.{fault_there, skipped_there, file_there}, TakingPart.part_has}
 
 skipped_on_the_way : (reason : Option Reason) (is_there : Bool) (Skipped : Reason → Type 0) (Into Beside : Type 0) (r : Reason)
     → reason ≡ Some r → OnTheWay reason is_there Skipped Into Beside → Skipped r

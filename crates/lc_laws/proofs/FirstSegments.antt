@@ -1,9 +1,8 @@
 -- A path and its first segment.
 use Rattle.std.proofs.Common.{◌≡◌, ℕ, Bool, true, false, nat_eq, List, [], ◌∷◌, ◌++◌, refl, sym, ◌∙◌, ap, arith}
-use Rattle.std.specs.List.{onto_first}
 use Rattle.std.proofs.lemmas.List.Splits.{slice_split-cons_yes, slice_split-cons_no}
-use Rattle.lc_glob.specs.Bytes.{slash}
-use Rattle.lc_glob.specs.Path.{segments_of}
+use Rattle.std.specs.List.{onto_first}
+use Rattle.lc_glob.specs.{Bytes.slash, Path.segments_of}
 use Rattle.lc_glob.proofs.Naming.{has_first, some_segment}
 
 -- bytes are their only segment, or it and a slash and what has the others

@@ -3,29 +3,20 @@ use Rattle.std.proofs.Common.{◌≡◌, ℕ, Bool, true, false, cond, List, [],
 use Rattle.std.proofs.Common.{MatchResult}
 use Rattle.std.specs.Option.{is_none}
 use Rattle.lc_paths.specs.Explanations.Explained.{Explanation, faulted, below, cited, said_for, said_of, said_beside, kind_asked}
-use Rattle.lc_paths.specs.Explanations.Explained.{is_directory, said_of_none}
-use Rattle.lc_paths.specs.Explanations.Explained.{OnTheWay, OnEntering, IsSaid, IsExplained}
-use Rattle.lc_paths.specs.Explanations.Laws.{Agrees, EntryLaw}
-use Rattle.lc_paths.specs.Explanations.OpenDirs.{OpenDirModel, DirStack, open_dir, kind_in}
+use Rattle.lc_paths.specs.Explanations.Explained.{is_directory, said_of_none, OnTheWay, OnEntering, IsSaid, IsExplained}
+use Rattle.lc_paths.specs.Explanations.{Laws.{Agrees, EntryLaw}, OpenDirs.{OpenDirModel, DirStack, open_dir, kind_in}}
 use Rattle.lc_paths.proofs.Explanations.PathSegments.{names_below}
 use Rattle.lc_glob.specs.Path.{path_in, segments_of}
-use Rattle.lc_level.specs.Answers.{Item, directory_item, name_of, entry_of, entries_of, Answers, Tree}
-use Rattle.lc_level.specs.FaultLines.{FaultLineModel}
-use Rattle.lc_level.specs.Job.{JobModel}
-use Rattle.lc_level.specs.Level.{Reason, Fate, fate_of, reason_of, reason_for, child_job}
-use Rattle.lc_level.specs.Filters.{FiltersModel}
+use Rattle.lc_level.specs.{Answers.{Item, directory_item, name_of, entry_of, entries_of, Answers, Tree}, FaultLines.FaultLineModel}
+use Rattle.lc_level.specs.{Job.JobModel, Level.{Reason, Fate, fate_of, reason_of, reason_for, child_job}, Filters.FiltersModel}
+use Rattle.lc_level.specs.TopJob.{top_job}
 use Rattle.lc_level.proofs.WellFormed.{Spread}
 use Rattle.lc_text.specs.PathLines.{is_bad_path}
-use Rattle.lc_tree.specs.Listing.{EntryModel}
-use Rattle.lc_tree.specs.declared.entry.Kind.{Kind}
-use Rattle.lc_tree.specs.declared.entry.Kind.TheVariants.{File, Dir, Other}
+use Rattle.lc_tree.specs.{Listing.EntryModel, declared.entry.Kind.{Kind, TheVariants.{File, Dir, Other}}}
 use Rattle.lc_walk.specs.FoundAt.{IsListed, LeadsTo, HasEntry}
-use Rattle.lc_walk.proofs.Elements.{In}
-use Rattle.lc_walk.proofs.Levels.{well_formed_items}
+use Rattle.lc_walk.proofs.{Elements.In, Levels.well_formed_items}
 use Rattle.lc_laws.proofs.OneWay.{listed_entered, kind_found, good_name, one_segment, place_names, Entering, IsKnown, known_below}
-use Rattle.lc_laws.proofs.OneWay.{known_listings}
-use Rattle.lc_laws.proofs.TakingPart.{in_part}
-use Rattle.lc_level.specs.TopJob.{top_job}
+use Rattle.lc_laws.proofs.{OneWay.known_listings, TakingPart.in_part}
 
 -- what is none has no reason
 pub none_is : {A : Type 0} (o : Option A) → is_none o ≡ true → o ≡ None

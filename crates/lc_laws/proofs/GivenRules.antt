@@ -1,30 +1,17 @@
 -- Where no ignore file of a tree is read, each rule is of the command line or of the file for the whole tree.
-use Rattle.std.proofs.Common.{◌≡◌, ℕ, Bool, true, List, [], ◌∷◌, ◌++◌, refl, sym, ◌∙◌, ap, subst, inl, inr, arith, codes}
-use Rattle.std.proofs.Common.{Option, Some, None, Result, Ok, Err}
-use Rattle.std.specs.List.{AllByRecursion}
-use Rattle.std.specs.Prelude.{option_map}
+use Rattle.std.proofs.Common.{◌≡◌, ℕ, Bool, true, List, [], ◌∷◌, ◌++◌, refl, sym, ◌∙◌, ap, subst, inl, inr, arith, codes, Option, Some}
+use Rattle.std.proofs.Common.{None, Result, Ok, Err}
+use Rattle.std.specs.{List.AllByRecursion, Prelude.option_map}
 use Rattle.lc_glob.specs.Path.{depth_of}
-use Rattle.lc_level.specs.Answers.{Item, Answers, Tree}
-use Rattle.lc_level.specs.FaultLines.{FaultLineModel}
-use Rattle.lc_level.specs.Filters.{FiltersModel}
-use Rattle.lc_level.specs.Job.{JobModel}
-use Rattle.lc_level.specs.Level.{SkippedLineModel, by_rule, child_job}
-use Rattle.lc_level.specs.RuleFiles.{Pair, RuleBytes, and_then, extended, file_named, first_of, has_git, info_bytes, info_items}
-use Rattle.lc_level.specs.RuleFiles.{rule_bytes, with_file_at}
+use Rattle.lc_level.specs.{Answers.{Item, Answers, Tree}, FaultLines.FaultLineModel, Filters.FiltersModel, Job.JobModel}
+use Rattle.lc_level.specs.{Level.{SkippedLineModel, by_rule, child_job}, RuleFiles.{Pair, RuleBytes, and_then, extended, file_named}}
+use Rattle.lc_level.specs.RuleFiles.{first_of, has_git, info_bytes, info_items, rule_bytes, with_file_at}
 use Rattle.lc_level.specs.declared.fault_word.FaultWord.{FaultWord}
-use Rattle.lc_rules.specs.IgnoreChains.{ChainModel, joined, rules_if, rules_in}
-use Rattle.lc_rules.specs.IgnoreRules.{RuleModel, rules_of}
-use Rattle.lc_rules.specs.Verdicts.{from_file}
-use Rattle.lc_rules.specs.declared.rule_source.RuleSource.{RuleSource}
-use Rattle.lc_rules.specs.declared.rule_source.RuleSource.TheVariants.{CommandLine, ExcludeFrom, InfoExclude}
+use Rattle.lc_rules.specs.{IgnoreChains.{ChainModel, joined, rules_if, rules_in}, IgnoreRules.{RuleModel, rules_of}, Verdicts.from_file}
+use Rattle.lc_rules.specs.declared.rule_source.RuleSource.{RuleSource, TheVariants.{CommandLine, ExcludeFrom, InfoExclude}}
 use Rattle.lc_tree.specs.Trees.{Listings, Contents}
-use Rattle.lc_walk.specs.Accounts.{RuleLaw}
-use Rattle.lc_walk.specs.FoundAt.{IsListed, LeadsTo}
-use Rattle.lc_walk.specs.RecursiveWalk.{walk_of}
-use Rattle.lc_walk.specs.FoundReports.{IsReportOf}
-use Rattle.lc_walk.specs.WalkOptions.{asked_by, top_of}
-use Rattle.lc_walk.specs.declared.options.Options.{Options}
-use Rattle.lc_walk.specs.declared.report.Report.{Report}
+use Rattle.lc_walk.specs.{Accounts.RuleLaw, FoundAt.{IsListed, LeadsTo}, RecursiveWalk.walk_of, FoundReports.IsReportOf}
+use Rattle.lc_walk.specs.{WalkOptions.{asked_by, top_of}, declared.{options.Options.Options, report.Report.Report}}
 use Rattle.lc_walk.proofs.RowTrees.{by_answers}
 use Rattle.lc_laws.specs.NoIgnore.{AnswersNoIgnoreLaw, IsGivenSource, NoIgnoreLaw, SkipsByGivenRules}
 use Rattle.lc_laws.proofs.TopRules.{pair_rules, read_here}

@@ -1,14 +1,11 @@
 -- The fate of a file, by what skips it otherwise and by whether it is included.
-use Rattle.std.proofs.Common.{◌≡◌, ◌⊎◌, ℕ, Bool, true, false, cond, List, refl, sym, ap, subst, inl, inr}
-use Rattle.std.proofs.Common.{Option, None, Some, Result, Ok, Err}
+use Rattle.std.proofs.Common.{◌≡◌, ◌⊎◌, ℕ, Bool, true, false, cond, List, refl, sym, ap, subst, inl, inr, Option, None, Some, Result, Ok}
+use Rattle.std.proofs.Common.{Err}
 use Rattle.std.specs.Option.{option_map_or, option_or}
 use Rattle.lc_census.specs.declared.line_count.Count.{Count}
-use Rattle.lc_level.specs.Job.{JobModel}
-use Rattle.lc_level.specs.Level.{Fate, Reason, counted, failed, file_fate}
-use Rattle.lc_level.specs.Level.{not_included, skipped, walked}
+use Rattle.lc_level.specs.{Job.JobModel, Level.{Fate, Reason, counted, failed, file_fate, not_included, skipped, walked}}
 use Rattle.lc_level.specs.declared.fault_word.FaultWord.{FaultWord}
-use Rattle.lc_tree.specs.declared.entry.Kind.{Kind}
-use Rattle.lc_tree.specs.declared.entry.Kind.TheVariants.{File}
+use Rattle.lc_tree.specs.declared.entry.Kind.{Kind, TheVariants.File}
 use Rattle.lc_laws.specs.IncludedEntries.{IsRead}
 
 -- what a file's fate is, by what skips it otherwise and by whether it is included

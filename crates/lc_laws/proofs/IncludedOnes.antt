@@ -1,25 +1,18 @@
 -- A walk of included files has the errors and the skipped entries of the walk of all files, but for files that are not included.
-use Rattle.std.proofs.Common.{◌≡◌, ◌⊎◌, ℕ, Bool, true, false, List, [], ◌∷◌, refl, sym, ◌∙◌, ap, subst, inl, inr}
-use Rattle.std.proofs.Common.{Option, None, Some, Result, Ok, Err}
-use Rattle.std.specs.Option.{option_map_or}
-use Rattle.std.specs.List.{Contains}
+use Rattle.std.proofs.Common.{◌≡◌, ◌⊎◌, ℕ, Bool, true, false, List, [], ◌∷◌, refl, sym, ◌∙◌, ap, subst, inl, inr, Option, None, Some}
+use Rattle.std.proofs.Common.{Result, Ok, Err}
+use Rattle.std.specs.{Option.option_map_or, List.Contains}
 use Rattle.lc_glob.specs.Path.{path_in}
-use Rattle.lc_level.specs.Answers.{Item, file_item, directory_item, other_item, name_of, Items, Answers, Tree}
-use Rattle.lc_level.specs.FaultLines.{FaultLineModel}
-use Rattle.lc_level.specs.Filters.{FiltersModel, including}
-use Rattle.lc_level.specs.Job.{JobModel}
-use Rattle.lc_level.specs.Level.{Fate, Reason, SkippedLineModel, child_job, failed, fate_of, faulted_level, file_fate, level}
-use Rattle.lc_level.specs.Level.{level_after, level_of, not_included, other_kind, reason_of, skipped, walked}
-use Rattle.lc_level.specs.RuleFiles.{RuleBytes, rule_bytes}
-use Rattle.lc_level.specs.declared.fault_word.FaultWord.{FaultWord}
+use Rattle.lc_level.specs.{Answers.{Item, file_item, directory_item, other_item, name_of, Items, Answers, Tree}, FaultLines.FaultLineModel}
+use Rattle.lc_level.specs.{Filters.{FiltersModel, including}, Job.JobModel, Level.{Fate, Reason, SkippedLineModel, child_job, failed}}
+use Rattle.lc_level.specs.Level.{fate_of, faulted_level, file_fate, level, level_after, level_of, not_included, other_kind, reason_of}
+use Rattle.lc_level.specs.{Level.{skipped, walked}, RuleFiles.{RuleBytes, rule_bytes}, declared.fault_word.FaultWord.FaultWord}
 use Rattle.lc_level.specs.declared.fault_word.FaultWord.TheVariants.{Absent}
-use Rattle.lc_tree.specs.declared.entry.Kind.{Kind}
-use Rattle.lc_tree.specs.declared.entry.Kind.TheVariants.{File, Dir, Other}
-use Rattle.lc_walk.specs.Found.{Found, found_fault, found_skipped}
-use Rattle.lc_walk.specs.FoundAt.{FoundLaw, HasAbsent, HasEntry, IsFoundIn, IsListed, LeadsTo}
+use Rattle.lc_tree.specs.declared.entry.Kind.{Kind, TheVariants.{File, Dir, Other}}
+use Rattle.lc_walk.specs.{Found.{Found, found_fault, found_skipped}, FoundAt.{FoundLaw, HasAbsent, HasEntry, IsFoundIn, IsListed, LeadsTo}}
 use Rattle.lc_walk.specs.RecursiveWalk.{walk_of}
-use Rattle.lc_laws.specs.IncludedEntries.{IncludedEntriesLaw, IsDirectoryFault, IsEntered, IsIncludedFault}
-use Rattle.lc_laws.specs.IncludedEntries.{IsRead, IsUnincluded, includes}
+use Rattle.lc_laws.specs.IncludedEntries.{IncludedEntriesLaw, IsDirectoryFault, IsEntered, IsIncludedFault, IsRead, IsUnincluded}
+use Rattle.lc_laws.specs.IncludedEntries.{includes}
 use Rattle.lc_laws.proofs.IncludedFates.{fate_by, fault_by, now_skipped, read_fate, skip_by, still_skipped}
 
 module _ (s : FiltersModel) (text : Option (List ℕ)) where

@@ -2,21 +2,12 @@
 use Rattle.std.proofs.Common.{◌≡◌, ℕ, List, [], ◌∷◌, ◌++◌, refl, sym, ap, subst, Ok}
 use Rattle.std.specs.List.{Contains}
 use Rattle.lc_glob.specs.Path.{path_in}
-use Rattle.lc_level.specs.Answers.{Item, file_item, directory_item, other_item, name_of, entry_of, entries_of, Items, Tree}
-use Rattle.lc_level.specs.Job.{JobModel}
-use Rattle.lc_level.specs.Level.{child_job}
-use Rattle.lc_level.specs.OneAnswer.{GivesOne}
-use Rattle.lc_level.specs.Filters.{FiltersModel}
-use Rattle.lc_level.specs.TreeAnswers.{MayList}
-use Rattle.lc_tree.specs.Listing.{EntryModel}
-use Rattle.lc_tree.specs.Trees.{Listings, Contents}
-use Rattle.lc_tree.specs.declared.entry.Kind.{Kind}
-use Rattle.lc_tree.specs.declared.entry.Kind.TheVariants.{Dir}
-use Rattle.lc_walk.specs.FoundAt.{LeadsTo}
-use Rattle.lc_walk.specs.GivenAnswers.{IsGiven}
+use Rattle.lc_level.specs.{Answers.{Item, file_item, directory_item, other_item, name_of, entry_of, entries_of, Items, Tree}, Job.JobModel}
+use Rattle.lc_level.specs.{Level.child_job, OneAnswer.GivesOne, Filters.FiltersModel, TreeAnswers.MayList}
+use Rattle.lc_tree.specs.{Listing.EntryModel, Trees.{Listings, Contents}, declared.entry.Kind.{Kind, TheVariants.Dir}}
+use Rattle.lc_walk.specs.{FoundAt.LeadsTo, GivenAnswers.IsGiven}
 use Rattle.lc_walk.proofs.Elements.{In, is_in, in_mapped}
-use Rattle.lc_laws.specs.ByAnswers.{kind_before, IsEntryBy}
-use Rattle.lc_laws.specs.Entries.{HasListed, LeadDown, IsEntry}
+use Rattle.lc_laws.specs.{ByAnswers.{kind_before, IsEntryBy}, Entries.{HasListed, LeadDown, IsEntry}}
 
 -- an item of a directory is that of its name
 pub directory_is : (item : Item) → (entry_of item).kind ≡ Dir → item ≡ directory_item (name_of item)

@@ -1,10 +1,8 @@
 -- JSON objects and arrays that were printed, as they are read: their members and values, numbers and bytes.
 use Rattle.std.proofs.Common.{◌≡◌, ◌⊎◌, inl, inr, ◌<◌, ◌^◌, ℕ, Bool, true, false, List, [], ◌∷◌, ◌++◌, map, cond, decimal, refl, sym, ap}
 use Rattle.std.proofs.Common.{arith, subst, if◌then◌else◌}
-use Rattle.std.specs.List.{AllByRecursion}
-use Rattle.std.specs.Str.{bytes_eq, is_utf8}
-use Rattle.json.specs.Json.{Json, array, number, object, string}
-use Rattle.json.specs.Value.{items_of}
+use Rattle.std.specs.{List.AllByRecursion, Str.{bytes_eq, is_utf8}}
+use Rattle.json.specs.{Json.{Json, array, number, object, string}, Value.items_of}
 use Rattle.lc_formats.specs.JsonText.{Member, array_with, bytes_name, integer, items_with, members_with, object_with}
 use Rattle.lc_reading.proofs.Decimals.{same_number}
 use Rattle.lc_reading.specs.Members.{members_with as read_members, values_at}

@@ -1,11 +1,8 @@
 -- A JSON text that ends with an object has the same tokens with another text after it.
 use Rattle.std.proofs.Common.{◌≡◌, ◌∙◌, ◌==◌, ℕ, Bool, true, false, cond, List, [], ◌∷◌, ◌++◌, Option, Some, None, refl, sym, ap}
 use Rattle.std.proofs.Common.{append_assoc}
-use Rattle.json.specs.Align.{is_good}
-use Rattle.json.specs.Lex.{Class, Lexeme, Mode, backslash, between, class, colon, comma}
-use Rattle.json.specs.Lex.{in_escape, in_string, in_word, lex, lex_byte, operator, operator_lexeme, other}
-use Rattle.json.specs.Lex.{quote, space, string_token, token}
-use Rattle.json.specs.Text.{content, plain}
+use Rattle.json.specs.{Align.is_good, Lex.{Class, Lexeme, Mode, backslash, between, class, colon, comma, in_escape, in_string, in_word}}
+use Rattle.json.specs.{Lex.{lex, lex_byte, operator, operator_lexeme, other, quote, space, string_token, token}, Text.{content, plain}}
 use Rattle.json.specs.Token.{Token, bad, begin_array, begin_object, boolean, end_array, end_object, key, null, number, string}
 use Rattle.json.specs.Word.{after_number, ends_word, head, number_before, word}
 use Rattle.lc_laws.proofs.WordsApart.{Begins, begins_word, same_content}

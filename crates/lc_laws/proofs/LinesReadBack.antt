@@ -1,30 +1,20 @@
 -- The lines of files, errors and skipped entries that were printed, as they are read.
-use Rattle.std.proofs.Common.{◌≡◌, ◌∙◌, ◌<◌, ℕ, Bool, true, false, List, [], ◌∷◌, ◌++◌, cond, Option, Some, None}
-use Rattle.std.proofs.Common.{codes, refl, sym, ap, append-nil, arith}
+use Rattle.std.proofs.Common.{◌≡◌, ◌∙◌, ◌<◌, ℕ, Bool, true, false, List, [], ◌∷◌, ◌++◌, cond, Option, Some, None, codes, refl, sym, ap}
+use Rattle.std.proofs.{Common.{append-nil, arith}, lemmas.List.Elements.recursion_from_All}
 use Rattle.std.specs.Str.{is_utf8}
-use Rattle.std.proofs.lemmas.List.Elements.{recursion_from_All}
 use Rattle.json.specs.Json.{Json, string}
 use Rattle.lc_census.specs.EolWords.{eol_word}
-use Rattle.lc_formats.specs.JsonLines.{line_members, value_members}
-use Rattle.lc_formats.specs.JsonText.{Member, bytes_member}
-use Rattle.lc_formats.specs.Readable.{AreBytes}
-use Rattle.lc_level.specs.FaultLines.{FaultLineModel}
-use Rattle.lc_level.specs.FaultWords.{fault_word}
-use Rattle.lc_level.specs.Level.{FileLineModel}
-use Rattle.lc_reading.specs.Lines.{IsFaultOf, IsFileOf, word_json}
-use Rattle.lc_reading.specs.Members.{values_at}
-use Rattle.lc_rows.specs.Kinds.{fault_value, file_value, word_value}
-use Rattle.lc_rows.specs.SheetColumns.{column_if, fault_columns, recorded_columns}
+use Rattle.lc_formats.specs.{JsonLines.{line_members, value_members}, JsonText.{Member, bytes_member}, Readable.AreBytes}
+use Rattle.lc_level.specs.{FaultLines.FaultLineModel, FaultWords.fault_word, Level.FileLineModel}
+use Rattle.lc_reading.specs.{Lines.{IsFaultOf, IsFileOf, word_json}, Members.values_at}
+use Rattle.lc_rows.specs.{Kinds.{fault_value, file_value, word_value}, SheetColumns.{column_if, fault_columns, recorded_columns}}
 use Rattle.lc_rules.specs.TextWords.{text_word}
-use Rattle.lc_sheet.specs.Sheets.{line_of}
-use Rattle.lc_sheet.specs.declared.column.Column.{Column}
+use Rattle.lc_sheet.specs.{Sheets.line_of, declared.{column.Column.Column, form.Form.Form}}
+use Rattle.lc_laws.proofs.JsonMembers.{bytes_read, list_of_bytes, lists_if, same_integer, text_of_bytes, texts_if}
+use Rattle.lc_laws.proofs.{PrintedMembers.{is_named, values_of_line, values_of_members}, WordsRead.{same_eol, same_fault, same_state}}
+use Rattle.lc_laws.specs.ReadBack.{FitsCount, FitsFile}
 use Rattle.lc_sheet.specs.declared.column.Column.TheVariants as column
 use Rattle.lc_sheet.specs.declared.column.Number.TheVariants as number
-use Rattle.lc_sheet.specs.declared.form.Form.{Form}
-use Rattle.lc_laws.proofs.JsonMembers.{bytes_read, list_of_bytes, lists_if, same_integer, text_of_bytes, texts_if}
-use Rattle.lc_laws.proofs.PrintedMembers.{is_named, values_of_line, values_of_members}
-use Rattle.lc_laws.proofs.WordsRead.{same_eol, same_fault, same_state}
-use Rattle.lc_laws.specs.ReadBack.{FitsCount, FitsFile}
 
 -- a text is read as what was printed
 pub one_word : (v w : List ℕ) → string v ∷ [] ≡ string w ∷ [] → w ≡ v

@@ -2,15 +2,10 @@
 use Rattle.std.proofs.Common.{◌≡◌, ◌∙◌, List, [], ◌∷◌, map, refl, sym, subst}
 use Rattle.std.specs.List.{AllByRecursion}
 use Rattle.json.specs.Json.{Json}
-use Rattle.lc_formats.specs.JsonLines.{line_members, line_object}
-use Rattle.lc_formats.specs.JsonText.{array_with, object_with}
-use Rattle.lc_reading.specs.Lists.{AreLinesOf, IsLineOf}
-use Rattle.lc_reading.specs.Members.{Member, named}
-use Rattle.lc_reading.specs.Objects.{HasLines}
+use Rattle.lc_formats.specs.{JsonLines.{line_members, line_object}, JsonText.{array_with, object_with}}
+use Rattle.lc_reading.specs.{Lists.{AreLinesOf, IsLineOf}, Members.{Member, named}, Objects.HasLines}
 use Rattle.lc_reading.specs.declared.member_name.MemberName.{MemberName}
-use Rattle.lc_sheet.specs.Sheets.{line_of, lines_of}
-use Rattle.lc_sheet.specs.Values.{ValueModel}
-use Rattle.lc_sheet.specs.declared.column.Column.{Column}
+use Rattle.lc_sheet.specs.{Sheets.{line_of, lines_of}, Values.ValueModel, declared.column.Column.Column}
 use Rattle.lc_laws.proofs.JsonMembers.{same_array, same_object}
 
 module _ {L : Type 0} (Says : List Member → L → Type 0) where

@@ -1,16 +1,9 @@
 -- Lists whose elements rise are the same if they have the same elements.
 use Rattle.std.proofs.Common.{◌≡◌, ◌∙◌, ℕ, Bool, true, false, cond, List, [], ◌∷◌, map, filter, refl, sym, ap, subst, inl, inr}
-use Rattle.std.proofs.Common.{IsPermutation, IsSortedByKey}
-use Rattle.std.specs.Prelude.{⊤}
-use Rattle.std.specs.Cmp.{IsTotalOrder}
-use Rattle.std.specs.List.{AllByRecursion}
-use Rattle.std.specs.List.Sorted.{IsStrictlySortedBy}
-use Rattle.std.specs.Ordering.{ordering_reverse}
-use Rattle.std.specs.declared.cmp.Ordering.{Ordering}
-use Rattle.std.specs.declared.cmp.Ordering.TheVariants.{Less}
-use Rattle.std.proofs.lemmas.Cmp.{nat_list_cmp_total}
-use Rattle.std.proofs.lemmas.List.Sorted.{Contains-permutation, IsPermutation-map, IsPermutation-sym}
-use Rattle.std.proofs.lemmas.Map.Keys.{IsDistinct-from_sorted}
+use Rattle.std.proofs.{Common.{IsPermutation, IsSortedByKey}, lemmas.Cmp.nat_list_cmp_total}
+use Rattle.std.proofs.lemmas.{List.Sorted.{Contains-permutation, IsPermutation-map, IsPermutation-sym}, Map.Keys.IsDistinct-from_sorted}
+use Rattle.std.specs.{Prelude.⊤, Cmp.IsTotalOrder, List.{AllByRecursion, Sorted.IsStrictlySortedBy}, Ordering.ordering_reverse}
+use Rattle.std.specs.declared.cmp.Ordering.{Ordering, TheVariants.Less}
 use Rattle.lc_tree.proofs.Sorting.{sorted_paths}
 use Rattle.lc_tree.specs.ByteOrder.{AreInOrder, bytes_cmp}
 use Rattle.lc_walk.proofs.Elements.{In, is_in, contains}

@@ -1,12 +1,9 @@
 -- In the text of a report that was printed one report is read.
 use Rattle.std.proofs.Common.{◌≡◌, ◌∙◌, ◌<◌, ℕ, List, [], ◌∷◌, ◌++◌, Some, codes, length, refl, sym, ap, append_assoc, arith}
 use Rattle.std.specs.List.{flat_map}
-use Rattle.json.specs.Json.{Json, Members, document, object}
-use Rattle.json.specs.Lex.{after_value, between, fresh, lex, punctuate, tokens}
-use Rattle.json.specs.Token.{Token, begin_object}
-use Rattle.json.specs.Tree.{json_tokens, members_tokens}
-use Rattle.lc_reading.specs.Members.{members_with}
-use Rattle.lc_reading.specs.Texts.{AreReportTexts, AreReportsOf, IsReportText}
+use Rattle.json.specs.{Json.{Json, Members, document, object}, Lex.{after_value, between, fresh, lex, punctuate, tokens}, Token.Token}
+use Rattle.json.specs.{Token.begin_object, Tree.{json_tokens, members_tokens}}
+use Rattle.lc_reading.specs.{Members.members_with, Texts.{AreReportTexts, AreReportsOf, IsReportText}}
 use Rattle.lc_reading.specs.declared.read_report.ReadReport.{ReadReport}
 use Rattle.lc_laws.proofs.TokensApart.{nothing_lexed, object_first, one_object_first}
 

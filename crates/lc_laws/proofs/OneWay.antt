@@ -1,29 +1,17 @@
 -- What a directory is entered as, where its tree answers in one way.
-use Rattle.std.proofs.Common.{◌≡◌, ℕ, false, List, [], ◌∷◌, ◌++◌, refl, sym, ◌∙◌, ap, subst, Option, Some, None, Result, Ok, Err}
-use Rattle.std.proofs.Common.{find, bytes_eq, cond, append_assoc, append-nil, inl, inr}
+use Rattle.std.proofs.Common.{◌≡◌, ℕ, false, List, [], ◌∷◌, ◌++◌, refl, sym, ◌∙◌, ap, subst, Option, Some, None, Result, Ok, Err, find}
+use Rattle.std.proofs.Common.{bytes_eq, cond, append_assoc, append-nil, inl, inr}
 use Rattle.std.specs.List.{AllByRecursion}
 use Rattle.lc_paths.specs.Explanations.OpenDirs.{OpenDirModel, open_dir, open_dir_of, open_dir_after, MayEnter, kind_in}
 use Rattle.lc_glob.specs.Path.{segments_of}
-use Rattle.lc_level.specs.Answers.{Item, directory_item, name_of, entry_of, entries_of, Items, Answers, Tree}
-use Rattle.lc_level.specs.FaultLines.{FaultLineModel}
-use Rattle.lc_level.specs.Job.{JobModel}
-use Rattle.lc_level.specs.Level.{faulted_level, level, level_of, level_after, child_job}
-use Rattle.lc_level.specs.OneAnswer.{GivesOne}
-use Rattle.lc_level.specs.RuleFiles.{RuleBytes, rule_bytes, extended}
-use Rattle.lc_level.specs.Filters.{FiltersModel}
-use Rattle.lc_level.specs.WellFormed.{IsWellFormed}
+use Rattle.lc_level.specs.{Answers.{Item, directory_item, name_of, entry_of, entries_of, Items, Answers, Tree}, FaultLines.FaultLineModel}
+use Rattle.lc_level.specs.{Job.JobModel, Level.{faulted_level, level, level_of, level_after, child_job}, OneAnswer.GivesOne}
+use Rattle.lc_level.specs.{RuleFiles.{RuleBytes, rule_bytes, extended}, Filters.FiltersModel, WellFormed.IsWellFormed}
 use Rattle.lc_level.specs.TreeAnswers.{MayAnswer}
-use Rattle.lc_level.proofs.OneLevel.{here, same_rules}
-use Rattle.lc_level.proofs.WellFormed.{IsGoodName, Spread, bytes_same, other_bytes, bytes_other}
-use Rattle.lc_tree.specs.Listing.{EntryModel}
-use Rattle.lc_tree.specs.Paths.{names_of_path}
-use Rattle.lc_tree.specs.Trees.{Listings, Contents}
-use Rattle.lc_tree.specs.declared.entry.Kind.{Kind}
-use Rattle.lc_walk.specs.FoundAt.{IsListed, WalksInto, LeadsTo}
-use Rattle.lc_walk.specs.GivenAnswers.{HasListings, IsGiven}
-use Rattle.lc_walk.proofs.Elements.{In}
-use Rattle.lc_walk.proofs.Levels.{well_formed_items}
-use Rattle.lc_walk.proofs.Places.{names_of_path-path_in}
+use Rattle.lc_level.proofs.{OneLevel.{here, same_rules}, WellFormed.{IsGoodName, Spread, bytes_same, other_bytes, bytes_other}}
+use Rattle.lc_tree.specs.{Listing.EntryModel, Paths.names_of_path, Trees.{Listings, Contents}, declared.entry.Kind.Kind}
+use Rattle.lc_walk.specs.{FoundAt.{IsListed, WalksInto, LeadsTo}, GivenAnswers.{HasListings, IsGiven}}
+use Rattle.lc_walk.proofs.{Elements.In, Levels.well_formed_items, Places.names_of_path-path_in}
 use Rattle.lc_laws.specs.ByAnswers.{EntersBy}
 use Rattle.lc_laws.proofs.TakingPart.{in_part}
 

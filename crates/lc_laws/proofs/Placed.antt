@@ -1,29 +1,17 @@
 -- What the directories of a walk to which names lead give stands in its report.
 use Rattle.std.proofs.Common.{◌≡◌, ℕ, ◌<◌, true, List, [], length, refl, ap, None, Result, Ok, Err, inl, inr}
-use Rattle.std.specs.List.{Contains}
-use Rattle.std.specs.Option.{option_map_or}
+use Rattle.std.specs.{List.Contains, Option.option_map_or}
 use Rattle.lc_census.specs.declared.line_count.Count.{Count}
 use Rattle.lc_paths.specs.Explanations.OpenDirs.{open_dir}
 use Rattle.lc_glob.specs.Path.{path_in}
-use Rattle.lc_level.specs.Answers.{Item, file_item, name_of, Tree}
-use Rattle.lc_level.specs.FaultLines.{FaultLineModel}
-use Rattle.lc_level.specs.Job.{JobModel}
-use Rattle.lc_level.specs.Level.{Reason, Fate, skipped, file_fate, fate_of, file_reason}
-use Rattle.lc_level.specs.Filters.{FiltersModel}
-use Rattle.lc_tree.specs.declared.entry.Kind.{Kind}
-use Rattle.lc_tree.specs.declared.entry.Kind.TheVariants.{File}
-use Rattle.lc_level.specs.declared.fault_word.FaultWord.{FaultWord}
-use Rattle.lc_walk.specs.Found.{Found, found_file, found_fault, found_skipped}
-use Rattle.lc_walk.specs.FoundAt.{IsListed, LeadsTo, HasEntry, Gives}
-use Rattle.lc_walk.specs.RecursiveWalk.{walk_of}
-use Rattle.lc_walk.specs.FoundReports.{IsReportOf}
-use Rattle.lc_walk.specs.declared.options.ReportLists.{ReportLists}
-use Rattle.lc_walk.specs.declared.report.Report.{Report}
-use Rattle.lc_walk.proofs.Elements.{In}
-use Rattle.lc_walk.proofs.FoundByPlace.{walk_by_place}
+use Rattle.lc_level.specs.{Answers.{Item, file_item, name_of, Tree}, FaultLines.FaultLineModel, Job.JobModel, Level.{Reason, Fate, skipped}}
+use Rattle.lc_level.specs.{Level.{file_fate, fate_of, file_reason}, Filters.FiltersModel, declared.fault_word.FaultWord.FaultWord}
+use Rattle.lc_tree.specs.declared.entry.Kind.{Kind, TheVariants.File}
+use Rattle.lc_walk.specs.{Found.{Found, found_file, found_fault, found_skipped}, FoundAt.{IsListed, LeadsTo, HasEntry, Gives}}
+use Rattle.lc_walk.specs.{RecursiveWalk.walk_of, FoundReports.IsReportOf, declared.{options.ReportLists.ReportLists, report.Report.Report}}
+use Rattle.lc_walk.proofs.{Elements.In, FoundByPlace.walk_by_place}
 use Rattle.lc_laws.specs.ReportedPaths.{IsSkipped, IsKept}
-use Rattle.lc_laws.proofs.OneWay.{fault_level}
-use Rattle.lc_laws.proofs.ReportLists.{found_counted, found_is_skipped, found_faults, found_at_fault}
+use Rattle.lc_laws.proofs.{OneWay.fault_level, ReportLists.{found_counted, found_is_skipped, found_faults, found_at_fault}}
 use Rattle.lc_laws.proofs.TakingPart.{part_has}
 
 module _ (s : FiltersModel) (whole : s.only ≡ []) (top : JobModel) (t : Tree) (asked : ReportLists) (depth : ℕ) (r : Report)

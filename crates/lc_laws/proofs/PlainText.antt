@@ -1,37 +1,23 @@
 -- The text of a plain table, taken apart into the lines that its report gives.
 use Rattle.std.proofs.Common.{◌≡◌, ◌∙◌, ℕ, Bool, true, false, if◌then◌else◌, List, [], ◌∷◌, ◌++◌, map, take, codes, decimal, Some, None}
-use Rattle.std.proofs.Common.{Option, option_map, refl, ap, subst, append_assoc, append-nil, arith, IsPermutation}
-use Rattle.std.proofs.Math.Path.{fun_ext}
-use Rattle.std.proofs.lemmas.List.{nil_from_length}
-use Rattle.std.proofs.lemmas.List.Folds.{flat_map-map}
-use Rattle.std.proofs.lemmas.List.Sorted.{length_permutation}
+use Rattle.std.proofs.{Common.{Option, option_map, refl, ap, subst, append_assoc, append-nil, arith, IsPermutation}, Math.Path.fun_ext}
+use Rattle.std.proofs.lemmas.List.{nil_from_length, Folds.flat_map-map, Sorted.length_permutation}
 use Rattle.std.specs.List.{flat_map}
 use Rattle.lc_census.specs.EolWords.{eol_word}
 use Rattle.lc_formats.specs.Tsv.{field_of, header_line, line_with, list_lines, number_line, tsv_of, values_line}
-use Rattle.lc_level.specs.FaultLines.{FaultLineModel}
-use Rattle.lc_level.specs.FaultWords.{fault_word}
-use Rattle.lc_level.specs.Level.{FileLineModel}
-use Rattle.lc_rows.specs.Kept.{whole_form}
-use Rattle.lc_rows.specs.Kinds.{extension_value, fault_value, file_value, row_value, skipped_value, sums_value, word_value}
-use Rattle.lc_rows.specs.Laws.{all_columns}
-use Rattle.lc_rows.specs.SheetColumns.{fault_columns, listed_columns, listed_skipped, row_columns}
-use Rattle.lc_rows.specs.Sheets.{list_of, listed_files, section_of, sheet_among, totals_lines}
-use Rattle.lc_rows.specs.ShownRows.{part_of_row}
-use Rattle.lc_rows.specs.Views.{view_of}
+use Rattle.lc_level.specs.{FaultLines.FaultLineModel, FaultWords.fault_word, Level.FileLineModel}
+use Rattle.lc_rows.specs.{Kept.whole_form, Kinds.{extension_value, fault_value, file_value, row_value, skipped_value, sums_value}}
+use Rattle.lc_rows.specs.{Kinds.word_value, Laws.all_columns, SheetColumns.{fault_columns, listed_columns, listed_skipped, row_columns}}
+use Rattle.lc_rows.specs.{Sheets.{list_of, listed_files, section_of, sheet_among, totals_lines}, ShownRows.part_of_row, Views.view_of}
 use Rattle.lc_rows.specs.declared.classes.ClassSums.{ClassSums}
 use Rattle.lc_rules.specs.TextWords.{text_word}
-use Rattle.lc_sheet.specs.Sheets.{line_of, lines_of}
-use Rattle.lc_sheet.specs.declared.column.Column.{Column}
+use Rattle.lc_sheet.specs.{Sheets.{line_of, lines_of}, declared.column.Column.Column}
 use Rattle.lc_text.specs.Escape.{escape_bytes, escape_path}
 use Rattle.lc_tree.specs.Trees.{Listings, Contents}
-use Rattle.lc_walk.specs.Found.{Found}
-use Rattle.lc_walk.specs.FoundReports.{IsReportOf, skipped_lines_of}
-use Rattle.lc_walk.specs.TallyRows.{TallyRowModel}
-use Rattle.lc_walk.specs.declared.options.ReportLists.{ReportLists}
-use Rattle.lc_walk.specs.declared.report.Report.{Report}
-use Rattle.lc_walk.specs.declared.tally.sums.Sums.{Sums}
-use Rattle.lc_laws.specs.PlainTable.{file_line, line, numbers, or_dash, row_line}
-use Rattle.lc_laws.specs.PlainTableLaw.{ListsNoSkipped, PlainTableLaw, UnlistedLaw, plain_options}
+use Rattle.lc_walk.specs.{Found.Found, FoundReports.{IsReportOf, skipped_lines_of}, TallyRows.TallyRowModel}
+use Rattle.lc_walk.specs.declared.{options.ReportLists.ReportLists, report.Report.Report, tally.sums.Sums.Sums}
+use Rattle.lc_laws.specs.{PlainTable.{file_line, line, numbers, or_dash, row_line}, PlainTableLaw.{ListsNoSkipped, PlainTableLaw}}
+use Rattle.lc_laws.specs.PlainTableLaw.{UnlistedLaw, plain_options}
 
 -- ---- lines
 

@@ -1,14 +1,11 @@
 -- What the object of a line has under a name: the values of the columns of that name.
-use Rattle.std.proofs.Common.{◌≡◌, ◌∙◌, ◌||◌, ℕ, Bool, true, false, List, [], ◌∷◌, ◌++◌, cond, refl, ap}
-use Rattle.std.proofs.Common.{if◌then◌else◌, map}
+use Rattle.std.proofs.Common.{◌≡◌, ◌∙◌, ◌||◌, ℕ, Bool, true, false, List, [], ◌∷◌, ◌++◌, cond, refl, ap, if◌then◌else◌, map}
 use Rattle.std.specs.Str.{bytes_eq, is_utf8}
 use Rattle.json.specs.Json.{Json, string}
-use Rattle.lc_formats.specs.JsonLines.{line_members, value_members}
-use Rattle.lc_formats.specs.JsonText.{array_with, bytes_name, integer}
+use Rattle.lc_formats.specs.{JsonLines.{line_members, value_members}, JsonText.{array_with, bytes_name, integer}}
 use Rattle.lc_reading.specs.Members.{values_at}
-use Rattle.lc_sheet.specs.ColumnWords.{column_name}
-use Rattle.lc_sheet.specs.Values.{ValueModel, missing, summed, blank, word, name, path, number as counted, share, bar, difference}
-use Rattle.lc_sheet.specs.declared.column.Column.{Column}
+use Rattle.lc_sheet.specs.{ColumnWords.column_name, Values.{ValueModel, missing, summed, blank, word, name, path, number as counted, share}}
+use Rattle.lc_sheet.specs.{Values.{bar, difference}, declared.column.Column.Column}
 use Rattle.lc_text.specs.Names.{named}
 use Rattle.lc_laws.proofs.JsonMembers.{values_append}
 

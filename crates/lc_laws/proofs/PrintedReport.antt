@@ -1,26 +1,15 @@
 -- The members of a report that is printed as JSON with all its files.
-use Rattle.std.proofs.Common.{◌≡◌, ℕ, Bool, true, false, List, [], ◌∷◌, ◌++◌, map, codes, Option, None, refl, sym}
-use Rattle.std.proofs.Common.{subst, is_some}
+use Rattle.std.proofs.Common.{◌≡◌, ℕ, Bool, true, false, List, [], ◌∷◌, ◌++◌, map, codes, Option, None, refl, sym, subst, is_some}
 use Rattle.json.specs.Json.{Json}
-use Rattle.lc_formats.specs.JsonLines.{line_members, line_object}
-use Rattle.lc_formats.specs.JsonSheets.{json_of}
-use Rattle.lc_formats.specs.JsonText.{Member, array_with, integer, object_with}
-use Rattle.lc_level.specs.FaultLines.{FaultLineModel}
-use Rattle.lc_level.specs.Level.{FileLineModel, SkippedLineModel}
-use Rattle.lc_rows.specs.Kinds.{fault_value, file_value, row_value, skipped_value, sums_value}
-use Rattle.lc_rows.specs.RowKeys.{ShownRowModel}
-use Rattle.lc_rows.specs.SheetColumns.{fault_columns, number_columns, recorded_columns, recorded_skipped, row_columns}
-use Rattle.lc_rows.specs.Sheets.{form_of, listed_files, sheet_among}
-use Rattle.lc_rows.specs.Views.{view_of}
-use Rattle.lc_rows.specs.declared.classes.ClassSums.{ClassSums}
-use Rattle.lc_sheet.specs.Sheets.{line_of, lines_of}
-use Rattle.lc_sheet.specs.declared.form.Form.{Form}
-use Rattle.lc_sheet.specs.declared.table_options.Format.{Format}
-use Rattle.lc_sheet.specs.declared.table_options.Format.TheVariants as format
-use Rattle.lc_sheet.specs.declared.table_options.TableOptions.{TableOptions}
-use Rattle.lc_walk.specs.declared.report.Report.{Report}
-use Rattle.lc_walk.specs.declared.tally.sums.Sums.{Sums}
+use Rattle.lc_formats.specs.{JsonLines.{line_members, line_object}, JsonSheets.json_of, JsonText.{Member, array_with, integer, object_with}}
+use Rattle.lc_level.specs.{FaultLines.FaultLineModel, Level.{FileLineModel, SkippedLineModel}}
+use Rattle.lc_rows.specs.{Kinds.{fault_value, file_value, row_value, skipped_value, sums_value}, RowKeys.ShownRowModel}
+use Rattle.lc_rows.specs.{SheetColumns.{fault_columns, number_columns, recorded_columns, recorded_skipped, row_columns}, Sheets.form_of}
+use Rattle.lc_rows.specs.{Sheets.{listed_files, sheet_among}, Views.view_of, declared.classes.ClassSums.ClassSums}
+use Rattle.lc_sheet.specs.{Sheets.{line_of, lines_of}, declared.{form.Form.Form, table_options.{Format.Format, TableOptions.TableOptions}}}
+use Rattle.lc_walk.specs.declared.{report.Report.Report, tally.sums.Sums.Sums}
 use Rattle.lc_laws.specs.ReadBack.{IsWholeJson}
+use Rattle.lc_sheet.specs.declared.table_options.Format.TheVariants as format
 
 -- the parts of a report that is printed
 pub record Parts : Type 0 where

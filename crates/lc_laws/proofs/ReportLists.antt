@@ -1,19 +1,14 @@
 -- What stands in the lists of a report, by what its walk found.
-use Rattle.std.proofs.Common.{◌≡◌, ℕ, true, cond, List, [], refl, sym, ◌∙◌, ap, subst, inl, inr}
-use Rattle.std.specs.List.{Contains}
-use Rattle.std.specs.List.Sorted.{IsPermutation}
-use Rattle.std.proofs.lemmas.List.Sorted.{Contains-permutation, IsPermutation-sym}
+use Rattle.std.proofs.{Common.{◌≡◌, ℕ, true, cond, List, [], refl, sym, ◌∙◌, ap, subst, inl, inr}, lemmas.List.Sorted.Contains-permutation}
+use Rattle.std.proofs.lemmas.List.Sorted.{IsPermutation-sym}
+use Rattle.std.specs.List.{Contains, Sorted.IsPermutation}
 use Rattle.lc_glob.specs.Path.{path_in}
-use Rattle.lc_level.specs.FaultLines.{FaultLineModel}
-use Rattle.lc_level.specs.Level.{skipped_below, file_below, FileLineModel, SkippedLineModel, Reason}
-use Rattle.lc_tree.specs.declared.entry.Kind.{Kind}
+use Rattle.lc_level.specs.{FaultLines.FaultLineModel, Level.{skipped_below, file_below, FileLineModel, SkippedLineModel, Reason}}
 use Rattle.lc_level.specs.declared.fault_word.FaultWord.{FaultWord}
-use Rattle.lc_walk.specs.Found.{Found, found_file, found_fault, found_directory, found_skipped}
-use Rattle.lc_walk.specs.ReportLines.{file_paths, fault_paths, skipped_paths}
-use Rattle.lc_walk.specs.FoundReports.{file_in, fault_in, skipped_lines_in, files_of, faults_of}
-use Rattle.lc_walk.specs.FoundReports.{skipped_lines_of, IsReportOf}
-use Rattle.lc_walk.specs.declared.options.ReportLists.{ReportLists}
-use Rattle.lc_walk.specs.declared.report.Report.{Report}
+use Rattle.lc_tree.specs.declared.entry.Kind.{Kind}
+use Rattle.lc_walk.specs.{Found.{Found, found_file, found_fault, found_directory, found_skipped}, ReportLines.{file_paths, fault_paths}}
+use Rattle.lc_walk.specs.{ReportLines.skipped_paths, FoundReports.{file_in, fault_in, skipped_lines_in, files_of, faults_of}}
+use Rattle.lc_walk.specs.{FoundReports.{skipped_lines_of, IsReportOf}, declared.{options.ReportLists.ReportLists, report.Report.Report}}
 use Rattle.lc_walk.proofs.Elements.{In, is_in, contains, in_lists, of_lists, in_mapped, of_mapped}
 use Rattle.lc_laws.specs.ReportedPaths.{IsCounted, IsAtFault, IsSkipped}
 

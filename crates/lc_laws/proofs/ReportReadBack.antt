@@ -1,34 +1,22 @@
 -- The parts of a report that was printed, as they are read.
-use Rattle.std.proofs.Common.{◌≡◌, ◌∙◌, ℕ, Bool, List, [], ◌∷◌, map, Some, refl, sym, subst}
-use Rattle.std.proofs.Common.{arith, IsPermutation}
+use Rattle.std.proofs.Common.{◌≡◌, ◌∙◌, ℕ, Bool, List, [], ◌∷◌, map, Some, refl, sym, subst, arith, IsPermutation}
+use Rattle.std.proofs.lemmas.List.{Elements.recursion_from_All, Sorted.{All-permutation, IsPermutation-sym}}
 use Rattle.std.specs.List.{All}
-use Rattle.std.proofs.lemmas.List.Elements.{recursion_from_All}
-use Rattle.std.proofs.lemmas.List.Sorted.{All-permutation, IsPermutation-sym}
 use Rattle.json.specs.Json.{Json, document, object}
-use Rattle.lc_formats.specs.JsonText.{Member, array_with, object_with}
-use Rattle.lc_formats.specs.Readable.{AreBytes}
-use Rattle.lc_level.specs.FaultLines.{FaultLineModel}
-use Rattle.lc_level.specs.Level.{FileLineModel, SkippedLineModel}
-use Rattle.lc_reading.specs.Lines.{IsFaultOf, IsFileOf, IsSkippedOf}
-use Rattle.lc_reading.specs.Members.{members_with as read_members, named}
-use Rattle.lc_reading.specs.Reports.{HasOrdered, IsReportOf}
-use Rattle.lc_reading.specs.Rows.{HasSums, IsSumsOf}
-use Rattle.lc_reading.specs.Texts.{IsReportText}
-use Rattle.lc_reading.specs.declared.member_name.MemberName.{MemberName}
-use Rattle.lc_reading.specs.declared.member_name.MemberName.TheVariants as member
+use Rattle.lc_formats.specs.{JsonText.{Member, array_with, object_with}, Readable.AreBytes}
+use Rattle.lc_level.specs.{FaultLines.FaultLineModel, Level.{FileLineModel, SkippedLineModel}}
+use Rattle.lc_reading.specs.{Lines.{IsFaultOf, IsFileOf, IsSkippedOf}, Members.{members_with as read_members, named}, Reports.HasOrdered}
+use Rattle.lc_reading.specs.{Reports.IsReportOf, Rows.{HasSums, IsSumsOf}, Texts.IsReportText, declared.member_name.MemberName.MemberName}
 use Rattle.lc_reading.specs.declared.read_report.ReadReport.{ReadReport}
-use Rattle.lc_rows.specs.Kinds.{fault_value, file_value, skipped_value}
-use Rattle.lc_rows.specs.SheetColumns.{fault_columns, recorded_columns, recorded_skipped}
+use Rattle.lc_rows.specs.{Kinds.{fault_value, file_value, skipped_value}, SheetColumns.{fault_columns, recorded_columns, recorded_skipped}}
 use Rattle.lc_sheet.specs.declared.form.Form.{Form}
 use Rattle.lc_walk.proofs.RowSums.{same_sums}
-use Rattle.lc_walk.specs.Sums.{IsInRange}
-use Rattle.lc_walk.specs.declared.tally.sums.Sums.{Sums}
-use Rattle.lc_laws.proofs.JsonMembers.{same_integer, same_object}
-use Rattle.lc_laws.proofs.LinesReadBack.{fault_read_back, file_read_back}
-use Rattle.lc_laws.proofs.ListsReadBack.{lines_read, list_says}
-use Rattle.lc_laws.proofs.PrintedReport.{fault_objects, file_objects, skipped_objects, sums_members}
-use Rattle.lc_laws.proofs.SkippedReadBack.{skipped_read_back}
+use Rattle.lc_walk.specs.{Sums.IsInRange, declared.tally.sums.Sums.Sums}
+use Rattle.lc_laws.proofs.{JsonMembers.{same_integer, same_object}, LinesReadBack.{fault_read_back, file_read_back}}
+use Rattle.lc_laws.proofs.{ListsReadBack.{lines_read, list_says}, PrintedReport.{fault_objects, file_objects, skipped_objects}}
+use Rattle.lc_laws.proofs.{PrintedReport.sums_members, SkippedReadBack.skipped_read_back}
 use Rattle.lc_laws.specs.ReadBack.{FitsFile, FitsSkipped, skipped_text}
+use Rattle.lc_reading.specs.declared.member_name.MemberName.TheVariants as member
 
 -- what a text reads as has the members that were printed
 pub printed_members : (text : List ℕ) (ms : List Member) (read : ReadReport) → document text ≡ Some (object_with ms)

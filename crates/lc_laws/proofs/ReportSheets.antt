@@ -1,54 +1,34 @@
 -- The sheet of a report, as a text in columns shows it, is readable.
 use Rattle.std.proofs.Common.{◌≡◌, ◌<◌, ◌-◌, ℕ, Bool, true, false, if◌then◌else◌, List, [], ◌∷◌, ◌++◌, length, map, is_some, unwrap_or}
-use Rattle.std.proofs.Common.{Option, Some, None, codes, refl, sym, ap, ◌∙◌, append_assoc, subst, arith}
-use Rattle.std.specs.List.{All}
-use Rattle.std.specs.Option.{IfSome}
-use Rattle.std.proofs.lemmas.List.{map-append}
+use Rattle.std.proofs.{Common.{Option, Some, None, codes, refl, sym, ap, ◌∙◌, append_assoc, subst, arith}, lemmas.List.map-append}
 use Rattle.std.proofs.lemmas.List.Elements.{All-cons, All-map, All-nil, All-take, All-weaker}
-use Rattle.lc_level.specs.FaultLines.{FaultLineModel}
-use Rattle.lc_level.specs.FaultWords.{fault_word}
-use Rattle.lc_level.specs.Level.{FileLineModel, Reason as SkipReason, named_git, by_rule, by_attribute, not_included, other_kind}
-use Rattle.lc_level.specs.declared.fault_word.FaultWord.{FaultWord}
-use Rattle.lc_census.specs.declared.line_count.Eol.{Eol}
-use Rattle.lc_census.specs.declared.line_count.Eol.TheVariants as eol
+use Rattle.std.specs.{List.All, Option.IfSome}
+use Rattle.lc_level.specs.{FaultLines.FaultLineModel, FaultWords.fault_word, Level.{FileLineModel, Reason as SkipReason, named_git}}
+use Rattle.lc_level.specs.Level.{by_rule, by_attribute, not_included, other_kind, SkippedLineModel}
+use Rattle.lc_level.specs.{declared.fault_word.FaultWord.FaultWord, ReasonWords.reason_word}
+use Rattle.lc_census.specs.{declared.line_count.Eol.Eol, EolWords.eol_word}
 use Rattle.lc_rules.specs.Verdicts.{below}
-use Rattle.lc_rules.specs.declared.rule_source.RuleSource.{RuleSource}
-use Rattle.lc_rules.specs.declared.rule_source.RuleSource.TheVariants.{ExcludeFrom, InfoExclude, Gitignore, CommandLine}
+use Rattle.lc_rules.specs.declared.rule_source.RuleSource.{RuleSource, TheVariants.{ExcludeFrom, InfoExclude, Gitignore, CommandLine}}
 use Rattle.lc_rules.specs.declared.states.TextState.{TextState}
-use Rattle.lc_rules.specs.declared.states.TextState.TheVariants as state
 use Rattle.lc_text.specs.RulePlaces.{source_directory, source_name}
-use Rattle.lc_tree.specs.declared.entry.Kind.{Kind}
-use Rattle.lc_tree.specs.declared.entry.Kind.TheVariants.{File, Dir, Other}
-use Rattle.lc_tree.specs.declared.entry.OtherKind.TheVariants.{Special, Mounted}
-use Rattle.lc_sheet.specs.ColumnWords.{side_of}
-use Rattle.lc_sheet.specs.Values.{ValueModel, number, word}
-use Rattle.lc_sheet.specs.declared.column.Column.{Column}
-use Rattle.lc_sheet.specs.declared.column.Column.TheVariants as column
-use Rattle.lc_sheet.specs.declared.column.Number.TheVariants.{Files, Lines, Blank, Bytes}
-use Rattle.lc_sheet.specs.declared.column.Side.{Side}
-use Rattle.lc_sheet.specs.declared.column.Side.TheVariants.{Left, Right, End}
-use Rattle.lc_sheet.specs.declared.form.Form.{Form}
-use Rattle.lc_sheet.specs.declared.form.Shares.{Shares}
-use Rattle.lc_sheet.specs.declared.table_options.Format.TheVariants.{Table}
-use Rattle.lc_sheet.specs.declared.table_options.Format.{Format}
-use Rattle.lc_sheet.specs.declared.table_options.TableOptions.{TableOptions}
-use Rattle.lc_walk.specs.declared.report.Report.{Report}
-use Rattle.lc_walk.specs.declared.tally.sums.Sums.{Sums}
-use Rattle.lc_rows.specs.Kinds.{NamedSumsModel, directory_value, extension_value, fault_value, file_value, kept_value, named_in, place_value}
-use Rattle.lc_rows.specs.Kinds.{row_value, share_value, bar_value, skipped_value, sums_value, text_value}
-use Rattle.lc_rows.specs.Classes.{classes_of}
-use Rattle.lc_rows.specs.RowKeys.{ShownRowModel}
-use Rattle.lc_rows.specs.SheetColumns.{column_if, fault_columns, key_columns, listed_columns, listed_skipped, number_columns}
-use Rattle.lc_rows.specs.Sheets.{form_of, list_of, others_lines, section_of, sheet_of, totals_lines}
-use Rattle.lc_rows.specs.declared.classes.ClassSums.{ClassSums}
-use Rattle.lc_rows.specs.Views.{ViewModel}
-use Rattle.lc_census.specs.EolWords.{eol_word}
-use Rattle.lc_level.specs.ReasonWords.{reason_word}
-use Rattle.lc_rows.specs.Words.{skipped_end}
-use Rattle.lc_formats.specs.Layouts.{has_no_end}
-use Rattle.lc_formats.specs.Readable.{AreBytes, AreReadable, AreRows, EndsInNumbers, IsListed, IsNumeral, IsPlain, IsReadable}
+use Rattle.lc_tree.specs.declared.entry.{Kind.{Kind, TheVariants.{File, Dir, Other}}, OtherKind.TheVariants.{Special, Mounted}}
+use Rattle.lc_sheet.specs.{ColumnWords.side_of, Values.{ValueModel, number, word}}
+use Rattle.lc_sheet.specs.declared.column.{Column.Column, Number.TheVariants.{Files, Lines, Blank, Bytes}}
+use Rattle.lc_sheet.specs.declared.column.Side.{Side, TheVariants.{Left, Right, End}}
+use Rattle.lc_sheet.specs.declared.form.{Form.Form, Shares.Shares}
+use Rattle.lc_sheet.specs.declared.table_options.{Format.{TheVariants.Table, Format}, TableOptions.TableOptions}
+use Rattle.lc_walk.specs.declared.{report.Report.Report, tally.sums.Sums.Sums}
+use Rattle.lc_rows.specs.Kinds.{NamedSumsModel, directory_value, extension_value, fault_value, file_value, kept_value, named_in}
+use Rattle.lc_rows.specs.{Kinds.{place_value, row_value, share_value, bar_value, skipped_value, sums_value, text_value}, Classes.classes_of}
+use Rattle.lc_rows.specs.{RowKeys.ShownRowModel, SheetColumns.{column_if, fault_columns, key_columns, listed_columns, listed_skipped}}
+use Rattle.lc_rows.specs.{SheetColumns.number_columns, Sheets.{form_of, list_of, others_lines, section_of, sheet_of, totals_lines}}
+use Rattle.lc_rows.specs.{declared.classes.ClassSums.ClassSums, Views.ViewModel, Words.skipped_end}
+use Rattle.lc_formats.specs.{Layouts.has_no_end, Readable.{AreBytes, AreReadable, AreRows, EndsInNumbers, IsListed, IsNumeral, IsPlain}}
+use Rattle.lc_formats.specs.Readable.{IsReadable}
 use Rattle.lc_laws.specs.SheetReadable.{HasByteName, HasByteNames, HasSkippedBytes, IsReadableSheet, ReadableSheetLaw}
-use Rattle.lc_level.specs.Level.{SkippedLineModel}
+use Rattle.lc_census.specs.declared.line_count.Eol.TheVariants as eol
+use Rattle.lc_rules.specs.declared.states.TextState.TheVariants as state
+use Rattle.lc_sheet.specs.declared.column.Column.TheVariants as column
 
 -- ---- words
 

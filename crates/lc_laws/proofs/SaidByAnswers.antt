@@ -1,7 +1,6 @@
 -- What may be said of a path is said by some answers that the tree may give: those of the directories on the way, one at each depth.
 use Rattle.std.proofs.Common.{◌≡◌, ℕ, zero, suc, ◌+◌, Bool, true, false, cond, List, [], ◌∷◌, ◌++◌, length, refl, sym, ◌∙◌, ap, subst}
-use Rattle.std.proofs.Common.{arith, Option, Some, None, Result, Ok, Err, length-append}
-use Rattle.std.proofs.lemmas.Bool.{and_parts}
+use Rattle.std.proofs.{Common.{arith, Option, Some, None, Result, Ok, Err, length-append}, lemmas.Bool.and_parts}
 use Rattle.std.specs.List.{list_all, AllByRecursion}
 use Rattle.lc_paths.specs.Explanations.Explained.{Explanation, below, cited, said_for, said_beside, kind_asked, is_directory, OnTheWay}
 use Rattle.lc_paths.specs.Explanations.Explained.{said_of_none, OnEntering, IsSaid}
@@ -9,21 +8,14 @@ use Rattle.lc_paths.specs.Explanations.OpenDirs.{OpenDirModel, DirStack, open_di
 use Rattle.lc_paths.specs.declared.explaining.explain_options.ExplainOptions.{ExplainOptions}
 use Rattle.lc_paths.proofs.Explanations.PathSegments.{good_path}
 use Rattle.lc_glob.specs.Path.{segments_of, is_good_name}
-use Rattle.lc_level.specs.Answers.{Answers, no_answers, Tree}
-use Rattle.lc_level.specs.FaultLines.{FaultLineModel}
-use Rattle.lc_level.specs.Job.{JobModel}
-use Rattle.lc_level.specs.Level.{Reason, reason_for, child_job}
-use Rattle.lc_level.specs.Filters.{FiltersModel}
-use Rattle.lc_level.specs.TreeAnswers.{MayAnswer}
-use Rattle.lc_level.specs.WellFormed.{IsWellFormed}
+use Rattle.lc_level.specs.{Answers.{Answers, no_answers, Tree}, FaultLines.FaultLineModel, Job.JobModel, Level.{Reason, reason_for}}
+use Rattle.lc_level.specs.{Level.child_job, Filters.FiltersModel, TreeAnswers.MayAnswer, WellFormed.IsWellFormed}
 use Rattle.lc_level.proofs.WellFormed.{IsGoodName, good_one}
 use Rattle.lc_text.specs.PathLines.{is_bad_path}
-use Rattle.lc_tree.specs.Paths.{names_of_path}
-use Rattle.lc_tree.specs.Trees.{Listings, Contents}
+use Rattle.lc_tree.specs.{Paths.names_of_path, Trees.{Listings, Contents}}
 use Rattle.lc_walk.proofs.Places.{names_of_path-path_in}
 use Rattle.lc_laws.specs.ByAnswers.{EntersBy, EntersGiven, top_asked, IsSaidByAnswers, SaidByAnswersLaw}
-use Rattle.lc_laws.proofs.OneWay.{Entering, entered_listed}
-use Rattle.lc_laws.proofs.SameWay.{map_way}
+use Rattle.lc_laws.proofs.{OneWay.{Entering, entered_listed}, SameWay.map_way}
 
 -- ---- answers by depth
 

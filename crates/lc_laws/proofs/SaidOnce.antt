@@ -1,22 +1,16 @@
 -- Of each path one thing is said.
-use Rattle.std.proofs.Common.{◌≡◌, ℕ, Bool, true, false, cond, List, [], ◌∷◌, ◌++◌, sym, ◌∙◌, subst, Option, Some, None, Result}
-use Rattle.std.proofs.Common.{Ok, Err, MatchResult}
+use Rattle.std.proofs.Common.{◌≡◌, ℕ, Bool, true, false, cond, List, [], ◌∷◌, ◌++◌, sym, ◌∙◌, subst, Option, Some, None, Result, Ok, Err}
+use Rattle.std.proofs.Common.{MatchResult}
 use Rattle.lc_paths.specs.Explanations.Explained.{Explanation, faulted, below, cited, said_for, said_beside, kind_asked, is_directory}
-use Rattle.lc_paths.specs.Explanations.Explained.{OnTheWay, said_of_none}
-use Rattle.lc_paths.specs.Explanations.Explained.{OnEntering, IsSaid, IsExplained}
+use Rattle.lc_paths.specs.Explanations.Explained.{OnTheWay, said_of_none, OnEntering, IsSaid, IsExplained}
 use Rattle.lc_paths.specs.Explanations.OpenDirs.{OpenDirModel, DirStack, MayEnter, kind_in}
 use Rattle.lc_glob.specs.Path.{segments_of}
-use Rattle.lc_level.specs.FaultLines.{FaultLineModel}
-use Rattle.lc_level.specs.Job.{JobModel}
-use Rattle.lc_level.specs.Level.{Reason, reason_for, child_job}
-use Rattle.lc_level.specs.Filters.{FiltersModel}
+use Rattle.lc_level.specs.{FaultLines.FaultLineModel, Job.JobModel, Level.{Reason, reason_for, child_job}, Filters.FiltersModel}
 use Rattle.lc_level.specs.TopJob.{top_job}
 use Rattle.lc_text.specs.PathLines.{is_bad_path}
 use Rattle.lc_tree.specs.Trees.{Listings, Contents}
-use Rattle.lc_laws.specs.ByAnswers.{EntersBy}
-use Rattle.lc_laws.specs.OneExplanation.{AnswersOneExplanationLaw, OneExplanationLaw}
-use Rattle.lc_laws.proofs.OneWay.{Entering, one_open_dir}
-use Rattle.lc_laws.proofs.SameWay.{said_by_way}
+use Rattle.lc_laws.specs.{ByAnswers.EntersBy, OneExplanation.{AnswersOneExplanationLaw, OneExplanationLaw}}
+use Rattle.lc_laws.proofs.{OneWay.{Entering, one_open_dir}, SameWay.said_by_way}
 
 -- two things that are said on the way are the same, where they are in each case
 on_one_way : (x y : Explanation) (reason : Option Reason) (is_there : Bool) (Skipped Other : Reason → Type 0)

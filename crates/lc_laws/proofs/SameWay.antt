@@ -7,27 +7,16 @@ use Rattle.lc_paths.specs.Explanations.Explained.{said_of_none, OnEntering, IsSa
 use Rattle.lc_paths.specs.Explanations.OpenDirs.{OpenDirModel, DirStack, open_dir, open_dir_of, open_dir_after, kind_in}
 use Rattle.lc_glob.proofs.Naming.{has_first}
 use Rattle.lc_glob.specs.Path.{segments_of}
-use Rattle.lc_level.specs.Answers.{Item, directory_item, name_of, entry_of, entries_of, Items, Answers, Tree}
-use Rattle.lc_level.specs.FaultLines.{FaultLineModel}
-use Rattle.lc_level.specs.Job.{JobModel}
-use Rattle.lc_level.specs.Level.{Reason, reason_for, child_job}
-use Rattle.lc_level.specs.RuleFiles.{RuleBytes, rule_bytes, extended}
-use Rattle.lc_level.specs.Filters.{FiltersModel, narrowed}
+use Rattle.lc_level.specs.{Answers.{Item, directory_item, name_of, entry_of, entries_of, Items, Answers, Tree}, FaultLines.FaultLineModel}
+use Rattle.lc_level.specs.{Job.JobModel, Level.{Reason, reason_for, child_job}, RuleFiles.{RuleBytes, rule_bytes, extended}}
+use Rattle.lc_level.specs.{Filters.{FiltersModel, narrowed}, TopJob.top_job}
 use Rattle.lc_level.proofs.WellFormed.{same_bytes}
 use Rattle.lc_text.specs.PathLines.{is_bad_path}
-use Rattle.lc_tree.specs.Listing.{EntryModel}
-use Rattle.lc_tree.specs.Paths.{names_of_path}
-use Rattle.lc_tree.specs.declared.entry.Kind.{Kind}
-use Rattle.lc_tree.specs.declared.entry.Kind.TheVariants.{File, Dir, Other}
-use Rattle.lc_walk.specs.FoundAt.{WalksInto, LeadsTo}
-use Rattle.lc_walk.specs.GivenAnswers.{HasListings}
-use Rattle.lc_walk.proofs.Elements.{In}
-use Rattle.lc_walk.proofs.OneTree.{leads_on}
+use Rattle.lc_tree.specs.{Listing.EntryModel, Paths.names_of_path, declared.entry.Kind.{Kind, TheVariants.{File, Dir, Other}}}
+use Rattle.lc_walk.specs.{FoundAt.{WalksInto, LeadsTo}, GivenAnswers.HasListings}
+use Rattle.lc_walk.proofs.{Elements.In, OneTree.leads_on}
 use Rattle.lc_laws.specs.ByAnswers.{EntersBy, read_after, read_of, what_is_read, AgreeOnWay}
-use Rattle.lc_laws.proofs.Items.{directory_is}
-use Rattle.lc_laws.proofs.OneWay.{Entering, entered_listed, place_names}
-use Rattle.lc_laws.proofs.TakingPart.{part_has}
-use Rattle.lc_level.specs.TopJob.{top_job}
+use Rattle.lc_laws.proofs.{Items.directory_is, OneWay.{Entering, entered_listed, place_names}, TakingPart.part_has}
 
 -- ---- one directory
 

@@ -1,13 +1,12 @@
 -- Shares are printed as no more than 100.0 per cent.
-use Rattle.std.proofs.Common.{ℕ, List, refl}
+use Rattle.std.proofs.{Common.{ℕ, List, refl}, lemmas.List.Elements.All-weaker}
 use Rattle.std.specs.List.{All}
-use Rattle.std.proofs.lemmas.List.Elements.{All-weaker}
 use Rattle.lc_formats.proofs.ShareLawProofs.{parts_law}
 use Rattle.lc_formats.specs.Shares.{rounded_parts}
 use Rattle.lc_rows.proofs.WalkedSheets.{walked_sheet_law}
 use Rattle.lc_rows.specs.SheetLaws.{IsSectionWithin, IsWithin}
-use Rattle.lc_sheet.specs.Sheets.{SectionModel}
-use Rattle.lc_sheet.specs.Values.{ValueModel, missing, summed, blank, word, name, path, number, share, bar, difference}
+use Rattle.lc_sheet.specs.{Sheets.SectionModel, Values.{ValueModel, missing, summed, blank, word, name, path, number, share, bar}}
+use Rattle.lc_sheet.specs.Values.{difference}
 use Rattle.lc_tree.specs.Trees.{Listings, Contents}
 use Rattle.lc_laws.specs.PrintedShares.{AreSharesWithin, IsPrintedWithin, PrintedSharesLaw}
 

@@ -1,22 +1,14 @@
 -- What a text as CSV shows of a report has columns, and a value in each.
-use Rattle.std.proofs.Common.{◌≡◌, ℕ, ◌+◌, ◌<◌, Bool, true, false, if◌then◌else◌, List, [], ◌++◌, length, codes, Option, Some, None}
-use Rattle.std.proofs.Common.{ap, arith, length-append, unwrap_or, ◌∙◌}
+use Rattle.std.proofs.Common.{◌≡◌, ℕ, ◌+◌, ◌<◌, Bool, true, false, if◌then◌else◌, List, [], ◌++◌, length, codes, Option, Some, None, ap}
+use Rattle.std.proofs.{Common.{arith, length-append, unwrap_or, ◌∙◌}, lemmas.List.{length-map, Elements.All-map}}
 use Rattle.std.specs.List.{slice_index_or}
-use Rattle.std.proofs.lemmas.List.{length-map}
-use Rattle.std.proofs.lemmas.List.Elements.{All-map}
-use Rattle.lc_sheet.specs.Sheets.{line_of}
-use Rattle.lc_sheet.specs.Values.{ValueModel}
-use Rattle.lc_sheet.specs.declared.column.Column.{Column}
-use Rattle.lc_sheet.specs.declared.table_options.Columns.{Columns}
-use Rattle.lc_sheet.specs.declared.table_options.Format.{Format}
-use Rattle.lc_sheet.specs.declared.table_options.Format.TheVariants.{Tsv, Table, Json, Csv, Markdown, Html}
+use Rattle.lc_sheet.specs.{Sheets.line_of, Values.ValueModel, declared.column.Column.Column}
+use Rattle.lc_sheet.specs.declared.table_options.{Columns.Columns, Format.{Format, TheVariants.{Tsv, Table, Json, Csv, Markdown, Html}}}
 use Rattle.lc_sheet.specs.declared.table_options.TableOptions.{TableOptions}
 use Rattle.lc_walk.specs.declared.report.Report.{Report}
-use Rattle.lc_rows.specs.Kinds.{file_value, row_value, skipped_value}
-use Rattle.lc_rows.specs.SheetColumns.{file_columns, keeps_columns, key_columns, number_columns, row_columns, share_columns}
-use Rattle.lc_rows.specs.SheetColumns.{skipped_columns}
-use Rattle.lc_rows.specs.Sheets.{form_of, list_of, section_of, sheet_of}
-use Rattle.lc_rows.specs.Views.{ViewModel}
+use Rattle.lc_rows.specs.{Kinds.{file_value, row_value, skipped_value}, SheetColumns.{file_columns, keeps_columns, key_columns}}
+use Rattle.lc_rows.specs.{SheetColumns.{number_columns, row_columns, share_columns, skipped_columns}, Sheets.{form_of, list_of, section_of}}
+use Rattle.lc_rows.specs.{Sheets.sheet_of, Views.ViewModel}
 use Rattle.lc_formats.specs.CsvLaws.{HasColumns}
 use Rattle.lc_laws.specs.SheetReadable.{SheetRecordsLaw}
 

@@ -1,33 +1,21 @@
 -- The lines of skipped entries that were printed, as they are read.
-use Rattle.std.proofs.Common.{◌≡◌, ◌∙◌, ◌<◌, ◌^◌, ◌&&◌, ◌-◌, ℕ, Bool, true, false, List, [], ◌∷◌, ◌++◌, length, nat_lt}
-use Rattle.std.proofs.Common.{Option, Some, None, option_map, codes, is_some, refl, sym, ap, append-nil, arith}
-use Rattle.std.specs.List.{AllByRecursion, list_all}
-use Rattle.std.specs.Option.{IfSome}
-use Rattle.std.specs.Str.{is_utf8}
-use Rattle.std.proofs.lemmas.Bool.{ltb-true}
+use Rattle.std.proofs.Common.{◌≡◌, ◌∙◌, ◌<◌, ◌^◌, ◌&&◌, ◌-◌, ℕ, Bool, true, false, List, [], ◌∷◌, ◌++◌, length, nat_lt, Option, Some}
+use Rattle.std.proofs.{Common.{None, option_map, codes, is_some, refl, sym, ap, append-nil, arith}, lemmas.Bool.ltb-true}
 use Rattle.std.proofs.lemmas.List.Elements.{All-append, All-nil, All-take, All-from_recursion, recursion_from_All}
-use Rattle.lc_formats.specs.JsonLines.{line_members, value_members}
-use Rattle.lc_formats.specs.JsonText.{Member, bytes_member}
-use Rattle.lc_formats.specs.Readable.{AreBytes}
-use Rattle.lc_level.specs.Level.{SkippedLineModel}
-use Rattle.lc_level.specs.ReasonWords.{attribute_of, reason_word, rule_of}
-use Rattle.lc_reading.specs.Lines.{HasAttribute, HasRule, IsSkippedOf}
-use Rattle.lc_reading.specs.Members.{values_at}
+use Rattle.std.specs.{List.{AllByRecursion, list_all}, Option.IfSome, Str.is_utf8}
+use Rattle.lc_formats.specs.{JsonLines.{line_members, value_members}, JsonText.{Member, bytes_member}, Readable.AreBytes}
+use Rattle.lc_level.specs.{Level.SkippedLineModel, ReasonWords.{attribute_of, reason_word, rule_of}}
+use Rattle.lc_reading.specs.{Lines.{HasAttribute, HasRule, IsSkippedOf}, Members.values_at}
 use Rattle.lc_rows.specs.Kinds.{file_of_rule as file_value_of, line_of_rule as line_value_of, name_of_attribute, skipped_value}
-use Rattle.lc_rows.specs.SheetColumns.{recorded_skipped}
-use Rattle.lc_rows.specs.Words.{kind_word}
-use Rattle.lc_rules.specs.Verdicts.{below}
-use Rattle.lc_rules.specs.declared.rule_source.RuleSource.{RuleSource}
+use Rattle.lc_rows.specs.{SheetColumns.recorded_skipped, Words.kind_word}
+use Rattle.lc_rules.specs.{Verdicts.below, declared.rule_source.RuleSource.RuleSource}
 use Rattle.lc_rules.specs.declared.rule_source.RuleSource.TheVariants.{ExcludeFrom, InfoExclude, Gitignore, CommandLine}
-use Rattle.lc_sheet.specs.Sheets.{line_of}
-use Rattle.lc_sheet.specs.declared.column.Column.TheVariants as column
-use Rattle.lc_sheet.specs.declared.form.Form.{Form}
+use Rattle.lc_sheet.specs.{Sheets.line_of, declared.form.Form.Form}
 use Rattle.lc_text.specs.RulePlaces.{source_directory, source_name}
-use Rattle.lc_laws.proofs.JsonMembers.{bytes_read, list_of_bytes, lists_if, same_integer, text_of_bytes, texts_if}
-use Rattle.lc_laws.proofs.LinesReadBack.{one_word}
-use Rattle.lc_laws.proofs.PrintedMembers.{values_of_members}
-use Rattle.lc_laws.proofs.WordsRead.{both_by_attribute, both_by_rule}
+use Rattle.lc_laws.proofs.{JsonMembers.{bytes_read, list_of_bytes, lists_if, same_integer, text_of_bytes, texts_if}, LinesReadBack.one_word}
+use Rattle.lc_laws.proofs.{PrintedMembers.values_of_members, WordsRead.{both_by_attribute, both_by_rule}}
 use Rattle.lc_laws.specs.ReadBack.{FitsSkipped, file_of_rule, line_of_rule, skipped_text}
+use Rattle.lc_sheet.specs.declared.column.Column.TheVariants as column
 
 -- ---- the file of a rule consists of bytes
 

@@ -1,29 +1,19 @@
 -- What is said by given answers of a directory's path, with and without a slash at its end.
-use Rattle.std.proofs.Common.{◌≡◌, ℕ, Bool, true, false, cond, List, [], ◌∷◌, ◌++◌, refl, sym, ◌∙◌, ap, subst, Option, Some, None}
-use Rattle.std.proofs.Common.{Ok, Err, append_assoc}
+use Rattle.std.proofs.Common.{◌≡◌, ℕ, Bool, true, false, cond, List, [], ◌∷◌, ◌++◌, refl, sym, ◌∙◌, ap, subst, Option, Some, None, Ok}
+use Rattle.std.proofs.Common.{Err, append_assoc}
 use Rattle.std.specs.List.{Contains}
 use Rattle.lc_paths.specs.Explanations.Explained.{Explanation, below, cited, said_for, said_of, said_beside, kind_asked, is_directory}
-use Rattle.lc_paths.specs.Explanations.Explained.{OnTheWay, said_of_none}
-use Rattle.lc_paths.specs.Explanations.Explained.{OnEntering, IsSaid}
+use Rattle.lc_paths.specs.Explanations.Explained.{OnTheWay, said_of_none, OnEntering, IsSaid}
 use Rattle.lc_paths.specs.Explanations.OpenDirs.{OpenDirModel, DirStack, open_dir, kind_in}
 use Rattle.lc_glob.specs.Path.{segments_of}
-use Rattle.lc_level.specs.Answers.{Item, entry_of, entries_of, Answers, Tree}
-use Rattle.lc_level.specs.Job.{JobModel}
-use Rattle.lc_level.specs.Level.{Reason, reason_for, child_job}
-use Rattle.lc_level.specs.Filters.{FiltersModel, narrowed}
-use Rattle.lc_level.specs.WellFormed.{IsWellFormed}
+use Rattle.lc_level.specs.{Answers.{Item, entry_of, entries_of, Answers, Tree}, Job.JobModel, Level.{Reason, reason_for, child_job}}
+use Rattle.lc_level.specs.{Filters.{FiltersModel, narrowed}, WellFormed.IsWellFormed}
 use Rattle.lc_text.specs.PathLines.{is_bad_path}
-use Rattle.lc_tree.specs.Listing.{EntryModel}
-use Rattle.lc_tree.specs.declared.entry.Kind.{Kind}
-use Rattle.lc_tree.specs.declared.entry.Kind.TheVariants.{Dir}
+use Rattle.lc_tree.specs.{Listing.EntryModel, declared.entry.Kind.{Kind, TheVariants.Dir}}
 use Rattle.lc_walk.specs.FoundAt.{LeadsTo}
-use Rattle.lc_walk.proofs.Levels.{well_formed_items}
-use Rattle.lc_walk.proofs.OneTree.{leads_on}
-use Rattle.lc_laws.specs.ByAnswers.{EntersBy, IsEntryBy, top_asked}
-use Rattle.lc_laws.specs.SlashAtEnd.{AnswersSlashLaw}
-use Rattle.lc_laws.proofs.Items.{named_item}
-use Rattle.lc_laws.proofs.OneWay.{entered_listed, kind_found, IsKnown, known_by_tree}
-use Rattle.lc_laws.proofs.SameWay.{walked_into}
+use Rattle.lc_walk.proofs.{Levels.well_formed_items, OneTree.leads_on}
+use Rattle.lc_laws.specs.{ByAnswers.{EntersBy, IsEntryBy, top_asked}, SlashAtEnd.AnswersSlashLaw}
+use Rattle.lc_laws.proofs.{Items.named_item, OneWay.{entered_listed, kind_found, IsKnown, known_by_tree}, SameWay.walked_into}
 
 -- what is gone into is said alike, where what is there is a directory
 on_a_directory : (reason : Option Reason) (is_there : Bool) (Skipped : Reason → Type 0) (Into Onto Beside Near : Type 0) → is_there ≡ true

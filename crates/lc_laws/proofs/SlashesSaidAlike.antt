@@ -2,26 +2,15 @@
 use Rattle.std.proofs.Common.{◌≡◌, ℕ, Bool, true, false, cond, List, [], ◌∷◌, ◌++◌, sym, ◌∙◌, ap, subst, Option, Some, None, Ok, Err}
 use Rattle.std.specs.List.{Contains}
 use Rattle.lc_paths.specs.Explanations.Explained.{Explanation, below, cited, said_for, said_of, said_beside, kind_asked, is_directory}
-use Rattle.lc_paths.specs.Explanations.Explained.{OnTheWay, said_of_none}
-use Rattle.lc_paths.specs.Explanations.Explained.{OnEntering, IsSaid}
+use Rattle.lc_paths.specs.Explanations.Explained.{OnTheWay, said_of_none, OnEntering, IsSaid}
 use Rattle.lc_paths.specs.Explanations.OpenDirs.{OpenDirModel, DirStack, MayEnter, kind_in}
 use Rattle.lc_glob.specs.Path.{path_in, segments_of}
-use Rattle.lc_level.specs.Answers.{entry_of, entries_of, Items}
-use Rattle.lc_level.specs.Job.{JobModel}
-use Rattle.lc_level.specs.Level.{Reason, reason_for, child_job}
-use Rattle.lc_level.specs.OneAnswer.{GivesOne}
-use Rattle.lc_level.specs.Filters.{FiltersModel}
-use Rattle.lc_level.specs.TopJob.{top_job}
-use Rattle.lc_level.specs.TreeAnswers.{MayList}
+use Rattle.lc_level.specs.{Answers.{entry_of, entries_of, Items}, Job.JobModel, Level.{Reason, reason_for, child_job}, OneAnswer.GivesOne}
+use Rattle.lc_level.specs.{Filters.FiltersModel, TopJob.top_job, TreeAnswers.MayList}
 use Rattle.lc_text.specs.PathLines.{is_bad_path}
-use Rattle.lc_tree.specs.Listing.{EntryModel}
-use Rattle.lc_tree.specs.Trees.{Listings, Contents}
-use Rattle.lc_tree.specs.declared.entry.Kind.{Kind}
-use Rattle.lc_tree.specs.declared.entry.Kind.TheVariants.{Dir}
-use Rattle.lc_walk.proofs.Elements.{is_in, in_mapped}
-use Rattle.lc_walk.proofs.Levels.{well_formed_items}
-use Rattle.lc_laws.specs.Entries.{HasListed, LeadDown}
-use Rattle.lc_laws.specs.SlashAtEnd.{SlashLaw}
+use Rattle.lc_tree.specs.{Listing.EntryModel, Trees.{Listings, Contents}, declared.entry.Kind.{Kind, TheVariants.Dir}}
+use Rattle.lc_walk.proofs.{Elements.{is_in, in_mapped}, Levels.well_formed_items}
+use Rattle.lc_laws.specs.{Entries.{HasListed, LeadDown}, SlashAtEnd.SlashLaw}
 use Rattle.lc_laws.proofs.OneWay.{entered_listed, kind_found}
 
 -- what the walk goes into is said alike, where it is in each case

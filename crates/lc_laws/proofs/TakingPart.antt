@@ -1,12 +1,9 @@
 -- The items that take part in a walk of a whole tree.
 use Rattle.std.proofs.Common.{◌≡◌, ℕ, List, [], sym, ◌∙◌, ap, subst}
 use Rattle.std.specs.List.{Contains}
-use Rattle.lc_level.specs.Answers.{Item}
-use Rattle.lc_level.specs.Narrowing.{part_of}
-use Rattle.lc_level.specs.Filters.{FiltersModel}
+use Rattle.lc_level.specs.{Answers.Item, Narrowing.part_of, Filters.FiltersModel}
 use Rattle.lc_level.proofs.AskedPaths.{all_take_part}
-use Rattle.lc_walk.proofs.Elements.{In, is_in, contains}
-use Rattle.lc_walk.proofs.TakingPart.{in_filter}
+use Rattle.lc_walk.proofs.{Elements.{In, is_in, contains}, TakingPart.in_filter}
 
 -- an item that takes part is one of the items
 pub in_part : (s : FiltersModel) (d : List ℕ) (item : Item) (items : List Item) → Contains (part_of s.only d items) item → In item items

@@ -1,15 +1,11 @@
 -- A JSON object with another text after it: its tokens, and what is left.
-use Rattle.std.proofs.Common.{◌≡◌, ◌∙◌, ℕ, Bool, true, false, List, [], ◌∷◌, ◌++◌, Some, refl, sym, ap, append_assoc}
-use Rattle.std.proofs.Common.{append-nil, arith}
+use Rattle.std.proofs.Common.{◌≡◌, ◌∙◌, ℕ, Bool, true, false, List, [], ◌∷◌, ◌++◌, Some, refl, sym, ap, append_assoc, append-nil, arith}
 use Rattle.json.specs.Json.{Items, Json, Members, array, boolean as boolean_of, document, item, member, no_items, no_members}
-use Rattle.json.specs.Json.{null as null_of, number as number_of, object, string as string_of, value}
-use Rattle.json.specs.Lex.{Lexeme, Place, after_comma, after_key, after_value, begins_colon, between, colon, comma, fresh, if_allowed, lex}
-use Rattle.json.specs.Lex.{may_begin, may_close, place_token, punctuate, token, tokens}
-use Rattle.json.specs.Token.{Token, bad, begin_array, begin_object, boolean, end_array, end_object, key, null, number, string}
-use Rattle.json.specs.Tree.{depth, items_tokens, json_tokens, members_tokens}
-use Rattle.json.proofs.Found.{Some_inj, one_reading}
-use Rattle.json.proofs.Printed.Trees.{value-json_tokens}
-use Rattle.json.proofs.Unique.Spelling.{tokens-document}
+use Rattle.json.specs.{Json.{null as null_of, number as number_of, object, string as string_of, value}, Lex.{Lexeme, Place, after_comma}}
+use Rattle.json.specs.Lex.{after_key, after_value, begins_colon, between, colon, comma, fresh, if_allowed, lex, may_begin, may_close}
+use Rattle.json.specs.{Lex.{place_token, punctuate, token, tokens}, Token.{Token, bad, begin_array, begin_object, boolean, end_array}}
+use Rattle.json.specs.{Token.{end_object, key, null, number, string}, Tree.{depth, items_tokens, json_tokens, members_tokens}}
+use Rattle.json.proofs.{Found.{Some_inj, one_reading}, Printed.Trees.value-json_tokens, Unique.Spelling.tokens-document}
 use Rattle.lc_laws.proofs.LexedApart.{is_closed, lexed_apart}
 
 -- no token is bad, and the last one closes an object, or there is none and one did before

@@ -1,38 +1,22 @@
 -- The rules that hold in each directory, where the only ignore file is the top's `.gitignore`.
-use Rattle.std.proofs.Common.{◌≡◌, ◌≢◌, ℕ, Bool, true, false, cond, List, [], ◌∷◌, ◌++◌, refl, sym, ◌∙◌, ap, subst, Option, Some}
-use Rattle.std.proofs.Common.{None, Result, Ok, Err, codes, bytes_eq, append-nil, inl, inr, ◌⊎◌}
-use Rattle.std.specs.List.{AllByRecursion}
-use Rattle.std.specs.Prelude.{option_map}
+use Rattle.std.proofs.Common.{◌≡◌, ◌≢◌, ℕ, Bool, true, false, cond, List, [], ◌∷◌, ◌++◌, refl, sym, ◌∙◌, ap, subst, Option, Some, None}
+use Rattle.std.proofs.Common.{Result, Ok, Err, codes, bytes_eq, append-nil, inl, inr, ◌⊎◌}
+use Rattle.std.specs.{List.AllByRecursion, Prelude.option_map}
 use Rattle.lc_census.specs.declared.line_count.Count.{Count}
 use Rattle.lc_glob.specs.Path.{path_in, depth_of}
 use Rattle.lc_level.specs.Answers.{Item, file_item, directory_item, other_item, name_of, entry_of, entries_of, Answers, Tree, Items}
-use Rattle.lc_level.specs.FaultLines.{FaultLineModel}
-use Rattle.lc_level.specs.Job.{JobModel}
-use Rattle.lc_level.specs.Level.{child_job}
-use Rattle.lc_level.specs.OneAnswer.{GivesOne}
-use Rattle.lc_level.specs.RuleFiles.{listing, Pair, RuleBytes, file_named, ignore_named, has_directory, has_git, and_then, reading}
-use Rattle.lc_level.specs.RuleFiles.{both_read, info_items}
-use Rattle.lc_level.specs.RuleFiles.{info_bytes, own_bytes, rule_bytes, with_file_at, first_of}
-use Rattle.lc_level.specs.TopJob.{top_job}
-use Rattle.lc_level.specs.TreeAnswers.{MayHave, MayList, MayAnswer, items_of}
+use Rattle.lc_level.specs.{FaultLines.FaultLineModel, Job.JobModel, Level.child_job, OneAnswer.GivesOne, RuleFiles.{listing, Pair}}
+use Rattle.lc_level.specs.RuleFiles.{RuleBytes, file_named, ignore_named, has_directory, has_git, and_then, reading, both_read}
+use Rattle.lc_level.specs.{RuleFiles.{info_items, info_bytes, own_bytes, rule_bytes, with_file_at, first_of}, TopJob.top_job}
+use Rattle.lc_level.specs.{TreeAnswers.{MayHave, MayList, MayAnswer, items_of}, declared.fault_word.FaultWord.FaultWord, Filters.no_filters}
 use Rattle.lc_level.proofs.WellFormed.{same_bytes, bytes_same}
-use Rattle.lc_rules.specs.IgnoreChains.{ChainModel, rules_in}
-use Rattle.lc_rules.specs.IgnoreRules.{RuleModel, rules_of}
-use Rattle.lc_rules.specs.Verdicts.{at_depth}
-use Rattle.lc_tree.specs.Listing.{EntryModel}
-use Rattle.lc_tree.specs.Paths.{names_of_path}
-use Rattle.lc_tree.specs.Trees.{Listings, Contents}
-use Rattle.lc_tree.specs.declared.entry.Kind.{Kind}
+use Rattle.lc_rules.specs.{IgnoreChains.{ChainModel, rules_in}, IgnoreRules.{RuleModel, rules_of}, Verdicts.at_depth}
+use Rattle.lc_tree.specs.{Listing.EntryModel, Paths.names_of_path, Trees.{Listings, Contents}, declared.entry.Kind.Kind}
 use Rattle.lc_tree.specs.declared.entry.Kind.TheVariants.{File, Dir, Other}
-use Rattle.lc_level.specs.declared.fault_word.FaultWord.{FaultWord}
-use Rattle.lc_walk.specs.FoundAt.{IsListed, LeadsTo}
-use Rattle.lc_walk.specs.GivenAnswers.{HasListings, IsGiven}
+use Rattle.lc_walk.specs.{FoundAt.{IsListed, LeadsTo}, GivenAnswers.{HasListings, IsGiven}}
 use Rattle.lc_walk.proofs.Elements.{In, contains, of_mapped}
-use Rattle.lc_laws.specs.CountsChecked.{HasTopRules, ReadsTopRules}
-use Rattle.lc_laws.specs.Entries.{HasListed}
-use Rattle.lc_level.specs.Filters.{no_filters}
-use Rattle.lc_laws.proofs.Items.{IsItem, named_item, has_listed}
-use Rattle.lc_laws.proofs.OneWay.{place_names}
+use Rattle.lc_laws.specs.{CountsChecked.{HasTopRules, ReadsTopRules}, Entries.HasListed}
+use Rattle.lc_laws.proofs.{Items.{IsItem, named_item, has_listed}, OneWay.place_names}
 
 -- ---- files of a name
 

@@ -1,32 +1,20 @@
 -- Reports of walks that were printed as JSON with all their files, and what meets conditions of them, as they are read.
 use Rattle.std.proofs.Common.{◌≡◌, ◌∙◌, ℕ, true, List, [], ◌∷◌, Option, Some, None, sym, ap, subst, IsPermutation}
-use Rattle.std.proofs.lemmas.Cmp.{nat_list_cmp_total}
+use Rattle.std.proofs.lemmas.{Cmp.nat_list_cmp_total, List.{Elements.All-head, Sorted.IsPermutation-refl}}
 use Rattle.std.specs.List.{All}
-use Rattle.std.proofs.lemmas.List.Elements.{All-head}
-use Rattle.std.proofs.lemmas.List.Sorted.{IsPermutation-refl}
 use Rattle.json.specs.Json.{Json, document}
-use Rattle.lc_formats.specs.JsonSheets.{json_of}
-use Rattle.lc_formats.specs.JsonText.{Member, members_with, object_with}
+use Rattle.lc_formats.specs.{JsonSheets.json_of, JsonText.{Member, members_with, object_with}}
 use Rattle.lc_level.specs.Level.{FileLineModel}
 use Rattle.lc_reading.specs.declared.read_report.ReadReport.{ReadReport}
 use Rattle.lc_rows.proofs.WalkedSheets.{walked_adds_up}
-use Rattle.lc_rows.specs.Classes.{classes_of}
-use Rattle.lc_rows.specs.Kept.{IsKept, file_meets}
-use Rattle.lc_rows.specs.ShownFiles.{AreFilesSorted}
-use Rattle.lc_sheet.specs.Conditions.{ConditionModel}
-use Rattle.lc_sheet.specs.declared.column.Number.{Number}
-use Rattle.lc_tree.specs.ByteOrder.{AreInOrder, bytes_cmp}
-use Rattle.lc_tree.specs.Trees.{Listings, Contents}
+use Rattle.lc_rows.specs.{Classes.classes_of, Kept.{IsKept, file_meets}, ShownFiles.AreFilesSorted}
+use Rattle.lc_sheet.specs.{Conditions.ConditionModel, declared.column.Number.Number}
+use Rattle.lc_tree.specs.{ByteOrder.{AreInOrder, bytes_cmp}, Trees.{Listings, Contents}}
 use Rattle.lc_walk.proofs.ReportTotals.{walked_lists}
-use Rattle.lc_walk.specs.ReportLines.{fault_paths, file_paths, skipped_paths}
-use Rattle.lc_walk.specs.ReportTotals.{TotalsAddUp}
-use Rattle.lc_walk.specs.declared.options.ReportLists.{ReportLists}
-use Rattle.lc_walk.specs.declared.report.Report.{Report}
-use Rattle.lc_laws.proofs.OneOrder.{filtered_risen}
-use Rattle.lc_laws.proofs.OneReportRead.{OneReport, one_report}
-use Rattle.lc_laws.proofs.PrintedReport.{printed_parts, report_members, sheet_printed}
-use Rattle.lc_laws.proofs.ReportReadBack.{printed_members}
-use Rattle.lc_laws.proofs.WholeReadBack.{IsWholeReport, report_read_back}
+use Rattle.lc_walk.specs.{ReportLines.{fault_paths, file_paths, skipped_paths}, ReportTotals.TotalsAddUp}
+use Rattle.lc_walk.specs.declared.{options.ReportLists.ReportLists, report.Report.Report}
+use Rattle.lc_laws.proofs.{OneOrder.filtered_risen, OneReportRead.{OneReport, one_report}, PrintedReport.{printed_parts, report_members}}
+use Rattle.lc_laws.proofs.{PrintedReport.sheet_printed, ReportReadBack.printed_members, WholeReadBack.{IsWholeReport, report_read_back}}
 use Rattle.lc_laws.specs.ReadBack.{FitsTypes, ReadBackLaw}
 
 -- the files are all of the report's, in some order

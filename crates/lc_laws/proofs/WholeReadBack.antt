@@ -1,37 +1,24 @@
 -- A report that was printed as JSON with all its files, and was read, is that report.
-use Rattle.std.proofs.Common.{◌≡◌, ◌≢◌, ◌∙◌, ◌⊎◌, inl, inr, ◌<◌, ◌^◌, ℕ, Bool, true, false, List, [], ◌∷◌, map, codes, refl, sym, ap, subst}
-use Rattle.std.proofs.Common.{arith, is_some, IsPermutation}
-use Rattle.std.specs.Bool.{MatchBool}
-use Rattle.std.specs.List.{All}
-use Rattle.std.proofs.lemmas.List.Sorted.{All-permutation, IsPermutation-trans}
+use Rattle.std.proofs.Common.{◌≡◌, ◌≢◌, ◌∙◌, ◌⊎◌, inl, inr, ◌<◌, ◌^◌, ℕ, Bool, true, false, List, [], ◌∷◌, map, codes, refl, sym, ap}
+use Rattle.std.proofs.{Common.{subst, arith, is_some, IsPermutation}, lemmas.List.Sorted.{All-permutation, IsPermutation-trans}}
+use Rattle.std.specs.{Bool.MatchBool, List.All}
 use Rattle.json.specs.Json.{Json}
 use Rattle.lc_formats.specs.JsonText.{Member, array_with, integer, object_with}
-use Rattle.lc_level.specs.FaultLines.{FaultLineModel}
-use Rattle.lc_level.specs.Level.{FileLineModel, SkippedLineModel}
-use Rattle.lc_reading.specs.Lines.{IsFileOf, IsSkippedOf}
-use Rattle.lc_reading.specs.Members.{HasNumber, Lacks, named}
-use Rattle.lc_reading.specs.Reports.{HasOrdered, HasRows, IsReportOf, row_in}
-use Rattle.lc_reading.specs.declared.member_name.MemberName.TheVariants as member
-use Rattle.lc_reading.specs.declared.read_report.ReadReport.{ReadReport}
+use Rattle.lc_level.specs.{FaultLines.FaultLineModel, Level.{FileLineModel, SkippedLineModel}}
+use Rattle.lc_reading.specs.{Lines.{IsFileOf, IsSkippedOf}, Members.{HasNumber, Lacks, named}, Reports.{HasOrdered, HasRows, IsReportOf}}
+use Rattle.lc_reading.specs.{Reports.row_in, declared.read_report.ReadReport.ReadReport}
 use Rattle.lc_rows.proofs.ClassLaw.{classes_law}
-use Rattle.lc_rows.specs.Classes.{binary_sums, classes_of, text_sums}
-use Rattle.lc_rows.specs.RowKeys.{ShownRowModel}
+use Rattle.lc_rows.specs.{Classes.{binary_sums, classes_of, text_sums}, RowKeys.ShownRowModel}
 use Rattle.lc_sheet.specs.declared.table_options.TableOptions.{TableOptions}
 use Rattle.lc_tree.specs.ByteOrder.{AreInOrder}
-use Rattle.lc_walk.specs.ReportLines.{fault_paths, file_paths, skipped_paths}
-use Rattle.lc_walk.specs.ReportTotals.{TotalsAddUp, counted_line}
-use Rattle.lc_walk.specs.Sums.{IsInRange, plus}
-use Rattle.lc_walk.specs.Tally.{IsTally}
-use Rattle.lc_walk.specs.TallyRows.{AddsUp}
-use Rattle.lc_walk.specs.declared.options.ReportLists.{ReportLists}
-use Rattle.lc_walk.specs.declared.report.Report.{Report}
+use Rattle.lc_walk.specs.{ReportLines.{fault_paths, file_paths, skipped_paths}, ReportTotals.{TotalsAddUp, counted_line}, Sums.IsInRange}
+use Rattle.lc_walk.specs.{Sums.plus, Tally.IsTally, TallyRows.AddsUp, declared.{options.ReportLists.ReportLists, report.Report.Report}}
 use Rattle.lc_walk.specs.declared.tally.sums.Sums.{Sums}
-use Rattle.lc_laws.proofs.JsonMembers.{same_integer}
-use Rattle.lc_laws.proofs.OneOrder.{risen_texts, same_sorted}
-use Rattle.lc_laws.proofs.OneTally.{one_tally}
-use Rattle.lc_laws.proofs.PrintedReport.{Parts, fault_objects, file_objects, printed_parts, report_members, skipped_objects, sums_members}
+use Rattle.lc_laws.proofs.{JsonMembers.same_integer, OneOrder.{risen_texts, same_sorted}, OneTally.one_tally, PrintedReport.Parts}
+use Rattle.lc_laws.proofs.PrintedReport.{fault_objects, file_objects, printed_parts, report_members, skipped_objects, sums_members}
 use Rattle.lc_laws.proofs.ReportReadBack.{faults_read_back, files_read_back, skipped_texts_read_back, sums_read_back}
 use Rattle.lc_laws.specs.ReadBack.{FitsFile, FitsTypes, HasNoSkipped, HasSkippedOf, IsReadBack, skipped_text}
+use Rattle.lc_reading.specs.declared.member_name.MemberName.TheVariants as member
 
 -- ---- the members that were printed
 

@@ -1,18 +1,12 @@
 -- Strings, numbers and literals of JSON that end before a text does read the same with another text after it.
 use Rattle.std.proofs.Common.{◌≡◌, ◌∙◌, ℕ, Bool, true, false, ◌&&◌, ◌||◌, ◌==◌, cond, List, [], ◌∷◌, ◌++◌, length, take, drop, nat_lt}
 use Rattle.std.proofs.Common.{Option, Some, None, option_map, option_and_then, refl, sym, ap, subst, append_assoc, take-append-drop}
-use Rattle.std.specs.List.{prefix_len}
-use Rattle.std.specs.Char.{is_ascii_digit}
-use Rattle.std.proofs.lemmas.Bool.{and_parts}
-use Rattle.std.proofs.lemmas.Slice.Eq.{bytes_eq-Decides}
-use Rattle.json.specs.Align.{is_good}
-use Rattle.json.specs.Lex.{Lexeme, token, between, lex}
-use Rattle.json.specs.Print.{IsNumber}
-use Rattle.json.specs.Text.{Within, plain, after_backslash, after_u, after_high, code_unit, content, is_high_surrogate}
-use Rattle.json.specs.Text.{is_low_surrogate, short_escape}
-use Rattle.json.specs.Token.{Token, boolean, null, number, bad}
-use Rattle.json.specs.Word.{after_digits, after_exponent, after_fraction, after_minus, after_number, after_sign, after_whole}
-use Rattle.json.specs.Word.{ends_word, head, literal, number_before, word}
+use Rattle.std.proofs.lemmas.{Bool.and_parts, Slice.Eq.bytes_eq-Decides}
+use Rattle.std.specs.{List.prefix_len, Char.is_ascii_digit}
+use Rattle.json.specs.{Align.is_good, Lex.{Lexeme, token, between, lex}, Print.IsNumber, Text.{Within, plain, after_backslash, after_u}}
+use Rattle.json.specs.{Text.{after_high, code_unit, content, is_high_surrogate, is_low_surrogate, short_escape}, Token.{Token, boolean}}
+use Rattle.json.specs.{Token.{null, number, bad}, Word.{after_digits, after_exponent, after_fraction, after_minus, after_number}}
+use Rattle.json.specs.Word.{after_sign, after_whole, ends_word, head, literal, number_before, word}
 use Rattle.json.proofs.Printed.Numbers.{in_word-ended, lex-number, number_alone}
 
 -- ---- strings

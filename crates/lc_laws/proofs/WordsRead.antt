@@ -1,17 +1,11 @@
 -- Words that are read: each is that of one value.
 use Rattle.std.proofs.Common.{◌≡◌, ◌∙◌, ℕ, Bool, false, List, [], ◌∷◌, Option, Some, None, codes, refl, sym, ap, find, bytes_eq, is_some}
-use Rattle.lc_census.specs.EolWords.{eol_word}
-use Rattle.lc_census.specs.declared.line_count.Eol.{Eol}
-use Rattle.lc_census.specs.declared.line_count.Eol.TheVariants.{NoEnd, Lf, CrLf, Cr, Mixed, Nul}
-use Rattle.lc_level.specs.FaultWords.{fault_word}
-use Rattle.lc_level.specs.Level.{Reason, named_git, by_rule, by_attribute, not_included, other_kind}
-use Rattle.lc_level.specs.ReasonWords.{attribute_of, reason_word, rule_of}
-use Rattle.lc_level.specs.declared.fault_word.FaultWord.{FaultWord}
+use Rattle.lc_census.specs.{EolWords.eol_word, declared.line_count.Eol.{Eol, TheVariants.{NoEnd, Lf, CrLf, Cr, Mixed, Nul}}}
+use Rattle.lc_level.specs.{FaultWords.fault_word, Level.{Reason, named_git, by_rule, by_attribute, not_included, other_kind}}
+use Rattle.lc_level.specs.{ReasonWords.{attribute_of, reason_word, rule_of}, declared.fault_word.FaultWord.FaultWord}
 use Rattle.lc_level.specs.declared.fault_word.FaultWord.TheVariants.{Read, Name, Twice, Many, Long, Endless, Absent}
 use Rattle.lc_reading.specs.Lines.{word_json}
-use Rattle.lc_rules.specs.TextWords.{text_word}
-use Rattle.lc_rules.specs.declared.states.TextState.{TextState}
-use Rattle.lc_rules.specs.declared.states.TextState.TheVariants.{Set, Unset, Auto, Other, Unspecified}
+use Rattle.lc_rules.specs.{TextWords.text_word, declared.states.TextState.{TextState, TheVariants.{Set, Unset, Auto, Other, Unspecified}}}
 use Rattle.lc_tree.specs.declared.entry.OtherKind.TheVariants.{Special, Mounted}
 
 -- a value that is found again by its word is the only one of it

@@ -1,24 +1,12 @@
 -- The explanation of a path by given answers: one state of a tree's directories, as far as an explanation asked for it.
-use Rattle.std.specs.Prelude.{◌≡◌, ℕ, Bool, List, [], ◌∷◌, ◌++◌, Result, Ok, Err}
-use Rattle.std.specs.List.{Contains}
-use Rattle.lc_paths.specs.Explanations.Answers.{MaySay}
-use Rattle.lc_paths.specs.Explanations.Explained.{Explanation, IsExplained}
-use Rattle.lc_paths.specs.Explanations.OpenDirs.{OpenDirModel, open_dir}
+use Rattle.std.specs.{Prelude.{◌≡◌, ℕ, Bool, List, [], ◌∷◌, ◌++◌, Result, Ok, Err}, List.Contains}
+use Rattle.lc_paths.specs.Explanations.{Answers.MaySay, Explained.{Explanation, IsExplained}, OpenDirs.{OpenDirModel, open_dir}}
 use Rattle.lc_paths.specs.declared.explaining.explain_options.ExplainOptions.{ExplainOptions}
 use Rattle.lc_glob.specs.Path.{segments_of}
-use Rattle.lc_level.specs.Answers.{Item, Items, Answers, Tree, entries_of}
-use Rattle.lc_level.specs.FaultLines.{FaultLineModel}
-use Rattle.lc_level.specs.Job.{JobModel}
-use Rattle.lc_level.specs.RuleFiles.{RuleBytes, rule_bytes}
-use Rattle.lc_level.specs.Filters.{FiltersModel, narrowed}
-use Rattle.lc_level.specs.TopJob.{top_job}
-use Rattle.lc_level.specs.TreeAnswers.{MayAnswer}
+use Rattle.lc_level.specs.{Answers.{Item, Items, Answers, Tree, entries_of}, FaultLines.FaultLineModel, Job.JobModel, RuleFiles.RuleBytes}
+use Rattle.lc_level.specs.{RuleFiles.rule_bytes, Filters.{FiltersModel, narrowed}, TopJob.top_job, TreeAnswers.MayAnswer}
 use Rattle.lc_level.specs.WellFormed.{IsWellFormed}
-use Rattle.lc_tree.specs.Listing.{EntryModel}
-use Rattle.lc_tree.specs.Paths.{names_of_path}
-use Rattle.lc_tree.specs.Trees.{Listings, Contents}
-use Rattle.lc_tree.specs.declared.entry.Kind.{Kind}
-use Rattle.lc_tree.specs.declared.entry.Kind.TheVariants.{Dir}
+use Rattle.lc_tree.specs.{Listing.EntryModel, Paths.names_of_path, Trees.{Listings, Contents}, declared.entry.Kind.{Kind, TheVariants.Dir}}
 use Rattle.lc_walk.specs.FoundAt.{LeadsTo}
 
 -- ---- an explanation

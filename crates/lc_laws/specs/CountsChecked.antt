@@ -1,31 +1,15 @@
 -- The law that a count and a check agree, if the only ignore file is the top's `.gitignore`.
-use Rattle.std.specs.Prelude.{◌≡◌, ◌⊎◌, ℕ, true, false, List, [], ◌∷◌, Option, Some, None, Ok, codes}
-use Rattle.std.specs.List.{Contains}
+use Rattle.std.specs.{Prelude.{◌≡◌, ◌⊎◌, ℕ, true, false, List, [], ◌∷◌, Option, Some, None, Ok, codes}, List.Contains}
 use Rattle.lc_glob.specs.Path.{segments_of}
-use Rattle.lc_level.specs.Answers.{Item, Tree}
-use Rattle.lc_level.specs.Job.{JobModel}
-use Rattle.lc_level.specs.Level.{by_rule}
-use Rattle.lc_level.specs.OneAnswer.{GivesOne}
-use Rattle.lc_level.specs.RuleFiles.{RuleBytes, rule_bytes}
-use Rattle.lc_level.specs.Filters.{FiltersModel, no_filters}
-use Rattle.lc_rules.specs.IgnoreRules.{RuleModel, rules_of}
-use Rattle.lc_rules.specs.declared.rule_source.RuleSource.{RuleSource}
+use Rattle.lc_level.specs.{Answers.{Item, Tree}, Job.JobModel, Level.by_rule, OneAnswer.GivesOne, RuleFiles.{RuleBytes, rule_bytes}}
+use Rattle.lc_level.specs.{Filters.{FiltersModel, no_filters}, FileReads.MayReadRules}
+use Rattle.lc_rules.specs.{IgnoreRules.{RuleModel, rules_of}, declared.rule_source.RuleSource.RuleSource}
 use Rattle.lc_paths.specs.Checks.CheckText.{file_verdict, path_word}
 use Rattle.lc_text.specs.PathLines.{is_bad_path}
-use Rattle.lc_tree.specs.Kinds.{is_dir}
-use Rattle.lc_level.specs.FileReads.{MayReadRules}
-use Rattle.lc_tree.specs.Trees.{Listings, Contents}
-use Rattle.lc_tree.specs.declared.entry.Kind.{Kind}
-use Rattle.lc_tree.specs.declared.entry.Kind.TheVariants.{File}
-use Rattle.lc_walk.specs.FoundAt.{LeadsTo}
-use Rattle.lc_walk.specs.GivenAnswers.{HasListings, IsReportBy}
-use Rattle.lc_walk.specs.WalkOptions.{asked_by, top_of}
-use Rattle.lc_walk.specs.Walks.{Walks}
-use Rattle.lc_walk.specs.declared.options.Options.{Options}
-use Rattle.lc_walk.specs.declared.report.Report.{Report}
-use Rattle.lc_laws.specs.ByAnswers.{IsEntryBy}
-use Rattle.lc_laws.specs.Entries.{HasListed, IsEntry}
-use Rattle.lc_laws.specs.ReportedPaths.{IsSkipped, IsSkippedAbove}
+use Rattle.lc_tree.specs.{Kinds.is_dir, Trees.{Listings, Contents}, declared.entry.Kind.{Kind, TheVariants.File}}
+use Rattle.lc_walk.specs.{FoundAt.LeadsTo, GivenAnswers.{HasListings, IsReportBy}, WalkOptions.{asked_by, top_of}, Walks.Walks}
+use Rattle.lc_walk.specs.declared.{options.Options.Options, report.Report.Report}
+use Rattle.lc_laws.specs.{ByAnswers.IsEntryBy, Entries.{HasListed, IsEntry}, ReportedPaths.{IsSkipped, IsSkippedAbove}}
 
 -- the only ignore file of a tree is the top's `.gitignore`, with these bytes
 pub record HasTopRules (lists : List ℕ → Listings) (gives : List ℕ → Contents) (bytes : List ℕ) : Type 0 where

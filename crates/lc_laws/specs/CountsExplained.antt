@@ -1,24 +1,15 @@
 -- The law that a count and an explanation agree.
-use Rattle.std.specs.Prelude.{◌≡◌, ◌⊎◌, ℕ, true, false, List, [], Ok}
-use Rattle.std.specs.List.{Contains}
+use Rattle.std.specs.{Prelude.{◌≡◌, ◌⊎◌, ℕ, true, false, List, [], Ok}, List.Contains}
 use Rattle.lc_paths.specs.Explanations.Answers.{MaySay}
 use Rattle.lc_paths.specs.Explanations.Explained.{Explanation, bad, faulted, below, ignored, included, unruled, left_out}
-use Rattle.lc_paths.specs.Explanations.Laws.{IsSaidKept}
-use Rattle.lc_paths.specs.declared.explaining.explain_options.ExplainOptions.{ExplainOptions}
-use Rattle.lc_level.specs.Answers.{Tree}
-use Rattle.lc_level.specs.Level.{Reason, named_git, by_rule, by_attribute, not_included, other_kind}
-use Rattle.lc_level.specs.OneAnswer.{GivesOne}
+use Rattle.lc_paths.specs.{Explanations.Laws.IsSaidKept, declared.explaining.explain_options.ExplainOptions.ExplainOptions}
+use Rattle.lc_level.specs.{Answers.Tree, Level.{Reason, named_git, by_rule, by_attribute, not_included, other_kind}, OneAnswer.GivesOne}
 use Rattle.lc_text.specs.PathLines.{is_bad_path}
-use Rattle.lc_tree.specs.Trees.{Listings, Contents}
-use Rattle.lc_tree.specs.declared.entry.Kind.{Kind}
-use Rattle.lc_walk.specs.GivenAnswers.{HasListings, IsReportBy}
-use Rattle.lc_walk.specs.WalkOptions.{asked_by, top_of}
-use Rattle.lc_walk.specs.Walks.{Walks}
-use Rattle.lc_walk.specs.declared.options.Options.{Options}
-use Rattle.lc_walk.specs.declared.report.Report.{Report}
-use Rattle.lc_laws.specs.ByAnswers.{SaysBy, AgreeOnWay, IsEntryBy}
-use Rattle.lc_laws.specs.Entries.{IsEntry}
-use Rattle.lc_laws.specs.ReportedPaths.{IsCounted, IsSkipped, IsKept, IsSkippedAbove}
+use Rattle.lc_tree.specs.{Trees.{Listings, Contents}, declared.entry.Kind.Kind}
+use Rattle.lc_walk.specs.{GivenAnswers.{HasListings, IsReportBy}, WalkOptions.{asked_by, top_of}, Walks.Walks}
+use Rattle.lc_walk.specs.declared.{options.Options.Options, report.Report.Report}
+use Rattle.lc_laws.specs.{ByAnswers.{SaysBy, AgreeOnWay, IsEntryBy}, Entries.IsEntry, ReportedPaths.{IsCounted, IsSkipped, IsKept}}
+use Rattle.lc_laws.specs.ReportedPaths.{IsSkippedAbove}
 
 -- a count of the whole tree that lists its files and what it skips, and an explanation by the same filters
 pub record AskAlike (o : Options) (q : ExplainOptions) : Type 0 where

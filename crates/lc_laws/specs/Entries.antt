@@ -1,11 +1,7 @@
 -- The entries of a tree, by its listings alone.
-use Rattle.std.specs.Prelude.{ℕ, List, [], ◌∷◌, Ok}
-use Rattle.std.specs.List.{Contains}
+use Rattle.std.specs.{Prelude.{ℕ, List, [], ◌∷◌, Ok}, List.Contains}
 use Rattle.lc_glob.specs.Path.{path_in, segments_of}
-use Rattle.lc_tree.specs.Listing.{EntryModel}
-use Rattle.lc_tree.specs.Trees.{Listings}
-use Rattle.lc_tree.specs.declared.entry.Kind.{Kind}
-use Rattle.lc_tree.specs.declared.entry.Kind.TheVariants.{Dir}
+use Rattle.lc_tree.specs.{Listing.EntryModel, Trees.Listings, declared.entry.Kind.{Kind, TheVariants.Dir}}
 
 module _ (lists : List ℕ → Listings) where
   -- the listing of the directory at a path may have an entry of this name and kind

@@ -1,18 +1,12 @@
 -- The errors and the skipped entries of a walk of included files, by those of the walk of all files.
-use Rattle.std.specs.Prelude.{◌≡◌, ◌⊎◌, ◌<◌, ℕ, Bool, true, false, List, length, Option, None, option_map, ⊤}
-use Rattle.std.specs.List.{Contains}
+use Rattle.std.specs.{Prelude.{◌≡◌, ◌⊎◌, ◌<◌, ℕ, Bool, true, false, List, length, Option, None, option_map, ⊤}, List.Contains}
 use Rattle.lc_glob.specs.Path.{path_in}
-use Rattle.lc_level.specs.Answers.{Tree}
-use Rattle.lc_level.specs.Job.{JobModel}
-use Rattle.lc_level.specs.Filters.{FiltersModel, including, is_included, patterns_for}
-use Rattle.lc_level.specs.Level.{Fate, SkippedLineModel, counted, failed, walked, skipped, faulted_level, level, not_included}
-use Rattle.lc_level.specs.declared.fault_word.FaultWord.{FaultWord}
-use Rattle.lc_level.specs.declared.fault_word.FaultWord.TheVariants.{Absent}
+use Rattle.lc_level.specs.{Answers.Tree, Job.JobModel, Filters.{FiltersModel, including, is_included, patterns_for}, Level.Fate}
+use Rattle.lc_level.specs.Level.{SkippedLineModel, counted, failed, walked, skipped, faulted_level, level, not_included}
+use Rattle.lc_level.specs.declared.fault_word.FaultWord.{FaultWord, TheVariants.Absent}
 use Rattle.lc_rules.specs.IgnoreRules.{rules_of}
 use Rattle.lc_tree.specs.declared.entry.Kind.TheVariants.{File}
-use Rattle.lc_walk.specs.Found.{found_fault, found_skipped}
-use Rattle.lc_walk.specs.FoundAt.{HasAbsent, HasEntry, LeadsTo}
-use Rattle.lc_walk.specs.RecursiveWalk.{walk_of}
+use Rattle.lc_walk.specs.{Found.{found_fault, found_skipped}, FoundAt.{HasAbsent, HasEntry, LeadsTo}, RecursiveWalk.walk_of}
 
 -- whether patterns include a file of a directory
 abbrev pub includes : Option (List ℕ) → List ℕ → List ℕ → Bool

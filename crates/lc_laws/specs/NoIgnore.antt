@@ -1,14 +1,9 @@
 -- The law that a count that reads no ignore file of a tree skips no entry by a rule of such a file.
 use Rattle.std.specs.Prelude.{◌≡◌, ◌⊎◌, ℕ, true, List, Ok}
-use Rattle.lc_level.specs.Answers.{Tree}
-use Rattle.lc_level.specs.Level.{by_rule}
-use Rattle.lc_rules.specs.declared.rule_source.RuleSource.{RuleSource}
-use Rattle.lc_rules.specs.declared.rule_source.RuleSource.TheVariants.{CommandLine, ExcludeFrom}
+use Rattle.lc_level.specs.{Answers.Tree, Level.by_rule}
+use Rattle.lc_rules.specs.declared.rule_source.RuleSource.{RuleSource, TheVariants.{CommandLine, ExcludeFrom}}
 use Rattle.lc_tree.specs.Trees.{Listings, Contents}
-use Rattle.lc_walk.specs.GivenAnswers.{IsReportBy}
-use Rattle.lc_walk.specs.WalkOptions.{asked_by}
-use Rattle.lc_walk.specs.Walks.{Walks}
-use Rattle.lc_walk.specs.declared.options.Options.{Options}
+use Rattle.lc_walk.specs.{GivenAnswers.IsReportBy, WalkOptions.asked_by, Walks.Walks, declared.options.Options.Options}
 use Rattle.lc_walk.specs.declared.report.Report.{Report}
 use Rattle.lc_laws.specs.ReportedPaths.{IsSkipped}
 

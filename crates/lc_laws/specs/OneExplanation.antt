@@ -1,10 +1,8 @@
 -- The law that a path has one explanation.
 use Rattle.std.specs.Prelude.{◌≡◌, ℕ, Bool, List}
-use Rattle.lc_paths.specs.Explanations.Answers.{MaySay}
-use Rattle.lc_paths.specs.Explanations.Explained.{Explanation}
+use Rattle.lc_paths.specs.Explanations.{Answers.MaySay, Explained.Explanation}
 use Rattle.lc_paths.specs.declared.explaining.explain_options.ExplainOptions.{ExplainOptions}
-use Rattle.lc_level.specs.Answers.{Tree}
-use Rattle.lc_level.specs.OneAnswer.{GivesOne}
+use Rattle.lc_level.specs.{Answers.Tree, OneAnswer.GivesOne}
 use Rattle.lc_tree.specs.Trees.{Listings, Contents}
 use Rattle.lc_walk.specs.GivenAnswers.{HasListings}
 use Rattle.lc_laws.specs.ByAnswers.{top_asked, whole_asked, SaysBy, AgreeOnWay}

@@ -1,15 +1,11 @@
 -- The text that a count without options, or with `--files`, prints to a file or a pipe, written from its report alone.
-use Rattle.std.specs.Prelude.{ℕ, Bool, if◌then◌else◌, List, [], ◌∷◌, ◌++◌, codes, decimal, Option, option_map, unwrap_or}
-use Rattle.std.specs.List.{flat_map, join_with_byte}
+use Rattle.std.specs.{Prelude.{ℕ, Bool, if◌then◌else◌, List, [], ◌∷◌, ◌++◌, codes, decimal, Option, option_map, unwrap_or}, List.flat_map}
+use Rattle.std.specs.List.{join_with_byte}
 use Rattle.lc_census.specs.EolWords.{eol_word}
-use Rattle.lc_level.specs.FaultLines.{FaultLineModel}
-use Rattle.lc_level.specs.FaultWords.{fault_word}
-use Rattle.lc_level.specs.Level.{FileLineModel}
+use Rattle.lc_level.specs.{FaultLines.FaultLineModel, FaultWords.fault_word, Level.FileLineModel}
 use Rattle.lc_rules.specs.TextWords.{text_word}
 use Rattle.lc_text.specs.Escape.{escape_bytes, escape_path}
-use Rattle.lc_walk.specs.TallyRows.{TallyRowModel}
-use Rattle.lc_walk.specs.declared.report.Report.{Report}
-use Rattle.lc_walk.specs.declared.tally.sums.Sums.{Sums}
+use Rattle.lc_walk.specs.{TallyRows.TallyRowModel, declared.{report.Report.Report, tally.sums.Sums.Sums}}
 
 -- a line has a tab between each two fields, and a line feed at its end; what is missing is a dash
 abbrev pub line : List (List ℕ) → List ℕ

@@ -1,16 +1,10 @@
 -- The law that a plain table is written from its report alone.
 use Rattle.std.specs.Prelude.{◌≡◌, ℕ, Bool, false, List, [], None, Ok}
 use Rattle.lc_formats.specs.Tsv.{tsv_of}
-use Rattle.lc_rows.specs.Laws.{all_columns}
-use Rattle.lc_rows.specs.Sheets.{IsSheetWith}
-use Rattle.lc_rows.specs.declared.classes.ClassSums.{ClassSums}
-use Rattle.lc_sheet.specs.Sheets.{SheetModel}
-use Rattle.lc_sheet.specs.declared.table_options.Format.TheVariants.{Tsv}
-use Rattle.lc_sheet.specs.declared.table_options.TableOptions.{TableOptions}
+use Rattle.lc_rows.specs.{Laws.all_columns, Sheets.IsSheetWith, declared.classes.ClassSums.ClassSums}
+use Rattle.lc_sheet.specs.{Sheets.SheetModel, declared.table_options.{Format.TheVariants.Tsv, TableOptions.TableOptions}}
 use Rattle.lc_tree.specs.Trees.{Listings, Contents}
-use Rattle.lc_walk.specs.Walks.{Walks}
-use Rattle.lc_walk.specs.declared.options.Options.{Options}
-use Rattle.lc_walk.specs.declared.report.Report.{Report}
+use Rattle.lc_walk.specs.{Walks.Walks, declared.{options.Options.Options, report.Report.Report}}
 use Rattle.lc_laws.specs.PlainTable.{plain_table}
 
 -- the options of the table of a count without options, or with `--files`, that is not printed on a terminal

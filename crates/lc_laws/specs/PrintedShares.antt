@@ -1,16 +1,11 @@
 -- Shares of a total, as a text for reading shows them.
-use Rattle.std.specs.Prelude.{⊤, ◌≡◌, ◌≤◌, ℕ, List}
-use Rattle.std.specs.List.{All}
-use Rattle.lc_formats.specs.Cells.{shown_text}
-use Rattle.lc_formats.specs.Shares.{share_word}
-use Rattle.lc_rows.specs.Sheets.{IsSheetOf}
-use Rattle.lc_rows.specs.WalkedReports.{IsOfWalk, ListsFilesFor}
-use Rattle.lc_sheet.specs.Sheets.{SectionModel, SheetModel}
-use Rattle.lc_sheet.specs.Values.{ValueModel, missing, summed, blank, word, name, path, number, share, bar, difference}
-use Rattle.lc_sheet.specs.declared.table_options.TableOptions.{TableOptions}
+use Rattle.std.specs.{Prelude.{⊤, ◌≡◌, ◌≤◌, ℕ, List}, List.All}
+use Rattle.lc_formats.specs.{Cells.shown_text, Shares.share_word}
+use Rattle.lc_rows.specs.{Sheets.IsSheetOf, WalkedReports.{IsOfWalk, ListsFilesFor}}
+use Rattle.lc_sheet.specs.{Sheets.{SectionModel, SheetModel}, Values.{ValueModel, missing, summed, blank, word, name, path, number, share}}
+use Rattle.lc_sheet.specs.{Values.{bar, difference}, declared.table_options.TableOptions.TableOptions}
 use Rattle.lc_tree.specs.Trees.{Listings, Contents}
-use Rattle.lc_walk.specs.declared.options.Options.{Options}
-use Rattle.lc_walk.specs.declared.report.Report.{Report}
+use Rattle.lc_walk.specs.declared.{options.Options.Options, report.Report.Report}
 
 -- if a value is a share, its text is that of at most 1,000 tenths of a per cent
 abbrev pub IsPrintedWithin : ValueModel → Type 0

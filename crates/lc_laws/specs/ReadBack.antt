@@ -1,30 +1,17 @@
 -- The law that a report is the same after it was printed as JSON and read again.
-use Rattle.std.specs.Prelude.{◌≡◌, ◌<◌, ◌^◌, ◌++◌, ℕ, true, List, [], ◌∷◌, map, Option, None, option_map}
-use Rattle.std.specs.Bool.{MatchBool}
-use Rattle.std.specs.List.{All}
+use Rattle.std.specs.{Prelude.{◌≡◌, ◌<◌, ◌^◌, ◌++◌, ℕ, true, List, [], ◌∷◌, map, Option, None, option_map}, Bool.MatchBool, List.All}
 use Rattle.std.specs.Option.{IfSome}
 use Rattle.lc_census.specs.declared.line_count.Count.{Count}
-use Rattle.lc_formats.specs.JsonSheets.{json_of}
-use Rattle.lc_formats.specs.JsonText.{IsDocument}
-use Rattle.lc_formats.specs.Readable.{AreBytes}
-use Rattle.lc_level.specs.FaultLines.{FaultLineModel}
-use Rattle.lc_level.specs.Level.{FileLineModel, SkippedLineModel}
-use Rattle.lc_level.specs.ReasonWords.{attribute_of, reason_word, rule_of}
-use Rattle.lc_reading.specs.Texts.{AreReportsOf}
-use Rattle.lc_reading.specs.declared.read_report.ReadReport.{ReadReport}
-use Rattle.lc_rows.specs.Classes.{binary_sums, text_sums}
-use Rattle.lc_rows.specs.Sheets.{IsSheetOf}
-use Rattle.lc_rows.specs.WalkedReports.{IsOfWalk}
-use Rattle.lc_rows.specs.Words.{kind_word}
+use Rattle.lc_formats.specs.{JsonSheets.json_of, JsonText.IsDocument, Readable.AreBytes}
+use Rattle.lc_level.specs.{FaultLines.FaultLineModel, Level.{FileLineModel, SkippedLineModel}, ReasonWords.{attribute_of, reason_word}}
+use Rattle.lc_level.specs.ReasonWords.{rule_of}
+use Rattle.lc_reading.specs.{Texts.AreReportsOf, declared.read_report.ReadReport.ReadReport}
+use Rattle.lc_rows.specs.{Classes.{binary_sums, text_sums}, Sheets.IsSheetOf, WalkedReports.IsOfWalk, Words.kind_word}
 use Rattle.lc_rules.specs.declared.rule_source.RuleSource.{RuleSource}
-use Rattle.lc_sheet.specs.Sheets.{SheetModel}
-use Rattle.lc_sheet.specs.declared.table_options.Format.TheVariants.{Json}
-use Rattle.lc_sheet.specs.declared.table_options.TableOptions.{TableOptions}
+use Rattle.lc_sheet.specs.{Sheets.SheetModel, declared.table_options.{Format.TheVariants.Json, TableOptions.TableOptions}}
 use Rattle.lc_text.specs.RulePlaces.{source_directory, source_name}
 use Rattle.lc_tree.specs.Trees.{Listings, Contents}
-use Rattle.lc_walk.specs.Sums.{IsInRange}
-use Rattle.lc_walk.specs.declared.options.Options.{Options}
-use Rattle.lc_walk.specs.declared.report.Report.{Report}
+use Rattle.lc_walk.specs.{Sums.IsInRange, declared.{options.Options.Options, report.Report.Report}}
 
 -- ---- numbers and bytes that fit their types
 

@@ -1,12 +1,9 @@
 -- Where a report has a path.
-use Rattle.std.specs.Prelude.{◌≡◌, ◌⊎◌, ℕ, List, ◌∷◌, ◌++◌}
-use Rattle.std.specs.List.{Contains}
+use Rattle.std.specs.{Prelude.{◌≡◌, ◌⊎◌, ℕ, List, ◌∷◌, ◌++◌}, List.Contains}
 use Rattle.lc_glob.specs.Bytes.{slash}
 use Rattle.lc_level.specs.Level.{Reason}
-use Rattle.lc_tree.specs.declared.entry.Kind.{Kind}
-use Rattle.lc_tree.specs.declared.entry.Kind.TheVariants.{File, Dir, Other}
-use Rattle.lc_walk.specs.ReportLines.{file_paths, fault_paths, skipped_paths}
-use Rattle.lc_walk.specs.declared.report.Report.{Report}
+use Rattle.lc_tree.specs.declared.entry.Kind.{Kind, TheVariants.{File, Dir, Other}}
+use Rattle.lc_walk.specs.{ReportLines.{file_paths, fault_paths, skipped_paths}, declared.report.Report.Report}
 
 module _ (r : Report) (path : List ℕ) where
   -- the path is that of a counted file

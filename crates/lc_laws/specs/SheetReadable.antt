@@ -1,17 +1,10 @@
 -- The sheet of a report, as its texts show it: what is known of its columns and values.
-use Rattle.std.specs.Prelude.{◌≡◌, [], unwrap_or, IfSome, ⊤}
-use Rattle.std.specs.List.{All}
+use Rattle.std.specs.{Prelude.{◌≡◌, [], unwrap_or, IfSome, ⊤}, List.All}
 use Rattle.lc_level.specs.Level.{SkippedLineModel, Reason, named_git, by_rule, by_attribute, not_included, other_kind}
-use Rattle.lc_sheet.specs.Sheets.{SheetModel}
-use Rattle.lc_sheet.specs.declared.table_options.Format.TheVariants.{Table}
-use Rattle.lc_sheet.specs.declared.table_options.TableOptions.{TableOptions}
+use Rattle.lc_sheet.specs.{Sheets.SheetModel, declared.table_options.{Format.TheVariants.Table, TableOptions.TableOptions}}
 use Rattle.lc_walk.specs.declared.report.Report.{Report}
-use Rattle.lc_rows.specs.RowKeys.{ShownRowModel}
-use Rattle.lc_rows.specs.Sheets.{sheet_of}
-use Rattle.lc_rows.specs.Views.{ViewModel}
-use Rattle.lc_formats.specs.Csv.{csv_section}
-use Rattle.lc_formats.specs.CsvLaws.{HasColumns}
-use Rattle.lc_formats.specs.Readable.{AreBytes, IsListed, IsTabular}
+use Rattle.lc_rows.specs.{RowKeys.ShownRowModel, Sheets.sheet_of, Views.ViewModel}
+use Rattle.lc_formats.specs.{Csv.csv_section, CsvLaws.HasColumns, Readable.{AreBytes, IsListed, IsTabular}}
 
 abbrev pub HasByteName : Reason → Type 0
 HasByteName named_git = ⊤

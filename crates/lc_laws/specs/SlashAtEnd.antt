@@ -1,15 +1,11 @@
 -- The law that a slash at the end of a directory's path changes nothing.
 use Rattle.std.specs.Prelude.{ℕ, true, false, List}
-use Rattle.lc_paths.specs.Explanations.Answers.{MaySay}
-use Rattle.lc_paths.specs.Explanations.Explained.{Explanation}
+use Rattle.lc_paths.specs.Explanations.{Answers.MaySay, Explained.Explanation}
 use Rattle.lc_paths.specs.declared.explaining.explain_options.ExplainOptions.{ExplainOptions}
-use Rattle.lc_level.specs.Answers.{Tree}
-use Rattle.lc_level.specs.OneAnswer.{GivesOne}
-use Rattle.lc_tree.specs.Trees.{Listings, Contents}
-use Rattle.lc_tree.specs.declared.entry.Kind.TheVariants.{Dir}
+use Rattle.lc_level.specs.{Answers.Tree, OneAnswer.GivesOne}
+use Rattle.lc_tree.specs.{Trees.{Listings, Contents}, declared.entry.Kind.TheVariants.Dir}
 use Rattle.lc_walk.specs.GivenAnswers.{HasListings}
-use Rattle.lc_laws.specs.ByAnswers.{top_asked, whole_asked, SaysBy, IsEntryBy}
-use Rattle.lc_laws.specs.Entries.{IsEntry}
+use Rattle.lc_laws.specs.{ByAnswers.{top_asked, whole_asked, SaysBy, IsEntryBy}, Entries.IsEntry}
 
 -- by given answers, the explanation of a directory's path with a slash at its end is also the explanation without it
 abbrev pub AnswersSlashLaw : Type 0

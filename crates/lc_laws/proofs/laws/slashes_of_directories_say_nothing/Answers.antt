@@ -1,5 +1,4 @@
-use Rattle.lc_laws.proofs.SlashByAnswers.{answers_slash_law}
-use Rattle.lc_laws.proofs.SlashesSaidAlike.{slash_law}
+use Rattle.lc_laws.proofs.{SlashByAnswers.answers_slash_law, SlashesSaidAlike.slash_law}
 use Rattle.lc_laws.proofs.laws.slashes_of_directories_say_nothing.Goals as goal
 
 pub returns-clause-answers : goal.returns-clause-answers
