@@ -1,21 +1,13 @@
 -- Paths that are asked for, seen from directories.
-use Rattle.std.proofs.Common.{◌≡◌, ◌≢◌, ℕ, ◌==◌, Bool, true, false, not, ◌||◌, cond, List, [], ◌∷◌, ◌++◌, map, refl, sym, ◌∙◌, ap}
-use Rattle.std.proofs.Common.{Option, Some, None, nat_eq, length, append_assoc, bytes_eq, eq-eqb, MatchOption}
-use Rattle.std.specs.Borrow.{Bor}
-use Rattle.std.specs.List.{filter, filter_map, cons_option, list_any}
-use Rattle.std.specs.Option.{is_some}
-use Rattle.std.specs.Ordering.{is_lt}
-use Rattle.std.specs.Prelude.{option_map}
-use Rattle.std.proofs.lemmas.Bool.{eqb-true}
+use Rattle.std.proofs.Common.{◌≡◌, ◌≢◌, ℕ, ◌==◌, Bool, true, false, not, ◌||◌, cond, List, [], ◌∷◌, ◌++◌, map, refl, sym, ◌∙◌, ap, Option}
+use Rattle.std.proofs.{Common.{Some, None, nat_eq, length, append_assoc, bytes_eq, eq-eqb, MatchOption}, lemmas.Bool.eqb-true}
 use Rattle.std.proofs.Math.Dec.{eqb-suc-zero}
-use Rattle.lc_glob.specs.Bytes.{slash}
-use Rattle.lc_glob.specs.Path.{path_in}
-use Rattle.lc_level.specs.Answers.{Item, entry_of, entries_of}
-use Rattle.lc_level.specs.Narrowing.{after, rest_from, put_among, each_once, leads_to, rests, takes_part, part_of, absent_from}
-use Rattle.lc_level.specs.PathSteps.{is_led_to, unled}
+use Rattle.std.specs.{Borrow.Bor, List.{filter, filter_map, cons_option, list_any}, Option.is_some, Ordering.is_lt, Prelude.option_map}
+use Rattle.lc_glob.specs.{Bytes.slash, Path.path_in}
+use Rattle.lc_level.specs.{Answers.{Item, entry_of, entries_of}, Narrowing.{after, rest_from, put_among, each_once, leads_to, rests}}
+use Rattle.lc_level.specs.{Narrowing.{takes_part, part_of, absent_from}, PathSteps.{is_led_to, unled}}
 use Rattle.lc_level.proofs.WellFormed.{same_bytes}
-use Rattle.lc_tree.specs.ByteOrder.{bytes_cmp}
-use Rattle.lc_tree.specs.Listing.{EntryModel}
+use Rattle.lc_tree.specs.{ByteOrder.bytes_cmp, Listing.EntryModel}
 
 -- a test of mapped elements
 pub list_any-map : {A B : Type 0} (test : B → Bool) (f : A → B) (xs : List A) → list_any test (map f xs) ≡ list_any (λ x. test (f x)) xs

@@ -1,15 +1,11 @@
 -- What the first of rising elements that isn't before a place tells of all.
-use Rattle.std.proofs.Common.{◌≡◌, ℕ, zero, suc, ◌<◌, ◌≤◌, Bool, true, false, ◌||◌, List, [], ◌∷◌, ◌++◌, length, get_or, map}
-use Rattle.std.proofs.Common.{refl, ◌∙◌, ap, Bor, arith, bytes_eq}
-use Rattle.std.specs.declared.cmp.Ordering.TheVariants.{Less}
-use Rattle.std.specs.List.{list_any, AllByRecursion}
-use Rattle.std.specs.List.Sorted.{IsPartitionedBy, IsPartitionPoint}
-use Rattle.std.proofs.lemmas.Map.Keys.{sorted_head, sorted_tail}
+use Rattle.std.proofs.Common.{◌≡◌, ℕ, zero, suc, ◌<◌, ◌≤◌, Bool, true, false, ◌||◌, List, [], ◌∷◌, ◌++◌, length, get_or, map, refl, ◌∙◌}
+use Rattle.std.proofs.{Common.{ap, Bor, arith, bytes_eq}, lemmas.Map.Keys.{sorted_head, sorted_tail}}
+use Rattle.std.specs.{declared.cmp.Ordering.TheVariants.Less, List.{list_any, AllByRecursion, Sorted.{IsPartitionedBy, IsPartitionPoint}}}
 use Rattle.std.specs.Ordering.{is_lt}
 use Rattle.lc_glob.specs.Bytes.{slash}
 use Rattle.lc_level.specs.Narrowing.{stands_below}
-use Rattle.lc_level.proofs.AskedPaths.{list_any-map}
-use Rattle.lc_level.proofs.PathOrder.{falls, another, another_later, early_below, late_below}
+use Rattle.lc_level.proofs.{AskedPaths.list_any-map, PathOrder.{falls, another, another_later, early_below, late_below}}
 use Rattle.lc_tree.specs.ByteOrder.{bytes_cmp, AreInOrder}
 
 -- what `partition_point` answers for elements of which those that come before a place stand in front

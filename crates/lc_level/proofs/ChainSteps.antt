@@ -1,18 +1,9 @@
 -- What both chains are by a directory's rule files.
 use Rattle.std.proofs.Common.{◌≡◌, ℕ, refl, ap, ◌∙◌, Option, Some, None, subst, [], List}
-use Rattle.std.specs.Result.{IfOk}
-use Rattle.std.specs.declared.sync.Arc.{Arc}
-use Rattle.std.specs.Prelude.{Result}
-use Rattle.lc_rules.specs.AttrChains.{no_files, with_tree_file, with_info_file}
-use Rattle.lc_rules.specs.AttrLines.{AttrFileModel}
-use Rattle.lc_rules.specs.AttrStates.{AttrChainModel}
-use Rattle.lc_rules.specs.IgnoreChains.{ChainModel, with_info, with_own}
-use Rattle.lc_rules.specs.IgnoreRules.{RuleModel}
-use Rattle.lc_level.specs.Job.{JobModel}
-use Rattle.lc_level.specs.RuleFiles.{with_file_at, first_of}
-use Rattle.lc_level.specs.RuleReads.{shared}
-use Rattle.lc_level.specs.Filters.{FiltersModel}
-use Rattle.lc_level.specs.TopJob.{top_job}
+use Rattle.std.specs.{Result.IfOk, declared.sync.Arc.Arc, Prelude.Result}
+use Rattle.lc_rules.specs.{AttrChains.{no_files, with_tree_file, with_info_file}, AttrLines.AttrFileModel, AttrStates.AttrChainModel}
+use Rattle.lc_rules.specs.{IgnoreChains.{ChainModel, with_info, with_own}, IgnoreRules.RuleModel}
+use Rattle.lc_level.specs.{Job.JobModel, RuleFiles.{with_file_at, first_of}, RuleReads.shared, Filters.FiltersModel, TopJob.top_job}
 
 module _ {A B : Type 0} (depth : ℕ) where
   module _ (chain below new : ChainModel) (own : Option (Arc (List RuleModel) A)) (info : Option (Arc (List RuleModel) B))

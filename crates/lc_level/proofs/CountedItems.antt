@@ -4,21 +4,13 @@ use Rattle.std.proofs.Common.{Result, suc, if◌then◌else◌, bytes_eq}
 use Rattle.std.specs.List.{filter, flat_map, AllByRecursion}
 use Rattle.lc_census.specs.declared.line_count.Count.{Count}
 use Rattle.lc_glob.specs.Path.{path_in}
-use Rattle.lc_level.specs.Answers.{Item, file_item, directory_item, other_item, entry_of, entries_of}
-use Rattle.lc_level.specs.CountedNames.{AreCounted, file_fates}
-use Rattle.lc_level.specs.Job.{JobModel}
-use Rattle.lc_level.specs.Classified.{kept_file, kept_directory, skipped_entry}
-use Rattle.lc_level.specs.Level.{Fate, is_counted}
-use Rattle.lc_level.specs.Level.{file_fate, fates_of, counted_of, failed_of, counted_in, failed_in}
-use Rattle.lc_level.specs.Filters.{FiltersModel}
-use Rattle.lc_tree.specs.Listing.{EntryModel}
-use Rattle.lc_tree.specs.declared.entry.Kind.TheVariants.{File, Dir, Other}
-use Rattle.lc_level.specs.RuleFiles.{file_named, has_directory}
-use Rattle.lc_level.specs.TreeAnswers.{MayHave}
-use Rattle.lc_tree.specs.Trees.{Listings, Contents}
-use Rattle.lc_level.specs.FileReads.{MayCount}
-use Rattle.lc_level.proofs.Fates.{counted_by, fault_by, files_by, faults_by, children_by, skipped_by_item}
+use Rattle.lc_level.specs.{Answers.{Item, file_item, directory_item, other_item, entry_of, entries_of}, CountedNames.AreCounted}
+use Rattle.lc_level.specs.{CountedNames.file_fates, Job.JobModel, Classified.{kept_file, kept_directory, skipped_entry}, Level.Fate}
+use Rattle.lc_level.specs.{Level.{is_counted, file_fate, fates_of, counted_of, failed_of, counted_in, failed_in}, Filters.FiltersModel}
+use Rattle.lc_level.specs.{RuleFiles.{file_named, has_directory}, TreeAnswers.MayHave, FileReads.MayCount}
 use Rattle.lc_level.specs.declared.fault_word.FaultWord.{FaultWord}
+use Rattle.lc_tree.specs.{Listing.EntryModel, declared.entry.Kind.TheVariants.{File, Dir, Other}, Trees.{Listings, Contents}}
+use Rattle.lc_level.proofs.Fates.{counted_by, fault_by, files_by, faults_by, children_by, skipped_by_item}
 
 abbrev pub Results : Type 0
 Results = List (Result Count FaultWord)

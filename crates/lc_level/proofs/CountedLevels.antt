@@ -1,34 +1,21 @@
 -- The level of a directory, by what opening it and counting its files answered.
-use Rattle.std.proofs.Common.{◌≡◌, ℕ, Bool, true, false, ◌&&◌, List, [], ◌++◌, length, refl, sym, ◌∙◌, ap, subst}
-use Rattle.std.proofs.Common.{Ok, None, cond, if◌then◌else◌, codes}
+use Rattle.std.proofs.Common.{◌≡◌, ℕ, Bool, true, false, ◌&&◌, List, [], ◌++◌, length, refl, sym, ◌∙◌, ap, subst, Ok, None, cond}
+use Rattle.std.proofs.Common.{if◌then◌else◌, codes}
 use Rattle.std.specs.List.{filter, flat_map, list_any, AllByRecursion}
 use Rattle.lc_glob.specs.Path.{path_in}
-use Rattle.lc_level.specs.Answers.{Item, Items, Answers, entries_of}
-use Rattle.lc_level.specs.CountedNames.{AreCounted, file_fates, IsCounted}
-use Rattle.lc_level.specs.Deep.{is_too_deep, has_too_deep}
-use Rattle.lc_level.specs.Job.{JobModel}
-use Rattle.lc_level.specs.Laws.{parts_with}
-use Rattle.lc_level.specs.Classified.{kept_file, bytes_of}
-use Rattle.lc_level.specs.Level.{SkippedLineModel, IsLevelOf, listed_level, level, level_of, level_after, absent_faults}
-use Rattle.lc_level.specs.Level.{fates_of, counted_in, failed_in, walked_in, skipped_in}
-use Rattle.lc_level.specs.Narrowing.{rests, takes_part, part_of, absent_from}
-use Rattle.lc_level.specs.PathSteps.{unled}
-use Rattle.lc_level.specs.Filters.{FiltersModel}
-use Rattle.lc_tree.specs.Listing.{EntryModel, IsListing}
-use Rattle.lc_level.specs.WellFormed.{IsWellFormed, listed_in}
-use Rattle.lc_level.specs.Opens.{IsOpened}
-use Rattle.lc_level.specs.RuleFiles.{file_named, ignore_named, has_git, is_top, and_then, both_read, info_items, info_bytes, own_bytes}
-use Rattle.lc_level.specs.RuleFiles.{rule_bytes}
-use Rattle.lc_level.specs.TreeAnswers.{MayHave, MayList, MayAnswer, items_of}
-use Rattle.lc_tree.specs.Trees.{Listings, Contents}
-use Rattle.lc_level.specs.declared.counting.CountedFiles.{CountedFiles}
+use Rattle.lc_level.specs.{Answers.{Item, Items, Answers, entries_of}, CountedNames.{AreCounted, file_fates, IsCounted}, Deep.is_too_deep}
+use Rattle.lc_level.specs.{Deep.has_too_deep, Job.JobModel, Laws.parts_with, Classified.{kept_file, bytes_of}, Level.SkippedLineModel}
+use Rattle.lc_level.specs.Level.{IsLevelOf, listed_level, level, level_of, level_after, absent_faults, fates_of, counted_in, failed_in}
+use Rattle.lc_level.specs.{Level.{walked_in, skipped_in}, Narrowing.{rests, takes_part, part_of, absent_from}, PathSteps.unled}
+use Rattle.lc_level.specs.{Filters.FiltersModel, WellFormed.{IsWellFormed, listed_in}, Opens.IsOpened, RuleFiles.{file_named, ignore_named}}
+use Rattle.lc_level.specs.RuleFiles.{has_git, is_top, and_then, both_read, info_items, info_bytes, own_bytes, rule_bytes}
+use Rattle.lc_level.specs.{TreeAnswers.{MayHave, MayList, MayAnswer, items_of}, declared.counting.CountedFiles.CountedFiles}
 use Rattle.lc_level.specs.declared.opening.Opened.{Opened}
-use Rattle.lc_level.proofs.Fates.{counted_items_are, failed_items_are, walked_items_are, skipped_items_are}
-use Rattle.lc_level.proofs.AskedPaths.{absent_is}
-use Rattle.lc_level.proofs.DeepEntries.{deep_by_entries}
-use Rattle.lc_level.proofs.CountedItems.{counted_items, counted_all, part_counted, same_entries, same_file, same_directory, may_counted}
-use Rattle.lc_level.proofs.CountedItems.{same_children, same_skipped, same_number, number_of_fates, files_of_items, faults_of_items}
-use Rattle.lc_level.proofs.CountedItems.{children_of_items, skipped_of_items}
+use Rattle.lc_tree.specs.{Listing.{EntryModel, IsListing}, Trees.{Listings, Contents}}
+use Rattle.lc_level.proofs.{Fates.{counted_items_are, failed_items_are, walked_items_are, skipped_items_are}, AskedPaths.absent_is}
+use Rattle.lc_level.proofs.{DeepEntries.deep_by_entries, CountedItems.{counted_items, counted_all, part_counted, same_entries, same_file}}
+use Rattle.lc_level.proofs.CountedItems.{same_directory, may_counted, same_children, same_skipped, same_number, number_of_fates}
+use Rattle.lc_level.proofs.CountedItems.{files_of_items, faults_of_items, children_of_items, skipped_of_items}
 
 -- what is left out, where that is asked for
 abbrev asked : Bool → List SkippedLineModel → List SkippedLineModel

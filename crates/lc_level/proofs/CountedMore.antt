@@ -1,26 +1,16 @@
 -- Counting goes on, name by name.
 use Rattle.std.proofs.Common.{◌≡◌, false, codes, ℕ, List, [], ◌∷◌, ◌++◌, refl, sym, ◌∙◌, ap, subst, Result, Ok, Err, Vec, append-nil}
-use Rattle.std.proofs.Common.{append_assoc}
-use Rattle.std.specs.Global.{Global}
-use Rattle.std.specs.List.{flat_map}
-use Rattle.std.proofs.lemmas.Grind.{flat_map-append}
-use Rattle.std.specs.declared.alloc.AllocError.{AllocError}
+use Rattle.std.proofs.{Common.append_assoc, lemmas.Grind.flat_map-append}
+use Rattle.std.specs.{Global.Global, List.flat_map, declared.alloc.AllocError.AllocError}
 use Rattle.lc_census.specs.declared.line_count.Count.{Count}
 use Rattle.lc_glob.specs.Path.{path_in}
-use Rattle.lc_level.specs.CountedNames.{AreCounted, file_fates, AddsResult, AddsCounted, IsCounted}
-use Rattle.lc_level.specs.FileReads.{IsAnswer}
-use Rattle.lc_level.specs.Job.{JobModel}
-use Rattle.lc_level.specs.Classified.{bytes_of}
-use Rattle.lc_level.specs.Level.{FileLineModel, Fate, file_fate, counted_of, failed_of, failed_in, text_of}
-use Rattle.lc_rules.specs.AttrStates.{AttrChainModel, state_of, as_text}
-use Rattle.lc_rules.specs.declared.states.TextState.{TextState}
+use Rattle.lc_level.specs.{CountedNames.{AreCounted, file_fates, AddsResult, AddsCounted, IsCounted}, FileReads.{IsAnswer, MayCount}}
+use Rattle.lc_level.specs.{Job.JobModel, Classified.bytes_of, Level.{FileLineModel, Fate, file_fate, counted_of, failed_of, failed_in}}
+use Rattle.lc_level.specs.{Level.text_of, declared.{counting.CountedFiles.CountedFiles, content_fault.ContentFault.ContentFault}}
+use Rattle.lc_level.specs.{declared.fault_word.FaultWord.FaultWord, FaultLines.FaultLineModel}
+use Rattle.lc_rules.specs.{AttrStates.{AttrChainModel, state_of, as_text}, declared.states.TextState.TextState}
 use Rattle.lc_tree.specs.Trees.{Contents}
-use Rattle.lc_level.specs.FileReads.{MayCount}
-use Rattle.lc_level.specs.declared.counting.CountedFiles.{CountedFiles}
-use Rattle.lc_level.specs.declared.content_fault.ContentFault.{ContentFault}
 use Rattle.lc_level.specs.declared.content_fault.ContentFault.TheVariants as content_fault
-use Rattle.lc_level.specs.declared.fault_word.FaultWord.{FaultWord}
-use Rattle.lc_level.specs.FaultLines.{FaultLineModel}
 
 module _ (gives : List ℕ → Contents) (j : JobModel) (ms : List (List ℕ)) (ss : List (Result Count FaultWord))
     (later : AreCounted gives j ms ss) where

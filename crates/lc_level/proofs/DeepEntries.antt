@@ -1,12 +1,8 @@
 -- Whether a directory has an entry that is too deep is told by its entries.
 use Rattle.std.proofs.Common.{◌≡◌, Bool, ◌||◌, List, [], ◌∷◌, refl, sym, ◌∙◌, ap, Ok}
 use Rattle.std.specs.List.{filter, list_any}
-use Rattle.lc_level.specs.Answers.{Item, Answers, entry_of, entries_of}
-use Rattle.lc_level.specs.Deep.{is_too_deep, some_too_deep, too_deep_among, has_too_deep}
-use Rattle.lc_level.specs.Job.{JobModel}
-use Rattle.lc_level.specs.Narrowing.{takes_part, part_of}
-use Rattle.lc_level.specs.RuleFiles.{RuleBytes, rule_bytes, extended}
-use Rattle.lc_level.specs.Filters.{FiltersModel}
+use Rattle.lc_level.specs.{Answers.{Item, Answers, entry_of, entries_of}, Deep.{is_too_deep, some_too_deep, too_deep_among, has_too_deep}}
+use Rattle.lc_level.specs.{Job.JobModel, Narrowing.{takes_part, part_of}, RuleFiles.{RuleBytes, rule_bytes, extended}, Filters.FiltersModel}
 use Rattle.lc_level.proofs.AskedPaths.{entries_of_part}
 use Rattle.lc_tree.specs.Listing.{EntryModel}
 

@@ -1,7 +1,6 @@
 -- How deep a path can be.
 use Rattle.std.proofs.Common.{◌≡◌, ℕ, ◌+◌, ◌≤◌, ◌==◌, ◌&&◌, Bool, false, List, [], ◌∷◌, length, refl, arith}
-use Rattle.std.proofs.lemmas.List.Splits.{length-slice_split}
-use Rattle.std.proofs.lemmas.List.Sums.{count_by-le-length}
+use Rattle.std.proofs.lemmas.List.{Splits.length-slice_split, Sums.count_by-le-length}
 use Rattle.lc_glob.specs.Path.{depth_of}
 use Rattle.lc_level.specs.RuleFiles.{is_top}
 

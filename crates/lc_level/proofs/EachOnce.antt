@@ -1,22 +1,13 @@
 -- Paths in the order of their bytes, each once.
 use Rattle.std.proofs.Common.{◌≡◌, ℕ, Bool, true, false, ◌||◌, cond, List, [], ◌∷◌, map, refl, sym, ◌∙◌, ap, subst, bytes_eq, Contains}
-use Rattle.std.specs.Borrow.{Bor}
-use Rattle.std.specs.declared.cmp.Ordering.{Ordering}
-use Rattle.std.specs.declared.cmp.Ordering.TheVariants.{Less, Equal, Greater}
-use Rattle.std.specs.List.{list_any, dedup, dedup_from, AllByRecursion}
-use Rattle.std.specs.List.Sorted.{IsStrictlySortedBy, IsSorted, IsPermutation}
-use Rattle.std.specs.Ordering.{is_lt, is_eq, on, ordering_reverse}
-use Rattle.std.specs.Cmp.Lexicographic.{on_texts}
 use Rattle.std.proofs.lemmas.Cmp.{nat_list_cmp_total, nat_list_eq_equiv}
-use Rattle.std.proofs.lemmas.List.Folds.{Any-from_list_any}
-use Rattle.std.proofs.lemmas.List.Kept.{IsStrictlySortedBy-dedup}
-use Rattle.std.proofs.lemmas.List.Sorted.{list_any-IsPermutation}
-use Rattle.std.proofs.lemmas.Map.Text.{is_eq-slice_cmp}
-use Rattle.std.proofs.lemmas.Map.Views.{list_any-from_Contains}
+use Rattle.std.proofs.lemmas.List.{Folds.Any-from_list_any, Kept.IsStrictlySortedBy-dedup, Sorted.list_any-IsPermutation}
+use Rattle.std.proofs.lemmas.Map.{Text.is_eq-slice_cmp, Views.list_any-from_Contains}
+use Rattle.std.specs.{Borrow.Bor, declared.cmp.Ordering.{Ordering, TheVariants.{Less, Equal, Greater}}, List.{list_any, dedup, dedup_from}}
+use Rattle.std.specs.{List.{AllByRecursion, Sorted.{IsStrictlySortedBy, IsSorted, IsPermutation}}, Ordering.{is_lt, is_eq, on}}
+use Rattle.std.specs.{Ordering.ordering_reverse, Cmp.Lexicographic.on_texts}
 use Rattle.lc_level.specs.Narrowing.{put_among, each_once}
-use Rattle.lc_level.proofs.AskedPaths.{list_any-map, any_once}
-use Rattle.lc_level.proofs.PathOrder.{less_true}
-use Rattle.lc_level.proofs.WellFormed.{same_bytes}
+use Rattle.lc_level.proofs.{AskedPaths.{list_any-map, any_once}, PathOrder.less_true, WellFormed.same_bytes}
 use Rattle.lc_tree.specs.ByteOrder.{bytes_cmp, AreInOrder}
 use Rattle.lc_tree.proofs.OneOrder.{one_order}
 

@@ -1,34 +1,17 @@
 -- The answers of a tree for a directory, by what entering it answered.
 use Rattle.std.proofs.Common.{◌≡◌, ℕ, Bool, true, false, ◌&&◌, List, [], refl, sym, ◌∙◌, ap, Result, Ok, Err, codes}
 use Rattle.lc_glob.specs.Path.{path_in}
-use Rattle.lc_level.specs.Answers.{Item, Answers}
-use Rattle.lc_level.specs.EntryLooks.{has_dir}
-use Rattle.lc_level.specs.GitInfo.{ListsFor, MayAnswerGit, ReadsGit}
-use Rattle.lc_level.specs.Job.{JobModel}
-use Rattle.lc_level.specs.WellFormed.{IsWellFormed}
-use Rattle.lc_level.specs.Level.{faulted_level, level, level_after}
-use Rattle.lc_level.specs.Enters.{IsEntered, EntersLevel}
-use Rattle.lc_tree.specs.Listing.{EntryModel, IsListing}
-use Rattle.lc_level.specs.FaultLines.{FaultLineModel}
-use Rattle.lc_level.specs.Filters.{FiltersModel}
-use Rattle.lc_level.specs.RuleFiles.{Pair, has_git, is_top, and_then, info_items, info_bytes, own_bytes, rule_bytes, extended}
-use Rattle.lc_level.specs.RulePairs.{AreFilesOf, IsReadOf, own_asked, ReadsBoth}
-use Rattle.lc_level.specs.SitePaths.{site_path}
-use Rattle.lc_level.specs.RuleReads.{text_items}
-use Rattle.lc_level.specs.TreeAnswers.{MayAnswer}
-use Rattle.lc_tree.specs.Trees.{Listings, Content, Contents, MayHold}
-use Rattle.lc_level.specs.FileReads.{MayReadRules}
-use Rattle.lc_level.specs.declared.entering.Entered.{Entered}
-use Rattle.lc_level.specs.declared.rule_files.rule_pair.PairRead.{PairRead}
-use Rattle.lc_level.specs.declared.open_fault.OpenFault.{OpenFault}
-use Rattle.lc_level.specs.declared.open_fault.OpenFault.TheVariants.{Faulted, Memory, TooDeep}
-use Rattle.lc_level.specs.declared.fault_word.FaultWord.{FaultWord}
-use Rattle.lc_level.specs.declared.fault_site.FaultSite.{FaultSite}
-use Rattle.lc_level.specs.declared.fault_site.FaultSite.TheVariants.{Directory}
-use Rattle.lc_level.proofs.GitReads.{any_count, any_rules, may_rules, listed, is_listed}
-use Rattle.lc_level.proofs.GivenItems.{AsRules, items_at, entries_items, directory_items}
-use Rattle.lc_level.proofs.GivenPairs.{PairGiven, pair_given}
-use Rattle.lc_level.proofs.WellFormed.{no_entries}
+use Rattle.lc_level.specs.{Answers.{Item, Answers}, EntryLooks.has_dir, GitInfo.{ListsFor, MayAnswerGit, ReadsGit}, Job.JobModel}
+use Rattle.lc_level.specs.{WellFormed.IsWellFormed, Level.{faulted_level, level, level_after}, Enters.{IsEntered, EntersLevel}}
+use Rattle.lc_level.specs.{FaultLines.FaultLineModel, Filters.FiltersModel, RuleFiles.{Pair, has_git, is_top, and_then, info_items}}
+use Rattle.lc_level.specs.{RuleFiles.{info_bytes, own_bytes, rule_bytes, extended}, RulePairs.{AreFilesOf, IsReadOf, own_asked, ReadsBoth}}
+use Rattle.lc_level.specs.{SitePaths.site_path, RuleReads.text_items, TreeAnswers.MayAnswer, FileReads.MayReadRules}
+use Rattle.lc_level.specs.declared.{entering.Entered.Entered, rule_files.rule_pair.PairRead.PairRead}
+use Rattle.lc_level.specs.declared.open_fault.OpenFault.{OpenFault, TheVariants.{Faulted, Memory, TooDeep}}
+use Rattle.lc_level.specs.declared.{fault_word.FaultWord.FaultWord, fault_site.FaultSite.{FaultSite, TheVariants.Directory}}
+use Rattle.lc_tree.specs.{Listing.{EntryModel, IsListing}, Trees.{Listings, Content, Contents, MayHold}}
+use Rattle.lc_level.proofs.{GitReads.{any_count, any_rules, may_rules, listed, is_listed}, GivenItems.{AsRules, items_at, entries_items}}
+use Rattle.lc_level.proofs.{GivenItems.directory_items, GivenPairs.{PairGiven, pair_given}, WellFormed.no_entries}
 
 -- what follows a reading, by what it gave
 and_then_ok : {A B : Type 0} (r : Result A FaultLineModel) (x : A) (next : A → Result B FaultLineModel) → r ≡ Ok x

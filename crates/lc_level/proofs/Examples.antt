@@ -1,30 +1,19 @@
 -- The tree of a small node of memory.
 use Rattle.std.proofs.Common.{◌≡◌, ℕ, List, [], ◌∷◌, ◌++◌, map, refl, sym, ◌∙◌, ap, Some, Vec, Ok, Err, codes}
-use Rattle.std.specs.Prelude.{option_and_then}
-use Rattle.std.specs.declared.alloc.Global.{Global}
-use Rattle.lc_level.specs.Answers.{Item, file_item, directory_item, other_item, Items, entry_of}
-use Rattle.lc_level.specs.Examples.{bad_name, entries, small_node, whole_file, small_items, vec}
-use Rattle.lc_level.specs.Examples.{Names, names_in, as_it_is, exported, small_names, small_outside, small_as_it_is}
-use Rattle.lc_census.specs.Census.{count_of}
-use Rattle.lc_census.specs.TheCutting.{cut}
-use Rattle.lc_census.proofs.OneCutting.{cut_is}
-use Rattle.lc_census.specs.Cutting.{lf, Cutting, IsCutting, HasOneCutting}
+use Rattle.std.specs.{Prelude.option_and_then, declared.alloc.Global.Global}
+use Rattle.lc_level.specs.{Answers.{Item, file_item, directory_item, other_item, Items, entry_of}, Examples.{bad_name, entries, small_node}}
+use Rattle.lc_level.specs.Examples.{whole_file, small_items, vec, Names, names_in, as_it_is, exported, small_names, small_outside}
+use Rattle.lc_level.specs.{Examples.small_as_it_is, Level.{by_attribute, level_of}, Filters.FiltersModel, TopJob.top_job}
+use Rattle.lc_level.specs.{FileAnswers.census, NodeTrees.{item_by, item_of, listing_within, told_items, items_at, tree_of_node}}
+use Rattle.lc_level.specs.declared.fault_word.FaultWord.TheVariants.{Read, Name}
+use Rattle.lc_census.specs.{Census.count_of, TheCutting.cut, Cutting.{lf, Cutting, IsCutting, HasOneCutting}}
 use Rattle.lc_census.specs.declared.line_count.Eol.TheVariants.{Lf}
+use Rattle.lc_census.proofs.OneCutting.{cut_is}
+use Rattle.lc_tree.specs.declared.entry.{OtherKind.TheVariants.Special, Kind.TheVariants.File}
+use Rattle.lc_tree.specs.{declared.node.Node.{Node, roll-Node, out-roll-Node, TheOpen.Node-F}, Listed.listed, MemTrees.content_within}
+use Rattle.lc_tree.specs.Nodes.{child_within, kind_within, node_below}
 use Rattle.lc_glob.specs.IsMatch as IsMatch
 use Rattle.lc_rules.specs.Decision as Decision
-use Rattle.lc_level.specs.Level.{by_attribute, level_of}
-use Rattle.lc_level.specs.Filters.{FiltersModel}
-use Rattle.lc_level.specs.TopJob.{top_job}
-use Rattle.lc_level.specs.FileAnswers.{census}
-use Rattle.lc_level.specs.NodeTrees.{item_by, item_of, listing_within, told_items, items_at, tree_of_node}
-use Rattle.lc_tree.specs.declared.entry.OtherKind.TheVariants.{Special}
-use Rattle.lc_tree.specs.Listed.{listed}
-use Rattle.lc_tree.specs.MemTrees.{content_within}
-use Rattle.lc_tree.specs.declared.entry.Kind.TheVariants.{File}
-use Rattle.lc_level.specs.declared.fault_word.FaultWord.TheVariants.{Read, Name}
-use Rattle.lc_tree.specs.Nodes.{child_within, kind_within, node_below}
-use Rattle.lc_tree.specs.declared.node.Node.{Node, roll-Node, out-roll-Node}
-use Rattle.lc_tree.specs.declared.node.Node.TheOpen.{Node-F}
 
 -- what is seen of a node that is written out
 item_is : (name : Vec ℕ Global) (n : Node-F Node) → item_of (name, roll-Node n) ≡ item_by name.items (content_within n) (kind_within n)

@@ -1,21 +1,13 @@
 -- What the fates of a directory's items hold, item by item.
 use Rattle.std.proofs.Common.{◌≡◌, ℕ, true, false, cond, List, [], ◌∷◌, ◌++◌, refl, ◌∙◌, ap, Option, Some, None, Result, Ok, Err}
-use Rattle.std.specs.List.{flat_map}
-use Rattle.std.specs.Option.{is_none, option_map_or, option_or}
+use Rattle.std.specs.{List.flat_map, Option.{is_none, option_map_or, option_or}}
 use Rattle.lc_census.specs.declared.line_count.Count.{Count}
-use Rattle.lc_level.specs.Answers.{Item, file_item, directory_item, other_item, name_of, entry_of}
-use Rattle.lc_level.specs.Job.{JobModel}
-use Rattle.lc_level.specs.Level.{FileLineModel, Reason, other_kind, SkippedLineModel, Fate, walked, skipped, reason_of}
-use Rattle.lc_level.specs.Level.{file_reason}
-use Rattle.lc_level.specs.Level.{is_taken, is_counted, child_job, file_fate, fate_of, fates_of, counted_of, failed_of, walked_of}
-use Rattle.lc_level.specs.Level.{skipped_of}
-use Rattle.lc_level.specs.Level.{counted_in, failed_in, walked_in, skipped_in}
-use Rattle.lc_level.specs.Classified.{skipped_by, skipped_entry}
-use Rattle.lc_level.specs.Filters.{FiltersModel}
-use Rattle.lc_tree.specs.declared.entry.Kind.{Kind}
-use Rattle.lc_tree.specs.declared.entry.Kind.TheVariants.{File, Dir, Other}
-use Rattle.lc_level.specs.declared.fault_word.FaultWord.{FaultWord}
-use Rattle.lc_level.specs.FaultLines.{FaultLineModel}
+use Rattle.lc_level.specs.{Answers.{Item, file_item, directory_item, other_item, name_of, entry_of}, Job.JobModel, Level.FileLineModel}
+use Rattle.lc_level.specs.Level.{Reason, other_kind, SkippedLineModel, Fate, walked, skipped, reason_of, file_reason, is_taken}
+use Rattle.lc_level.specs.Level.{is_counted, child_job, file_fate, fate_of, fates_of, counted_of, failed_of, walked_of, skipped_of}
+use Rattle.lc_level.specs.{Level.{counted_in, failed_in, walked_in, skipped_in}, Classified.{skipped_by, skipped_entry}}
+use Rattle.lc_level.specs.{Filters.FiltersModel, declared.fault_word.FaultWord.FaultWord, FaultLines.FaultLineModel}
+use Rattle.lc_tree.specs.declared.entry.Kind.{Kind, TheVariants.{File, Dir, Other}}
 
 -- what a file that is not left out gives
 abbrev pub counted_by : JobModel → List ℕ → Result Count FaultWord → List FileLineModel

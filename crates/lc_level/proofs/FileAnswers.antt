@@ -1,17 +1,13 @@
 -- What a file of memory gives is as its values say.
-use Rattle.std.proofs.Common.{◌≡◌, ℕ, ◌<◌, Bool, true, false, cond, nat_lt, List, length, Some, Result, Ok, Err, refl, sym, ◌∙◌}
-use Rattle.std.proofs.Common.{ap, subst, arith, length-append}
+use Rattle.std.proofs.Common.{◌≡◌, ℕ, ◌<◌, Bool, true, false, cond, nat_lt, List, length, Some, Result, Ok, Err, refl, sym, ◌∙◌, ap}
+use Rattle.std.proofs.{Common.{subst, arith, length-append}, lemmas.Bool.{lt-ltb, le-ltb}}
 use Rattle.std.specs.List.{concat}
-use Rattle.std.proofs.lemmas.Bool.{lt-ltb, le-ltb}
-use Rattle.lc_census.specs.Census.{IsCensus}
-use Rattle.lc_census.specs.TheCutting.{cut}
+use Rattle.lc_census.specs.{Census.IsCensus, TheCutting.cut}
 use Rattle.lc_census.proofs.OneCutting.{cut_is}
-use Rattle.lc_level.specs.FileAnswers.{census, counted, read_as_rules}
-use Rattle.lc_level.specs.FileReads.{MayCount, MayReadRules}
+use Rattle.lc_level.specs.{FileAnswers.{census, counted, read_as_rules}, FileReads.{MayCount, MayReadRules}}
+use Rattle.lc_level.specs.declared.fault_word.FaultWord.{FaultWord, TheVariants.{Read, Name, Twice, Many, Long, Endless, Absent}}
 use Rattle.lc_level.proofs.SomeReads.{one_piece, is_some, joined, filled, held_rules}
 use Rattle.lc_tree.specs.Trees.{Content, GivesContent}
-use Rattle.lc_level.specs.declared.fault_word.FaultWord.{FaultWord}
-use Rattle.lc_level.specs.declared.fault_word.FaultWord.TheVariants.{Read, Name, Twice, Many, Long, Endless, Absent}
 
 -- it may be counted so
 pub may_count : (c : Content) → MayCount (GivesContent c) (counted c)

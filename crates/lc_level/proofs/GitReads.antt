@@ -1,27 +1,16 @@
 -- The answers of a tree for `.git` and `.git/info`, by what reading the rule files there answered.
 use Rattle.std.proofs.Common.{◌≡◌, ℕ, Bool, true, false, List, [], refl, sym, ◌∙◌, ap, subst, None, Result, Ok, Err, codes}
 use Rattle.lc_glob.specs.Path.{path_in}
-use Rattle.lc_level.specs.Answers.{Item, Items, Answers, entries_of}
-use Rattle.lc_level.specs.EntryLooks.{has_dir}
-use Rattle.lc_level.specs.GitInfo.{ListsFor, MayAnswerGit, ReadsGit}
-use Rattle.lc_tree.specs.Listing.{EntryModel, IsListing}
-use Rattle.lc_level.specs.RuleFiles.{has_directory, and_then, listing, info_items, info_bytes}
-use Rattle.lc_level.specs.RulePairs.{PairAsked, IsReadOf, ReadsBoth}
-use Rattle.lc_level.specs.SitePaths.{site_path}
-use Rattle.lc_level.specs.RuleReads.{text_if}
-use Rattle.lc_level.specs.TreeAnswers.{FailsBy, MayList}
-use Rattle.lc_tree.specs.Trees.{Listings, Content, Contents, MayHold}
-use Rattle.lc_level.specs.FileReads.{MayCount, MayReadRules}
+use Rattle.lc_level.specs.{Answers.{Item, Items, Answers, entries_of}, EntryLooks.has_dir, GitInfo.{ListsFor, MayAnswerGit, ReadsGit}}
+use Rattle.lc_level.specs.{RuleFiles.{has_directory, and_then, listing, info_items, info_bytes}, RulePairs.{PairAsked, IsReadOf, ReadsBoth}}
+use Rattle.lc_level.specs.{SitePaths.site_path, RuleReads.text_if, TreeAnswers.{FailsBy, MayList}, FileReads.{MayCount, MayReadRules}}
 use Rattle.lc_level.specs.declared.rule_files.rule_pair.PairRead.{PairRead}
-use Rattle.lc_level.specs.declared.open_fault.OpenFault.{OpenFault}
-use Rattle.lc_level.specs.declared.open_fault.OpenFault.TheVariants.{Faulted, Memory, TooDeep}
+use Rattle.lc_level.specs.declared.open_fault.OpenFault.{OpenFault, TheVariants.{Faulted, Memory, TooDeep}}
 use Rattle.lc_level.specs.declared.fault_word.FaultWord.{FaultWord}
-use Rattle.lc_level.specs.declared.fault_site.FaultSite.{FaultSite}
-use Rattle.lc_level.specs.declared.fault_site.FaultSite.TheVariants.{Git, GitInfo, InfoExclude, InfoAttributes}
-use Rattle.lc_level.proofs.GivenItems.{Counted, AsRules, items_at, entries_items, directory_items, may_items}
-use Rattle.lc_level.proofs.GivenPairs.{PairGiven, pair_given}
-use Rattle.lc_level.proofs.SomeReads.{some_count, some_rules}
-use Rattle.lc_level.proofs.WellFormed.{clash, no_entries}
+use Rattle.lc_level.specs.declared.fault_site.FaultSite.{FaultSite, TheVariants.{Git, GitInfo, InfoExclude, InfoAttributes}}
+use Rattle.lc_tree.specs.{Listing.{EntryModel, IsListing}, Trees.{Listings, Content, Contents, MayHold}}
+use Rattle.lc_level.proofs.{GivenItems.{Counted, AsRules, items_at, entries_items, directory_items, may_items}, GivenPairs.PairGiven}
+use Rattle.lc_level.proofs.{GivenPairs.pair_given, SomeReads.{some_count, some_rules}, WellFormed.{clash, no_entries}}
 
 abbrev asked : Items → Items → Answers
 asked git info = record { here = Ok []; git = git; info = info }

@@ -4,17 +4,10 @@ use Rattle.std.proofs.Common.{Result, map, bytes_eq, unwrap_or}
 use Rattle.std.specs.List.{AllByRecursion}
 use Rattle.lc_census.specs.declared.line_count.Count.{Count}
 use Rattle.lc_glob.specs.Path.{path_in}
-use Rattle.lc_level.specs.Answers.{Item, file_item, directory_item, other_item, entry_of, entries_of}
-use Rattle.lc_level.specs.EntryLooks.{has_file, has_dir}
-use Rattle.lc_tree.specs.Kinds.{is_file, is_dir}
-use Rattle.lc_tree.specs.Listing.{EntryModel}
-use Rattle.lc_level.specs.RuleFiles.{file_named, has_directory}
-use Rattle.lc_level.specs.RuleReads.{MayGive}
-use Rattle.lc_level.specs.TreeAnswers.{MayHave}
-use Rattle.lc_tree.specs.Trees.{Listings, Contents}
-use Rattle.lc_level.specs.FileReads.{MayCount, MayReadRules}
-use Rattle.lc_level.specs.declared.fault_word.FaultWord.{FaultWord}
-use Rattle.lc_tree.specs.declared.entry.Kind.{Kind}
+use Rattle.lc_level.specs.{Answers.{Item, file_item, directory_item, other_item, entry_of, entries_of}, EntryLooks.{has_file, has_dir}}
+use Rattle.lc_level.specs.{RuleFiles.{file_named, has_directory}, RuleReads.MayGive, TreeAnswers.MayHave, FileReads.MayCount}
+use Rattle.lc_level.specs.{FileReads.MayReadRules, declared.fault_word.FaultWord.FaultWord}
+use Rattle.lc_tree.specs.{Kinds.{is_file, is_dir}, Listing.EntryModel, Trees.{Listings, Contents}, declared.entry.Kind.Kind}
 use Rattle.lc_tree.specs.declared.entry.Kind.TheVariants.{File, Dir, Other}
 use Rattle.lc_level.proofs.WellFormed.{same_bytes, bytes_same}
 

@@ -1,21 +1,13 @@
 -- The items of a directory, by what reading its two rule files answered.
-use Rattle.std.proofs.Common.{◌≡◌, ℕ, Bool, true, false, not, ◌&&◌, inl, inr, List, refl, sym, ◌∙◌, ap, Option, Some, None, Result, Ok, Err}
-use Rattle.std.proofs.Common.{bytes_eq}
-use Rattle.std.proofs.Common.{option_map}
+use Rattle.std.proofs.Common.{◌≡◌, ℕ, Bool, true, false, not, ◌&&◌, inl, inr, List, refl, sym, ◌∙◌, ap, Option, Some, None, Result, Ok}
+use Rattle.std.proofs.Common.{Err, bytes_eq, option_map}
 use Rattle.lc_glob.specs.Path.{path_in}
-use Rattle.lc_level.specs.EntryLooks.{has_file}
-use Rattle.lc_tree.specs.Listing.{EntryModel}
-use Rattle.lc_level.specs.FaultLines.{FaultLineModel}
-use Rattle.lc_level.specs.RuleFiles.{Pair, file_named, ignore_named, both_read}
-use Rattle.lc_level.specs.RulePairs.{PairAsked, IsReadOf, ReadsBoth}
-use Rattle.lc_level.specs.RuleReads.{MayGive}
-use Rattle.lc_tree.specs.Trees.{Contents}
-use Rattle.lc_level.specs.FileReads.{MayReadRules}
+use Rattle.lc_level.specs.{EntryLooks.has_file, FaultLines.FaultLineModel, RuleFiles.{Pair, file_named, ignore_named, both_read}}
+use Rattle.lc_level.specs.{RulePairs.{PairAsked, IsReadOf, ReadsBoth}, RuleReads.MayGive, FileReads.MayReadRules}
 use Rattle.lc_level.specs.declared.rule_files.rule_pair.PairRead.{PairRead}
-use Rattle.lc_level.specs.declared.open_fault.OpenFault.{OpenFault}
-use Rattle.lc_level.specs.declared.open_fault.OpenFault.TheVariants.{Faulted, Memory, TooDeep}
-use Rattle.lc_level.specs.declared.fault_word.FaultWord.{FaultWord}
-use Rattle.lc_level.specs.declared.fault_site.FaultSite.{FaultSite}
+use Rattle.lc_level.specs.declared.open_fault.OpenFault.{OpenFault, TheVariants.{Faulted, Memory, TooDeep}}
+use Rattle.lc_level.specs.declared.{fault_word.FaultWord.FaultWord, fault_site.FaultSite.FaultSite}
+use Rattle.lc_tree.specs.{Listing.EntryModel, Trees.Contents}
 use Rattle.lc_level.proofs.GivenItems.{Counted, AsRules, items_at, but, at_name, at_other, may_but, given_items}
 
 both_ok : (p q : List ℕ) (x y : Option (List ℕ))

@@ -1,18 +1,10 @@
 -- Why an entry is left out, by the rule that decides and by its kind.
 use Rattle.std.proofs.Common.{◌≡◌, ◌∙◌, ap, sym, refl, ℕ, Bool, true, false, List, Option, Some, None, bytes_eq, codes, cond}
-use Rattle.std.specs.Option.{option_or}
-use Rattle.std.specs.Prelude.{if◌then◌else◌}
+use Rattle.std.specs.{Option.option_or, Prelude.if◌then◌else◌}
 use Rattle.lc_glob.specs.Path.{path_in}
-use Rattle.lc_level.specs.Job.{JobModel}
-use Rattle.lc_level.specs.Level.{by_rule, named_git, other_kind, rule_reason, reason_at, reason_for}
-use Rattle.lc_level.specs.Filters.{FiltersModel}
-use Rattle.lc_tree.specs.Kinds.{is_dir}
-use Rattle.lc_tree.specs.declared.entry.Kind.{Kind}
-use Rattle.lc_tree.specs.declared.entry.Kind.TheVariants.{Other}
-use Rattle.lc_tree.specs.declared.entry.OtherKind.{OtherKind}
-use Rattle.lc_rules.specs.IgnoreRules.{RuleModel}
-use Rattle.lc_rules.specs.Verdicts.{verdict_by}
-use Rattle.lc_rules.specs.declared.rule_source.RuleSource.{RuleSource}
+use Rattle.lc_level.specs.{Job.JobModel, Level.{by_rule, named_git, other_kind, rule_reason, reason_at, reason_for}, Filters.FiltersModel}
+use Rattle.lc_tree.specs.{Kinds.is_dir, declared.entry.{Kind.{Kind, TheVariants.Other}, OtherKind.OtherKind}}
+use Rattle.lc_rules.specs.{IgnoreRules.RuleModel, Verdicts.verdict_by, declared.rule_source.RuleSource.RuleSource}
 use Rattle.lc_rules.specs.declared.verdicts.Verdict.TheVariants.{Ignored, Included}
 
 -- a rule that ignores is told by its line

@@ -1,23 +1,14 @@
 -- Which paths have a directory in them, and which entries lead to them.
-use Rattle.std.proofs.Common.{◌≡◌, ℕ, suc, ◌==◌, ◌+◌, ◌<◌, Bool, true, false, not, ◌&&◌, ◌||◌, cond, List, [], ◌∷◌, ◌++◌}
-use Rattle.std.proofs.Common.{length, get_or, take, drop, refl, sym, ◌∙◌, ap, subst, append_assoc, bytes_eq, Option, Some, None}
-use Rattle.std.proofs.Common.{arith, find}
-use Rattle.std.specs.List.{filter, list_any, before_first, position_or_len, AllByRecursion}
-use Rattle.std.specs.Option.{is_some}
-use Rattle.std.proofs.lemmas.Bool.{and_parts, eqb-true, or_parts}
-use Rattle.std.proofs.lemmas.Cmp.{nat_list_eq_equiv}
-use Rattle.std.proofs.lemmas.List.{drop_more, take-append-drop, get_or_at}
+use Rattle.std.proofs.Common.{◌≡◌, ℕ, suc, ◌==◌, ◌+◌, ◌<◌, Bool, true, false, not, ◌&&◌, ◌||◌, cond, List, [], ◌∷◌, ◌++◌, length, get_or}
+use Rattle.std.proofs.Common.{take, drop, refl, sym, ◌∙◌, ap, subst, append_assoc, bytes_eq, Option, Some, None, arith, find}
+use Rattle.std.proofs.lemmas.{Bool.{and_parts, eqb-true, or_parts}, Cmp.nat_list_eq_equiv, List.{drop_more, take-append-drop, get_or_at}}
 use Rattle.std.proofs.Math.Seq.{take-append_seam}
-use Rattle.lc_glob.specs.Bytes.{slash}
-use Rattle.lc_glob.specs.Path.{is_good_name}
-use Rattle.lc_glob.specs.Pieces.{is_byte}
-use Rattle.lc_level.specs.Narrowing.{after, stands_below, leads_to, has_part, WantedModel}
-use Rattle.lc_level.specs.PathSteps.{is_cut_among, is_led_to}
-use Rattle.lc_level.proofs.AskedPaths.{after_is, after_front, filter_all, passes}
-use Rattle.lc_level.proofs.Searching.{is_named, named_tells}
+use Rattle.std.specs.{List.{filter, list_any, before_first, position_or_len, AllByRecursion}, Option.is_some}
+use Rattle.lc_glob.specs.{Bytes.slash, Path.is_good_name, Pieces.is_byte}
+use Rattle.lc_level.specs.{Narrowing.{after, stands_below, leads_to, has_part, WantedModel}, PathSteps.{is_cut_among, is_led_to}}
+use Rattle.lc_level.proofs.{AskedPaths.{after_is, after_front, filter_all, passes}, Searching.{is_named, named_tells}}
 use Rattle.lc_level.proofs.WellFormed.{same_bytes, bytes_same, clash, good_one, IsGoodName}
-use Rattle.lc_tree.specs.Kinds.{is_dir}
-use Rattle.lc_tree.specs.Listing.{EntryModel, IsListing, have_good_names}
+use Rattle.lc_tree.specs.{Kinds.is_dir, Listing.{EntryModel, IsListing, have_good_names}}
 
 or_true : (a : Bool) → (a || true) ≡ true
 or_true true = refl

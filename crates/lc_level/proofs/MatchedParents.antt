@@ -1,9 +1,7 @@
 -- Which files patterns include, by the directories above them.
-use Rattle.std.proofs.Common.{◌≡◌, ◌∙◌, ◌<◌, ℕ, zero-add, true, false, List, length, get_or}
-use Rattle.std.proofs.Common.{sym, subst}
+use Rattle.std.proofs.Common.{◌≡◌, ◌∙◌, ◌<◌, ℕ, zero-add, true, false, List, length, get_or, sym, subst}
+use Rattle.std.proofs.lemmas.List.{Folds.{list_any_none, list_any-from_Any}, FromFn.{get_or-range_with_len, length-range_with_len}}
 use Rattle.std.specs.List.{range_with_len}
-use Rattle.std.proofs.lemmas.List.Folds.{list_any_none, list_any-from_Any}
-use Rattle.std.proofs.lemmas.List.FromFn.{get_or-range_with_len, length-range_with_len}
 use Rattle.lc_rules.specs.IgnoreRules.{RuleModel}
 use Rattle.lc_level.specs.Filters.{is_matched_parent, has_matched_parent}
 

@@ -1,35 +1,21 @@
 -- The answers of the tree that a node stands for are some that a tree of memory may give.
-use Rattle.std.proofs.Common.{◌≡◌, ℕ, true, List, [], ◌∷◌, ◌++◌, map, refl, sym, ◌∙◌, ap, subst, Option, Some, None}
-use Rattle.std.proofs.Common.{Result, Ok, Err, codes}
-use Rattle.std.proofs.lemmas.Bool.{and_parts}
-use Rattle.std.specs.Prelude.{IfOk, Vec, option_and_then}
-use Rattle.std.specs.declared.alloc.Global.{Global}
-use Rattle.lc_level.specs.WellFormed.{listed_in, IsWellFormed}
-use Rattle.lc_level.proofs.WellFormed.{no_entries}
-use Rattle.std.specs.List.{AllByRecursion}
+use Rattle.std.proofs.Common.{◌≡◌, ℕ, true, List, [], ◌∷◌, ◌++◌, map, refl, sym, ◌∙◌, ap, subst, Option, Some, None, Result, Ok, Err}
+use Rattle.std.proofs.{Common.codes, lemmas.Bool.and_parts}
+use Rattle.std.specs.{Prelude.{IfOk, Vec, option_and_then}, declared.alloc.Global.Global, List.AllByRecursion}
+use Rattle.lc_level.specs.{WellFormed.{listed_in, IsWellFormed}, Answers.{Item, entry_of, entries_of}, NodeTrees.{item_by, item_of}}
+use Rattle.lc_level.specs.{NodeTrees.{listing_within, listing_at, told_items, items_at, tree_of_node}, RuleFiles.has_git}
+use Rattle.lc_level.specs.{TreeAnswers.{MayHave, MayList, MayAnswer, items_of}, FileAnswers.{counted, read_as_rules}, FileReads.MayCount}
+use Rattle.lc_level.specs.FileReads.{MayReadRules}
+use Rattle.lc_level.proofs.{WellFormed.no_entries, FileAnswers.{may_count, may_read_rules}}
 use Rattle.lc_glob.specs.Path.{is_good_name, path_in}
-use Rattle.lc_level.specs.Answers.{Item, entry_of, entries_of}
-use Rattle.lc_level.specs.NodeTrees.{item_by, item_of, listing_within, listing_at, told_items, items_at, tree_of_node}
-use Rattle.lc_level.specs.RuleFiles.{has_git}
-use Rattle.lc_level.specs.TreeAnswers.{MayHave, MayList, MayAnswer, items_of}
-use Rattle.lc_level.specs.FileAnswers.{counted, read_as_rules}
-use Rattle.lc_tree.specs.Listed.{listed}
-use Rattle.lc_tree.specs.Listing.{EntryModel, IsAnswerFor, have_good_names, HaveDistinctNames, IsListing}
-use Rattle.lc_tree.specs.MemTrees.{content_of, ListsWithin, ListsNode, mem_lists, mem_gives}
-use Rattle.lc_tree.specs.Trees.{Content, GivesContent}
-use Rattle.lc_tree.specs.Nodes.{Child, child_among, child_of, child_within, kind_of, node_below, node_at}
-use Rattle.lc_tree.specs.Paths.{names_of_path}
-use Rattle.lc_tree.specs.Nodes as nodes
-use Rattle.lc_level.specs.FileReads.{MayCount, MayReadRules}
-use Rattle.lc_tree.specs.declared.entry.Kind.{Kind}
-use Rattle.lc_tree.specs.declared.entry.Kind.TheVariants.{File, Dir, Other}
-use Rattle.lc_tree.specs.declared.node.Node.{Node, out-Node}
-use Rattle.lc_tree.specs.declared.node.Node.TheOpen.{Node-F}
-use Rattle.lc_tree.specs.declared.read_fault.ReadFault.{ReadFault}
-use Rattle.lc_tree.specs.declared.read_fault.ReadFault.TheVariants.{Failed, Unnamed, BadName, Twice, TooMany, Memory}
-use Rattle.lc_level.proofs.FileAnswers.{may_count, may_read_rules}
+use Rattle.lc_tree.specs.{Listed.listed, Listing.{EntryModel, IsAnswerFor, have_good_names, HaveDistinctNames, IsListing}}
+use Rattle.lc_tree.specs.{MemTrees.{content_of, ListsWithin, ListsNode, mem_lists, mem_gives}, Trees.{Content, GivesContent}, Nodes.Child}
+use Rattle.lc_tree.specs.{Nodes.{child_among, child_of, child_within, kind_of, node_below, node_at}, Paths.names_of_path}
+use Rattle.lc_tree.specs.declared.{entry.Kind.{Kind, TheVariants.{File, Dir, Other}}, node.Node.{Node, out-Node, TheOpen.Node-F}}
+use Rattle.lc_tree.specs.declared.read_fault.ReadFault.{ReadFault, TheVariants.{Failed, Unnamed, BadName, Twice, TooMany, Memory}}
 use Rattle.lc_tree.specs.ListedAnswers.{ItemsFor, listed_is, all_listed}
 use Rattle.lc_tree.proofs.NodesIn.{node_in, each_found}
+use Rattle.lc_tree.specs.Nodes as nodes
 
 -- ---- the items of a directory are its entries
 

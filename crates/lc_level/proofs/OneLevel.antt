@@ -1,23 +1,15 @@
 -- Where each question has one answer, each directory has one level.
-use Rattle.std.proofs.Common.{◌≡◌, ℕ, Bool, true, false, List, [], ◌∷◌, refl, sym}
-use Rattle.std.proofs.Common.{◌∙◌, ap, subst, Option, Some, None, Result, Ok, Err, codes}
+use Rattle.std.proofs.Common.{◌≡◌, ℕ, Bool, true, false, List, [], ◌∷◌, refl, sym, ◌∙◌, ap, subst, Option, Some, None, Result, Ok, Err}
+use Rattle.std.proofs.Common.{codes}
 use Rattle.std.specs.List.{AllByRecursion}
 use Rattle.lc_glob.specs.Path.{path_in}
-use Rattle.lc_tree.specs.Listing.{EntryModel}
-use Rattle.lc_tree.specs.Trees.{Listings, Contents}
-use Rattle.lc_level.specs.FileReads.{MayCount, MayReadRules}
-use Rattle.lc_tree.specs.declared.entry.Kind.{Kind}
-use Rattle.lc_tree.specs.declared.entry.Kind.TheVariants.{File, Dir, Other}
-use Rattle.lc_level.specs.declared.fault_word.FaultWord.{FaultWord}
+use Rattle.lc_tree.specs.{Listing.EntryModel, Trees.{Listings, Contents}, declared.entry.Kind.{Kind, TheVariants.{File, Dir, Other}}}
 use Rattle.lc_tree.specs.declared.read_fault.ReadFault.{ReadFault}
-use Rattle.lc_level.specs.FaultWords.{fault_word_of}
-use Rattle.lc_level.specs.Answers.{Item, file_item, directory_item, other_item, entry_of, entries_of, Items, Answers}
-use Rattle.lc_level.specs.Job.{JobModel}
-use Rattle.lc_level.specs.Level.{level, level_of, level_after}
-use Rattle.lc_level.specs.OneAnswer.{GivesOne}
-use Rattle.lc_level.specs.Filters.{FiltersModel}
-use Rattle.lc_level.specs.RuleFiles.{has_directory, has_git, and_then, listing, info_items, info_bytes, own_bytes, rule_bytes}
-use Rattle.lc_level.specs.TreeAnswers.{MayHave, MayList, MayAnswer, items_of}
+use Rattle.lc_level.specs.{FileReads.{MayCount, MayReadRules}, declared.fault_word.FaultWord.FaultWord, FaultWords.fault_word_of}
+use Rattle.lc_level.specs.{Answers.{Item, file_item, directory_item, other_item, entry_of, entries_of, Items, Answers}, Job.JobModel}
+use Rattle.lc_level.specs.{Level.{level, level_of, level_after}, OneAnswer.GivesOne, Filters.FiltersModel, RuleFiles.has_directory}
+use Rattle.lc_level.specs.{RuleFiles.{has_git, and_then, listing, info_items, info_bytes, own_bytes, rule_bytes}, TreeAnswers.MayHave}
+use Rattle.lc_level.specs.TreeAnswers.{MayList, MayAnswer, items_of}
 
 abbrev entries_or : List EntryModel → Result (List EntryModel) ReadFault → List EntryModel
 entries_or d (Ok es) = es

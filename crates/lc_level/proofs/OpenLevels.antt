@@ -1,29 +1,14 @@
 -- The answers of a tree for a directory, by what opening it answered after it was entered.
-use Rattle.std.proofs.Common.{◌≡◌, ◌<◌, ◌^◌, ℕ, suc, Bool, true, false, List, [], ◌∷◌, length, refl, sym, ◌∙◌, ap, subst, arith}
-use Rattle.std.proofs.Common.{Ok, Err, Vec}
-use Rattle.std.proofs.lemmas.List.Sums.{count_by-le-length, length-filter}
-use Rattle.std.specs.Global.{Global}
-use Rattle.std.specs.List.{filter, list_any, flat_map}
-use Rattle.lc_level.specs.Answers.{Item, Items, entry_of, entries_of}
-use Rattle.lc_level.specs.Deep.{is_too_deep, has_too_deep}
-use Rattle.lc_level.specs.Enters.{IsEntered}
-use Rattle.lc_level.specs.Job.{JobModel}
-use Rattle.lc_level.specs.Classified.{kept_file, kept_directory, skipped_entry, ClassifiesAll}
-use Rattle.lc_level.specs.Level.{absent_faults}
-use Rattle.lc_level.specs.Narrowing.{WantedModel, wanted_in, has_part, rests, takes_part, part_of}
-use Rattle.lc_level.specs.Opens.{IsOpened, OpensLevel}
-use Rattle.lc_level.specs.PathSteps.{unled}
-use Rattle.lc_level.specs.Filters.{FiltersModel}
-use Rattle.lc_level.specs.WellFormed.{listed_in}
-use Rattle.lc_tree.specs.Listing.{EntryModel, IsListing}
-use Rattle.lc_tree.specs.Trees.{Listings, Contents}
-use Rattle.lc_level.specs.declared.entering.Entered.{Entered}
-use Rattle.lc_level.specs.declared.classify.Classified.{Classified}
-use Rattle.lc_level.specs.declared.open_fault.OpenFault.{OpenFault}
-use Rattle.lc_level.specs.declared.open_fault.OpenFault.TheVariants.{Faulted, Memory, TooDeep}
-use Rattle.lc_level.proofs.AskedPaths.{absent_is, entries_of_part}
-use Rattle.lc_level.proofs.DeepEntries.{deep_by_entries}
-use Rattle.lc_level.specs.FaultLines.{FaultLineModel}
+use Rattle.std.proofs.Common.{◌≡◌, ◌<◌, ◌^◌, ℕ, suc, Bool, true, false, List, [], ◌∷◌, length, refl, sym, ◌∙◌, ap, subst, arith, Ok, Err}
+use Rattle.std.proofs.{Common.Vec, lemmas.List.Sums.{count_by-le-length, length-filter}}
+use Rattle.std.specs.{Global.Global, List.{filter, list_any, flat_map}}
+use Rattle.lc_level.specs.{Answers.{Item, Items, entry_of, entries_of}, Deep.{is_too_deep, has_too_deep}, Enters.IsEntered, Job.JobModel}
+use Rattle.lc_level.specs.{Classified.{kept_file, kept_directory, skipped_entry, ClassifiesAll}, Level.absent_faults, Narrowing.WantedModel}
+use Rattle.lc_level.specs.{Narrowing.{wanted_in, has_part, rests, takes_part, part_of}, Opens.{IsOpened, OpensLevel}, PathSteps.unled}
+use Rattle.lc_level.specs.{Filters.FiltersModel, WellFormed.listed_in, declared.{entering.Entered.Entered, classify.Classified.Classified}}
+use Rattle.lc_level.specs.{declared.open_fault.OpenFault.{OpenFault, TheVariants.{Faulted, Memory, TooDeep}}, FaultLines.FaultLineModel}
+use Rattle.lc_tree.specs.{Listing.{EntryModel, IsListing}, Trees.{Listings, Contents}}
+use Rattle.lc_level.proofs.{AskedPaths.{absent_is, entries_of_part}, DeepEntries.deep_by_entries}
 
 length_entries : (items : List Item) → length (entries_of items) ≡ length items
 length_entries [] = refl

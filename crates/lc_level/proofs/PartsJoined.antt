@@ -1,22 +1,13 @@
 -- The parts of a directory's files, counted by themselves and joined in order, are its files counted one after another.
 use Rattle.std.proofs.Common.{◌≡◌, ℕ, suc, ◌<◌, List, [], ◌∷◌, ◌++◌, length, refl, sym, ◌∙◌, ap, subst, Result, Ok, Err, Vec, false, true}
-use Rattle.std.proofs.Common.{arith, IfOk, IsOk}
-use Rattle.std.specs.Global.{Global}
-use Rattle.std.specs.List.{flat_map, AllByRecursion}
-use Rattle.std.proofs.lemmas.List.{map-append}
-use Rattle.std.specs.declared.alloc.AllocError.{AllocError}
+use Rattle.std.proofs.{Common.{arith, IfOk, IsOk}, lemmas.List.map-append}
+use Rattle.std.specs.{Global.Global, List.{flat_map, AllByRecursion}, declared.alloc.AllocError.AllocError}
 use Rattle.lc_census.specs.declared.line_count.Count.{Count}
-use Rattle.lc_level.specs.CountedNames.{AreCounted, file_fates, IsCounted}
-use Rattle.lc_level.specs.CountedParts.{HaveCounted, Joins, files_of, faults_of}
-use Rattle.lc_level.specs.Job.{JobModel}
-use Rattle.lc_level.specs.Classified.{bytes_of}
-use Rattle.lc_level.specs.Level.{FileLineModel, counted_of, failed_of, counted_in, failed_in}
-use Rattle.lc_level.specs.declared.counting.CountedFiles.{CountedFiles}
-use Rattle.lc_level.specs.declared.fault_word.FaultWord.{FaultWord}
+use Rattle.lc_level.specs.{CountedNames.{AreCounted, file_fates, IsCounted}, CountedParts.{HaveCounted, Joins, files_of, faults_of}}
+use Rattle.lc_level.specs.{Job.JobModel, Classified.bytes_of, Level.{FileLineModel, counted_of, failed_of, counted_in, failed_in}}
+use Rattle.lc_level.specs.{declared.{counting.CountedFiles.CountedFiles, fault_word.FaultWord.FaultWord}, FaultLines.FaultLineModel}
 use Rattle.lc_level.proofs.CountedMore.{are_appended, appended}
-use Rattle.lc_tree.specs.Parts.{all_of}
-use Rattle.lc_tree.specs.Trees.{Contents}
-use Rattle.lc_level.specs.FaultLines.{FaultLineModel}
+use Rattle.lc_tree.specs.{Parts.all_of, Trees.Contents}
 
 abbrev Run : Type 0
 Run = Vec (Vec ℕ Global) Global

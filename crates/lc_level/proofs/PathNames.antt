@@ -1,9 +1,7 @@
 -- The name by which a directory has an entry of a path.
-use Rattle.std.proofs.Common.{◌≡◌, ◌≢◌, ℕ, ◌++◌, List, [], ◌∷◌, false, length, nat_eq, Option, Some, None, Bor, MatchOption, sym, ◌∙◌}
-use Rattle.std.proofs.Common.{ap, refl, subst}
-use Rattle.std.proofs.lemmas.List.{append_cancel_left}
-use Rattle.lc_glob.specs.Bytes.{slash}
-use Rattle.lc_glob.specs.Path.{path_in}
+use Rattle.std.proofs.Common.{◌≡◌, ◌≢◌, ℕ, ◌++◌, List, [], ◌∷◌, false, length, nat_eq, Option, Some, None, Bor, MatchOption, sym, ◌∙◌, ap}
+use Rattle.std.proofs.{Common.{refl, subst}, lemmas.List.append_cancel_left}
+use Rattle.lc_glob.specs.{Bytes.slash, Path.path_in}
 
 -- what stands behind a prefix
 abbrev pub Strips : List ℕ → List ℕ → Option (Bor (List ℕ)) → Type 0

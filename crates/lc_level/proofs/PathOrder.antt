@@ -1,20 +1,12 @@
 -- Paths in the order of their bytes, and what they begin with.
-use Rattle.std.proofs.Common.{◌≡◌, ℕ, ◌==◌, Bool, true, false, cond, List, [], ◌∷◌, ◌++◌, refl, sym, ◌∙◌, ap, subst}
-use Rattle.std.proofs.Common.{Option, Some, None, bytes_eq, eq-eqb}
-use Rattle.std.specs.declared.cmp.Ordering.{Ordering}
-use Rattle.std.specs.declared.cmp.Ordering.TheVariants.{Less, Equal, Greater}
-use Rattle.std.specs.List.{filter_map, cons_option, AllByRecursion}
-use Rattle.std.specs.List.Sorted.{IsStrictlySortedBy}
-use Rattle.std.specs.Option.{is_some}
-use Rattle.std.specs.Ordering.{is_lt, nat_cmp, ordering_then, ordering_reverse}
-use Rattle.std.proofs.lemmas.Bool.{eqb-true}
-use Rattle.std.proofs.lemmas.Cmp.{nat_cmp_total, nat_list_cmp_total}
+use Rattle.std.proofs.Common.{◌≡◌, ℕ, ◌==◌, Bool, true, false, cond, List, [], ◌∷◌, ◌++◌, refl, sym, ◌∙◌, ap, subst, Option, Some, None}
+use Rattle.std.proofs.{Common.{bytes_eq, eq-eqb}, lemmas.{Bool.eqb-true, Cmp.{nat_cmp_total, nat_list_cmp_total}}}
 use Rattle.std.proofs.lemmas.Map.Lookups.{exact_unsigned}
+use Rattle.std.specs.{declared.cmp.Ordering.{Ordering, TheVariants.{Less, Equal, Greater}}, List.{filter_map, cons_option, AllByRecursion}}
+use Rattle.std.specs.{List.Sorted.IsStrictlySortedBy, Option.is_some, Ordering.{is_lt, nat_cmp, ordering_then, ordering_reverse}}
 use Rattle.lc_glob.specs.Bytes.{slash}
-use Rattle.lc_level.specs.Narrowing.{after, stands_below, rest_from}
-use Rattle.lc_level.specs.PathSteps.{comes_before}
-use Rattle.lc_level.proofs.AskedPaths.{after_is}
-use Rattle.lc_level.proofs.WellFormed.{clash, other_bytes}
+use Rattle.lc_level.specs.{Narrowing.{after, stands_below, rest_from}, PathSteps.comes_before}
+use Rattle.lc_level.proofs.{AskedPaths.after_is, WellFormed.{clash, other_bytes}}
 use Rattle.lc_tree.specs.ByteOrder.{bytes_cmp, AreInOrder}
 
 -- ---- the order

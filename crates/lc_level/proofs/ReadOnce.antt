@@ -1,14 +1,11 @@
 -- A file of memory is counted, and read as rules, in one way.
-use Rattle.std.proofs.Common.{◌≡◌, ℕ, ◌<◌, ◌≤◌, ◌^◌, List, [], ◌∷◌, ◌++◌, length, Result, Ok, Err, refl, sym, ◌∙◌, ap}
-use Rattle.std.proofs.Common.{◌+◌, ◌*◌, Some, subst, arith, length-append}
+use Rattle.std.proofs.Common.{◌≡◌, ℕ, ◌<◌, ◌≤◌, ◌^◌, List, [], ◌∷◌, ◌++◌, length, Result, Ok, Err, refl, sym, ◌∙◌, ap, ◌+◌, ◌*◌, Some}
+use Rattle.std.proofs.Common.{subst, arith, length-append}
 use Rattle.std.specs.List.{concat}
-use Rattle.lc_census.specs.Census.{IsCensus, count_of}
-use Rattle.lc_census.specs.Cutting.{HasOneCutting}
-use Rattle.lc_census.specs.declared.line_count.Count.{Count}
-use Rattle.lc_level.specs.FileReads.{MayCount, MayReadRules}
-use Rattle.lc_tree.specs.Trees.{Content, AreSome, FillRooms, GivesContent}
-use Rattle.lc_level.specs.declared.fault_word.FaultWord.{FaultWord}
+use Rattle.lc_census.specs.{Census.{IsCensus, count_of}, Cutting.HasOneCutting, declared.line_count.Count.Count}
+use Rattle.lc_level.specs.{FileReads.{MayCount, MayReadRules}, declared.fault_word.FaultWord.FaultWord}
 use Rattle.lc_level.specs.declared.fault_word.FaultWord.TheVariants.{Read, Name, Twice, Many, Long, Endless, Absent}
+use Rattle.lc_tree.specs.Trees.{Content, AreSome, FillRooms, GivesContent}
 use Rattle.lc_tree.proofs.OneAnswer.{both}
 
 -- pieces of which each but the last fills a buffer of 65,536 bytes have about as many times that

@@ -1,17 +1,12 @@
 -- Counting up to a large file: what is counted, and what is left.
-use Rattle.std.proofs.Common.{◌≡◌, ℕ, List, [], ◌∷◌, ◌++◌, refl, sym, ◌∙◌, ap, subst, Result, Ok, Err, OnOk, Vec, append-nil, append_assoc}
-use Rattle.std.specs.Global.{Global}
-use Rattle.std.proofs.lemmas.List.{map-append}
-use Rattle.std.specs.declared.alloc.AllocError.{AllocError}
-use Rattle.lc_level.specs.CountedNames.{AddsCounted, IsCounted, file_fates}
-use Rattle.lc_level.specs.CountedParts.{CountsSome}
-use Rattle.lc_level.specs.Job.{JobModel}
-use Rattle.lc_level.specs.Classified.{bytes_of}
-use Rattle.lc_level.specs.Level.{counted_of, failed_of, counted_in, failed_in}
-use Rattle.lc_level.specs.declared.counting.CountedFiles.{CountedFiles}
+use Rattle.std.proofs.Common.{◌≡◌, ℕ, List, [], ◌∷◌, ◌++◌, refl, sym, ◌∙◌, ap, subst, Result, Ok, Err, OnOk, Vec, append-nil}
+use Rattle.std.proofs.{Common.append_assoc, lemmas.List.map-append}
+use Rattle.std.specs.{Global.Global, declared.alloc.AllocError.AllocError}
+use Rattle.lc_level.specs.{CountedNames.{AddsCounted, IsCounted, file_fates}, CountedParts.CountsSome, Job.JobModel, Classified.bytes_of}
+use Rattle.lc_level.specs.{Level.{counted_of, failed_of, counted_in, failed_in}, declared.counting.CountedFiles.CountedFiles}
+use Rattle.lc_level.specs.FaultLines.{FaultLineModel}
 use Rattle.lc_level.proofs.CountedMore.{counted_next, are_appended, appended}
 use Rattle.lc_tree.specs.Trees.{Contents}
-use Rattle.lc_level.specs.FaultLines.{FaultLineModel}
 
 abbrev Names : Type 0
 Names = List (Vec ℕ Global)

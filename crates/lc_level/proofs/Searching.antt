@@ -1,22 +1,13 @@
 -- What a binary search finds among entries in the order of their names.
-use Rattle.std.proofs.Common.{◌≡◌, ℕ, zero, suc, ◌<◌, ◌≤◌, Bool, true, false, List, [], ◌∷◌, length, get_or, Option, Some, None}
-use Rattle.std.proofs.Common.{Result, Ok, ◌&&◌, ◌||◌, subst}
-use Rattle.std.proofs.Common.{Err, MatchResult, refl, sym, ◌∙◌, ap, arith, bytes_eq, cond, find, ⊎_elim}
-use Rattle.std.specs.List.{list_any, AllByRecursion}
-use Rattle.std.proofs.lemmas.Map.Keys.{sorted_head, sorted_tail}
-use Rattle.std.specs.List.Sorted.{IsStrictlySortedBy, IsNonDecreasingBy, IsBinarySearchResult, IsSearchInRange}
-use Rattle.std.specs.Ordering.{ordering_index, ordering_reverse, is_eq}
-use Rattle.std.specs.declared.cmp.Ordering.{Ordering}
-use Rattle.std.specs.declared.cmp.Ordering.TheVariants.{Less, Equal, Greater}
-use Rattle.std.proofs.lemmas.Bool.{cases_lt}
+use Rattle.std.proofs.Common.{◌≡◌, ℕ, zero, suc, ◌<◌, ◌≤◌, Bool, true, false, List, [], ◌∷◌, length, get_or, Option, Some, None, Result}
+use Rattle.std.proofs.Common.{Ok, ◌&&◌, ◌||◌, subst, Err, MatchResult, refl, sym, ◌∙◌, ap, arith, bytes_eq, cond, find, ⊎_elim}
+use Rattle.std.proofs.lemmas.{Map.{Keys.{sorted_head, sorted_tail}, Text.is_eq-slice_cmp}, Bool.cases_lt}
 use Rattle.std.proofs.lemmas.Cmp.{nat_list_cmp_total, nat_list_eq_equiv}
-use Rattle.std.proofs.lemmas.Map.Text.{is_eq-slice_cmp}
-use Rattle.lc_tree.specs.ByteOrder.{bytes_cmp, AreInOrder}
-use Rattle.lc_tree.specs.Listing.{EntryModel, names}
-use Rattle.lc_tree.specs.declared.entry.Kind.{Kind}
-use Rattle.lc_level.proofs.AskedPaths.{passes}
-use Rattle.lc_level.proofs.PathOrder.{not_itself}
-use Rattle.lc_level.proofs.WellFormed.{other_bytes, same_bytes}
+use Rattle.std.specs.List.{list_any, AllByRecursion}
+use Rattle.std.specs.{List.Sorted.{IsStrictlySortedBy, IsNonDecreasingBy, IsBinarySearchResult, IsSearchInRange}, Ordering.ordering_index}
+use Rattle.std.specs.{Ordering.{ordering_reverse, is_eq}, declared.cmp.Ordering.{Ordering, TheVariants.{Less, Equal, Greater}}}
+use Rattle.lc_tree.specs.{ByteOrder.{bytes_cmp, AreInOrder}, Listing.{EntryModel, names}, declared.entry.Kind.Kind}
+use Rattle.lc_level.proofs.{AskedPaths.passes, PathOrder.not_itself, WellFormed.{other_bytes, same_bytes}}
 
 index_few : (o : Ordering) → ordering_index o ≤ 2
 index_few Less = omega arith

@@ -1,13 +1,9 @@
 -- Sorted paths seen from a directory: those that come before its own are skipped, and what follows these is none of them.
-use Rattle.std.proofs.Common.{◌≡◌, ℕ, zero, suc, Bool, true, false, List, [], ◌∷◌, length, map, drop, refl, sym, ◌∙◌, ap}
-use Rattle.std.proofs.Common.{subst, None, Bor, arith, nat_eq}
-use Rattle.std.specs.List.{filter_map, cons_option, AllByRecursion}
-use Rattle.std.specs.List.Sorted.{IsPartitionPoint, IsStrictlySortedBy}
+use Rattle.std.proofs.Common.{◌≡◌, ℕ, zero, suc, Bool, true, false, List, [], ◌∷◌, length, map, drop, refl, sym, ◌∙◌, ap, subst, None}
+use Rattle.std.proofs.{Common.{Bor, arith, nat_eq}, lemmas.{Bool.eqb-true, Map.Keys.sorted_head}}
+use Rattle.std.specs.List.{filter_map, cons_option, AllByRecursion, Sorted.{IsPartitionPoint, IsStrictlySortedBy}}
 use Rattle.lc_glob.specs.Lists.{is_empty}
-use Rattle.std.proofs.lemmas.Bool.{eqb-true}
-use Rattle.std.proofs.lemmas.Map.Keys.{sorted_head}
-use Rattle.lc_level.specs.Narrowing.{rest_from}
-use Rattle.lc_level.specs.PathSteps.{comes_before}
+use Rattle.lc_level.specs.{Narrowing.rest_from, PathSteps.comes_before}
 use Rattle.lc_level.proofs.PathOrder.{early_rest, none_seen}
 use Rattle.lc_tree.specs.ByteOrder.{bytes_cmp, AreInOrder}
 

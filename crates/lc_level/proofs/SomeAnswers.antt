@@ -1,17 +1,10 @@
 -- A directory has some answers that its tree may give.
 use Rattle.std.proofs.Common.{ℕ, List, Result, Ok, Err, refl, unwrap_or, codes}
-use Rattle.lc_level.specs.Answers.{Items, Answers}
-use Rattle.lc_level.specs.FaultWords.{fault_word_of}
-use Rattle.lc_level.specs.TreeAnswers.{MayAnswer, MayList}
-use Rattle.lc_level.specs.WellFormed.{listed_in, IsWellFormed}
-use Rattle.lc_tree.specs.Listing.{EntryModel, IsListing}
-use Rattle.lc_tree.specs.Trees.{Listings, Content, Contents, IsTold, MayHold, TellsSome}
-use Rattle.lc_tree.specs.declared.read_fault.ReadFault.{ReadFault}
-use Rattle.lc_tree.specs.declared.read_fault.ReadFault.TheVariants.{Failed, Unnamed, BadName, Twice, TooMany, Memory}
-use Rattle.lc_level.specs.declared.fault_word.FaultWord.TheVariants.{Read}
-use Rattle.lc_level.proofs.GitReads.{any_count, any_rules, may_rules, listed, is_listed}
-use Rattle.lc_level.proofs.GivenItems.{items_at}
-use Rattle.lc_level.proofs.WellFormed.{no_entries}
+use Rattle.lc_level.specs.{Answers.{Items, Answers}, FaultWords.fault_word_of, TreeAnswers.{MayAnswer, MayList}, WellFormed.listed_in}
+use Rattle.lc_level.specs.{WellFormed.IsWellFormed, declared.fault_word.FaultWord.TheVariants.Read}
+use Rattle.lc_tree.specs.{Listing.{EntryModel, IsListing}, Trees.{Listings, Content, Contents, IsTold, MayHold, TellsSome}}
+use Rattle.lc_tree.specs.declared.read_fault.ReadFault.{ReadFault, TheVariants.{Failed, Unnamed, BadName, Twice, TooMany, Memory}}
+use Rattle.lc_level.proofs.{GitReads.{any_count, any_rules, may_rules, listed, is_listed}, GivenItems.items_at, WellFormed.no_entries}
 
 -- those of a directory at a path
 abbrev pub HasAnswers : (List ℕ → Listings) → (List ℕ → Contents) → List ℕ → Type 0

@@ -1,10 +1,8 @@
 -- Some attributes of a list that grows.
-use Rattle.std.proofs.Common.{◌≡◌, ◌∙◌, ◌<◌, ◌+◌, ℕ, suc, List, [], ◌∷◌, ◌++◌, Vec, ap, arith, get_or, inl, inr, length, map, refl, sym, take}
-use Rattle.std.proofs.Math.Seq.{take-suc}
-use Rattle.std.proofs.lemmas.List.{map-append}
+use Rattle.std.proofs.Common.{◌≡◌, ◌∙◌, ◌<◌, ◌+◌, ℕ, suc, List, [], ◌∷◌, ◌++◌, Vec, ap, arith, get_or, inl, inr, length, map, refl, sym}
+use Rattle.std.proofs.{Common.take, Math.Seq.take-suc, lemmas.List.map-append}
 use Rattle.std.specs.Global.{Global}
-use Rattle.lc_level.specs.NamedAttributes.{AddsAtMost, AreSomeAttributes, AreSomeOf}
-use Rattle.lc_level.specs.declared.named_attributes.NotedWord.{NotedWord}
+use Rattle.lc_level.specs.{NamedAttributes.{AddsAtMost, AreSomeAttributes, AreSomeOf}, declared.named_attributes.NotedWord.NotedWord}
 
 -- a name at the end that is not among them
 some_left : (ns os : List (List ℕ)) (o : List ℕ) → AreSomeOf ns os → AreSomeOf ns (os ++ o ∷ [])

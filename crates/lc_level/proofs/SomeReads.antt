@@ -1,19 +1,14 @@
 -- A file that may be read may be counted, and read as rules, in some way.
 use Rattle.std.proofs.Common.{◌≡◌, ℕ, ◌≤◌, ◌<◌, ◌⊎◌, inl, inr, Bool, true, false, List, [], ◌∷◌, ◌++◌, length, take, drop, Result, Ok}
-use Rattle.std.proofs.Common.{None, Some, Err, refl, ◌∙◌, ap, subst, sym}
-use Rattle.std.specs.List.{concat}
-use Rattle.std.proofs.Math.Nat.{le-pred_of_lt}
-use Rattle.std.proofs.lemmas.Bool.{cases_lt}
+use Rattle.std.proofs.{Common.{None, Some, Err, refl, ◌∙◌, ap, subst, sym}, Math.Nat.le-pred_of_lt, lemmas.Bool.cases_lt}
 use Rattle.std.proofs.lemmas.List.{append-nil, take-append-drop, length-take-le}
-use Rattle.lc_census.specs.TheCutting.{cut}
+use Rattle.std.specs.List.{concat}
+use Rattle.lc_census.specs.{TheCutting.cut, Census.{IsCensus, count_of}, declared.line_count.Count.Count}
 use Rattle.lc_census.proofs.OneCutting.{cut_is}
-use Rattle.lc_census.specs.Census.{IsCensus, count_of}
 use Rattle.lc_io.specs.Reads.{at_end, at_failure, at_neither}
-use Rattle.lc_census.specs.declared.line_count.Count.{Count}
-use Rattle.lc_level.specs.FileReads.{MayCount, MayReadRules}
-use Rattle.lc_tree.specs.Trees.{Content, Contents, AreSome, FillRooms, GivesContent, MayHold, Rooms}
-use Rattle.lc_level.specs.declared.fault_word.FaultWord.{FaultWord}
+use Rattle.lc_level.specs.{FileReads.{MayCount, MayReadRules}, declared.fault_word.FaultWord.FaultWord}
 use Rattle.lc_level.specs.declared.fault_word.FaultWord.TheVariants.{Read, Name, Twice, Many, Long, Endless, Absent}
+use Rattle.lc_tree.specs.Trees.{Content, Contents, AreSome, FillRooms, GivesContent, MayHold, Rooms}
 
 -- the bytes as one piece, or as none
 abbrev pub one_piece : List ℕ → List (List ℕ)

@@ -1,13 +1,9 @@
 -- The value that a word of attributes asks for.
-use Rattle.std.proofs.Common.{◌≡◌, ◌∙◌, ◌||◌, ℕ, Bool, true, false, cond, List, [], ◌∷◌, ◌++◌, length}
-use Rattle.std.proofs.Common.{refl, sym, ap, arith, Option, Some, None, MatchOption}
-use Rattle.std.specs.Borrow.{Bor}
-use Rattle.std.specs.List.{list_any, before_first, after_first, position_or_len}
-use Rattle.std.proofs.lemmas.List.{length-take}
-use Rattle.std.proofs.lemmas.List.Folds.{list_any-append, list_any_none}
+use Rattle.std.proofs.Common.{◌≡◌, ◌∙◌, ◌||◌, ℕ, Bool, true, false, cond, List, [], ◌∷◌, ◌++◌, length, refl, sym, ap, arith, Option, Some}
+use Rattle.std.proofs.{Common.{None, MatchOption}, lemmas.List.{length-take, Folds.{list_any-append, list_any_none}}}
 use Rattle.std.proofs.lemmas.List.Sums.{fails_before_first}
+use Rattle.std.specs.{Borrow.Bor, List.{list_any, before_first, after_first, position_or_len}, Prelude.option_map}
 use Rattle.lc_glob.specs.Pieces.{is_byte}
-use Rattle.std.specs.Prelude.{option_map}
 use Rattle.lc_level.specs.Filters.{value_of}
 
 -- bytes with no such byte before their end are all before the first

@@ -1,15 +1,10 @@
 -- The names of a listing's items: good, and no two the same.
 use Rattle.std.proofs.Common.{◌≡◌, ◌≢◌, ℕ, ◌==◌, Bool, true, false, not, ◌&&◌, List, [], ◌∷◌, refl, sym, ◌∙◌, bytes_eq, arith}
-use Rattle.std.proofs.lemmas.Bool.{and_parts, not-true, or_parts}
-use Rattle.std.specs.List.{list_any, IsDistinct, AllByRecursion}
-use Rattle.std.specs.List.Sorted.{IsStrictlySortedBy}
-use Rattle.std.specs.Ordering.{eq_by_cmp}
-use Rattle.std.proofs.lemmas.Map.Keys.{IsDistinct-from_sorted}
-use Rattle.std.proofs.lemmas.Map.Text.{is_eq-slice_cmp}
+use Rattle.std.proofs.lemmas.{Bool.{and_parts, not-true, or_parts}, Map.{Keys.IsDistinct-from_sorted, Text.is_eq-slice_cmp}}
 use Rattle.std.proofs.lemmas.Slice.Eq.{bytes_eq-Decides}
+use Rattle.std.specs.{List.{list_any, IsDistinct, AllByRecursion, Sorted.IsStrictlySortedBy}, Ordering.eq_by_cmp}
 use Rattle.lc_glob.specs.Path.{is_no_name, is_good_name}
-use Rattle.lc_tree.specs.Listing.{names, have_good_names, HaveDistinctNames, IsListing}
-use Rattle.lc_tree.specs.ByteOrder.{bytes_cmp}
+use Rattle.lc_tree.specs.{Listing.{names, have_good_names, HaveDistinctNames, IsListing}, ByteOrder.bytes_cmp}
 use Rattle.lc_level.specs.Answers.{Item, name_of, entries_of}
 
 -- a name is not empty and has no slash

@@ -1,9 +1,7 @@
 -- What a tree answers for one directory. Nothing is said of its child directories but their names.
 use Rattle.std.specs.Prelude.{ℕ, List, [], map, Result, Ok}
 use Rattle.lc_census.specs.declared.line_count.Count.{Count}
-use Rattle.lc_tree.specs.Listing.{EntryModel}
-use Rattle.lc_tree.specs.declared.entry.Kind.TheVariants.{File, Dir, Other}
-use Rattle.lc_tree.specs.declared.entry.OtherKind.{OtherKind}
+use Rattle.lc_tree.specs.{Listing.EntryModel, declared.entry.{Kind.TheVariants.{File, Dir, Other}, OtherKind.OtherKind}}
 use Rattle.lc_level.specs.declared.fault_word.FaultWord.{FaultWord}
 
 -- an entry; a file has the result of counting it, its census or an error, and the result of reading it whole as a rule file, its bytes or

@@ -1,21 +1,12 @@
 -- Which entries of a directory stay, and which are skipped: gitignore(5), PATTERN FORMAT, and the filters.
-use Rattle.std.specs.Prelude.{◌≡◌, ℕ, Bool, true, false, ◌&&◌, cond, if◌then◌else◌, is_none, List, [], ◌∷◌, ◌++◌, map, nat_lt, Vec, Option}
-use Rattle.std.specs.Prelude.{Some, None, Result, Ok, Err, unwrap_or}
-use Rattle.std.specs.List.{flat_map, list_any}
-use Rattle.std.specs.Global.{Global}
-use Rattle.lc_level.specs.Deep.{is_too_deep}
-use Rattle.lc_tree.specs.Kinds.{is_file, is_dir}
-use Rattle.lc_level.specs.Job.{JobModel}
-use Rattle.lc_level.specs.Level.{Reason, other_kind, SkippedLineModel, reason_for, is_taken, is_counted, child_job, job_at}
-use Rattle.lc_glob.specs.Path.{depth_of, max_depth}
-use Rattle.lc_level.specs.Filters.{FiltersModel}
-use Rattle.lc_tree.specs.Listing.{EntryModel}
-use Rattle.lc_level.specs.declared.classify.Classified.{Classified}
-use Rattle.lc_tree.specs.declared.entry.Kind.{Kind}
-use Rattle.lc_tree.specs.declared.entry.Kind.TheVariants.{File, Dir, Other}
+use Rattle.std.specs.Prelude.{◌≡◌, ℕ, Bool, true, false, ◌&&◌, cond, if◌then◌else◌, is_none, List, [], ◌∷◌, ◌++◌, map, nat_lt, Vec}
+use Rattle.std.specs.{Prelude.{Option, Some, None, Result, Ok, Err, unwrap_or}, List.{flat_map, list_any}, Global.Global}
+use Rattle.lc_level.specs.{Deep.is_too_deep, Job.JobModel, Level.{Reason, other_kind, SkippedLineModel, reason_for, is_taken, is_counted}}
+use Rattle.lc_level.specs.{Level.{child_job, job_at}, Filters.FiltersModel, declared.classify.Classified.Classified}
+use Rattle.lc_level.specs.declared.open_fault.OpenFault.{OpenFault, TheVariants.{Faulted, Memory, TooDeep}}
+use Rattle.lc_tree.specs.{Kinds.{is_file, is_dir}, Listing.EntryModel, declared.entry.Kind.{Kind, TheVariants.{File, Dir, Other}}}
 use Rattle.lc_tree.specs.declared.entry.OtherKind.{OtherKind}
-use Rattle.lc_level.specs.declared.open_fault.OpenFault.{OpenFault}
-use Rattle.lc_level.specs.declared.open_fault.OpenFault.TheVariants.{Faulted, Memory, TooDeep}
+use Rattle.lc_glob.specs.Path.{depth_of, max_depth}
 
 -- the name of an entry if it is a file that stays; and below, the child directory if it is a directory that stays
 abbrev pub kept_file : FiltersModel → JobModel → EntryModel → List (List ℕ)

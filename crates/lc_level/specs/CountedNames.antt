@@ -1,15 +1,10 @@
 -- What counting the files of a directory gives.
-use Rattle.std.specs.Prelude.{◌≡◌, ℕ, List, [], ◌∷◌, ◌++◌, Result, Ok, Err}
-use Rattle.std.specs.declared.alloc.AllocError.{AllocError}
+use Rattle.std.specs.{Prelude.{◌≡◌, ℕ, List, [], ◌∷◌, ◌++◌, Result, Ok, Err}, declared.alloc.AllocError.AllocError}
 use Rattle.lc_census.specs.declared.line_count.Count.{Count}
 use Rattle.lc_glob.specs.Path.{path_in}
-use Rattle.lc_level.specs.Job.{JobModel}
-use Rattle.lc_level.specs.Level.{Fate, file_fate, counted_of, failed_of, counted_in, failed_in}
+use Rattle.lc_level.specs.{Job.JobModel, Level.{Fate, file_fate, counted_of, failed_of, counted_in, failed_in}, FileReads.MayCount}
+use Rattle.lc_level.specs.{declared.{counting.CountedFiles.CountedFiles, fault_word.FaultWord.FaultWord}, FaultLines.FaultLineModel}
 use Rattle.lc_tree.specs.Trees.{Contents}
-use Rattle.lc_level.specs.FileReads.{MayCount}
-use Rattle.lc_level.specs.declared.counting.CountedFiles.{CountedFiles}
-use Rattle.lc_level.specs.declared.fault_word.FaultWord.{FaultWord}
-use Rattle.lc_level.specs.FaultLines.{FaultLineModel}
 
 -- counting the file of each name may have given the result at the same place
 abbrev pub AreCounted : (List ℕ → Contents) → JobModel → List (List ℕ) → List (Result Count FaultWord) → Type 0

@@ -1,15 +1,9 @@
 -- What counting the files of a directory in parts gives.
-use Rattle.std.specs.Prelude.{◌≡◌, ℕ, ◌<◌, List, ◌++◌, [], length, slice_index_or, Result, Ok, Err, IfOk, IsOk, Vec}
-use Rattle.std.specs.Global.{Global}
-use Rattle.std.specs.List.{flat_map, AllByRecursion}
-use Rattle.std.specs.declared.alloc.AllocError.{AllocError}
-use Rattle.lc_level.specs.CountedNames.{IsCounted}
-use Rattle.lc_level.specs.Job.{JobModel}
-use Rattle.lc_level.specs.Classified.{bytes_of}
-use Rattle.lc_level.specs.Level.{FileLineModel}
-use Rattle.lc_level.specs.declared.counting.CountedFiles.{CountedFiles}
+use Rattle.std.specs.{Prelude.{◌≡◌, ℕ, ◌<◌, List, ◌++◌, [], length, slice_index_or, Result, Ok, Err, IfOk, IsOk, Vec}, Global.Global}
+use Rattle.std.specs.{List.{flat_map, AllByRecursion}, declared.alloc.AllocError.AllocError}
+use Rattle.lc_level.specs.{CountedNames.IsCounted, Job.JobModel, Classified.bytes_of, Level.FileLineModel}
+use Rattle.lc_level.specs.{declared.counting.CountedFiles.CountedFiles, FaultLines.FaultLineModel}
 use Rattle.lc_tree.specs.Trees.{Contents}
-use Rattle.lc_level.specs.FaultLines.{FaultLineModel}
 
 -- each part has counted the files of the run at the same place, or an allocation failed in the part
 abbrev pub HaveCounted : (List ℕ → Contents) → JobModel → List (Vec (Vec ℕ Global) Global) → List (Result CountedFiles AllocError) → Type 0

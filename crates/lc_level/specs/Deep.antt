@@ -1,16 +1,9 @@
 -- What is too deep for a walk.
-use Rattle.std.specs.Prelude.{Bool, true, false, not, ◌&&◌, ◌||◌, nat_lt, List, length, Result, Ok, Err, bytes_eq, codes}
-use Rattle.std.specs.List.{list_any}
-use Rattle.lc_tree.specs.Listing.{EntryModel}
-use Rattle.lc_tree.specs.Kinds.{is_dir}
+use Rattle.std.specs.{Prelude.{Bool, true, false, not, ◌&&◌, ◌||◌, nat_lt, List, length, Result, Ok, Err, bytes_eq, codes}, List.list_any}
+use Rattle.lc_tree.specs.{Listing.EntryModel, Kinds.is_dir}
 use Rattle.lc_glob.specs.Path.{path_in, depth_of, max_path, max_depth}
-use Rattle.lc_level.specs.Answers.{Item, entry_of, Items, Answers}
-use Rattle.lc_level.specs.Job.{JobModel}
-use Rattle.lc_level.specs.Level.{is_kept}
-use Rattle.lc_level.specs.FaultLines.{FaultLineModel}
-use Rattle.lc_level.specs.Narrowing.{part_of}
-use Rattle.lc_level.specs.RuleFiles.{RuleBytes, rule_bytes, extended}
-use Rattle.lc_level.specs.Filters.{FiltersModel}
+use Rattle.lc_level.specs.{Answers.{Item, entry_of, Items, Answers}, Job.JobModel, Level.is_kept, FaultLines.FaultLineModel}
+use Rattle.lc_level.specs.{Narrowing.part_of, RuleFiles.{RuleBytes, rule_bytes, extended}, Filters.FiltersModel}
 
 -- whether an entry is too deep: it is not `.git`, and its path has over 4,096 bytes, or over 256 segments if it is a directory that stays
 abbrev pub is_too_deep : FiltersModel → JobModel → EntryModel → Bool

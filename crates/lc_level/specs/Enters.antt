@@ -1,18 +1,10 @@
 -- What entering a directory may return: its listing and its rule files.
 use Rattle.std.specs.Prelude.{◌≡◌, ℕ, Bool, List, Result, Ok, Err}
-use Rattle.lc_level.specs.Answers.{Item, Answers, entries_of}
-use Rattle.lc_level.specs.Job.{JobModel}
-use Rattle.lc_level.specs.Level.{faulted_level, level}
-use Rattle.lc_level.specs.SitePaths.{site_path}
-use Rattle.lc_level.specs.RuleFiles.{RuleBytes, rule_bytes, extended}
-use Rattle.lc_level.specs.RuleReads.{text_items, text_if}
-use Rattle.lc_level.specs.Filters.{FiltersModel}
-use Rattle.lc_level.specs.WellFormed.{IsWellFormed}
-use Rattle.lc_level.specs.TreeAnswers.{MayAnswer}
+use Rattle.lc_level.specs.{Answers.{Item, Answers, entries_of}, Job.JobModel, Level.{faulted_level, level}, SitePaths.site_path}
+use Rattle.lc_level.specs.{RuleFiles.{RuleBytes, rule_bytes, extended}, RuleReads.{text_items, text_if}, Filters.FiltersModel}
+use Rattle.lc_level.specs.{WellFormed.IsWellFormed, TreeAnswers.MayAnswer, declared.entering.Entered.Entered}
+use Rattle.lc_level.specs.declared.open_fault.OpenFault.{OpenFault, TheVariants.{Faulted, Memory, TooDeep}}
 use Rattle.lc_tree.specs.Trees.{Listings, Contents}
-use Rattle.lc_level.specs.declared.entering.Entered.{Entered}
-use Rattle.lc_level.specs.declared.open_fault.OpenFault.{OpenFault}
-use Rattle.lc_level.specs.declared.open_fault.OpenFault.TheVariants.{Faulted, Memory, TooDeep}
 
 module _ (lists : List ℕ → Listings) (gives : List ℕ → Contents) (j : JobModel) where
   -- by answers that the tree may give, `k` is the job with the directory's rule files in both chains

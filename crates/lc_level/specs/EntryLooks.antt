@@ -1,8 +1,6 @@
 -- Searches among the entries of a directory.
-use Rattle.std.specs.Prelude.{ℕ, Bool, ◌&&◌, List, bytes_eq}
-use Rattle.std.specs.List.{list_any}
-use Rattle.lc_tree.specs.Kinds.{is_file, is_dir}
-use Rattle.lc_tree.specs.Listing.{EntryModel}
+use Rattle.std.specs.{Prelude.{ℕ, Bool, ◌&&◌, List, bytes_eq}, List.list_any}
+use Rattle.lc_tree.specs.{Kinds.{is_file, is_dir}, Listing.EntryModel}
 
 -- whether there is a file, or a directory, of this name
 abbrev pub has_file : List ℕ → List EntryModel → Bool

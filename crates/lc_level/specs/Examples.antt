@@ -1,24 +1,16 @@
 -- The tree of a `Node`, computed on a small node.
 use Rattle.std.specs.Prelude.{◌≡◌, ℕ, ◌^◌, nat_lt, true, List, [], ◌∷◌, ◌++◌, length, map, Vec, Ok, Err, refl, codes}
 use Rattle.std.specs.declared.alloc.Global.{Global}
-use Rattle.std.proofs.Math.Nat.{le_refl}
-use Rattle.std.proofs.lemmas.Bool.{ltb-true}
+use Rattle.std.proofs.{Math.Nat.le_refl, lemmas.Bool.ltb-true}
 use denote.RawPtr.{null_ptr}
 use Rattle.lc_census.specs.declared.line_count.Eol.TheVariants.{Lf}
-use Rattle.lc_level.specs.Answers.{Item, file_item, directory_item, other_item}
+use Rattle.lc_level.specs.{Answers.{Item, file_item, directory_item, other_item}, Level.{named_git, by_rule, by_attribute, other_kind}}
+use Rattle.lc_level.specs.Level.{SkippedLineModel, Level, faulted_level, listed_level, level, counted_in, failed_in, walked_in}
+use Rattle.lc_level.specs.{Level.skipped_in, NodeTrees.tree_of_node, Filters.{FiltersModel, leaving_out, no_filters}, TopJob.top_job}
+use Rattle.lc_level.specs.{FileAnswers.census, declared.fault_word.FaultWord.TheVariants.{Read, Name}}
 use Rattle.lc_rules.specs.declared.rule_source.RuleSource.TheVariants.{Gitignore}
-use Rattle.lc_level.specs.Level.{named_git, by_rule, by_attribute, other_kind, SkippedLineModel, Level, faulted_level, listed_level, level}
-use Rattle.lc_level.specs.Level.{counted_in, failed_in, walked_in, skipped_in}
-use Rattle.lc_level.specs.NodeTrees.{tree_of_node}
-use Rattle.lc_level.specs.Filters.{FiltersModel, leaving_out, no_filters}
-use Rattle.lc_level.specs.TopJob.{top_job}
-use Rattle.lc_level.specs.FileAnswers.{census}
-use Rattle.lc_tree.specs.Nodes.{Child}
-use Rattle.lc_tree.specs.declared.entry.Kind.TheVariants.{File, Other}
-use Rattle.lc_tree.specs.declared.entry.OtherKind.TheVariants.{Special}
-use Rattle.lc_level.specs.declared.fault_word.FaultWord.TheVariants.{Read, Name}
-use Rattle.lc_tree.specs.declared.node.Node.{Node, roll-Node}
-use Rattle.lc_tree.specs.declared.node.Node.TheOpen.{Node-F}
+use Rattle.lc_tree.specs.{Nodes.Child, declared.entry.{Kind.TheVariants.{File, Other}, OtherKind.TheVariants.Special}}
+use Rattle.lc_tree.specs.declared.node.Node.{Node, roll-Node, TheOpen.Node-F}
 
 -- a vector of these elements
 abbrev pub vec : {X : Type 0} → Global → (xs : List X) → nat_lt (length xs) (2 ^ 63) ≡ true → Vec X Global

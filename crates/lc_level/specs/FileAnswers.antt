@@ -1,12 +1,9 @@
 -- What a file in memory gives, as values: when it is counted, and when it is read as a rule file.
 use Rattle.std.specs.Prelude.{ℕ, cond, nat_lt, List, length, Result, Ok, Err}
-use Rattle.lc_census.specs.Census.{count_of}
-use Rattle.lc_census.specs.TheCutting.{cut}
-use Rattle.lc_census.specs.declared.line_count.Count.{Count}
+use Rattle.lc_census.specs.{Census.count_of, TheCutting.cut, declared.line_count.Count.Count}
 use Rattle.lc_rules.specs.Limits.{max_rule_bytes}
 use Rattle.lc_tree.specs.Trees.{Content}
-use Rattle.lc_level.specs.declared.fault_word.FaultWord.{FaultWord}
-use Rattle.lc_level.specs.declared.fault_word.FaultWord.TheVariants.{Read, Long}
+use Rattle.lc_level.specs.declared.fault_word.FaultWord.{FaultWord, TheVariants.{Read, Long}}
 
 -- the census of bytes, by the one cutting that they have
 abbrev pub census : List ℕ → Count

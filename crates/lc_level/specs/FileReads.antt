@@ -1,18 +1,11 @@
 -- What opening and reading one file may return.
-use Rattle.std.specs.Prelude.{◌≡◌, ℕ, ◌≤◌, ◌<◌, ◌+◌, ◌^◌, List, length, None, Some, Result, Ok, Err}
-use Rattle.std.specs.List.{concat}
-use Rattle.lc_census.specs.Census.{IsCensus}
-use Rattle.lc_io.specs.Buffers.{buffer_len}
-use Rattle.lc_io.specs.Reads.{at_end, at_failure, at_neither}
-use Rattle.lc_census.specs.declared.line_count.Count.{Count}
+use Rattle.std.specs.{Prelude.{◌≡◌, ℕ, ◌≤◌, ◌<◌, ◌+◌, ◌^◌, List, length, None, Some, Result, Ok, Err}, List.concat}
+use Rattle.lc_census.specs.{Census.IsCensus, declared.line_count.Count.Count}
+use Rattle.lc_io.specs.{Buffers.buffer_len, Reads.{at_end, at_failure, at_neither}}
 use Rattle.lc_rules.specs.Limits.{max_rule_bytes}
-use Rattle.lc_tree.specs.MemTrees.{mem_gives}
-use Rattle.lc_tree.specs.OneAnswer.{content_at}
-use Rattle.lc_tree.specs.Trees.{Contents}
-use Rattle.lc_level.specs.declared.fault_word.FaultWord.{FaultWord}
+use Rattle.lc_tree.specs.{MemTrees.mem_gives, OneAnswer.content_at, Trees.Contents, declared.node.Node.Node}
+use Rattle.lc_level.specs.declared.{fault_word.FaultWord.FaultWord, content_fault.ContentFault.ContentFault}
 use Rattle.lc_level.specs.declared.fault_word.FaultWord.TheVariants as word
-use Rattle.lc_tree.specs.declared.node.Node.{Node}
-use Rattle.lc_level.specs.declared.content_fault.ContentFault.{ContentFault}
 use Rattle.lc_level.specs.declared.content_fault.ContentFault.TheVariants as content_fault
 
 -- the result is one that may come, or an allocation failed

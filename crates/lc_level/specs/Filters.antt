@@ -1,13 +1,9 @@
 -- What decides, besides a tree's own rule files, which of its entries are skipped.
-use Rattle.std.specs.Prelude.{ℕ, Bool, true, false, ◌&&◌, ◌||◌, nat_eq, cond, List, [], ◌∷◌, length, take, slice_index, bytes_eq}
-use Rattle.std.specs.Prelude.{Option, Some, None, option_map}
-use Rattle.std.specs.List.{list_any, before_first, after_first, range_with_len}
-use Rattle.std.specs.Option.{is_none, is_some}
-use Rattle.lc_glob.specs.Bytes.{slash}
-use Rattle.lc_glob.specs.Pieces.{is_byte}
-use Rattle.lc_rules.specs.Attributes.{StateModel, set, unset, value, unspecified}
-use Rattle.lc_rules.specs.Bytes.{equals_sign}
-use Rattle.lc_rules.specs.IgnoreRules.{RuleModel, rules_of}
+use Rattle.std.specs.Prelude.{ℕ, Bool, true, false, ◌&&◌, ◌||◌, nat_eq, cond, List, [], ◌∷◌, length, take, slice_index, bytes_eq, Option}
+use Rattle.std.specs.{Prelude.{Some, None, option_map}, List.{list_any, before_first, after_first, range_with_len}, Option.is_none}
+use Rattle.std.specs.Option.{is_some}
+use Rattle.lc_glob.specs.{Bytes.slash, Pieces.is_byte}
+use Rattle.lc_rules.specs.{Attributes.{StateModel, set, unset, value, unspecified}, Bytes.equals_sign, IgnoreRules.{RuleModel, rules_of}}
 use Rattle.lc_rules.specs.Verdicts.{at_depth, last_match}
 
 -- the text of an ignore file that all others override; the patterns that override all others, one a line; the patterns for files, one a

@@ -1,17 +1,11 @@
 -- What reading the rule files of `.git/info` may return.
 use Rattle.std.specs.Prelude.{◌≡◌, ℕ, Bool, true, List, Result, Ok, Err, codes}
-use Rattle.lc_level.specs.Answers.{Answers}
-use Rattle.lc_tree.specs.Listing.{EntryModel, IsListing}
-use Rattle.lc_level.specs.RuleFiles.{Pair, has_directory, and_then, info_items, info_bytes}
-use Rattle.lc_level.specs.RulePairs.{IsReadOf}
-use Rattle.lc_level.specs.SitePaths.{site_path}
-use Rattle.lc_level.specs.TreeAnswers.{FailsBy, MayList, items_of}
-use Rattle.lc_level.specs.WellFormed.{listed_in}
-use Rattle.lc_tree.specs.Trees.{Listings, Contents}
+use Rattle.lc_level.specs.{Answers.Answers, RuleFiles.{Pair, has_directory, and_then, info_items, info_bytes}, RulePairs.IsReadOf}
+use Rattle.lc_level.specs.{SitePaths.site_path, TreeAnswers.{FailsBy, MayList, items_of}, WellFormed.listed_in}
 use Rattle.lc_level.specs.declared.rule_files.rule_pair.PairRead.{PairRead}
-use Rattle.lc_level.specs.declared.open_fault.OpenFault.{OpenFault}
-use Rattle.lc_level.specs.declared.open_fault.OpenFault.TheVariants.{Faulted, Memory, TooDeep}
+use Rattle.lc_level.specs.declared.open_fault.OpenFault.{OpenFault, TheVariants.{Faulted, Memory, TooDeep}}
 use Rattle.lc_level.specs.declared.fault_site.FaultSite.{FaultSite}
+use Rattle.lc_tree.specs.{Listing.{EntryModel, IsListing}, Trees.{Listings, Contents}}
 
 -- the result of listing a directory for its rule files: an error is one at this site
 abbrev pub ListsFor : Listings → FaultSite → Result (List EntryModel) OpenFault → Type 0

@@ -1,7 +1,6 @@
 -- A directory to be visited.
 use Rattle.std.specs.Prelude.{ℕ, List}
-use Rattle.lc_rules.specs.IgnoreChains.{ChainModel}
-use Rattle.lc_rules.specs.AttrStates.{AttrChainModel}
+use Rattle.lc_rules.specs.{IgnoreChains.ChainModel, AttrStates.AttrChainModel}
 
 -- its path, its chain of ignore files, and its chain of attribute files
 pub record JobModel : Type 0 where

@@ -1,19 +1,10 @@
 -- The laws of opening a directory and counting its files.
 use Rattle.std.specs.Prelude.{◌≡◌, ℕ, Bool, false, List}
 use Rattle.lc_tree.specs.Trees.{Listings, Contents}
-use Rattle.lc_level.specs.Answers.{Answers}
-use Rattle.lc_level.specs.CountedNames.{IsCounted}
-use Rattle.lc_level.specs.Deep.{has_too_deep}
-use Rattle.lc_level.specs.Job.{JobModel}
-use Rattle.lc_level.specs.Classified.{bytes_of}
-use Rattle.lc_level.specs.Level.{FileLineModel, LevelParts, IsLevelOf, level}
-use Rattle.lc_level.specs.Opens.{IsOpened}
-use Rattle.lc_level.specs.Filters.{FiltersModel}
-use Rattle.lc_level.specs.WellFormed.{IsWellFormed}
-use Rattle.lc_level.specs.TreeAnswers.{MayAnswer}
-use Rattle.lc_level.specs.declared.counting.CountedFiles.{CountedFiles}
-use Rattle.lc_level.specs.declared.opening.Opened.{Opened}
-use Rattle.lc_level.specs.FaultLines.{FaultLineModel}
+use Rattle.lc_level.specs.{Answers.Answers, CountedNames.IsCounted, Deep.has_too_deep, Job.JobModel, Classified.bytes_of}
+use Rattle.lc_level.specs.{Level.{FileLineModel, LevelParts, IsLevelOf, level}, Opens.IsOpened, Filters.FiltersModel}
+use Rattle.lc_level.specs.{WellFormed.IsWellFormed, TreeAnswers.MayAnswer, declared.counting.CountedFiles.CountedFiles}
+use Rattle.lc_level.specs.{declared.opening.Opened.Opened, FaultLines.FaultLineModel}
 
 -- the parts of the level of a directory that was opened, with these counted files and these errors of absent paths and of files
 abbrev pub parts_with : Opened → List FileLineModel → List FaultLineModel → LevelParts

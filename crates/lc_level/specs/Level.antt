@@ -1,27 +1,15 @@
 -- One level of the walk: what becomes of each entry of one directory.
-use Rattle.std.specs.Prelude.{ℕ, ◌≡◌, Bool, true, false, cond, List, [], ◌∷◌, ◌++◌, length, flat_map, map, bytes_eq, codes}
-use Rattle.std.specs.Prelude.{if◌then◌else◌, Option, None, Some, option_map, Result, Ok, Err}
-use Rattle.std.specs.List.{find}
-use Rattle.std.specs.Option.{is_none, option_map_or, option_or}
-use Rattle.lc_rules.specs.IgnoreChains.{rules_in}
-use Rattle.lc_rules.specs.IgnoreRules.{RuleModel}
-use Rattle.lc_rules.specs.Verdicts.{last_match}
-use Rattle.lc_rules.specs.declared.rule_source.RuleSource.{RuleSource}
-use Rattle.lc_rules.specs.declared.states.TextState.{TextState}
+use Rattle.std.specs.Prelude.{ℕ, ◌≡◌, Bool, true, false, cond, List, [], ◌∷◌, ◌++◌, length, flat_map, map, bytes_eq, codes, if◌then◌else◌}
+use Rattle.std.specs.{Prelude.{Option, None, Some, option_map, Result, Ok, Err}, List.find, Option.{is_none, option_map_or, option_or}}
+use Rattle.lc_rules.specs.{IgnoreChains.rules_in, IgnoreRules.RuleModel, Verdicts.last_match, declared.rule_source.RuleSource.RuleSource}
+use Rattle.lc_rules.specs.{declared.states.TextState.TextState, AttrStates.{state_of, as_text}}
 use Rattle.lc_census.specs.declared.line_count.Count.{Count}
-use Rattle.lc_tree.specs.declared.entry.Kind.{Kind}
-use Rattle.lc_tree.specs.declared.entry.Kind.TheVariants.{File, Dir, Other}
-use Rattle.lc_tree.specs.declared.entry.OtherKind.{OtherKind}
-use Rattle.lc_level.specs.declared.fault_word.FaultWord.{FaultWord}
-use Rattle.lc_level.specs.declared.fault_word.FaultWord.TheVariants.{Absent}
+use Rattle.lc_tree.specs.declared.entry.{Kind.{Kind, TheVariants.{File, Dir, Other}}, OtherKind.OtherKind}
+use Rattle.lc_level.specs.{declared.fault_word.FaultWord.{FaultWord, TheVariants.Absent}, Answers.{Item, file_item, directory_item}}
+use Rattle.lc_level.specs.{Answers.{other_item, name_of, Items, Answers}, Job.JobModel, FaultLines.FaultLineModel, Narrowing.part_of}
+use Rattle.lc_level.specs.{Narrowing.absent_from, RuleFiles.{RuleBytes, rule_bytes, extended}, Filters.{FiltersModel, attribute_of}}
+use Rattle.lc_level.specs.Filters.{value_of, is_state, patterns_for, include_rules, is_included}
 use Rattle.lc_glob.specs.Path.{path_in}
-use Rattle.lc_rules.specs.AttrStates.{state_of, as_text}
-use Rattle.lc_level.specs.Answers.{Item, file_item, directory_item, other_item, name_of, Items, Answers}
-use Rattle.lc_level.specs.Job.{JobModel}
-use Rattle.lc_level.specs.FaultLines.{FaultLineModel}
-use Rattle.lc_level.specs.Narrowing.{part_of, absent_from}
-use Rattle.lc_level.specs.RuleFiles.{RuleBytes, rule_bytes, extended}
-use Rattle.lc_level.specs.Filters.{FiltersModel, attribute_of, value_of, is_state, patterns_for, include_rules, is_included}
 
 -- a counted file, by its path from a directory or from the top
 pub record FileLineModel : Type 0 where

@@ -1,10 +1,6 @@
 -- Which attributes of a command line are noted, and which of them are returned.
-use Rattle.std.specs.Prelude.{◌≡◌, ◌⊎◌, ℕ, List, [], ◌∷◌, ◌++◌, Vec, map}
-use Rattle.std.specs.Borrow.{Bor}
-use Rattle.std.specs.Global.{Global}
-use Rattle.lc_level.specs.Filters.{attribute_of}
-use Rattle.lc_level.specs.declared.named_attributes.NamedAttributes.{NamedAttributes}
-use Rattle.lc_level.specs.declared.named_attributes.NotedWord.{NotedWord}
+use Rattle.std.specs.{Prelude.{◌≡◌, ◌⊎◌, ℕ, List, [], ◌∷◌, ◌++◌, Vec, map}, Borrow.Bor, Global.Global}
+use Rattle.lc_level.specs.{Filters.attribute_of, declared.named_attributes.{NamedAttributes.NamedAttributes, NotedWord.NotedWord}}
 
 -- the attributes of words such as `ATTR` and `ATTR=VALUE`
 abbrev pub attributes_of : List (Bor (List ℕ)) → List (List ℕ)

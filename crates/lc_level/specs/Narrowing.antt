@@ -1,14 +1,9 @@
 -- Which entries of a directory the paths of `--only` select.
-use Rattle.std.specs.Prelude.{ℕ, ◌==◌, Bool, ◌&&◌, ◌||◌, not, cond, List, [], ◌∷◌, ◌++◌, Option, Some, None, bytes_eq}
-use Rattle.std.specs.List.{filter, filter_map, list_any}
-use Rattle.std.specs.Option.{is_some}
-use Rattle.std.specs.Ordering.{is_lt}
-use Rattle.lc_glob.specs.Bytes.{slash}
-use Rattle.lc_glob.specs.Lists.{is_empty}
+use Rattle.std.specs.{Prelude.{ℕ, ◌==◌, Bool, ◌&&◌, ◌||◌, not, cond, List, [], ◌∷◌, ◌++◌, Option, Some, None, bytes_eq}, List.filter}
+use Rattle.std.specs.{List.{filter_map, list_any}, Option.is_some, Ordering.is_lt}
+use Rattle.lc_glob.specs.{Bytes.slash, Lists.is_empty}
 use Rattle.lc_level.specs.Answers.{Item, entry_of}
-use Rattle.lc_tree.specs.ByteOrder.{bytes_cmp}
-use Rattle.lc_tree.specs.Kinds.{is_dir}
-use Rattle.lc_tree.specs.Listing.{EntryModel}
+use Rattle.lc_tree.specs.{ByteOrder.bytes_cmp, Kinds.is_dir, Listing.EntryModel}
 
 -- what follows these first bytes in a text, if the text begins with them
 abbrev pub after : List ℕ → List ℕ → Option (List ℕ)

@@ -1,19 +1,10 @@
 -- The tree that a `Node` defines: the answers for each directory, as values.
 use Rattle.std.specs.Prelude.{ℕ, List, [], ◌∷◌, ◌++◌, map, Option, Some, None, Result, Ok, Err, unwrap_or, codes}
-use Rattle.lc_level.specs.Answers.{Item, file_item, directory_item, other_item, entry_of, Items, Tree}
-use Rattle.lc_level.specs.FileAnswers.{counted, read_as_rules}
-use Rattle.lc_tree.specs.Listed.{listed}
-use Rattle.lc_tree.specs.MemTrees.{content_of}
-use Rattle.lc_tree.specs.Trees.{Content}
-use Rattle.lc_tree.specs.Nodes.{Child, kind_of, node_below}
-use Rattle.lc_tree.specs.declared.entry.Kind.{Kind}
-use Rattle.lc_tree.specs.declared.entry.Kind.TheVariants.{File, Dir, Other}
-use Rattle.lc_level.specs.FaultWords.{fault_word_of}
-use Rattle.lc_level.specs.declared.fault_word.FaultWord.TheVariants.{Read}
-use Rattle.lc_tree.specs.declared.node.Node.{Node, out-Node}
-use Rattle.lc_tree.specs.declared.node.Node.TheOpen.{Node-F}
-use Rattle.lc_tree.specs.declared.read_fault.ReadFault.{ReadFault}
-use Rattle.lc_tree.specs.declared.read_fault.ReadFault.TheVariants.{Failed}
+use Rattle.lc_level.specs.{Answers.{Item, file_item, directory_item, other_item, entry_of, Items, Tree}, FileAnswers.counted}
+use Rattle.lc_level.specs.{FileAnswers.read_as_rules, FaultWords.fault_word_of, declared.fault_word.FaultWord.TheVariants.Read}
+use Rattle.lc_tree.specs.{Listed.listed, MemTrees.content_of, Trees.Content, Nodes.{Child, kind_of, node_below}}
+use Rattle.lc_tree.specs.declared.{entry.Kind.{Kind, TheVariants.{File, Dir, Other}}, node.Node.{Node, out-Node, TheOpen.Node-F}}
+use Rattle.lc_tree.specs.declared.read_fault.ReadFault.{ReadFault, TheVariants.Failed}
 
 -- the item of an entry with this name and kind; if it is a file, `file` is its content
 abbrev pub item_by : List ℕ → Content → Kind → Item

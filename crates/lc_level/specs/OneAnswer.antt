@@ -1,22 +1,10 @@
 -- Trees that give only one answer to each question.
 use Rattle.std.specs.Prelude.{◌≡◌, ℕ, ◌<◌, ◌^◌, List, length, Result}
 use Rattle.lc_census.specs.declared.line_count.Count.{Count}
-use Rattle.lc_tree.specs.Listing.{EntryModel}
-use Rattle.lc_tree.specs.MemTrees.{mem_lists, mem_gives}
-use Rattle.lc_tree.specs.Paths.{names_of_path}
-use Rattle.lc_tree.specs.OneAnswer.{content_at}
-use Rattle.lc_tree.specs.Trees.{Listings, Contents}
-use Rattle.lc_level.specs.FileReads.{MayCount, MayReadRules}
-use Rattle.lc_level.specs.declared.fault_word.FaultWord.{FaultWord}
-use Rattle.lc_tree.specs.declared.node.Node.{Node}
-use Rattle.lc_tree.specs.declared.read_fault.ReadFault.{ReadFault}
-use Rattle.lc_level.specs.Answers.{Answers}
-use Rattle.lc_level.specs.Job.{JobModel}
-use Rattle.lc_level.specs.Level.{level}
-use Rattle.lc_level.specs.NodeTrees.{tree_of_node}
-use Rattle.lc_level.specs.Filters.{FiltersModel}
-use Rattle.lc_level.specs.WellFormed.{IsWellFormed}
-use Rattle.lc_level.specs.TreeAnswers.{MayAnswer}
+use Rattle.lc_tree.specs.{Listing.EntryModel, MemTrees.{mem_lists, mem_gives}, Paths.names_of_path, OneAnswer.content_at, Trees.Listings}
+use Rattle.lc_tree.specs.{Trees.Contents, declared.{node.Node.Node, read_fault.ReadFault.ReadFault}}
+use Rattle.lc_level.specs.{FileReads.{MayCount, MayReadRules}, declared.fault_word.FaultWord.FaultWord, Answers.Answers, Job.JobModel}
+use Rattle.lc_level.specs.{Level.level, NodeTrees.tree_of_node, Filters.FiltersModel, WellFormed.IsWellFormed, TreeAnswers.MayAnswer}
 
 module _ (lists : List ℕ → Listings) (gives : List ℕ → Contents) where
   -- each path has only one listing, and each file has only one count and only one text as a rule file

@@ -1,21 +1,10 @@
 -- What opening a directory may return: what becomes of its entries, before its files are counted.
-use Rattle.std.specs.Prelude.{◌≡◌, ℕ, Bool, true, false, List, length, Result, Ok, Err}
-use Rattle.std.specs.List.{flat_map}
-use Rattle.lc_level.specs.Answers.{Answers, entries_of}
-use Rattle.lc_level.specs.Deep.{has_too_deep}
-use Rattle.lc_level.specs.Enters.{IsInside}
-use Rattle.lc_level.specs.Job.{JobModel}
-use Rattle.lc_level.specs.WellFormed.{IsWellFormed}
-use Rattle.lc_level.specs.Classified.{kept_file, kept_directory, skipped_entry, bytes_of}
-use Rattle.lc_level.specs.Level.{absent_faults, faulted_level, level}
-use Rattle.lc_level.specs.Narrowing.{part_of, absent_from}
-use Rattle.lc_level.specs.SitePaths.{site_path}
-use Rattle.lc_level.specs.Filters.{FiltersModel}
-use Rattle.lc_level.specs.TreeAnswers.{MayAnswer}
+use Rattle.std.specs.{Prelude.{◌≡◌, ℕ, Bool, true, false, List, length, Result, Ok, Err}, List.flat_map}
+use Rattle.lc_level.specs.{Answers.{Answers, entries_of}, Deep.has_too_deep, Enters.IsInside, Job.JobModel, WellFormed.IsWellFormed}
+use Rattle.lc_level.specs.{Classified.{kept_file, kept_directory, skipped_entry, bytes_of}, Level.{absent_faults, faulted_level, level}}
+use Rattle.lc_level.specs.{Narrowing.{part_of, absent_from}, SitePaths.site_path, Filters.FiltersModel, TreeAnswers.MayAnswer}
+use Rattle.lc_level.specs.declared.{opening.Opened.Opened, open_fault.OpenFault.{OpenFault, TheVariants.{Faulted, Memory, TooDeep}}}
 use Rattle.lc_tree.specs.Trees.{Listings, Contents}
-use Rattle.lc_level.specs.declared.opening.Opened.{Opened}
-use Rattle.lc_level.specs.declared.open_fault.OpenFault.{OpenFault}
-use Rattle.lc_level.specs.declared.open_fault.OpenFault.TheVariants.{Faulted, Memory, TooDeep}
 
 module _ (lists : List ℕ → Listings) (gives : List ℕ → Contents) (left_out : Bool) (f : FiltersModel) (j : JobModel) where
   -- by answers that the tree may give: the job with the directory's rule files in both chains, which of the selected entries stay and which

@@ -1,8 +1,7 @@
 -- What a path buffer holds.
 use Rattle.std.specs.Prelude.{◌≡◌, ℕ, true, false, List, length, nat_lt, Result, Ok, Err}
 use Rattle.lc_glob.specs.Path.{max_path}
-use Rattle.lc_level.specs.declared.open_fault.OpenFault.{OpenFault}
-use Rattle.lc_level.specs.declared.open_fault.OpenFault.TheVariants.{Faulted, Memory, TooDeep}
+use Rattle.lc_level.specs.declared.open_fault.OpenFault.{OpenFault, TheVariants.{Faulted, Memory, TooDeep}}
 
 -- the path of a directory, and that path or one of an entry of the directory
 pub record PathBufferModel : Type 0 where

@@ -1,12 +1,9 @@
 -- Tests of the paths of `--only`, step by step.
-use Rattle.std.specs.Prelude.{ℕ, ◌==◌, Bool, ◌&&◌, not, cond, List, [], ◌∷◌, ◌++◌, get_or, take, bytes_eq}
-use Rattle.std.specs.List.{filter, list_any}
+use Rattle.std.specs.{Prelude.{ℕ, ◌==◌, Bool, ◌&&◌, not, cond, List, [], ◌∷◌, ◌++◌, get_or, take, bytes_eq}, List.{filter, list_any}}
 use Rattle.std.specs.Ordering.{is_lt}
-use Rattle.lc_glob.specs.Bytes.{slash}
-use Rattle.lc_glob.specs.Lists.{is_empty}
+use Rattle.lc_glob.specs.{Bytes.slash, Lists.is_empty}
 use Rattle.lc_level.specs.Narrowing.{leads_to}
-use Rattle.lc_tree.specs.ByteOrder.{bytes_cmp}
-use Rattle.lc_tree.specs.Listing.{EntryModel}
+use Rattle.lc_tree.specs.{ByteOrder.bytes_cmp, Listing.EntryModel}
 
 -- whether a path sorts before all paths below a directory; every path but the empty one is below the top
 abbrev pub comes_before : List ℕ → List ℕ → Bool

@@ -1,8 +1,7 @@
 -- What definitions see of a `Reason` and of a `ReasonRef`.
 use Rattle.lc_level.specs.Level.{Reason, named_git, by_rule, by_attribute, not_included, other_kind}
-use Rattle.lc_level.specs.declared.reason.Reason.{Reason as OwnedReason}
+use Rattle.lc_level.specs.declared.reason.{Reason.Reason as OwnedReason, ReasonRef.ReasonRef}
 use Rattle.lc_level.specs.declared.reason.Reason.TheVariants as owned
-use Rattle.lc_level.specs.declared.reason.ReasonRef.{ReasonRef}
 use Rattle.lc_level.specs.declared.reason.ReasonRef.TheVariants as lent
 
 abbrev pub reason_model : OwnedReason → Reason

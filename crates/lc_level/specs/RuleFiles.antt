@@ -1,13 +1,10 @@
 -- The rule files of a directory: gitignore(5), DESCRIPTION, and gitattributes(5), DESCRIPTION, on where rules are read.
-use Rattle.std.specs.Prelude.{ℕ, Bool, true, false, ◌&&◌, ◌||◌, cond, List, [], ◌∷◌, ◌++◌, Option, Some, None, Result, Ok, Err}
-use Rattle.std.specs.Prelude.{bytes_eq, option_map, codes}
+use Rattle.std.specs.Prelude.{ℕ, Bool, true, false, ◌&&◌, ◌||◌, cond, List, [], ◌∷◌, ◌++◌, Option, Some, None, Result, Ok, Err, bytes_eq}
+use Rattle.std.specs.Prelude.{option_map, codes}
 use Rattle.lc_glob.specs.Path.{path_in, depth_of}
-use Rattle.lc_rules.specs.IgnoreRules.{rules_of}
-use Rattle.lc_rules.specs.AttrLines.{attribute_file_of}
-use Rattle.lc_level.specs.declared.fault_word.FaultWord.{FaultWord}
-use Rattle.lc_level.specs.Answers.{Item, file_item, directory_item, other_item, Items, Answers}
-use Rattle.lc_level.specs.Job.{JobModel}
-use Rattle.lc_level.specs.FaultLines.{FaultLineModel}
+use Rattle.lc_rules.specs.{IgnoreRules.rules_of, AttrLines.attribute_file_of}
+use Rattle.lc_level.specs.{declared.fault_word.FaultWord.FaultWord, Answers.{Item, file_item, directory_item, other_item, Items, Answers}}
+use Rattle.lc_level.specs.{Job.JobModel, FaultLines.FaultLineModel}
 
 -- what reading the file of a name gave, if there is a file of this name
 abbrev pub file_named : List ℕ → List Item → Option (Result (List ℕ) FaultWord)

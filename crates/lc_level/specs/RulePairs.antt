@@ -1,23 +1,15 @@
 -- What reading the two rule files of one directory may return.
 use Rattle.std.specs.Prelude.{◌≡◌, ℕ, Bool, not, ◌&&◌, ◌⊎◌, List, Option, Some, Result, Ok, Err, option_map, codes}
 use Rattle.lc_glob.specs.Path.{path_in}
-use Rattle.lc_rules.specs.IgnoreRules.{rules_of}
-use Rattle.lc_rules.specs.AttrLines.{attribute_file_of}
-use Rattle.lc_level.specs.EntryLooks.{has_file}
-use Rattle.lc_level.specs.RuleFiles.{Pair, is_top}
-use Rattle.lc_level.specs.RuleReads.{shared, text_items, text_if, MayGive}
-use Rattle.lc_tree.specs.Listing.{EntryModel}
-use Rattle.lc_tree.specs.Trees.{Contents}
-use Rattle.lc_level.specs.declared.rule_files.rule_pair.RulePair.{RulePair}
-use Rattle.lc_level.specs.declared.rule_files.rule_pair.PairNames.{PairNames}
-use Rattle.lc_level.specs.declared.rule_files.rule_pair.PairRead.{PairRead}
-use Rattle.lc_level.specs.declared.open_fault.OpenFault.{OpenFault}
-use Rattle.lc_level.specs.declared.open_fault.OpenFault.TheVariants.{Faulted, Memory, TooDeep}
+use Rattle.lc_rules.specs.{IgnoreRules.rules_of, AttrLines.attribute_file_of}
+use Rattle.lc_level.specs.{EntryLooks.has_file, RuleFiles.{Pair, is_top}, RuleReads.{shared, text_items, text_if, MayGive}}
+use Rattle.lc_level.specs.declared.rule_files.rule_pair.{RulePair.RulePair, PairNames.PairNames, PairRead.PairRead}
+use Rattle.lc_level.specs.declared.open_fault.OpenFault.{OpenFault, TheVariants.{Faulted, Memory, TooDeep}}
 use Rattle.lc_level.specs.declared.content_fault.ContentFault.{ContentFault}
-use Rattle.lc_level.specs.declared.content_fault.ContentFault.TheVariants as content_fault
-use Rattle.lc_level.specs.declared.fault_site.FaultSite.{FaultSite}
-use Rattle.lc_level.specs.declared.fault_site.FaultSite.TheVariants.{Gitignore, Gitattributes}
+use Rattle.lc_level.specs.declared.fault_site.FaultSite.{FaultSite, TheVariants.{Gitignore, Gitattributes}}
 use Rattle.lc_level.specs.declared.fault_word.FaultWord.{FaultWord}
+use Rattle.lc_tree.specs.{Listing.EntryModel, Trees.Contents}
+use Rattle.lc_level.specs.declared.content_fault.ContentFault.TheVariants as content_fault
 
 -- the error of a directory whose file at a site could not be read
 abbrev pub open_fault_by : FaultSite → ContentFault → OpenFault

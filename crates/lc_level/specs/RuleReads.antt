@@ -1,14 +1,10 @@
 -- What reading a rule file of a directory may return.
 use Rattle.std.specs.Prelude.{◌≡◌, ℕ, Bool, true, false, if◌then◌else◌, List, Vec, Option, Some, None, Result, Ok, Err, option_map}
-use Rattle.std.specs.Global.{Global}
-use Rattle.std.specs.declared.sync.Arc.{Arc}
-use Rattle.std.specs.Arc.{arc_value}
+use Rattle.std.specs.{Global.Global, declared.sync.Arc.Arc, Arc.arc_value}
 use Rattle.lc_tree.specs.Trees.{Contents}
-use Rattle.lc_level.specs.FileReads.{MayReadRules}
-use Rattle.lc_level.specs.declared.fault_word.FaultWord.{FaultWord}
-use Rattle.lc_rules.specs.IgnoreRules.{rules_of}
-use Rattle.lc_level.specs.declared.rule_files.IgnoreRead.{IgnoreRead}
+use Rattle.lc_level.specs.{FileReads.MayReadRules, declared.{fault_word.FaultWord.FaultWord, rule_files.IgnoreRead.IgnoreRead}}
 use Rattle.lc_level.specs.declared.content_fault.ContentFault.{ContentFault}
+use Rattle.lc_rules.specs.IgnoreRules.{rules_of}
 use Rattle.lc_level.specs.declared.content_fault.ContentFault.TheVariants as content_fault
 
 -- what reading a file may have returned: nothing if it is not there, otherwise its bytes or its error

@@ -1,15 +1,10 @@
 -- What reading a file of rules whole may return, by its reads.
-use Rattle.std.specs.Prelude.{ℕ, List, Result, Ok, Err, Vec}
-use Rattle.std.specs.Global.{Global}
-use Rattle.lc_io.specs.Reads.{Answer}
-use Rattle.lc_io.specs.Whole.{AnswersWhole}
-use Rattle.lc_io.specs.declared.whole.WholeFault.{WholeFault}
+use Rattle.std.specs.{Prelude.{ℕ, List, Result, Ok, Err, Vec}, Global.Global}
+use Rattle.lc_io.specs.{Reads.Answer, Whole.AnswersWhole, declared.whole.WholeFault.WholeFault}
+use Rattle.lc_rules.specs.{Limits.max_rule_bytes, declared.faults.RuleFault.RuleFault}
+use Rattle.lc_level.specs.declared.rule_files.rule_text.RulesFileFault.{RulesFileFault, TheVariants.{Read, TooLong, Memory}}
 use Rattle.lc_io.specs.declared.whole.WholeFault.TheVariants as whole
-use Rattle.lc_rules.specs.Limits.{max_rule_bytes}
-use Rattle.lc_rules.specs.declared.faults.RuleFault.{RuleFault}
 use Rattle.lc_rules.specs.declared.faults.RuleFault.TheVariants as rule
-use Rattle.lc_level.specs.declared.rule_files.rule_text.RulesFileFault.{RulesFileFault}
-use Rattle.lc_level.specs.declared.rule_files.rule_text.RulesFileFault.TheVariants.{Read, TooLong, Memory}
 
 -- the error for a file that was not read whole
 abbrev pub file_fault : WholeFault → RulesFileFault

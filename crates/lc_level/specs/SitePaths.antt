@@ -2,8 +2,8 @@
 use Rattle.std.specs.Prelude.{ℕ, List, codes}
 use Rattle.lc_glob.specs.Path.{path_in}
 use Rattle.lc_level.specs.declared.fault_site.FaultSite.{FaultSite}
-use Rattle.lc_level.specs.declared.fault_site.FaultSite.TheVariants.{Directory, Git, GitInfo, InfoExclude, InfoAttributes}
-use Rattle.lc_level.specs.declared.fault_site.FaultSite.TheVariants.{Gitignore, Gitattributes}
+use Rattle.lc_level.specs.declared.fault_site.FaultSite.TheVariants.{Directory, Git, GitInfo, InfoExclude, InfoAttributes, Gitignore}
+use Rattle.lc_level.specs.declared.fault_site.FaultSite.TheVariants.{Gitattributes}
 
 -- the path of a site, for a directory at a path
 abbrev pub site_path : List ℕ → FaultSite → List ℕ

@@ -1,8 +1,7 @@
 -- Where a walk begins.
 use Rattle.std.specs.Prelude.{[], None, option_map}
 use Rattle.lc_rules.specs.IgnoreRules.{rules_of}
-use Rattle.lc_level.specs.Filters.{FiltersModel}
-use Rattle.lc_level.specs.Job.{JobModel}
+use Rattle.lc_level.specs.{Filters.FiltersModel, Job.JobModel}
 
 -- the job of the top, whose only rules are those that these filters set for the whole tree
 abbrev pub top_job : FiltersModel → JobModel

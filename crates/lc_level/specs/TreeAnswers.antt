@@ -1,14 +1,10 @@
 -- Which answers for a directory a tree may give, by what its calls may answer.
-use Rattle.std.specs.Prelude.{◌≡◌, ℕ, true, List, [], Some, Ok, Err, codes}
-use Rattle.std.specs.List.{AllByRecursion}
-use Rattle.lc_level.specs.Answers.{Item, file_item, directory_item, other_item, Items, Answers, entries_of}
-use Rattle.lc_glob.specs.Path.{path_in}
-use Rattle.lc_level.specs.RuleFiles.{has_directory, has_git}
-use Rattle.lc_tree.specs.Trees.{Listings, Contents}
-use Rattle.lc_level.specs.FaultWords.{fault_word_of}
-use Rattle.lc_level.specs.FileReads.{MayCount, MayReadRules}
+use Rattle.std.specs.{Prelude.{◌≡◌, ℕ, true, List, [], Some, Ok, Err, codes}, List.AllByRecursion}
+use Rattle.lc_level.specs.{Answers.{Item, file_item, directory_item, other_item, Items, Answers, entries_of}, RuleFiles.has_directory}
+use Rattle.lc_level.specs.{RuleFiles.has_git, FaultWords.fault_word_of, FileReads.{MayCount, MayReadRules}}
 use Rattle.lc_level.specs.declared.fault_word.FaultWord.{FaultWord}
-use Rattle.lc_tree.specs.declared.read_fault.ReadFault.{ReadFault}
+use Rattle.lc_glob.specs.Path.{path_in}
+use Rattle.lc_tree.specs.{Trees.{Listings, Contents}, declared.read_fault.ReadFault.ReadFault}
 
 -- the items, if there are any
 abbrev pub items_of : Items → List Item

@@ -1,5 +1,4 @@
-use Rattle.std.proofs.Common.{rules, ◌≡◌, Some, None, MatchResult, get_or, sym, ◌∙◌, ap, subst, find}
-use Rattle.std.proofs.lemmas.Fn.{always_returns_same}
+use Rattle.std.proofs.{Common.{rules, ◌≡◌, Some, None, MatchResult, get_or, sym, ◌∙◌, ap, subst, find}, lemmas.Fn.always_returns_same}
 use Rattle.lc_tree.specs.Listing.{EntryModel}
 use Rattle.lc_level.proofs.Searching.{order_of, is_named, searched}
 use Rattle.lc_level.proofs.entry_looks.entry_named.Goals as goal

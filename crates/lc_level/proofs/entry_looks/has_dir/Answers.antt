@@ -1,9 +1,7 @@
 use Rattle.std.proofs.Common.{ap, sym, ◌∙◌, option_map, Bor}
 use Rattle.lc_level.specs.EntryLooks.{has_dir}
-use Rattle.lc_level.proofs.AskedPaths.{passes}
-use Rattle.lc_level.proofs.Searching.{kind_tells}
-use Rattle.lc_tree.specs.Kinds.{is_dir}
-use Rattle.lc_tree.specs.Listing.{EntryModel}
+use Rattle.lc_level.proofs.{AskedPaths.passes, Searching.kind_tells}
+use Rattle.lc_tree.specs.{Kinds.is_dir, Listing.EntryModel}
 use Rattle.lc_level.proofs.entry_looks.has_dir.Goals as goal
 
 pub returns-in-Some : goal.returns-in-Some

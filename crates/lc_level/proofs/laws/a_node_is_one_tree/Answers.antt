@@ -1,8 +1,6 @@
-use Rattle.lc_tree.specs.MemTrees.{mem_lists, mem_gives}
-use Rattle.lc_tree.specs.Paths.{names_of_path}
+use Rattle.lc_tree.specs.{MemTrees.{mem_lists, mem_gives}, Paths.names_of_path}
 use Rattle.lc_level.specs.NodeTrees.{tree_of_node}
-use Rattle.lc_level.proofs.NodeTrees.{node_answers, well_formed_at}
-use Rattle.lc_level.proofs.OneLevel.{one_level}
+use Rattle.lc_level.proofs.{NodeTrees.{node_answers, well_formed_at}, OneLevel.one_level}
 use Rattle.lc_level.proofs.laws.a_node_is_one_tree.Goals as goal
 
 pub returns-clause-answers : goal.returns-clause-answers

@@ -1,7 +1,6 @@
 use Rattle.std.proofs.Common.{ap, sym, ◌∙◌, option_map, Bor}
 use Rattle.lc_level.specs.Narrowing.{leads_to}
-use Rattle.lc_level.proofs.AskedPaths.{passes}
-use Rattle.lc_level.proofs.Leading.{led_by_named}
+use Rattle.lc_level.proofs.{AskedPaths.passes, Leading.led_by_named}
 use Rattle.lc_tree.specs.Listing.{EntryModel}
 use Rattle.lc_level.proofs.narrowing.is_led_to.Goals as goal
 

@@ -1,6 +1,4 @@
-use Rattle.std.proofs.Common.{rules, [], ◌∷◌}
-use Rattle.std.proofs.lemmas.Bool.Decides.{Decides-eqb}
-use Rattle.std.proofs.lemmas.Slice.Eq.{strip_prefix_is}
+use Rattle.std.proofs.{Common.{rules, [], ◌∷◌}, lemmas.{Bool.Decides.Decides-eqb, Slice.Eq.strip_prefix_is}}
 use Rattle.lc_glob.specs.Bytes.{slash}
 use Rattle.lc_level.proofs.PathNames.{none_below, name_below}
 use Rattle.lc_level.proofs.paths.relative_to.Goals as goal

@@ -1,7 +1,6 @@
 use Rattle.std.proofs.Common.{◌≡◌, false}
 use Rattle.std.specs.List.{flat_map, list_any}
-use Rattle.lc_level.specs.Deep.{is_too_deep}
-use Rattle.lc_level.specs.Classified.{kept_file, kept_directory, skipped_entry, bytes_of}
+use Rattle.lc_level.specs.{Deep.is_too_deep, Classified.{kept_file, kept_directory, skipped_entry, bytes_of}}
 use Rattle.lc_level.proofs.level_reader.LevelReader.classify_all.Given as goal
 
 abbrev pub invariant-loop-entry : goal.invariant-loop-entry

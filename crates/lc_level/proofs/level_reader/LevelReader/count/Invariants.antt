@@ -1,6 +1,5 @@
 use Rattle.std.proofs.Common.{◌≡◌}
-use Rattle.lc_level.specs.CountedNames.{IsCounted}
-use Rattle.lc_level.specs.Classified.{bytes_of}
+use Rattle.lc_level.specs.{CountedNames.IsCounted, Classified.bytes_of}
 use Rattle.lc_level.proofs.level_reader.LevelReader.count.Given as goal
 
 abbrev pub invariant-loop-name : goal.invariant-loop-name

@@ -1,6 +1,5 @@
 use Rattle.std.proofs.Common.{Some, subst}
-use Rattle.lc_io.specs.Buffers.{buffer_len}
-use Rattle.lc_io.specs.Reads.{RoomOf, Reads, at_end, at_failure, at_neither}
+use Rattle.lc_io.specs.{Buffers.buffer_len, Reads.{RoomOf, Reads, at_end, at_failure, at_neither}}
 use Rattle.lc_level.proofs.level_reader.LevelReader.count_at.Goals as goal
 
 pub returns-in-Ok-count_source : goal.returns-in-Ok-count_source

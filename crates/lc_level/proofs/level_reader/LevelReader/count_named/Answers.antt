@@ -1,7 +1,6 @@
 use Rattle.std.proofs.Common.{rules, subst, Err}
-use Rattle.lc_level.specs.CountedNames.{AddsResult}
+use Rattle.lc_level.specs.{CountedNames.AddsResult, declared.fault_word.FaultWord.FaultWord}
 use Rattle.lc_level.proofs.CountedMore.{adds_file, adds_fault}
-use Rattle.lc_level.specs.declared.fault_word.FaultWord.{FaultWord}
 use Rattle.lc_level.proofs.level_reader.LevelReader.count_named.Goals as goal
 
 pub returns-in-Ok-count_at-clause-counted : goal.returns-in-Ok-count_at-clause-counted

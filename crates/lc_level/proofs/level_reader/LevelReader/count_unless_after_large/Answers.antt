@@ -1,5 +1,4 @@
-use Rattle.std.proofs.Common.{◌≡◌, [], rules}
-use Rattle.std.proofs.lemmas.List.{nil_from_length}
+use Rattle.std.proofs.{Common.{◌≡◌, [], rules}, lemmas.List.nil_from_length}
 use Rattle.lc_level.proofs.RestFiles.{counted_last}
 use Rattle.lc_level.proofs.level_reader.LevelReader.count_unless_after_large.Goals as goal
 

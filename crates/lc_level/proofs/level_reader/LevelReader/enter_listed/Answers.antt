@@ -1,16 +1,9 @@
 use Rattle.std.proofs.Common.{◌≡◌, ℕ, ◌&&◌, List, Bool, Result, Ok, Err, refl, subst, codes}
-use Rattle.lc_level.specs.EntryLooks.{has_dir}
-use Rattle.lc_level.specs.Enters.{EntersLevel}
-use Rattle.lc_level.specs.GitInfo.{ListsFor, ReadsGit}
-use Rattle.lc_tree.specs.Listing.{EntryModel, IsListing}
-use Rattle.lc_level.specs.RuleFiles.{is_top}
-use Rattle.lc_level.specs.RulePairs.{own_asked, ReadsBoth}
-use Rattle.lc_tree.specs.Trees.{Listings, Contents}
-use Rattle.lc_level.specs.declared.rule_files.rule_pair.PairRead.{PairRead}
-use Rattle.lc_level.specs.declared.open_fault.OpenFault.{OpenFault}
+use Rattle.lc_level.specs.{EntryLooks.has_dir, Enters.EntersLevel, GitInfo.{ListsFor, ReadsGit}, RuleFiles.is_top, RulePairs.own_asked}
+use Rattle.lc_level.specs.{RulePairs.ReadsBoth, declared.{rule_files.rule_pair.PairRead.PairRead, open_fault.OpenFault.OpenFault}}
 use Rattle.lc_level.specs.declared.fault_site.FaultSite.TheVariants.{Directory}
-use Rattle.lc_level.proofs.EnterLevels.{list_refused, info_refused, own_refused, has_read, entered}
-use Rattle.lc_level.proofs.PassedOn.{passed_on}
+use Rattle.lc_tree.specs.{Listing.{EntryModel, IsListing}, Trees.{Listings, Contents}}
+use Rattle.lc_level.proofs.{EnterLevels.{list_refused, info_refused, own_refused, has_read, entered}, PassedOn.passed_on}
 use Rattle.lc_level.proofs.level_reader.LevelReader.enter_listed.Goals as goal
 
 -- the same of a directory's path, and of whether ignore files are read

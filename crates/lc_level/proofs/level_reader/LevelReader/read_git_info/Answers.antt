@@ -1,10 +1,7 @@
 use Rattle.std.proofs.Common.{◌≡◌, ℕ, true, false, List, codes, subst}
-use Rattle.lc_level.specs.EntryLooks.{has_dir}
-use Rattle.lc_level.specs.GitInfo.{ReadsGit}
-use Rattle.lc_level.specs.RulePairs.{ReadsBoth}
+use Rattle.lc_level.specs.{EntryLooks.has_dir, GitInfo.ReadsGit, RulePairs.ReadsBoth}
 use Rattle.lc_tree.specs.Listing.{IsListing}
-use Rattle.lc_level.proofs.GitReads.{info_asked, no_git, git_refused, no_info, info_refused, both_files}
-use Rattle.lc_level.proofs.PassedOn.{passed_on}
+use Rattle.lc_level.proofs.{GitReads.{info_asked, no_git, git_refused, no_info, info_refused, both_files}, PassedOn.passed_on}
 use Rattle.lc_level.proofs.level_reader.LevelReader.read_git_info.Goals as goal
 
 pub returns-then-not-has_dir : goal.returns-then-not-has_dir

@@ -1,8 +1,6 @@
 use Rattle.std.proofs.Common.{◌≡◌, ◌&&◌, false, sym, ◌∙◌, codes}
-use Rattle.lc_level.specs.EntryLooks.{has_dir}
-use Rattle.lc_level.specs.RuleFiles.{is_top}
-use Rattle.lc_level.proofs.Depths.{below_top}
-use Rattle.lc_level.proofs.GitReads.{no_git}
+use Rattle.lc_level.specs.{EntryLooks.has_dir, RuleFiles.is_top}
+use Rattle.lc_level.proofs.{Depths.below_top, GitReads.no_git}
 use Rattle.lc_level.proofs.level_reader.LevelReader.read_info.Goals as goal
 
 pub returns-then-not-is_empty : goal.returns-then-not-is_empty

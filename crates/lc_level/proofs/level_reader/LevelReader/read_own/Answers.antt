@@ -1,7 +1,5 @@
-use Rattle.std.proofs.Common.{◌≡◌, ℕ, ◌==◌, Bool, List, [], ◌∷◌, length, refl, ◌∙◌, subst}
-use Rattle.std.proofs.Math.Dec.{eqb-suc-zero}
-use Rattle.lc_level.specs.RuleFiles.{is_top}
-use Rattle.lc_level.specs.RulePairs.{PairAsked, own_asked, ReadsBoth}
+use Rattle.std.proofs.{Common.{◌≡◌, ℕ, ◌==◌, Bool, List, [], ◌∷◌, length, refl, ◌∙◌, subst}, Math.Dec.eqb-suc-zero}
+use Rattle.lc_level.specs.{RuleFiles.is_top, RulePairs.{PairAsked, own_asked, ReadsBoth}}
 use Rattle.lc_tree.specs.Listing.{EntryModel}
 use Rattle.lc_level.proofs.level_reader.LevelReader.read_own.Goals as goal
 

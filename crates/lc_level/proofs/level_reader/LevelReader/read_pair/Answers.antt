@@ -1,7 +1,6 @@
 use Rattle.std.proofs.Common.{ℕ, List, Ok, subst, option_map}
 use Rattle.lc_glob.specs.Path.{path_in}
-use Rattle.lc_level.specs.EntryLooks.{has_file}
-use Rattle.lc_level.specs.RuleReads.{MayGive}
+use Rattle.lc_level.specs.{EntryLooks.has_file, RuleReads.MayGive}
 use Rattle.lc_level.proofs.level_reader.LevelReader.read_pair.Goals as goal
 
 pub returns-clause-read : goal.returns-clause-read

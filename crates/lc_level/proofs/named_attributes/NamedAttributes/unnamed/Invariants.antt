@@ -1,6 +1,5 @@
 use Rattle.std.proofs.Common.{map, take}
-use Rattle.lc_level.specs.NamedAttributes.{AreSomeAttributes}
-use Rattle.lc_level.specs.declared.named_attributes.NotedWord.{NotedWord}
+use Rattle.lc_level.specs.{NamedAttributes.AreSomeAttributes, declared.named_attributes.NotedWord.NotedWord}
 use Rattle.lc_level.proofs.named_attributes.NamedAttributes.unnamed.Given as goal
 
 abbrev pub invariant-loop-word : goal.invariant-loop-word

@@ -1,6 +1,5 @@
 use Rattle.std.proofs.Common.{◌≡◌, ◌++◌, map, drop}
-use Rattle.lc_level.specs.Level.{absent_faults}
-use Rattle.lc_level.specs.PathSteps.{unled}
+use Rattle.lc_level.specs.{Level.absent_faults, PathSteps.unled}
 use Rattle.lc_level.proofs.narrowing.Wanted.absent.Given as goal
 
 abbrev pub invariant-loop-rest : goal.invariant-loop-rest

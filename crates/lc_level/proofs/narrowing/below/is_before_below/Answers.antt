@@ -1,8 +1,7 @@
 use Rattle.std.proofs.Common.{[], ◌∷◌, ◌++◌, sym, ◌∙◌, ap}
 use Rattle.std.specs.Ordering.{is_lt}
 use Rattle.lc_glob.specs.Bytes.{slash}
-use Rattle.lc_level.proofs.AskedPaths.{after_is}
-use Rattle.lc_level.proofs.PathOrder.{before_more, begin_alike}
+use Rattle.lc_level.proofs.{AskedPaths.after_is, PathOrder.{before_more, begin_alike}}
 use Rattle.lc_tree.specs.ByteOrder.{bytes_cmp}
 use Rattle.lc_level.proofs.narrowing.below.is_before_below.Goals as goal
 

@@ -1,8 +1,6 @@
-use Rattle.std.proofs.Common.{rules, List, ℕ, Bor}
-use Rattle.std.proofs.lemmas.List.Sorted.{IsPartitionPoint-from_clause}
+use Rattle.std.proofs.{Common.{rules, List, ℕ, Bor}, lemmas.List.Sorted.IsPartitionPoint-from_clause}
 use Rattle.lc_level.specs.PathSteps.{comes_before}
-use Rattle.lc_level.proofs.ByHalves.{in_front}
-use Rattle.lc_level.proofs.PathOrder.{comes_falls}
+use Rattle.lc_level.proofs.{ByHalves.in_front, PathOrder.comes_falls}
 use Rattle.lc_level.proofs.narrowing.only_paths.first_past.Goals as goal
 
 pub returns-clause-place : goal.returns-clause-place

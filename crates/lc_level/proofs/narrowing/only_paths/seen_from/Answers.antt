@@ -1,5 +1,4 @@
-use Rattle.std.proofs.Common.{[], ◌++◌, map, sym, ◌∙◌, ap, append-nil}
-use Rattle.std.proofs.lemmas.List.{drop_more}
+use Rattle.std.proofs.{Common.{[], ◌++◌, map, sym, ◌∙◌, ap, append-nil}, lemmas.List.drop_more}
 use Rattle.lc_level.proofs.SeenPaths.{none_left}
 use Rattle.lc_level.proofs.narrowing.only_paths.seen_from.Goals as goal
 

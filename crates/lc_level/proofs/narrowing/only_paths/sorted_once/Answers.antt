@@ -1,5 +1,4 @@
-use Rattle.std.proofs.Common.{map, ◌∙◌, ap}
-use Rattle.std.proofs.lemmas.List.Filters.{dedup_is}
+use Rattle.std.proofs.{Common.{map, ◌∙◌, ap}, lemmas.List.Filters.dedup_is}
 use Rattle.lc_level.specs.Narrowing.{each_once}
 use Rattle.lc_level.proofs.EachOnce.{sorted_are_once, same}
 use Rattle.lc_level.proofs.narrowing.only_paths.sorted_once.Goals as goal

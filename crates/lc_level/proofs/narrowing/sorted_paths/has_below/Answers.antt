@@ -1,5 +1,4 @@
-use Rattle.std.proofs.Common.{rules, [], ◌∷◌, ◌++◌, le-ltb, sym, ◌∙◌}
-use Rattle.std.proofs.lemmas.List.Sorted.{IsPartitionPoint-from_clause}
+use Rattle.std.proofs.{Common.{rules, [], ◌∷◌, ◌++◌, le-ltb, sym, ◌∙◌}, lemmas.List.Sorted.IsPartitionPoint-from_clause}
 use Rattle.lc_glob.specs.Bytes.{slash}
 use Rattle.lc_level.proofs.ByHalves.{finds_below, precedes}
 use Rattle.lc_level.proofs.narrowing.sorted_paths.has_below.Goals as goal

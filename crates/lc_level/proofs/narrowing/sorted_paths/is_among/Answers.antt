@@ -1,5 +1,4 @@
-use Rattle.std.proofs.Common.{rules, le-ltb, sym, ◌∙◌}
-use Rattle.std.proofs.lemmas.List.Sorted.{IsPartitionPoint-from_clause}
+use Rattle.std.proofs.{Common.{rules, le-ltb, sym, ◌∙◌}, lemmas.List.Sorted.IsPartitionPoint-from_clause}
 use Rattle.lc_level.proofs.ByHalves.{finds, precedes}
 use Rattle.lc_level.proofs.narrowing.sorted_paths.is_among.Goals as goal
 

@@ -1,9 +1,7 @@
 use Rattle.std.proofs.Common.{◌||◌, map, sym, ◌∙◌, ap, subst, bytes_eq}
 use Rattle.std.specs.List.{list_any}
 use Rattle.lc_level.specs.Narrowing.{stands_below, is_whole}
-use Rattle.lc_level.proofs.AskedPaths.{any_once}
-use Rattle.lc_level.proofs.EachOnce.{once_in_order}
-use Rattle.lc_level.proofs.SeenPaths.{none_lent}
+use Rattle.lc_level.proofs.{AskedPaths.any_once, EachOnce.once_in_order, SeenPaths.none_lent}
 use Rattle.lc_tree.specs.ByteOrder.{AreInOrder}
 use Rattle.lc_level.proofs.narrowing.only_paths.OnlyPaths.is_whole.Goals as goal
 

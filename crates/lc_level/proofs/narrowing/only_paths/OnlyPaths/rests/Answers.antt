@@ -1,10 +1,7 @@
-use Rattle.std.proofs.Common.{◌≡◌, ◌-◌, false, length, map, take_all, drop, sym, ◌∙◌, ap, subst, arith}
+use Rattle.std.proofs.{Common.{◌≡◌, ◌-◌, false, length, map, take_all, drop, sym, ◌∙◌, ap, subst, arith}, lemmas.List.length-drop}
 use Rattle.std.specs.List.{filter_map, AllByRecursion}
-use Rattle.std.proofs.lemmas.List.{length-drop}
-use Rattle.lc_level.specs.Narrowing.{rest_from, rests}
-use Rattle.lc_level.specs.PathSteps.{comes_before}
-use Rattle.lc_level.proofs.EachOnce.{once_in_order}
-use Rattle.lc_level.proofs.SeenPaths.{lent, seen, order_left, past_left, skipped}
+use Rattle.lc_level.specs.{Narrowing.{rest_from, rests}, PathSteps.comes_before}
+use Rattle.lc_level.proofs.{EachOnce.once_in_order, SeenPaths.{lent, seen, order_left, past_left, skipped}}
 use Rattle.lc_tree.specs.ByteOrder.{AreInOrder}
 use Rattle.lc_level.proofs.narrowing.only_paths.OnlyPaths.rests.Goals as goal
 

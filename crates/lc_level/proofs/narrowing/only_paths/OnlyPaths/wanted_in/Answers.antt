@@ -1,7 +1,6 @@
 use Rattle.std.proofs.Common.{sym, subst}
 use Rattle.lc_level.specs.Narrowing.{each_once}
-use Rattle.lc_level.proofs.EachOnce.{once_in_order}
-use Rattle.lc_level.proofs.PathOrder.{seen_in_order}
+use Rattle.lc_level.proofs.{EachOnce.once_in_order, PathOrder.seen_in_order}
 use Rattle.lc_tree.specs.ByteOrder.{AreInOrder}
 use Rattle.lc_level.proofs.narrowing.only_paths.OnlyPaths.wanted_in.Goals as goal
 
