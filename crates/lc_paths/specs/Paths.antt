@@ -1,8 +1,7 @@
 -- The paths that are checked or explained.
 use Rattle.std.specs.Prelude.{ℕ, List, map}
 use Rattle.lc_text.specs.Lines.{input_paths_of}
-use Rattle.lc_paths.specs.declared.paths.Paths.{Paths}
-use Rattle.lc_paths.specs.declared.paths.Paths.TheVariants.{Input, Words}
+use Rattle.lc_paths.specs.declared.paths.Paths.{Paths, TheVariants.{Input, Words}}
 
 -- the paths of an input, or of arguments
 abbrev pub paths_in : Paths → List (List ℕ)

@@ -1,14 +1,10 @@
 -- Rules and paths, cut at the first line of dashes.
 use Rattle.std.proofs.Common.{◌≡◌, ℕ, ◌<◌, ◌+◌, ◌-◌, ◌++◌, ◌||◌, ◌∙◌, Bool, true, false, cond, List, [], ◌∷◌, length, take, drop, get_or}
-use Rattle.std.proofs.Common.{sym, ap, arith, append_assoc, length-append}
-use Rattle.std.specs.List.{list_any, flat_map, position_or_len, before_first, after_first, join_with_byte}
-use Rattle.std.proofs.Math.Seq.{take-append_seam, drop-append-add, get_or-append_seam}
-use Rattle.std.proofs.lemmas.Bool.{false_from_ne_true}
-use Rattle.std.proofs.lemmas.Grind.{flat_map-append}
-use Rattle.std.proofs.lemmas.List.{get_or_append_left, append-nil}
-use Rattle.std.proofs.lemmas.List.Folds.{list_any-append, list_any_at}
-use Rattle.std.proofs.lemmas.List.Sums.{position_or_len_is}
+use Rattle.std.proofs.{Common.{sym, ap, arith, append_assoc, length-append}, Math.Seq.{take-append_seam, drop-append-add}}
+use Rattle.std.proofs.{Math.Seq.get_or-append_seam, lemmas.{Bool.false_from_ne_true, Grind.flat_map-append}}
+use Rattle.std.proofs.lemmas.List.{get_or_append_left, append-nil, Folds.{list_any-append, list_any_at}, Sums.position_or_len_is}
 use Rattle.std.proofs.lemmas.List.Splits.{join_with_byte-slice_split}
+use Rattle.std.specs.List.{list_any, flat_map, position_or_len, before_first, after_first, join_with_byte}
 use Rattle.lc_glob.specs.Pieces.{pieces_of}
 use Rattle.lc_paths.specs.Checks.Joined.{is_dashes, rules_part, paths_part}
 use Rattle.lc_text.specs.Lines.{with_feed}

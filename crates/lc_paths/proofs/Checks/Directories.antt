@@ -1,16 +1,13 @@
 -- The directories above a path.
 use Rattle.std.proofs.Common.{◌≡◌, ℕ, ◌<◌, ◌≤◌, ◌+◌, ◌-◌, zero-add, ◌∙◌, Bool, true, false, nat_eq, ◌&&◌, List, Some, None, length, take}
-use Rattle.std.proofs.Common.{drop, get_or, sym, ap, ap₂, subst, arith, ⊎_elim, take-take}
-use Rattle.std.specs.List.{range_with_len}
-use Rattle.std.proofs.lemmas.Bool.{cases_lt, false_from_ne_true}
+use Rattle.std.proofs.{Common.{drop, get_or, sym, ap, ap₂, subst, arith, ⊎_elim, take-take}, lemmas.Bool.{cases_lt, false_from_ne_true}}
 use Rattle.std.proofs.lemmas.List.{get_or-take, get_or-drop, length-drop, length-take-le, take_rest}
-use Rattle.std.proofs.lemmas.List.Folds.{list_any_none, list_any-from_Any}
-use Rattle.std.proofs.lemmas.List.Sums.{position_or_len_is}
+use Rattle.std.proofs.lemmas.List.{Folds.{list_any_none, list_any-from_Any}, Sums.position_or_len_is}
 use Rattle.std.proofs.lemmas.List.FromFn.{get_or-range_with_len, length-range_with_len}
+use Rattle.std.specs.List.{range_with_len}
 use Rattle.memchr.specs.Find.{IsFirstByte, is_byte}
 use Rattle.lc_rules.specs.declared.verdicts.Verdict.{Verdict}
-use Rattle.lc_paths.specs.Checks.CheckText.{is_ignored, is_ignored_parent, has_ignored_parent, IsClearTo}
-use Rattle.lc_paths.specs.Checks.ExplainedText.{highest_ignored}
+use Rattle.lc_paths.specs.Checks.{CheckText.{is_ignored, is_ignored_parent, has_ignored_parent, IsClearTo}, ExplainedText.highest_ignored}
 
 -- a number of a range from 0 stands at the place that it tells
 pub get_or-range : (n k d : ℕ) → k < n → get_or (range_with_len 0 n) k d ≡ k

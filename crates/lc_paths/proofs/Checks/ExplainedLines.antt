@@ -1,19 +1,12 @@
 -- The text of an explained check, line by line.
 use Rattle.std.proofs.Common.{◌≡◌, ℕ, Bool, true, false, cond, List, [], ◌∷◌, ◌++◌, Option, Some, None, IfSome, MatchOption, Bor, length}
 use Rattle.std.proofs.Common.{map, append-nil, get_or, ◌<◌, sym, ap, ap₂, ◌∙◌, subst, arith, append_assoc, length-append}
-use Rattle.std.specs.Prelude.{option_map}
-use Rattle.std.specs.List.{All, list_any, flat_map}
-use Rattle.std.proofs.Math.Seq.{get_or-append_seam}
-use Rattle.std.proofs.lemmas.List.{get_or-map, length-map}
-use Rattle.std.proofs.lemmas.List.Elements.{All-map}
-use Rattle.lc_rules.specs.IgnoreRules.{RuleModel, rules_of, text_of_line}
-use Rattle.lc_rules.specs.IgnoreLaws.{IsLastMatch, IsOnLine}
-use Rattle.lc_rules.specs.RuleLines.{lines_of as rule_lines_of}
-use Rattle.lc_rules.specs.Verdicts.{rule_matches, last_match, at_depth}
-use Rattle.lc_rules.specs.declared.rule_source.RuleSource.{RuleSource}
-use Rattle.lc_rules.specs.declared.rule_source.RuleSource.TheVariants.{Gitignore}
-use Rattle.lc_rules.proofs.LastMatch.{decides_by_last}
-use Rattle.lc_rules.proofs.RuleLineNumbers.{on_their_lines}
+use Rattle.std.proofs.{Math.Seq.get_or-append_seam, lemmas.List.{get_or-map, length-map, Elements.All-map}}
+use Rattle.std.specs.{Prelude.option_map, List.{All, list_any, flat_map}}
+use Rattle.lc_rules.specs.{IgnoreRules.{RuleModel, rules_of, text_of_line}, IgnoreLaws.{IsLastMatch, IsOnLine}}
+use Rattle.lc_rules.specs.{RuleLines.lines_of as rule_lines_of, Verdicts.{rule_matches, last_match, at_depth}}
+use Rattle.lc_rules.specs.declared.rule_source.RuleSource.{RuleSource, TheVariants.Gitignore}
+use Rattle.lc_rules.proofs.{LastMatch.decides_by_last, RuleLineNumbers.on_their_lines}
 use Rattle.lc_paths.specs.Checks.CheckText.{file_verdict, has_ignored_parent, path_word}
 use Rattle.lc_paths.specs.Checks.ExplainedText.{file_rule, highest_ignored, path_rule, rule_line, explained_line}
 use Rattle.lc_text.specs.PathLines.{is_bad_path, is_dir_line, path_of}

@@ -1,20 +1,14 @@
 -- The rule that gives a path its word says it.
 use Rattle.std.proofs.Common.{◌≡◌, ℕ, ◌<◌, Bool, true, cond, nat_eq, List, Option, Some, None, length, take, get_or, codes, ⊎_elim, refl}
 use Rattle.std.proofs.Common.{sym, ap, ap₂, ◌∙◌, arith}
-use Rattle.std.specs.Prelude.{option_map}
-use Rattle.std.specs.List.{list_any, range_with_len, position_or_len}
-use Rattle.std.proofs.lemmas.List.Folds.{Any-from_list_any}
-use Rattle.std.proofs.lemmas.List.FromFn.{length-range_with_len}
-use Rattle.std.proofs.lemmas.List.Sums.{passes_at_first, fails_before_first}
+use Rattle.std.proofs.lemmas.List.{Folds.Any-from_list_any, FromFn.length-range_with_len, Sums.{passes_at_first, fails_before_first}}
 use Rattle.std.proofs.lemmas.Bool.{cases_lt, and_parts}
-use Rattle.lc_rules.specs.IgnoreRules.{RuleModel}
-use Rattle.lc_rules.specs.declared.rule_source.RuleSource.{RuleSource}
-use Rattle.lc_rules.specs.Verdicts.{last_match, at_depth, verdict_from, verdict_by}
-use Rattle.lc_rules.specs.declared.verdicts.Verdict.{Verdict}
-use Rattle.lc_rules.specs.declared.verdicts.Verdict.TheVariants.{Ignored, Included, NoRule}
+use Rattle.std.specs.{Prelude.option_map, List.{list_any, range_with_len, position_or_len}}
+use Rattle.lc_rules.specs.{IgnoreRules.RuleModel, declared.rule_source.RuleSource.RuleSource}
+use Rattle.lc_rules.specs.{declared.verdicts.Verdict.{Verdict, TheVariants.{Ignored, Included, NoRule}}, Verdicts.{last_match, at_depth}}
+use Rattle.lc_rules.specs.Verdicts.{verdict_from, verdict_by}
 use Rattle.lc_paths.specs.Checks.CheckText.{file_verdict, is_ignored, is_ignored_parent, has_ignored_parent, verdict_word}
-use Rattle.lc_paths.specs.Checks.ExplainedText.{file_rule, highest_ignored}
-use Rattle.lc_paths.specs.Checks.Laws.{rule_word, WordLaw}
+use Rattle.lc_paths.specs.Checks.{ExplainedText.{file_rule, highest_ignored}, Laws.{rule_word, WordLaw}}
 use Rattle.lc_paths.proofs.Checks.Directories.{get_or-range}
 
 only_ignored : (v : Verdict) → is_ignored v ≡ true → v ≡ Ignored

@@ -2,12 +2,9 @@
 use Rattle.std.proofs.Common.{◌≡◌, ℕ, ◌<◌, Bool, true, false, cond, List, Option, Some, None, Bor, length, take, get_or, nat_eq, is_some}
 use Rattle.std.proofs.Common.{refl, sym, ap, ◌∙◌}
 use Rattle.std.specs.Prelude.{option_map}
-use Rattle.lc_rules.specs.IgnoreRules.{RuleModel}
-use Rattle.lc_rules.specs.Verdicts.{verdict_from, last_match, at_depth}
-use Rattle.lc_rules.specs.declared.rule_source.RuleSource.{RuleSource}
+use Rattle.lc_rules.specs.{IgnoreRules.RuleModel, Verdicts.{verdict_from, last_match, at_depth}, declared.rule_source.RuleSource.RuleSource}
 use Rattle.lc_rules.specs.declared.verdicts.Verdict.TheVariants.{Ignored, Included}
-use Rattle.lc_paths.specs.Checks.CheckText.{file_verdict, is_ignored, is_ignored_parent, IsClearTo}
-use Rattle.lc_paths.specs.Checks.ExplainedText.{file_rule}
+use Rattle.lc_paths.specs.Checks.{CheckText.{file_verdict, is_ignored, is_ignored_parent, IsClearTo}, ExplainedText.file_rule}
 use Rattle.lc_paths.specs.Checks.Findings.{ignoring_rule, IsIgnoringAbove}
 use Rattle.lc_paths.proofs.Checks.Directories.{is_ignored_parent-slash, has_ignored_parent-some, highest_ignored-is}
 

@@ -1,19 +1,13 @@
 -- A check that stops at a fault of its input or of its output.
 use Rattle.std.proofs.Common.{◌≡◌, ℕ, ◌<◌, List, length, Result, Ok, Err, refl}
 use Rattle.std.specs.Result.{IsErrAnd}
-use Rattle.lc_io.specs.declared.source.Failed.{Failed}
-use Rattle.lc_io.specs.Reads.{Answer}
+use Rattle.lc_io.specs.{declared.{source.Failed.Failed, printing.PrintFault.PrintFault}, Reads.Answer, Writes.AnswersPrint}
 use Rattle.lc_level.proofs.PassedOn.{passed_on}
-use Rattle.lc_rules.specs.Limits.{max_rule_bytes}
-use Rattle.lc_rules.specs.declared.faults.RuleFault.{RuleFault}
-use Rattle.lc_rules.specs.declared.faults.RuleFault.TheVariants as rule
-use Rattle.lc_text.specs.declared.check_fault.CheckFault.{CheckFault}
-use Rattle.lc_io.specs.declared.printing.PrintFault.{PrintFault}
-use Rattle.lc_io.specs.declared.printing.PrintFault.TheVariants as print
-use Rattle.lc_text.specs.Input.{AnswersInput}
+use Rattle.lc_rules.specs.{Limits.max_rule_bytes, declared.faults.RuleFault.RuleFault}
+use Rattle.lc_text.specs.{declared.check_fault.CheckFault.CheckFault, Input.AnswersInput, CheckFaults.{rules_fault, print_fault}}
 use Rattle.lc_paths.specs.Checks.Answers.{HasRead, AnswersCheck}
-use Rattle.lc_text.specs.CheckFaults.{rules_fault, print_fault}
-use Rattle.lc_io.specs.Writes.{AnswersPrint}
+use Rattle.lc_rules.specs.declared.faults.RuleFault.TheVariants as rule
+use Rattle.lc_io.specs.declared.printing.PrintFault.TheVariants as print
 
 module _ {I O : Type 0} (may_give : I → ℕ → Answer → I → Type 0) (may_take : O → List ℕ → Result ℕ Failed → O → Type 0)
     (rules_in text_of : List ℕ → List ℕ) (input read : I) (out : O) (bytes : List ℕ) where

@@ -2,17 +2,11 @@
 use Rattle.std.proofs.Common.{◌≡◌, ℕ, Option, Some, None, Ok, Err, MatchOption, true, false, refl, inl, inr}
 use Rattle.std.specs.Option.{option_map_or, option_or}
 use Rattle.lc_glob.specs.Path.{path_in}
-use Rattle.lc_level.specs.Answers.{file_item, directory_item, other_item}
-use Rattle.lc_level.specs.Level.{Reason, Fate, failed, walked, skipped, other_kind, file_reason, reason_of, file_fate, child_job}
-use Rattle.lc_rules.specs.IgnoreChains.{rules_in}
-use Rattle.lc_rules.specs.IgnoreRules.{RuleModel}
-use Rattle.lc_rules.specs.Verdicts.{last_match}
-use Rattle.lc_rules.specs.declared.rule_source.RuleSource.{RuleSource}
-use Rattle.lc_tree.specs.declared.entry.Kind.{Kind}
-use Rattle.lc_tree.specs.declared.entry.Kind.TheVariants.{File, Dir, Other}
-use Rattle.lc_tree.specs.declared.entry.OtherKind.{OtherKind}
-use Rattle.lc_paths.specs.Explanations.Explained.{CitedRule, cited, said_by}
-use Rattle.lc_paths.specs.Explanations.Laws.{IsSaidKept, Agrees, EntryLaw, IntoLaw}
+use Rattle.lc_level.specs.{Answers.{file_item, directory_item, other_item}, Level.{Reason, Fate, failed, walked, skipped, other_kind}}
+use Rattle.lc_level.specs.Level.{file_reason, reason_of, file_fate, child_job}
+use Rattle.lc_rules.specs.{IgnoreChains.rules_in, IgnoreRules.RuleModel, Verdicts.last_match, declared.rule_source.RuleSource.RuleSource}
+use Rattle.lc_tree.specs.declared.entry.{Kind.{Kind, TheVariants.{File, Dir, Other}}, OtherKind.OtherKind}
+use Rattle.lc_paths.specs.Explanations.{Explained.{CitedRule, cited, said_by}, Laws.{IsSaidKept, Agrees, EntryLaw, IntoLaw}}
 
 taken : (cite : RuleSource → ℕ → CitedRule) (rule : Option (RuleSource × RuleModel)) → IsSaidKept (said_by cite None rule)
 taken cite None = inl refl

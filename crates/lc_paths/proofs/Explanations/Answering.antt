@@ -1,16 +1,12 @@
 -- What a call answers, by what was told and how it was written.
 use Rattle.std.proofs.Common.{◌≡◌, ℕ, List, Result, subst}
-use Rattle.lc_io.specs.declared.source.Failed.{Failed}
+use Rattle.lc_io.specs.declared.{source.Failed.Failed, printing.PrintFault.PrintFault}
 use Rattle.lc_level.specs.Filters.{FiltersModel}
-use Rattle.lc_text.specs.declared.outcome.Outcome.{Outcome}
-use Rattle.lc_io.specs.declared.printing.PrintFault.{PrintFault}
-use Rattle.lc_io.specs.declared.printing.PrintFault.TheVariants as print
-use Rattle.lc_text.specs.declared.style.PathStyle.{PathStyle}
+use Rattle.lc_text.specs.declared.{outcome.Outcome.Outcome, style.PathStyle.PathStyle}
 use Rattle.lc_tree.specs.Trees.{Listings, Contents}
-use Rattle.lc_paths.specs.Explanations.Answers.{MaySay, AnswersLines}
-use Rattle.lc_paths.specs.Explanations.Explained.{IsExplained}
-use Rattle.lc_paths.specs.Explanations.OpenDirs.{MayEnter}
+use Rattle.lc_paths.specs.Explanations.{Answers.{MaySay, AnswersLines}, Explained.IsExplained, OpenDirs.MayEnter}
 use Rattle.lc_paths.specs.declared.explaining.explain_options.ExplainOptions.{ExplainOptions}
+use Rattle.lc_io.specs.declared.printing.PrintFault.TheVariants as print
 
 module _ {O : Type 0} (may_take : O → List ℕ → Result ℕ Failed → O → Type 0) where
   -- what is answered by the parts of a question is answered by the question

@@ -3,10 +3,7 @@ use Rattle.std.proofs.Common.{◌≡◌, ℕ, ◌-◌, Bool, false, List, [], �
 use Rattle.std.proofs.Common.{sym, ◌∙◌, ap, subst}
 use Rattle.lc_glob.specs.Path.{path_in, segments_of, is_good_path}
 use Rattle.lc_glob.proofs.Naming.{has_first}
-use Rattle.lc_level.specs.FaultLines.{FaultLineModel}
-use Rattle.lc_level.specs.Job.{JobModel}
-use Rattle.lc_level.specs.Level.{Reason, reason_for, child_job}
-use Rattle.lc_level.specs.Filters.{FiltersModel}
+use Rattle.lc_level.specs.{FaultLines.FaultLineModel, Job.JobModel, Level.{Reason, reason_for, child_job}, Filters.FiltersModel}
 use Rattle.lc_level.specs.TopJob.{top_job}
 use Rattle.lc_text.specs.PathLines.{is_bad_path}
 use Rattle.lc_tree.specs.declared.entry.Kind.TheVariants.{Dir}
@@ -16,8 +13,7 @@ use Rattle.lc_paths.specs.Explanations.OpenDirs.{OpenDirModel, DirStack, DirStac
 use Rattle.lc_paths.specs.Explanations.DirStacks.{AreStacks, Goes, IsCutAt, GoesInto, StandsBelow, Reaches, IsStack}
 use Rattle.lc_paths.proofs.Explanations.PathSegments.{name_first, some_name, good_path, stands_below}
 use Rattle.lc_paths.proofs.Explanations.Reaching.{into_said, reached, top_reaches, child_reached, stack_longer, stack_end}
-use Rattle.lc_paths.proofs.Explanations.StackCaching.{stacks_kept}
-use Rattle.lc_paths.proofs.Explanations.StackEnds.{last_is, left_of_last}
+use Rattle.lc_paths.proofs.Explanations.{StackCaching.stacks_kept, StackEnds.{last_is, left_of_last}}
 
 -- ---- below what is no directory
 

@@ -1,17 +1,10 @@
 -- What entering a directory gives, by its level.
 use Rattle.std.proofs.Common.{◌≡◌, ℕ, Bool, List, Result, Ok, Err, sym, ◌∙◌, ap, ap₂, subst, refl, IfOk}
-use Rattle.lc_level.specs.Answers.{Item, Items, Answers}
-use Rattle.lc_level.specs.Enters.{EntersLevel}
-use Rattle.lc_level.specs.FaultLines.{FaultLineModel}
-use Rattle.lc_level.specs.Job.{JobModel}
-use Rattle.lc_level.specs.Level.{faulted_level, level_of, level_after}
-use Rattle.lc_level.specs.SitePaths.{site_path}
-use Rattle.lc_level.specs.RuleFiles.{RuleBytes, rule_bytes}
-use Rattle.lc_level.specs.Filters.{FiltersModel, no_filters}
-use Rattle.lc_level.specs.declared.fault_site.FaultSite.{FaultSite}
-use Rattle.lc_level.specs.declared.open_fault.OpenFault.TheVariants.{Faulted}
-use Rattle.lc_tree.specs.Trees.{Listings, Contents}
+use Rattle.lc_level.specs.{Answers.{Item, Items, Answers}, Enters.EntersLevel, FaultLines.FaultLineModel, Job.JobModel, Level.faulted_level}
+use Rattle.lc_level.specs.{Level.{level_of, level_after}, SitePaths.site_path, RuleFiles.{RuleBytes, rule_bytes}, Filters.FiltersModel}
+use Rattle.lc_level.specs.{Filters.no_filters, declared.{fault_site.FaultSite.FaultSite, open_fault.OpenFault.TheVariants.Faulted}}
 use Rattle.lc_level.specs.declared.fault_word.FaultWord.{FaultWord}
+use Rattle.lc_tree.specs.Trees.{Listings, Contents}
 use Rattle.lc_paths.specs.Explanations.OpenDirs.{OpenDirModel, open_dir_of, open_dir_after, MayEnter}
 
 -- a fault in place of a directory

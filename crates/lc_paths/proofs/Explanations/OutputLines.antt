@@ -1,15 +1,9 @@
 -- The text of explanations, line by line.
 use Rattle.std.proofs.Common.{◌≡◌, ℕ, Bool, true, false, ◌||◌, cond, if◌then◌else◌, List, [], ◌∷◌, ◌++◌, refl, sym, ◌∙◌, ap, append_assoc}
-use Rattle.std.proofs.Common.{append-nil, ◌+◌}
+use Rattle.std.proofs.{Common.{append-nil, ◌+◌}, lemmas.{Grind.flat_map-append, List.{map-append, Folds.list_any-append}}}
 use Rattle.std.specs.List.{AllByRecursion}
-use Rattle.std.proofs.lemmas.Grind.{flat_map-append}
-use Rattle.std.proofs.lemmas.List.{map-append}
-use Rattle.std.proofs.lemmas.List.Folds.{list_any-append}
-use Rattle.lc_text.specs.declared.style.PathStyle.{PathStyle}
-use Rattle.lc_text.specs.declared.outcome.Outcome.{Outcome}
-use Rattle.lc_text.specs.declared.outcome.Outcome.TheVariants.{Clean, SomeFaults}
-use Rattle.lc_paths.specs.Explanations.Answers.{Explains, ExplainsLine}
-use Rattle.lc_paths.specs.Explanations.Explained.{Explanation}
+use Rattle.lc_text.specs.declared.{style.PathStyle.PathStyle, outcome.Outcome.{Outcome, TheVariants.{Clean, SomeFaults}}}
+use Rattle.lc_paths.specs.Explanations.{Answers.{Explains, ExplainsLine}, Explained.Explanation}
 use Rattle.lc_paths.specs.Explanations.ExplainText.{Told, named_path, names_dir, told_line, told_text, explained_line, is_fault, has_fault}
 
 -- what holds of each holds of one more

@@ -1,16 +1,10 @@
 -- The segments of a path that is joined of a directory's path and what is left below it.
 use Rattle.std.proofs.Common.{◌≡◌, ℕ, ◌+◌, ◌-◌, true, false, nat_lt, Option, Some, Bor, MatchOption, List, [], ◌∷◌, ◌++◌, length, take}
-use Rattle.std.proofs.Common.{refl, sym, ◌∙◌, ap, subst, arith, append_assoc, length-append}
-use Rattle.std.proofs.lemmas.Bool.{and_parts, not-false, or_parts}
-use Rattle.std.specs.Prelude.{not}
-use Rattle.std.specs.List.{list_all}
-use Rattle.std.proofs.lemmas.List.{append_cancel_right}
-use Rattle.std.proofs.lemmas.List.Folds.{list_all-append}
-use Rattle.std.proofs.Math.Seq.{take-append_seam}
-use Rattle.lc_glob.specs.Bytes.{slash}
+use Rattle.std.proofs.{Common.{refl, sym, ◌∙◌, ap, subst, arith, append_assoc, length-append}, lemmas.Bool.{and_parts, not-false, or_parts}}
+use Rattle.std.proofs.{lemmas.List.{append_cancel_right, Folds.list_all-append}, Math.Seq.take-append_seam}
+use Rattle.std.specs.{Prelude.not, List.list_all}
+use Rattle.lc_glob.specs.{Bytes.slash, Pieces.{pieces_of, pieces_left}, Path.{path_in, segments_of, is_good_name, is_good_path, max_path}}
 use Rattle.lc_glob.proofs.Naming.{segments_apart}
-use Rattle.lc_glob.specs.Pieces.{pieces_of, pieces_left}
-use Rattle.lc_glob.specs.Path.{path_in, segments_of, is_good_name, is_good_path, max_path}
 use Rattle.lc_paths.specs.Explanations.DirStacks.{IsCutAt}
 use Rattle.lc_text.specs.PathLines.{is_bad_path}
 use Rattle.lc_tree.specs.Paths.{names_of_path}

@@ -1,19 +1,14 @@
 -- What is said of a path, by what is said below a directory on the way to it.
 use Rattle.std.proofs.Common.{refl, ◌≡◌, ℕ, Bool, true, false, cond, List, [], ◌∷◌, ◌++◌, Option, Some, None, Result, Ok, sym, ◌∙◌, ap}
 use Rattle.std.proofs.Common.{subst, append_assoc, append-nil}
-use Rattle.lc_glob.specs.Bytes.{slash}
-use Rattle.lc_glob.specs.Path.{path_in, segments_of}
+use Rattle.lc_glob.specs.{Bytes.slash, Path.{path_in, segments_of}}
 use Rattle.lc_glob.proofs.Naming.{has_first}
-use Rattle.lc_level.specs.FaultLines.{FaultLineModel}
-use Rattle.lc_level.specs.Job.{JobModel}
-use Rattle.lc_level.specs.Level.{Reason, reason_for, child_job}
-use Rattle.lc_level.specs.Filters.{FiltersModel}
+use Rattle.lc_level.specs.{FaultLines.FaultLineModel, Job.JobModel, Level.{Reason, reason_for, child_job}, Filters.FiltersModel}
 use Rattle.lc_level.specs.TopJob.{top_job}
 use Rattle.lc_text.specs.PathLines.{is_bad_path}
 use Rattle.lc_paths.specs.Explanations.Explained.{Explanation, below, cited, said_for, said_beside, said_of_none, kind_asked, is_directory}
 use Rattle.lc_paths.specs.Explanations.Explained.{OnTheWay, OnEntering, IsSaid, IsExplained}
-use Rattle.lc_paths.specs.Explanations.OpenDirs.{OpenDirModel, DirStack, kind_in}
-use Rattle.lc_paths.specs.Explanations.DirStacks.{Reaches, IsStackBelow}
+use Rattle.lc_paths.specs.Explanations.{OpenDirs.{OpenDirModel, DirStack, kind_in}, DirStacks.{Reaches, IsStackBelow}}
 use Rattle.lc_paths.proofs.Explanations.PathSegments.{below_child}
 
 module _ (Enters : JobModel → Result OpenDirModel FaultLineModel → Type 0) (f : FiltersModel) where

@@ -1,16 +1,11 @@
 -- Ways by their numbers, and which of them are kept.
-use Rattle.std.proofs.Common.{◌≡◌, ◌⊎◌, ℕ, zero, suc, Bool, List, [], ◌∷◌, ◌++◌, Some, Result, length, inl, inr, refl, sym, ◌∙◌, ap, subst}
-use Rattle.std.proofs.Common.{append-nil, map, take, drop}
-use Rattle.std.proofs.lemmas.List.{map-append, take-append-drop}
-use Rattle.lc_level.specs.FaultLines.{FaultLineModel}
-use Rattle.lc_level.specs.Job.{JobModel}
-use Rattle.lc_level.specs.Filters.{FiltersModel}
-use Rattle.lc_paths.specs.Explanations.Explained.{cited, IsExplained}
-use Rattle.lc_paths.specs.Explanations.Findings.{explanation_of}
+use Rattle.std.proofs.Common.{◌≡◌, ◌⊎◌, ℕ, zero, suc, Bool, List, [], ◌∷◌, ◌++◌, Some, Result, length, inl, inr, refl, sym, ◌∙◌, ap}
+use Rattle.std.proofs.{Common.{subst, append-nil, map, take, drop}, lemmas.List.{map-append, take-append-drop}}
+use Rattle.lc_level.specs.{FaultLines.FaultLineModel, Job.JobModel, Filters.FiltersModel}
+use Rattle.lc_paths.specs.Explanations.{Explained.{cited, IsExplained}, Findings.explanation_of}
 use Rattle.lc_paths.specs.Explanations.OpenDirs.{OpenDirModel, DirStack, DirStacks, stack_at, stack_to}
-use Rattle.lc_paths.specs.declared.explaining.finding.Finding.{Finding}
-use Rattle.lc_paths.specs.declared.explaining.finding.Found.{Found}
 use Rattle.lc_paths.specs.Explanations.DirStacks.{IsFirstOf, AreFirstOf, Keeps, IsStack, AreStacks}
+use Rattle.lc_paths.specs.declared.explaining.finding.{Finding.Finding, Found.Found}
 use Rattle.lc_paths.proofs.Explanations.Reaching.{stack_cut}
 
 -- what stands in a list's first elements, and in the others

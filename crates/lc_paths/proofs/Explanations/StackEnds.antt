@@ -1,9 +1,8 @@
 -- The last directory of a way, and what is left of a path below it.
-use Rattle.std.proofs.Common.{◌≡◌, ℕ, ◌-◌, suc, List, [], ◌∷◌, ◌++◌, length, Option, Some, None, Bor, IfSome, slice_get, refl, sym, ◌∙◌, ap}
-use Rattle.std.proofs.Common.{arith}
+use Rattle.std.proofs.Common.{◌≡◌, ℕ, ◌-◌, suc, List, [], ◌∷◌, ◌++◌, length, Option, Some, None, Bor, IfSome, slice_get, refl, sym, ◌∙◌}
+use Rattle.std.proofs.Common.{ap, arith}
 use Rattle.lc_glob.specs.Path.{path_in}
-use Rattle.lc_paths.specs.Explanations.OpenDirs.{OpenDirModel, DirStack}
-use Rattle.lc_paths.specs.Explanations.DirStacks.{IsRestBelow, StandsBelow}
+use Rattle.lc_paths.specs.Explanations.{OpenDirs.{OpenDirModel, DirStack}, DirStacks.{IsRestBelow, StandsBelow}}
 
 -- a list ends in its last element
 pub record EndsIn {A : Type 0} (xs : List A) (x : A) : Type 0 where

@@ -2,13 +2,9 @@
 use Rattle.std.specs.Prelude.{◌≡◌, ◌<◌, ◌≤◌, ℕ, Bool, true, false, ◌&&◌, nat_eq, cond, List, ◌++◌, length, take, slice_index, codes}
 use Rattle.std.specs.List.{list_any, range_with_len, flat_map}
 use Rattle.lc_glob.specs.Bytes.{slash}
-use Rattle.lc_rules.specs.IgnoreRules.{RuleModel}
-use Rattle.lc_rules.specs.Verdicts.{verdict_of, at_depth}
-use Rattle.lc_rules.specs.declared.verdicts.Verdict.{Verdict}
+use Rattle.lc_rules.specs.{IgnoreRules.RuleModel, Verdicts.{verdict_of, at_depth}, declared.verdicts.Verdict.Verdict}
 use Rattle.lc_rules.specs.declared.verdicts.Verdict.TheVariants.{Ignored, Included, NoRule}
-use Rattle.lc_text.specs.Lines.{input_paths_of}
-use Rattle.lc_text.specs.PathLines.{is_bad_path, is_dir_line, path_of}
-use Rattle.lc_text.specs.declared.lines.PathEnd.{PathEnd}
+use Rattle.lc_text.specs.{Lines.input_paths_of, PathLines.{is_bad_path, is_dir_line, path_of}, declared.lines.PathEnd.PathEnd}
 
 -- what the rules of one file say of a path, or of a directory
 abbrev pub file_verdict : List RuleModel → List ℕ → Bool → Verdict

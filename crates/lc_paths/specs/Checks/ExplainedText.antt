@@ -1,15 +1,10 @@
 -- The text of an explained check: a line for each path, with the rule that gives the path its word.
-use Rattle.std.specs.Prelude.{ℕ, [], Bool, true, cond, List, length, take, Option, Some, None, option_map}
-use Rattle.std.specs.List.{flat_map, position_or_len, range_with_len}
-use Rattle.lc_rules.specs.IgnoreRules.{RuleModel, rules_of}
-use Rattle.lc_rules.specs.Verdicts.{at_depth, last_match}
-use Rattle.lc_rules.specs.declared.verdicts.Verdict.{Verdict}
-use Rattle.lc_paths.specs.Checks.CheckText.{file_verdict, is_ignored_parent, has_ignored_parent, path_word}
-use Rattle.lc_text.specs.Lines.{input_paths_of}
-use Rattle.lc_text.specs.PathLines.{is_bad_path, is_dir_line, path_of}
-use Rattle.lc_text.specs.RulePlaces.{line_text}
+use Rattle.std.specs.{Prelude.{ℕ, [], Bool, true, cond, List, length, take, Option, Some, None, option_map}, List.flat_map}
+use Rattle.std.specs.List.{position_or_len, range_with_len}
+use Rattle.lc_rules.specs.{IgnoreRules.{RuleModel, rules_of}, Verdicts.{at_depth, last_match}, declared.verdicts.Verdict.Verdict}
+use Rattle.lc_paths.specs.{Checks.CheckText.{file_verdict, is_ignored_parent, has_ignored_parent, path_word}, AnswerLines.answer_line}
+use Rattle.lc_text.specs.{Lines.input_paths_of, PathLines.{is_bad_path, is_dir_line, path_of}, RulePlaces.line_text}
 use Rattle.lc_text.specs.declared.lines.PathEnd.{PathEnd}
-use Rattle.lc_paths.specs.AnswerLines.{answer_line}
 
 -- the last rule of one file that matches a path, or a directory
 abbrev pub file_rule : List RuleModel → List ℕ → Bool → Option RuleModel

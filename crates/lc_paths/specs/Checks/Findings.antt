@@ -1,12 +1,8 @@
 -- What a check finds for a path, and its word.
-use Rattle.std.specs.Prelude.{◌≡◌, ℕ, true, false, cond, List, codes, Option, Some, None, option_map, MatchOption}
-use Rattle.std.specs.Borrow.{Bor}
-use Rattle.lc_rules.specs.IgnoreRules.{RuleModel}
-use Rattle.lc_rules.specs.Verdicts.{verdict_by}
-use Rattle.lc_rules.specs.declared.verdicts.Verdict.TheVariants.{NoRule}
+use Rattle.std.specs.{Prelude.{◌≡◌, ℕ, true, false, cond, List, codes, Option, Some, None, option_map, MatchOption}, Borrow.Bor}
+use Rattle.lc_rules.specs.{IgnoreRules.RuleModel, Verdicts.verdict_by, declared.verdicts.Verdict.TheVariants.NoRule}
 use Rattle.lc_paths.specs.Checks.CheckText.{file_verdict, is_ignored, has_ignored_parent, verdict_word}
-use Rattle.lc_paths.specs.Checks.ExplainedText.{file_rule, highest_ignored}
-use Rattle.lc_paths.specs.declared.checking.finding.Finding.{Finding}
+use Rattle.lc_paths.specs.{Checks.ExplainedText.{file_rule, highest_ignored}, declared.checking.finding.Finding.Finding}
 use Rattle.lc_paths.specs.declared.checking.finding.Finding.TheVariants.{Bad, Below, Decided}
 
 -- the word of a finding

@@ -1,11 +1,9 @@
 -- Rules and paths in one input: the rules are before the first line of two dashes, the paths after it.
-use Rattle.std.specs.Prelude.{ℕ, Bool, ◌||◌, cond, List, [], codes, bytes_eq}
-use Rattle.std.specs.List.{list_any, flat_map, before_first, after_first, join_with_byte}
+use Rattle.std.specs.{Prelude.{ℕ, Bool, ◌||◌, cond, List, [], codes, bytes_eq}, List.{list_any, flat_map, before_first, after_first}}
+use Rattle.std.specs.List.{join_with_byte}
 use Rattle.lc_glob.specs.Pieces.{pieces_of}
-use Rattle.lc_rules.specs.Bytes.{line_feed}
-use Rattle.lc_rules.specs.IgnoreRules.{rules_of}
-use Rattle.lc_text.specs.Lines.{with_feed}
-use Rattle.lc_text.specs.declared.lines.PathEnd.{PathEnd}
+use Rattle.lc_rules.specs.{Bytes.line_feed, IgnoreRules.rules_of}
+use Rattle.lc_text.specs.{Lines.with_feed, declared.lines.PathEnd.PathEnd}
 use Rattle.lc_paths.specs.Checks.CheckText.{text_by}
 
 -- two dashes, perhaps with a carriage return after them

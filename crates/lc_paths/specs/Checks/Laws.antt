@@ -1,10 +1,7 @@
 -- The law of the rule that gives a path its word.
 use Rattle.std.specs.Prelude.{◌≡◌, ℕ, Bool, true, false, List, Option, Some, None}
-use Rattle.lc_rules.specs.IgnoreRules.{RuleModel}
-use Rattle.lc_rules.specs.Verdicts.{verdict_by}
-use Rattle.lc_rules.specs.declared.verdicts.Verdict.TheVariants.{Ignored, NoRule}
-use Rattle.lc_paths.specs.Checks.CheckText.{file_verdict, has_ignored_parent, verdict_word, path_word}
-use Rattle.lc_paths.specs.Checks.ExplainedText.{path_rule}
+use Rattle.lc_rules.specs.{IgnoreRules.RuleModel, Verdicts.verdict_by, declared.verdicts.Verdict.TheVariants.{Ignored, NoRule}}
+use Rattle.lc_paths.specs.Checks.{CheckText.{file_verdict, has_ignored_parent, verdict_word, path_word}, ExplainedText.path_rule}
 use Rattle.lc_text.specs.PathLines.{is_bad_path}
 
 -- the word for what a rule says, or `none` if there is no rule

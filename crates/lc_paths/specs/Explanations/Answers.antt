@@ -1,24 +1,15 @@
 -- The results of a call that explains paths, by its reads and its writes.
-use Rattle.std.specs.Prelude.{◌≡◌, ◌++◌, if◌then◌else◌, ℕ, Bool, cond, List, Result, Ok, Err, map}
-use Rattle.std.specs.List.{AllByRecursion}
-use Rattle.lc_io.specs.Reads.{Answer}
-use Rattle.lc_io.specs.declared.source.Failed.{Failed}
-use Rattle.lc_io.specs.declared.whole.WholeFault.TheVariants as whole
-use Rattle.lc_text.specs.Lines.{input_paths_of}
-use Rattle.lc_io.specs.Pieces.{WritesInPieces, AnswersInPieces}
-use Rattle.lc_text.specs.declared.check_fault.CheckFault.{CheckFault}
-use Rattle.lc_io.specs.declared.printing.PrintFault.{PrintFault}
-use Rattle.lc_io.specs.declared.printing.PrintFault.TheVariants as print
-use Rattle.lc_text.specs.declared.lines.PathEnd.{PathEnd}
-use Rattle.lc_text.specs.declared.style.PathStyle.{PathStyle}
-use Rattle.lc_paths.specs.Answers.{AnswersAsMade}
-use Rattle.lc_tree.specs.Trees.{Listings, Contents}
-use Rattle.lc_paths.specs.Explanations.Explained.{Explanation, IsExplained}
+use Rattle.std.specs.{Prelude.{◌≡◌, ◌++◌, if◌then◌else◌, ℕ, Bool, cond, List, Result, Ok, Err, map}, List.AllByRecursion}
+use Rattle.lc_io.specs.{Reads.Answer, declared.{source.Failed.Failed, printing.PrintFault.PrintFault}, Pieces.WritesInPieces}
+use Rattle.lc_io.specs.Pieces.{AnswersInPieces}
+use Rattle.lc_text.specs.{Lines.input_paths_of, declared.{check_fault.CheckFault.CheckFault, lines.PathEnd.PathEnd}}
+use Rattle.lc_text.specs.declared.{style.PathStyle.PathStyle, outcome.Outcome.{Outcome, TheVariants.{Clean, SomeFaults}}}
+use Rattle.lc_paths.specs.{Answers.AnswersAsMade, Explanations.Explained.{Explanation, IsExplained}}
 use Rattle.lc_paths.specs.Explanations.ExplainText.{Told, named_path, names_dir, explained_line, told_text, is_fault, has_fault}
-use Rattle.lc_paths.specs.Explanations.OpenDirs.{MayEnter}
-use Rattle.lc_paths.specs.declared.explaining.explain_options.ExplainOptions.{ExplainOptions}
-use Rattle.lc_text.specs.declared.outcome.Outcome.{Outcome}
-use Rattle.lc_text.specs.declared.outcome.Outcome.TheVariants.{Clean, SomeFaults}
+use Rattle.lc_paths.specs.{Explanations.OpenDirs.MayEnter, declared.explaining.explain_options.ExplainOptions.ExplainOptions}
+use Rattle.lc_tree.specs.Trees.{Listings, Contents}
+use Rattle.lc_io.specs.declared.whole.WholeFault.TheVariants as whole
+use Rattle.lc_io.specs.declared.printing.PrintFault.TheVariants as print
 
 -- the explanations that a path may have, by what the listings and the files of a tree may answer, and by the options
 abbrev pub MaySay : (List ℕ → Listings) → (List ℕ → Contents) → ExplainOptions → List ℕ → Bool → Explanation → Type 0

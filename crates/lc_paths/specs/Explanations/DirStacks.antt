@@ -1,19 +1,11 @@
 -- The stacks of directories that were entered on the way to a path.
-use Rattle.std.specs.Prelude.{None, true, ◌≡◌, ◌⊎◌, ℕ, Bool, List, [], ◌∷◌, ◌++◌, Result, Ok, Err}
-use Rattle.std.specs.declared.alloc.AllocError.{AllocError}
-use Rattle.lc_glob.specs.Bytes.{slash}
-use Rattle.lc_glob.specs.Path.{path_in, segments_of}
-use Rattle.lc_level.specs.FaultLines.{FaultLineModel}
-use Rattle.lc_level.specs.Job.{JobModel}
-use Rattle.lc_level.specs.TopJob.{top_job}
-use Rattle.lc_level.specs.Level.{reason_for, child_job}
-use Rattle.lc_level.specs.Filters.{FiltersModel}
+use Rattle.std.specs.{Prelude.{None, true, ◌≡◌, ◌⊎◌, ℕ, Bool, List, [], ◌∷◌, ◌++◌, Result, Ok, Err}, declared.alloc.AllocError.AllocError}
+use Rattle.lc_glob.specs.{Bytes.slash, Path.{path_in, segments_of}}
+use Rattle.lc_level.specs.{FaultLines.FaultLineModel, Job.JobModel, TopJob.top_job, Level.{reason_for, child_job}, Filters.FiltersModel}
 use Rattle.lc_paths.specs.Explanations.Explained.{Explanation, cited, kind_asked, is_directory, OnEntering, IsSaid}
 use Rattle.lc_paths.specs.Explanations.Findings.{fault_line_of, explanation_of}
-use Rattle.lc_paths.specs.declared.explaining.finding.DirectoryFault.{DirectoryFault}
-use Rattle.lc_paths.specs.declared.explaining.explainer.Step.{Step}
-use Rattle.lc_paths.specs.declared.explaining.explainer.Step.TheVariants.{Found, Into}
 use Rattle.lc_paths.specs.Explanations.OpenDirs.{kind_in, OpenDirModel, DirStack, DirStacks, stack_at}
+use Rattle.lc_paths.specs.declared.explaining.{finding.DirectoryFault.DirectoryFault, explainer.Step.{Step, TheVariants.{Found, Into}}}
 
 -- `rest` is the part of a path below a directory
 abbrev pub IsRestBelow : OpenDirModel → List ℕ → List ℕ → Type 0

@@ -1,17 +1,11 @@
 -- The output for explained paths, in a style: a line of four fields for each path.
-use Rattle.std.specs.Prelude.{ℕ, Bool, true, false, List, [], Option, Some, None, flat_map, codes}
-use Rattle.std.specs.List.{list_any}
-use Rattle.lc_level.specs.FaultLines.{FaultLineModel}
-use Rattle.lc_level.specs.ReasonWords.{reason_word, attribute_of}
+use Rattle.std.specs.{Prelude.{ℕ, Bool, true, false, List, [], Option, Some, None, flat_map, codes}, List.list_any}
+use Rattle.lc_level.specs.{FaultLines.FaultLineModel, ReasonWords.{reason_word, attribute_of}, FaultWords.fault_word}
 use Rattle.lc_rules.specs.declared.rule_source.RuleSource.{RuleSource}
-use Rattle.lc_text.specs.Names.{NameModel}
-use Rattle.lc_text.specs.PathLines.{path_of, is_dir_line, undotted, or_dot}
-use Rattle.lc_text.specs.RulePlaces.{source_directory, source_name}
-use Rattle.lc_text.specs.Styles.{styled}
-use Rattle.lc_text.specs.declared.style.PathStyle.{PathStyle}
-use Rattle.lc_level.specs.FaultWords.{fault_word}
-use Rattle.lc_paths.specs.AnswerLines.{answer_line}
-use Rattle.lc_paths.specs.Explanations.Explained.{CitedRule, Explanation, bad, faulted, below, ignored, included, unruled, left_out}
+use Rattle.lc_text.specs.{Names.NameModel, PathLines.{path_of, is_dir_line, undotted, or_dot}, RulePlaces.{source_directory, source_name}}
+use Rattle.lc_text.specs.{Styles.styled, declared.style.PathStyle.PathStyle}
+use Rattle.lc_paths.specs.{AnswerLines.answer_line, Explanations.Explained.{CitedRule, Explanation, bad, faulted, below, ignored, included}}
+use Rattle.lc_paths.specs.Explanations.Explained.{unruled, left_out}
 
 -- the path of an input line, and whether it is that of a directory: `./` at the beginning of the line means nothing
 abbrev pub named_path : List ℕ → List ℕ

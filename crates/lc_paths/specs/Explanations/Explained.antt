@@ -3,21 +3,11 @@
 use Rattle.std.specs.Prelude.{◌≡◌, ℕ, Bool, true, false, cond, List, [], ◌∷◌, ◌++◌, Option, Some, None, Result, MatchResult}
 use Rattle.std.specs.Option.{option_map_or}
 use Rattle.lc_glob.specs.Path.{path_in, segments_of}
-use Rattle.lc_level.specs.FaultLines.{FaultLineModel}
-use Rattle.lc_level.specs.Job.{JobModel}
-use Rattle.lc_level.specs.Level.{Reason, reason_for, child_job}
-use Rattle.lc_level.specs.ReasonWords.{rule_of}
-use Rattle.lc_level.specs.Filters.{FiltersModel}
-use Rattle.lc_level.specs.TopJob.{top_job}
-use Rattle.lc_rules.specs.IgnoreChains.{rules_in}
-use Rattle.lc_rules.specs.IgnoreRules.{RuleModel}
-use Rattle.lc_rules.specs.Verdicts.{last_match}
-use Rattle.lc_rules.specs.declared.rule_source.RuleSource.{RuleSource}
-use Rattle.lc_text.specs.RulePlaces.{line_text}
-use Rattle.lc_text.specs.PathLines.{is_bad_path, is_top}
-use Rattle.lc_tree.specs.Kinds.{is_dir}
-use Rattle.lc_tree.specs.declared.entry.Kind.{Kind}
-use Rattle.lc_tree.specs.declared.entry.Kind.TheVariants.{File, Dir, Other}
+use Rattle.lc_level.specs.{FaultLines.FaultLineModel, Job.JobModel, Level.{Reason, reason_for, child_job}, ReasonWords.rule_of}
+use Rattle.lc_level.specs.{Filters.FiltersModel, TopJob.top_job}
+use Rattle.lc_rules.specs.{IgnoreChains.rules_in, IgnoreRules.RuleModel, Verdicts.last_match, declared.rule_source.RuleSource.RuleSource}
+use Rattle.lc_text.specs.{RulePlaces.line_text, PathLines.{is_bad_path, is_top}}
+use Rattle.lc_tree.specs.{Kinds.is_dir, declared.entry.Kind.{Kind, TheVariants.{File, Dir, Other}}}
 use Rattle.lc_paths.specs.Explanations.OpenDirs.{OpenDirModel, DirStack, kind_in, text_in}
 
 -- a rule as it is printed: the source of its file, the number of its line, and the text of that line

@@ -1,16 +1,10 @@
 -- What `explain` finds for a path, as an explanation.
 use Rattle.std.specs.Prelude.{ℕ, List, codes}
-use Rattle.lc_level.specs.FaultLines.{FaultLineModel}
-use Rattle.lc_level.specs.Filters.{FiltersModel}
-use Rattle.lc_level.specs.Reasons.{reason_model}
-use Rattle.lc_level.specs.SitePaths.{site_path}
+use Rattle.lc_level.specs.{FaultLines.FaultLineModel, Filters.FiltersModel, Reasons.reason_model, SitePaths.site_path}
 use Rattle.lc_rules.specs.declared.rule_source.RuleSource.{RuleSource}
 use Rattle.lc_paths.specs.Explanations.Explained.{CitedRule, Explanation, bad, faulted, below, ignored, included, unruled, left_out, cited}
-use Rattle.lc_paths.specs.declared.explaining.finding.DirectoryFault.{DirectoryFault}
-use Rattle.lc_paths.specs.Explanations.OpenDirs.{DirStacks, stack_to}
-use Rattle.lc_paths.specs.declared.explaining.finding.Decision.{Decision}
-use Rattle.lc_paths.specs.declared.explaining.finding.Decision.TheVariants.{Below, Ignored, Included}
-use Rattle.lc_paths.specs.declared.explaining.finding.Finding.{Finding}
+use Rattle.lc_paths.specs.{Explanations.OpenDirs.{DirStacks, stack_to}, declared.explaining.finding.DirectoryFault.DirectoryFault}
+use Rattle.lc_paths.specs.declared.explaining.finding.{Decision.{Decision, TheVariants.{Below, Ignored, Included}}, Finding.Finding}
 use Rattle.lc_paths.specs.declared.explaining.finding.Found.{Found}
 use Rattle.lc_paths.specs.declared.explaining.finding.Finding.TheVariants as found
 

@@ -1,9 +1,7 @@
 -- What an explanation has in common with the level of a directory, by which a count goes.
 use Rattle.std.specs.Prelude.{◌≡◌, ◌⊎◌, ℕ, List, MatchOption}
-use Rattle.lc_level.specs.Answers.{Item, directory_item, entry_of, name_of}
-use Rattle.lc_level.specs.Job.{JobModel}
-use Rattle.lc_level.specs.Level.{Fate, counted, failed, walked, skipped, reason_for, fate_of, child_job}
-use Rattle.lc_level.specs.Filters.{FiltersModel}
+use Rattle.lc_level.specs.{Answers.{Item, directory_item, entry_of, name_of}, Job.JobModel, Level.{Fate, counted, failed, walked, skipped}}
+use Rattle.lc_level.specs.{Level.{reason_for, fate_of, child_job}, Filters.FiltersModel}
 use Rattle.lc_rules.specs.declared.rule_source.RuleSource.{RuleSource}
 use Rattle.lc_tree.specs.declared.entry.Kind.TheVariants.{Dir}
 use Rattle.lc_paths.specs.Explanations.Explained.{CitedRule, Explanation, ignored, included, unruled, cited, said_for, said_of}

@@ -1,17 +1,9 @@
 -- The directories on the way from the top of a tree down to a path.
 use Rattle.std.specs.Prelude.{◌≡◌, ℕ, List, [], Option, Some, None, Result, Ok, Err, option_map, find, bytes_eq, slice_get}
-use Rattle.lc_level.specs.Answers.{Item, Items, Answers, entries_of}
-use Rattle.lc_level.specs.FaultLines.{FaultLineModel}
-use Rattle.lc_level.specs.Filters.{FiltersModel}
-use Rattle.lc_level.specs.Job.{JobModel}
-use Rattle.lc_level.specs.RuleFiles.{RuleBytes, rule_bytes, extended}
-use Rattle.lc_level.specs.WellFormed.{IsWellFormed}
-use Rattle.lc_level.specs.TreeAnswers.{MayAnswer}
-use Rattle.lc_rules.specs.declared.rule_source.RuleSource.{RuleSource}
-use Rattle.lc_rules.specs.declared.rule_source.RuleSource.TheVariants.{ExcludeFrom, InfoExclude, Gitignore, CommandLine}
-use Rattle.lc_tree.specs.Listing.{EntryModel}
-use Rattle.lc_tree.specs.Trees.{Listings, Contents}
-use Rattle.lc_tree.specs.declared.entry.Kind.{Kind}
+use Rattle.lc_level.specs.{Answers.{Item, Items, Answers, entries_of}, FaultLines.FaultLineModel, Filters.FiltersModel, Job.JobModel}
+use Rattle.lc_level.specs.{RuleFiles.{RuleBytes, rule_bytes, extended}, WellFormed.IsWellFormed, TreeAnswers.MayAnswer}
+use Rattle.lc_rules.specs.declared.rule_source.RuleSource.{RuleSource, TheVariants.{ExcludeFrom, InfoExclude, Gitignore, CommandLine}}
+use Rattle.lc_tree.specs.{Listing.EntryModel, Trees.{Listings, Contents}, declared.entry.Kind.Kind}
 
 -- a directory on the way to a path: its job, whose chains have its own rule files; its entries; and the texts of `.git/info/exclude` and of
 -- its `.gitignore`, if it has these files

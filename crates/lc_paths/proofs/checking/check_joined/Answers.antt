@@ -1,11 +1,6 @@
-use Rattle.std.proofs.Common.{◌≡◌, ◌∙◌, ◌≤◌, ◌<◌, ℕ, List, Result, Ok, Err, length, subst, ap, ap₂, ⊎_elim}
-use Rattle.std.proofs.lemmas.Bool.{cases_lt}
-use Rattle.lc_rules.specs.IgnoreRules.{rules_of}
-use Rattle.lc_rules.specs.declared.faults.RuleFault.{RuleFault}
-use Rattle.lc_rules.specs.declared.faults.RuleFault.TheVariants.{TooLong}
-use Rattle.lc_rules.specs.Limits.{max_rule_bytes}
-use Rattle.lc_paths.specs.Checks.CheckText.{text_by}
-use Rattle.lc_paths.specs.Checks.Joined.{rules_part, paths_part, joined_text}
+use Rattle.std.proofs.{Common.{◌≡◌, ◌∙◌, ◌≤◌, ◌<◌, ℕ, List, Result, Ok, Err, length, subst, ap, ap₂, ⊎_elim}, lemmas.Bool.cases_lt}
+use Rattle.lc_rules.specs.{IgnoreRules.rules_of, declared.faults.RuleFault.{RuleFault, TheVariants.TooLong}, Limits.max_rule_bytes}
+use Rattle.lc_paths.specs.Checks.{CheckText.text_by, Joined.{rules_part, paths_part, joined_text}}
 use Rattle.lc_text.specs.Styles.{styled}
 use Rattle.lc_io.specs.Writes.{Writes, AnswersPrint}
 use Rattle.lc_paths.proofs.Checks.Stopping.{rules_stop, text_stops}

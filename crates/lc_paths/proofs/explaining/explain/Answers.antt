@@ -1,8 +1,7 @@
 use Rattle.std.proofs.Common.{ℕ, List, Ok, Err, subst}
-use Rattle.lc_paths.proofs.Stopping.{output_stops}
+use Rattle.lc_paths.proofs.{Stopping.output_stops, Explanations.Answering.as_asked}
 use Rattle.lc_text.specs.Lines.{input_paths_of}
 use Rattle.lc_paths.specs.Explanations.Answers.{MaySay, AnswersLines}
-use Rattle.lc_paths.proofs.Explanations.Answering.{as_asked}
 use Rattle.lc_paths.proofs.explaining.explain.Goals as goal
 
 pub returns-in_err-outcome : goal.returns-in_err-outcome

@@ -1,6 +1,5 @@
 use Rattle.std.proofs.Common.{ℕ, List, map}
-use Rattle.lc_paths.proofs.Explanations.Answering.{as_asked}
-use Rattle.lc_paths.proofs.Explanations.SoFar.{refused_first}
+use Rattle.lc_paths.proofs.Explanations.{Answering.as_asked, SoFar.refused_first}
 use Rattle.lc_paths.proofs.explaining.explain_words.Goals as goal
 
 pub returns-in_err-explainer : goal.returns-in_err-explainer

@@ -1,8 +1,7 @@
 use Rattle.std.proofs.Common.{◌∙◌, ◌++◌, ℕ, List, Err, subst}
 use Rattle.std.specs.List.{flat_map}
 use Rattle.lc_level.proofs.PassedOn.{passed_on}
-use Rattle.lc_paths.specs.Checks.ExplainedText.{explained_line}
-use Rattle.lc_paths.specs.Paths.{paths_in}
+use Rattle.lc_paths.specs.{Checks.ExplainedText.explained_line, Paths.paths_in}
 use Rattle.lc_io.specs.Pieces.{AnswersInPieces}
 use Rattle.lc_text.specs.Styles.{styled}
 use Rattle.lc_paths.proofs.Checks.ExplainedLines.{line_more, line_none}

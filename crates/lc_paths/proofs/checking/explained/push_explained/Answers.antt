@@ -1,6 +1,5 @@
 use Rattle.std.proofs.Common.{◌∙◌, ap₂, sym}
-use Rattle.lc_paths.specs.Checks.CheckText.{file_verdict, path_word}
-use Rattle.lc_paths.specs.Checks.ExplainedText.{path_rule}
+use Rattle.lc_paths.specs.Checks.{CheckText.{file_verdict, path_word}, ExplainedText.path_rule}
 use Rattle.lc_paths.proofs.Checks.ExplainedLines.{found_on_line, line_found}
 use Rattle.lc_text.proofs.Appended.{appended_same}
 use Rattle.lc_paths.proofs.checking.explained.push_explained.Goals as goal

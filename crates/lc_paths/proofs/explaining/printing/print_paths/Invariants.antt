@@ -1,8 +1,5 @@
 use Rattle.std.proofs.Common.{◌≡◌, ℕ, List, ◌++◌, length}
-use Rattle.lc_paths.specs.Explanations.Explained.{IsExplained}
-use Rattle.lc_paths.specs.Explanations.OpenDirs.{MayEnter}
-use Rattle.lc_paths.specs.Explanations.DirStacks.{AreStacks}
-use Rattle.lc_paths.specs.Paths.{paths_in}
+use Rattle.lc_paths.specs.{Explanations.{Explained.IsExplained, OpenDirs.MayEnter, DirStacks.AreStacks}, Paths.paths_in}
 use Rattle.lc_paths.proofs.Explanations.SoFar.{SoFar}
 use Rattle.lc_paths.proofs.explaining.printing.print_paths.Given as goal
 

@@ -1,9 +1,6 @@
-use Rattle.std.proofs.Common.{◌≡◌, ◌<◌, ◌∙◌, nat_eq, length, take, sym, ap, arith}
-use Rattle.std.proofs.Math.Seq.{take-length}
-use Rattle.lc_paths.specs.Checks.CheckText.{file_verdict}
-use Rattle.lc_paths.specs.Checks.Findings.{ignoring_rule}
-use Rattle.lc_paths.proofs.Checks.Directories.{clear-shared, clear-more}
-use Rattle.lc_paths.proofs.Checks.Ignoring.{found_above, found_none}
+use Rattle.std.proofs.{Common.{◌≡◌, ◌<◌, ◌∙◌, nat_eq, length, take, sym, ap, arith}, Math.Seq.take-length}
+use Rattle.lc_paths.specs.Checks.{CheckText.file_verdict, Findings.ignoring_rule}
+use Rattle.lc_paths.proofs.Checks.{Directories.{clear-shared, clear-more}, Ignoring.{found_above, found_none}}
 use Rattle.lc_paths.proofs.checking.checker.Checker.clear_len.Goals as goal
 
 pub returns-then-shared-eq0 : goal.returns-then-shared-eq0

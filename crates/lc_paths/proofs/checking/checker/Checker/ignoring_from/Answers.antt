@@ -1,6 +1,5 @@
 use Rattle.std.proofs.Common.{◌≡◌, ◌∙◌, ◌+◌, ℕ, take, sym, ap, subst, arith}
-use Rattle.lc_paths.specs.Checks.CheckText.{file_verdict, is_ignored_parent, IsClearTo}
-use Rattle.lc_paths.specs.Checks.Findings.{ignoring_rule}
+use Rattle.lc_paths.specs.Checks.{CheckText.{file_verdict, is_ignored_parent, IsClearTo}, Findings.ignoring_rule}
 use Rattle.lc_paths.proofs.Checks.Directories.{has_ignored_parent-clear, clear-more, clear-take, clear-slash, clear-end, slash-within}
 use Rattle.lc_paths.proofs.Checks.Directories.{slash-is}
 use Rattle.lc_paths.proofs.Checks.Ignoring.{found_above, found_none}

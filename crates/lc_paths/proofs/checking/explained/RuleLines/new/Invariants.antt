@@ -1,6 +1,5 @@
 use Rattle.std.proofs.Common.{◌≡◌, ◌++◌, length, map}
-use Rattle.lc_rules.specs.IgnoreRules.{text_of_line}
-use Rattle.lc_rules.specs.RuleLines.{lines_of}
+use Rattle.lc_rules.specs.{IgnoreRules.text_of_line, RuleLines.lines_of}
 use Rattle.lc_paths.proofs.checking.explained.RuleLines.new.Given as goal
 
 abbrev pub decreases-lines : goal.decreases-lines

@@ -1,7 +1,6 @@
 use Rattle.std.proofs.Common.{◌-◌, ◌∙◌, [], ap, arith}
 use Rattle.std.specs.List.{slice_index_or}
-use Rattle.lc_rules.specs.IgnoreRules.{text_of_line}
-use Rattle.lc_rules.specs.RuleLines.{lines_of}
+use Rattle.lc_rules.specs.{IgnoreRules.text_of_line, RuleLines.lines_of}
 use Rattle.lc_paths.proofs.Checks.ExplainedLines.{text_at}
 use Rattle.lc_paths.proofs.checking.explained.RuleLines.text.Goals as goal
 

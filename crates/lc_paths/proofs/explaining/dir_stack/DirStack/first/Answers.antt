@@ -1,6 +1,5 @@
-use Rattle.std.proofs.Common.{◌≡◌, ◌++◌, map, take, drop, arith, sym, ◌∙◌, ap}
+use Rattle.std.proofs.{Common.{◌≡◌, ◌++◌, map, take, drop, arith, sym, ◌∙◌, ap}, lemmas.Grind.common_steps}
 use Rattle.std.specs.Arc.{arc_value}
-use Rattle.std.proofs.lemmas.Grind.{common_steps}
 use Rattle.lc_paths.specs.Explanations.OpenDirs.{DirStack}
 use Rattle.lc_paths.proofs.Explanations.StackCaching.{map_apart}
 use Rattle.lc_paths.proofs.explaining.dir_stack.DirStack.first.Goals as goal

@@ -1,10 +1,8 @@
 use Rattle.std.proofs.Common.{rules, ◌≡◌, ◌∙◌, None, sym, ap, option_map}
 use Rattle.lc_glob.specs.Path.{path_in, segments_of}
-use Rattle.lc_level.specs.Level.{job_at, child_job}
-use Rattle.lc_level.specs.Reasons.{reason_model}
+use Rattle.lc_level.specs.{Level.{job_at, child_job}, Reasons.reason_model}
 use Rattle.lc_paths.specs.Explanations.Explained.{cited, said_beside}
-use Rattle.lc_paths.proofs.Explanations.Descending.{beside_left, beside_on}
-use Rattle.lc_paths.proofs.Explanations.PathSegments.{cut_at, stands_below, path_of_name}
+use Rattle.lc_paths.proofs.Explanations.{Descending.{beside_left, beside_on}, PathSegments.{cut_at, stands_below, path_of_name}}
 use Rattle.lc_paths.proofs.explaining.explainer.Explainer.beside.Goals as goal
 
 pub returns-in-Some-2 : goal.returns-in-Some-2

@@ -1,7 +1,6 @@
 use Rattle.std.proofs.Common.{◌≡◌, length}
 use Rattle.lc_glob.specs.Path.{path_in, segments_of}
-use Rattle.lc_paths.specs.Explanations.Explained.{said_beside}
-use Rattle.lc_paths.specs.Explanations.OpenDirs.{DirStack}
+use Rattle.lc_paths.specs.Explanations.{Explained.said_beside, OpenDirs.DirStack}
 use Rattle.lc_paths.proofs.explaining.explainer.Explainer.beside.Given as goal
 
 abbrev pub invariant-names : goal.invariant-names

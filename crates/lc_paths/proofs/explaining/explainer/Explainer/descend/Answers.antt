@@ -1,14 +1,9 @@
 use Rattle.std.proofs.Common.{◌++◌, ◌∷◌, [], Ok, refl, sym, ◌∙◌, ap, subst}
 use Rattle.std.specs.Option.{option_copied}
-use Rattle.lc_paths.specs.Explanations.Findings.{fault_line_of}
-use Rattle.lc_paths.specs.Explanations.OpenDirs.{MayEnter, stack_at}
-use Rattle.lc_paths.specs.Explanations.DirStacks.{StandsBelow, Goes, Steps}
-use Rattle.lc_paths.specs.declared.explaining.explainer.Step.{Step}
-use Rattle.lc_paths.specs.declared.explaining.finding.Finding.TheVariants.{Fault}
-use Rattle.lc_paths.proofs.Explanations.Descending.{at_last, step_explained, fault_explained, stack_on}
-use Rattle.lc_paths.proofs.Explanations.Entering.{entered_path}
-use Rattle.lc_paths.proofs.Explanations.StackCaching.{stacks_kept, found_on}
-use Rattle.lc_paths.proofs.Explanations.StackEnds.{left_of_last}
+use Rattle.lc_paths.specs.Explanations.{Findings.fault_line_of, OpenDirs.{MayEnter, stack_at}, DirStacks.{StandsBelow, Goes, Steps}}
+use Rattle.lc_paths.specs.declared.explaining.{explainer.Step.Step, finding.Finding.TheVariants.Fault}
+use Rattle.lc_paths.proofs.Explanations.{Descending.{at_last, step_explained, fault_explained, stack_on}, Entering.entered_path}
+use Rattle.lc_paths.proofs.Explanations.{StackCaching.{stacks_kept, found_on}, StackEnds.left_of_last}
 use Rattle.lc_paths.proofs.explaining.explainer.Explainer.descend.Goals as goal
 
 pub step-requires-clause-stands : goal.step-requires-clause-stands

@@ -1,6 +1,5 @@
 use Rattle.std.proofs.Common.{length}
-use Rattle.lc_paths.specs.Explanations.OpenDirs.{MayEnter, stack_at}
-use Rattle.lc_paths.specs.Explanations.DirStacks.{StandsBelow, AreStacks}
+use Rattle.lc_paths.specs.Explanations.{OpenDirs.{MayEnter, stack_at}, DirStacks.{StandsBelow, AreStacks}}
 use Rattle.lc_paths.proofs.explaining.explainer.Explainer.descend.Given as goal
 
 abbrev pub invariant-names : goal.invariant-names

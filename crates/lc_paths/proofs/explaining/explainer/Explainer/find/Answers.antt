@@ -1,9 +1,7 @@
 use Rattle.std.proofs.Common.{[], Ok, subst}
 use Rattle.lc_level.specs.TopJob.{top_job}
-use Rattle.lc_paths.specs.Explanations.OpenDirs.{MayEnter}
-use Rattle.lc_paths.specs.Explanations.DirStacks.{Goes}
-use Rattle.lc_paths.proofs.Explanations.Descending.{top_kept}
-use Rattle.lc_paths.proofs.Explanations.Entering.{entered_path}
+use Rattle.lc_paths.specs.Explanations.{OpenDirs.MayEnter, DirStacks.Goes}
+use Rattle.lc_paths.proofs.Explanations.{Descending.top_kept, Entering.entered_path}
 use Rattle.lc_paths.proofs.explaining.explainer.Explainer.find.Goals as goal
 
 pub descend-requires-in-Ok-clause-stacks : goal.descend-requires-in-Ok-clause-stacks

@@ -1,13 +1,9 @@
 use Rattle.std.proofs.Common.{rules, ◌≡◌, None, true, sym, ◌∙◌, ap, ap₂}
 use Rattle.std.specs.Prelude.{option_map}
 use Rattle.lc_glob.specs.Path.{path_in, segments_of}
-use Rattle.lc_level.specs.Job.{JobModel}
-use Rattle.lc_level.specs.Level.{reason_for, job_at, child_job}
-use Rattle.lc_level.specs.Reasons.{reason_model}
-use Rattle.lc_paths.specs.Explanations.Explained.{cited, kind_asked, is_directory, said_beside}
-use Rattle.lc_paths.specs.Explanations.OpenDirs.{OpenDirModel, MayEnter}
-use Rattle.lc_paths.proofs.Explanations.PathSegments.{cut_at, path_of_name, stands_below}
-use Rattle.lc_paths.proofs.Explanations.Reaching.{skipped_said, beside_said}
+use Rattle.lc_level.specs.{Job.JobModel, Level.{reason_for, job_at, child_job}, Reasons.reason_model}
+use Rattle.lc_paths.specs.Explanations.{Explained.{cited, kind_asked, is_directory, said_beside}, OpenDirs.{OpenDirModel, MayEnter}}
+use Rattle.lc_paths.proofs.Explanations.{PathSegments.{cut_at, path_of_name, stands_below}, Reaching.{skipped_said, beside_said}}
 use Rattle.lc_paths.proofs.explaining.explainer.Explainer.step.Goals as goal
 
 pub returns-in-Some-2 : goal.returns-in-Some-2

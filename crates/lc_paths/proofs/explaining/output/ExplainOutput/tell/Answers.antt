@@ -1,9 +1,7 @@
 use Rattle.std.proofs.Common.{ℕ, Bool, List, subst}
 use Rattle.lc_level.specs.Filters.{FiltersModel}
 use Rattle.lc_text.specs.PathLines.{path_of, is_dir_line}
-use Rattle.lc_paths.specs.Explanations.Explained.{Explanation, IsExplained}
-use Rattle.lc_paths.specs.Explanations.Findings.{explanation_on}
-use Rattle.lc_paths.specs.Explanations.OpenDirs.{MayEnter}
+use Rattle.lc_paths.specs.Explanations.{Explained.{Explanation, IsExplained}, Findings.explanation_on, OpenDirs.MayEnter}
 use Rattle.lc_paths.proofs.explaining.output.ExplainOutput.tell.Goals as goal
 
 pub returns-clause-told : goal.returns-clause-told

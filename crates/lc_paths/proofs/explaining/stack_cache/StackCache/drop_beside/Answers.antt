@@ -1,6 +1,5 @@
 use Rattle.std.proofs.Common.{sym, subst}
-use Rattle.lc_paths.specs.Explanations.OpenDirs.{DirStacks}
-use Rattle.lc_paths.specs.Explanations.DirStacks.{AreFirstOf}
+use Rattle.lc_paths.specs.Explanations.{OpenDirs.DirStacks, DirStacks.AreFirstOf}
 use Rattle.lc_paths.proofs.Explanations.StackCaching.{none_first, first_more}
 use Rattle.lc_paths.proofs.explaining.stack_cache.StackCache.drop_beside.Goals as goal
 

@@ -1,9 +1,8 @@
 use Rattle.std.proofs.Common.{subst}
-use Rattle.lc_paths.specs.Explanations.OpenDirs.{DirStacks}
-use Rattle.lc_paths.specs.Explanations.DirStacks.{Keeps}
+use Rattle.lc_paths.specs.Explanations.{OpenDirs.DirStacks, DirStacks.Keeps}
 use Rattle.lc_paths.proofs.Explanations.StackCaching.{keeps_more, keeps_alone}
-use Rattle.lc_paths.proofs.explaining.stack_cache.StackCache.keep.Goals as goal
 use Rattle.lc_paths.proofs.explaining.stack_cache.StackCache.keep.Goals.{then-self+in_ok-drop_beside, else-self}
+use Rattle.lc_paths.proofs.explaining.stack_cache.StackCache.keep.Goals as goal
 
 pub returns : goal.returns
 returns c =
