@@ -1,10 +1,7 @@
 -- Boxes that are written one after the other.
 use Rattle.std.proofs.Common.{◌≡◌, ℕ, ◌+◌, ◌<◌, List, ◌∷◌, ◌++◌, length, drop, get_or, min, refl, sym, ap, ap₂, ◌∙◌}
-use Rattle.lc_picture.specs.declared.scale.Scale.{Scale}
-use Rattle.lc_picture.specs.Boxes.{BoxModel, boxes_in, next_box}
-use Rattle.lc_picture.specs.Pieces.{text_of}
-use Rattle.lc_picture.proofs.Steps.{one_on}
-use Rattle.lc_picture.proofs.Texts.{two_texts}
+use Rattle.lc_picture.specs.{declared.scale.Scale.Scale, Boxes.{BoxModel, boxes_in, next_box}, Pieces.text_of}
+use Rattle.lc_picture.proofs.{Steps.one_on, Texts.two_texts}
 
 -- behind the next box of some come the others
 pub one_box_more : (scale : Scale) (within next : ℕ) (t0 t1 all : List ℕ) (b d : BoxModel) (bs after : List BoxModel) (i : ℕ)

@@ -1,8 +1,6 @@
 -- Branches of which one ends first.
-use Rattle.std.proofs.Common.{◌≡◌, ℕ, ◌<◌, ◌≤◌, List, [], ◌∷◌, length, drop, sym, ap₂, arith, drop-cons}
-use Rattle.std.specs.Cmp.Lexicographic.{slice_cmp}
-use Rattle.std.specs.declared.cmp.Ordering.TheVariants.{Less, Greater}
-use Rattle.std.proofs.lemmas.List.{drop_all}
+use Rattle.std.proofs.{Common.{◌≡◌, ℕ, ◌<◌, ◌≤◌, List, [], ◌∷◌, length, drop, sym, ap₂, arith, drop-cons}, lemmas.List.drop_all}
+use Rattle.std.specs.{Cmp.Lexicographic.slice_cmp, declared.cmp.Ordering.TheVariants.{Less, Greater}}
 use Rattle.lc_picture.specs.Places.{PlaceModel, place_cmp}
 
 pub first_longer : (a b : List PlaceModel) (n : ℕ) → n < length a → length b ≤ n → Greater ≡ slice_cmp place_cmp (drop n a) (drop n b)

@@ -1,24 +1,17 @@
 -- Each row of the chart has the colour of its extension, since no two rows have the same extension.
-use Rattle.std.proofs.Common.{◌≡◌, ℕ, ◌+◌, ◌<◌, Bool, true, false, not, List, [], ◌∷◌, length, map, take, get_or, suc, zero}
-use Rattle.std.proofs.Common.{Option, Some, None, refl, sym, ap, ap₂, ◌∙◌, arith}
-use Rattle.std.specs.List.{IsDistinct}
-use Rattle.std.proofs.lemmas.Cmp.{eq_by_cmp_equiv, nat_list_eq_equiv}
-use Rattle.std.proofs.lemmas.List.{get_or-map, get_or-take, length-map, length-take}
-use Rattle.std.proofs.lemmas.List.Folds.{list_any_at}
+use Rattle.std.proofs.Common.{◌≡◌, ℕ, ◌+◌, ◌<◌, Bool, true, false, not, List, [], ◌∷◌, length, map, take, get_or, suc, zero, Option, Some}
+use Rattle.std.proofs.{Common.{None, refl, sym, ap, ap₂, ◌∙◌, arith}, lemmas.Cmp.{eq_by_cmp_equiv, nat_list_eq_equiv}}
+use Rattle.std.proofs.lemmas.List.{get_or-map, get_or-take, length-map, length-take, Folds.list_any_at}
 use Rattle.std.proofs.lemmas.List.Sorted.{IsPermutation-map, list_any-IsPermutation}
-use Rattle.std.proofs.lemmas.Map.Keys.{IsDistinct-IsPermutation, IsDistinct-from_sorted, apart_from_distinct}
-use Rattle.std.proofs.lemmas.Map.Views.{tells_apart}
+use Rattle.std.proofs.lemmas.Map.{Keys.{IsDistinct-IsPermutation, IsDistinct-from_sorted, apart_from_distinct}, Views.tells_apart}
 use Rattle.std.proofs.lemmas.Slice.Eq.{bytes_eq-Decides}
+use Rattle.std.specs.List.{IsDistinct}
 use Rattle.lc_census.specs.declared.line_count.Eol.TheVariants.{NoEnd}
 use Rattle.lc_rules.specs.declared.states.TextState.TheVariants.{Unspecified}
 use Rattle.lc_walk.specs.TallyRows.{TallyRowModel}
-use Rattle.lc_rows.specs.RowKeys.{RowKey, ShownRowModel, has_within, row_key, row_key_cmp, same_row_key}
-use Rattle.lc_rows.specs.ShownRows.{part_of_row}
+use Rattle.lc_rows.specs.{RowKeys.{RowKey, ShownRowModel, has_within, row_key, row_key_cmp, same_row_key}, ShownRows.part_of_row}
 use Rattle.lc_rows.proofs.SameKeys.{exact_row_keys, row_key_cmp_total}
-use Rattle.lc_picture.specs.Chart.{line_colour}
-use Rattle.lc_picture.specs.Colours.{place_of, same_extension}
-use Rattle.lc_picture.specs.Laws.{ColoursLaw}
-use Rattle.lc_picture.specs.Page.{chart_columns, chart_rows}
+use Rattle.lc_picture.specs.{Chart.line_colour, Colours.{place_of, same_extension}, Laws.ColoursLaw, Page.{chart_columns, chart_rows}}
 
 -- ---- the keys of rows by extension
 

@@ -1,15 +1,12 @@
 -- Directories that are drawn, gone over from the first on.
-use Rattle.std.proofs.Common.{◌≡◌, ℕ, ◌+◌, ◌<◌, nat_le, true, false, List, [], ◌∷◌, ◌++◌, drop, get_or, length}
-use Rattle.std.proofs.Common.{refl, sym, ap, ap₂, ◌∙◌, append_assoc}
-use Rattle.lc_rows.specs.RowKeys.{ShownRowModel}
-use Rattle.lc_rows.specs.ShownRows.{number_in}
+use Rattle.std.proofs.Common.{◌≡◌, ℕ, ◌+◌, ◌<◌, nat_le, true, false, List, [], ◌∷◌, ◌++◌, drop, get_or, length, refl, sym, ap, ap₂, ◌∙◌}
+use Rattle.std.proofs.Common.{append_assoc}
+use Rattle.lc_rows.specs.{RowKeys.ShownRowModel, ShownRows.number_in}
 use Rattle.lc_sheet.specs.declared.column.Number.{Number}
-use Rattle.lc_picture.specs.declared.small_directories.SmallDirectories.{SmallDirectories}
-use Rattle.lc_picture.specs.Boxes.{BoxModel, box_of, coloured, drawn_boxes}
-use Rattle.lc_picture.specs.Colours.{main_colour, path_of, rows_from, shared_colour}
-use Rattle.lc_picture.specs.Small.{no_directories, row_level, small_in, smalls_of}
-use Rattle.lc_picture.proofs.SmallRows.{small_read}
-use Rattle.lc_picture.proofs.Steps.{one_on}
+use Rattle.lc_picture.specs.{declared.small_directories.SmallDirectories.SmallDirectories, Boxes.{BoxModel, box_of, coloured, drawn_boxes}}
+use Rattle.lc_picture.specs.{Colours.{main_colour, path_of, rows_from, shared_colour}, Small.{no_directories, row_level, small_in}}
+use Rattle.lc_picture.specs.Small.{smalls_of}
+use Rattle.lc_picture.proofs.{SmallRows.small_read, Steps.one_on}
 
 -- behind the box of a directory come those of the directories after it
 pub drawn_more : (by : Number) (least : ℕ) (chart kinds next : List ShownRowModel) (r d : ShownRowModel) (rows : List ShownRowModel)

@@ -1,18 +1,14 @@
 -- Of boxes right in the same one, the largest comes first.
 use Rattle.std.proofs.Common.{◌≡◌, ℕ, ◌<◌, ◌≤◌, false, take, length, List, [], ◌∷◌, ◌++◌, get_or, refl, sym, ap, ap₂, ◌∙◌, arith}
-use Rattle.std.specs.Cmp.{IsTotalOrder, bool_cmp_total}
-use Rattle.std.specs.Cmp.Lexicographic.{slice_cmp}
-use Rattle.std.specs.Ordering.{is_lt, ordering_then}
 use Rattle.std.proofs.lemmas.Cmp.{back_total, lists_total, nat_cmp_total, nat_list_cmp_total, on_total, then_total, tied_itself}
-use Rattle.std.specs.List.{All}
-use Rattle.std.proofs.lemmas.List.Elements.{All-cons, All-nil}
-use Rattle.std.proofs.lemmas.List.Sorted.{All-permutation, ranks_by, sorted_far}
+use Rattle.std.proofs.lemmas.List.{Elements.{All-cons, All-nil}, Sorted.{All-permutation, ranks_by, sorted_far}}
 use Rattle.std.proofs.lemmas.Map.Keys.{ge_from_not_lt}
+use Rattle.std.specs.{Cmp.{IsTotalOrder, bool_cmp_total, Lexicographic.slice_cmp}, Ordering.{is_lt, ordering_then}, List.All}
 use Rattle.lc_rows.proofs.ViewLaws.{first_decides}
 use Rattle.lc_rows.specs.ShownRows.{number_in}
 use Rattle.lc_sheet.specs.declared.column.Number.{Number}
-use Rattle.lc_picture.specs.Boxes.{BoxModel}
-use Rattle.lc_picture.specs.Places.{AreInOrder, FallingLaw, PlaceModel, PlacedModel, branch_of, place_cmp, place_of, placed_from}
+use Rattle.lc_picture.specs.{Boxes.BoxModel, Places.{AreInOrder, FallingLaw, PlaceModel, PlacedModel, branch_of, place_cmp, place_of}}
+use Rattle.lc_picture.specs.Places.{placed_from}
 
 place_cmp_total : IsTotalOrder place_cmp
 place_cmp_total =

@@ -1,12 +1,9 @@
 -- Boxes inside the boxes of the directories that hold them.
 use Rattle.std.proofs.Common.{◌≡◌, ℕ, ◌+◌, ◌-◌, ◌==◌, nat_le, Bool, true, false, if◌then◌else◌, List, [], ◌∷◌, ◌++◌, drop, length, min}
 use Rattle.std.proofs.Common.{suc, zero, refl, ap, ap₂, ◌∙◌, append_assoc, arith, codes, length-append}
-use Rattle.lc_picture.specs.declared.scale.Scale.{Scale}
-use Rattle.lc_picture.specs.declared.small_directories.SmallDirectories.{SmallDirectories}
-use Rattle.lc_picture.specs.Boxes.{BoxModel, boxes_in, closings, is_open, opening, others_in, others_space, small_box, small_number}
-use Rattle.lc_picture.specs.Boxes.{tag_end}
-use Rattle.lc_picture.specs.Inside.{AreBoxesAt, ComeDepthFirst, InsideLaw, boxes_read}
-use Rattle.lc_picture.specs.Pieces.{Piece, markup}
+use Rattle.lc_picture.specs.{declared.{scale.Scale.Scale, small_directories.SmallDirectories.SmallDirectories}, Boxes.{BoxModel, boxes_in}}
+use Rattle.lc_picture.specs.Boxes.{closings, is_open, opening, others_in, others_space, small_box, small_number, tag_end}
+use Rattle.lc_picture.specs.{Inside.{AreBoxesAt, ComeDepthFirst, InsideLaw, boxes_read}, Pieces.{Piece, markup}}
 use Rattle.lc_text.specs.Visible.{visible_path}
 
 -- closing tags end the innermost boxes

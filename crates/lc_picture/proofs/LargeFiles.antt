@@ -1,11 +1,8 @@
 -- Files that have boxes in those of their directories.
-use Rattle.std.proofs.Common.{◌≡◌, Bool, true, false, bytes_eq, cond, List, [], ◌∷◌, ◌++◌, map, suc, zero}
-use Rattle.std.proofs.Common.{refl, ap, ◌∙◌, arith}
-use Rattle.std.specs.List.{Contains, filter}
+use Rattle.std.proofs.Common.{◌≡◌, Bool, true, false, bytes_eq, cond, List, [], ◌∷◌, ◌++◌, map, suc, zero, refl, ap, ◌∙◌, arith}
 use Rattle.std.proofs.lemmas.List.Elements.{Contains-append_left, Contains-append_right}
-use Rattle.lc_picture.specs.Boxes.{BoxModel}
-use Rattle.lc_picture.specs.Files.{FileBoxModel, file_box, files_in, is_large, with_files}
-use Rattle.lc_picture.specs.Laws.{LargeLaw}
+use Rattle.std.specs.List.{Contains, filter}
+use Rattle.lc_picture.specs.{Boxes.BoxModel, Files.{FileBoxModel, file_box, files_in, is_large, with_files}, Laws.LargeLaw}
 
 -- ---- elements of a list
 

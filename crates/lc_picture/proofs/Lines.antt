@@ -1,12 +1,8 @@
 -- Lines of the chart that are written one after the other.
 use Rattle.std.proofs.Common.{◌≡◌, ℕ, ◌+◌, ◌<◌, List, ◌∷◌, ◌++◌, length, drop, get_or, sym, ap, ◌∙◌}
-use Rattle.lc_sheet.specs.Sheets.{line_of, lines_of}
-use Rattle.lc_sheet.specs.Values.{ValueModel}
-use Rattle.lc_sheet.specs.declared.column.Column.{Column}
-use Rattle.lc_picture.specs.Chart.{coloured_line, coloured_lines}
-use Rattle.lc_picture.specs.Pieces.{text_of}
-use Rattle.lc_picture.proofs.Steps.{one_on}
-use Rattle.lc_picture.proofs.Texts.{more}
+use Rattle.lc_sheet.specs.{Sheets.{line_of, lines_of}, Values.ValueModel, declared.column.Column.Column}
+use Rattle.lc_picture.specs.{Chart.{coloured_line, coloured_lines}, Pieces.text_of}
+use Rattle.lc_picture.proofs.{Steps.one_on, Texts.more}
 
 -- behind the line of a place come those of the places after it
 pub one_line_more : {X : Type 0} (value : X → Column → ValueModel) (columns : List Column) (t0 t1 all : List ℕ) (line d : X)

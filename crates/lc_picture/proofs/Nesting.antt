@@ -1,14 +1,9 @@
 -- Boxes that are opened and closed.
 use Rattle.std.proofs.Common.{◌≡◌, ℕ, ◌+◌, ◌-◌, ◌≤◌, ◌==◌, nat_le, Bool, true, false, List, [], ◌∷◌, ◌++◌, min, Some, None, if◌then◌else◌}
-use Rattle.std.proofs.Common.{suc, zero, refl, sym, ap, ◌∙◌, append_assoc, arith, codes}
-use Rattle.std.proofs.lemmas.Bool.{ne_eqb}
-use Rattle.std.proofs.lemmas.List.{append-nil}
-use Rattle.lc_picture.specs.declared.scale.Scale.{Scale}
-use Rattle.lc_picture.specs.declared.small_directories.SmallDirectories.{SmallDirectories}
-use Rattle.lc_picture.specs.Boxes.{BoxModel, boxes_in, closings, is_open, opening, others_in, others_space, small_box, small_number}
-use Rattle.lc_picture.specs.Boxes.{space, tag_end}
-use Rattle.lc_picture.specs.Laws.{NestingLaw, open_after}
-use Rattle.lc_picture.specs.Pieces.{Piece, markup}
+use Rattle.std.proofs.{Common.{suc, zero, refl, sym, ap, ◌∙◌, append_assoc, arith, codes}, lemmas.{Bool.ne_eqb, List.append-nil}}
+use Rattle.lc_picture.specs.{declared.{scale.Scale.Scale, small_directories.SmallDirectories.SmallDirectories}, Boxes.{BoxModel, boxes_in}}
+use Rattle.lc_picture.specs.Boxes.{closings, is_open, opening, others_in, others_space, small_box, small_number, space, tag_end}
+use Rattle.lc_picture.specs.{Laws.{NestingLaw, open_after}, Pieces.{Piece, markup}}
 
 one_closed : (n : ℕ) (ps : List Piece) → 1 ≤ n → (if n == 0 then None else open_after (n - 1) ps) ≡ open_after (n - 1) ps
 one_closed n ps some = let open_box : (n == 0) ≡ false = ne_eqb n 0 (λ none. absurd (omega arith)) in rw open_box refl

@@ -1,31 +1,22 @@
 -- What a page shows, and what of it depends on no name.
 use Rattle.std.proofs.Common.{◌≡◌, ℕ, ◌+◌, ◌-◌, ◌==◌, nat_le, Bool, true, false, if◌then◌else◌, List, [], ◌∷◌, ◌++◌, map, min, suc, zero}
-use Rattle.std.proofs.Common.{refl, sym, ap, ap₂, ◌∙◌, codes, length, nat_lt, take}
-use Rattle.std.specs.List.{filter, flat_map}
-use Rattle.std.proofs.lemmas.List.{append-nil, map-append}
+use Rattle.std.proofs.{Common.{refl, sym, ap, ap₂, ◌∙◌, codes, length, nat_lt, take}, lemmas.List.{append-nil, map-append}}
 use Rattle.std.proofs.lemmas.List.Elements.{filter-append}
-use Rattle.lc_rows.specs.RowKeys.{ShownRowModel}
-use Rattle.lc_rows.specs.ShownRows.{number_in}
-use Rattle.lc_sheet.specs.Sheets.{SheetModel}
-use Rattle.lc_sheet.specs.Values as value
-use Rattle.lc_sheet.specs.Values.{ValueModel}
-use Rattle.lc_sheet.specs.declared.column.Number.{Number}
-use Rattle.lc_picture.specs.declared.scale.Scale.{Scale}
-use Rattle.lc_picture.specs.declared.small_directories.SmallDirectories.{SmallDirectories}
-use Rattle.lc_picture.specs.Boxes.{BoxModel, box_of, boxes_in, closings, drawn_boxes, is_open, label}
-use Rattle.lc_picture.specs.Boxes.{left_beside, next_box, opening, others_in, others_space, small_box, space, tag_end, title_of}
-use Rattle.lc_picture.specs.Chart.{cell, cells, cells_in, coloured_line, coloured_lines, plain_line, plain_lines}
-use Rattle.lc_picture.specs.Colours.{main_colour, path_of, rows_from, shared_colour}
+use Rattle.std.specs.List.{filter, flat_map}
+use Rattle.lc_rows.specs.{RowKeys.ShownRowModel, ShownRows.number_in}
+use Rattle.lc_sheet.specs.{Sheets.SheetModel, Values.ValueModel, declared.column.Number.Number}
+use Rattle.lc_picture.specs.{declared.{scale.Scale.Scale, small_directories.SmallDirectories.SmallDirectories}, Boxes.{BoxModel, box_of}}
+use Rattle.lc_picture.specs.Boxes.{boxes_in, closings, drawn_boxes, is_open, label, left_beside, next_box, opening, others_in}
+use Rattle.lc_picture.specs.{Boxes.{others_space, small_box, space, tag_end, title_of}, Chart.{cell, cells, cells_in, coloured_line}}
+use Rattle.lc_picture.specs.{Chart.{coloured_lines, plain_line, plain_lines}, Colours.{main_colour, path_of, rows_from, shared_colour}}
+use Rattle.lc_picture.specs.{Faults.{fault_lines, faults_end, faults_listed, faults_part, more_faults}, Laws.{DrawnLaw, OutlineLaw}}
+use Rattle.lc_picture.specs.Laws.{ShownLaw, counts, is_shown, nameless, outline, share_in, shown_of_box, shown_of_boxes, shown_of_fault}
+use Rattle.lc_picture.specs.Laws.{shown_of_faults, shown_of_head, shown_of_more, shown_of_line, shown_of_value, without_colour}
+use Rattle.lc_picture.specs.{Page.{chart_part, tree_part}, Pieces.{Piece, count, markup, name, percent, title}, Small.no_directories}
+use Rattle.lc_picture.specs.Small.{row_level, small_in}
 use Rattle.lc_level.specs.FaultLines.{FaultLineModel}
-use Rattle.lc_picture.specs.Faults.{fault_lines, faults_end, faults_listed, faults_part, more_faults}
-use Rattle.lc_picture.specs.Laws.{DrawnLaw, OutlineLaw, ShownLaw, counts, is_shown, nameless, outline, share_in, shown_of_box}
-use Rattle.lc_picture.specs.Laws.{shown_of_boxes, shown_of_fault}
-use Rattle.lc_picture.specs.Laws.{shown_of_faults, shown_of_head, shown_of_more}
-use Rattle.lc_picture.specs.Laws.{shown_of_line, shown_of_value, without_colour}
-use Rattle.lc_picture.specs.Page.{chart_part, tree_part}
-use Rattle.lc_picture.specs.Pieces.{Piece, count, markup, name, percent, title}
-use Rattle.lc_picture.specs.Small.{no_directories, row_level, small_in}
 use Rattle.lc_text.specs.Visible.{visible_path}
+use Rattle.lc_sheet.specs.Values as value
 
 -- ---- what a page shows
 

@@ -1,20 +1,11 @@
 -- A page of rows that are those of a report.
 use Rattle.std.proofs.Common.{◌≡◌, ℕ, List, Some, ap, ap₂, ◌∙◌, subst}
-use Rattle.lc_rows.specs.RowKeys.{ShownRowModel}
-use Rattle.lc_rows.specs.Sheets.{listed_files, sheet_of}
-use Rattle.lc_rows.specs.ShownRows.{AreShown}
-use Rattle.lc_rows.specs.Views.{first_of, view_of}
-use Rattle.lc_sheet.specs.Sheets.{SheetModel}
-use Rattle.lc_sheet.specs.declared.column.Number.{Number}
-use Rattle.lc_picture.specs.declared.scale.Scale.{Scale}
-use Rattle.lc_sheet.specs.declared.table_options.TableOptions.{TableOptions}
-use Rattle.lc_walk.specs.TallyRows.{TallyRowModel}
-use Rattle.lc_walk.specs.declared.report.Report.{Report}
-use Rattle.lc_picture.specs.Boxes.{BoxModel}
-use Rattle.lc_picture.specs.Page.{AreBoxesOf, IsPageOf, chart_columns, chart_options, chart_rows, page_pieces, scale_of}
-use Rattle.lc_picture.specs.Pieces.{text_of}
-use Rattle.lc_level.specs.FaultLines.{FaultLineModel}
-use Rattle.lc_level.specs.Level.{FileLineModel}
+use Rattle.lc_rows.specs.{RowKeys.ShownRowModel, Sheets.{listed_files, sheet_of}, ShownRows.AreShown, Views.{first_of, view_of}}
+use Rattle.lc_sheet.specs.{Sheets.SheetModel, declared.{column.Number.Number, table_options.TableOptions.TableOptions}}
+use Rattle.lc_picture.specs.{declared.scale.Scale.Scale, Boxes.BoxModel, Page.{AreBoxesOf, IsPageOf, chart_columns, chart_options}}
+use Rattle.lc_picture.specs.{Page.{chart_rows, page_pieces, scale_of}, Pieces.text_of}
+use Rattle.lc_walk.specs.{TallyRows.TallyRowModel, declared.report.Report.Report}
+use Rattle.lc_level.specs.{FaultLines.FaultLineModel, Level.FileLineModel}
 
 -- the sheet of a report with some options and with all rows that it may show
 abbrev pub sheet_with : TableOptions → Report → List ShownRowModel → SheetModel

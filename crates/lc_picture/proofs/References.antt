@@ -1,9 +1,8 @@
 -- Names with character references.
 use Rattle.std.proofs.Common.{◌≡◌, ℕ, nat_eq, Bool, true, false, ◌||◌, if◌then◌else◌, List, [], ◌∷◌, ◌++◌, refl, subst, ap, ◌∙◌}
-use Rattle.std.specs.List.{list_any}
 use Rattle.std.proofs.lemmas.Bool.{eqb-true, or_parts}
-use Rattle.lc_picture.specs.Escaping.{html, is_markup, reference}
-use Rattle.lc_picture.specs.Laws.{TagLaw, UnescapedLaw, is_tag_byte, unescaped}
+use Rattle.std.specs.List.{list_any}
+use Rattle.lc_picture.specs.{Escaping.{html, is_markup, reference}, Laws.{TagLaw, UnescapedLaw, is_tag_byte, unescaped}}
 
 either : {Q : Type 0} (x y : Bool) → (x || y) ≡ true → (x ≡ true → Q) → (y ≡ true → Q) → Q
 either true y e l r = l refl

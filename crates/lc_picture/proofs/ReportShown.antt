@@ -1,24 +1,14 @@
 -- What the page of a report shows of its rows.
-use Rattle.std.proofs.Common.{◌≡◌, ℕ, List, [], ◌∷◌, ◌++◌, Option, Some, None, refl, ap, ap₂, ◌∙◌}
+use Rattle.std.proofs.{Common.{◌≡◌, ℕ, List, [], ◌∷◌, ◌++◌, Option, Some, None, refl, ap, ap₂, ◌∙◌}, lemmas.List.append-nil}
 use Rattle.std.specs.List.{flat_map}
-use Rattle.std.proofs.lemmas.List.{append-nil}
-use Rattle.lc_rows.specs.Kinds.{extension_value, row_value, sums_value}
-use Rattle.lc_rows.specs.RowKeys.{ShownRowModel}
-use Rattle.lc_rows.specs.SheetColumns.{row_columns}
-use Rattle.lc_rows.specs.Sheets.{form_of, others_lines, sheet_of}
-use Rattle.lc_rows.specs.Views.{ViewModel}
-use Rattle.lc_sheet.specs.Sheets.{line_of, lines_of}
-use Rattle.lc_sheet.specs.declared.column.Column.{Column}
-use Rattle.lc_sheet.specs.declared.column.Number.{Number}
-use Rattle.lc_sheet.specs.declared.form.Form.{Form}
-use Rattle.lc_walk.specs.declared.report.Report.{Report}
-use Rattle.lc_walk.specs.declared.tally.sums.Sums.{Sums}
+use Rattle.lc_rows.specs.{Kinds.{extension_value, row_value, sums_value}, RowKeys.ShownRowModel, SheetColumns.row_columns, Sheets.form_of}
+use Rattle.lc_rows.specs.{Sheets.{others_lines, sheet_of}, Views.ViewModel}
+use Rattle.lc_sheet.specs.{Sheets.{line_of, lines_of}, declared.{column.{Column.Column, Number.Number}, form.Form.Form}}
+use Rattle.lc_walk.specs.declared.{report.Report.Report, tally.sums.Sums.Sums}
 use Rattle.lc_text.specs.Visible.{visible_path}
-use Rattle.lc_picture.specs.Laws.{ReportLaw, cell_counts, row_counts, shown_of_boxes, shown_of_faults, shown_of_line}
-use Rattle.lc_picture.specs.Laws.{shown_of_others, shown_of_row}
-use Rattle.lc_picture.specs.Laws.{shown_of_value, visible_extension}
-use Rattle.lc_picture.specs.Page.{chart_options, scale_of}
-use Rattle.lc_picture.specs.Pieces.{Piece, name, title}
+use Rattle.lc_picture.specs.Laws.{ReportLaw, cell_counts, row_counts, shown_of_boxes, shown_of_faults, shown_of_line, shown_of_others}
+use Rattle.lc_picture.specs.{Laws.{shown_of_row, shown_of_value, visible_extension}, Page.{chart_options, scale_of}, Pieces.{Piece, name}}
+use Rattle.lc_picture.specs.Pieces.{title}
 use Rattle.lc_picture.proofs.Outlines.{shown_law}
 
 extension_shows : (e : Option (List ℕ)) → shown_of_value (extension_value e) ≡ name (visible_extension e) ∷ []

@@ -1,11 +1,10 @@
 -- The small directories right in each directory, gone over from the last directory to the first.
-use Rattle.std.proofs.Common.{◌≡◌, ℕ, ◌+◌, ◌-◌, ◌<◌, ◌≤◌, List, [], ◌∷◌, ◌++◌, drop, get_or, length, reverse, suc, zero}
-use Rattle.std.proofs.Common.{refl, sym, ap, ap₂, ◌∙◌, arith}
-use Rattle.std.proofs.lemmas.Grind.{reverse_onto}
+use Rattle.std.proofs.Common.{◌≡◌, ℕ, ◌+◌, ◌-◌, ◌<◌, ◌≤◌, List, [], ◌∷◌, ◌++◌, drop, get_or, length, reverse, suc, zero, refl, sym, ap}
+use Rattle.std.proofs.{Common.{ap₂, ◌∙◌, arith}, lemmas.Grind.reverse_onto}
 use Rattle.lc_rows.specs.RowKeys.{ShownRowModel}
 use Rattle.lc_sheet.specs.declared.column.Number.{Number}
-use Rattle.lc_picture.specs.declared.small_directories.SmallDirectories.{SmallDirectories}
-use Rattle.lc_picture.specs.Small.{no_directories, row_level, small_in, smalls_of}
+use Rattle.lc_picture.specs.{declared.small_directories.SmallDirectories.SmallDirectories, Small.{no_directories, row_level, small_in}}
+use Rattle.lc_picture.specs.Small.{smalls_of}
 use Rattle.lc_picture.proofs.Steps.{one_on}
 
 -- what a list has for each directory

@@ -1,18 +1,14 @@
 -- The boxes of a tree of directories. The box of a directory has a box inside for each directory and each large file right in it. The
 -- number of a box is its share of the space.
-use Rattle.std.specs.Prelude.{ℕ, ◌+◌, ◌-◌, ◌/◌, ◌%◌, ◌==◌, Bool, true, false, nat_le, nat_lt, if◌then◌else◌, List, [], ◌∷◌, ◌++◌}
-use Rattle.std.specs.Prelude.{max, min, replicate, codes}
-use Rattle.lc_rows.specs.Directories.{own_part}
-use Rattle.lc_rows.specs.RowKeys.{ShownRowModel}
-use Rattle.lc_rows.specs.ShownRows.{number_in}
+use Rattle.std.specs.Prelude.{ℕ, ◌+◌, ◌-◌, ◌/◌, ◌%◌, ◌==◌, Bool, true, false, nat_le, nat_lt, if◌then◌else◌, List, [], ◌∷◌, ◌++◌, max}
+use Rattle.std.specs.Prelude.{min, replicate, codes}
+use Rattle.lc_rows.specs.{Directories.own_part, RowKeys.ShownRowModel, ShownRows.number_in}
 use Rattle.lc_text.specs.Visible.{visible_path}
 use Rattle.lc_sheet.specs.declared.column.Number.{Number}
 use Rattle.lc_walk.specs.declared.tally.sums.Sums.{Sums}
-use Rattle.lc_picture.specs.declared.scale.Scale.{Scale}
-use Rattle.lc_picture.specs.declared.small_directories.SmallDirectories.{SmallDirectories}
-use Rattle.lc_picture.specs.Colours.{main_colour, path_of, rows_from, shared_colour}
-use Rattle.lc_picture.specs.Pieces.{Piece, count, markup, name, percent, share, share_pieces, sums_pieces, title, word}
-use Rattle.lc_picture.specs.Small.{row_level, small_in}
+use Rattle.lc_picture.specs.{declared.{scale.Scale.Scale, small_directories.SmallDirectories.SmallDirectories}, Colours.main_colour}
+use Rattle.lc_picture.specs.{Colours.{path_of, rows_from, shared_colour}, Pieces.{Piece, count, markup, name, percent, share, share_pieces}}
+use Rattle.lc_picture.specs.{Pieces.{sums_pieces, title, word}, Small.{row_level, small_in}}
 
 -- a box: the path of its directory or file, the part of the path that follows the parent directory, how many directories are above it, its
 -- colour, the sums over the files in it and below it, the small directories right in it, and whether it is a file

@@ -1,13 +1,9 @@
 -- The bar chart of the rows of a sheet.
-use Rattle.std.specs.Prelude.{ℕ, ◌-◌, min, List, [], ◌∷◌, ◌++◌, flat_map, codes}
-use Rattle.std.specs.List.{enumerate_from}
-use Rattle.lc_sheet.specs.Sheets.{SheetModel}
+use Rattle.std.specs.{Prelude.{ℕ, ◌-◌, min, List, [], ◌∷◌, ◌++◌, flat_map, codes}, List.enumerate_from}
+use Rattle.lc_sheet.specs.{Sheets.SheetModel, Values.ValueModel}
+use Rattle.lc_text.specs.{Names.named, Visible.{visible_bytes, visible_path}}
+use Rattle.lc_picture.specs.{Colours.shared_colour, Pieces.{Piece, count, markup, name, percent, share}}
 use Rattle.lc_sheet.specs.Values as value
-use Rattle.lc_sheet.specs.Values.{ValueModel}
-use Rattle.lc_text.specs.Names.{named}
-use Rattle.lc_text.specs.Visible.{visible_bytes, visible_path}
-use Rattle.lc_picture.specs.Colours.{shared_colour}
-use Rattle.lc_picture.specs.Pieces.{Piece, count, markup, name, percent, share}
 
 -- the cell of a text, which is the first cell of its line
 abbrev pub name_cell : List ℕ → List Piece

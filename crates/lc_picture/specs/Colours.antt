@@ -1,8 +1,7 @@
 -- The colours of extensions and of directories. Here a colour is a number.
-use Rattle.std.specs.Prelude.{ℕ, ◌+◌, nat_lt, Bool, true, false, bytes_eq, if◌then◌else◌, min, max, List, [], ◌∷◌, unwrap_or}
-use Rattle.std.specs.Prelude.{Option, Some, None}
-use Rattle.lc_rows.specs.RowKeys.{ShownRowModel}
-use Rattle.lc_rows.specs.ShownRows.{number_in}
+use Rattle.std.specs.Prelude.{ℕ, ◌+◌, nat_lt, Bool, true, false, bytes_eq, if◌then◌else◌, min, max, List, [], ◌∷◌, unwrap_or, Option}
+use Rattle.std.specs.Prelude.{Some, None}
+use Rattle.lc_rows.specs.{RowKeys.ShownRowModel, ShownRows.number_in}
 use Rattle.lc_sheet.specs.declared.column.Number.{Number}
 
 abbrev pub same_extension : Option (List ℕ) → Option (List ℕ) → Bool

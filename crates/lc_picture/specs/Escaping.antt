@@ -1,6 +1,5 @@
 -- Texts in HTML: bytes that could be markup are character references.
-use Rattle.std.specs.Prelude.{ℕ, ◌+◌, ◌/◌, ◌%◌, nat_eq, Bool, if◌then◌else◌, List, [], ◌∷◌, flat_map, codes}
-use Rattle.std.specs.List.{list_any}
+use Rattle.std.specs.{Prelude.{ℕ, ◌+◌, ◌/◌, ◌%◌, nat_eq, Bool, if◌then◌else◌, List, [], ◌∷◌, flat_map, codes}, List.list_any}
 
 -- the bytes that can begin or end a tag, a character reference or an attribute
 abbrev pub is_markup : ℕ → Bool

@@ -1,7 +1,6 @@
 -- The list, at the top of a page, of what could not be read.
 use Rattle.std.specs.Prelude.{ℕ, ◌-◌, nat_lt, if◌then◌else◌, List, [], ◌∷◌, ◌++◌, flat_map, length, take, codes}
-use Rattle.lc_level.specs.FaultLines.{FaultLineModel}
-use Rattle.lc_level.specs.FaultWords.{fault_word}
+use Rattle.lc_level.specs.{FaultLines.FaultLineModel, FaultWords.fault_word}
 use Rattle.lc_text.specs.Visible.{visible_path}
 use Rattle.lc_picture.specs.Pieces.{Piece, count, markup, name}
 

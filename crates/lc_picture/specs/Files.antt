@@ -1,15 +1,9 @@
 -- The files that have boxes of their own, in the boxes of the directories that hold them.
-use Rattle.std.specs.Prelude.{ℕ, ◌+◌, Bool, true, nat_le, bytes_eq, List, [], ◌∷◌, ◌++◌, map}
-use Rattle.std.specs.List.{filter}
-use Rattle.lc_rows.specs.Directories.{directory_of, level_of, name_of}
-use Rattle.lc_rows.specs.RowKeys.{ShownRowModel}
-use Rattle.lc_rows.specs.ShownFiles.{file_number}
+use Rattle.std.specs.{Prelude.{ℕ, ◌+◌, Bool, true, nat_le, bytes_eq, List, [], ◌∷◌, ◌++◌, map}, List.filter}
+use Rattle.lc_rows.specs.{Directories.{directory_of, level_of, name_of}, RowKeys.ShownRowModel, ShownFiles.file_number}
 use Rattle.lc_sheet.specs.declared.column.Number.{Number}
-use Rattle.lc_walk.specs.Extension.{extension_of}
-use Rattle.lc_walk.specs.Sums.{one_file}
-use Rattle.lc_picture.specs.Boxes.{BoxModel}
-use Rattle.lc_picture.specs.Colours.{colour_of}
-use Rattle.lc_picture.specs.Small.{no_directories}
+use Rattle.lc_walk.specs.{Extension.extension_of, Sums.one_file}
+use Rattle.lc_picture.specs.{Boxes.BoxModel, Colours.colour_of, Small.no_directories}
 use Rattle.lc_level.specs.Level.{FileLineModel}
 
 -- a file with a box of its own: the directory that holds it, cut after n names, and its box

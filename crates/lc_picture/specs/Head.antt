@@ -1,12 +1,9 @@
 -- The head of a page: what was counted, which number is drawn, and the sums over all files.
 use Rattle.std.specs.Prelude.{ℕ, List, [], ◌∷◌, ◌++◌, codes}
 use Rattle.lc_rows.specs.SheetLaws.{first_number}
-use Rattle.lc_sheet.specs.Sheets.{SectionModel}
-use Rattle.lc_sheet.specs.declared.column.Number.{Number}
-use Rattle.lc_sheet.specs.declared.column.Number.TheVariants.{Files, Lines, Blank, Bytes}
+use Rattle.lc_sheet.specs.{Sheets.SectionModel, declared.column.Number.{Number, TheVariants.{Files, Lines, Blank, Bytes}}}
 use Rattle.lc_text.specs.Visible.{visible_path}
-use Rattle.lc_picture.specs.Pieces.{Piece, count, markup, name, title, word}
-use Rattle.lc_picture.specs.Style.{body_begin, page_begin, style, style_begin}
+use Rattle.lc_picture.specs.{Pieces.{Piece, count, markup, name, title, word}, Style.{body_begin, page_begin, style, style_begin}}
 
 -- the part of a page between the name of what was counted and the name of the drawn number
 abbrev pub by_begin : List ℕ

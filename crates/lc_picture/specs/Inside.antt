@@ -1,10 +1,8 @@
 -- The law that a box opens inside the box of the directory that holds it.
 use Rattle.std.specs.Prelude.{◌≡◌, ℕ, if◌then◌else◌, List, [], ◌∷◌, ◌++◌, drop, length, ⊤}
 use Rattle.lc_text.specs.Visible.{visible_path}
-use Rattle.lc_picture.specs.declared.scale.Scale.{Scale}
-use Rattle.lc_picture.specs.Boxes.{BoxModel, boxes_in}
-use Rattle.lc_picture.specs.Laws.{ends_box}
-use Rattle.lc_picture.specs.Pieces.{Piece, count, markup, name, percent, share, title, word}
+use Rattle.lc_picture.specs.{declared.scale.Scale.Scale, Boxes.{BoxModel, boxes_in}, Laws.ends_box, Pieces.{Piece, count, markup, name}}
+use Rattle.lc_picture.specs.Pieces.{percent, share, title, word}
 
 -- the boxes that a reader of a page finds, each as its name and the names of the boxes around it, the innermost first. A name opens a box,
 -- and a closing tag ends the innermost box. `around` has the names of the boxes that are open

@@ -1,37 +1,20 @@
 -- The statements of the laws about pages.
 use Rattle.std.specs.Prelude.{◌≡◌, ◌+◌, ◌*◌, ◌-◌, ℕ, nat_eq, Bool, true, false, if◌then◌else◌, List, [], ◌∷◌, ◌++◌, map, flat_map, codes}
-use Rattle.std.specs.Prelude.{◌==◌, ◌<◌, bytes_eq, length, nat_le, nat_lt, take, Option, Some, None}
-use Rattle.std.specs.List.{Contains, filter, list_any, slice_index_or}
-use Rattle.lc_rows.specs.Directories.{directory_of}
-use Rattle.lc_rows.specs.RowKeys.{ShownRowModel}
-use Rattle.lc_rows.specs.SheetLaws.{first_number}
-use Rattle.lc_rows.specs.Sheets.{sheet_of}
-use Rattle.lc_rows.specs.ShownRows.{AreShown, number_in}
-use Rattle.lc_rows.specs.Views.{ViewModel}
-use Rattle.lc_sheet.specs.Sheets.{SectionModel, SheetModel}
-use Rattle.lc_sheet.specs.Values as value
-use Rattle.lc_sheet.specs.Values.{ValueModel}
-use Rattle.lc_sheet.specs.declared.column.Number.{Number}
+use Rattle.std.specs.{Prelude.{◌==◌, ◌<◌, bytes_eq, length, nat_le, nat_lt, take, Option, Some, None}, List.{Contains, filter, list_any}}
+use Rattle.std.specs.List.{slice_index_or}
+use Rattle.lc_rows.specs.{Directories.directory_of, RowKeys.ShownRowModel, SheetLaws.first_number, Sheets.sheet_of, ShownRows.AreShown}
+use Rattle.lc_rows.specs.{ShownRows.number_in, Views.ViewModel}
+use Rattle.lc_sheet.specs.{Sheets.{SectionModel, SheetModel}, Values.ValueModel, declared.column.Number.Number}
 use Rattle.lc_sheet.specs.declared.column.Number.TheVariants.{Files, Lines, Blank, Bytes}
-use Rattle.lc_walk.specs.TallyRows.{TallyRowModel}
-use Rattle.lc_walk.specs.declared.report.Report.{Report}
-use Rattle.lc_walk.specs.declared.tally.sums.Sums.{Sums}
-use Rattle.lc_text.specs.Names.{named}
-use Rattle.lc_text.specs.Visible.{visible_bytes, visible_path}
-use Rattle.lc_picture.specs.Boxes.{BoxModel, box_of, boxes_in, drawn_boxes, others_in}
-use Rattle.lc_picture.specs.Chart.{line_colour}
-use Rattle.lc_picture.specs.Colours.{colour_of}
-use Rattle.lc_picture.specs.Escaping.{html}
-use Rattle.lc_picture.specs.Faults.{faults_listed}
-use Rattle.lc_picture.specs.Files.{box_of_file, is_large, large_files, with_files}
-use Rattle.lc_picture.specs.Page.{chart_columns, chart_options, chart_view, page_pieces, scale_of}
-use Rattle.lc_picture.specs.Pieces.{Piece, count, markup, name, percent, share, title, word}
-use Rattle.lc_picture.specs.Small.{no_directories}
-use Rattle.lc_picture.specs.declared.scale.Scale.{Scale}
+use Rattle.lc_walk.specs.{TallyRows.TallyRowModel, declared.{report.Report.Report, tally.sums.Sums.Sums}}
+use Rattle.lc_text.specs.{Names.named, Visible.{visible_bytes, visible_path}}
+use Rattle.lc_picture.specs.{Boxes.{BoxModel, box_of, boxes_in, drawn_boxes, others_in}, Chart.line_colour, Colours.colour_of}
+use Rattle.lc_picture.specs.{Escaping.html, Faults.faults_listed, Files.{box_of_file, is_large, large_files, with_files}}
+use Rattle.lc_picture.specs.{Page.{chart_columns, chart_options, chart_view, page_pieces, scale_of}, Pieces.{Piece, count, markup, name}}
+use Rattle.lc_picture.specs.{Pieces.{percent, share, title, word}, Small.no_directories, declared.scale.Scale.Scale}
 use Rattle.lc_picture.specs.declared.small_directories.SmallDirectories.{SmallDirectories}
-use Rattle.lc_level.specs.FaultLines.{FaultLineModel}
-use Rattle.lc_level.specs.FaultWords.{fault_word}
-use Rattle.lc_level.specs.Level.{FileLineModel}
+use Rattle.lc_level.specs.{FaultLines.FaultLineModel, FaultWords.fault_word, Level.FileLineModel}
+use Rattle.lc_sheet.specs.Values as value
 
 -- whether a byte can begin or end a tag or an attribute
 abbrev pub is_tag_byte : ℕ → Bool

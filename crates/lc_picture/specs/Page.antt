@@ -1,28 +1,14 @@
 -- The page of a report: a head with the numbers of all files, a bar chart of its extensions, and the boxes of its directories.
 use Rattle.std.specs.Prelude.{◌≡◌, ℕ, true, false, List, [], ◌∷◌, ◌++◌, codes, unwrap_or, Option, Some, None}
-use Rattle.lc_rows.specs.RowKeys.{ShownRowModel}
-use Rattle.lc_rows.specs.Sheets.{sheet_of}
-use Rattle.lc_rows.specs.ShownRows.{AreShown, number_in}
-use Rattle.lc_rows.specs.TreeRows.{AreTreeRows}
-use Rattle.lc_rows.specs.Views.{ViewModel, view_of}
-use Rattle.lc_sheet.specs.Sheets.{SheetModel}
-use Rattle.lc_sheet.specs.declared.table_options.Columns.{Columns}
-use Rattle.lc_sheet.specs.declared.table_options.Format.TheVariants.{Html}
-use Rattle.lc_sheet.specs.declared.table_options.TableOptions.{TableOptions}
-use Rattle.lc_sheet.specs.declared.column.Number.{Number}
-use Rattle.lc_sheet.specs.declared.column.Number.TheVariants.{Lines}
-use Rattle.lc_walk.specs.declared.report.Report.{Report}
-use Rattle.lc_walk.specs.declared.tally.sums.Sums.{Sums}
-use Rattle.lc_picture.specs.declared.scale.Scale.{Scale}
-use Rattle.lc_picture.specs.Boxes.{BoxModel, boxes_in, drawn_boxes, least_drawn}
-use Rattle.lc_picture.specs.Chart.{chart}
-use Rattle.lc_picture.specs.Faults.{faults_part}
-use Rattle.lc_picture.specs.Files.{large_files, with_files}
-use Rattle.lc_picture.specs.Head.{head_part}
-use Rattle.lc_picture.specs.Places.{AreLargestFirst}
-use Rattle.lc_picture.specs.Pieces.{Piece, markup, text_of, word}
-use Rattle.lc_level.specs.FaultLines.{FaultLineModel}
-use Rattle.lc_level.specs.Level.{FileLineModel}
+use Rattle.lc_rows.specs.{RowKeys.ShownRowModel, Sheets.sheet_of, ShownRows.{AreShown, number_in}, TreeRows.AreTreeRows, Views.ViewModel}
+use Rattle.lc_rows.specs.Views.{view_of}
+use Rattle.lc_sheet.specs.{Sheets.SheetModel, declared.table_options.{Columns.Columns, Format.TheVariants.Html, TableOptions.TableOptions}}
+use Rattle.lc_sheet.specs.declared.column.Number.{Number, TheVariants.Lines}
+use Rattle.lc_walk.specs.declared.{report.Report.Report, tally.sums.Sums.Sums}
+use Rattle.lc_picture.specs.{declared.scale.Scale.Scale, Boxes.{BoxModel, boxes_in, drawn_boxes, least_drawn}, Chart.chart}
+use Rattle.lc_picture.specs.{Faults.faults_part, Files.{large_files, with_files}, Head.head_part, Places.AreLargestFirst, Pieces.Piece}
+use Rattle.lc_picture.specs.Pieces.{markup, text_of, word}
+use Rattle.lc_level.specs.{FaultLines.FaultLineModel, Level.FileLineModel}
 
 -- ---- the page of a sheet and of boxes
 

@@ -1,12 +1,9 @@
 -- The pieces of a page. Names are in pieces of their own, so all other pieces depend on numbers alone.
 use Rattle.std.specs.Prelude.{ℕ, List, [], ◌∷◌, flat_map, codes, decimal}
-use Rattle.lc_formats.specs.CellWords.{with_commas}
-use Rattle.lc_formats.specs.Shares.{rounded_parts, share_word}
-use Rattle.lc_sheet.specs.declared.column.Number.{Number}
-use Rattle.lc_sheet.specs.declared.column.Number.TheVariants.{Files, Lines, Blank, Bytes}
+use Rattle.lc_formats.specs.{CellWords.with_commas, Shares.{rounded_parts, share_word}}
+use Rattle.lc_sheet.specs.declared.column.Number.{Number, TheVariants.{Files, Lines, Blank, Bytes}}
 use Rattle.lc_walk.specs.declared.tally.sums.Sums.{Sums}
-use Rattle.lc_picture.specs.declared.scale.Scale.{Scale}
-use Rattle.lc_picture.specs.Escaping.{html}
+use Rattle.lc_picture.specs.{declared.scale.Scale.Scale, Escaping.html}
 
 abbrev pub number_word : Number → List ℕ
 number_word Files = codes "files"

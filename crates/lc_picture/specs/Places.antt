@@ -1,9 +1,6 @@
 -- The order of boxes: depth first, and the boxes right in the same box from the largest to the smallest.
-use Rattle.std.specs.Prelude.{◌≡◌, ◌<◌, ◌≤◌, ℕ, Bool, List, [], ◌∷◌, ◌++◌, length, map, take}
-use Rattle.std.specs.Cmp.Lexicographic.{slice_cmp}
-use Rattle.std.specs.List.{slice_index_or}
-use Rattle.std.specs.List.Sorted.{IsPermutation, IsSortedByKey}
-use Rattle.std.specs.Ordering.{bool_cmp, nat_cmp, on, then_cmp}
+use Rattle.std.specs.{Prelude.{◌≡◌, ◌<◌, ◌≤◌, ℕ, Bool, List, [], ◌∷◌, ◌++◌, length, map, take}, Cmp.Lexicographic.slice_cmp}
+use Rattle.std.specs.{List.{slice_index_or, Sorted.{IsPermutation, IsSortedByKey}}, Ordering.{bool_cmp, nat_cmp, on, then_cmp}}
 use Rattle.std.specs.declared.cmp.Ordering.{Ordering}
 use Rattle.lc_rows.specs.ShownRows.{number_in}
 use Rattle.lc_sheet.specs.declared.column.Number.{Number}

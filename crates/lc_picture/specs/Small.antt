@@ -1,12 +1,9 @@
 -- The directories that are too small for boxes of their own. One box shows all of them that are right in the same directory.
-use Rattle.std.specs.Prelude.{◌≡◌, ℕ, ◌+◌, ◌==◌, ◌&&◌, Bool, nat_le, nat_lt, if◌then◌else◌, List, [], ◌∷◌, length}
-use Rattle.std.specs.List.{filter, slice_index_or, sum_by}
-use Rattle.lc_rows.specs.Directories.{level_of}
-use Rattle.lc_rows.specs.RowKeys.{ShownRowModel}
-use Rattle.lc_rows.specs.ShownRows.{number_in}
+use Rattle.std.specs.{Prelude.{◌≡◌, ℕ, ◌+◌, ◌==◌, ◌&&◌, Bool, nat_le, nat_lt, if◌then◌else◌, List, [], ◌∷◌, length}, List.filter}
+use Rattle.std.specs.List.{slice_index_or, sum_by}
+use Rattle.lc_rows.specs.{Directories.level_of, RowKeys.ShownRowModel, ShownRows.number_in}
 use Rattle.lc_sheet.specs.declared.column.Number.{Number}
-use Rattle.lc_picture.specs.declared.small_directories.SmallDirectories.{SmallDirectories}
-use Rattle.lc_picture.specs.Colours.{path_of}
+use Rattle.lc_picture.specs.{declared.small_directories.SmallDirectories.SmallDirectories, Colours.path_of}
 
 -- how many directories are above the directory of a row
 abbrev pub row_level : ShownRowModel → ℕ

@@ -1,6 +1,5 @@
 use Rattle.std.proofs.Common.{ℕ, ◌++◌, ◌-◌, ap, ◌∙◌}
-use Rattle.lc_picture.specs.Boxes.{BoxModel, closings, opening, others_in}
-use Rattle.lc_picture.specs.Pieces.{text_of}
+use Rattle.lc_picture.specs.{Boxes.{BoxModel, closings, opening, others_in}, Pieces.text_of}
 use Rattle.lc_picture.proofs.Texts.{two_texts}
 use Rattle.lc_picture.proofs.boxes.push_box.Goals as goal
 

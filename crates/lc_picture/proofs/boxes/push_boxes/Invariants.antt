@@ -1,6 +1,5 @@
 use Rattle.std.proofs.Common.{◌≡◌, ◌++◌, drop}
-use Rattle.lc_picture.specs.Boxes.{boxes_in}
-use Rattle.lc_picture.specs.Pieces.{text_of}
+use Rattle.lc_picture.specs.{Boxes.boxes_in, Pieces.text_of}
 use Rattle.lc_picture.proofs.boxes.push_boxes.Given as goal
 
 abbrev pub invariant-loop-index : goal.invariant-loop-index

@@ -1,7 +1,6 @@
 use Rattle.std.proofs.Common.{ℕ, ◌++◌, ap, ◌∙◌}
 use Rattle.lc_rows.specs.ShownRows.{number_in}
-use Rattle.lc_picture.specs.Boxes.{BoxModel, label, opening, space, tag, title_of}
-use Rattle.lc_picture.specs.Pieces.{text_of}
+use Rattle.lc_picture.specs.{Boxes.{BoxModel, label, opening, space, tag, title_of}, Pieces.text_of}
 use Rattle.lc_picture.proofs.Texts.{two_texts}
 use Rattle.lc_picture.proofs.boxes.push_opening.Goals as goal
 

@@ -1,7 +1,6 @@
 use Rattle.std.proofs.Common.{ℕ, List, ◌++◌, ap, ◌∙◌, codes, decimal}
 use Rattle.lc_rows.specs.ShownRows.{number_in}
-use Rattle.lc_picture.specs.Boxes.{is_open, tag_end}
-use Rattle.lc_picture.specs.Pieces.{markup, share}
+use Rattle.lc_picture.specs.{Boxes.{is_open, tag_end}, Pieces.{markup, share}}
 use Rattle.lc_picture.proofs.Texts.{five_pieces}
 use Rattle.lc_picture.proofs.boxes.push_tag.Goals as goal
 

@@ -1,7 +1,6 @@
 use Rattle.std.proofs.Common.{◌≡◌, ◌++◌, length}
 use Rattle.lc_sheet.specs.Sheets.{line_of}
-use Rattle.lc_picture.specs.Chart.{cells_in}
-use Rattle.lc_picture.specs.Pieces.{text_of}
+use Rattle.lc_picture.specs.{Chart.cells_in, Pieces.text_of}
 use Rattle.lc_picture.proofs.cells.push_cells_in.Given as goal
 
 abbrev pub invariant-columns : goal.invariant-columns

@@ -1,6 +1,5 @@
 use Rattle.std.proofs.Common.{ℕ, ◌++◌, ap, ◌∙◌, codes, decimal}
-use Rattle.lc_picture.specs.Chart.{line_colour}
-use Rattle.lc_picture.specs.Pieces.{markup, share}
+use Rattle.lc_picture.specs.{Chart.line_colour, Pieces.{markup, share}}
 use Rattle.lc_picture.proofs.Texts.{three_pieces}
 use Rattle.lc_picture.proofs.chart.push_coloured.Goals as goal
 

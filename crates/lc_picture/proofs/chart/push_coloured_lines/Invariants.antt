@@ -1,7 +1,6 @@
 use Rattle.std.proofs.Common.{◌≡◌, ◌++◌, drop}
 use Rattle.lc_sheet.specs.Sheets.{lines_of}
-use Rattle.lc_picture.specs.Chart.{coloured_lines}
-use Rattle.lc_picture.specs.Pieces.{text_of}
+use Rattle.lc_picture.specs.{Chart.coloured_lines, Pieces.text_of}
 use Rattle.lc_picture.proofs.chart.push_coloured_lines.Given as goal
 
 abbrev pub invariant-loop-place : goal.invariant-loop-place

@@ -1,7 +1,6 @@
 use Rattle.std.proofs.Common.{◌≡◌, ◌++◌, length}
 use Rattle.lc_sheet.specs.Sheets.{lines_of}
-use Rattle.lc_picture.specs.Chart.{plain_lines}
-use Rattle.lc_picture.specs.Pieces.{text_of}
+use Rattle.lc_picture.specs.{Chart.plain_lines, Pieces.text_of}
 use Rattle.lc_picture.proofs.chart.push_plain_lines.Given as goal
 
 abbrev pub invariant-lines : goal.invariant-lines

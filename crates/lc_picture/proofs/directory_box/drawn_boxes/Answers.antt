@@ -1,15 +1,11 @@
-use Rattle.std.proofs.Common.{◌≡◌, ℕ, ◌+◌, ◌++◌, ◌∷◌, [], List, Vec, drop, get_or, ap, ap₂, ◌∙◌, arith}
+use Rattle.std.proofs.{Common.{◌≡◌, ℕ, ◌+◌, ◌++◌, ◌∷◌, [], List, Vec, drop, get_or, ap, ap₂, ◌∙◌, arith}, lemmas.Bool.{le-leb, lt-leb}}
 use Rattle.std.specs.Global.{Global}
-use Rattle.std.proofs.lemmas.Bool.{le-leb, lt-leb}
-use Rattle.lc_rows.specs.RowKeys.{ShownRowModel}
-use Rattle.lc_rows.specs.ShownRows.{number_in}
-use Rattle.lc_picture.specs.declared.small_directories.SmallDirectories.{SmallDirectories}
-use Rattle.lc_picture.specs.Boxes.{BoxModel, box_of, coloured, drawn_boxes}
-use Rattle.lc_picture.specs.Colours.{main_colour, rows_from, shared_colour}
-use Rattle.lc_picture.specs.Small.{no_directories}
-use Rattle.lc_picture.proofs.DrawnRows.{drawn_more, passed_over}
+use Rattle.lc_rows.specs.{RowKeys.ShownRowModel, ShownRows.number_in}
+use Rattle.lc_picture.specs.{declared.small_directories.SmallDirectories.SmallDirectories, Boxes.{BoxModel, box_of, coloured, drawn_boxes}}
+use Rattle.lc_picture.specs.{Colours.{main_colour, rows_from, shared_colour}, Small.no_directories}
+use Rattle.lc_picture.proofs.{DrawnRows.{drawn_more, passed_over}, directory_box.drawn_boxes.Goals.then-number_in-least+in_ok-place}
+use Rattle.lc_picture.proofs.directory_box.drawn_boxes.Goals.{else-number_in-least}
 use Rattle.lc_picture.proofs.directory_box.drawn_boxes.Goals as goal
-use Rattle.lc_picture.proofs.directory_box.drawn_boxes.Goals.{then-number_in-least+in_ok-place, else-number_in-least}
 
 pub loop-index-preserved : goal.loop-index-preserved
 loop-index-preserved c =

@@ -1,5 +1,4 @@
-use Rattle.std.proofs.Common.{◌≡◌, length, min, take, ap, ◌∙◌, arith}
-use Rattle.std.proofs.lemmas.List.{take_min}
+use Rattle.std.proofs.{Common.{◌≡◌, length, min, take, ap, ◌∙◌, arith}, lemmas.List.take_min}
 use Rattle.lc_picture.specs.Faults.{faults_listed}
 use Rattle.lc_picture.proofs.faults.first_faults.Goals as goal
 

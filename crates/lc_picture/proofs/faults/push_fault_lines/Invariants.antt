@@ -1,6 +1,5 @@
 use Rattle.std.proofs.Common.{◌≡◌, ◌++◌, drop}
-use Rattle.lc_picture.specs.Faults.{fault_lines}
-use Rattle.lc_picture.specs.Pieces.{text_of}
+use Rattle.lc_picture.specs.{Faults.fault_lines, Pieces.text_of}
 use Rattle.lc_picture.proofs.faults.push_fault_lines.Given as goal
 
 abbrev pub invariant-loop-fault : goal.invariant-loop-fault

@@ -1,7 +1,6 @@
 use Rattle.std.proofs.Common.{◌≡◌, ◌<◌, ◌++◌, List, [], ◌∷◌, length, take, ap, refl, ◌∙◌, arith, rules}
 use Rattle.lc_level.specs.FaultLines.{FaultLineModel}
-use Rattle.lc_picture.specs.Faults.{fault_lines, faults_begin, faults_end, faults_listed, faults_part}
-use Rattle.lc_picture.specs.Pieces.{text_of}
+use Rattle.lc_picture.specs.{Faults.{fault_lines, faults_begin, faults_end, faults_listed, faults_part}, Pieces.text_of}
 use Rattle.lc_picture.proofs.Texts.{two_texts}
 use Rattle.lc_picture.proofs.faults.push_faults.Goals as goal
 

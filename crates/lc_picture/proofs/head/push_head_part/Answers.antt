@@ -1,6 +1,5 @@
 use Rattle.std.proofs.Common.{◌++◌, codes}
-use Rattle.lc_picture.specs.Head.{figures_end, figures_of, heading, page_top}
-use Rattle.lc_picture.specs.Pieces.{markup}
+use Rattle.lc_picture.specs.{Head.{figures_end, figures_of, heading, page_top}, Pieces.markup}
 use Rattle.lc_picture.proofs.Texts.{one_piece, two_texts}
 use Rattle.lc_picture.proofs.head.push_head_part.Goals as goal
 

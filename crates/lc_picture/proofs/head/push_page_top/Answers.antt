@@ -1,7 +1,6 @@
 use Rattle.std.proofs.Common.{ℕ, List, [], ◌∷◌, ◌++◌, ap, ◌∙◌, codes}
 use Rattle.lc_text.specs.Visible.{visible_path}
-use Rattle.lc_picture.specs.Pieces.{Piece, markup, title, word}
-use Rattle.lc_picture.specs.Style.{page_begin, style, style_begin}
+use Rattle.lc_picture.specs.{Pieces.{Piece, markup, title, word}, Style.{page_begin, style, style_begin}}
 use Rattle.lc_picture.proofs.Texts.{three_pieces, two_texts}
 use Rattle.lc_picture.proofs.head.push_page_top.Goals as goal
 

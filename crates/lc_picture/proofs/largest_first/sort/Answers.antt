@@ -1,8 +1,5 @@
-use Rattle.std.proofs.Common.{rules}
-use Rattle.std.specs.Cmp.Lexicographic.{slice_cmp}
-use Rattle.std.specs.Ordering.{is_lt}
-use Rattle.std.proofs.lemmas.Fn.{always_returns_same}
-use Rattle.std.proofs.lemmas.List.Sorted.{ranks_by}
+use Rattle.std.proofs.{Common.rules, lemmas.{Fn.always_returns_same, List.Sorted.ranks_by}}
+use Rattle.std.specs.{Cmp.Lexicographic.slice_cmp, Ordering.is_lt}
 use Rattle.lc_picture.specs.Places.{PlacedModel, place_cmp}
 use Rattle.lc_picture.proofs.Falling.{branches_total}
 use Rattle.lc_picture.proofs.largest_first.sort.Goals as goal

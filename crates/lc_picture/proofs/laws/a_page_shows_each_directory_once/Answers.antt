@@ -1,5 +1,4 @@
-use Rattle.lc_picture.proofs.Outlines.{drawn_law, shown_law}
-use Rattle.lc_picture.proofs.ReportShown.{report_law}
+use Rattle.lc_picture.proofs.{Outlines.{drawn_law, shown_law}, ReportShown.report_law}
 use Rattle.lc_picture.proofs.laws.a_page_shows_each_directory_once.Goals as goal
 
 pub returns-clause-shown : goal.returns-clause-shown

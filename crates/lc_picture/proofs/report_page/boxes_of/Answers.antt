@@ -1,9 +1,6 @@
 use Rattle.std.proofs.Common.{◌≡◌, ℕ, List, ap, ap₂, ◌∙◌, subst}
-use Rattle.lc_rows.specs.RowKeys.{ShownRowModel}
-use Rattle.lc_rows.specs.ShownRows.{number_in}
-use Rattle.lc_picture.specs.Boxes.{BoxModel, drawn_boxes, least_drawn}
-use Rattle.lc_picture.specs.Files.{FileBoxModel, large_files, with_files}
-use Rattle.lc_picture.specs.Page.{tree_depth}
+use Rattle.lc_rows.specs.{RowKeys.ShownRowModel, ShownRows.number_in}
+use Rattle.lc_picture.specs.{Boxes.{BoxModel, drawn_boxes, least_drawn}, Files.{FileBoxModel, large_files, with_files}, Page.tree_depth}
 use Rattle.lc_picture.specs.Places.{AreLargestFirst}
 use Rattle.lc_picture.proofs.report_page.boxes_of.Goals as goal
 

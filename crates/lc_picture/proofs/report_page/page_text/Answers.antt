@@ -1,9 +1,6 @@
 use Rattle.std.proofs.Common.{ℕ, List, ◌++◌, ap, ◌∙◌}
 use Rattle.lc_sheet.specs.Sheets.{SheetModel}
-use Rattle.lc_picture.specs.Faults.{faults_part}
-use Rattle.lc_picture.specs.Head.{head_part}
-use Rattle.lc_picture.specs.Page.{chart_part, page_pieces, tree_part}
-use Rattle.lc_picture.specs.Pieces.{text_of}
+use Rattle.lc_picture.specs.{Faults.faults_part, Head.head_part, Page.{chart_part, page_pieces, tree_part}, Pieces.text_of}
 use Rattle.lc_picture.proofs.Texts.{two_texts}
 use Rattle.lc_picture.proofs.report_page.page_text.Goals as goal
 

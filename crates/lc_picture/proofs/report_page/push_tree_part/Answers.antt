@@ -1,7 +1,5 @@
 use Rattle.std.proofs.Common.{ℕ, List, [], ◌∷◌, ◌++◌, ap, ◌∙◌, codes}
-use Rattle.lc_picture.specs.Boxes.{boxes_in}
-use Rattle.lc_picture.specs.Page.{boxes_begin, tree_begin}
-use Rattle.lc_picture.specs.Pieces.{Piece, markup, word}
+use Rattle.lc_picture.specs.{Boxes.boxes_in, Page.{boxes_begin, tree_begin}, Pieces.{Piece, markup, word}}
 use Rattle.lc_picture.proofs.Texts.{one_piece, three_pieces, two_texts}
 use Rattle.lc_picture.proofs.report_page.push_tree_part.Goals as goal
 

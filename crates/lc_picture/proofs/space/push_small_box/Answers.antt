@@ -1,6 +1,5 @@
 use Rattle.std.proofs.Common.{ℕ, List, [], ◌∷◌, ◌++◌, ap, ◌∙◌, codes}
-use Rattle.lc_picture.specs.Boxes.{small_number, small_word}
-use Rattle.lc_picture.specs.Pieces.{count, markup, share}
+use Rattle.lc_picture.specs.{Boxes.{small_number, small_word}, Pieces.{count, markup, share}}
 use Rattle.lc_picture.proofs.Texts.{five_pieces, two_texts}
 use Rattle.lc_picture.proofs.space.push_small_box.Goals as goal
 

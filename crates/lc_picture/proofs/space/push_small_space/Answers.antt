@@ -1,9 +1,6 @@
-use Rattle.std.proofs.Common.{◌≡◌, ◌≤◌, ◌++◌, List, refl, sym, ap, ◌∙◌, arith}
-use Rattle.std.proofs.lemmas.Bool.{le-leb}
-use Rattle.lc_picture.specs.declared.scale.Scale.{Scale}
-use Rattle.lc_picture.specs.declared.small_directories.SmallDirectories.{SmallDirectories}
-use Rattle.lc_picture.specs.Boxes.{small_box, small_space}
-use Rattle.lc_picture.specs.Pieces.{Piece, text_of}
+use Rattle.std.proofs.{Common.{◌≡◌, ◌≤◌, ◌++◌, List, refl, sym, ap, ◌∙◌, arith}, lemmas.Bool.le-leb}
+use Rattle.lc_picture.specs.{declared.{scale.Scale.Scale, small_directories.SmallDirectories.SmallDirectories}, Boxes.small_box}
+use Rattle.lc_picture.specs.{Boxes.small_space, Pieces.{Piece, text_of}}
 use Rattle.lc_picture.proofs.space.push_small_space.Goals as goal
 
 some_small : (scale : Scale) (small : SmallDirectories) → 1 ≤ small.count → small_space scale small ≡ small_box scale small
