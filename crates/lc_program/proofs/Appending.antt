@@ -1,7 +1,6 @@
 -- Texts that are appended one after another.
 use Rattle.std.proofs.Common.{◌≡◌, ◌∙◌, ◌++◌, ◌+◌, ◌<◌, ℕ, List, [], ◌∷◌, ap, ap₂, append_assoc, get_or, length, sym, take}
-use Rattle.std.proofs.lemmas.Grind.{flat_map-append}
-use Rattle.std.proofs.lemmas.List.{append-nil, take_more}
+use Rattle.std.proofs.lemmas.{Grind.flat_map-append, List.{append-nil, take_more}}
 use Rattle.std.specs.List.{flat_map}
 
 pub appended : (old one two new a b c : List ℕ) → one ≡ old ++ a → two ≡ one ++ b → new ≡ two ++ c → new ≡ old ++ (a ++ b ++ c)

@@ -3,15 +3,11 @@ use Rattle.std.proofs.Common.{◌≡◌, ℕ, List, Result, Ok, Err, inr, subst}
 use Rattle.std.specs.Result.{IsErrAnd}
 use Rattle.lc_arguments.specs.declared.diff.DiffRequest.{DiffRequest}
 use Rattle.lc_changes.specs.declared.options.ChangeOptions.{ChangeOptions}
-use Rattle.lc_io.specs.declared.printing.PrintFault.{PrintFault}
-use Rattle.lc_io.specs.declared.source.Failed.{Failed}
-use Rattle.lc_program.specs.Causes.{print_cause}
-use Rattle.lc_program.specs.Differences.{AnswersChanges, PrintsChanges, change_options}
-use Rattle.lc_program.specs.declared.cause.Cause.{Cause}
+use Rattle.lc_io.specs.declared.{printing.PrintFault.PrintFault, source.Failed.Failed}
+use Rattle.lc_program.specs.{Causes.print_cause, Differences.{AnswersChanges, PrintsChanges, change_options}, declared.cause.Cause.Cause}
 use Rattle.lc_program.specs.declared.comparison.Comparison.{Comparison}
 use Rattle.lc_rows.specs.Kept.{IsKept}
-use Rattle.lc_sheet.specs.Conditions.{ConditionModel}
-use Rattle.lc_sheet.specs.declared.table_options.Format.{Format}
+use Rattle.lc_sheet.specs.{Conditions.ConditionModel, declared.table_options.Format.Format}
 use Rattle.lc_walk.specs.declared.report.Report.{Report}
 
 module _ {O : Type 0} (may_take : O → List ℕ → Result ℕ Failed → O → Type 0) (other : Format) (d : DiffRequest) (old new : Report) where

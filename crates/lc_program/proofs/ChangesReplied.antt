@@ -1,14 +1,8 @@
 -- Comparisons that are replied.
 use Rattle.std.proofs.Common.{◌≡◌, ℕ, List, Result, Ok, Err, ap, refl, subst, sym}
-use Rattle.std.specs.Global.{Global}
-use Rattle.std.specs.Prelude.{String, string_bytes}
-use Rattle.std.specs.Result.{IsErrAnd}
-use Rattle.lc_program.specs.Differences.{IsCompareReply}
-use Rattle.lc_program.specs.Replies.{Reply}
-use Rattle.lc_program.specs.Unnamed.{AreUnnamedLines}
-use Rattle.lc_program.specs.declared.answered.Answered.TheVariants.{Compared}
-use Rattle.lc_program.specs.declared.cause.Cause.{Cause}
-use Rattle.lc_program.specs.declared.comparison.Comparison.{Comparison}
+use Rattle.std.specs.{Global.Global, Prelude.{String, string_bytes}, Result.IsErrAnd}
+use Rattle.lc_program.specs.{Differences.IsCompareReply, Replies.Reply, Unnamed.AreUnnamedLines}
+use Rattle.lc_program.specs.declared.{answered.Answered.TheVariants.Compared, cause.Cause.Cause, comparison.Comparison.Comparison}
 
 -- the cause of a comparison that was passed on is the reply
 pub compare_replied : (attributes : List (List ℕ)) (reply : Reply) (answer : Result Comparison Cause) (cause : Cause)

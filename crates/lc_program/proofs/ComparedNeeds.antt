@@ -1,18 +1,14 @@
 -- What a comparison needs of its sides.
 use Rattle.std.proofs.Common.{◌≡◌, ◌||◌, ℕ, Bool, true, false, if◌then◌else◌, List, Result, is_some, refl, subst, ap, ◌∙◌, sym}
-use Rattle.lc_arguments.specs.declared.diff.DiffRequest.{DiffRequest}
-use Rattle.lc_arguments.specs.declared.walk_request.WalkRequest.{WalkRequest}
+use Rattle.lc_arguments.specs.declared.{diff.DiffRequest.DiffRequest, walk_request.WalkRequest.WalkRequest}
 use Rattle.lc_changes.specs.ChangeSheets.{needs_files}
 use Rattle.lc_io.specs.Reads.{Answer}
-use Rattle.lc_program.specs.Differences.{change_options, compared_columns, compared_needs}
-use Rattle.lc_program.specs.Sides.{GivesSides}
-use Rattle.lc_program.specs.Systems.{SystemMay}
+use Rattle.lc_program.specs.{Differences.{change_options, compared_columns, compared_needs}, Sides.GivesSides, Systems.SystemMay}
 use Rattle.lc_program.specs.declared.cause.Cause.{Cause}
-use Rattle.lc_sheet.specs.Conditions as condition
 use Rattle.lc_sheet.specs.declared.table_options.Format.{Format}
 use Rattle.lc_sums.specs.declared.needs.Needs.{Needs}
-use Rattle.lc_walk.specs.declared.options.Options.{Options}
-use Rattle.lc_walk.specs.declared.report.Report.{Report}
+use Rattle.lc_walk.specs.declared.{options.Options.Options, report.Report.Report}
+use Rattle.lc_sheet.specs.Conditions as condition
 
 either : (a b c : Bool) → (if a then true else b) ≡ true → (a || b || c) ≡ true
 either true b c is = refl

@@ -1,14 +1,9 @@
 -- How the program ends once a request is answered, or a text is shown.
 use Rattle.std.proofs.Common.{Bool, true, false, List, ℕ, inl, inr}
-use Rattle.lc_text.specs.declared.outcome.Outcome.{Outcome}
-use Rattle.lc_text.specs.declared.outcome.Outcome.TheVariants.{Clean, SomeFaults}
-use Rattle.lc_program.specs.Program.{Ends, EndsAnswered, Shows, StreamsMay}
-use Rattle.lc_program.specs.Replies.{ending_by}
-use Rattle.lc_program.specs.Systems.{SystemMay}
-use Rattle.lc_program.specs.declared.ending.Ending.{Ending}
+use Rattle.lc_text.specs.declared.outcome.Outcome.{Outcome, TheVariants.{Clean, SomeFaults}}
+use Rattle.lc_program.specs.{Program.{Ends, EndsAnswered, Shows, StreamsMay}, Replies.ending_by, Systems.SystemMay}
+use Rattle.lc_program.specs.declared.{ending.Ending.Ending, streams.{Streams.Streams, Terminals.Terminals}}
 use Rattle.lc_program.specs.declared.ending.Ending.TheVariants as end
-use Rattle.lc_program.specs.declared.streams.Streams.{Streams}
-use Rattle.lc_program.specs.declared.streams.Terminals.{Terminals}
 
 module _ {I O E : Type 0} (system : SystemMay) (may : StreamsMay I O E) (words : List (List ℕ)) (terminals : Terminals) where
   -- an answer may end it in each way in which an answer ends

@@ -4,12 +4,8 @@ use Rattle.std.specs.Borrow.{Bor}
 use Rattle.lc_arguments.specs.declared.walk_request.WalkRequest.{WalkRequest}
 use Rattle.lc_level.specs.Filters.{FiltersModel, narrowed}
 use Rattle.lc_text.specs.declared.lines.PathEnd.{PathEnd}
-use Rattle.lc_walk.specs.declared.options.Options.{Options}
-use Rattle.lc_walk.specs.declared.options.ReportLists.{ReportLists}
-use Rattle.lc_program.specs.WalkRequests.{IsAskedBy}
-use Rattle.lc_program.specs.Filters.{filters_of}
-use Rattle.lc_program.specs.PathLists.{AnswersWanted}
-use Rattle.lc_program.specs.declared.cause.Cause.TheVariants.{Memory}
+use Rattle.lc_walk.specs.declared.options.{Options.Options, ReportLists.ReportLists}
+use Rattle.lc_program.specs.{WalkRequests.IsAskedBy, Filters.filters_of, PathLists.AnswersWanted, declared.cause.Cause.TheVariants.Memory}
 
 -- memory may be refused to paths at any time
 pub memory_wanted : (only : List (List ℕ)) (name : Option (Bor (List ℕ))) (end : PathEnd) (list : List ℕ)

@@ -5,10 +5,7 @@ use Rattle.lc_program.specs.Finds.{IsWalkedBelow}
 use Rattle.lc_reports.specs.Joined.{IsJoined}
 use Rattle.lc_tree.specs.Trees.{Listings, Contents}
 use Rattle.lc_walk.proofs.ReportTotals.{walked_lists}
-use Rattle.lc_walk.specs.Walks.{Walks}
-use Rattle.lc_walk.specs.declared.options.Options.{Options}
-use Rattle.lc_walk.specs.declared.options.ReportLists.{ReportLists}
-use Rattle.lc_walk.specs.declared.report.Report.{Report}
+use Rattle.lc_walk.specs.{Walks.Walks, declared.{options.{Options.Options, ReportLists.ReportLists}, report.Report.Report}}
 
 module _ (list : List ℕ → List ℕ → Listings) (give : List ℕ → List ℕ → Contents) (o : Options) where
   both : (a b : Bool) → a ≡ true → b ≡ true → (a && b) ≡ true

@@ -1,14 +1,10 @@
 -- What is found in directories by their names.
 use Rattle.std.proofs.Common.{◌≡◌, ◌≢◌, ℕ, ◌<◌, List, [], ◌∷◌, length, get_or, Result, Ok, Err, IfErr, IfOk, refl, arith, subst, sym}
 use Rattle.std.proofs.lemmas.List.{get_or-map, length-map}
-use Rattle.std.specs.Borrow.{Bor}
-use Rattle.std.specs.List.{Contains}
-use Rattle.std.specs.Result.{IsErrAnd}
+use Rattle.std.specs.{Borrow.Bor, List.Contains, Result.IsErrAnd}
 use Rattle.lc_program.proofs.NamesTaken.{names}
-use Rattle.lc_program.specs.Finds.{Finds, FindsNone, JoinsNone, JoinsWalks}
-use Rattle.lc_program.specs.declared.cause.Cause.{Cause}
-use Rattle.lc_walk.specs.declared.report.Report.{Report}
-use Rattle.lc_walk.specs.declared.walk_fault.WalkFault.{WalkFault}
+use Rattle.lc_program.specs.{Finds.{Finds, FindsNone, JoinsNone, JoinsWalks}, declared.cause.Cause.Cause}
+use Rattle.lc_walk.specs.declared.{report.Report.Report, walk_fault.WalkFault.WalkFault}
 
 -- a cause that was passed on
 pub passed_on : {A : Type 0} (P : Cause → Type 0) (answer : Result A Cause) (cause : Cause) → IsErrAnd answer (λ given. given ≡ cause)

@@ -1,16 +1,10 @@
 -- Faults that are passed on as replies.
 use Rattle.std.proofs.Common.{◌≡◌, ◌∙◌, ℕ, List, Result, Ok, Err, ap, refl, subst, sym}
-use Rattle.std.specs.Prelude.{String, string_bytes}
-use Rattle.std.specs.Global.{Global}
-use Rattle.std.specs.Result.{IsErrAnd}
+use Rattle.std.specs.{Prelude.{String, string_bytes}, Global.Global, Result.IsErrAnd}
 use Rattle.lc_text.specs.declared.check_fault.CheckFault.{CheckFault}
 use Rattle.lc_walk.specs.declared.report.Report.{Report}
-use Rattle.lc_program.specs.Causes.{check_cause}
-use Rattle.lc_program.specs.Replies.{IsRunReply, Reply, checked}
-use Rattle.lc_program.specs.Sums.{sum_reply}
-use Rattle.lc_program.specs.Unnamed.{AreUnnamedLines}
-use Rattle.lc_program.specs.declared.answered.Answered.TheVariants.{Counted}
-use Rattle.lc_program.specs.declared.cause.Cause.{Cause}
+use Rattle.lc_program.specs.{Causes.check_cause, Replies.{IsRunReply, Reply, checked}, Sums.sum_reply, Unnamed.AreUnnamedLines}
+use Rattle.lc_program.specs.declared.{answered.Answered.TheVariants.Counted, cause.Cause.Cause}
 
 -- the fault of a check that was passed on is the reply
 pub fault_replied : (reply : Reply) (answer : Result (Unit {0}) CheckFault) (fault : CheckFault)

@@ -1,16 +1,10 @@
 -- Names that were gone through one after another.
-use Rattle.std.proofs.Common.{◌≡◌, ℕ, ◌+◌, ◌<◌, List, [], ◌∷◌, ◌++◌, length, map, take, drop, get_or, Option, None, refl, sym, ◌∙◌}
-use Rattle.std.proofs.Common.{ap, subst}
-use Rattle.std.proofs.Common.{append-nil, append_assoc}
-use Rattle.std.proofs.lemmas.List.{drop_more, map-append, nil_from_length, take_more}
-use Rattle.std.specs.Borrow.{Bor}
-use Rattle.std.specs.List.{AllZip}
+use Rattle.std.proofs.Common.{◌≡◌, ℕ, ◌+◌, ◌<◌, List, [], ◌∷◌, ◌++◌, length, map, take, drop, get_or, Option, None, refl, sym, ◌∙◌, ap}
+use Rattle.std.proofs.{Common.{subst, append-nil, append_assoc}, lemmas.List.{drop_more, map-append, nil_from_length, take_more}}
+use Rattle.std.specs.{Borrow.Bor, List.AllZip}
 use Rattle.lc_level.specs.FaultLines.{FaultLineModel}
-use Rattle.lc_program.specs.Faults.{AreTopLines, IsTopLine, has_path, top_path}
-use Rattle.lc_program.specs.Hints.{first_above}
-use Rattle.lc_program.specs.Nested.{place_if, places_of}
-use Rattle.lc_program.specs.declared.repository.Repository.{Repository}
-use Rattle.lc_program.specs.declared.unread_reason.UnreadReason.{UnreadReason}
+use Rattle.lc_program.specs.{Faults.{AreTopLines, IsTopLine, has_path, top_path}, Hints.first_above, Nested.{place_if, places_of}}
+use Rattle.lc_program.specs.declared.{repository.Repository.Repository, unread_reason.UnreadReason.UnreadReason}
 
 abbrev pub names : List (Bor (List ℕ)) → List (List ℕ)
 names ds = map (λ d. d.now) ds

@@ -1,24 +1,14 @@
 -- Places in order of their paths: what one holds comes next after it.
 use Rattle.std.proofs.Common.{◌≡◌, ◌⊎◌, inl, inr, ℕ, ◌+◌, ◌<◌, ◌≤◌, Bool, Result, Ok, Err, IfErr, true, false, List, [], ◌∷◌, ◌++◌}
-use Rattle.std.proofs.Common.{length, take, drop, get_or, refl, sym, ◌∙◌}
-use Rattle.std.proofs.Common.{ap, ap₂, append_assoc, subst, arith, ◌-◌, take_all, IsPermutation, nat_cmp, nat_eq, append-nil, le_antisymm}
-use Rattle.std.proofs.Common.{suc-add, take-append-drop, zero, suc}
-use Rattle.std.proofs.Math.Seq.{take-append_seam}
-use Rattle.std.proofs.lemmas.Cmp.{nat_cmp_total, nat_list_cmp_total, tied_itself}
+use Rattle.std.proofs.Common.{length, take, drop, get_or, refl, sym, ◌∙◌, ap, ap₂, append_assoc, subst, arith, ◌-◌, take_all}
+use Rattle.std.proofs.Common.{IsPermutation, nat_cmp, nat_eq, append-nil, le_antisymm, suc-add, take-append-drop, zero, suc}
+use Rattle.std.proofs.{Math.Seq.take-append_seam, lemmas.Cmp.{nat_cmp_total, nat_list_cmp_total, tied_itself}}
 use Rattle.std.proofs.lemmas.List.Sorted.{IsPermutation-refl, IsPermutation-trans, ranks_by, sorted_far}
-use Rattle.std.specs.Cmp.{ranked}
-use Rattle.std.specs.Cmp.Lexicographic.{bytes_decides}
-use Rattle.std.specs.FinMap.{nat_cmp-IsAntisymmetric, slice_cmp-IsAntisymmetric}
-use Rattle.std.specs.Global.{Global}
-use Rattle.std.specs.List.{AllPairs, AllZip, starts_with}
-use Rattle.std.specs.Prelude.{Option, String, string_bytes}
-use Rattle.std.specs.List.Sorted.{IsSortedByKey}
-use Rattle.std.specs.Ordering.{is_lt, ordering_reverse, ordering_then}
-use Rattle.std.specs.declared.cmp.Ordering.{Ordering}
-use Rattle.std.specs.declared.cmp.Ordering.TheVariants.{Less, Equal, Greater}
+use Rattle.std.specs.{Cmp.{ranked, Lexicographic.bytes_decides}, FinMap.{nat_cmp-IsAntisymmetric, slice_cmp-IsAntisymmetric}, Global.Global}
+use Rattle.std.specs.{List.{AllPairs, AllZip, starts_with, Sorted.IsSortedByKey}, Prelude.{Option, String, string_bytes}, Ordering.is_lt}
+use Rattle.std.specs.{Ordering.{ordering_reverse, ordering_then}, declared.cmp.Ordering.{Ordering, TheVariants.{Less, Equal, Greater}}}
 use Rattle.lc_program.specs.Nested.{AreApart, AreNested, HoldsNot, NoneHolds, OneHolds, Place, holds, nested_line, places_of}
-use Rattle.lc_program.specs.declared.cause.Cause.{Cause}
-use Rattle.lc_program.specs.declared.cause.Cause.TheVariants.{Memory, Nested}
+use Rattle.lc_program.specs.declared.cause.Cause.{Cause, TheVariants.{Memory, Nested}}
 use Rattle.lc_tree.specs.ByteOrder.{bytes_cmp}
 
 -- ---- bytes at the front

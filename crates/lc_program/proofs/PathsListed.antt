@@ -1,11 +1,8 @@
 -- The paths of a list, one after another.
-use Rattle.std.proofs.Common.{◌≡◌, ◌∙◌, ◌++◌, ◌||◌, ℕ, Bool, false, List, [], ◌∷◌, map, ap, ap₂, append_assoc, sym}
-use Rattle.std.proofs.lemmas.Bool.{or_parts}
+use Rattle.std.proofs.{Common.{◌≡◌, ◌∙◌, ◌++◌, ◌||◌, ℕ, Bool, false, List, [], ◌∷◌, map, ap, ap₂, append_assoc, sym}, lemmas.Bool.or_parts}
 use Rattle.std.proofs.lemmas.List.{map-append}
-use Rattle.std.specs.Borrow.{Bor}
-use Rattle.std.specs.List.{list_any}
-use Rattle.lc_text.specs.Lines.{input_paths_of}
-use Rattle.lc_text.specs.declared.lines.PathEnd.{PathEnd}
+use Rattle.std.specs.{Borrow.Bor, List.list_any}
+use Rattle.lc_text.specs.{Lines.input_paths_of, declared.lines.PathEnd.PathEnd}
 use Rattle.lc_program.specs.PathLists.{is_bad_listed, listed_path}
 
 -- the paths up to what is left of a list, all of which an entry can have

@@ -1,7 +1,6 @@
 -- What paths ask for.
 use Rattle.std.proofs.Common.{◌≡◌, ◌∙◌, ◌||◌, ℕ, true, false, cond, List, [], ◌∷◌, map, ap, refl, sym}
-use Rattle.std.specs.Borrow.{Bor}
-use Rattle.std.specs.List.{list_any}
+use Rattle.std.specs.{Borrow.Bor, List.list_any}
 use Rattle.lc_text.specs.PathLines.{is_top}
 use Rattle.lc_program.specs.PathLists.{asked_for}
 

@@ -1,22 +1,13 @@
 -- Counts whose table is not written, or not whole.
 use Rattle.std.proofs.Common.{◌≡◌, ℕ, List, Result, Ok, Err, inl, inr, refl, subst, subst₂, sym}
 use Rattle.std.specs.Result.{IsErrAnd}
-use Rattle.lc_arguments.specs.declared.count.CountRequest.{CountRequest}
-use Rattle.lc_io.specs.declared.printing.PrintFault.{PrintFault}
-use Rattle.lc_io.specs.declared.source.Failed.{Failed}
-use Rattle.lc_program.specs.Causes.{print_cause}
-use Rattle.lc_program.specs.Counts.{MayWalk, Prints, counted_in, names_of}
-use Rattle.lc_program.specs.Finds.{Finds, FindsNone}
-use Rattle.lc_arguments.specs.TableWords.{options_in}
-use Rattle.lc_program.specs.Runs.{AnswersTable}
-use Rattle.lc_program.specs.Systems.{SystemMay}
+use Rattle.lc_arguments.specs.{declared.count.CountRequest.CountRequest, TableWords.options_in}
+use Rattle.lc_io.specs.declared.{printing.PrintFault.PrintFault, source.Failed.Failed}
+use Rattle.lc_program.specs.{Causes.print_cause, Counts.{MayWalk, Prints, counted_in, names_of}, Finds.{Finds, FindsNone}}
+use Rattle.lc_program.specs.{Runs.AnswersTable, Systems.SystemMay, declared.cause.Cause.Cause}
 use Rattle.lc_rows.specs.Laws.{all_columns}
-use Rattle.lc_sheet.specs.Conditions.{ConditionModel}
-use Rattle.lc_sheet.specs.declared.table_options.TableOptions.{TableOptions}
-use Rattle.lc_program.specs.declared.cause.Cause.{Cause}
-use Rattle.lc_sheet.specs.declared.table_options.Format.{Format}
-use Rattle.lc_walk.specs.declared.options.Options.{Options}
-use Rattle.lc_walk.specs.declared.report.Report.{Report}
+use Rattle.lc_sheet.specs.{Conditions.ConditionModel, declared.table_options.{TableOptions.TableOptions, Format.Format}}
+use Rattle.lc_walk.specs.declared.{options.Options.Options, report.Report.Report}
 
 module _ (may : SystemMay) {O : Type 0} (may_take : O → List ℕ → Result ℕ Failed → O → Type 0) (other : Format) (c : CountRequest)
     (o : Options) where

@@ -1,7 +1,6 @@
 -- Reports whose files are in another order.
-use Rattle.std.proofs.Common.{List, Option, Some, None, Vec, refl, subst, sym, IsPermutation}
+use Rattle.std.proofs.{Common.{List, Option, Some, None, Vec, refl, subst, sym, IsPermutation}, lemmas.List.Sorted.IsPermutation-refl}
 use Rattle.std.specs.Global.{Global}
-use Rattle.std.proofs.lemmas.List.Sorted.{IsPermutation-refl}
 use Rattle.lc_level.specs.Level.{FileLineModel}
 use Rattle.lc_rows.specs.ShownFiles.{AreFilesSorted}
 use Rattle.lc_sheet.specs.declared.column.Number.{Number}

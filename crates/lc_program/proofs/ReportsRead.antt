@@ -1,17 +1,11 @@
 -- Reports that were read one after another.
-use Rattle.std.proofs.Common.{◌≡◌, ◌∙◌, ◌++◌, ◌⊎◌, ◌+◌, ◌<◌, ◌≤◌, ℕ, List, [], ◌∷◌, Option, Result, Ok, Err}
-use Rattle.std.proofs.Common.{ap, append-nil, append_assoc, drop, get_or, inl, inr, length, map, refl, subst, sym}
-use Rattle.std.proofs.lemmas.List.{drop_all, drop_more}
-use Rattle.std.specs.Prelude.{Vec}
-use Rattle.std.specs.Global.{Global}
-use Rattle.std.specs.Result.{IsErrAnd}
-use Rattle.lc_arguments.specs.Reports.{report_model}
-use Rattle.lc_arguments.specs.declared.reports.NamedReport.{NamedReport}
+use Rattle.std.proofs.Common.{◌≡◌, ◌∙◌, ◌++◌, ◌⊎◌, ◌+◌, ◌<◌, ◌≤◌, ℕ, List, [], ◌∷◌, Option, Result, Ok, Err, ap, append-nil, append_assoc}
+use Rattle.std.proofs.{Common.{drop, get_or, inl, inr, length, map, refl, subst, sym}, lemmas.List.{drop_all, drop_more}}
+use Rattle.std.specs.{Prelude.Vec, Global.Global, Result.IsErrAnd}
+use Rattle.lc_arguments.specs.{Reports.report_model, declared.reports.NamedReport.NamedReport}
 use Rattle.lc_io.specs.Reads.{Answer}
 use Rattle.lc_program.specs.ReportFiles.{AnswersParts, ReadsAll, ReadsParts, Refuses, RefusesFirst, Typed}
-use Rattle.lc_program.specs.declared.cause.Cause.{Cause}
-use Rattle.lc_program.specs.declared.cause.Cause.TheVariants.{Memory}
-use Rattle.lc_program.specs.declared.unread_reason.UnreadReason.{UnreadReason}
+use Rattle.lc_program.specs.declared.{cause.Cause.{Cause, TheVariants.Memory}, unread_reason.UnreadReason.UnreadReason}
 use Rattle.lc_sums.specs.declared.part.Part.{Part}
 use Rattle.lc_tree.specs.Trees.{Contents}
 

@@ -1,12 +1,11 @@
 -- A file of rules that was opened.
 use Rattle.std.proofs.Common.{◌≡◌, ◌≤◌, ◌+◌, ℕ, List, length, None, Result, Ok, Err, subst, sym}
 use Rattle.lc_io.specs.Reads.{Answer, at_end, at_failure, at_neither}
-use Rattle.lc_level.specs.RuleTextReads.{ReadsRuleText}
+use Rattle.lc_level.specs.{RuleTextReads.ReadsRuleText, declared.rule_files.rule_text.RulesFileFault.RulesFileFault}
 use Rattle.lc_rules.specs.Limits.{max_rule_bytes}
 use Rattle.lc_tree.specs.Trees.{Contents, GivesOnly}
-use Rattle.lc_level.specs.declared.rule_files.rule_text.RulesFileFault.{RulesFileFault}
-use Rattle.lc_level.specs.declared.rule_files.rule_text.RulesFileFault.TheVariants as fault
 use Rattle.lc_program.specs.Filters.{LoadsFile}
+use Rattle.lc_level.specs.declared.rule_files.rule_text.RulesFileFault.TheVariants as fault
 
 -- what reading an opened file answered is what loading it answers
 module _ {F : Type 0} (may_give : F → ℕ → Answer → F → Type 0) (gives : Contents) (file read : F)

@@ -1,25 +1,15 @@
 -- Sides of a comparison that have a report, or none.
 use Rattle.std.proofs.Common.{◌≡◌, ℕ, Bool, true, false, List, [], Result, Ok, Err, inl, inr, subst, sym, ◌∙◌}
 use Rattle.lc_arguments.specs.declared.walk_request.WalkRequest.{WalkRequest}
-use Rattle.std.specs.Prelude.{◌⊎◌, Option, None}
-use Rattle.std.specs.Result.{IsErrAnd}
+use Rattle.std.specs.{Prelude.{◌⊎◌, Option, None}, Result.IsErrAnd}
 use Rattle.lc_io.specs.Reads.{Answer}
 use Rattle.lc_level.specs.FaultLines.{FaultLineModel}
-use Rattle.lc_program.specs.Faults.{has_path}
-use Rattle.lc_program.specs.Reasons.{unexplained_line}
-use Rattle.lc_program.specs.ReportFiles.{Refuses}
-use Rattle.lc_program.specs.ReportLines.{IsTold}
-use Rattle.lc_program.specs.Sides.{CountsSide, GivesSide, GivesSides, ReadsSide}
-use Rattle.lc_program.specs.Systems.{SystemMay}
-use Rattle.lc_program.specs.WalkRequests.{entered_by}
-use Rattle.lc_program.specs.declared.cause.Cause.{Cause}
-use Rattle.lc_program.specs.declared.cause.Cause.TheVariants.{Memory}
-use Rattle.lc_program.specs.declared.unread_reason.UnreadReason.{UnreadReason}
+use Rattle.lc_program.specs.{Faults.has_path, Reasons.unexplained_line, ReportFiles.Refuses, ReportLines.IsTold, Sides.CountsSide}
+use Rattle.lc_program.specs.{Sides.{GivesSide, GivesSides, ReadsSide}, Systems.SystemMay, WalkRequests.entered_by}
+use Rattle.lc_program.specs.declared.{cause.Cause.{Cause, TheVariants.Memory}, unread_reason.UnreadReason.UnreadReason}
 use Rattle.lc_sums.specs.declared.needs.Needs.{Needs}
 use Rattle.lc_tree.specs.declared.file_systems.FileSystems.{FileSystems}
-use Rattle.lc_walk.specs.Walks.{Walks}
-use Rattle.lc_walk.specs.declared.options.Options.{Options}
-use Rattle.lc_walk.specs.declared.report.Report.{Report}
+use Rattle.lc_walk.specs.{Walks.Walks, declared.{options.Options.Options, report.Report.Report}}
 
 module _ (may : SystemMay) (w : WalkRequest) (o : Options) (name : List ℕ) (entered : FileSystems) (is : entered ≡ entered_by w) where
   -- a directory that was listed

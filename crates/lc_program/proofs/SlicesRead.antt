@@ -1,14 +1,12 @@
 -- Rules that are read from a slice.
-use Rattle.std.proofs.Common.{◌≡◌, ◌≢◌, ◌<◌, ◌+◌, ◌∙◌, ◌++◌, ℕ, zero, suc, List, [], ◌∷◌, length, take, drop, Ok, Err}
-use Rattle.std.proofs.Common.{Some, ap, sym, refl, arith, append_assoc, append-nil, length-append}
-use Rattle.std.specs.Borrow.{Bor}
-use Rattle.std.specs.List.{concat}
+use Rattle.std.proofs.Common.{◌≡◌, ◌≢◌, ◌<◌, ◌+◌, ◌∙◌, ◌++◌, ℕ, zero, suc, List, [], ◌∷◌, length, take, drop, Ok, Err, Some, ap, sym}
+use Rattle.std.proofs.Common.{refl, arith, append_assoc, append-nil, length-append}
+use Rattle.std.specs.{Borrow.Bor, List.concat}
 use Rattle.lc_arguments.specs.Repeated.{lines_text}
 use Rattle.lc_io.specs.Reads.{Answer, AnyRoom, Reads, Stop, at_end, at_failure, at_neither, failed, gave}
-use Rattle.lc_level.specs.RuleTextReads.{ReadsRuleText}
-use Rattle.lc_level.specs.declared.rule_files.rule_text.RulesFileFault.{RulesFileFault}
-use Rattle.lc_level.specs.declared.rule_files.rule_text.RulesFileFault.TheVariants as fault
+use Rattle.lc_level.specs.{RuleTextReads.ReadsRuleText, declared.rule_files.rule_text.RulesFileFault.RulesFileFault}
 use Rattle.lc_program.specs.Filters.{AnswersPatterns, patterns_text}
+use Rattle.lc_level.specs.declared.rule_files.rule_text.RulesFileFault.TheVariants as fault
 
 -- what a read of a slice may give
 abbrev pub slice_gives : Bor (List ℕ) → ℕ → Answer → Bor (List ℕ) → Type 0

@@ -1,16 +1,11 @@
 -- A table that is written, and one that stops at a fault of its output, and so the run.
 use Rattle.std.proofs.Common.{◌≡◌, Result, Ok, Err, List, ℕ, sym}
 use Rattle.std.specs.Result.{IsErrAnd}
-use Rattle.lc_io.specs.declared.printing.PrintFault.{PrintFault}
+use Rattle.lc_io.specs.{declared.{printing.PrintFault.PrintFault, source.Failed.Failed}, Writes.{AnswersPrint, Writes}}
+use Rattle.lc_sheet.specs.{Conditions.ConditionModel, declared.table_options.TableOptions.TableOptions}
+use Rattle.lc_walk.specs.declared.{report.Report.Report, walk_fault.WalkFault.WalkFault}
+use Rattle.lc_program.specs.{Runs.{AnswersRun, AnswersTable, AnswersText, table_fault}, declared.runs.RunFault.RunFault}
 use Rattle.lc_io.specs.declared.printing.PrintFault.TheVariants as print
-use Rattle.lc_sheet.specs.Conditions.{ConditionModel}
-use Rattle.lc_sheet.specs.declared.table_options.TableOptions.{TableOptions}
-use Rattle.lc_io.specs.declared.source.Failed.{Failed}
-use Rattle.lc_walk.specs.declared.report.Report.{Report}
-use Rattle.lc_walk.specs.declared.walk_fault.WalkFault.{WalkFault}
-use Rattle.lc_io.specs.Writes.{AnswersPrint, Writes}
-use Rattle.lc_program.specs.Runs.{AnswersRun, AnswersTable, AnswersText, table_fault}
-use Rattle.lc_program.specs.declared.runs.RunFault.{RunFault}
 
 -- a table that was not written whole
 pub run_stops : {O : Type 0} (may_take : O → List ℕ → Result ℕ Failed → O → Type 0) (walks : Result Report WalkFault → Type 0)

@@ -1,19 +1,12 @@
 -- Sums whose table is not written, or not whole.
 use Rattle.std.proofs.Common.{◌≡◌, ℕ, List, Result, Ok, Err, subst}
 use Rattle.std.specs.Result.{IsErrAnd}
-use Rattle.lc_arguments.specs.TableWords.{options_in}
-use Rattle.lc_arguments.specs.declared.sum.SumRequest.{SumRequest}
-use Rattle.lc_io.specs.declared.printing.PrintFault.{PrintFault}
-use Rattle.lc_io.specs.declared.source.Failed.{Failed}
-use Rattle.lc_program.specs.Causes.{print_cause}
-use Rattle.lc_program.specs.ReportTexts.{IsPrintedWith}
-use Rattle.lc_program.specs.Runs.{AnswersText}
-use Rattle.lc_program.specs.Sums.{PrintsSum, classes_in, columns_of, summed_in}
-use Rattle.lc_program.specs.declared.cause.Cause.{Cause}
+use Rattle.lc_arguments.specs.{TableWords.options_in, declared.sum.SumRequest.SumRequest}
+use Rattle.lc_io.specs.declared.{printing.PrintFault.PrintFault, source.Failed.Failed}
+use Rattle.lc_program.specs.{Causes.print_cause, ReportTexts.IsPrintedWith, Runs.AnswersText, Sums.{PrintsSum, classes_in, columns_of}}
+use Rattle.lc_program.specs.{Sums.summed_in, declared.cause.Cause.Cause}
 use Rattle.lc_rows.specs.declared.classes.ClassSums.{ClassSums}
-use Rattle.lc_sheet.specs.Conditions.{ConditionModel}
-use Rattle.lc_sheet.specs.declared.table_options.Format.{Format}
-use Rattle.lc_sheet.specs.declared.table_options.TableOptions.{TableOptions}
+use Rattle.lc_sheet.specs.{Conditions.ConditionModel, declared.table_options.{Format.Format, TableOptions.TableOptions}}
 use Rattle.lc_sums.specs.declared.sum.Sum.{Sum}
 use Rattle.lc_walk.specs.declared.report.Report.{Report}
 

@@ -1,9 +1,7 @@
 -- A text that was read of a file.
 use Rattle.std.proofs.Common.{◌≡◌, ◌≤◌, ◌+◌, ℕ, List, length, None, Result, Ok, Err, sym, subst}
-use Rattle.std.specs.Prelude.{Vec}
-use Rattle.std.specs.Global.{Global}
-use Rattle.lc_io.specs.Reads.{Answer, at_end, at_failure, at_neither}
-use Rattle.lc_io.specs.declared.whole.WholeFault.{WholeFault}
+use Rattle.std.specs.{Prelude.Vec, Global.Global}
+use Rattle.lc_io.specs.{Reads.{Answer, at_end, at_failure, at_neither}, declared.whole.WholeFault.WholeFault}
 use Rattle.lc_io.specs.declared.whole.WholeFault.TheVariants.{Read, TooLong, Memory}
 use Rattle.lc_tree.specs.Trees.{Contents, GivesOnly}
 use Rattle.lc_program.specs.NamedTexts.{LoadsText, ReadsText}

@@ -1,15 +1,11 @@
 -- What was told on standard error.
 use Rattle.std.specs.Bool.{MatchBool}
-use Rattle.std.proofs.Common.{◌≡◌, ◌≢◌, ◌==◌, ◌∙◌, ℕ, Bool, true, false, List, [], ◌∷◌, length, Option, Result, Ok, Err, inl, inr, refl, subst}
-use Rattle.lc_io.specs.declared.source.Failed.{Failed}
+use Rattle.std.proofs.Common.{◌≡◌, ◌≢◌, ◌==◌, ◌∙◌, ℕ, Bool, true, false, List, [], ◌∷◌, length, Option, Result, Ok, Err, inl, inr, refl}
+use Rattle.std.proofs.Common.{subst}
+use Rattle.lc_io.specs.{declared.{source.Failed.Failed, printing.PrintFault.{PrintFault, TheVariants.{Memory, Write}}}, Writes.AnswersPrint}
 use Rattle.lc_level.specs.FaultLines.{FaultLineModel}
-use Rattle.lc_io.specs.Writes.{AnswersPrint}
-use Rattle.lc_io.specs.declared.printing.PrintFault.{PrintFault}
-use Rattle.lc_io.specs.declared.printing.PrintFault.TheVariants.{Memory, Write}
 use Rattle.lc_sheet.specs.declared.table_options.Format.{Format}
-use Rattle.lc_program.specs.Faults.{AreFaultLines, TellsFaults}
-use Rattle.lc_program.specs.Tellings.{Tells}
-use Rattle.lc_program.specs.declared.unread_reason.UnreadReason.{UnreadReason}
+use Rattle.lc_program.specs.{Faults.{AreFaultLines, TellsFaults}, Tellings.Tells, declared.unread_reason.UnreadReason.UnreadReason}
 
 module _ {E : Type 0} (may_take : E → List ℕ → Result ℕ Failed → E → Type 0) where
   -- a text that was printed, or not whole, was told

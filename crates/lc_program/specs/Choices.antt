@@ -1,11 +1,9 @@
 -- Options that choose files of a directory, which a comparison of reports refuses.
-use Rattle.std.specs.Prelude.{◌≡◌, ◌⊎◌, ℕ, true, false, not, if◌then◌else◌, List, ◌++◌, Option, Some, None, is_some, Result, Ok, Err, codes}
+use Rattle.std.specs.Prelude.{◌≡◌, ◌⊎◌, ℕ, true, false, not, if◌then◌else◌, List, ◌++◌, Option, Some, None, is_some, Result, Ok, Err}
+use Rattle.std.specs.Prelude.{codes}
 use Rattle.lc_glob.specs.Lists.{is_empty}
 use Rattle.lc_arguments.specs.declared.walk_request.WalkRequest.{WalkRequest}
-use Rattle.lc_program.specs.ReportLines.{IsTold, origin_of}
-use Rattle.lc_program.specs.Sides.{IsSide}
-use Rattle.lc_program.specs.declared.cause.Cause.{Cause}
-use Rattle.lc_program.specs.declared.cause.Cause.TheVariants.{Memory}
+use Rattle.lc_program.specs.{ReportLines.{IsTold, origin_of}, Sides.IsSide, declared.cause.Cause.{Cause, TheVariants.Memory}}
 use Rattle.lc_program.specs.declared.unread_reason.UnreadReason.{UnreadReason}
 use Rattle.lc_text.specs.Visible.{visible_bytes}
 

@@ -1,10 +1,8 @@
 -- The commands that lines on standard error show, which can be typed as they are shown.
 use Rattle.std.specs.Prelude.{◌&&◌, ℕ, Bool, not, cond, nat_eq, List, [], ◌∷◌, ◌++◌, Option, Some, bytes_eq, codes, flat_map}
-use Rattle.std.specs.List.{starts_with}
-use Rattle.std.specs.Path.{path_file_name, path_parent}
+use Rattle.std.specs.{List.starts_with, Path.{path_file_name, path_parent}}
 use Rattle.lc_glob.specs.Lists.{is_empty}
-use Rattle.lc_text.specs.Quoting.{quoted}
-use Rattle.lc_text.specs.Visible.{visible_bytes}
+use Rattle.lc_text.specs.{Quoting.quoted, Visible.visible_bytes}
 
 -- whether a path can be typed as a terminal shows it, and is not read as an option
 abbrev pub is_typed : List ℕ → Bool

@@ -1,33 +1,16 @@
 -- How a count is answered, by what was read and written.
-use Rattle.std.specs.Prelude.{◌≡◌, ◌⊎◌, ◌||◌, ℕ, List, [], ◌∷◌, ◌++◌, flat_map, map, Result, Ok, Err, Vec, is_some}
-use Rattle.std.specs.Prelude.{Option, unwrap_or}
-use Rattle.std.specs.Borrow.{Bor}
-use Rattle.std.specs.Global.{Global}
-use Rattle.lc_arguments.specs.Combinations.{is_picture}
-use Rattle.lc_arguments.specs.TableWords.{options_in}
-use Rattle.lc_arguments.specs.declared.count.CountRequest.{CountRequest}
-use Rattle.lc_io.specs.Reads.{Answer}
-use Rattle.lc_io.specs.declared.source.Failed.{Failed}
+use Rattle.std.specs.Prelude.{◌≡◌, ◌⊎◌, ◌||◌, ℕ, List, [], ◌∷◌, ◌++◌, flat_map, map, Result, Ok, Err, Vec, is_some, Option, unwrap_or}
+use Rattle.std.specs.{Borrow.Bor, Global.Global}
+use Rattle.lc_arguments.specs.{Combinations.is_picture, TableWords.options_in, declared.count.CountRequest.CountRequest}
+use Rattle.lc_io.specs.{Reads.Answer, declared.{source.Failed.Failed, printing.PrintFault.PrintFault}}
 use Rattle.lc_level.specs.NamedAttributes.{attributes_of}
-use Rattle.lc_io.specs.declared.printing.PrintFault.{PrintFault}
-use Rattle.lc_program.specs.Finds.{Finds, FindsNone}
-use Rattle.lc_program.specs.Nested.{AreApart, AreNested}
-use Rattle.lc_program.specs.Runs.{AnswersTable}
+use Rattle.lc_program.specs.{Finds.{Finds, FindsNone}, Nested.{AreApart, AreNested}, Runs.AnswersTable, Causes.print_cause}
+use Rattle.lc_program.specs.{Replies.{IsRunReply, Reply}, Filters.{Excludes, LacksRules, filters_of}, Systems.SystemMay}
+use Rattle.lc_program.specs.{WalkRequests.{AnswersPathsOf, IsAskedBy, entered_by}, declared.cause.Cause.{Cause, TheVariants.Memory}}
 use Rattle.lc_rows.specs.Laws.{all_columns}
-use Rattle.lc_sheet.specs.Conditions.{needs_files}
-use Rattle.lc_sheet.specs.declared.table_options.Format.{Format}
-use Rattle.lc_walk.specs.Walks.{Walks}
-use Rattle.lc_walk.specs.declared.options.Options.{Options}
-use Rattle.lc_walk.specs.declared.options.ReportLists.{ReportLists}
-use Rattle.lc_walk.specs.declared.report.Report.{Report}
+use Rattle.lc_sheet.specs.{Conditions.needs_files, declared.table_options.Format.Format}
+use Rattle.lc_walk.specs.{Walks.Walks, declared.{options.{Options.Options, ReportLists.ReportLists}, report.Report.Report}}
 use Rattle.lc_walk.specs.declared.walk_fault.WalkFault.{WalkFault}
-use Rattle.lc_program.specs.Causes.{print_cause}
-use Rattle.lc_program.specs.Replies.{IsRunReply, Reply}
-use Rattle.lc_program.specs.Filters.{Excludes, LacksRules, filters_of}
-use Rattle.lc_program.specs.Systems.{SystemMay}
-use Rattle.lc_program.specs.WalkRequests.{AnswersPathsOf, IsAskedBy, entered_by}
-use Rattle.lc_program.specs.declared.cause.Cause.{Cause}
-use Rattle.lc_program.specs.declared.cause.Cause.TheVariants.{Memory}
 
 -- the names of the directories that a count has as arguments
 abbrev pub names_of : CountRequest → List (List ℕ)

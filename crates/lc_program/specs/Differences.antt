@@ -1,43 +1,22 @@
 -- How a comparison is answered, by what was read and written.
-use Rattle.std.specs.Prelude.{◌≡◌, ◌⊎◌, ℕ, Bool, true, false, cond, List, map, Option, Some, None, Result, Ok, Err}
-use Rattle.std.specs.Prelude.{String, Vec, string_bytes, unwrap_or}
-use Rattle.std.specs.Borrow.{Bor}
-use Rattle.std.specs.Global.{Global}
-use Rattle.lc_arguments.specs.TableWords.{format_in, is_for_reading, number_of}
-use Rattle.lc_arguments.specs.declared.diff.DiffRequest.{DiffRequest}
+use Rattle.std.specs.Prelude.{◌≡◌, ◌⊎◌, ℕ, Bool, true, false, cond, List, map, Option, Some, None, Result, Ok, Err, String, Vec}
+use Rattle.std.specs.{Prelude.{string_bytes, unwrap_or}, Borrow.Bor, Global.Global}
+use Rattle.lc_arguments.specs.{TableWords.{format_in, is_for_reading, number_of}, declared.diff.DiffRequest.DiffRequest}
 use Rattle.lc_arguments.specs.declared.table.TableRequest.{TableRequest}
-use Rattle.lc_changes.specs.ChangeSheets.{AreChangesOf, ChangesModel}
-use Rattle.lc_changes.specs.declared.options.ChangeOptions.{ChangeOptions}
+use Rattle.lc_changes.specs.{ChangeSheets.{AreChangesOf, ChangesModel}, declared.options.ChangeOptions.ChangeOptions}
 use Rattle.lc_formats.specs.Texts.{IsTextIn}
-use Rattle.lc_io.specs.Reads.{Answer}
-use Rattle.lc_io.specs.Writes.{StopsWriting, Writes}
-use Rattle.lc_io.specs.declared.printing.PrintFault.{PrintFault}
-use Rattle.lc_io.specs.declared.printing.PrintFault.TheVariants as print
-use Rattle.lc_io.specs.declared.source.Failed.{Failed}
+use Rattle.lc_io.specs.{Reads.Answer, Writes.{StopsWriting, Writes}, declared.{printing.PrintFault.PrintFault, source.Failed.Failed}}
 use Rattle.lc_level.specs.NamedAttributes.{attributes_of}
-use Rattle.lc_program.specs.Causes.{print_cause}
-use Rattle.lc_program.specs.Choices.{AnswersChoices}
-use Rattle.lc_program.specs.Filters.{Excludes, LacksRules, filters_of}
-use Rattle.lc_program.specs.Replies.{Reply}
-use Rattle.lc_program.specs.Sides.{GivesSides}
-use Rattle.lc_program.specs.Systems.{SystemMay}
-use Rattle.lc_program.specs.Unnamed.{AreUnnamedLines}
-use Rattle.lc_program.specs.WalkRequests.{AnswersPathsOf, IsAskedBy}
-use Rattle.lc_program.specs.declared.answered.Answered.TheVariants.{Compared}
-use Rattle.lc_program.specs.declared.cause.Cause.{Cause}
-use Rattle.lc_program.specs.declared.cause.Cause.TheVariants.{Memory}
+use Rattle.lc_program.specs.{Causes.print_cause, Choices.AnswersChoices, Filters.{Excludes, LacksRules, filters_of}, Replies.Reply}
+use Rattle.lc_program.specs.{Sides.GivesSides, Systems.SystemMay, Unnamed.AreUnnamedLines, WalkRequests.{AnswersPathsOf, IsAskedBy}}
+use Rattle.lc_program.specs.declared.{answered.Answered.TheVariants.Compared, cause.Cause.{Cause, TheVariants.Memory}}
 use Rattle.lc_program.specs.declared.comparison.Comparison.{Comparison}
 use Rattle.lc_rows.specs.Kept.{IsKept}
 use Rattle.lc_sheet.specs.declared.column.Number.TheVariants.{Lines}
-use Rattle.lc_sheet.specs.declared.table_options.Columns.{Columns}
-use Rattle.lc_sheet.specs.declared.table_options.Format.{Format}
-use Rattle.lc_sheet.specs.declared.table_options.Order.{Order}
-use Rattle.lc_sheet.specs.declared.table_options.Order.TheVariants.{Name, Largest}
-use Rattle.lc_sums.specs.Needs.{needs_of}
-use Rattle.lc_sums.specs.declared.needs.Needs.{Needs}
-use Rattle.lc_walk.specs.declared.options.Options.{Options}
-use Rattle.lc_walk.specs.declared.options.ReportLists.{ReportLists}
-use Rattle.lc_walk.specs.declared.report.Report.{Report}
+use Rattle.lc_sheet.specs.declared.table_options.{Columns.Columns, Format.Format, Order.{Order, TheVariants.{Name, Largest}}}
+use Rattle.lc_sums.specs.{Needs.needs_of, declared.needs.Needs.Needs}
+use Rattle.lc_walk.specs.declared.{options.{Options.Options, ReportLists.ReportLists}, report.Report.Report}
+use Rattle.lc_io.specs.declared.printing.PrintFault.TheVariants as print
 
 -- ---- what is asked
 

@@ -1,20 +1,14 @@
 -- The lines on standard error about what a count or a sum could not read.
 use Rattle.std.specs.Prelude.{◌≡◌, ◌⊎◌, ℕ, Bool, true, false, cond, not, List, [], ◌∷◌, ◌++◌, length, flat_map, bytes_eq, codes, decimal}
-use Rattle.std.specs.Prelude.{nat_eq}
-use Rattle.std.specs.Prelude.{Option, Result}
-use Rattle.std.specs.List.{filter, list_any}
+use Rattle.std.specs.{Prelude.{nat_eq, Option, Result}, List.{filter, list_any}}
 use Rattle.lc_arguments.specs.Directories.{unslashed}
 use Rattle.lc_io.specs.declared.source.Failed.{Failed}
 use Rattle.lc_level.specs.FaultLines.{FaultLineModel}
 use Rattle.lc_text.specs.Visible.{visible_bytes}
-use Rattle.lc_sheet.specs.declared.table_options.Format.{Format}
-use Rattle.lc_sheet.specs.declared.table_options.Format.TheVariants.{Tsv, Table, Json, Csv, Markdown, Html}
-use Rattle.lc_program.specs.Commands.{or_here}
-use Rattle.lc_program.specs.Reasons.{uncounted_line}
-use Rattle.lc_program.specs.Tellings.{Tells}
-use Rattle.lc_reports.specs.Named.{named_top}
-use Rattle.lc_program.specs.Unlisted.{short_line}
+use Rattle.lc_sheet.specs.declared.table_options.Format.{Format, TheVariants.{Tsv, Table, Json, Csv, Markdown, Html}}
+use Rattle.lc_program.specs.{Commands.or_here, Reasons.uncounted_line, Tellings.Tells, Unlisted.short_line}
 use Rattle.lc_program.specs.declared.unread_reason.UnreadReason.{UnreadReason}
+use Rattle.lc_reports.specs.Named.{named_top}
 
 -- the line that says that a path could not be read
 abbrev pub unread_line : List ℕ → List ℕ

@@ -1,17 +1,13 @@
 -- The filters of a command line: what decides, besides the tree's own rules, which entries are skipped.
 use Rattle.std.specs.Prelude.{◌≡◌, ◌⊎◌, ◌<◌, ℕ, Bool, cond, List, [], ◌∷◌, codes, map, length, Option, Some, None, Result, Ok, Err}
 use Rattle.std.specs.Borrow.{Bor}
-use Rattle.lc_arguments.specs.Repeated.{lines_text}
-use Rattle.lc_arguments.specs.declared.filter_request.FilterRequest.{FilterRequest}
-use Rattle.lc_level.specs.FileReads.{MayReadRules}
-use Rattle.lc_level.specs.Filters.{FiltersModel}
-use Rattle.lc_level.specs.declared.fault_word.FaultWord.TheVariants as word
-use Rattle.lc_level.specs.declared.rule_files.rule_text.RulesFileFault.{RulesFileFault}
-use Rattle.lc_level.specs.declared.rule_files.rule_text.RulesFileFault.TheVariants as fault
+use Rattle.lc_arguments.specs.{Repeated.lines_text, declared.filter_request.FilterRequest.FilterRequest}
+use Rattle.lc_level.specs.{FileReads.MayReadRules, Filters.FiltersModel, declared.rule_files.rule_text.RulesFileFault.RulesFileFault}
 use Rattle.lc_rules.specs.Limits.{max_rule_bytes}
 use Rattle.lc_tree.specs.Trees.{Contents}
-use Rattle.lc_program.specs.Causes.{rules_cause}
-use Rattle.lc_program.specs.declared.cause.Cause.{Cause}
+use Rattle.lc_program.specs.{Causes.rules_cause, declared.cause.Cause.Cause}
+use Rattle.lc_level.specs.declared.fault_word.FaultWord.TheVariants as word
+use Rattle.lc_level.specs.declared.rule_files.rule_text.RulesFileFault.TheVariants as fault
 
 -- what reading a rule file may answer, by what its reads may give. Either its bytes, which reads gave up to the end; or a read failed, as
 -- the first read of a file that can't be opened; or there are too many bytes; or an allocation failed

@@ -1,16 +1,11 @@
 -- The report of a count of the directories that the command line names.
-use Rattle.std.specs.Prelude.{◌≡◌, ◌⊎◌, ℕ, List, [], ◌∷◌, ◌++◌, String, Result, Ok, Err, codes, string_bytes}
-use Rattle.std.specs.Global.{Global}
-use Rattle.std.specs.List.{AllZip, Contains}
+use Rattle.std.specs.{Prelude.{◌≡◌, ◌⊎◌, ℕ, List, [], ◌∷◌, ◌++◌, String, Result, Ok, Err, codes, string_bytes}, Global.Global, List.AllZip}
+use Rattle.std.specs.List.{Contains}
 use Rattle.lc_arguments.specs.Directories.{unslashed}
-use Rattle.lc_program.specs.Causes.{walk_cause}
-use Rattle.lc_program.specs.declared.cause.Cause.{Cause}
-use Rattle.lc_program.specs.declared.cause.Cause.TheVariants.{InDirectory, Memory, SumsTooLarge}
-use Rattle.lc_reports.specs.Joined.{Fits, IsJoined}
-use Rattle.lc_reports.specs.Named.{IsNamed}
+use Rattle.lc_program.specs.{Causes.walk_cause, declared.cause.Cause.{Cause, TheVariants.{InDirectory, Memory, SumsTooLarge}}}
+use Rattle.lc_reports.specs.{Joined.{Fits, IsJoined}, Named.IsNamed}
 use Rattle.lc_text.specs.Visible.{visible_bytes}
-use Rattle.lc_walk.specs.declared.report.Report.{Report}
-use Rattle.lc_walk.specs.declared.walk_fault.WalkFault.{WalkFault}
+use Rattle.lc_walk.specs.declared.{report.Report.Report, walk_fault.WalkFault.WalkFault}
 use Rattle.lc_walk.specs.declared.walk_fault.WalkFault.TheVariants as walk
 
 -- the line that names one of several directories, and says why its walk gave no report

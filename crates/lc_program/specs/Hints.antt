@@ -1,15 +1,10 @@
 -- The hint that rules above a counted directory were not read.
 use Rattle.std.specs.Prelude.{◌≡◌, ◌⊎◌, ◌&&◌, ℕ, Bool, true, false, cond, List, [], ◌∷◌, ◌++◌, Option, Some, None, Result, bytes_eq}
-use Rattle.std.specs.Prelude.{codes, string_bytes}
-use Rattle.std.specs.List.{AllZip, list_all}
-use Rattle.lc_arguments.specs.declared.request.Request.{Request}
-use Rattle.lc_arguments.specs.declared.request.Request.TheVariants.{CheckJoined, Check, Count, Diff, Explain, Sum}
+use Rattle.std.specs.{Prelude.{codes, string_bytes}, List.{AllZip, list_all}}
+use Rattle.lc_arguments.specs.declared.request.Request.{Request, TheVariants.{CheckJoined, Check, Count, Diff, Explain, Sum}}
 use Rattle.lc_io.specs.declared.source.Failed.{Failed}
 use Rattle.lc_text.specs.Visible.{visible_bytes}
-use Rattle.lc_program.specs.Commands.{count_of, is_typed}
-use Rattle.lc_program.specs.Counts.{names_of}
-use Rattle.lc_program.specs.Tellings.{Tells}
-use Rattle.lc_program.specs.declared.repository.Repository.{Repository}
+use Rattle.lc_program.specs.{Commands.{count_of, is_typed}, Counts.names_of, Tellings.Tells, declared.repository.Repository.Repository}
 
 -- the paths, in the repository with this top, of the directories that lie in it
 abbrev pub paths_in : List ℕ → List (Option Repository) → List (List ℕ)

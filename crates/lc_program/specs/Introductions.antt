@@ -1,11 +1,8 @@
 -- The line that says what the program reads from an input that is a terminal.
-use Rattle.std.specs.Prelude.{◌≡◌, ◌||◌, ℕ, Bool, true, false, List, Result, Option, Some, None, bytes_eq, codes}
-use Rattle.std.specs.Bool.{MatchBool}
-use Rattle.std.specs.Borrow.{Bor}
-use Rattle.std.specs.List.{list_any}
+use Rattle.std.specs.{Prelude.{◌≡◌, ◌||◌, ℕ, Bool, true, false, List, Result, Option, Some, None, bytes_eq, codes}, Bool.MatchBool}
+use Rattle.std.specs.{Borrow.Bor, List.list_any}
 use Rattle.lc_arguments.specs.declared.reports.NamedReport.{NamedReport}
-use Rattle.lc_arguments.specs.declared.request.Request.{Request}
-use Rattle.lc_arguments.specs.declared.request.Request.TheVariants.{CheckJoined, Check, Count, Diff, Explain, Sum}
+use Rattle.lc_arguments.specs.declared.request.Request.{Request, TheVariants.{CheckJoined, Check, Count, Diff, Explain, Sum}}
 use Rattle.lc_io.specs.declared.source.Failed.{Failed}
 use Rattle.lc_glob.specs.Lists.{is_empty}
 use Rattle.lc_program.specs.Tellings.{Tells, TellsIf}

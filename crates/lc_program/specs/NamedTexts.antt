@@ -1,10 +1,6 @@
 -- A text that the command line names: that of a file, or of the input.
-use Rattle.std.specs.Prelude.{◌≡◌, ◌≢◌, ◌⊎◌, ◌≤◌, ◌+◌, ℕ, List, length, Vec, codes, Result, Ok, Err, None}
-use Rattle.std.specs.Global.{Global}
-use Rattle.std.specs.List.{concat}
-use Rattle.lc_io.specs.Reads.{Answer, at_end, at_failure, at_neither}
-use Rattle.lc_io.specs.Whole.{AnswersWhole}
-use Rattle.lc_io.specs.declared.whole.WholeFault.{WholeFault}
+use Rattle.std.specs.{Prelude.{◌≡◌, ◌≢◌, ◌⊎◌, ◌≤◌, ◌+◌, ℕ, List, length, Vec, codes, Result, Ok, Err, None}, Global.Global, List.concat}
+use Rattle.lc_io.specs.{Reads.{Answer, at_end, at_failure, at_neither}, Whole.AnswersWhole, declared.whole.WholeFault.WholeFault}
 use Rattle.lc_io.specs.declared.whole.WholeFault.TheVariants.{Read, TooLong, Memory}
 use Rattle.lc_tree.specs.Trees.{Contents}
 

@@ -1,12 +1,8 @@
 -- Counted directories, of which one is the same as another or lies in another.
 use Rattle.std.specs.Prelude.{◌≡◌, ℕ, Bool, true, false, cond, List, [], ◌∷◌, ◌++◌, String, Option, Some, None, codes, string_bytes}
-use Rattle.std.specs.Prelude.{bytes_eq, nat_eq}
-use Rattle.std.specs.Global.{Global}
-use Rattle.std.specs.List.{AllPairs, AllZip, ends_with, starts_with}
-use Rattle.std.specs.List.Sorted.{IsPermutation}
+use Rattle.std.specs.{Prelude.{bytes_eq, nat_eq}, Global.Global, List.{AllPairs, AllZip, ends_with, starts_with, Sorted.IsPermutation}}
 use Rattle.lc_glob.specs.Bytes.{slash}
-use Rattle.lc_program.specs.declared.cause.Cause.{Cause}
-use Rattle.lc_program.specs.declared.cause.Cause.TheVariants.{Nested}
+use Rattle.lc_program.specs.declared.cause.Cause.{Cause, TheVariants.Nested}
 use Rattle.lc_text.specs.Visible.{visible_bytes}
 
 -- a directory: its name, and its canonical path with a slash at its end. The canonical paths of directories in it begin with this path

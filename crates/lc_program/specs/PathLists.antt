@@ -1,21 +1,12 @@
 -- The list of paths that the command line names, in a file or on the input.
-use Rattle.std.specs.Prelude.{◌≡◌, ◌≢◌, ◌⊎◌, ◌&&◌, ℕ, Bool, true, false, not, cond, List, [], ◌∷◌, ◌++◌, map}
-use Rattle.std.specs.Prelude.{Option, Some, None, Result, Ok, Err, Vec, codes, string_bytes}
-use Rattle.std.specs.Borrow.{Bor}
-use Rattle.std.specs.Global.{Global}
-use Rattle.std.specs.List.{list_any}
-use Rattle.lc_io.specs.Reads.{Answer}
-use Rattle.lc_io.specs.declared.whole.WholeFault.{WholeFault}
-use Rattle.lc_io.specs.declared.whole.WholeFault.TheVariants.{Read, TooLong, Memory}
-use Rattle.lc_text.specs.Lines.{input_paths_of}
-use Rattle.lc_text.specs.PathLines.{is_bad_path, is_top, path_of, undotted}
-use Rattle.lc_text.specs.declared.lines.PathEnd.{PathEnd}
+use Rattle.std.specs.Prelude.{◌≡◌, ◌≢◌, ◌⊎◌, ◌&&◌, ℕ, Bool, true, false, not, cond, List, [], ◌∷◌, ◌++◌, map, Option, Some, None, Result}
+use Rattle.std.specs.{Prelude.{Ok, Err, Vec, codes, string_bytes}, Borrow.Bor, Global.Global, List.list_any}
+use Rattle.lc_io.specs.{Reads.Answer, declared.whole.WholeFault.{WholeFault, TheVariants.{Read, TooLong, Memory}}}
+use Rattle.lc_text.specs.{Lines.input_paths_of, PathLines.{is_bad_path, is_top, path_of, undotted}, declared.lines.PathEnd.PathEnd}
 use Rattle.lc_tree.specs.Trees.{Contents}
-use Rattle.lc_program.specs.Causes.{bad_path_line, no_path_line}
-use Rattle.lc_program.specs.NamedTexts.{ReadsNamed}
-use Rattle.lc_program.specs.declared.cause.Cause.{Cause}
-use Rattle.lc_program.specs.declared.cause.Cause.TheVariants as cause
+use Rattle.lc_program.specs.{Causes.{bad_path_line, no_path_line}, NamedTexts.ReadsNamed, declared.cause.Cause.Cause}
 use Rattle.lc_program.specs.declared.unread_reason.UnreadReason.{UnreadReason}
+use Rattle.lc_program.specs.declared.cause.Cause.TheVariants as cause
 
 -- the greatest number of bytes of a list
 abbrev pub max_list : ℕ

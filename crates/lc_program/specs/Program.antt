@@ -1,40 +1,20 @@
 -- How the program ends on its arguments, by what it read and what it wrote to its streams.
 use Rattle.std.specs.Prelude.{◌≡◌, ◌⊎◌, ℕ, Bool, List, [], Option, Result, Ok, Err, string_bytes}
-use Rattle.lc_io.specs.declared.source.Failed.{Failed}
-use Rattle.lc_io.specs.Reads.{Answer}
-use Rattle.lc_program.specs.Causes.{HasNumber, cause_line}
-use Rattle.lc_program.specs.Counts.{names_of}
-use Rattle.lc_program.specs.Faults.{TellsFaults}
-use Rattle.lc_program.specs.Hints.{Hints}
-use Rattle.lc_program.specs.Introductions.{Introduces}
-use Rattle.lc_program.specs.Replies.{Reply, ending_of}
-use Rattle.lc_program.specs.Requests.{AnswersRequest}
-use Rattle.lc_program.specs.SideFaults.{TellsSideFaults}
-use Rattle.lc_program.specs.Styles.{format_for}
-use Rattle.lc_program.specs.Systems.{SystemMay}
-use Rattle.lc_program.specs.Tellings.{Tells}
-use Rattle.lc_program.specs.Unlisted.{TellsUnlisted}
-use Rattle.lc_program.specs.Unmatched.{unmatched_in}
-use Rattle.lc_arguments.specs.Naming.{IsNamingError, IsTextOf, named_command}
-use Rattle.lc_arguments.specs.Refusals.{IsMessage}
-use Rattle.lc_arguments.specs.TableWords.{format_in, options_in}
-use Rattle.lc_arguments.specs.Words.{AreRefused, Asks, MayShow, faults_in}
-use Rattle.lc_io.specs.Writes.{Writes, StopsWriting}
-use Rattle.lc_rows.specs.Laws.{all_columns}
-use Rattle.lc_arguments.specs.declared.request.Request.{Request}
-use Rattle.lc_arguments.specs.declared.request.Request.TheVariants.{Count, Diff, Explain, Sum}
-use Rattle.lc_program.specs.declared.answered.Answered.{Answered}
-use Rattle.lc_program.specs.declared.answered.Answered.TheVariants.{Compared, Counted, Explained, Summed}
-use Rattle.lc_program.specs.declared.cause.Cause.{Cause}
-use Rattle.lc_program.specs.declared.cause.Cause.TheVariants.{Memory, Unwritten}
-use Rattle.lc_program.specs.declared.ending.Ending.{Ending}
-use Rattle.lc_program.specs.declared.ending.Ending.TheVariants.{AnyFile, Done, SomeFaults, Misused, GaveUp}
-use Rattle.lc_program.specs.declared.repository.Repository.{Repository}
-use Rattle.lc_program.specs.declared.streams.Streams.{Streams}
-use Rattle.lc_program.specs.declared.streams.Terminals.{Terminals}
+use Rattle.lc_io.specs.{declared.source.Failed.Failed, Reads.Answer, Writes.{Writes, StopsWriting}}
+use Rattle.lc_program.specs.{Causes.{HasNumber, cause_line}, Counts.names_of, Faults.TellsFaults, Hints.Hints, Introductions.Introduces}
+use Rattle.lc_program.specs.{Replies.{Reply, ending_of}, Requests.AnswersRequest, SideFaults.TellsSideFaults, Styles.format_for}
+use Rattle.lc_program.specs.{Systems.SystemMay, Tellings.Tells, Unlisted.TellsUnlisted, Unmatched.unmatched_in}
+use Rattle.lc_program.specs.declared.answered.Answered.{Answered, TheVariants.{Compared, Counted, Explained, Summed}}
+use Rattle.lc_program.specs.declared.cause.Cause.{Cause, TheVariants.{Memory, Unwritten}}
+use Rattle.lc_program.specs.declared.ending.Ending.{Ending, TheVariants.{AnyFile, Done, SomeFaults, Misused, GaveUp}}
+use Rattle.lc_program.specs.declared.{repository.Repository.Repository, streams.{Streams.Streams, Terminals.Terminals}}
 use Rattle.lc_program.specs.declared.unread_reason.UnreadReason.{UnreadReason}
-use Rattle.lc_text.specs.declared.outcome.Outcome.TheVariants as outcome
+use Rattle.lc_arguments.specs.{Naming.{IsNamingError, IsTextOf, named_command}, Refusals.IsMessage, TableWords.{format_in, options_in}}
+use Rattle.lc_arguments.specs.{Words.{AreRefused, Asks, MayShow, faults_in}, declared.request.Request.Request}
+use Rattle.lc_arguments.specs.declared.request.Request.TheVariants.{Count, Diff, Explain, Sum}
+use Rattle.lc_rows.specs.Laws.{all_columns}
 use Rattle.lc_sheet.specs.declared.table_options.Format.{Format}
+use Rattle.lc_text.specs.declared.outcome.Outcome.TheVariants as outcome
 
 abbrev pub status_of : Ending → ℕ
 status_of Done = 0

@@ -1,8 +1,7 @@
 -- Why a path could not be read, as lines on standard error say it.
 use Rattle.std.specs.Prelude.{ℕ, List, [], ◌++◌, Option, Some, None, codes}
 use Rattle.lc_text.specs.Visible.{visible_bytes}
-use Rattle.lc_program.specs.Commands.{file_count}
-use Rattle.lc_program.specs.declared.unread_reason.UnreadReason.{UnreadReason}
+use Rattle.lc_program.specs.{Commands.file_count, declared.unread_reason.UnreadReason.UnreadReason}
 use Rattle.lc_program.specs.declared.unread_reason.UnreadReason.TheVariants.{Missing, Denied, IsDirectory, IsFile, NotDirectory, Other}
 
 -- the text of a reason, which follows the name

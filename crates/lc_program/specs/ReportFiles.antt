@@ -1,23 +1,16 @@
 -- Reading the reports that the command line names. A REPORT is a file, or the input, that has one or more reports.
-use Rattle.std.specs.Prelude.{◌≡◌, ◌⊎◌, ℕ, true, List, [], ◌∷◌, ◌++◌, Option, Some, None, Result, Ok, Err, Vec}
-use Rattle.std.specs.Global.{Global}
+use Rattle.std.specs.{Prelude.{◌≡◌, ◌⊎◌, ℕ, true, List, [], ◌∷◌, ◌++◌, Option, Some, None, Result, Ok, Err, Vec}, Global.Global}
 use Rattle.std.specs.List.{AllZip, list_all}
 use Rattle.json.specs.Word.{is_space}
-use Rattle.lc_io.specs.Reads.{Answer}
-use Rattle.lc_io.specs.declared.whole.WholeFault.{WholeFault}
-use Rattle.lc_program.specs.NamedTexts.{ReadsNamed}
-use Rattle.lc_program.specs.ReportLines.{IsRefusedFor, IsUnreadFor, origin_of}
-use Rattle.lc_program.specs.declared.cause.Cause.{Cause}
-use Rattle.lc_program.specs.declared.cause.Cause.TheVariants.{Memory}
-use Rattle.lc_program.specs.declared.unread_reason.UnreadReason.{UnreadReason}
-use Rattle.lc_reading.specs.Texts.{AreReportsOf}
-use Rattle.lc_reading.specs.declared.read_fault.NoReport.TheVariants as why
-use Rattle.lc_reading.specs.declared.read_fault.ReadFault.{ReadFault}
-use Rattle.lc_reading.specs.declared.read_fault.ReadFault.TheVariants as fault
-use Rattle.lc_reading.specs.declared.read_report.ReadReport.{ReadReport}
+use Rattle.lc_io.specs.{Reads.Answer, declared.whole.WholeFault.WholeFault}
+use Rattle.lc_program.specs.{NamedTexts.ReadsNamed, ReportLines.{IsRefusedFor, IsUnreadFor, origin_of}}
+use Rattle.lc_program.specs.declared.{cause.Cause.{Cause, TheVariants.Memory}, unread_reason.UnreadReason.UnreadReason}
+use Rattle.lc_reading.specs.{Texts.AreReportsOf, declared.{read_fault.ReadFault.ReadFault, read_report.ReadReport.ReadReport}}
 use Rattle.lc_reports.specs.Named.{IsNamed}
 use Rattle.lc_sums.specs.declared.part.Part.{Part}
 use Rattle.lc_tree.specs.Trees.{Contents}
+use Rattle.lc_reading.specs.declared.read_fault.NoReport.TheVariants as why
+use Rattle.lc_reading.specs.declared.read_fault.ReadFault.TheVariants as fault
 
 -- the greatest number of bytes of a REPORT
 abbrev pub max_report : ℕ

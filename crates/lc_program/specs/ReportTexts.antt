@@ -1,16 +1,9 @@
 -- The text of a report, by its options.
-use Rattle.std.specs.Prelude.{◌≡◌, ℕ, List, [], ◌∷◌}
-use Rattle.std.specs.List.Sorted.{IsPermutation}
+use Rattle.std.specs.{Prelude.{◌≡◌, ℕ, List, [], ◌∷◌}, List.Sorted.IsPermutation}
 use Rattle.lc_formats.specs.Texts.{IsTextIn}
 use Rattle.lc_picture.specs.Page.{IsPageOf, drawn_number}
-use Rattle.lc_rows.specs.Classes.{classes_of}
-use Rattle.lc_rows.specs.Kept.{IsKept}
-use Rattle.lc_rows.specs.Sheets.{IsSheetWith}
-use Rattle.lc_rows.specs.declared.classes.ClassSums.{ClassSums}
-use Rattle.lc_sheet.specs.Conditions.{ConditionModel}
-use Rattle.lc_sheet.specs.Sheets.{SheetModel}
-use Rattle.lc_sheet.specs.declared.table_options.Format.{Format}
-use Rattle.lc_sheet.specs.declared.table_options.Format.TheVariants.{Html}
+use Rattle.lc_rows.specs.{Classes.classes_of, Kept.IsKept, Sheets.IsSheetWith, declared.classes.ClassSums.ClassSums}
+use Rattle.lc_sheet.specs.{Conditions.ConditionModel, Sheets.SheetModel, declared.table_options.Format.{Format, TheVariants.Html}}
 use Rattle.lc_sheet.specs.declared.table_options.TableOptions.{TableOptions}
 use Rattle.lc_walk.specs.declared.report.Report.{Report}
 

@@ -1,35 +1,19 @@
 -- How a request is answered, by what was read and written.
-use Rattle.std.specs.Prelude.{◌≡◌, ◌⊎◌, ℕ, Bool, true, false, List, [], ◌∷◌, map, Option, Result, Ok, Err}
-use Rattle.std.specs.Borrow.{Bor}
-use Rattle.lc_io.specs.declared.source.Failed.{Failed}
-use Rattle.lc_io.specs.Reads.{Answer}
+use Rattle.std.specs.{Prelude.{◌≡◌, ◌⊎◌, ℕ, Bool, true, false, List, [], ◌∷◌, map, Option, Result, Ok, Err}, Borrow.Bor}
+use Rattle.lc_io.specs.{declared.{source.Failed.Failed, printing.PrintFault.PrintFault}, Reads.Answer}
 use Rattle.lc_rules.specs.IgnoreRules.{rules_of}
-use Rattle.lc_tree.specs.Trees.{Listings, Contents}
-use Rattle.lc_tree.specs.declared.file_systems.FileSystems.TheVariants.{All}
+use Rattle.lc_tree.specs.{Trees.{Listings, Contents}, declared.file_systems.FileSystems.TheVariants.All}
 use Rattle.lc_paths.specs.Explanations.Answers.{AnswersExplain, AnswersLines, MaySay}
 use Rattle.lc_paths.specs.declared.explaining.explain_options.ExplainOptions.{ExplainOptions}
-use Rattle.lc_paths.specs.Checks.Answers.{AnswersCheck, AnswersExplainedCheck, no_rules}
-use Rattle.lc_paths.specs.Checks.CheckText.{text_by}
-use Rattle.lc_paths.specs.Checks.Joined.{rules_part, joined_text}
-use Rattle.lc_paths.specs.Checks.ExplainedText.{explained_text_of}
-use Rattle.lc_text.specs.Styles.{styled}
-use Rattle.lc_text.specs.declared.check_fault.CheckFault.{CheckFault}
-use Rattle.lc_text.specs.declared.outcome.Outcome.{Outcome}
-use Rattle.lc_io.specs.declared.printing.PrintFault.{PrintFault}
-use Rattle.lc_text.specs.declared.style.PathFormat.{PathFormat}
-use Rattle.lc_text.specs.declared.style.PathStyle.{PathStyle}
-use Rattle.lc_arguments.specs.declared.request.Request.{Request}
-use Rattle.lc_arguments.specs.declared.request.Request.TheVariants.{CheckJoined, Check, Count, Diff, Explain, Sum}
+use Rattle.lc_paths.specs.Checks.{Answers.{AnswersCheck, AnswersExplainedCheck, no_rules}, CheckText.text_by}
+use Rattle.lc_paths.specs.Checks.{Joined.{rules_part, joined_text}, ExplainedText.explained_text_of}
+use Rattle.lc_text.specs.{Styles.styled, declared.{check_fault.CheckFault.CheckFault, outcome.Outcome.Outcome}}
+use Rattle.lc_text.specs.declared.style.{PathFormat.PathFormat, PathStyle.PathStyle}
+use Rattle.lc_arguments.specs.declared.request.Request.{Request, TheVariants.{CheckJoined, Check, Count, Diff, Explain, Sum}}
 use Rattle.lc_arguments.specs.declared.explain.ExplainRequest.{ExplainRequest}
-use Rattle.lc_program.specs.Counts.{AnswersCount}
-use Rattle.lc_program.specs.Differences.{AnswersDiff}
-use Rattle.lc_program.specs.Replies.{Reply, checked, explained, told}
-use Rattle.lc_program.specs.Filters.{Excludes, GaveNoRules, LacksRules, LoadsFile, filters_of}
-use Rattle.lc_program.specs.Styles.{end_for, format_for, format_with, style_for}
-use Rattle.lc_program.specs.Sums.{AnswersSum}
-use Rattle.lc_program.specs.Systems.{SystemMay}
-use Rattle.lc_program.specs.declared.cause.Cause.{Cause}
-use Rattle.lc_program.specs.declared.cause.Cause.TheVariants.{Memory}
+use Rattle.lc_program.specs.{Counts.AnswersCount, Differences.AnswersDiff, Replies.{Reply, checked, explained, told}, Filters.Excludes}
+use Rattle.lc_program.specs.{Filters.{GaveNoRules, LacksRules, LoadsFile, filters_of}, Styles.{end_for, format_for, format_with, style_for}}
+use Rattle.lc_program.specs.{Sums.AnswersSum, Systems.SystemMay, declared.cause.Cause.{Cause, TheVariants.Memory}}
 
 -- the explanations of paths in a tree, by what the tree may answer
 module _ (lists : List ℕ → Listings) (gives : List ℕ → Contents) {I O : Type 0} (may_give : I → ℕ → Answer → I → Type 0)

@@ -1,16 +1,10 @@
 -- What a run, which walks a tree and writes its table, answers, by what its walk answers.
 use Rattle.std.specs.Prelude.{◌≡◌, ℕ, List, Result, Ok, Err}
-use Rattle.lc_io.specs.declared.source.Failed.{Failed}
-use Rattle.lc_walk.specs.declared.report.Report.{Report}
-use Rattle.lc_walk.specs.declared.walk_fault.WalkFault.{WalkFault}
-use Rattle.lc_program.specs.ReportTexts.{IsPrinted}
-use Rattle.lc_io.specs.Writes.{Writes, StopsWriting}
-use Rattle.lc_io.specs.declared.printing.PrintFault.{PrintFault}
-use Rattle.lc_sheet.specs.Conditions.{ConditionModel}
-use Rattle.lc_sheet.specs.declared.table_options.TableOptions.{TableOptions}
+use Rattle.lc_io.specs.{declared.{source.Failed.Failed, printing.PrintFault.PrintFault}, Writes.{Writes, StopsWriting}}
+use Rattle.lc_walk.specs.declared.{report.Report.Report, walk_fault.WalkFault.WalkFault}
+use Rattle.lc_program.specs.{ReportTexts.IsPrinted, declared.runs.RunFault.{RunFault, TheVariants.{Walk, Memory, Write}}}
+use Rattle.lc_sheet.specs.{Conditions.ConditionModel, declared.table_options.TableOptions.TableOptions}
 use Rattle.lc_io.specs.declared.printing.PrintFault.TheVariants as print
-use Rattle.lc_program.specs.declared.runs.RunFault.{RunFault}
-use Rattle.lc_program.specs.declared.runs.RunFault.TheVariants.{Walk, Memory, Write}
 
 -- why a table was not written, or not whole
 abbrev pub table_fault : PrintFault → RunFault

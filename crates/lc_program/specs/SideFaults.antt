@@ -1,13 +1,9 @@
 -- The lines on standard error about what the sides of a comparison could not read.
-use Rattle.std.specs.Prelude.{◌≡◌, ◌⊎◌, ◌&&◌, ℕ, Bool, List, ◌++◌, flat_map, codes, Result}
-use Rattle.std.specs.Bool.{MatchBool}
+use Rattle.std.specs.{Prelude.{◌≡◌, ◌⊎◌, ◌&&◌, ℕ, Bool, List, ◌++◌, flat_map, codes, Result}, Bool.MatchBool}
 use Rattle.lc_glob.specs.Lists.{is_empty}
 use Rattle.lc_io.specs.declared.source.Failed.{Failed}
 use Rattle.lc_level.specs.FaultLines.{FaultLineModel}
-use Rattle.lc_program.specs.Commands.{or_here}
-use Rattle.lc_program.specs.ReportLines.{origin_of}
-use Rattle.lc_program.specs.Tellings.{Tells}
-use Rattle.lc_program.specs.Unlisted.{short_line}
+use Rattle.lc_program.specs.{Commands.or_here, ReportLines.origin_of, Tellings.Tells, Unlisted.short_line}
 use Rattle.lc_text.specs.Visible.{visible_bytes}
 
 -- the part of a line, after the name of a side, that says that a path of this side could not be read

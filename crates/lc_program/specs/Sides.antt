@@ -1,29 +1,15 @@
 -- The sides of a comparison: directories that are counted, and reports that are read.
-use Rattle.std.specs.Prelude.{◌≡◌, ◌≢◌, ◌⊎◌, ℕ, Bool, true, false, List, []}
-use Rattle.std.specs.Prelude.{Option, Some, None, Result, Ok, Err, Vec, codes}
+use Rattle.std.specs.Prelude.{◌≡◌, ◌≢◌, ◌⊎◌, ℕ, Bool, true, false, List, [], Option, Some, None, Result, Ok, Err, Vec, codes}
 use Rattle.std.specs.Global.{Global}
 use Rattle.lc_arguments.specs.declared.walk_request.WalkRequest.{WalkRequest}
 use Rattle.lc_io.specs.Reads.{Answer}
-use Rattle.lc_program.specs.Faults.{has_path}
-use Rattle.lc_program.specs.Finds.{IsCauseIn}
-use Rattle.lc_program.specs.Reasons.{unexplained_line}
-use Rattle.lc_program.specs.ReportFiles.{ReadsParts, Refuses}
-use Rattle.lc_program.specs.ReportLines.{IsTold, IsUnsummedFor}
-use Rattle.lc_program.specs.Systems.{SystemMay}
-use Rattle.lc_program.specs.WalkRequests.{entered_by}
-use Rattle.lc_program.specs.declared.cause.Cause.{Cause}
-use Rattle.lc_program.specs.declared.cause.Cause.TheVariants.{Memory}
+use Rattle.lc_program.specs.{Faults.has_path, Finds.IsCauseIn, Reasons.unexplained_line, ReportFiles.{ReadsParts, Refuses}}
+use Rattle.lc_program.specs.{ReportLines.{IsTold, IsUnsummedFor}, Systems.SystemMay, WalkRequests.entered_by}
+use Rattle.lc_program.specs.declared.cause.Cause.{Cause, TheVariants.Memory}
 use Rattle.lc_program.specs.declared.unread_reason.UnreadReason.{UnreadReason}
 use Rattle.lc_program.specs.declared.unread_reason.UnreadReason.TheVariants.{Missing, Denied, IsDirectory, IsFile, NotDirectory, Other}
-use Rattle.lc_sums.specs.Sums.{IsSummed}
-use Rattle.lc_sums.specs.declared.needs.Needs.{Needs}
-use Rattle.lc_sums.specs.declared.part.Part.{Part}
-use Rattle.lc_sums.specs.declared.sum.Sum.{Sum}
-use Rattle.lc_sums.specs.declared.sum_fault.SumFault.{SumFault}
-use Rattle.lc_walk.specs.Walks.{Walks}
-use Rattle.lc_walk.specs.declared.options.Options.{Options}
-use Rattle.lc_walk.specs.declared.report.Report.{Report}
-use Rattle.lc_walk.specs.declared.walk_fault.WalkFault.{WalkFault}
+use Rattle.lc_sums.specs.{Sums.IsSummed, declared.{needs.Needs.Needs, part.Part.Part, sum.Sum.Sum, sum_fault.SumFault.SumFault}}
+use Rattle.lc_walk.specs.{Walks.Walks, declared.{options.Options.Options, report.Report.Report, walk_fault.WalkFault.WalkFault}}
 
 -- ---- which sides are directories
 

@@ -1,32 +1,14 @@
 -- How a sum is answered, by what was read and written.
-use Rattle.std.specs.Prelude.{◌≡◌, ◌⊎◌, ◌||◌, ℕ, List, ◌++◌, map, nat_lt, codes, Some, None, Result, Ok, Err, Vec}
-use Rattle.std.specs.Global.{Global}
-use Rattle.lc_arguments.specs.Combinations.{is_picture}
-use Rattle.lc_arguments.specs.Reports.{report_model}
-use Rattle.lc_arguments.specs.TableWords.{options_in}
-use Rattle.lc_arguments.specs.declared.sum.SumRequest.{SumRequest}
-use Rattle.lc_io.specs.Reads.{Answer}
-use Rattle.lc_io.specs.declared.printing.PrintFault.{PrintFault}
-use Rattle.lc_io.specs.declared.source.Failed.{Failed}
-use Rattle.lc_program.specs.Causes.{print_cause}
-use Rattle.lc_program.specs.Counts.{one_text}
-use Rattle.lc_program.specs.Replies.{Reply}
-use Rattle.lc_program.specs.ReportFiles.{AnswersParts, Typed}
-use Rattle.lc_program.specs.ReportLines.{IsUnsummedFor}
-use Rattle.lc_program.specs.ReportTexts.{IsPrintedWith}
-use Rattle.lc_program.specs.Runs.{AnswersText}
-use Rattle.lc_program.specs.Systems.{SystemMay}
-use Rattle.lc_program.specs.declared.answered.Answered.TheVariants.{Summed}
-use Rattle.lc_program.specs.declared.cause.Cause.{Cause}
+use Rattle.std.specs.{Prelude.{◌≡◌, ◌⊎◌, ◌||◌, ℕ, List, ◌++◌, map, nat_lt, codes, Some, None, Result, Ok, Err, Vec}, Global.Global}
+use Rattle.lc_arguments.specs.{Combinations.is_picture, Reports.report_model, TableWords.options_in, declared.sum.SumRequest.SumRequest}
+use Rattle.lc_io.specs.{Reads.Answer, declared.{printing.PrintFault.PrintFault, source.Failed.Failed}}
+use Rattle.lc_program.specs.{Causes.print_cause, Counts.one_text, Replies.Reply, ReportFiles.{AnswersParts, Typed}}
+use Rattle.lc_program.specs.{ReportLines.IsUnsummedFor, ReportTexts.IsPrintedWith, Runs.AnswersText, Systems.SystemMay}
+use Rattle.lc_program.specs.declared.{answered.Answered.TheVariants.Summed, cause.Cause.Cause}
 use Rattle.lc_reading.specs.declared.row_columns.RowColumns.{RowColumns}
 use Rattle.lc_rows.specs.declared.classes.ClassSums.{ClassSums}
-use Rattle.lc_sheet.specs.declared.table_options.Columns.{Columns}
-use Rattle.lc_sheet.specs.declared.table_options.Format.{Format}
-use Rattle.lc_sums.specs.Needs.{needs_of}
-use Rattle.lc_sums.specs.Sums.{IsSummed}
-use Rattle.lc_sums.specs.declared.needs.Needs.{Needs}
-use Rattle.lc_sums.specs.declared.part.Part.{Part}
-use Rattle.lc_sums.specs.declared.sum.Sum.{Sum}
+use Rattle.lc_sheet.specs.declared.table_options.{Columns.Columns, Format.Format}
+use Rattle.lc_sums.specs.{Needs.needs_of, Sums.IsSummed, declared.{needs.Needs.Needs, part.Part.Part, sum.Sum.Sum}}
 use Rattle.lc_sums.specs.declared.sum_fault.SumFault.{SumFault}
 use Rattle.lc_walk.specs.declared.report.Report.{Report}
 

@@ -1,10 +1,7 @@
 -- What a system may answer about the names on a command line.
 use Rattle.std.specs.Prelude.{ℕ, List, Option}
-use Rattle.lc_tree.specs.Trees.{Listings, Contents}
-use Rattle.lc_tree.specs.declared.tree.Tree.{Ghosts as TreeGhosts}
-use Rattle.lc_tree.specs.declared.file_systems.FileSystems.{FileSystems}
-use Rattle.lc_program.specs.declared.system.System.{Ghosts as SystemGhosts}
-use Rattle.lc_program.specs.declared.repository.Repository.{Repository}
+use Rattle.lc_tree.specs.{Trees.{Listings, Contents}, declared.{tree.Tree.Ghosts as TreeGhosts, file_systems.FileSystems.FileSystems}}
+use Rattle.lc_program.specs.declared.{system.System.Ghosts as SystemGhosts, repository.Repository.Repository}
 use Rattle.lc_program.specs.declared.unread_reason.UnreadReason.{UnreadReason}
 
 -- what a system may answer. `list` and `give`: what listings of each path in the directory with a name, and reads of the file there, may

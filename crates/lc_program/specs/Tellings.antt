@@ -1,7 +1,6 @@
 -- What is written to standard error.
 use Rattle.std.specs.Prelude.{◌≡◌, ◌⊎◌, ℕ, Bool, true, false, List, Result}
-use Rattle.lc_io.specs.declared.source.Failed.{Failed}
-use Rattle.lc_io.specs.Writes.{Writes, StopsWriting}
+use Rattle.lc_io.specs.{declared.source.Failed.Failed, Writes.{Writes, StopsWriting}}
 
 module _ {E : Type 0} (may_take : E → List ℕ → Result ℕ Failed → E → Type 0) where
   -- standard error gets this text, or a prefix of it if a write fails or takes nothing

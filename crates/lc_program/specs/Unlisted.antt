@@ -1,9 +1,7 @@
 -- The line about the directory of an explanation that could not be read.
 use Rattle.std.specs.Prelude.{◌≡◌, ◌⊎◌, ℕ, List, Option, Some, None, Result, codes}
 use Rattle.lc_io.specs.declared.source.Failed.{Failed}
-use Rattle.lc_program.specs.Reasons.{unexplained_line}
-use Rattle.lc_program.specs.Tellings.{Tells}
-use Rattle.lc_program.specs.declared.unread_reason.UnreadReason.{UnreadReason}
+use Rattle.lc_program.specs.{Reasons.unexplained_line, Tellings.Tells, declared.unread_reason.UnreadReason.UnreadReason}
 
 -- the line in place of lines about paths if an allocation fails
 abbrev pub short_line : List ℕ

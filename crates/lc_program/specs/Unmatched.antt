@@ -1,9 +1,7 @@
 -- The lines about patterns that can match nothing.
-use Rattle.std.specs.Prelude.{ℕ, cond, List, [], ◌++◌, codes, flat_map}
-use Rattle.std.specs.Borrow.{Bor}
+use Rattle.std.specs.{Prelude.{ℕ, cond, List, [], ◌++◌, codes, flat_map}, Borrow.Bor}
 use Rattle.lc_arguments.specs.declared.filter_request.FilterRequest.{FilterRequest}
-use Rattle.lc_arguments.specs.declared.request.Request.{Request}
-use Rattle.lc_arguments.specs.declared.request.Request.TheVariants.{CheckJoined, Check, Count, Diff, Explain, Sum}
+use Rattle.lc_arguments.specs.declared.request.Request.{Request, TheVariants.{CheckJoined, Check, Count, Diff, Explain, Sum}}
 use Rattle.lc_rules.specs.CanMatch.{can_match}
 use Rattle.lc_text.specs.Visible.{visible_bytes}
 

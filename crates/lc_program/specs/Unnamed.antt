@@ -1,6 +1,5 @@
 -- The lines about attributes that no attribute file names.
-use Rattle.std.specs.Prelude.{◌≡◌, ℕ, List, ◌++◌, Vec, flat_map, codes}
-use Rattle.std.specs.Global.{Global}
+use Rattle.std.specs.{Prelude.{◌≡◌, ℕ, List, ◌++◌, Vec, flat_map, codes}, Global.Global}
 use Rattle.lc_level.specs.NamedAttributes.{AreSomeAttributes}
 use Rattle.lc_text.specs.Visible.{visible_bytes}
 

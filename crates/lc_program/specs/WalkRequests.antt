@@ -1,18 +1,11 @@
 -- What the command line requests of walks.
-use Rattle.std.specs.Prelude.{◌≡◌, ◌⊎◌, ℕ, if◌then◌else◌, List, map, Result, Ok, Err, Vec}
-use Rattle.std.specs.Borrow.{Bor}
-use Rattle.std.specs.Global.{Global}
+use Rattle.std.specs.{Prelude.{◌≡◌, ◌⊎◌, ℕ, if◌then◌else◌, List, map, Result, Ok, Err, Vec}, Borrow.Bor, Global.Global}
 use Rattle.lc_arguments.specs.declared.walk_request.WalkRequest.{WalkRequest}
 use Rattle.lc_io.specs.Reads.{Answer}
 use Rattle.lc_level.specs.Filters.{FiltersModel}
-use Rattle.lc_program.specs.PathLists.{AnswersWanted, GivesList}
-use Rattle.lc_program.specs.Styles.{end_for}
-use Rattle.lc_program.specs.Systems.{SystemMay}
-use Rattle.lc_program.specs.declared.cause.Cause.{Cause}
-use Rattle.lc_tree.specs.declared.file_systems.FileSystems.{FileSystems}
-use Rattle.lc_tree.specs.declared.file_systems.FileSystems.TheVariants.{All, One}
-use Rattle.lc_walk.specs.declared.options.Options.{Options}
-use Rattle.lc_walk.specs.declared.options.ReportLists.{ReportLists}
+use Rattle.lc_program.specs.{PathLists.{AnswersWanted, GivesList}, Styles.end_for, Systems.SystemMay, declared.cause.Cause.Cause}
+use Rattle.lc_tree.specs.declared.file_systems.FileSystems.{FileSystems, TheVariants.{All, One}}
+use Rattle.lc_walk.specs.declared.options.{Options.Options, ReportLists.ReportLists}
 
 -- the file systems whose directories the command line lets a walk enter
 abbrev pub entered_by : WalkRequest → FileSystems

@@ -1,13 +1,9 @@
 use Rattle.std.proofs.Common.{◌∙◌, ℕ, List, Ok, Err, ap, inl, inr, map, refl, string_bytes, subst}
 use Rattle.lc_level.specs.NamedAttributes.{attributes_of}
-use Rattle.lc_program.specs.Differences.{compared_lists, compared_needs}
-use Rattle.lc_program.specs.Systems.{SystemMay, may_of}
-use Rattle.lc_program.specs.Unnamed.{AreUnnamedLines}
-use Rattle.lc_program.proofs.ChangesReplied.{compare_done, compare_replied}
-use Rattle.lc_program.proofs.ComparedNeeds.{files_needed, sides_given}
-use Rattle.lc_program.proofs.FiltersAsked.{asked_by_all, memory_wanted}
-use Rattle.lc_program.proofs.Loading.{given_up}
+use Rattle.lc_program.specs.{Differences.{compared_lists, compared_needs}, Systems.{SystemMay, may_of}, Unnamed.AreUnnamedLines}
 use Rattle.lc_program.specs.declared.cause.Cause.TheVariants.{Memory}
+use Rattle.lc_program.proofs.{ChangesReplied.{compare_done, compare_replied}, ComparedNeeds.{files_needed, sides_given}}
+use Rattle.lc_program.proofs.{FiltersAsked.{asked_by_all, memory_wanted}, Loading.given_up}
 use Rattle.lc_program.proofs.comparing.compare_sides.Goals as goal
 
 pub returns-in_err-filters : goal.returns-in_err-filters

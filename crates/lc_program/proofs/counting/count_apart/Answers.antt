@@ -1,10 +1,7 @@
 use Rattle.std.proofs.Common.{◌∙◌, ℕ, List, ap, inl, inr, map, refl, string_bytes, subst}
 use Rattle.lc_level.specs.NamedAttributes.{attributes_of}
-use Rattle.lc_program.specs.Counts.{lists_of}
-use Rattle.lc_program.specs.Unnamed.{AreUnnamedLines}
-use Rattle.lc_program.proofs.FiltersAsked.{asked_by_all, memory_wanted}
-use Rattle.lc_program.proofs.Loading.{given_up, run_counted, run_replied}
-use Rattle.lc_program.specs.declared.cause.Cause.TheVariants.{Memory}
+use Rattle.lc_program.specs.{Counts.lists_of, Unnamed.AreUnnamedLines, declared.cause.Cause.TheVariants.Memory}
+use Rattle.lc_program.proofs.{FiltersAsked.{asked_by_all, memory_wanted}, Loading.{given_up, run_counted, run_replied}}
 use Rattle.lc_program.proofs.counting.count_apart.Goals as goal
 
 pub returns-in_err-filters : goal.returns-in_err-filters

@@ -1,8 +1,7 @@
 use Rattle.std.proofs.Common.{◌∙◌, ap, map, refl}
 use Rattle.lc_io.specs.declared.printing.PrintFault.TheVariants.{Memory}
 use Rattle.lc_program.proofs.Printing.{prints_none, prints_stopped, prints_whole}
-use Rattle.lc_program.specs.Counts.{one_text}
-use Rattle.lc_program.specs.Systems.{SystemMay, may_of}
+use Rattle.lc_program.specs.{Counts.one_text, Systems.{SystemMay, may_of}}
 use Rattle.lc_program.proofs.counting.print_found.Goals as goal
 
 pub returns-in_err-report : goal.returns-in_err-report

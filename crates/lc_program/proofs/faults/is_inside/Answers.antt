@@ -1,5 +1,4 @@
-use Rattle.std.proofs.Common.{◌≡◌, ◌∙◌, ℕ, List, [], ap, bytes_eq, get_or, map, not, subst, sym, true}
-use Rattle.std.proofs.lemmas.List.Folds.{list_any_at}
+use Rattle.std.proofs.{Common.{◌≡◌, ◌∙◌, ℕ, List, [], ap, bytes_eq, get_or, map, not, subst, sym, true}, lemmas.List.Folds.list_any_at}
 use Rattle.std.specs.Borrow.{Bor}
 use Rattle.lc_level.proofs.AskedPaths.{list_any-map}
 use Rattle.lc_level.specs.FaultLines.{FaultLineModel}

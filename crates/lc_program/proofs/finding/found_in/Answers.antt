@@ -1,5 +1,4 @@
-use Rattle.lc_program.proofs.FoundLists.{one_listed}
-use Rattle.lc_program.proofs.FoundNames.{finds_many, none_many}
+use Rattle.lc_program.proofs.{FoundLists.one_listed, FoundNames.{finds_many, none_many}}
 use Rattle.lc_walk.specs.Walks.{Walks}
 use Rattle.lc_program.proofs.finding.found_in.Goals as goal
 

@@ -1,6 +1,5 @@
 use Rattle.std.proofs.Common.{inl, map}
-use Rattle.lc_program.proofs.FoundNames.{contains_name, passed_on}
-use Rattle.lc_program.proofs.NamesTaken.{named_more}
+use Rattle.lc_program.proofs.{FoundNames.{contains_name, passed_on}, NamesTaken.named_more}
 use Rattle.lc_program.specs.Finds.{EndsAmong, IsWalkedBelow}
 use Rattle.lc_walk.specs.Walks.{Walks}
 use Rattle.lc_program.proofs.finding.walks_below.Goals as goal

@@ -1,5 +1,4 @@
-use Rattle.std.proofs.Common.{◌∙◌, sym}
-use Rattle.std.proofs.lemmas.List.Folds.{list_all-map, list_all_at}
+use Rattle.std.proofs.{Common.{◌∙◌, sym}, lemmas.List.Folds.{list_all-map, list_all_at}}
 use Rattle.lc_program.specs.Commands.{is_typed}
 use Rattle.lc_program.proofs.hints.are_typed.Goals as goal
 

@@ -1,6 +1,5 @@
 use Rattle.std.proofs.Common.{◌∙◌, ℕ, List, inl, inr, map, refl, string_bytes, subst, sym}
-use Rattle.lc_arguments.specs.Naming.{IsNamingError, IsTextOf, named_command}
-use Rattle.lc_arguments.specs.Refusals.{IsMessage}
+use Rattle.lc_arguments.specs.{Naming.{IsNamingError, IsTextOf, named_command}, Refusals.IsMessage}
 use Rattle.lc_program.specs.Program.{Advises}
 use Rattle.lc_program.proofs.Endings.{ends_answered, ends_shown}
 use Rattle.lc_program.proofs.running.end_of.Goals as goal

@@ -1,7 +1,6 @@
 use Rattle.std.proofs.Common.{ap, ◌∙◌}
 use Rattle.lc_walk.proofs.ReportTotals.{walked_lists}
-use Rattle.lc_walk.specs.Walks.{Walks}
-use Rattle.lc_walk.specs.declared.options.ReportLists.{ReportLists}
+use Rattle.lc_walk.specs.{Walks.Walks, declared.options.ReportLists.ReportLists}
 use Rattle.lc_program.proofs.Stopping.{run_stops}
 use Rattle.lc_program.proofs.runs.run.Goals as goal
 

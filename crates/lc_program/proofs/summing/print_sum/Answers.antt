@@ -1,8 +1,6 @@
 use Rattle.std.proofs.Common.{◌∙◌, ap, map}
-use Rattle.lc_arguments.specs.Reports.{report_model}
-use Rattle.lc_arguments.specs.TableWords.{options_in}
-use Rattle.lc_program.specs.Counts.{one_text}
-use Rattle.lc_program.specs.Sums.{typed_text}
+use Rattle.lc_arguments.specs.{Reports.report_model, TableWords.options_in}
+use Rattle.lc_program.specs.{Counts.one_text, Sums.typed_text}
 use Rattle.lc_program.proofs.SumsPrinted.{sum_stopped}
 use Rattle.lc_program.proofs.summing.print_sum.Goals as goal
 

@@ -1,7 +1,6 @@
 use Rattle.std.proofs.Common.{◌≡◌, ◌++◌, map, take}
 use Rattle.lc_arguments.specs.Reports.{report_model}
-use Rattle.lc_program.specs.Counts.{after_spaces}
-use Rattle.lc_program.specs.Sums.{typed_text}
+use Rattle.lc_program.specs.{Counts.after_spaces, Sums.typed_text}
 use Rattle.lc_program.proofs.summing.push_after_spaces.Given as goal
 
 abbrev pub invariant-loop-typed : goal.invariant-loop-typed
