@@ -1,9 +1,6 @@
 -- The directories of a system in memory, by the file systems that a walk enters.
-use Rattle.std.specs.Prelude.{ℕ, List}
-use Rattle.std.specs.Borrow.{Bor}
-use Rattle.lc_tree.specs.declared.file_systems.FileSystems.{FileSystems}
-use Rattle.lc_tree.specs.declared.file_systems.FileSystems.TheVariants.{All, One}
-use Rattle.lc_tree.specs.declared.node.Node.{Node}
+use Rattle.std.specs.{Prelude.{ℕ, List}, Borrow.Bor}
+use Rattle.lc_tree.specs.declared.{file_systems.FileSystems.{FileSystems, TheVariants.{All, One}}, node.Node.Node}
 
 -- the directories to walk, of the lists for walks that enter all file systems, or one alone
 abbrev pub listed_by : List (Bor (List ℕ) × Node) → List (Bor (List ℕ) × Node) → FileSystems → List (Bor (List ℕ) × Node)
