@@ -1,7 +1,6 @@
 -- A text is the digits of one number.
-use Rattle.std.proofs.Common.{ℕ, ◌≡◌, ◌<◌, ◌^◌, ◌∙◌, arith, sym, ap, decimal}
+use Rattle.std.proofs.{Common.{ℕ, ◌≡◌, ◌<◌, ◌^◌, ◌∙◌, arith, sym, ap, decimal}, lemmas.Fmt.decimal_is_IsNumeral_wide}
 use Rattle.std.specs.Str.Parse.{digits_value}
-use Rattle.std.proofs.lemmas.Fmt.{decimal_is_IsNumeral_wide}
 
 pub same_number : (m n : ℕ) → m < 2 ^ 128 → n < 2 ^ 128 → decimal m ≡ decimal n → m ≡ n
 same_number m n m_fits n_fits e =

@@ -1,7 +1,6 @@
 -- A JSON value of which one kind is known.
 use Rattle.std.proofs.Common.{◌≡◌, ℕ, true, List, Some, refl}
-use Rattle.json.specs.Json.{Json, null, boolean, number, string, array, object}
-use Rattle.json.specs.Find.{as_number, as_str, is_null}
+use Rattle.json.specs.{Json.{Json, null, boolean, number, string, array, object}, Find.{as_number, as_str, is_null}}
 
 pub number_if : (j : Json) (s : List ℕ) → Some s ≡ as_number j → j ≡ number s
 number_if null s e = absurd (cc)

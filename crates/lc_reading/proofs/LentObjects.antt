@@ -1,9 +1,7 @@
 -- A lent object as its members.
 use Rattle.std.proofs.Common.{◌≡◌, ◌∙◌, ℕ, List, [], ◌∷◌, refl, ap, Vec}
 use Rattle.std.specs.Borrow.{Bor}
-use Rattle.json.specs.Json.{member, object}
-use Rattle.json.specs.Value.{value_view, members_view}
-use Rattle.json.specs.declared.value.Value.{Value, Object}
+use Rattle.json.specs.{Json.{member, object}, Value.{value_view, members_view}, declared.value.Value.{Value, Object}}
 use Rattle.json.proofs.Trees.{view-Object}
 use Rattle.lc_reading.specs.Members.{members_of, members_with}
 

@@ -1,15 +1,11 @@
 -- Lists that were read value by value.
 use Rattle.std.proofs.Common.{◌≡◌, ◌∙◌, ℕ, List, [], ◌∷◌, ◌++◌, refl, sym, ap, append_assoc, append-nil, Some}
-use Rattle.std.specs.List.{flat_map}
 use Rattle.std.proofs.lemmas.List.Concat.{flat_map-append}
-use Rattle.json.specs.Json.{Json, array, value, after_end_array}
-use Rattle.json.specs.Token.{Token, begin_array, end_array}
-use Rattle.json.specs.Tree.{json_tokens, items_tokens}
+use Rattle.std.specs.List.{flat_map}
+use Rattle.json.specs.{Json.{Json, array, value, after_end_array}, Token.{Token, begin_array, end_array}, Tree.{json_tokens, items_tokens}}
 use Rattle.json.specs.Value.{items_of}
-use Rattle.json.proofs.Grammar.{closed_array}
-use Rattle.json.proofs.Unique.Spelling.{value-json_tokens_back}
-use Rattle.lc_reading.specs.Lists.{AreLinesOf, BeginsWith, IsLineOf, IsListOf}
-use Rattle.lc_reading.specs.Members.{Member}
+use Rattle.json.proofs.{Grammar.closed_array, Unique.Spelling.value-json_tokens_back}
+use Rattle.lc_reading.specs.{Lists.{AreLinesOf, BeginsWith, IsLineOf, IsListOf}, Members.Member}
 
 pub value_taken : (d : ℕ) (old new : List Token) (j : Json) → value d old ≡ Some (j, new) → old ≡ json_tokens j ++ new
 value_taken d old new j e = value-json_tokens_back d old new j e

@@ -1,34 +1,18 @@
 -- The members of an object that is read member by member.
 use Rattle.std.proofs.Common.{◌≡◌, ◌≢◌, ◌∙◌, ℕ, Bool, true, false, cond, List, [], ◌∷◌, ◌++◌, refl, sym, ap, subst, append_assoc, Option}
-use Rattle.std.proofs.Common.{Some, None, option_map, inl, inr}
-use Rattle.std.specs.Borrow.{Bor}
-use Rattle.std.specs.Str.{bytes_eq}
-use Rattle.std.specs.Global.{Global}
-use Rattle.std.specs.Prelude.{◌⊎◌, OnOk, is_some, Result, Ok, Err, Vec}
-use Rattle.std.specs.List.{flat_map}
-use Rattle.lc_level.specs.FaultLines.{FaultLineModel}
-use Rattle.lc_level.specs.Level.{FileLineModel, SkippedLineModel}
-use Rattle.std.proofs.lemmas.Slice.Eq.{bytes_eq-Decides}
-use Rattle.std.proofs.lemmas.Bool.{false_from_ne_true}
-use Rattle.json.specs.Json.{Json, skip_value, value, read_key}
-use Rattle.json.specs.Token.{Token, key, begin_object, end_object}
-use Rattle.json.specs.Tree.{json_tokens, members_tokens}
-use Rattle.json.specs.Value.{value_view}
-use Rattle.json.specs.declared.value.Value.{Value}
-use Rattle.json.proofs.Grammar.{key_token, left_some, read_key_is}
-use Rattle.json.proofs.Unique.Spelling.{value-json_tokens_back}
-use Rattle.lc_reading.specs.Lines.{IsFaultOf, IsFileOf, IsSkippedOf}
-use Rattle.lc_reading.specs.Lists.{BeginsWith, IsListOf}
-use Rattle.lc_reading.specs.MemberNames.{member_name}
-use Rattle.lc_reading.specs.Members.{Member, Lacks, members_of, members_with, named, values_at}
-use Rattle.lc_reading.specs.Objects.{Fills, IsObjectOf, IsPassed, IsTopMember, MayHaveLines, TakesMember, TakesObject, is_value}
-use Rattle.lc_reading.specs.Rows.{IsRowOf}
-use Rattle.lc_reading.specs.declared.member_name.MemberName.{MemberName}
-use Rattle.lc_reading.specs.declared.member_name.MemberName.TheVariants as name
-use Rattle.lc_reading.specs.declared.object.Object.{Object}
-use Rattle.lc_reading.specs.declared.rows.ReadRow.{ReadRow}
+use Rattle.std.proofs.{Common.{Some, None, option_map, inl, inr}, lemmas.{Slice.Eq.bytes_eq-Decides, Bool.false_from_ne_true}}
+use Rattle.std.specs.{Borrow.Bor, Str.bytes_eq, Global.Global, Prelude.{◌⊎◌, OnOk, is_some, Result, Ok, Err, Vec}, List.flat_map}
+use Rattle.lc_level.specs.{FaultLines.FaultLineModel, Level.{FileLineModel, SkippedLineModel}}
+use Rattle.json.specs.{Json.{Json, skip_value, value, read_key}, Token.{Token, key, begin_object, end_object}, Tree.json_tokens}
+use Rattle.json.specs.{Tree.members_tokens, Value.value_view, declared.value.Value.Value}
+use Rattle.json.proofs.{Grammar.{key_token, left_some, read_key_is}, Unique.Spelling.value-json_tokens_back}
+use Rattle.lc_reading.specs.{Lines.{IsFaultOf, IsFileOf, IsSkippedOf}, Lists.{BeginsWith, IsListOf}, MemberNames.member_name}
+use Rattle.lc_reading.specs.{Members.{Member, Lacks, members_of, members_with, named, values_at}, Objects.{Fills, IsObjectOf, IsPassed}}
+use Rattle.lc_reading.specs.{Objects.{IsTopMember, MayHaveLines, TakesMember, TakesObject, is_value}, Rows.IsRowOf}
+use Rattle.lc_reading.specs.declared.{member_name.MemberName.MemberName, object.Object.Object, rows.ReadRow.ReadRow}
 use Rattle.lc_reading.specs.declared.top_member.TopMember.TheVariants.{Other}
 use Rattle.lc_reading.proofs.WordTables.{IsIn, value_in, value_names}
+use Rattle.lc_reading.specs.declared.member_name.MemberName.TheVariants as name
 
 pub value_skipped : (d : ℕ) (old new : List Token) → skip_value d old ≡ Some new → IsPassed old new
 value_skipped d old new e = let j = left_some (value d old) new e in record {

@@ -1,35 +1,19 @@
 -- The report that is made of an object's members.
-use Rattle.std.proofs.Common.{◌≡◌, ◌≢◌, ◌∙◌, ◌⊎◌, inl, inr, ℕ, Bool, true, false, List, [], ◌∷◌, map, refl, sym, ap, subst, Option, Some, None}
-use Rattle.std.proofs.Common.{option_map, Vec, arith}
-use Rattle.std.specs.Global.{Global}
-use Rattle.std.specs.Prelude.{MatchOption, is_some, unwrap_or}
-use Rattle.std.specs.Bool.{MatchBool}
-use Rattle.std.specs.List.Sorted.{IsPermutation, IsSortedByKey}
-use Rattle.std.proofs.lemmas.Bool.{MatchBool-at_false}
-use Rattle.std.proofs.lemmas.List.Sorted.{length_permutation}
-use Rattle.lc_level.specs.FaultLines.{FaultLineModel}
-use Rattle.lc_level.specs.Level.{FileLineModel, SkippedLineModel}
+use Rattle.std.proofs.Common.{◌≡◌, ◌≢◌, ◌∙◌, ◌⊎◌, inl, inr, ℕ, Bool, true, false, List, [], ◌∷◌, map, refl, sym, ap, subst, Option, Some}
+use Rattle.std.proofs.{Common.{None, option_map, Vec, arith}, lemmas.{Bool.MatchBool-at_false, List.Sorted.length_permutation}}
+use Rattle.std.specs.{Global.Global, Prelude.{MatchOption, is_some, unwrap_or}, Bool.MatchBool, List.Sorted.{IsPermutation, IsSortedByKey}}
+use Rattle.lc_level.specs.{FaultLines.FaultLineModel, Level.{FileLineModel, SkippedLineModel}}
 use Rattle.lc_tree.specs.ByteOrder.{bytes_cmp}
-use Rattle.lc_walk.specs.ReportTotals.{counted_line}
+use Rattle.lc_walk.specs.{ReportTotals.counted_line, Sums.plus, Tally.{IsTally, sums_of_files}, TallyRows.{AddsUp, TallyRowModel}}
+use Rattle.lc_walk.specs.{TallyRows.sums_of_rows, declared.tally.sums.Sums.Sums}
 use Rattle.lc_rows.specs.Classes.{binary_sums}
-use Rattle.lc_walk.specs.Sums.{plus}
-use Rattle.lc_walk.specs.Tally.{IsTally, sums_of_files}
-use Rattle.lc_walk.specs.TallyRows.{AddsUp, TallyRowModel, sums_of_rows}
-use Rattle.lc_walk.specs.declared.tally.sums.Sums.{Sums}
-use Rattle.lc_reading.specs.Kept.{Agrees, IsFinished, IsKept, IsKeptOf}
-use Rattle.lc_reading.specs.Lines.{IsFaultOf, IsFileOf, IsSkippedOf}
-use Rattle.lc_reading.specs.Members.{Member, HasNumber, Lacks, members_of, named}
-use Rattle.lc_reading.specs.Objects.{HasLines, IsObjectOf, MayHaveLines, is_value}
-use Rattle.lc_reading.specs.Reports.{HasOrdered, HaveColumns, IsNumbersOf, IsReportOf, row_in}
-use Rattle.lc_reading.specs.Rows.{HasSums, IsRowOf}
-use Rattle.lc_reading.specs.declared.kept_files.Kept.{Kept}
-use Rattle.lc_reading.specs.declared.member_name.MemberName.{MemberName}
-use Rattle.lc_reading.specs.declared.member_name.MemberName.TheVariants as name
-use Rattle.lc_reading.specs.declared.numbers_of.Numbers.{Numbers}
-use Rattle.lc_reading.specs.declared.object.Object.{Object}
-use Rattle.lc_reading.specs.declared.read_report.ReadReport.{ReadReport}
-use Rattle.lc_reading.specs.declared.row_columns.RowColumns.{RowColumns}
+use Rattle.lc_reading.specs.{Kept.{Agrees, IsFinished, IsKept, IsKeptOf}, Lines.{IsFaultOf, IsFileOf, IsSkippedOf}, Members.Member}
+use Rattle.lc_reading.specs.{Members.{HasNumber, Lacks, members_of, named}, Objects.{HasLines, IsObjectOf, MayHaveLines, is_value}}
+use Rattle.lc_reading.specs.{Reports.{HasOrdered, HaveColumns, IsNumbersOf, IsReportOf, row_in}, Rows.{HasSums, IsRowOf}}
+use Rattle.lc_reading.specs.declared.{kept_files.Kept.Kept, member_name.MemberName.MemberName, numbers_of.Numbers.Numbers}
+use Rattle.lc_reading.specs.declared.{object.Object.Object, read_report.ReadReport.ReadReport, row_columns.RowColumns.RowColumns}
 use Rattle.lc_reading.specs.declared.rows.ReadRow.{ReadRow}
+use Rattle.lc_reading.specs.declared.member_name.MemberName.TheVariants as name
 
 -- ---- numbers, of members that are among others
 

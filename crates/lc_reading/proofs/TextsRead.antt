@@ -1,22 +1,12 @@
 -- Texts that are cut and read one after another.
-use Rattle.std.proofs.Common.{◌≡◌, ◌∙◌, ℕ, List, [], ◌∷◌, ◌++◌, sym, ap, append_assoc, append-nil, Option, Some, None}
-use Rattle.std.proofs.Common.{option_and_then, false, arith, Result, Ok, Err}
-use Rattle.std.specs.List.{flat_map}
-use Rattle.std.specs.Prelude.{IfOk, MatchOption, is_some}
-use Rattle.std.proofs.lemmas.List.Concat.{flat_map-append}
-use Rattle.json.specs.Json.{Json, document, if_last, max_depth, object, skip_value, value}
-use Rattle.json.specs.Lex.{tokens}
-use Rattle.json.specs.Token.{Token}
-use Rattle.json.specs.Tree.{depth, json_tokens}
-use Rattle.json.proofs.Found.{Some_inj, one_reading}
-use Rattle.json.proofs.Grammar.{left_some}
-use Rattle.json.proofs.Printed.Trees.{value-json_tokens}
-use Rattle.lc_reading.specs.Members.{Member, members_with}
-use Rattle.lc_reading.specs.Objects.{IsObjectOf, TakesObject}
-use Rattle.lc_reading.specs.Reports.{IsReportOf}
-use Rattle.lc_reading.specs.Texts.{AreReportTexts, IsJson, IsReportText}
-use Rattle.lc_reading.specs.declared.object.Object.{Object}
-use Rattle.lc_reading.specs.declared.read_report.ReadReport.{ReadReport}
+use Rattle.std.proofs.Common.{◌≡◌, ◌∙◌, ℕ, List, [], ◌∷◌, ◌++◌, sym, ap, append_assoc, append-nil, Option, Some, None, option_and_then}
+use Rattle.std.proofs.{Common.{false, arith, Result, Ok, Err}, lemmas.List.Concat.flat_map-append}
+use Rattle.std.specs.{List.flat_map, Prelude.{IfOk, MatchOption, is_some}}
+use Rattle.json.specs.{Json.{Json, document, if_last, max_depth, object, skip_value, value}, Lex.tokens, Token.Token, Tree.depth}
+use Rattle.json.specs.Tree.{json_tokens}
+use Rattle.json.proofs.{Found.{Some_inj, one_reading}, Grammar.left_some, Printed.Trees.value-json_tokens}
+use Rattle.lc_reading.specs.{Members.{Member, members_with}, Objects.{IsObjectOf, TakesObject}, Reports.IsReportOf, Texts.AreReportTexts}
+use Rattle.lc_reading.specs.{Texts.{IsJson, IsReportText}, declared.{object.Object.Object, read_report.ReadReport.ReadReport}}
 
 pub json_is : (text : List ℕ) (rest : List Token) → skip_value max_depth (tokens text) ≡ Some rest → rest ≡ [] → IsJson text
 json_is text rest e none =

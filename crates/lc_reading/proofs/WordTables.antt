@@ -1,24 +1,14 @@
 -- What is found in a list of all words.
 use Rattle.std.proofs.Common.{◌≡◌, ◌≢◌, ℕ, Bool, true, false, List, [], ◌∷◌, Option, Some, None, refl, sym, ap, cond, ◌∙◌, ◌⊎◌, inl, inr}
-use Rattle.std.specs.Prelude.{MatchOption, find, bytes_eq}
-use Rattle.std.specs.Bool.{Decides}
 use Rattle.std.proofs.lemmas.Slice.Eq.{bytes_eq-Decides}
-use Rattle.lc_census.specs.EolWords.{eol_word}
-use Rattle.lc_census.specs.declared.line_count.Eol.{Eol}
-use Rattle.lc_census.specs.declared.line_count.Eol.TheVariants.{NoEnd, Lf, CrLf, Cr, Mixed, Nul}
-use Rattle.lc_level.specs.FaultWords.{fault_word}
-use Rattle.lc_level.specs.declared.fault_word.FaultWord.{FaultWord}
+use Rattle.std.specs.{Prelude.{MatchOption, find, bytes_eq}, Bool.Decides}
+use Rattle.lc_census.specs.{EolWords.eol_word, declared.line_count.Eol.{Eol, TheVariants.{NoEnd, Lf, CrLf, Cr, Mixed, Nul}}}
+use Rattle.lc_level.specs.{FaultWords.fault_word, declared.fault_word.FaultWord.FaultWord}
 use Rattle.lc_level.specs.declared.fault_word.FaultWord.TheVariants.{Read, Name, Twice, Many, Long, Endless, Absent}
-use Rattle.lc_rules.specs.TextWords.{text_word}
-use Rattle.lc_rules.specs.declared.states.TextState.{TextState}
-use Rattle.lc_rules.specs.declared.states.TextState.TheVariants.{Set, Unset, Auto, Other, Unspecified}
-use Rattle.lc_reading.specs.MemberNames.{member_name}
-use Rattle.lc_reading.specs.Members.{is_word}
-use Rattle.lc_reading.specs.Objects.{is_value}
-use Rattle.lc_reading.specs.declared.member_name.MemberName.{MemberName}
+use Rattle.lc_rules.specs.{TextWords.text_word, declared.states.TextState.{TextState, TheVariants.{Set, Unset, Auto, Other, Unspecified}}}
+use Rattle.lc_reading.specs.{MemberNames.member_name, Members.is_word, Objects.is_value, declared.member_name.MemberName.MemberName}
 use Rattle.lc_reading.specs.declared.member_name.MemberName.TheVariants.{Rows, Others, Total, Text, Binary, Directories, Entries, Files}
-use Rattle.lc_reading.specs.declared.member_name.MemberName.TheVariants.{Left}
-use Rattle.lc_reading.specs.declared.member_name.MemberName.TheVariants.{Faults, Path, PathBytes, Ext, ExtBytes, Lines, Blank, Bytes}
+use Rattle.lc_reading.specs.declared.member_name.MemberName.TheVariants.{Left, Faults, Path, PathBytes, Ext, ExtBytes, Lines, Blank, Bytes}
 use Rattle.lc_reading.specs.declared.member_name.MemberName.TheVariants.{Kind, Reason, File, FileBytes, Line, Attribute, AttributeBytes}
 use Rattle.lc_reading.specs.declared.member_name.MemberName.TheVariants.{Word}
 use Rattle.lc_reading.specs.declared.member_name.MemberName.TheVariants as name

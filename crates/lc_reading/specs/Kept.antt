@@ -1,18 +1,12 @@
 -- The rows and the files of a report, made from those that were read.
 use Rattle.std.specs.Prelude.{◌≡◌, ◌≢◌, ◌⊎◌, true, false, List, [], map, Option, Some, None, is_some, unwrap_or}
 use Rattle.std.specs.List.Sorted.{IsPermutation, IsSortedByKey}
-use Rattle.lc_level.specs.FaultLines.{FaultLineModel}
-use Rattle.lc_level.specs.Level.{FileLineModel, SkippedLineModel}
+use Rattle.lc_level.specs.{FaultLines.FaultLineModel, Level.{FileLineModel, SkippedLineModel}}
 use Rattle.lc_tree.specs.ByteOrder.{bytes_cmp}
-use Rattle.lc_walk.specs.ReportTotals.{counted_line}
-use Rattle.lc_walk.specs.Sums.{plus}
-use Rattle.lc_walk.specs.Tally.{IsTally, sums_of_files}
-use Rattle.lc_walk.specs.TallyRows.{AddsUp, TallyRowModel, sums_of_rows}
-use Rattle.lc_walk.specs.declared.tally.sums.Sums.{Sums}
+use Rattle.lc_walk.specs.{ReportTotals.counted_line, Sums.plus, Tally.{IsTally, sums_of_files}, TallyRows.{AddsUp, TallyRowModel}}
+use Rattle.lc_walk.specs.{TallyRows.sums_of_rows, declared.tally.sums.Sums.Sums}
 use Rattle.lc_rows.specs.Classes.{binary_sums}
-use Rattle.lc_reading.specs.declared.numbers_of.Numbers.{Numbers}
-use Rattle.lc_reading.specs.declared.kept_files.Kept.{Kept}
-use Rattle.lc_reading.specs.declared.read_report.ReadReport.{ReadReport}
+use Rattle.lc_reading.specs.declared.{numbers_of.Numbers.Numbers, kept_files.Kept.Kept, read_report.ReadReport.ReadReport}
 use Rattle.lc_reading.specs.declared.row_columns.RowColumns.{RowColumns}
 
 -- the report lists these files, in order of their paths; its rows are those that the files make

@@ -2,19 +2,12 @@
 use Rattle.std.specs.Prelude.{◌≡◌, ◌==◌, ◌&&◌, ◌-◌, ℕ, length, slice_get, Bool, true, false, not, List, ◌++◌, Option, Some, None, ⊤}
 use Rattle.std.specs.List.{list_any}
 use Rattle.json.specs.Json.{Json, null, string}
-use Rattle.lc_census.specs.EolWords.{eol_word}
-use Rattle.lc_census.specs.declared.line_count.Count.{Count}
-use Rattle.lc_level.specs.FaultLines.{FaultLineModel}
-use Rattle.lc_level.specs.FaultWords.{fault_word}
-use Rattle.lc_level.specs.Level.{FileLineModel, SkippedLineModel, Reason, named_git, by_rule, by_attribute, not_included, other_kind}
-use Rattle.lc_level.specs.ReasonWords.{attribute_of, reason_word, rule_of}
-use Rattle.lc_rules.specs.TextWords.{text_word}
-use Rattle.lc_rules.specs.declared.rule_source.RuleSource.{RuleSource}
-use Rattle.lc_rules.specs.declared.states.TextState.{TextState}
+use Rattle.lc_census.specs.{EolWords.eol_word, declared.line_count.Count.Count}
+use Rattle.lc_level.specs.{FaultLines.FaultLineModel, FaultWords.fault_word, Level.{FileLineModel, SkippedLineModel, Reason, named_git}}
+use Rattle.lc_level.specs.{Level.{by_rule, by_attribute, not_included, other_kind}, ReasonWords.{attribute_of, reason_word, rule_of}}
+use Rattle.lc_rules.specs.{TextWords.text_word, declared.{rule_source.RuleSource.RuleSource, states.TextState.TextState}}
 use Rattle.lc_text.specs.RulePlaces.{source_directory, source_name}
-use Rattle.lc_tree.specs.declared.entry.Kind.{Kind}
-use Rattle.lc_tree.specs.declared.entry.Kind.TheVariants.{File, Other}
-use Rattle.lc_tree.specs.declared.entry.OtherKind.TheVariants.{Mounted}
+use Rattle.lc_tree.specs.declared.entry.{Kind.{Kind, TheVariants.{File, Other}}, OtherKind.TheVariants.Mounted}
 use Rattle.lc_rows.specs.Words.{kind_word}
 use Rattle.lc_reading.specs.Members.{Member, Has, HasBytes, HasNumber, HasText}
 use Rattle.lc_reading.specs.declared.member_name.MemberName.TheVariants as member

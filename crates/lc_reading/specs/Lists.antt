@@ -1,9 +1,6 @@
 -- Lists of a report, as JSON arrays of objects.
 use Rattle.std.specs.Prelude.{◌≡◌, List, [], ◌∷◌, ◌++◌, ⊤}
-use Rattle.json.specs.Json.{Json, array, object}
-use Rattle.json.specs.Token.{Token}
-use Rattle.json.specs.Tree.{json_tokens}
-use Rattle.json.specs.Value.{items_of}
+use Rattle.json.specs.{Json.{Json, array, object}, Token.Token, Tree.json_tokens, Value.items_of}
 use Rattle.lc_reading.specs.Members.{Member, members_with}
 
 -- a JSON object whose members are those of this line, by `Says`

@@ -2,10 +2,9 @@
 use Rattle.std.specs.Prelude.{ℕ, List, codes}
 use Rattle.lc_reading.specs.declared.member_name.MemberName.{MemberName}
 use Rattle.lc_reading.specs.declared.member_name.MemberName.TheVariants.{Rows, Others, Total, Text, Binary, Directories, Entries, Files}
-use Rattle.lc_reading.specs.declared.member_name.MemberName.TheVariants.{Left}
-use Rattle.lc_reading.specs.declared.member_name.MemberName.TheVariants.{Faults, Path, PathBytes, Ext, ExtBytes, Eol, Lines, Blank, Bytes}
-use Rattle.lc_reading.specs.declared.member_name.MemberName.TheVariants.{Kind, Reason, File, FileBytes, Line, Attribute, AttributeBytes}
-use Rattle.lc_reading.specs.declared.member_name.MemberName.TheVariants.{Word}
+use Rattle.lc_reading.specs.declared.member_name.MemberName.TheVariants.{Left, Faults, Path, PathBytes, Ext, ExtBytes, Eol, Lines, Blank}
+use Rattle.lc_reading.specs.declared.member_name.MemberName.TheVariants.{Bytes, Kind, Reason, File, FileBytes, Line, Attribute}
+use Rattle.lc_reading.specs.declared.member_name.MemberName.TheVariants.{AttributeBytes, Word}
 
 abbrev pub member_name : MemberName → List ℕ
 member_name Rows = codes "rows"

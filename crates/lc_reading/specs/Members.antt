@@ -1,12 +1,8 @@
 -- The members of a JSON object, and their values, by their names.
-use Rattle.std.specs.Prelude.{◌≡◌, ◌⊎◌, ℕ, Bool, false, List, [], ◌∷◌, map, cond, decimal, Option, Some, None}
-use Rattle.std.specs.Str.{bytes_eq}
-use Rattle.std.specs.Borrow.{Bor}
-use Rattle.json.specs.Json.{Json, number, string, array, Members, no_members, member}
-use Rattle.json.specs.Value.{items_of, value_view}
+use Rattle.std.specs.{Prelude.{◌≡◌, ◌⊎◌, ℕ, Bool, false, List, [], ◌∷◌, map, cond, decimal, Option, Some, None}, Str.bytes_eq, Borrow.Bor}
+use Rattle.json.specs.{Json.{Json, number, string, array, Members, no_members, member}, Value.{items_of, value_view}}
 use Rattle.json.specs.declared.value.Value.{Value}
-use Rattle.lc_reading.specs.MemberNames.{member_name}
-use Rattle.lc_reading.specs.declared.member_name.MemberName.{MemberName}
+use Rattle.lc_reading.specs.{MemberNames.member_name, declared.member_name.MemberName.MemberName}
 
 -- a name and its value
 abbrev pub Member : Type 0

@@ -1,18 +1,11 @@
 -- The members of a report.
 use Rattle.std.specs.Prelude.{◌≡◌, ◌≢◌, ◌++◌, ℕ, Bool, true, false, List, [], ◌∷◌, MatchOption, Option, Some, None, option_map, Vec}
 use Rattle.std.specs.Global.{Global}
-use Rattle.json.specs.Json.{Json, object}
-use Rattle.json.specs.Token.{Token}
-use Rattle.json.specs.Tree.{json_tokens}
-use Rattle.lc_reading.specs.Lines.{IsFaultOf, IsFileOf, IsSkippedOf}
-use Rattle.lc_reading.specs.Lists.{BeginsWith, IsListOf}
-use Rattle.lc_reading.specs.MemberNames.{member_name}
-use Rattle.lc_reading.specs.Members.{Member, Has, Lacks, members_of, members_with, named}
-use Rattle.lc_reading.specs.Rows.{IsRowOf}
-use Rattle.lc_reading.specs.declared.member_name.MemberName.{MemberName}
+use Rattle.json.specs.{Json.{Json, object}, Token.Token, Tree.json_tokens}
+use Rattle.lc_reading.specs.{Lines.{IsFaultOf, IsFileOf, IsSkippedOf}, Lists.{BeginsWith, IsListOf}, MemberNames.member_name}
+use Rattle.lc_reading.specs.{Members.{Member, Has, Lacks, members_of, members_with, named}, Rows.IsRowOf}
+use Rattle.lc_reading.specs.declared.{member_name.MemberName.MemberName, object.Object.Object, top_member.TopMember.TopMember}
 use Rattle.lc_reading.specs.declared.member_name.MemberName.TheVariants as member
-use Rattle.lc_reading.specs.declared.object.Object.{Object}
-use Rattle.lc_reading.specs.declared.top_member.TopMember.{TopMember}
 use Rattle.lc_reading.specs.declared.top_member.TopMember.TheVariants as top
 
 -- whether a member of a report with this name is not a list

@@ -1,23 +1,14 @@
 -- The members of a JSON object that is a report, and the report that it is.
-use Rattle.std.specs.Prelude.{◌≡◌, ◌≢◌, ◌⊎◌, ℕ, true, if◌then◌else◌, List, [], ◌∷◌, map, ⊤, MatchOption}
-use Rattle.std.specs.Bool.{MatchBool}
+use Rattle.std.specs.{Prelude.{◌≡◌, ◌≢◌, ◌⊎◌, ℕ, true, if◌then◌else◌, List, [], ◌∷◌, map, ⊤, MatchOption}, Bool.MatchBool}
 use Rattle.std.specs.List.Sorted.{IsPermutation, IsSortedByKey}
 use Rattle.lc_rows.specs.Classes.{binary_sums, is_binary}
 use Rattle.lc_tree.specs.ByteOrder.{bytes_cmp}
-use Rattle.lc_walk.specs.ReportTotals.{TotalsAddUp}
-use Rattle.lc_walk.specs.Sums.{plus, no_files}
-use Rattle.lc_walk.specs.TallyRows.{AddsUp, TallyRowModel, sums_of_rows}
+use Rattle.lc_walk.specs.{ReportTotals.TotalsAddUp, Sums.{plus, no_files}, TallyRows.{AddsUp, TallyRowModel, sums_of_rows}}
 use Rattle.lc_walk.specs.declared.tally.sums.Sums.{Sums}
-use Rattle.lc_reading.specs.Lines.{IsFaultOf, IsFileOf, IsSkippedOf}
-use Rattle.lc_reading.specs.Members.{Member, HasNumber, Lacks}
-use Rattle.lc_reading.specs.Objects.{HasLines}
-use Rattle.lc_reading.specs.Rows.{HasSums, IsRowOf}
-use Rattle.lc_reading.specs.declared.member_name.MemberName.{MemberName}
+use Rattle.lc_reading.specs.{Lines.{IsFaultOf, IsFileOf, IsSkippedOf}, Members.{Member, HasNumber, Lacks}, Objects.HasLines, Rows.HasSums}
+use Rattle.lc_reading.specs.{Rows.IsRowOf, declared.{member_name.MemberName.MemberName, numbers_of.Numbers.Numbers}}
+use Rattle.lc_reading.specs.declared.{read_report.ReadReport.ReadReport, row_columns.RowColumns.RowColumns, rows.ReadRow.ReadRow}
 use Rattle.lc_reading.specs.declared.member_name.MemberName.TheVariants as member
-use Rattle.lc_reading.specs.declared.numbers_of.Numbers.{Numbers}
-use Rattle.lc_reading.specs.declared.read_report.ReadReport.{ReadReport}
-use Rattle.lc_reading.specs.declared.row_columns.RowColumns.{RowColumns}
-use Rattle.lc_reading.specs.declared.rows.ReadRow.{ReadRow}
 
 -- the sums of a row if it is of binary files, and otherwise the sums over no files
 abbrev pub nul_part : TallyRowModel → Sums

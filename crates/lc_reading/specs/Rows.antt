@@ -1,19 +1,13 @@
 -- The sums and the rows of a report, as the members of JSON objects.
-use Rattle.std.specs.Prelude.{◌≡◌, ◌==◌, ◌||◌, ◌<◌, ℕ, Bool, true, false, not, List, [], ◌∷◌, Option, Some, None}
-use Rattle.std.specs.Bool.{MatchBool}
+use Rattle.std.specs.{Prelude.{◌≡◌, ◌==◌, ◌||◌, ◌<◌, ℕ, Bool, true, false, not, List, [], ◌∷◌, Option, Some, None}, Bool.MatchBool}
 use Rattle.std.specs.List.{list_any}
 use Rattle.json.specs.Json.{null, object}
-use Rattle.lc_census.specs.EolWords.{eol_word}
-use Rattle.lc_census.specs.declared.line_count.Eol.TheVariants.{NoEnd}
+use Rattle.lc_census.specs.{EolWords.eol_word, declared.line_count.Eol.TheVariants.NoEnd}
 use Rattle.lc_rules.specs.declared.states.TextState.TheVariants.{Unspecified}
-use Rattle.lc_walk.specs.Key.{Key}
-use Rattle.lc_walk.specs.declared.tally.sums.Sums.{Sums}
-use Rattle.lc_reading.specs.Lines.{HasTextState}
-use Rattle.lc_reading.specs.Members.{Member, Has, HasBytes, HasNumber, HasText, Lacks, members_with}
-use Rattle.lc_reading.specs.declared.member_name.MemberName.{MemberName}
+use Rattle.lc_walk.specs.{Key.Key, declared.tally.sums.Sums.Sums}
+use Rattle.lc_reading.specs.{Lines.HasTextState, Members.{Member, Has, HasBytes, HasNumber, HasText, Lacks, members_with}}
+use Rattle.lc_reading.specs.declared.{member_name.MemberName.MemberName, row_columns.RowColumns.RowColumns, rows.ReadRow.ReadRow}
 use Rattle.lc_reading.specs.declared.member_name.MemberName.TheVariants as member
-use Rattle.lc_reading.specs.declared.row_columns.RowColumns.{RowColumns}
-use Rattle.lc_reading.specs.declared.rows.ReadRow.{ReadRow}
 
 -- ---- sums
 

@@ -1,11 +1,7 @@
 -- The texts that are read as reports.
-use Rattle.std.specs.Prelude.{◌≡◌, ◌<◌, ℕ, true, List, [], ◌∷◌, ◌++◌, length, ⊤, Some}
-use Rattle.std.specs.List.{flat_map, list_all}
-use Rattle.json.specs.Json.{Json, document, object}
-use Rattle.json.specs.Word.{is_space}
-use Rattle.lc_reading.specs.Members.{Member, members_with}
-use Rattle.lc_reading.specs.Reports.{IsReportOf}
-use Rattle.lc_reading.specs.declared.read_report.ReadReport.{ReadReport}
+use Rattle.std.specs.{Prelude.{◌≡◌, ◌<◌, ℕ, true, List, [], ◌∷◌, ◌++◌, length, ⊤, Some}, List.{flat_map, list_all}}
+use Rattle.json.specs.{Json.{Json, document, object}, Word.is_space}
+use Rattle.lc_reading.specs.{Members.{Member, members_with}, Reports.IsReportOf, declared.read_report.ReadReport.ReadReport}
 
 -- a text is one JSON value (RFC 8259), with white space
 pub record IsJson (text : List ℕ) : Type 0 where

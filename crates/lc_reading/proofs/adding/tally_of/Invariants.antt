@@ -1,6 +1,5 @@
 use Rattle.std.proofs.Common.{◌≡◌, ◌++◌, List, length, map}
-use Rattle.lc_walk.specs.ReportTotals.{counted_line}
-use Rattle.lc_walk.specs.Tally.{CountedFile, StandsFor}
+use Rattle.lc_walk.specs.{ReportTotals.counted_line, Tally.{CountedFile, StandsFor}}
 use Rattle.lc_reading.proofs.adding.tally_of.Given as goal
 
 abbrev pub invariant-files : goal.invariant-files

@@ -1,7 +1,5 @@
 use Rattle.std.proofs.Common.{List, subst}
-use Rattle.lc_reading.specs.Members.{members_of}
-use Rattle.lc_reading.specs.Reports.{HaveColumns, IsNumbersOf}
-use Rattle.lc_reading.specs.declared.rows.ReadRow.{ReadRow}
+use Rattle.lc_reading.specs.{Members.members_of, Reports.{HaveColumns, IsNumbersOf}, declared.rows.ReadRow.ReadRow}
 use Rattle.lc_reading.proofs.ReportsRead.{report_is}
 use Rattle.lc_reading.proofs.building.report_of.Goals as goal
 

@@ -1,5 +1,4 @@
-use Rattle.std.proofs.Common.{◌≡◌, ◌<◌, ◌^◌, decimal, Ok, arith, ap, ◌∙◌, sym, true}
-use Rattle.std.proofs.lemmas.Slice.Eq.{bytes_eq-Decides}
+use Rattle.std.proofs.{Common.{◌≡◌, ◌<◌, ◌^◌, decimal, Ok, arith, ap, ◌∙◌, sym, true}, lemmas.Slice.Eq.bytes_eq-Decides}
 use Rattle.std.proofs.lemmas.Fmt.{parse-decimal_wide}
 use Rattle.lc_reading.proofs.numbers.number.Goals as goal
 

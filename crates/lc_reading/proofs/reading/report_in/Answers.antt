@@ -1,7 +1,6 @@
 use Rattle.std.proofs.Common.{List, subst, sym, ◌∙◌}
 use Rattle.json.specs.Token.{Token}
-use Rattle.lc_reading.specs.Objects.{TakesObject}
-use Rattle.lc_reading.specs.Texts.{IsReportText}
+use Rattle.lc_reading.specs.{Objects.TakesObject, Texts.IsReportText}
 use Rattle.lc_reading.proofs.TextsRead.{if_ok, none_left, report_text}
 use Rattle.lc_reading.proofs.reading.report_in.Goals as goal
 

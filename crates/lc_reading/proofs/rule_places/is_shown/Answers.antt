@@ -1,7 +1,6 @@
-use Rattle.std.proofs.Common.{◌≡◌, ℕ, true, List, length, take, drop, ◌++◌, ap, sym, ◌∙◌}
-use Rattle.std.specs.Str.{bytes_eq}
-use Rattle.std.proofs.lemmas.List.{take-append-drop}
+use Rattle.std.proofs.{Common.{◌≡◌, ℕ, true, List, length, take, drop, ◌++◌, ap, sym, ◌∙◌}, lemmas.List.take-append-drop}
 use Rattle.std.proofs.lemmas.Slice.Eq.{bytes_eq-Decides}
+use Rattle.std.specs.Str.{bytes_eq}
 use Rattle.lc_text.specs.RulePlaces.{source_directory}
 use Rattle.lc_reading.proofs.rule_places.is_shown.Goals as goal
 
