@@ -1,30 +1,18 @@
 -- The totals of joined reports, and of named ones, are the sums over their rows and over their files.
 use Rattle.std.proofs.Common.{◌≡◌, ℕ, ◌<◌, Bool, true, false, ◌&&◌, List, [], ◌∷◌, ◌++◌, map, refl, sym, ◌∙◌, ap, ap₂, subst, arith, All}
-use Rattle.std.proofs.Common.{IsPermutation, length}
-use Rattle.std.specs.List.{after_last, list_all}
-use Rattle.std.proofs.lemmas.List.{map-append}
-use Rattle.std.proofs.lemmas.List.Concat.{flat_map-cons}
-use Rattle.std.proofs.lemmas.List.Elements.{All-head, All-tail}
+use Rattle.std.proofs.{Common.{IsPermutation, length}, lemmas.List.{map-append, Concat.flat_map-cons, Elements.{All-head, All-tail}}}
 use Rattle.std.proofs.lemmas.List.Sorted.{IsPermutation-map}
-use Rattle.lc_glob.specs.Bytes.{slash}
-use Rattle.lc_glob.specs.Pieces.{is_byte}
+use Rattle.std.specs.List.{after_last, list_all}
+use Rattle.lc_glob.specs.{Bytes.slash, Pieces.is_byte}
 use Rattle.lc_level.specs.Level.{FileLineModel}
-use Rattle.lc_reports.proofs.NamedPaths.{last_after}
-use Rattle.lc_reports.proofs.NumbersInTurn.{totals_cons}
-use Rattle.lc_reports.specs.Joined.{all_files, all_rows, all_totals, if_wanted}
-use Rattle.lc_reports.specs.Laws.{HasPath, JoinTotalsLaw, NameTotalsLaw}
+use Rattle.lc_reports.proofs.{NamedPaths.last_after, NumbersInTurn.totals_cons}
+use Rattle.lc_reports.specs.{Joined.{all_files, all_rows, all_totals, if_wanted}, Laws.{HasPath, JoinTotalsLaw, NameTotalsLaw}}
 use Rattle.lc_reports.specs.Named.{named_file, named_path}
-use Rattle.lc_walk.proofs.Joining.{stands_both, stands_none, sums_permuted, tally_added_up, tally_permuted}
-use Rattle.lc_walk.proofs.RowSums.{has_same, sums_of_both}
-use Rattle.lc_walk.proofs.Totals.{same_totals}
-use Rattle.lc_walk.specs.Extension.{extension_of}
-use Rattle.lc_walk.specs.ReportTotals.{TotalsAddUp, counted_line}
-use Rattle.lc_walk.specs.Sums.{no_files, plus}
-use Rattle.lc_walk.specs.Tally.{CountedFile, IsTally, StandsFor, TallyModel, counted, sums_of_files}
-use Rattle.lc_walk.specs.TallyRows.{TallyRowModel, sums_of_rows}
-use Rattle.lc_walk.specs.declared.options.ReportLists.{ReportLists}
-use Rattle.lc_walk.specs.declared.report.Report.{Report}
-use Rattle.lc_walk.specs.declared.tally.sums.Sums.{Sums}
+use Rattle.lc_walk.proofs.{Joining.{stands_both, stands_none, sums_permuted, tally_added_up, tally_permuted}, RowSums.has_same}
+use Rattle.lc_walk.proofs.{RowSums.sums_of_both, Totals.same_totals}
+use Rattle.lc_walk.specs.{Extension.extension_of, ReportTotals.{TotalsAddUp, counted_line}, Sums.{no_files, plus}, Tally.CountedFile}
+use Rattle.lc_walk.specs.{Tally.{IsTally, StandsFor, TallyModel, counted, sums_of_files}, TallyRows.{TallyRowModel, sums_of_rows}}
+use Rattle.lc_walk.specs.declared.{options.ReportLists.ReportLists, report.Report.Report, tally.sums.Sums.Sums}
 
 -- the totals of all are the sums over the rows of all
 rows_total : (rs : List Report) → All TotalsAddUp rs → all_totals rs ≡ sums_of_rows (all_rows rs)

@@ -1,12 +1,8 @@
 -- Reports, gathered one after another.
-use Rattle.std.proofs.Common.{◌≡◌, Bool, true, false, List, [], ◌∷◌, ◌++◌, sym, ◌∙◌, ap, append-nil}
+use Rattle.std.proofs.{Common.{◌≡◌, Bool, true, false, List, [], ◌∷◌, ◌++◌, sym, ◌∙◌, ap, append-nil}, lemmas.Grind.flat_map-append}
 use Rattle.std.specs.List.{flat_map}
-use Rattle.std.proofs.lemmas.Grind.{flat_map-append}
-use Rattle.lc_reports.specs.Gathered.{Adds, IsGathered}
-use Rattle.lc_reports.specs.Joined.{if_wanted}
-use Rattle.lc_reports.specs.declared.gathered.Gathered.{Gathered}
-use Rattle.lc_walk.specs.declared.options.ReportLists.{ReportLists}
-use Rattle.lc_walk.specs.declared.report.Report.{Report}
+use Rattle.lc_reports.specs.{Gathered.{Adds, IsGathered}, Joined.if_wanted, declared.gathered.Gathered.Gathered}
+use Rattle.lc_walk.specs.declared.{options.ReportLists.ReportLists, report.Report.Report}
 
 -- what one report more gives
 last_of : {X : Type 0} (f : Report → List X) (rs : List Report) (r : Report) (old new : List X) → old ≡ flat_map f rs

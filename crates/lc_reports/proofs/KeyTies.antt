@@ -1,14 +1,10 @@
 -- Only a key itself ties with it.
 use Rattle.std.proofs.Common.{◌≡◌, ℕ, ◌==◌, cond, List, Option, None, Some, refl, sym, ◌∙◌, ap, nat_cmp}
-use Rattle.std.specs.Cmp.Lexicographic.{slice_cmp}
-use Rattle.std.specs.FinMap.{nat_cmp-IsAntisymmetric}
-use Rattle.std.specs.Option.{option_cmp}
+use Rattle.std.specs.{Cmp.Lexicographic.slice_cmp, FinMap.nat_cmp-IsAntisymmetric, Option.option_cmp}
 use Rattle.std.specs.declared.cmp.Ordering.TheVariants.{Equal}
-use Rattle.lc_census.specs.declared.line_count.Eol.{Eol}
-use Rattle.lc_census.specs.declared.line_count.Eol.TheVariants.{NoEnd, Lf, CrLf, Cr, Mixed, Nul}
+use Rattle.lc_census.specs.declared.line_count.Eol.{Eol, TheVariants.{NoEnd, Lf, CrLf, Cr, Mixed, Nul}}
 use Rattle.lc_reports.proofs.LineOrders.{bytes_same, first_ties, then_ties}
-use Rattle.lc_rules.specs.declared.states.TextState.{TextState}
-use Rattle.lc_rules.specs.declared.states.TextState.TheVariants.{Set, Unset, Auto, Other, Unspecified}
+use Rattle.lc_rules.specs.declared.states.TextState.{TextState, TheVariants.{Set, Unset, Auto, Other, Unspecified}}
 use Rattle.lc_walk.specs.Key.{Key, eol_place, key_cmp, text_place}
 
 extension_ties : (a b : Option (List ℕ)) → option_cmp (slice_cmp nat_cmp) a b ≡ Equal → a ≡ b

@@ -1,23 +1,14 @@
 -- Lines are in a total order, in which only a line itself ties with it.
-use Rattle.std.proofs.Common.{◌≡◌, ℕ, ◌==◌, cond, List, [], ◌∷◌, refl, sym, ◌∙◌, ap, nat_cmp}
-use Rattle.std.specs.Cmp.{IsTotalOrder}
-use Rattle.std.specs.FinMap.{nat_cmp-IsAntisymmetric, slice_cmp-IsAntisymmetric}
-use Rattle.std.specs.Ordering.{ordering_then}
-use Rattle.std.specs.declared.cmp.Ordering.{Ordering}
-use Rattle.std.specs.declared.cmp.Ordering.TheVariants.{Less, Equal, Greater}
-use Rattle.std.proofs.lemmas.Cmp.{nat_cmp_total, nat_list_cmp_total, on_total, then_total}
-use Rattle.lc_level.specs.FaultLines.{FaultLineModel}
-use Rattle.lc_level.specs.FaultWords.{fault_word}
-use Rattle.lc_level.specs.Level.{Reason, SkippedLineModel, named_git, by_rule, by_attribute, not_included, other_kind}
-use Rattle.lc_level.specs.ReasonWords.{reason_word}
-use Rattle.lc_level.specs.declared.fault_word.FaultWord.{FaultWord}
+use Rattle.std.proofs.{Common.{◌≡◌, ℕ, ◌==◌, cond, List, [], ◌∷◌, refl, sym, ◌∙◌, ap, nat_cmp}, lemmas.Cmp.nat_cmp_total}
+use Rattle.std.proofs.lemmas.Cmp.{nat_list_cmp_total, on_total, then_total}
+use Rattle.std.specs.{Cmp.IsTotalOrder, FinMap.{nat_cmp-IsAntisymmetric, slice_cmp-IsAntisymmetric}, Ordering.ordering_then}
+use Rattle.std.specs.declared.cmp.Ordering.{Ordering, TheVariants.{Less, Equal, Greater}}
+use Rattle.lc_level.specs.{FaultLines.FaultLineModel, FaultWords.fault_word, Level.{Reason, SkippedLineModel, named_git, by_rule}}
+use Rattle.lc_level.specs.{Level.{by_attribute, not_included, other_kind}, ReasonWords.reason_word, declared.fault_word.FaultWord.FaultWord}
 use Rattle.lc_level.specs.declared.fault_word.FaultWord.TheVariants.{Read, Name, Twice, Many, Long, Endless, Absent}
 use Rattle.lc_reports.specs.LineOrder.{attribute_word, fault_cmp, kind_place, reason_cmp, rule_depth, rule_line, rule_place, skipped_cmp}
-use Rattle.lc_rules.specs.declared.rule_source.RuleSource.{RuleSource}
-use Rattle.lc_rules.specs.declared.rule_source.RuleSource.TheVariants.{ExcludeFrom, InfoExclude, Gitignore, CommandLine}
-use Rattle.lc_tree.specs.ByteOrder.{bytes_cmp}
-use Rattle.lc_tree.specs.declared.entry.Kind.{Kind}
-use Rattle.lc_tree.specs.declared.entry.Kind.TheVariants.{File, Dir, Other}
+use Rattle.lc_rules.specs.declared.rule_source.RuleSource.{RuleSource, TheVariants.{ExcludeFrom, InfoExclude, Gitignore, CommandLine}}
+use Rattle.lc_tree.specs.{ByteOrder.bytes_cmp, declared.entry.Kind.{Kind, TheVariants.{File, Dir, Other}}}
 use Rattle.lc_tree.specs.declared.entry.OtherKind.TheVariants.{Special, Mounted}
 
 -- ---- what ties

@@ -1,16 +1,10 @@
 -- What is at the front and at the end of a path below a name.
 use Rattle.std.proofs.Common.{◌≡◌, ℕ, zero, suc, ◌+◌, ◌-◌, ◌≤◌, Bool, true, false, not, cond, List, [], ◌∷◌, ◌++◌, length, drop, take}
-use Rattle.std.proofs.Common.{reverse}
-use Rattle.std.proofs.Common.{refl, sym, ◌∙◌, ap, arith, append_assoc, length-append, one-add, suc-add, zero-add}
+use Rattle.std.proofs.Common.{reverse, refl, sym, ◌∙◌, ap, arith, append_assoc, length-append, one-add, suc-add, zero-add}
+use Rattle.std.proofs.{Math.Seq.{drop-append-add, take-append-add}, lemmas.List.{reverse-append, Sums.suffix_len-le-length}}
 use Rattle.std.specs.List.{after_first, after_last, onto_first, position_or_len, prefix_len, suffix_len}
-use Rattle.std.proofs.Math.Seq.{drop-append-add, take-append-add}
-use Rattle.std.proofs.lemmas.List.{reverse-append}
-use Rattle.std.proofs.lemmas.List.Sums.{suffix_len-le-length}
-use Rattle.lc_glob.specs.Bytes.{slash}
-use Rattle.lc_glob.specs.Path.{segments_of}
-use Rattle.lc_glob.specs.Pieces.{is_byte}
-use Rattle.lc_reports.specs.Laws.{NamedRulesLaw}
-use Rattle.lc_reports.specs.Named.{named_depth}
+use Rattle.lc_glob.specs.{Bytes.slash, Path.segments_of, Pieces.is_byte}
+use Rattle.lc_reports.specs.{Laws.NamedRulesLaw, Named.named_depth}
 use Rattle.lc_rules.specs.Verdicts.{below}
 use Rattle.lc_text.specs.RulePlaces.{above}
 

@@ -1,12 +1,8 @@
 -- The numbers of reports, added one report after another.
-use Rattle.std.proofs.Common.{◌≡◌, ◌+◌, List, ◌∷◌}
-use Rattle.std.proofs.lemmas.List.Sums.{sum_by-cons}
-use Rattle.lc_reports.specs.Gathered.{numbers_of}
-use Rattle.lc_reports.specs.Joined.{all_totals}
-use Rattle.lc_reports.specs.declared.gathered.Numbers.{Numbers}
+use Rattle.std.proofs.{Common.{◌≡◌, ◌+◌, List, ◌∷◌}, lemmas.List.Sums.sum_by-cons}
+use Rattle.lc_reports.specs.{Gathered.numbers_of, Joined.all_totals, declared.gathered.Numbers.Numbers}
 use Rattle.lc_walk.proofs.RowSums.{same_sums}
-use Rattle.lc_walk.specs.Sums.{plus}
-use Rattle.lc_walk.specs.declared.report.Report.{Report}
+use Rattle.lc_walk.specs.{Sums.plus, declared.report.Report.Report}
 
 abbrev together : Numbers → Numbers → Numbers
 together m n = record {

@@ -1,31 +1,18 @@
 -- Reports have one joined report, but for the order of files that have the same path.
-use Rattle.std.proofs.Common.{◌≡◌, ℕ, zero, suc, ◌<◌, Bool, true, false, cond, ◌&&◌, ◌||◌, T, List, [], ◌∷◌, map}
-use Rattle.std.proofs.Common.{Option, None, Some, refl, sym, ◌∙◌, ap}
-use Rattle.std.proofs.Common.{subst, arith, All, IsPermutation, ⊎_elim}
-use Rattle.std.specs.Cmp.{IsTotalOrder, both_ways}
-use Rattle.std.specs.FinMap.Entries.{below_all, find, is_sorted, same_entries}
-use Rattle.std.specs.List.{AllByRecursion, list_any}
-use Rattle.std.specs.List.Sorted.{IsStrictlySortedBy}
-use Rattle.std.specs.Ordering.{eq_by_cmp, is_eq, is_lt}
-use Rattle.std.specs.declared.cmp.Ordering.{Ordering}
+use Rattle.std.proofs.Common.{◌≡◌, ℕ, zero, suc, ◌<◌, Bool, true, false, cond, ◌&&◌, ◌||◌, T, List, [], ◌∷◌, map, Option, None, Some}
+use Rattle.std.proofs.Common.{refl, sym, ◌∙◌, ap, subst, arith, All, IsPermutation, ⊎_elim}
+use Rattle.std.proofs.lemmas.{Bool.{cases_Bool, cond-true, cond-false}, Cmp.eq_by_cmp_equiv}
+use Rattle.std.proofs.lemmas.List.{Elements.{All-head, All-tail}, Sorted.{IsPermutation-sym, IsPermutation-trans}}
+use Rattle.std.proofs.lemmas.Map.{Keys.{sorted_head, sorted_tail}, Views.{Contains-from_any, list_any-from_Contains, tells_apart}}
+use Rattle.std.specs.{Cmp.{IsTotalOrder, both_ways}, FinMap.Entries.{below_all, find, is_sorted, same_entries}, List.AllByRecursion}
+use Rattle.std.specs.{List.{list_any, Sorted.IsStrictlySortedBy}, Ordering.{eq_by_cmp, is_eq, is_lt}, declared.cmp.Ordering.Ordering}
 use Rattle.std.specs.declared.cmp.Ordering.TheVariants.{Less, Equal}
-use Rattle.std.proofs.lemmas.Bool.{cases_Bool, cond-true, cond-false}
-use Rattle.std.proofs.lemmas.Cmp.{eq_by_cmp_equiv}
-use Rattle.std.proofs.lemmas.List.Elements.{All-head, All-tail}
-use Rattle.std.proofs.lemmas.List.Sorted.{IsPermutation-sym, IsPermutation-trans}
-use Rattle.std.proofs.lemmas.Map.Keys.{sorted_head, sorted_tail}
-use Rattle.std.proofs.lemmas.Map.Views.{Contains-from_any, list_any-from_Contains, tells_apart}
-use Rattle.lc_reports.proofs.KeyTies.{key_ties}
-use Rattle.lc_reports.proofs.LineOrders.{fault_cmp_total, fault_ties, skipped_cmp_total, skipped_ties}
-use Rattle.lc_reports.specs.Joined.{IsUnited, all_faults, all_files, all_rows, all_skipped, if_wanted}
-use Rattle.lc_reports.specs.Laws.{HasFile, JoinOnceLaw}
+use Rattle.lc_reports.proofs.{KeyTies.key_ties, LineOrders.{fault_cmp_total, fault_ties, skipped_cmp_total, skipped_ties}}
+use Rattle.lc_reports.specs.{Joined.{IsUnited, all_faults, all_files, all_rows, all_skipped, if_wanted}, Laws.{HasFile, JoinOnceLaw}}
 use Rattle.lc_reports.specs.LineOrder.{skipped_cmp}
-use Rattle.lc_walk.proofs.Keys.{equal_if, key_cmp_total}
-use Rattle.lc_walk.proofs.RowSums.{sums_of_one}
-use Rattle.lc_walk.specs.Key.{Key, key_cmp, same_key}
-use Rattle.lc_walk.specs.TallyRows.{AddsUp, IsInOrder, TallyRowModel, row_with, rows_with, sums_of_rows}
-use Rattle.lc_walk.specs.declared.options.ReportLists.{ReportLists}
-use Rattle.lc_walk.specs.declared.tally.sums.Sums.{Sums}
+use Rattle.lc_walk.proofs.{Keys.{equal_if, key_cmp_total}, RowSums.sums_of_one}
+use Rattle.lc_walk.specs.{Key.{Key, key_cmp, same_key}, TallyRows.{AddsUp, IsInOrder, TallyRowModel, row_with, rows_with, sums_of_rows}}
+use Rattle.lc_walk.specs.declared.{options.ReportLists.ReportLists, tally.sums.Sums.Sums}
 
 both : (a b : Bool) → T a → T b → T (a && b)
 both true b p q = q

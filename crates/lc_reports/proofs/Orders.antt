@@ -1,24 +1,17 @@
 -- Joined reports have no order and no grouping.
 use Rattle.std.proofs.Common.{◌≡◌, ℕ, ◌+◌, Bool, true, false, ◌&&◌, List, [], ◌∷◌, ◌++◌, refl, sym, ◌∙◌, ap, subst, IsPermutation}
-use Rattle.std.specs.Cmp.{both_ways}
-use Rattle.std.specs.List.{list_all, flat_map, sum_by}
 use Rattle.std.proofs.lemmas.Grind.{flat_map-append}
-use Rattle.std.proofs.lemmas.List.Concat.{flat_map-cons}
-use Rattle.std.proofs.lemmas.List.Folds.{list_all-append}
+use Rattle.std.proofs.lemmas.List.{Concat.flat_map-cons, Folds.list_all-append}
 use Rattle.std.proofs.lemmas.List.Sorted.{All-permutation, IsPermutation-append, IsPermutation-refl, IsPermutation-sym, IsPermutation-trans}
 use Rattle.std.proofs.lemmas.List.Sorted.{sum_by-IsPermutation}
 use Rattle.std.proofs.lemmas.List.Sums.{AllPass-from_list_all, list_all-from_AllPass, sum_by-append, sum_by-cons}
-use Rattle.lc_level.specs.FaultLines.{FaultLineModel}
-use Rattle.lc_level.specs.Level.{FileLineModel, SkippedLineModel}
+use Rattle.std.specs.{Cmp.both_ways, List.{list_all, flat_map, sum_by}}
+use Rattle.lc_level.specs.{FaultLines.FaultLineModel, Level.{FileLineModel, SkippedLineModel}}
 use Rattle.lc_reports.proofs.Uniting.{united_permuted, united_with}
 use Rattle.lc_reports.specs.Joined.{IsJoined, IsUnited, all_faults, all_files, all_rows, all_skipped, all_totals, if_wanted, shared_lists}
-use Rattle.lc_reports.specs.Laws.{JoinGroupLaw, JoinOrderLaw}
-use Rattle.lc_reports.specs.LineOrder.{fault_cmp, skipped_cmp}
-use Rattle.lc_walk.proofs.MovedLists.{lists_moved}
-use Rattle.lc_walk.proofs.RowSums.{has_both, has_further, has_permuted, has_same, same_sums}
-use Rattle.lc_walk.specs.TallyRows.{AddsUp, TallyRowModel}
-use Rattle.lc_walk.specs.declared.options.ReportLists.{ReportLists}
-use Rattle.lc_walk.specs.declared.report.Report.{Report}
+use Rattle.lc_reports.specs.{Laws.{JoinGroupLaw, JoinOrderLaw}, LineOrder.{fault_cmp, skipped_cmp}}
+use Rattle.lc_walk.proofs.{MovedLists.lists_moved, RowSums.{has_both, has_further, has_permuted, has_same, same_sums}}
+use Rattle.lc_walk.specs.{TallyRows.{AddsUp, TallyRowModel}, declared.{options.ReportLists.ReportLists, report.Report.Report}}
 use Rattle.lc_walk.specs.declared.tally.sums.Sums.{Sums}
 
 same_lists : (a b : ReportLists) → a.files ≡ b.files → a.left_out ≡ b.left_out → a ≡ b

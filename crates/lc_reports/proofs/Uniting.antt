@@ -1,15 +1,10 @@
 -- Lines that are sorted, and then kept once each.
-use Rattle.std.proofs.Common.{◌≡◌, List, ◌++◌, refl, IsPermutation, ⊎_elim}
-use Rattle.std.specs.Cmp.{IsTotalOrder}
-use Rattle.std.specs.List.{dedup}
-use Rattle.std.specs.List.Sorted.{IsSorted}
-use Rattle.std.specs.Ordering.{eq_by_cmp}
-use Rattle.std.specs.declared.cmp.Ordering.{Ordering}
-use Rattle.std.specs.declared.cmp.Ordering.TheVariants.{Equal}
-use Rattle.std.proofs.lemmas.Cmp.{eq_by_cmp_equiv}
+use Rattle.std.proofs.{Common.{◌≡◌, List, ◌++◌, refl, IsPermutation, ⊎_elim}, lemmas.Cmp.eq_by_cmp_equiv}
 use Rattle.std.proofs.lemmas.List.Elements.{Contains-append_cases, Contains-append_left, Contains-append_right}
 use Rattle.std.proofs.lemmas.List.Kept.{Contains-dedup, Contains-from_dedup, IsStrictlySortedBy-dedup}
 use Rattle.std.proofs.lemmas.List.Sorted.{Contains-permutation, IsPermutation-sym}
+use Rattle.std.specs.{Cmp.IsTotalOrder, List.{dedup, Sorted.IsSorted}, Ordering.eq_by_cmp, declared.cmp.Ordering.Ordering}
+use Rattle.std.specs.declared.cmp.Ordering.TheVariants.{Equal}
 use Rattle.lc_reports.specs.Joined.{IsUnited}
 use Rattle.lc_walk.proofs.Keys.{equal_if}
 

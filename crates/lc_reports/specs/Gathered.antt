@@ -1,11 +1,8 @@
 -- What is gathered from several reports before they are joined.
 use Rattle.std.specs.Prelude.{◌≡◌, ◌+◌, ◌<◌, ◌^◌, List, ◌++◌}
 use Rattle.lc_reports.specs.Joined.{all_rows, all_files, all_faults, all_skipped, all_totals, all_directories, all_entries, if_wanted}
-use Rattle.lc_reports.specs.declared.gathered.Gathered.{Gathered}
-use Rattle.lc_reports.specs.declared.gathered.Numbers.{Numbers}
-use Rattle.lc_walk.specs.Sums.{IsInRange, no_files, plus}
-use Rattle.lc_walk.specs.TallyRows.{sums_of_rows}
-use Rattle.lc_walk.specs.declared.options.ReportLists.{ReportLists}
+use Rattle.lc_reports.specs.declared.gathered.{Gathered.Gathered, Numbers.Numbers}
+use Rattle.lc_walk.specs.{Sums.{IsInRange, no_files, plus}, TallyRows.sums_of_rows, declared.options.ReportLists.ReportLists}
 use Rattle.lc_walk.specs.declared.report.Report.{Report}
 
 -- ---- numbers

@@ -1,19 +1,11 @@
 -- The report that several reports make when they are joined.
-use Rattle.std.specs.Prelude.{◌≡◌, ℕ, ◌<◌, ◌^◌, Bool, List, cond, [], flat_map, sum_by, Result, MatchResult}
-use Rattle.std.specs.List.{Contains, list_all}
-use Rattle.std.specs.List.Sorted.{IsPermutation, IsSortedByKey, IsStrictlySortedBy}
-use Rattle.std.specs.declared.cmp.Ordering.{Ordering}
-use Rattle.lc_level.specs.FaultLines.{FaultLineModel}
-use Rattle.lc_level.specs.Level.{FileLineModel, SkippedLineModel}
-use Rattle.lc_reports.specs.LineOrder.{fault_cmp, skipped_cmp}
-use Rattle.lc_reports.specs.declared.join_fault.JoinFault.{JoinFault}
-use Rattle.lc_reports.specs.declared.join_fault.JoinFault.TheVariants.{Memory, TooLarge}
+use Rattle.std.specs.{Prelude.{◌≡◌, ℕ, ◌<◌, ◌^◌, Bool, List, cond, [], flat_map, sum_by, Result, MatchResult}, List.{Contains, list_all}}
+use Rattle.std.specs.{List.Sorted.{IsPermutation, IsSortedByKey, IsStrictlySortedBy}, declared.cmp.Ordering.Ordering}
+use Rattle.lc_level.specs.{FaultLines.FaultLineModel, Level.{FileLineModel, SkippedLineModel}}
+use Rattle.lc_reports.specs.{LineOrder.{fault_cmp, skipped_cmp}, declared.join_fault.JoinFault.{JoinFault, TheVariants.{Memory, TooLarge}}}
 use Rattle.lc_tree.specs.ByteOrder.{bytes_cmp}
-use Rattle.lc_walk.specs.Sums.{IsInRange}
-use Rattle.lc_walk.specs.TallyRows.{TallyRowModel, AddsUp, sums_of_rows}
-use Rattle.lc_walk.specs.declared.options.ReportLists.{ReportLists}
-use Rattle.lc_walk.specs.declared.report.Report.{Report}
-use Rattle.lc_walk.specs.declared.tally.sums.Sums.{Sums}
+use Rattle.lc_walk.specs.{Sums.IsInRange, TallyRows.{TallyRowModel, AddsUp, sums_of_rows}, declared.options.ReportLists.ReportLists}
+use Rattle.lc_walk.specs.declared.{report.Report.Report, tally.sums.Sums.Sums}
 
 -- ---- what several reports have, one report after another
 

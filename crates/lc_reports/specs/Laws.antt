@@ -1,17 +1,11 @@
 -- The laws of reports with a name in front of their paths, and of joined reports.
-use Rattle.std.specs.Prelude.{◌≡◌, ℕ, ◌<◌, List, ◌∷◌, ◌++◌, length}
-use Rattle.std.specs.List.{All}
-use Rattle.std.specs.List.Sorted.{IsPermutation}
+use Rattle.std.specs.{Prelude.{◌≡◌, ℕ, ◌<◌, List, ◌∷◌, ◌++◌, length}, List.{All, Sorted.IsPermutation}}
 use Rattle.lc_glob.specs.Bytes.{slash}
 use Rattle.lc_level.specs.Level.{FileLineModel}
-use Rattle.lc_reports.specs.Joined.{IsJoined, all_rows}
-use Rattle.lc_reports.specs.Named.{IsNamed, named_path, named_source}
-use Rattle.lc_rules.specs.declared.rule_source.RuleSource.{RuleSource}
-use Rattle.lc_rules.specs.declared.rule_source.RuleSource.TheVariants.{InfoExclude, Gitignore}
+use Rattle.lc_reports.specs.{Joined.{IsJoined, all_rows}, Named.{IsNamed, named_path, named_source}}
+use Rattle.lc_rules.specs.declared.rule_source.RuleSource.{RuleSource, TheVariants.{InfoExclude, Gitignore}}
 use Rattle.lc_text.specs.RulePlaces.{source_directory}
-use Rattle.lc_walk.specs.ReportTotals.{TotalsAddUp}
-use Rattle.lc_walk.specs.TallyRows.{TallyRowModel}
-use Rattle.lc_walk.specs.declared.report.Report.{Report}
+use Rattle.lc_walk.specs.{ReportTotals.TotalsAddUp, TallyRows.TallyRowModel, declared.report.Report.Report}
 
 -- a report that joins some reports also joins the same reports in any other order
 abbrev pub JoinOrderLaw : Type 0

@@ -1,18 +1,11 @@
 -- The orders of errors and of skipped entries: by their paths, then by their other fields, one after another.
-use Rattle.std.specs.Prelude.{ℕ, List, [], unwrap_or}
-use Rattle.std.specs.Option.{option_map_or}
-use Rattle.std.specs.declared.cmp.Ordering.{Ordering}
-use Rattle.std.specs.Ordering.{nat_cmp, on, then_cmp}
-use Rattle.lc_level.specs.FaultLines.{FaultLineModel}
-use Rattle.lc_level.specs.FaultWords.{fault_word}
-use Rattle.lc_level.specs.Level.{Reason, SkippedLineModel}
-use Rattle.lc_level.specs.ReasonWords.{attribute_of, reason_word, rule_of}
-use Rattle.lc_rules.specs.Verdicts.{depth_at}
-use Rattle.lc_rules.specs.declared.rule_source.RuleSource.{RuleSource}
+use Rattle.std.specs.{Prelude.{ℕ, List, [], unwrap_or}, Option.option_map_or, declared.cmp.Ordering.Ordering, Ordering.{nat_cmp, on}}
+use Rattle.std.specs.Ordering.{then_cmp}
+use Rattle.lc_level.specs.{FaultLines.FaultLineModel, FaultWords.fault_word, Level.{Reason, SkippedLineModel}, ReasonWords.attribute_of}
+use Rattle.lc_level.specs.ReasonWords.{reason_word, rule_of}
+use Rattle.lc_rules.specs.{Verdicts.depth_at, declared.rule_source.RuleSource.RuleSource}
 use Rattle.lc_rules.specs.declared.rule_source.RuleSource.TheVariants.{ExcludeFrom, InfoExclude, Gitignore, CommandLine}
-use Rattle.lc_tree.specs.ByteOrder.{bytes_cmp}
-use Rattle.lc_tree.specs.declared.entry.Kind.{Kind}
-use Rattle.lc_tree.specs.declared.entry.Kind.TheVariants.{File, Dir, Other}
+use Rattle.lc_tree.specs.{ByteOrder.bytes_cmp, declared.entry.Kind.{Kind, TheVariants.{File, Dir, Other}}}
 use Rattle.lc_tree.specs.declared.entry.OtherKind.TheVariants.{Special, Mounted}
 
 -- compares errors by their paths, then by their words

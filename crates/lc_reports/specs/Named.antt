@@ -1,11 +1,9 @@
 -- A report with a name in front of its paths.
 use Rattle.std.specs.Prelude.{◌≡◌, ℕ, ◌+◌, List, [], ◌∷◌, ◌++◌, length, map}
-use Rattle.lc_glob.specs.Bytes.{slash}
-use Rattle.lc_glob.specs.Path.{segments_of}
-use Rattle.lc_level.specs.FaultLines.{FaultLineModel}
-use Rattle.lc_level.specs.Level.{FileLineModel, SkippedLineModel, Reason, named_git, by_rule, by_attribute, not_included, other_kind}
-use Rattle.lc_rules.specs.declared.rule_source.RuleSource.{RuleSource}
-use Rattle.lc_rules.specs.declared.rule_source.RuleSource.TheVariants.{ExcludeFrom, InfoExclude, Gitignore, CommandLine}
+use Rattle.lc_glob.specs.{Bytes.slash, Path.segments_of}
+use Rattle.lc_level.specs.{FaultLines.FaultLineModel, Level.{FileLineModel, SkippedLineModel, Reason, named_git, by_rule, by_attribute}}
+use Rattle.lc_level.specs.Level.{not_included, other_kind}
+use Rattle.lc_rules.specs.declared.rule_source.RuleSource.{RuleSource, TheVariants.{ExcludeFrom, InfoExclude, Gitignore, CommandLine}}
 use Rattle.lc_walk.specs.declared.report.Report.{Report}
 
 -- the path of the named directory itself: the name, or a slash for the empty name, which stands for the directory `/`

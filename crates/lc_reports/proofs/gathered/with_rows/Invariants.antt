@@ -1,6 +1,5 @@
 use Rattle.std.proofs.Common.{◌≡◌, length}
-use Rattle.lc_walk.specs.Sums.{plus}
-use Rattle.lc_walk.specs.TallyRows.{sums_of_rows}
+use Rattle.lc_walk.specs.{Sums.plus, TallyRows.sums_of_rows}
 use Rattle.lc_reports.proofs.gathered.with_rows.Given as goal
 
 abbrev pub invariant-rows : goal.invariant-rows

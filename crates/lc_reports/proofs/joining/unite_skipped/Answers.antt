@@ -1,12 +1,8 @@
-use Rattle.std.proofs.Common.{rules, subst, sym}
-use Rattle.std.proofs.lemmas.List.Sorted.{ranks_by}
-use Rattle.std.proofs.lemmas.Fn.{always_returns_same, dedup_same}
+use Rattle.std.proofs.{Common.{rules, subst, sym}, lemmas.{List.Sorted.ranks_by, Fn.{always_returns_same, dedup_same}}}
 use Rattle.std.specs.Ordering.{eq_by_cmp, is_lt}
 use Rattle.lc_level.specs.Level.{SkippedLineModel}
-use Rattle.lc_reports.proofs.LineOrders.{skipped_cmp_total, skipped_ties}
-use Rattle.lc_reports.proofs.Uniting.{united}
-use Rattle.lc_reports.specs.Joined.{IsUnited}
-use Rattle.lc_reports.specs.LineOrder.{skipped_cmp}
+use Rattle.lc_reports.proofs.{LineOrders.{skipped_cmp_total, skipped_ties}, Uniting.united}
+use Rattle.lc_reports.specs.{Joined.IsUnited, LineOrder.skipped_cmp}
 use Rattle.lc_reports.proofs.joining.unite_skipped.Goals as goal
 
 pub returns : goal.returns
