@@ -1,26 +1,16 @@
 -- Rows that are added to the directories right above theirs, level by level.
-use Rattle.std.proofs.Common.{◌≡◌, ℕ, ◌+◌, ◌-◌, ◌<◌, ◌≤◌, min, suc, zero, Bool, true, false, ◌||◌, List, [], ◌∷◌, ◌++◌, map}
-use Rattle.std.proofs.Common.{length, nat_le, Option, Some, None, option_map, refl, sym, ◌∙◌, ap, ap₂, subst, arith, append_assoc}
-use Rattle.std.specs.List.{slice_index_or}
-use Rattle.std.specs.List.Sorted.{IsNonDecreasingBy}
-use Rattle.std.proofs.lemmas.List.Elements.{filter-append}
-use Rattle.lc_walk.specs.Sums.{plus}
-use Rattle.std.specs.List.{flat_map, list_any, range_with_len, sum_by}
-use Rattle.std.proofs.lemmas.Bool.Decides.{nat_tests}
-use Rattle.std.proofs.lemmas.Grind.{flat_map-append}
-use Rattle.std.proofs.lemmas.List.{append-nil}
-use Rattle.std.proofs.lemmas.List.Folds.{list_any-append}
-use Rattle.std.proofs.lemmas.List.FromFn.{map-range_with_len_more}
+use Rattle.std.proofs.Common.{◌≡◌, ℕ, ◌+◌, ◌-◌, ◌<◌, ◌≤◌, min, suc, zero, Bool, true, false, ◌||◌, List, [], ◌∷◌, ◌++◌, map, length}
+use Rattle.std.proofs.Common.{nat_le, Option, Some, None, option_map, refl, sym, ◌∙◌, ap, ap₂, subst, arith, append_assoc}
+use Rattle.std.proofs.lemmas.List.{Elements.filter-append, append-nil, Folds.list_any-append, FromFn.map-range_with_len_more}
 use Rattle.std.proofs.lemmas.List.Sums.{sum_by-append, sum_by-cons}
-use Rattle.lc_walk.proofs.Filtered.{part, sum_by-filter}
-use Rattle.lc_walk.proofs.RowSums.{same_sums}
-use Rattle.lc_walk.specs.declared.tally.sums.Sums.{Sums}
-use Rattle.lc_rows.specs.Directories.{first_names}
-use Rattle.lc_rows.specs.LevelParts.{AreBelow, HaveSumsOf, height, key_at, level_in, level_parts, level_to, next_above, next_at, own_row, row_at}
-use Rattle.lc_rows.specs.RowKeys.{RowKey, ShownRowModel, has_within, row_key, row_with, rows_within, sums_of_shown}
-use Rattle.lc_rows.specs.ShownRows.{AreAddedUp}
-use Rattle.lc_rows.proofs.Levels.{first_again, level_of_first}
-use Rattle.lc_rows.proofs.TreeParts.{raised_parts, same_below}
+use Rattle.std.proofs.lemmas.{Bool.Decides.nat_tests, Grind.flat_map-append}
+use Rattle.std.specs.List.{slice_index_or, Sorted.IsNonDecreasingBy, flat_map, list_any, range_with_len, sum_by}
+use Rattle.lc_walk.specs.{Sums.plus, declared.tally.sums.Sums.Sums}
+use Rattle.lc_walk.proofs.{Filtered.{part, sum_by-filter}, RowSums.same_sums}
+use Rattle.lc_rows.specs.{Directories.first_names, LevelParts.{AreBelow, HaveSumsOf, height, key_at, level_in, level_parts, level_to}}
+use Rattle.lc_rows.specs.{LevelParts.{next_above, next_at, own_row, row_at}, RowKeys.{RowKey, ShownRowModel, has_within, row_key, row_with}}
+use Rattle.lc_rows.specs.{RowKeys.{rows_within, sums_of_shown}, ShownRows.AreAddedUp}
+use Rattle.lc_rows.proofs.{Levels.{first_again, level_of_first}, TreeParts.{raised_parts, same_below}}
 
 -- ---- one row
 

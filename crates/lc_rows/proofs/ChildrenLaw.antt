@@ -1,23 +1,14 @@
 -- The sums of a directory are those of its own files and of the directories in it.
-use Rattle.std.proofs.Common.{◌≡◌, ℕ, ◌+◌, ◌<◌, ◌≤◌, suc, zero, Bool, cond, ◌&&◌, List, [], ◌∷◌, map}
-use Rattle.std.proofs.Common.{Some, refl, sym, ◌∙◌, ap, subst, arith}
-use Rattle.std.specs.List.{filter, range_with_len, sum_by}
-use Rattle.std.specs.Prelude.{bytes_eq}
-use Rattle.std.proofs.lemmas.List.Sums.{sum_by-append, sum_by-cons}
+use Rattle.std.proofs.Common.{◌≡◌, ℕ, ◌+◌, ◌<◌, ◌≤◌, suc, zero, Bool, cond, ◌&&◌, List, [], ◌∷◌, map, Some, refl, sym, ◌∙◌, ap, subst}
+use Rattle.std.proofs.{Common.arith, lemmas.List.Sums.{sum_by-append, sum_by-cons}}
+use Rattle.std.specs.{List.{filter, range_with_len, sum_by}, Prelude.bytes_eq}
 use Rattle.lc_sheet.specs.declared.table_options.Columns.{Columns}
-use Rattle.lc_walk.proofs.Filtered.{part, sum_by-filter}
-use Rattle.lc_walk.proofs.RowSums.{same_sums}
-use Rattle.lc_walk.specs.Key.{Key, same_key}
-use Rattle.lc_walk.specs.Sums.{one_file, plus}
-use Rattle.lc_walk.specs.declared.tally.sums.Sums.{Sums}
-use Rattle.lc_rows.specs.Directories.{above, directory_of, level_of}
-use Rattle.lc_rows.specs.Laws.{ChildrenLaw, sums_of_lines}
-use Rattle.lc_rows.specs.RowKeys.{RowKey, ShownRowModel, row_key, rows_within, same_row_key, sums_of_shown}
-use Rattle.lc_rows.specs.ShownRows.{file_key, key_in, part_of_file}
+use Rattle.lc_walk.proofs.{Filtered.{part, sum_by-filter}, RowSums.same_sums}
+use Rattle.lc_walk.specs.{Key.{Key, same_key}, Sums.{one_file, plus}, declared.tally.sums.Sums.Sums}
+use Rattle.lc_rows.specs.{Directories.{above, directory_of, level_of}, Laws.{ChildrenLaw, sums_of_lines}, RowKeys.{RowKey, ShownRowModel}}
+use Rattle.lc_rows.specs.{RowKeys.{row_key, rows_within, same_row_key, sums_of_shown}, ShownRows.{file_key, key_in, part_of_file}}
 use Rattle.lc_rows.specs.TreeRows.{is_child, is_in, levels_above, parts_above, tree_parts}
-use Rattle.lc_rows.proofs.Folding.{alike_permuted, alike_sums}
-use Rattle.lc_rows.proofs.Levels.{above_at, capped, level_at}
-use Rattle.lc_rows.proofs.TreeLaw.{key_parts, one_more}
+use Rattle.lc_rows.proofs.{Folding.{alike_permuted, alike_sums}, Levels.{above_at, capped, level_at}, TreeLaw.{key_parts, one_more}}
 use Rattle.lc_level.specs.Level.{FileLineModel}
 
 -- where each number of one sum is the one before it of another, only the last is missing

@@ -1,11 +1,9 @@
 -- The sums over binary files and over others add up.
-use Rattle.std.proofs.Common.{◌≡◌, ℕ, ◌+◌, Bool, true, false, not, List, [], ◌∷◌, filter, refl, arith}
+use Rattle.std.proofs.{Common.{◌≡◌, ℕ, ◌+◌, Bool, true, false, not, List, [], ◌∷◌, filter, refl, arith}, lemmas.List.Sums.sum_by-cons}
 use Rattle.std.specs.List.{sum_by}
-use Rattle.std.proofs.lemmas.List.Sums.{sum_by-cons}
 use Rattle.lc_walk.proofs.RowSums.{same_sums}
 use Rattle.lc_walk.specs.TallyRows.{TallyRowModel}
-use Rattle.lc_rows.specs.Classes.{is_binary}
-use Rattle.lc_rows.specs.Laws.{ClassesLaw}
+use Rattle.lc_rows.specs.{Classes.is_binary, Laws.ClassesLaw}
 
 split_at : (v : TallyRowModel → ℕ) (r : TallyRowModel) (rs : List TallyRowModel) (b : Bool) → is_binary r ≡ b
     → sum_by v (filter (λ r. not (is_binary r)) rs) + sum_by v (filter is_binary rs) ≡ sum_by v rs

@@ -1,29 +1,15 @@
 -- What is true of the rows of directories.
-use Rattle.std.proofs.Common.{◌≡◌, ℕ, Bool, true, false, cond, ◌||◌, List, [], ◌∷◌, map, length, get_or, suc, refl, sym, ◌∙◌, ap}
-use Rattle.std.proofs.Common.{arith}
-use Rattle.std.specs.List.{AllByRecursion, filter, list_any, sum_by}
-use Rattle.std.specs.List.Sorted.{IsPermutation, IsStrictlySortedBy}
-use Rattle.std.specs.Ordering.{is_eq}
-use Rattle.std.specs.declared.cmp.Ordering.TheVariants.{Less, Equal}
+use Rattle.std.proofs.Common.{◌≡◌, ℕ, Bool, true, false, cond, ◌||◌, List, [], ◌∷◌, map, length, get_or, suc, refl, sym, ◌∙◌, ap, arith}
 use Rattle.std.proofs.lemmas.Cmp.{tied_itself}
-use Rattle.std.proofs.lemmas.List.{get_or-map, length-map}
-use Rattle.std.proofs.lemmas.List.Folds.{list_any_at}
-use Rattle.std.proofs.lemmas.List.Sorted.{sum_by-IsPermutation}
-use Rattle.std.proofs.lemmas.List.Sums.{length-filter}
+use Rattle.std.proofs.lemmas.List.{get_or-map, length-map, Folds.list_any_at, Sorted.sum_by-IsPermutation, Sums.length-filter}
+use Rattle.std.specs.{List.{AllByRecursion, filter, list_any, sum_by, Sorted.{IsPermutation, IsStrictlySortedBy}}, Ordering.is_eq}
+use Rattle.std.specs.declared.cmp.Ordering.TheVariants.{Less, Equal}
 use Rattle.lc_sheet.specs.declared.table_options.Columns.{Columns}
-use Rattle.lc_walk.proofs.Filtered.{part, sum_by-filter}
-use Rattle.lc_walk.proofs.Keys.{equal_if}
-use Rattle.lc_walk.proofs.ReportTotals.{sum_by-map}
-use Rattle.lc_walk.proofs.RowSums.{same_sums}
-use Rattle.lc_walk.specs.Sums.{one_file}
-use Rattle.lc_walk.specs.declared.tally.sums.Sums.{Sums}
-use Rattle.lc_rows.specs.Laws.{DirectoriesLaw, OneRowLaw, file_row_key, sums_of_lines}
-use Rattle.lc_rows.specs.RowKeys.{RowKey, ShownRowModel, AreInRowOrder, has_within, row_key, row_key_cmp, rows_within, same_row_key}
-use Rattle.lc_rows.specs.RowKeys.{sums_of_shown}
-use Rattle.lc_rows.specs.ShownRows.{part_of_file}
-use Rattle.lc_rows.proofs.Folding.{alike_permuted, alike_sums}
-use Rattle.lc_rows.proofs.RowLaws.{moved}
-use Rattle.lc_rows.proofs.SameKeys.{row_key_cmp_total}
+use Rattle.lc_walk.proofs.{Filtered.{part, sum_by-filter}, Keys.equal_if, ReportTotals.sum_by-map, RowSums.same_sums}
+use Rattle.lc_walk.specs.{Sums.one_file, declared.tally.sums.Sums.Sums}
+use Rattle.lc_rows.specs.{Laws.{DirectoriesLaw, OneRowLaw, file_row_key, sums_of_lines}, RowKeys.{RowKey, ShownRowModel, AreInRowOrder}}
+use Rattle.lc_rows.specs.{RowKeys.{has_within, row_key, row_key_cmp, rows_within, same_row_key, sums_of_shown}, ShownRows.part_of_file}
+use Rattle.lc_rows.proofs.{Folding.{alike_permuted, alike_sums}, RowLaws.moved, SameKeys.row_key_cmp_total}
 use Rattle.lc_level.specs.Level.{FileLineModel}
 
 -- the sums over the parts of a set of keys are those over their files

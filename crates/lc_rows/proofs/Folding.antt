@@ -1,26 +1,14 @@
 -- Parts in the order of their keys, added to rows one by one.
-use Rattle.std.proofs.Common.{◌≡◌, ℕ, ◌+◌, Bool, true, false, cond, ◌||◌, List, [], ◌∷◌, ◌++◌, map, length, get_or, suc}
-use Rattle.std.proofs.Common.{refl, sym, ◌∙◌, ap, subst, arith, append_assoc}
-use Rattle.std.specs.Bool.{MatchBool}
-use Rattle.std.specs.List.{AllByRecursion, filter, list_any, sum_by}
-use Rattle.std.specs.List.Sorted.{IsPermutation, IsSortedByKey, IsStrictlySortedBy}
-use Rattle.std.specs.Cmp.{IsTotalOrder}
-use Rattle.std.specs.Ordering.{is_eq, is_lt, ordering_reverse}
-use Rattle.std.specs.declared.cmp.Ordering.{Ordering}
-use Rattle.std.specs.declared.cmp.Ordering.TheVariants.{Less, Equal, Greater}
-use Rattle.std.proofs.lemmas.List.{map_push}
-use Rattle.std.proofs.lemmas.List.Folds.{list_any-append}
-use Rattle.std.proofs.lemmas.List.Sorted.{list_any-IsPermutation, sum_by-IsPermutation}
-use Rattle.std.proofs.lemmas.List.Sums.{sum_by-append, sum_by-cons}
-use Rattle.lc_walk.proofs.Filtered.{part, sum_by-filter}
-use Rattle.lc_walk.proofs.Keys.{equal_if}
-use Rattle.lc_walk.proofs.RowSums.{AddsAlike, same_sums}
-use Rattle.lc_walk.specs.Sums.{plus}
-use Rattle.lc_walk.specs.declared.tally.sums.Sums.{Sums}
-use Rattle.lc_rows.specs.AddingUp.{IsAdded}
-use Rattle.lc_rows.specs.RowKeys.{RowKey, ShownRowModel, AreInRowOrder, has_within, row_key, row_key_cmp, row_with, rows_within}
-use Rattle.lc_rows.specs.RowKeys.{same_row_key, sums_of_shown}
-use Rattle.lc_rows.specs.ShownRows.{AreAddedUp}
+use Rattle.std.proofs.Common.{◌≡◌, ℕ, ◌+◌, Bool, true, false, cond, ◌||◌, List, [], ◌∷◌, ◌++◌, map, length, get_or, suc, refl, sym, ◌∙◌}
+use Rattle.std.proofs.{Common.{ap, subst, arith, append_assoc}, lemmas.List.{map_push, Folds.list_any-append}}
+use Rattle.std.proofs.lemmas.List.{Sorted.{list_any-IsPermutation, sum_by-IsPermutation}, Sums.{sum_by-append, sum_by-cons}}
+use Rattle.std.specs.{Bool.MatchBool, List.{AllByRecursion, filter, list_any, sum_by}}
+use Rattle.std.specs.{List.Sorted.{IsPermutation, IsSortedByKey, IsStrictlySortedBy}, Cmp.IsTotalOrder, Ordering.{is_eq, is_lt}}
+use Rattle.std.specs.{Ordering.ordering_reverse, declared.cmp.Ordering.{Ordering, TheVariants.{Less, Equal, Greater}}}
+use Rattle.lc_walk.proofs.{Filtered.{part, sum_by-filter}, Keys.equal_if, RowSums.{AddsAlike, same_sums}}
+use Rattle.lc_walk.specs.{Sums.plus, declared.tally.sums.Sums.Sums}
+use Rattle.lc_rows.specs.{AddingUp.IsAdded, RowKeys.{RowKey, ShownRowModel, AreInRowOrder, has_within, row_key, row_key_cmp, row_with}}
+use Rattle.lc_rows.specs.{RowKeys.{rows_within, same_row_key, sums_of_shown}, ShownRows.AreAddedUp}
 use Rattle.lc_rows.proofs.SameKeys.{exact_row_keys, row_key_cmp_total}
 
 -- what a row gives to the sum of a number over a set of keys

@@ -1,29 +1,16 @@
 -- The parts of a report that meet conditions: their order, and opposite ones.
-use Rattle.std.proofs.Common.{◌≡◌, ◌∙◌, ◌+◌, ◌&&◌, ◌||◌, ℕ, Bool, true, false, not}
-use Rattle.std.proofs.Common.{List, [], ◌∷◌, map, filter, refl, sym, ap, ap₂}
-use Rattle.std.proofs.Common.{if◌then◌else◌, subst, arith}
-use Rattle.std.specs.Bool.{MatchBool}
-use Rattle.std.specs.List.{list_all, list_any, sum_by}
-use Rattle.std.specs.List.Sorted.{IsPermutation}
-use Rattle.std.proofs.Math.Path.{fun_ext}
-use Rattle.std.proofs.lemmas.List.{length-map}
-use Rattle.std.proofs.lemmas.List.Filters.{length-filter_both, sum_by-filter_both}
-use Rattle.std.proofs.lemmas.List.Sorted.{length_permutation, list_any-IsPermutation}
-use Rattle.lc_sheet.specs.declared.condition.Comparison.{Comparison}
-use Rattle.lc_sheet.specs.Conditions.{ConditionModel, TestModel, compared, compares, is_on_number, meets, needs_files, none_of, one_of}
-use Rattle.lc_sheet.specs.Values.{ValueModel}
-use Rattle.lc_sheet.specs.declared.column.Column.{Column}
-use Rattle.lc_sheet.specs.declared.condition.Comparison.TheVariants.{Less, AtMost, Equal, Unequal, AtLeast, Greater}
+use Rattle.std.proofs.Common.{◌≡◌, ◌∙◌, ◌+◌, ◌&&◌, ◌||◌, ℕ, Bool, true, false, not, List, [], ◌∷◌, map, filter, refl, sym, ap, ap₂}
+use Rattle.std.proofs.{Common.{if◌then◌else◌, subst, arith}, Math.Path.fun_ext, lemmas.List.length-map}
+use Rattle.std.proofs.lemmas.List.{Filters.{length-filter_both, sum_by-filter_both}, Sorted.{length_permutation, list_any-IsPermutation}}
+use Rattle.std.specs.{Bool.MatchBool, List.{list_all, list_any, sum_by, Sorted.IsPermutation}}
+use Rattle.lc_sheet.specs.declared.condition.Comparison.{Comparison, TheVariants.{Less, AtMost, Equal, Unequal, AtLeast, Greater}}
+use Rattle.lc_sheet.specs.{declared.column.Column.Column, Conditions.{ConditionModel, TestModel, compared, compares, is_on_number, meets}}
+use Rattle.lc_sheet.specs.{Conditions.{needs_files, none_of, one_of}, Values.ValueModel}
 use Rattle.lc_level.specs.Level.{FileLineModel}
-use Rattle.lc_walk.specs.ReportTotals.{counted_line}
-use Rattle.lc_walk.specs.Sums.{plus}
-use Rattle.lc_walk.specs.Tally.{CountedFile, IsTally, sums_of_files}
-use Rattle.lc_walk.specs.TallyRows.{TallyRowModel, sums_of_rows}
-use Rattle.lc_walk.specs.declared.report.Report.{Report}
-use Rattle.lc_walk.proofs.ReportTotals.{sum_by-map}
-use Rattle.lc_walk.proofs.RowSums.{same_sums}
-use Rattle.lc_rows.specs.Kept.{AreKeptRows, IsPart, file_meets}
-use Rattle.lc_rows.specs.Kept.{holds_all, kept_totals, row_meets, value_of_file, value_of_row}
+use Rattle.lc_walk.specs.{ReportTotals.counted_line, Sums.plus, Tally.{CountedFile, IsTally, sums_of_files}, TallyRows.TallyRowModel}
+use Rattle.lc_walk.specs.{TallyRows.sums_of_rows, declared.report.Report.Report}
+use Rattle.lc_walk.proofs.{ReportTotals.sum_by-map, RowSums.same_sums}
+use Rattle.lc_rows.specs.Kept.{AreKeptRows, IsPart, file_meets, holds_all, kept_totals, row_meets, value_of_file, value_of_row}
 use Rattle.lc_rows.specs.KeptLaws.{NoConditionLaw, OppositesLaw, OrderLaw, opposite, opposite_of, opposite_test, tested_sums}
 
 pub no_condition_law : NoConditionLaw

@@ -1,27 +1,18 @@
 -- Where the totals of a report add up, those of what meets conditions do.
 use Rattle.std.proofs.Common.{◌≡◌, ◌∙◌, ◌<◌, ℕ, Bool, true, false, ◌&&◌, cond, List, [], ◌∷◌, filter, map, refl, sym, ap, ap₂, subst}
+use Rattle.std.proofs.{Math.Path.fun_ext, lemmas.{Bool.or_parts, List.{Elements.All-filter, Kept.IsStrictlySortedBy-filter}}}
 use Rattle.std.specs.List.Sorted.{IsStrictlySortedBy}
-use Rattle.std.proofs.Math.Path.{fun_ext}
-use Rattle.std.proofs.lemmas.Bool.{or_parts}
-use Rattle.std.proofs.lemmas.List.Elements.{All-filter}
-use Rattle.std.proofs.lemmas.List.Kept.{IsStrictlySortedBy-filter}
 use Rattle.lc_level.specs.Level.{FileLineModel}
 use Rattle.lc_sheet.specs.Conditions.{ConditionModel, TestModel, compared, is_number, is_on_number, meets, needs_files, none_of, one_of}
-use Rattle.lc_sheet.specs.Values.{ValueModel, blank, path}
-use Rattle.lc_sheet.specs.declared.column.Column.{Column}
-use Rattle.lc_sheet.specs.declared.column.Column.TheVariants as column
-use Rattle.lc_walk.proofs.Keys.{equal_if}
-use Rattle.lc_walk.proofs.ReportTotals.{filter-map, tally_sums}
-use Rattle.lc_walk.specs.Key.{Key, key_cmp, same_key}
-use Rattle.lc_walk.specs.ReportTotals.{TotalsAddUp, counted_line}
-use Rattle.lc_walk.specs.Sums.{no_files}
-use Rattle.lc_walk.specs.Tally.{CountedFile, IsTally, files_with, key_of, sums_of_files}
-use Rattle.lc_walk.specs.TallyRows.{TallyRowModel, row_with, rows_with, sums_of_rows}
-use Rattle.lc_walk.specs.declared.options.ReportLists.{ReportLists}
-use Rattle.lc_walk.specs.declared.report.Report.{Report}
+use Rattle.lc_sheet.specs.{Values.{ValueModel, blank, path}, declared.column.Column.Column}
+use Rattle.lc_walk.proofs.{Keys.equal_if, ReportTotals.{filter-map, tally_sums}}
+use Rattle.lc_walk.specs.{Key.{Key, key_cmp, same_key}, ReportTotals.{TotalsAddUp, counted_line}, Sums.no_files, Tally.CountedFile}
+use Rattle.lc_walk.specs.{Tally.{IsTally, files_with, key_of, sums_of_files}, TallyRows.{TallyRowModel, row_with, rows_with, sums_of_rows}}
+use Rattle.lc_walk.specs.declared.{options.ReportLists.ReportLists, report.Report.Report}
 use Rattle.lc_rows.proofs.SameKeys.{exact_keys}
 use Rattle.lc_rows.specs.Kept.{AreKeptRows, IsPart, file_meets, holds_all, kept_totals, row_meets, value_of_file, value_of_row}
 use Rattle.lc_rows.specs.KeptLaws.{KeptTotalsLaw}
+use Rattle.lc_sheet.specs.declared.column.Column.TheVariants as column
 
 -- ---- the tally of the files whose keys pass a test
 

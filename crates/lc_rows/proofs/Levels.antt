@@ -1,12 +1,10 @@
 -- How many directories are above a directory of a tree.
 use Rattle.std.proofs.Common.{◌≡◌, ℕ, ◌+◌, ◌-◌, ◌<◌, ◌≤◌, ◌==◌, min, suc, zero, Bool, true, false, cond, List, [], ◌∷◌, if◌then◌else◌}
-use Rattle.std.proofs.Common.{◌++◌, nat_le, refl, sym, ◌∙◌, ap, arith}
-use Rattle.std.proofs.lemmas.Bool.Decides.{nat_tests}
-use Rattle.std.specs.List.{AllByRecursion, join_with_byte, onto_first}
+use Rattle.std.proofs.{Common.{◌++◌, nat_le, refl, sym, ◌∙◌, ap, arith}, lemmas.Bool.Decides.nat_tests}
 use Rattle.std.proofs.lemmas.List.Splits.{join_with_byte-slice_split}
+use Rattle.std.specs.List.{AllByRecursion, join_with_byte, onto_first}
 use Rattle.lc_glob.proofs.Naming.{segments_apart, some_segment}
-use Rattle.lc_glob.specs.Bytes.{slash}
-use Rattle.lc_glob.specs.Path.{is_no_name, segments_of}
+use Rattle.lc_glob.specs.{Bytes.slash, Path.{is_no_name, segments_of}}
 use Rattle.lc_rows.specs.Directories.{above, directory_of, first_names, level_of, levels, names_in, parent_of, to_name}
 
 -- ---- segments

@@ -1,19 +1,12 @@
 -- Paths cut at their last slash, and after their names.
 use Rattle.std.proofs.Common.{◌≡◌, ℕ, ◌+◌, ◌-◌, ◌<◌, ◌≤◌, Bool, true, false, not, List, [], ◌∷◌, ◌++◌, length, take, drop, get_or, refl}
 use Rattle.std.proofs.Common.{sym, ◌∙◌, ap, arith, subst, append_assoc, length-append, Some, None, if◌then◌else◌, suc, zero}
-use Rattle.std.specs.List.{before_last, flat_map, join_with_byte, list_any, suffix_len}
-use Rattle.std.proofs.Math.Seq.{take-append_seam}
-use Rattle.std.proofs.lemmas.Bool.{false_from_ne_true}
-use Rattle.std.proofs.lemmas.Grind.{flat_map-append}
-use Rattle.std.proofs.lemmas.List.{append-nil, take_rest}
-use Rattle.std.proofs.lemmas.List.Folds.{list_any_at, list_any_none}
-use Rattle.std.proofs.lemmas.List.Splits.{join_with_byte-slice_split}
+use Rattle.std.proofs.{Math.Seq.take-append_seam, lemmas.{Bool.false_from_ne_true, Grind.flat_map-append}}
+use Rattle.std.proofs.lemmas.List.{append-nil, take_rest, Folds.{list_any_at, list_any_none}, Splits.join_with_byte-slice_split}
 use Rattle.std.proofs.lemmas.List.Sums.{suffix_len_is}
-use Rattle.lc_glob.proofs.FirstByte.{same_read}
-use Rattle.lc_glob.proofs.Naming.{some_segment}
-use Rattle.lc_glob.specs.Bytes.{slash}
-use Rattle.lc_glob.specs.Path.{is_no_name, segments_of}
-use Rattle.lc_glob.specs.Pieces.{is_byte}
+use Rattle.std.specs.List.{before_last, flat_map, join_with_byte, list_any, suffix_len}
+use Rattle.lc_glob.proofs.{FirstByte.same_read, Naming.some_segment}
+use Rattle.lc_glob.specs.{Bytes.slash, Path.{is_no_name, segments_of}, Pieces.is_byte}
 use Rattle.memchr.specs.Find.{IsLastByte, is_byte as found}
 use Rattle.lc_rows.specs.Directories.{after_name, directory_before, first_names, levels, name_of, names_in, parent_of, to_name}
 

@@ -1,21 +1,14 @@
 -- What is true of the rows that a table shows.
 use Rattle.std.proofs.Common.{◌≡◌, ℕ, Bool, true, false, List, [], ◌∷◌, map, Option, Some, None, refl, sym, ◌∙◌, ap, subst}
-use Rattle.std.specs.Bool.{MatchBool}
-use Rattle.std.specs.List.{AllByRecursion, sum_by}
-use Rattle.std.specs.List.Sorted.{IsPermutation, IsStrictlySortedBy}
-use Rattle.std.specs.declared.cmp.Ordering.TheVariants.{Less}
 use Rattle.std.proofs.lemmas.List.Sorted.{IsPermutation-refl, sum_by-IsPermutation}
-use Rattle.lc_sheet.specs.declared.table_options.Columns.{Columns}
-use Rattle.lc_sheet.specs.declared.column.Number.{Number}
-use Rattle.lc_walk.proofs.ReportTotals.{sum_by-map}
-use Rattle.lc_walk.proofs.RowSums.{same_sums}
-use Rattle.lc_walk.specs.Key.{Key, key_cmp}
-use Rattle.lc_walk.specs.Sums.{one_file}
-use Rattle.lc_walk.specs.TallyRows.{TallyRowModel, IsInOrder}
-use Rattle.lc_walk.specs.declared.tally.sums.Sums.{Sums}
-use Rattle.lc_rows.specs.Laws.{PermutationLaw, TotalsLaw, WholeLaw, all_columns, totals_of}
-use Rattle.lc_rows.specs.RowKeys.{RowKey, ShownRowModel, row_key, row_key_cmp, rows_within, sums_of_shown}
-use Rattle.lc_rows.specs.ShownRows.{AreAddedUp, AreSorted, keeps_all, part_of_file, part_of_row, parts_in, parts_of}
+use Rattle.std.specs.{Bool.MatchBool, List.{AllByRecursion, sum_by, Sorted.{IsPermutation, IsStrictlySortedBy}}}
+use Rattle.std.specs.declared.cmp.Ordering.TheVariants.{Less}
+use Rattle.lc_sheet.specs.declared.{table_options.Columns.Columns, column.Number.Number}
+use Rattle.lc_walk.proofs.{ReportTotals.sum_by-map, RowSums.same_sums}
+use Rattle.lc_walk.specs.{Key.{Key, key_cmp}, Sums.one_file, TallyRows.{TallyRowModel, IsInOrder}, declared.tally.sums.Sums.Sums}
+use Rattle.lc_rows.specs.{Laws.{PermutationLaw, TotalsLaw, WholeLaw, all_columns, totals_of}, RowKeys.{RowKey, ShownRowModel, row_key}}
+use Rattle.lc_rows.specs.{RowKeys.{row_key_cmp, rows_within, sums_of_shown}, ShownRows.{AreAddedUp, AreSorted, keeps_all, part_of_file}}
+use Rattle.lc_rows.specs.ShownRows.{part_of_row, parts_in, parts_of}
 use Rattle.lc_level.specs.Level.{FileLineModel}
 
 -- sorted or not, the rows are the same

@@ -1,14 +1,9 @@
 -- Each row is a part of all rows, and none is larger than the largest.
 use Rattle.std.proofs.Common.{◌≤◌, ℕ, List, [], ◌∷◌, Option, Some, None, arith}
+use Rattle.std.proofs.lemmas.List.{Elements.{All-cons, All-nil, All-take, All-weaker}, Sums.sum_by-cons}
 use Rattle.std.specs.List.{All, sum_by}
-use Rattle.std.proofs.lemmas.List.Elements.{All-cons, All-nil, All-take, All-weaker}
-use Rattle.std.proofs.lemmas.List.Sums.{sum_by-cons}
-use Rattle.lc_sheet.specs.declared.column.Number.{Number}
-use Rattle.lc_sheet.specs.declared.column.Number.TheVariants.{Files, Lines, Blank, Bytes}
-use Rattle.lc_rows.specs.RowKeys.{ShownRowModel, sums_of_shown}
-use Rattle.lc_rows.specs.Sheets.{largest}
-use Rattle.lc_rows.specs.ShownRows.{number_in}
-use Rattle.lc_rows.specs.Views.{first_of}
+use Rattle.lc_sheet.specs.declared.column.Number.{Number, TheVariants.{Files, Lines, Blank, Bytes}}
+use Rattle.lc_rows.specs.{RowKeys.{ShownRowModel, sums_of_shown}, Sheets.largest, ShownRows.number_in, Views.first_of}
 
 module _ {X : Type 0} (f : X → ℕ) where
   -- no term is larger than the sum

@@ -1,17 +1,10 @@
 -- Keys that tie are the same.
-use Rattle.std.proofs.Common.{◌≡◌, ℕ, ◌==◌, cond, Some, None, refl, sym, ◌∙◌, ap}
-use Rattle.std.specs.Cmp.{IsTotalOrder}
-use Rattle.std.specs.Cmp.Lexicographic.{options_total}
-use Rattle.std.specs.Option.{option_cmp}
-use Rattle.std.specs.Ordering.{ordering_then}
-use Rattle.std.specs.declared.cmp.Ordering.{Ordering}
-use Rattle.std.specs.declared.cmp.Ordering.TheVariants.{Less, Equal, Greater}
-use Rattle.std.proofs.lemmas.Cmp.{nat_list_cmp_total, on_total, then_total}
+use Rattle.std.proofs.{Common.{◌≡◌, ℕ, ◌==◌, cond, Some, None, refl, sym, ◌∙◌, ap}, lemmas.Cmp.{nat_list_cmp_total, on_total, then_total}}
 use Rattle.std.proofs.lemmas.Map.Lookups.{CmpEqualImpliesEq, exact_bytes, exact_unsigned}
-use Rattle.lc_census.specs.declared.line_count.Eol.{Eol}
-use Rattle.lc_census.specs.declared.line_count.Eol.TheVariants.{NoEnd, Lf, CrLf, Cr, Mixed, Nul}
-use Rattle.lc_rules.specs.declared.states.TextState.{TextState}
-use Rattle.lc_rules.specs.declared.states.TextState.TheVariants.{Set, Unset, Auto, Other, Unspecified}
+use Rattle.std.specs.{Cmp.{IsTotalOrder, Lexicographic.options_total}, Option.option_cmp, Ordering.ordering_then}
+use Rattle.std.specs.declared.cmp.Ordering.{Ordering, TheVariants.{Less, Equal, Greater}}
+use Rattle.lc_census.specs.declared.line_count.Eol.{Eol, TheVariants.{NoEnd, Lf, CrLf, Cr, Mixed, Nul}}
+use Rattle.lc_rules.specs.declared.states.TextState.{TextState, TheVariants.{Set, Unset, Auto, Other, Unspecified}}
 use Rattle.lc_walk.proofs.Keys.{key_cmp_total}
 use Rattle.lc_walk.specs.Key.{eol_place, key_cmp, text_place}
 use Rattle.lc_rows.specs.RowKeys.{RowKey, row_key_cmp}

@@ -2,15 +2,10 @@
 use Rattle.std.proofs.Common.{◌≡◌, ℕ, Bool, true, false, if◌then◌else◌, List, [], ◌∷◌, map, Option, Some, None, refl, sym, ap, ap₂, ◌∙◌}
 use Rattle.std.proofs.Common.{codes, subst}
 use Rattle.std.specs.Prelude.{unwrap_or}
-use Rattle.lc_sheet.specs.Sheets.{SectionModel, SheetModel, line_of, lines_of}
-use Rattle.lc_sheet.specs.declared.form.Form.{Form}
-use Rattle.lc_sheet.specs.declared.table_options.Format.{Format}
-use Rattle.lc_sheet.specs.declared.table_options.Format.TheVariants.{Tsv, Table, Json, Csv, Markdown, Html}
-use Rattle.lc_rows.specs.Kinds.{file_value}
-use Rattle.lc_rows.specs.SheetColumns.{file_columns}
-use Rattle.lc_rows.specs.SheetLaws.{SheetFilesLaw, path_at}
-use Rattle.lc_rows.specs.Sheets.{form_of, list_of, listed_files, section_of}
-use Rattle.lc_rows.specs.Views.{first_of, view_of}
+use Rattle.lc_sheet.specs.{Sheets.{SectionModel, SheetModel, line_of, lines_of}, declared.form.Form.Form}
+use Rattle.lc_sheet.specs.declared.table_options.Format.{Format, TheVariants.{Tsv, Table, Json, Csv, Markdown, Html}}
+use Rattle.lc_rows.specs.{Kinds.file_value, SheetColumns.file_columns, SheetLaws.{SheetFilesLaw, path_at}, Sheets.{form_of, list_of}}
+use Rattle.lc_rows.specs.{Sheets.{listed_files, section_of}, Views.{first_of, view_of}}
 use Rattle.lc_level.specs.Level.{FileLineModel}
 
 -- the path of a file's line, in each format

@@ -1,36 +1,21 @@
 -- What is true of the sheet of a report.
 use Rattle.std.proofs.Common.{◌≡◌, ℕ, ◌+◌, Bool, true, false, List, [], ◌∷◌, ◌++◌, map, Option, Some, None, refl, sym, ap, ap₂, ◌∙◌}
-use Rattle.std.proofs.Common.{subst, arith, codes, if◌then◌else◌}
+use Rattle.std.proofs.{Common.{subst, arith, codes, if◌then◌else◌}, lemmas.List.{Sums.sum_by-cons, Sorted.sum_by-IsPermutation}}
 use Rattle.std.specs.Prelude.{unwrap_or}
-use Rattle.std.proofs.lemmas.List.Sums.{sum_by-cons}
-use Rattle.std.proofs.lemmas.List.Sorted.{sum_by-IsPermutation}
-use Rattle.lc_sheet.specs.Sheets.{SheetModel, line_of, lines_of}
-use Rattle.lc_sheet.specs.Values.{ValueModel}
-use Rattle.lc_sheet.specs.declared.column.Column.{Column}
-use Rattle.lc_sheet.specs.declared.column.Column.TheVariants as column
-use Rattle.lc_sheet.specs.declared.column.Number.{Number}
-use Rattle.lc_sheet.specs.declared.column.Number.TheVariants.{Files, Lines, Blank, Bytes}
-use Rattle.lc_sheet.specs.declared.form.Form.{Form}
-use Rattle.lc_sheet.specs.declared.table_options.Format.{Format}
-use Rattle.lc_sheet.specs.declared.table_options.Format.TheVariants.{Tsv, Table, Json, Csv, Markdown, Html}
+use Rattle.lc_sheet.specs.{Sheets.{SheetModel, line_of, lines_of}, Values.ValueModel}
+use Rattle.lc_sheet.specs.declared.{column.{Column.Column, Number.{Number, TheVariants.{Files, Lines, Blank, Bytes}}}, form.Form.Form}
+use Rattle.lc_sheet.specs.declared.table_options.Format.{Format, TheVariants.{Tsv, Table, Json, Csv, Markdown, Html}}
 use Rattle.lc_sheet.specs.declared.table_options.TableOptions.{TableOptions}
 use Rattle.lc_walk.proofs.RowSums.{same_sums}
-use Rattle.lc_walk.specs.Sums.{no_files, one_file, plus}
-use Rattle.lc_walk.specs.TallyRows.{TallyRowModel}
-use Rattle.lc_walk.specs.declared.tally.sums.Sums.{Sums}
-use Rattle.lc_rows.specs.Kinds.{NamedSumsModel, row_value, sums_value}
-use Rattle.lc_rows.specs.Laws.{totals_of}
-use Rattle.lc_rows.specs.RowKeys.{ShownRowModel, sums_of_shown}
+use Rattle.lc_walk.specs.{Sums.{no_files, one_file, plus}, TallyRows.TallyRowModel, declared.tally.sums.Sums.Sums}
+use Rattle.lc_rows.specs.{Kinds.{NamedSumsModel, row_value, sums_value}, Laws.totals_of, RowKeys.{ShownRowModel, sums_of_shown}}
 use Rattle.lc_rows.specs.SheetColumns.{key_columns, keeps_columns, number_columns, row_columns, share_columns, sums_columns}
 use Rattle.lc_rows.specs.SheetLaws.{SheetClassesLaw, SheetTotalsLaw, column_sum, first_number, is_number, number_at, number_of}
-use Rattle.lc_rows.specs.SheetLaws.{numbers_in, same_number}
-use Rattle.lc_rows.specs.Sheets.{form_of, listed_files, others_lines, section_of, sheet_among}
-use Rattle.lc_rows.specs.ShownRows.{number_in}
-use Rattle.lc_rows.specs.ShownFiles.{AreFilesSorted}
-use Rattle.lc_rows.specs.Views.{view_of}
-use Rattle.lc_rows.specs.declared.classes.ClassSums.{ClassSums}
+use Rattle.lc_rows.specs.{SheetLaws.{numbers_in, same_number}, Sheets.{form_of, listed_files, others_lines, section_of, sheet_among}}
+use Rattle.lc_rows.specs.{ShownRows.number_in, ShownFiles.AreFilesSorted, Views.view_of, declared.classes.ClassSums.ClassSums}
 use Rattle.lc_rows.proofs.ViewLaws.{cut_totals_law, sorted_files_law}
 use Rattle.lc_level.specs.Level.{FileLineModel}
+use Rattle.lc_sheet.specs.declared.column.Column.TheVariants as column
 
 -- ---- the column of a number
 

@@ -1,14 +1,9 @@
 -- A sheet that is made of parts.
 use Rattle.std.proofs.Common.{◌≡◌, List, refl}
-use Rattle.lc_sheet.specs.declared.column.Column.{Column}
-use Rattle.lc_sheet.specs.declared.form.Form.{Form}
-use Rattle.lc_sheet.specs.declared.table_options.TableOptions.{TableOptions}
+use Rattle.lc_sheet.specs.declared.{column.Column.Column, form.Form.Form, table_options.TableOptions.TableOptions}
 use Rattle.lc_walk.specs.declared.report.Report.{Report}
-use Rattle.lc_rows.specs.Kinds.{NamedSumsModel}
-use Rattle.lc_rows.specs.RowKeys.{ShownRowModel}
-use Rattle.lc_rows.specs.SheetColumns.{file_columns, row_columns}
-use Rattle.lc_rows.specs.Sheets.{form_of, others_lines, sheet_among, sheet_with, totals_lines}
-use Rattle.lc_rows.specs.Views.{ViewModel}
+use Rattle.lc_rows.specs.{Kinds.NamedSumsModel, RowKeys.ShownRowModel, SheetColumns.{file_columns, row_columns}, Sheets.form_of}
+use Rattle.lc_rows.specs.{Sheets.{others_lines, sheet_among, sheet_with, totals_lines}, Views.ViewModel}
 use Rattle.lc_rows.specs.declared.classes.ClassSums.{ClassSums}
 use Rattle.lc_level.specs.Level.{FileLineModel}
 

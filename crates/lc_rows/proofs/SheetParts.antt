@@ -1,35 +1,20 @@
 -- No row of a sheet has a share over the total or a bar over the longest.
-use Rattle.std.proofs.Common.{◌≡◌, ◌≤◌, ℕ, Bool, true, false, List, [], ◌∷◌, get_or, Option, Some, None, sym, ap, subst, ◌∙◌, arith, codes}
-use Rattle.std.proofs.Common.{if◌then◌else◌}
-use Rattle.std.specs.Prelude.{is_some, unwrap_or}
-use Rattle.std.specs.List.{All}
-use Rattle.std.proofs.lemmas.List.Elements.{All-cons, All-map, All-nil}
+use Rattle.std.proofs.Common.{◌≡◌, ◌≤◌, ℕ, Bool, true, false, List, [], ◌∷◌, get_or, Option, Some, None, sym, ap, subst, ◌∙◌, arith}
+use Rattle.std.proofs.{Common.{codes, if◌then◌else◌}, lemmas.List.Elements.{All-cons, All-map, All-nil}}
+use Rattle.std.specs.{Prelude.{is_some, unwrap_or}, List.All}
 use Rattle.lc_rules.specs.declared.states.TextState.{TextState}
-use Rattle.lc_rules.specs.declared.states.TextState.TheVariants as text
-use Rattle.lc_sheet.specs.Sheets.{SheetModel, line_of}
-use Rattle.lc_sheet.specs.Values.{ValueModel}
-use Rattle.lc_sheet.specs.declared.column.Column.{Column}
-use Rattle.lc_sheet.specs.declared.column.Column.TheVariants as column
-use Rattle.lc_sheet.specs.declared.form.Form.{Form}
-use Rattle.lc_sheet.specs.declared.form.Shares.{Shares}
-use Rattle.lc_sheet.specs.declared.column.Number.{Number}
-use Rattle.lc_sheet.specs.declared.table_options.TableOptions.{TableOptions}
-use Rattle.lc_walk.specs.Sums.{no_files, plus}
-use Rattle.lc_walk.specs.declared.report.Report.{Report}
-use Rattle.lc_walk.specs.declared.tally.sums.Sums.{Sums}
+use Rattle.lc_sheet.specs.{Sheets.{SheetModel, line_of}, Values.ValueModel, declared.column.{Column.Column, Number.Number}}
+use Rattle.lc_sheet.specs.declared.{form.{Form.Form, Shares.Shares}, table_options.TableOptions.TableOptions}
+use Rattle.lc_walk.specs.{Sums.{no_files, plus}, declared.{report.Report.Report, tally.sums.Sums.Sums}}
 use Rattle.lc_rows.specs.Kinds.{NamedSumsModel, bar_value, directory_value, extension_value, kept_value, named_in, row_value, share_value}
-use Rattle.lc_rows.specs.Kinds.{sums_value, text_value}
-use Rattle.lc_rows.specs.RowKeys.{ShownRowModel, sums_of_shown}
-use Rattle.lc_rows.specs.SheetColumns.{row_columns, sums_columns}
-use Rattle.lc_rows.specs.SheetLaws.{ClassPartsLaw, HasClassTotals, IsSectionWithin, IsWithin, SheetPartsLaw}
-use Rattle.lc_rows.specs.Sheets.{form_of, listed_files, others_lines, section_of, share_number, shares_of, sheet_among, totals_lines}
-use Rattle.lc_rows.specs.ShownRows.{number_in}
-use Rattle.lc_rows.specs.Views.{first_of, view_of}
-use Rattle.lc_rows.specs.declared.classes.ClassSums.{ClassSums}
-use Rattle.lc_rows.proofs.RowLaws.{totals_law}
-use Rattle.lc_rows.proofs.RowParts.{first_are, rows_within_largest, rows_within_sum}
-use Rattle.lc_rows.proofs.SheetLawProofs.{binary_line, number_plus, sorted_totals, text_line, total_line}
-use Rattle.lc_rows.proofs.ViewLaws.{cut_totals_law}
+use Rattle.lc_rows.specs.{Kinds.{sums_value, text_value}, RowKeys.{ShownRowModel, sums_of_shown}, SheetColumns.{row_columns, sums_columns}}
+use Rattle.lc_rows.specs.{SheetLaws.{ClassPartsLaw, HasClassTotals, IsSectionWithin, IsWithin, SheetPartsLaw}, Sheets.form_of}
+use Rattle.lc_rows.specs.Sheets.{listed_files, others_lines, section_of, share_number, shares_of, sheet_among, totals_lines}
+use Rattle.lc_rows.specs.{ShownRows.number_in, Views.{first_of, view_of}, declared.classes.ClassSums.ClassSums}
+use Rattle.lc_rows.proofs.{RowLaws.totals_law, RowParts.{first_are, rows_within_largest, rows_within_sum}, SheetLawProofs.binary_line}
+use Rattle.lc_rows.proofs.{SheetLawProofs.{number_plus, sorted_totals, text_line, total_line}, ViewLaws.cut_totals_law}
+use Rattle.lc_rules.specs.declared.states.TextState.TheVariants as text
+use Rattle.lc_sheet.specs.declared.column.Column.TheVariants as column
 
 -- ---- values
 

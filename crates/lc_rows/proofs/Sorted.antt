@@ -1,14 +1,10 @@
 -- Rows are in a total order by a number and their keys, and files by a number and their paths.
-use Rattle.std.specs.Cmp.{IsTotalOrder, IsStrictWeakOrder}
-use Rattle.std.specs.Cmp.Lexicographic.{options_total}
-use Rattle.std.specs.Ordering.{is_lt}
+use Rattle.std.specs.{Cmp.{IsTotalOrder, IsStrictWeakOrder, Lexicographic.options_total}, Ordering.is_lt}
 use Rattle.std.proofs.lemmas.Cmp.{back_total, lists_total, nat_cmp_total, nat_list_cmp_total, on_total, then_total}
 use Rattle.std.proofs.lemmas.List.Sorted.{ranks_by}
 use Rattle.lc_sheet.specs.declared.column.Number.{Number}
 use Rattle.lc_walk.proofs.Keys.{key_cmp_total}
-use Rattle.lc_rows.specs.RowKeys.{RowKey, ShownRowModel, row_key}
-use Rattle.lc_rows.specs.ShownFiles.{file_cmp, file_number}
-use Rattle.lc_rows.specs.ShownRows.{number_in, row_cmp}
+use Rattle.lc_rows.specs.{RowKeys.{RowKey, ShownRowModel, row_key}, ShownFiles.{file_cmp, file_number}, ShownRows.{number_in, row_cmp}}
 use Rattle.lc_rows.specs.TreeRows.{byte_place, depth_first_cmp}
 use Rattle.lc_rows.proofs.SameKeys.{row_key_cmp_total}
 use Rattle.lc_level.specs.Level.{FileLineModel}

@@ -1,11 +1,9 @@
 -- Sums over a part of some rows fit their types where those over all do.
-use Rattle.std.proofs.Common.{◌≡◌, ◌+◌, ◌<◌, ◌≤◌, ℕ, Bool, true, false, not, cond, if◌then◌else◌, List, get_or, length, take, arith, Result, Ok, Err, IfErr}
+use Rattle.std.proofs.Common.{◌≡◌, ◌+◌, ◌<◌, ◌≤◌, ℕ, Bool, true, false, not, cond, if◌then◌else◌, List, get_or, length, take, arith}
+use Rattle.std.proofs.{Common.{Result, Ok, Err, IfErr}, lemmas.List.Sums.{sum_by-le-sum_by, sum_by_more_le}}
 use Rattle.std.specs.List.{filter, sum_by}
-use Rattle.std.proofs.lemmas.List.Sums.{sum_by-le-sum_by, sum_by_more_le}
 use Rattle.lc_walk.proofs.Filtered.{part, sum_by-filter}
-use Rattle.lc_walk.specs.Sums.{IsInRange, plus}
-use Rattle.lc_walk.specs.TallyRows.{TallyRowModel, sums_of_rows}
-use Rattle.lc_walk.specs.declared.tally.sums.Sums.{Sums}
+use Rattle.lc_walk.specs.{Sums.{IsInRange, plus}, TallyRows.{TallyRowModel, sums_of_rows}, declared.tally.sums.Sums.Sums}
 use Rattle.lc_rows.specs.Classes.{binary_sums, is_binary, text_sums}
 
 -- no sum is larger

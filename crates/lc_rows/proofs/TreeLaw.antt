@@ -1,29 +1,17 @@
 -- The rows of a tree have the sums over the files in each directory and below it.
-use Rattle.std.proofs.Common.{◌≡◌, ℕ, ◌+◌, ◌<◌, ◌≤◌, suc, zero, Bool, true, false, cond, ◌&&◌, List, [], ◌∷◌, map}
-use Rattle.std.proofs.Common.{Some, refl, sym, ◌∙◌, ap, subst, arith}
-use Rattle.std.specs.Cmp.{tied_then}
-use Rattle.std.specs.List.{filter, range_with_len, sum_by}
-use Rattle.std.specs.Prelude.{bytes_eq, nat_eq}
-use Rattle.std.proofs.lemmas.Bool.{false_from_ne_true}
-use Rattle.std.proofs.lemmas.Bool.Decides.{nat_tests}
-use Rattle.std.proofs.lemmas.List.FromFn.{sum_by-map-range_with_len_more}
-use Rattle.std.proofs.lemmas.List.Sums.{sum_by-append, sum_by-cons}
-use Rattle.std.proofs.lemmas.Map.Text.{is_eq-slice_cmp}
+use Rattle.std.proofs.Common.{◌≡◌, ℕ, ◌+◌, ◌<◌, ◌≤◌, suc, zero, Bool, true, false, cond, ◌&&◌, List, [], ◌∷◌, map, Some, refl, sym, ◌∙◌}
+use Rattle.std.proofs.{Common.{ap, subst, arith}, lemmas.Bool.{false_from_ne_true, Decides.nat_tests}}
+use Rattle.std.proofs.lemmas.{List.{FromFn.sum_by-map-range_with_len_more, Sums.{sum_by-append, sum_by-cons}}, Map.Text.is_eq-slice_cmp}
 use Rattle.std.proofs.lemmas.Slice.Eq.{bytes_eq-Decides}
+use Rattle.std.specs.{Cmp.tied_then, List.{filter, range_with_len, sum_by}, Prelude.{bytes_eq, nat_eq}}
 use Rattle.lc_tree.specs.ByteOrder.{bytes_cmp}
 use Rattle.lc_sheet.specs.declared.table_options.Columns.{Columns}
-use Rattle.lc_walk.proofs.Filtered.{part, sum_by-filter}
-use Rattle.lc_walk.proofs.RowSums.{same_sums}
-use Rattle.lc_walk.specs.Key.{Key, key_cmp, same_key}
-use Rattle.lc_walk.specs.Sums.{one_file}
-use Rattle.lc_walk.specs.declared.tally.sums.Sums.{Sums}
-use Rattle.lc_rows.specs.Directories.{directory_of, level_of}
-use Rattle.lc_rows.specs.Laws.{TreeLaw, sums_of_lines}
-use Rattle.lc_rows.specs.RowKeys.{RowKey, ShownRowModel, row_key, row_key_cmp, rows_within, same_row_key, sums_of_shown}
-use Rattle.lc_rows.specs.ShownRows.{file_key, key_in, part_of_file}
+use Rattle.lc_walk.proofs.{Filtered.{part, sum_by-filter}, RowSums.same_sums}
+use Rattle.lc_walk.specs.{Key.{Key, key_cmp, same_key}, Sums.one_file, declared.tally.sums.Sums.Sums}
+use Rattle.lc_rows.specs.{Directories.{directory_of, level_of}, Laws.{TreeLaw, sums_of_lines}, RowKeys.{RowKey, ShownRowModel, row_key}}
+use Rattle.lc_rows.specs.{RowKeys.{row_key_cmp, rows_within, same_row_key, sums_of_shown}, ShownRows.{file_key, key_in, part_of_file}}
 use Rattle.lc_rows.specs.TreeRows.{is_below, levels_above, parts_above, tree_parts}
-use Rattle.lc_rows.proofs.Folding.{alike_permuted, alike_sums}
-use Rattle.lc_rows.proofs.Levels.{level_at}
+use Rattle.lc_rows.proofs.{Folding.{alike_permuted, alike_sums}, Levels.level_at}
 use Rattle.lc_level.specs.Level.{FileLineModel}
 
 -- sums over a range of numbers of which none counts, and of which one counts

@@ -1,25 +1,15 @@
 -- The rows of directories with files, added to all directories above them, are the rows of a tree.
 use Rattle.std.proofs.Common.{◌≡◌, ℕ, ◌+◌, ◌<◌, ◌≤◌, min, suc, zero, Bool, true, false, cond, ◌&&◌, ◌||◌, List, [], ◌∷◌, ◌++◌, map}
-use Rattle.std.proofs.Common.{nat_le, Some, refl, sym, ◌∙◌, ap, subst, arith}
-use Rattle.std.specs.List.{flat_map, list_any, range_with_len, sum_by}
-use Rattle.std.specs.List.Sorted.{IsPermutation}
-use Rattle.std.proofs.lemmas.Bool.Decides.{nat_tests}
-use Rattle.std.proofs.lemmas.List.Folds.{list_any-append}
-use Rattle.std.proofs.lemmas.List.FromFn.{map-range_with_len_more}
-use Rattle.std.proofs.lemmas.List.Sums.{sum_by-append, sum_by-cons}
+use Rattle.std.proofs.{Common.{nat_le, Some, refl, sym, ◌∙◌, ap, subst, arith}, lemmas.Bool.Decides.nat_tests}
+use Rattle.std.proofs.lemmas.List.{Folds.list_any-append, FromFn.map-range_with_len_more, Sums.{sum_by-append, sum_by-cons}}
+use Rattle.std.specs.List.{flat_map, list_any, range_with_len, sum_by, Sorted.IsPermutation}
 use Rattle.lc_sheet.specs.declared.table_options.Columns.{Columns}
-use Rattle.lc_walk.proofs.Filtered.{part, sum_by-filter}
-use Rattle.lc_walk.proofs.RowSums.{same_sums}
-use Rattle.lc_walk.specs.Sums.{one_file}
-use Rattle.lc_walk.specs.declared.tally.sums.Sums.{Sums}
-use Rattle.lc_rows.specs.Directories.{directory_of, level_of, parent_of}
-use Rattle.lc_rows.specs.LevelParts.{HaveSumsOf, key_at, level_parts, level_to, row_at}
-use Rattle.lc_rows.specs.RowKeys.{RowKey, ShownRowModel, has_within, row_key, row_with, rows_within}
-use Rattle.lc_rows.specs.ShownRows.{AreAddedUp, file_key, key_in, part_of_file}
-use Rattle.lc_rows.specs.TreeRows.{levels_above, parts_above, tree_parts}
-use Rattle.lc_rows.proofs.Levels.{first_again, level_at}
-use Rattle.lc_rows.proofs.Folding.{alike_permuted, alike_sums}
-use Rattle.lc_rows.proofs.TreeLaw.{one_more}
+use Rattle.lc_walk.proofs.{Filtered.{part, sum_by-filter}, RowSums.same_sums}
+use Rattle.lc_walk.specs.{Sums.one_file, declared.tally.sums.Sums.Sums}
+use Rattle.lc_rows.specs.{Directories.{directory_of, level_of, parent_of}, LevelParts.{HaveSumsOf, key_at, level_parts, level_to, row_at}}
+use Rattle.lc_rows.specs.{RowKeys.{RowKey, ShownRowModel, has_within, row_key, row_with, rows_within}, ShownRows.{AreAddedUp, file_key}}
+use Rattle.lc_rows.specs.{ShownRows.{key_in, part_of_file}, TreeRows.{levels_above, parts_above, tree_parts}}
+use Rattle.lc_rows.proofs.{Levels.{first_again, level_at}, Folding.{alike_permuted, alike_sums}, TreeLaw.one_more}
 use Rattle.lc_level.specs.Level.{FileLineModel}
 
 -- ---- lists

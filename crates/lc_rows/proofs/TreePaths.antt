@@ -1,19 +1,14 @@
 -- The directories of the paths of a tree, whose segments are all names.
-use Rattle.std.proofs.Common.{◌≡◌, ℕ, ◌+◌, ◌-◌, ◌<◌, ◌≤◌, suc, zero, Bool, true, false, bytes_eq, codes, if◌then◌else◌}
-use Rattle.std.proofs.Common.{List, [], ◌∷◌, ◌++◌, length, take, drop, Option, Some, None, refl, sym, ◌∙◌, ap, arith, length-append}
-use Rattle.std.specs.List.{join_with_byte, list_all}
-use Rattle.std.specs.Prelude.{slice_index}
-use Rattle.std.proofs.lemmas.Bool.{and_parts, false_from_ne_true}
-use Rattle.std.proofs.lemmas.List.{take_all, take_at}
-use Rattle.std.proofs.lemmas.List.Folds.{list_all-append}
+use Rattle.std.proofs.Common.{◌≡◌, ℕ, ◌+◌, ◌-◌, ◌<◌, ◌≤◌, suc, zero, Bool, true, false, bytes_eq, codes, if◌then◌else◌, List, [], ◌∷◌}
+use Rattle.std.proofs.Common.{◌++◌, length, take, drop, Option, Some, None, refl, sym, ◌∙◌, ap, arith, length-append}
+use Rattle.std.proofs.lemmas.{Bool.{and_parts, false_from_ne_true}, List.{take_all, take_at, Folds.list_all-append}}
 use Rattle.std.proofs.lemmas.Slice.Eq.{bytes_eq-Decides}
+use Rattle.std.specs.{List.{join_with_byte, list_all}, Prelude.slice_index}
 use Rattle.memchr.specs.Find.{IsLastByte, is_byte as found}
 use Rattle.lc_glob.proofs.Naming.{at_last_slash, no_last_slash}
-use Rattle.lc_glob.specs.Bytes.{slash}
-use Rattle.lc_glob.specs.Path.{is_good_name, is_good_path, is_no_name, segments_of}
+use Rattle.lc_glob.specs.{Bytes.slash, Path.{is_good_name, is_good_path, is_no_name, segments_of}}
 use Rattle.lc_rows.specs.Directories.{directory_before, directory_of, first_names, names_in, to_name}
-use Rattle.lc_rows.proofs.Levels.{empty_first}
-use Rattle.lc_rows.proofs.PathCuts.{no_parent, parent_at}
+use Rattle.lc_rows.proofs.{Levels.empty_first, PathCuts.{no_parent, parent_at}}
 
 -- a path has a last slash, or none
 abbrev LastSlash : List ℕ → Type 0

@@ -1,25 +1,17 @@
 -- What is true of the rows and files that a table shows where it is cut.
-use Rattle.std.proofs.Common.{◌≡◌, ◌∙◌, ℕ, ◌+◌, ◌≤◌, ◌<◌, false, List, [], ◌∷◌, length, get_or, take, drop, Option, Some, None, refl}
-use Rattle.std.proofs.Common.{sym, ap, arith, subst}
-use Rattle.std.specs.Prelude.{unwrap_or}
-use Rattle.std.specs.List.Sorted.{IsPermutation}
-use Rattle.std.specs.Ordering.{is_lt, ordering_then}
-use Rattle.std.specs.declared.cmp.Ordering.{Ordering}
-use Rattle.std.specs.declared.cmp.Ordering.TheVariants.{Less, Equal, Greater}
-use Rattle.std.proofs.lemmas.List.{get_or-drop, get_or-take, get_or_default, length-drop, length-take-le}
-use Rattle.std.proofs.lemmas.List.Elements.{All-nil}
-use Rattle.std.proofs.lemmas.List.Sums.{sum_by-take-drop}
-use Rattle.std.proofs.lemmas.List.Sorted.{IsPermutation-refl, sorted_far}
+use Rattle.std.proofs.Common.{◌≡◌, ◌∙◌, ℕ, ◌+◌, ◌≤◌, ◌<◌, false, List, [], ◌∷◌, length, get_or, take, drop, Option, Some, None, refl, sym}
+use Rattle.std.proofs.Common.{ap, arith, subst}
+use Rattle.std.proofs.lemmas.List.{get_or-drop, get_or-take, get_or_default, length-drop, length-take-le, Elements.All-nil}
+use Rattle.std.proofs.lemmas.List.{Sums.sum_by-take-drop, Sorted.{IsPermutation-refl, sorted_far}}
 use Rattle.std.proofs.lemmas.Map.Keys.{ge_from_not_lt}
+use Rattle.std.specs.{Prelude.unwrap_or, List.Sorted.IsPermutation, Ordering.{is_lt, ordering_then}, declared.cmp.Ordering.Ordering}
+use Rattle.std.specs.declared.cmp.Ordering.TheVariants.{Less, Equal, Greater}
 use Rattle.lc_sheet.specs.declared.column.Number.{Number}
 use Rattle.lc_walk.proofs.RowSums.{same_sums}
 use Rattle.lc_walk.specs.Sums.{no_files, plus}
-use Rattle.lc_rows.specs.RowKeys.{ShownRowModel, sums_of_shown}
-use Rattle.lc_rows.specs.Laws.{CutTotalsLaw, FirstFilesLaw, SortedFilesLaw}
-use Rattle.lc_rows.specs.ShownFiles.{AreFilesSorted, file_cmp, file_number}
-use Rattle.lc_rows.specs.Views.{first_of, rest_of, sums_of_some}
-use Rattle.lc_rows.proofs.RowLaws.{totals_law}
-use Rattle.lc_rows.proofs.Sorted.{files_rank}
+use Rattle.lc_rows.specs.{RowKeys.{ShownRowModel, sums_of_shown}, Laws.{CutTotalsLaw, FirstFilesLaw, SortedFilesLaw}}
+use Rattle.lc_rows.specs.{ShownFiles.{AreFilesSorted, file_cmp, file_number}, Views.{first_of, rest_of, sums_of_some}}
+use Rattle.lc_rows.proofs.{RowLaws.totals_law, Sorted.files_rank}
 use Rattle.lc_level.specs.Level.{FileLineModel}
 
 -- the sums over some rows, or over none

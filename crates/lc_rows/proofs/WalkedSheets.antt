@@ -4,24 +4,13 @@ use Rattle.std.proofs.lemmas.List.{length-map}
 use Rattle.lc_level.specs.Level.{FileLineModel}
 use Rattle.lc_sheet.specs.Conditions.{ConditionModel, is_on_number}
 use Rattle.lc_tree.specs.Trees.{Listings, Contents}
-use Rattle.lc_walk.proofs.ReportTotals.{ones, report_totals_law, sum_by-map, walked_lists}
-use Rattle.lc_walk.proofs.RowSums.{same_sums}
-use Rattle.lc_walk.specs.ReportTotals.{TotalsAddUp, counted_line}
-use Rattle.lc_walk.specs.Tally.{CountedFile, sums_of_files}
-use Rattle.lc_walk.specs.declared.options.Options.{Options}
-use Rattle.lc_walk.specs.declared.options.ReportLists.{ReportLists}
-use Rattle.lc_walk.specs.declared.report.Report.{Report}
-use Rattle.lc_rows.proofs.ClassLaw.{classes_law}
-use Rattle.lc_rows.proofs.KeptParts.{opposites_law}
-use Rattle.lc_rows.proofs.KeptTotals.{kept_totals_law}
-use Rattle.lc_rows.proofs.SheetLawProofs.{sheet_classes_law, sheet_totals_law}
-use Rattle.lc_rows.proofs.SheetParts.{class_parts_law, sheet_parts_law}
-use Rattle.lc_rows.specs.Classes.{classes_of}
-use Rattle.lc_rows.specs.Kept.{IsKept}
-use Rattle.lc_rows.specs.KeptLaws.{WalkedOppositesLaw, tested_sums}
-use Rattle.lc_rows.specs.Laws.{sums_of_lines, totals_of}
-use Rattle.lc_rows.specs.SheetLaws.{HasClassTotals, HasTotals, WalkedSheetLaw}
-use Rattle.lc_rows.specs.WalkedReports.{IsOfWalk}
+use Rattle.lc_walk.proofs.{ReportTotals.{ones, report_totals_law, sum_by-map, walked_lists}, RowSums.same_sums}
+use Rattle.lc_walk.specs.{ReportTotals.{TotalsAddUp, counted_line}, Tally.{CountedFile, sums_of_files}}
+use Rattle.lc_walk.specs.declared.{options.{Options.Options, ReportLists.ReportLists}, report.Report.Report}
+use Rattle.lc_rows.proofs.{ClassLaw.classes_law, KeptParts.opposites_law, KeptTotals.kept_totals_law, SheetLawProofs.sheet_classes_law}
+use Rattle.lc_rows.proofs.{SheetLawProofs.sheet_totals_law, SheetParts.{class_parts_law, sheet_parts_law}}
+use Rattle.lc_rows.specs.{Classes.classes_of, Kept.IsKept, KeptLaws.{WalkedOppositesLaw, tested_sums}, Laws.{sums_of_lines, totals_of}}
+use Rattle.lc_rows.specs.{SheetLaws.{HasClassTotals, HasTotals, WalkedSheetLaw}, WalkedReports.IsOfWalk}
 
 -- files have the sums that a tally counts
 lines_sums : (fs : List FileLineModel) → sums_of_files (map counted_line fs) ≡ sums_of_lines fs

@@ -1,6 +1,5 @@
 -- Parts added to rows one by one, in the order of their keys.
-use Rattle.std.specs.Prelude.{◌≡◌, List, [], ◌∷◌, ◌++◌}
-use Rattle.std.specs.Bool.{MatchBool}
+use Rattle.std.specs.{Prelude.{◌≡◌, List, [], ◌∷◌, ◌++◌}, Bool.MatchBool}
 use Rattle.lc_walk.specs.Sums.{plus}
 use Rattle.lc_rows.specs.RowKeys.{ShownRowModel, row_key, row_with, same_row_key}
 

@@ -1,10 +1,7 @@
 -- The sums over binary files, and over text files.
-use Rattle.std.specs.Prelude.{Bool, true, false, not, List, filter}
-use Rattle.std.specs.List.{list_any}
-use Rattle.lc_census.specs.declared.line_count.Eol.{Eol}
-use Rattle.lc_census.specs.declared.line_count.Eol.TheVariants.{Nul}
-use Rattle.lc_walk.specs.TallyRows.{TallyRowModel, sums_of_rows}
-use Rattle.lc_walk.specs.declared.tally.sums.Sums.{Sums}
+use Rattle.std.specs.{Prelude.{Bool, true, false, not, List, filter}, List.list_any}
+use Rattle.lc_census.specs.declared.line_count.Eol.{Eol, TheVariants.Nul}
+use Rattle.lc_walk.specs.{TallyRows.{TallyRowModel, sums_of_rows}, declared.tally.sums.Sums.Sums}
 use Rattle.lc_rows.specs.declared.classes.ClassSums.{ClassSums}
 
 abbrev pub is_nul : Eol → Bool

@@ -1,9 +1,7 @@
 -- The directories of files, cut after some of their names.
-use Rattle.std.specs.Prelude.{ℕ, ◌+◌, ◌-◌, suc, zero, bytes_eq, if◌then◌else◌, codes, List, [], ◌∷◌}
-use Rattle.std.specs.List.{after_last, before_last, join_with_byte, list_any}
-use Rattle.lc_glob.specs.Bytes.{slash}
-use Rattle.lc_glob.specs.Path.{is_no_name, segments_of}
-use Rattle.lc_glob.specs.Pieces.{is_byte}
+use Rattle.std.specs.{Prelude.{ℕ, ◌+◌, ◌-◌, suc, zero, bytes_eq, if◌then◌else◌, codes, List, [], ◌∷◌}, List.{after_last, before_last}}
+use Rattle.std.specs.List.{join_with_byte, list_any}
+use Rattle.lc_glob.specs.{Bytes.slash, Path.{is_no_name, segments_of}, Pieces.is_byte}
 
 -- the directory whose path is before the last slash of a path: `/` if nothing is before the slash, and the empty path of the top directory
 -- for `.`

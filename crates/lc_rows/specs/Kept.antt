@@ -1,21 +1,11 @@
 -- The part of a report that meets conditions.
-use Rattle.std.specs.Prelude.{◌≡◌, Bool, if◌then◌else◌, List, [], ◌∷◌, map, filter, None}
-use Rattle.std.specs.Bool.{MatchBool}
-use Rattle.std.specs.List.{list_all}
-use Rattle.lc_sheet.specs.Conditions.{ConditionModel, meets, needs_files}
-use Rattle.lc_sheet.specs.Values.{ValueModel}
-use Rattle.lc_sheet.specs.declared.column.Column.{Column}
-use Rattle.lc_sheet.specs.declared.column.Column.TheVariants.{Ext}
-use Rattle.lc_sheet.specs.declared.form.Form.{Form}
+use Rattle.std.specs.{Prelude.{◌≡◌, Bool, if◌then◌else◌, List, [], ◌∷◌, map, filter, None}, Bool.MatchBool, List.list_all}
+use Rattle.lc_sheet.specs.{Conditions.{ConditionModel, meets, needs_files}, Values.ValueModel}
+use Rattle.lc_sheet.specs.declared.{column.Column.{Column, TheVariants.Ext}, form.Form.Form}
 use Rattle.lc_level.specs.Level.{FileLineModel}
-use Rattle.lc_walk.specs.ReportTotals.{counted_line}
-use Rattle.lc_walk.specs.Tally.{IsTally, sums_of_files}
-use Rattle.lc_walk.specs.TallyRows.{TallyRowModel, sums_of_rows}
-use Rattle.lc_walk.specs.declared.report.Report.{Report}
-use Rattle.lc_walk.specs.declared.tally.sums.Sums.{Sums}
-use Rattle.lc_rows.specs.Kinds.{file_value, row_value}
-use Rattle.lc_rows.specs.Laws.{all_columns}
-use Rattle.lc_rows.specs.ShownRows.{part_of_row}
+use Rattle.lc_walk.specs.{ReportTotals.counted_line, Tally.{IsTally, sums_of_files}, TallyRows.{TallyRowModel, sums_of_rows}}
+use Rattle.lc_walk.specs.declared.{report.Report.Report, tally.sums.Sums.Sums}
+use Rattle.lc_rows.specs.{Kinds.{file_value, row_value}, Laws.all_columns, ShownRows.part_of_row}
 
 -- the form in which a line has a value in each column of a report's rows
 abbrev pub whole_form : Form

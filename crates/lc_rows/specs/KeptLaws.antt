@@ -1,19 +1,11 @@
 -- What is true of the parts of a report that meet conditions.
-use Rattle.std.specs.Prelude.{◌≡◌, ℕ, Bool, if◌then◌else◌, List, [], ◌∷◌, map}
-use Rattle.std.specs.List.Sorted.{IsPermutation}
+use Rattle.std.specs.{Prelude.{◌≡◌, ℕ, Bool, if◌then◌else◌, List, [], ◌∷◌, map}, List.Sorted.IsPermutation}
 use Rattle.lc_sheet.specs.Conditions.{ConditionModel, TestModel, compared, is_on_number, none_of, one_of}
-use Rattle.lc_sheet.specs.declared.condition.Comparison.{Comparison}
-use Rattle.lc_sheet.specs.declared.condition.Comparison.TheVariants.{Less, AtMost, Equal, Unequal, AtLeast, Greater}
+use Rattle.lc_sheet.specs.declared.condition.Comparison.{Comparison, TheVariants.{Less, AtMost, Equal, Unequal, AtLeast, Greater}}
 use Rattle.lc_tree.specs.Trees.{Listings, Contents}
-use Rattle.lc_walk.specs.ReportTotals.{TotalsAddUp, counted_line}
-use Rattle.lc_walk.specs.Sums.{plus}
-use Rattle.lc_walk.specs.Tally.{sums_of_files}
-use Rattle.lc_walk.specs.TallyRows.{sums_of_rows}
-use Rattle.lc_walk.specs.declared.options.Options.{Options}
-use Rattle.lc_walk.specs.declared.report.Report.{Report}
-use Rattle.lc_walk.specs.declared.tally.sums.Sums.{Sums}
-use Rattle.lc_rows.specs.Kept.{IsKept}
-use Rattle.lc_rows.specs.WalkedReports.{IsOfWalk, ListsFilesToTest}
+use Rattle.lc_walk.specs.{ReportTotals.{TotalsAddUp, counted_line}, Sums.plus, Tally.sums_of_files, TallyRows.sums_of_rows}
+use Rattle.lc_walk.specs.declared.{options.Options.Options, report.Report.Report, tally.sums.Sums.Sums}
+use Rattle.lc_rows.specs.{Kept.IsKept, WalkedReports.{IsOfWalk, ListsFilesToTest}}
 
 -- without conditions a report stays as it is
 abbrev pub NoConditionLaw : Type 0

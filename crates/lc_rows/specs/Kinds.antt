@@ -1,26 +1,16 @@
 -- The lines of a sheet: the values that rows, sums, files, skipped entries and errors have in each column.
 use Rattle.std.specs.Prelude.{ℕ, Bool, if◌then◌else◌, List, [], ◌∷◌, codes, is_some, unwrap_or, Option, Some, None}
 use Rattle.lc_census.specs.EolWords.{eol_word}
-use Rattle.lc_level.specs.FaultLines.{FaultLineModel}
-use Rattle.lc_level.specs.FaultWords.{fault_word}
-use Rattle.lc_level.specs.Level.{SkippedLineModel, FileLineModel, Reason as SkipReason}
+use Rattle.lc_level.specs.{FaultLines.FaultLineModel, FaultWords.fault_word, Level.{SkippedLineModel, FileLineModel, Reason as SkipReason}}
 use Rattle.lc_level.specs.ReasonWords.{attribute_of, reason_word, rule_of}
-use Rattle.lc_rules.specs.TextWords.{text_word}
-use Rattle.lc_rules.specs.declared.rule_source.RuleSource.{RuleSource}
-use Rattle.lc_rules.specs.declared.states.TextState.{TextState}
-use Rattle.lc_sheet.specs.Values.{ValueModel, missing, summed, blank, word, name, path, number, share, bar}
-use Rattle.lc_sheet.specs.declared.column.Column.{Column}
-use Rattle.lc_sheet.specs.declared.column.Column.TheVariants as column
-use Rattle.lc_sheet.specs.declared.form.Form.{Form}
-use Rattle.lc_sheet.specs.declared.form.Shares.{Shares}
+use Rattle.lc_rules.specs.{TextWords.text_word, declared.{rule_source.RuleSource.RuleSource, states.TextState.TextState}}
+use Rattle.lc_sheet.specs.{Values.{ValueModel, missing, summed, blank, word, name, path, number, share, bar}, declared.column.Column.Column}
+use Rattle.lc_sheet.specs.declared.form.{Form.Form, Shares.Shares}
 use Rattle.lc_text.specs.RulePlaces.{source_directory, source_name}
-use Rattle.lc_walk.specs.Extension.{extension_of}
-use Rattle.lc_walk.specs.declared.tally.sums.Sums.{Sums}
-use Rattle.lc_rows.specs.Directories.{directory_of, name_of}
-use Rattle.lc_rows.specs.RowKeys.{ShownRowModel}
-use Rattle.lc_rows.specs.ShownFiles.{file_number}
-use Rattle.lc_rows.specs.ShownRows.{number_in}
+use Rattle.lc_walk.specs.{Extension.extension_of, declared.tally.sums.Sums.Sums}
+use Rattle.lc_rows.specs.{Directories.{directory_of, name_of}, RowKeys.ShownRowModel, ShownFiles.file_number, ShownRows.number_in}
 use Rattle.lc_rows.specs.Words.{kind_word, skipped_end}
+use Rattle.lc_sheet.specs.declared.column.Column.TheVariants as column
 
 -- ---- values
 

@@ -1,22 +1,14 @@
 -- What is true of the rows and files that a table shows.
-use Rattle.std.specs.Prelude.{◌≡◌, ◌≤◌, ◌-◌, ◌&&◌, ℕ, true, List, length, map, take, Option, Some, None, unwrap_or}
-use Rattle.std.specs.List.{All, filter, join_with_byte}
-use Rattle.std.specs.List.Sorted.{IsPermutation}
-use Rattle.lc_sheet.specs.declared.table_options.Columns.{Columns}
-use Rattle.lc_sheet.specs.declared.column.Number.{Number}
-use Rattle.lc_glob.specs.Bytes.{slash}
-use Rattle.lc_glob.specs.Path.{is_good_path, segments_of}
-use Rattle.lc_walk.specs.Key.{Key, same_key}
-use Rattle.lc_walk.specs.Sums.{no_files, one_file, plus}
-use Rattle.lc_walk.specs.TallyRows.{TallyRowModel, sums_of_rows, IsInOrder}
+use Rattle.std.specs.{Prelude.{◌≡◌, ◌≤◌, ◌-◌, ◌&&◌, ℕ, true, List, length, map, take, Option, Some, None, unwrap_or}, List.{All, filter}}
+use Rattle.std.specs.List.{join_with_byte, Sorted.IsPermutation}
+use Rattle.lc_sheet.specs.declared.{table_options.Columns.Columns, column.Number.Number}
+use Rattle.lc_glob.specs.{Bytes.slash, Path.{is_good_path, segments_of}}
+use Rattle.lc_walk.specs.{Key.{Key, same_key}, Sums.{no_files, one_file, plus}, TallyRows.{TallyRowModel, sums_of_rows, IsInOrder}}
 use Rattle.lc_walk.specs.declared.tally.sums.Sums.{Sums}
-use Rattle.lc_rows.specs.Classes.{binary_sums, text_sums}
-use Rattle.lc_rows.specs.Directories.{directory_of, level_of}
-use Rattle.lc_rows.specs.RowKeys.{RowKey, ShownRowModel, rows_within, same_row_key, sums_of_shown, sums_over}
-use Rattle.lc_rows.specs.ShownFiles.{AreFilesSorted, file_number}
-use Rattle.lc_rows.specs.ShownRows.{AreAddedUp, AreShown, AreSummed, file_key, key_in, part_of_row}
-use Rattle.lc_rows.specs.TreeRows.{AreTreeRows, is_below, is_child, is_in}
-use Rattle.lc_rows.specs.Views.{first_of, rest_of, view_of}
+use Rattle.lc_rows.specs.{Classes.{binary_sums, text_sums}, Directories.{directory_of, level_of}, RowKeys.{RowKey, ShownRowModel}}
+use Rattle.lc_rows.specs.{RowKeys.{rows_within, same_row_key, sums_of_shown, sums_over}, ShownFiles.{AreFilesSorted, file_number}}
+use Rattle.lc_rows.specs.{ShownRows.{AreAddedUp, AreShown, AreSummed, file_key, key_in, part_of_row}, TreeRows.{AreTreeRows, is_below}}
+use Rattle.lc_rows.specs.{TreeRows.{is_child, is_in}, Views.{first_of, rest_of, view_of}}
 use Rattle.lc_level.specs.Level.{FileLineModel}
 
 -- the shown rows are the summed rows, each once

@@ -1,8 +1,6 @@
 -- The parts that a row adds up, as the code stores them.
-use Rattle.lc_rows.specs.declared.parts.Source.{Source}
-use Rattle.lc_rows.specs.declared.parts.Source.TheVariants.{File, Row, Shown}
-use Rattle.lc_walk.specs.Sums.{one_file}
-use Rattle.lc_walk.specs.declared.tally.sums.Sums.{Sums}
+use Rattle.lc_rows.specs.declared.parts.Source.{Source, TheVariants.{File, Row, Shown}}
+use Rattle.lc_walk.specs.{Sums.one_file, declared.tally.sums.Sums.Sums}
 
 -- the sums over a file, over the files of a report's row, or over those of a table's row
 abbrev pub sums_of_source : Source → Sums

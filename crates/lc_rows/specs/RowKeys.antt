@@ -1,13 +1,8 @@
 -- The rows that a table shows, and their keys.
-use Rattle.std.specs.Prelude.{ℕ, Bool, List, map, Option}
-use Rattle.std.specs.List.{filter, list_any, sum_by}
-use Rattle.std.specs.List.Sorted.{IsStrictlySortedBy}
-use Rattle.std.specs.Option.{option_cmp}
-use Rattle.std.specs.Ordering.{eq_by_cmp, on, then_cmp}
-use Rattle.std.specs.declared.cmp.Ordering.{Ordering}
+use Rattle.std.specs.{Prelude.{ℕ, Bool, List, map, Option}, List.{filter, list_any, sum_by, Sorted.IsStrictlySortedBy}, Option.option_cmp}
+use Rattle.std.specs.{Ordering.{eq_by_cmp, on, then_cmp}, declared.cmp.Ordering.Ordering}
 use Rattle.lc_tree.specs.ByteOrder.{bytes_cmp}
-use Rattle.lc_walk.specs.Key.{Key, key_cmp}
-use Rattle.lc_walk.specs.declared.tally.sums.Sums.{Sums}
+use Rattle.lc_walk.specs.{Key.{Key, key_cmp}, declared.tally.sums.Sums.Sums}
 
 -- what the files of a row have in common: their directory, if rows are by directory, and their key
 pub record RowKey : Type 0 where

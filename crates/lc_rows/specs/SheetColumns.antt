@@ -3,12 +3,10 @@ use Rattle.std.specs.Prelude.{Bool, true, false, if◌then◌else◌, List, [], 
 use Rattle.lc_rows.specs.declared.columns.TheConstants.{LISTED_FAULTS, LISTED_FILES, LISTED_SKIPPED, NUMBERS, RECORDED_FILES}
 use Rattle.lc_rows.specs.declared.columns.TheConstants.{SKIPPED_RECORDS}
 use Rattle.lc_sheet.specs.declared.column.Column.{Column}
+use Rattle.lc_sheet.specs.declared.table_options.{Columns.Columns, Format.{Format, TheVariants.{Tsv, Table, Json, Csv, Markdown, Html}}}
+use Rattle.lc_sheet.specs.declared.table_options.TableOptions.{TableOptions}
 use Rattle.lc_sheet.specs.declared.column.Column.TheVariants as column
 use Rattle.lc_sheet.specs.declared.column.Number.TheVariants as number
-use Rattle.lc_sheet.specs.declared.table_options.Columns.{Columns}
-use Rattle.lc_sheet.specs.declared.table_options.Format.{Format}
-use Rattle.lc_sheet.specs.declared.table_options.Format.TheVariants.{Tsv, Table, Json, Csv, Markdown, Html}
-use Rattle.lc_sheet.specs.declared.table_options.TableOptions.{TableOptions}
 
 abbrev pub column_if : Bool → Column → List Column
 column_if kept c = if kept then c ∷ [] else []

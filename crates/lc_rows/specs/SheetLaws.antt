@@ -1,24 +1,15 @@
 -- What is true of the sheet of a report, whatever its format.
-use Rattle.std.specs.Prelude.{⊤, ◌≡◌, ◌≤◌, ℕ, ◌+◌, Bool, true, false, if◌then◌else◌, List, [], ◌∷◌, map, Some}
-use Rattle.std.specs.List.{All, sum_by}
-use Rattle.lc_sheet.specs.Sheets.{SectionModel, SheetModel}
-use Rattle.lc_sheet.specs.Values.{ValueModel, missing, summed, blank, word, name, path, number, share, bar, difference}
-use Rattle.lc_sheet.specs.declared.column.Column.{Column}
-use Rattle.lc_sheet.specs.declared.column.Column.TheVariants as column
-use Rattle.lc_sheet.specs.declared.column.Number.{Number}
-use Rattle.lc_sheet.specs.declared.column.Number.TheVariants.{Files, Lines, Blank, Bytes}
+use Rattle.std.specs.{Prelude.{⊤, ◌≡◌, ◌≤◌, ℕ, ◌+◌, Bool, true, false, if◌then◌else◌, List, [], ◌∷◌, map, Some}, List.{All, sum_by}}
+use Rattle.lc_sheet.specs.{Sheets.{SectionModel, SheetModel}, Values.{ValueModel, missing, summed, blank, word, name, path, number, share}}
+use Rattle.lc_sheet.specs.Values.{bar, difference}
+use Rattle.lc_sheet.specs.declared.column.{Column.Column, Number.{Number, TheVariants.{Files, Lines, Blank, Bytes}}}
 use Rattle.lc_sheet.specs.declared.table_options.TableOptions.{TableOptions}
 use Rattle.lc_tree.specs.Trees.{Listings, Contents}
-use Rattle.lc_walk.specs.Sums.{plus}
-use Rattle.lc_walk.specs.declared.options.Options.{Options}
-use Rattle.lc_walk.specs.declared.report.Report.{Report}
-use Rattle.lc_rows.specs.Laws.{totals_of}
-use Rattle.lc_rows.specs.Sheets.{IsSheetOf, IsSheetWith}
-use Rattle.lc_rows.specs.ShownFiles.{AreFilesSorted}
-use Rattle.lc_rows.specs.Views.{first_of}
-use Rattle.lc_rows.specs.WalkedReports.{IsOfWalk, ListsFilesFor}
-use Rattle.lc_rows.specs.declared.classes.ClassSums.{ClassSums}
+use Rattle.lc_walk.specs.{Sums.plus, declared.{options.Options.Options, report.Report.Report}}
+use Rattle.lc_rows.specs.{Laws.totals_of, Sheets.{IsSheetOf, IsSheetWith}, ShownFiles.AreFilesSorted, Views.first_of}
+use Rattle.lc_rows.specs.{WalkedReports.{IsOfWalk, ListsFilesFor}, declared.classes.ClassSums.ClassSums}
 use Rattle.lc_level.specs.Level.{FileLineModel}
+use Rattle.lc_sheet.specs.declared.column.Column.TheVariants as column
 
 abbrev pub same_number : Number → Number → Bool
 same_number Files Files = true

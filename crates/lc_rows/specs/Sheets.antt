@@ -1,24 +1,13 @@
 -- The sheet of a report.
 use Rattle.std.specs.Prelude.{◌≡◌, ℕ, max, Bool, false, if◌then◌else◌, List, [], ◌∷◌, codes, unwrap_or, Option, Some, None}
-use Rattle.lc_sheet.specs.Sheets.{SectionModel, SheetModel, lines_of}
-use Rattle.lc_sheet.specs.Values.{ValueModel}
-use Rattle.lc_sheet.specs.declared.column.Column.{Column}
-use Rattle.lc_sheet.specs.declared.column.Number.{Number}
-use Rattle.lc_sheet.specs.declared.column.Number.TheVariants.{Lines}
-use Rattle.lc_sheet.specs.declared.form.Form.{Form}
-use Rattle.lc_sheet.specs.declared.form.Shares.{Shares}
-use Rattle.lc_sheet.specs.declared.table_options.Format.{Format}
-use Rattle.lc_sheet.specs.declared.table_options.TableOptions.{TableOptions}
-use Rattle.lc_walk.specs.declared.report.Report.{Report}
-use Rattle.lc_walk.specs.declared.tally.sums.Sums.{Sums}
-use Rattle.lc_rows.specs.Classes.{classes_of}
-use Rattle.lc_rows.specs.Kinds.{NamedSumsModel, fault_value, file_value, row_value, skipped_value, sums_value}
-use Rattle.lc_rows.specs.RowKeys.{ShownRowModel}
-use Rattle.lc_rows.specs.SheetColumns.{fault_columns, file_columns, first_key, keeps_columns, row_columns, skipped_columns, sums_columns}
-use Rattle.lc_rows.specs.ShownFiles.{AreFilesSorted}
-use Rattle.lc_rows.specs.ShownRows.{AreShown, number_in}
-use Rattle.lc_rows.specs.Views.{ViewModel, view_of}
-use Rattle.lc_rows.specs.declared.classes.ClassSums.{ClassSums}
+use Rattle.lc_sheet.specs.{Sheets.{SectionModel, SheetModel, lines_of}, Values.ValueModel}
+use Rattle.lc_sheet.specs.declared.{column.{Column.Column, Number.{Number, TheVariants.Lines}}, form.{Form.Form, Shares.Shares}}
+use Rattle.lc_sheet.specs.declared.table_options.{Format.Format, TableOptions.TableOptions}
+use Rattle.lc_walk.specs.declared.{report.Report.Report, tally.sums.Sums.Sums}
+use Rattle.lc_rows.specs.{Classes.classes_of, Kinds.{NamedSumsModel, fault_value, file_value, row_value, skipped_value, sums_value}}
+use Rattle.lc_rows.specs.{RowKeys.ShownRowModel, SheetColumns.{fault_columns, file_columns, first_key, keeps_columns, row_columns}}
+use Rattle.lc_rows.specs.{SheetColumns.{skipped_columns, sums_columns}, ShownFiles.AreFilesSorted, ShownRows.{AreShown, number_in}}
+use Rattle.lc_rows.specs.{Views.{ViewModel, view_of}, declared.classes.ClassSums.ClassSums}
 use Rattle.lc_level.specs.Level.{FileLineModel}
 
 -- ---- the form of lines

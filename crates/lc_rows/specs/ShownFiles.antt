@@ -1,7 +1,5 @@
 -- The files that a table lists, sorted.
-use Rattle.std.specs.Prelude.{◌≡◌, ℕ, List, Option, Some, None}
-use Rattle.std.specs.List.Sorted.{IsPermutation, IsSorted}
-use Rattle.std.specs.Ordering.{nat_cmp, on, then_cmp}
+use Rattle.std.specs.{Prelude.{◌≡◌, ℕ, List, Option, Some, None}, List.Sorted.{IsPermutation, IsSorted}, Ordering.{nat_cmp, on, then_cmp}}
 use Rattle.std.specs.declared.cmp.Ordering.{Ordering}
 use Rattle.lc_tree.specs.ByteOrder.{bytes_cmp}
 use Rattle.lc_sheet.specs.declared.column.Number.{Number}

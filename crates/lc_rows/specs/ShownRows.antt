@@ -1,21 +1,12 @@
 -- The rows that a table shows: summed over the columns that the table lacks, and sorted.
-use Rattle.std.specs.Prelude.{◌≡◌, ℕ, Bool, true, false, ◌&&◌, if◌then◌else◌, List, map, Option, Some, None}
-use Rattle.std.specs.Bool.{MatchBool}
-use Rattle.std.specs.List.Sorted.{IsPermutation, IsSorted}
-use Rattle.std.specs.Ordering.{nat_cmp, on, then_cmp}
-use Rattle.std.specs.declared.cmp.Ordering.{Ordering}
+use Rattle.std.specs.{Prelude.{◌≡◌, ℕ, Bool, true, false, ◌&&◌, if◌then◌else◌, List, map, Option, Some, None}, Bool.MatchBool}
+use Rattle.std.specs.{List.Sorted.{IsPermutation, IsSorted}, Ordering.{nat_cmp, on, then_cmp}, declared.cmp.Ordering.Ordering}
 use Rattle.lc_census.specs.declared.line_count.Eol.TheVariants.{NoEnd}
 use Rattle.lc_rules.specs.declared.states.TextState.TheVariants.{Unspecified}
-use Rattle.lc_sheet.specs.declared.table_options.Columns.{Columns}
-use Rattle.lc_sheet.specs.declared.column.Number.{Number}
-use Rattle.lc_sheet.specs.declared.column.Number.TheVariants.{Files, Lines, Blank, Bytes}
-use Rattle.lc_walk.specs.Extension.{extension_of}
-use Rattle.lc_walk.specs.Key.{Key}
-use Rattle.lc_walk.specs.Sums.{one_file}
-use Rattle.lc_walk.specs.TallyRows.{TallyRowModel}
-use Rattle.lc_walk.specs.declared.tally.sums.Sums.{Sums}
-use Rattle.lc_rows.specs.Directories.{directory_of, name_of}
-use Rattle.lc_rows.specs.RowKeys.{RowKey, ShownRowModel, AreInRowOrder, has_within, row_key, row_key_cmp, rows_within, sums_of_shown}
+use Rattle.lc_sheet.specs.declared.{table_options.Columns.Columns, column.Number.{Number, TheVariants.{Files, Lines, Blank, Bytes}}}
+use Rattle.lc_walk.specs.{Extension.extension_of, Key.Key, Sums.one_file, TallyRows.TallyRowModel, declared.tally.sums.Sums.Sums}
+use Rattle.lc_rows.specs.{Directories.{directory_of, name_of}, RowKeys.{RowKey, ShownRowModel, AreInRowOrder, has_within, row_key}}
+use Rattle.lc_rows.specs.RowKeys.{row_key_cmp, rows_within, sums_of_shown}
 use Rattle.lc_level.specs.Level.{FileLineModel}
 
 -- the key in the columns that rows are grouped by; any other column is the same in all keys

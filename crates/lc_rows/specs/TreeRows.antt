@@ -1,16 +1,11 @@
 -- The rows of a tree of directories. The row of a directory has the sums over the files in the directory and below it.
 use Rattle.std.specs.Prelude.{ℕ, ◌+◌, ◌==◌, Bool, false, bytes_eq, cond, min, List, [], ◌∷◌, map, Option, Some, None}
-use Rattle.std.specs.Cmp.Lexicographic.{slice_cmp}
-use Rattle.std.specs.List.{flat_map, range_with_len}
-use Rattle.std.specs.List.Sorted.{IsPermutation, IsSorted}
-use Rattle.std.specs.Option.{option_cmp}
-use Rattle.std.specs.Ordering.{nat_cmp, on, then_cmp}
-use Rattle.std.specs.declared.cmp.Ordering.{Ordering}
+use Rattle.std.specs.{Cmp.Lexicographic.slice_cmp, List.{flat_map, range_with_len, Sorted.{IsPermutation, IsSorted}}, Option.option_cmp}
+use Rattle.std.specs.{Ordering.{nat_cmp, on, then_cmp}, declared.cmp.Ordering.Ordering}
 use Rattle.lc_glob.specs.Bytes.{slash}
 use Rattle.lc_sheet.specs.declared.table_options.Columns.{Columns}
 use Rattle.lc_walk.specs.Key.{key_cmp}
-use Rattle.lc_rows.specs.Directories.{above, directory_of, level_of, parent_of}
-use Rattle.lc_rows.specs.RowKeys.{RowKey, ShownRowModel, row_key}
+use Rattle.lc_rows.specs.{Directories.{above, directory_of, level_of, parent_of}, RowKeys.{RowKey, ShownRowModel, row_key}}
 use Rattle.lc_rows.specs.ShownRows.{AreAddedUp, part_of_file}
 use Rattle.lc_level.specs.Level.{FileLineModel}
 

@@ -1,12 +1,8 @@
 -- Reports of walks, and the parts of them that meet conditions.
 use Rattle.std.specs.Prelude.{◌≡◌, ℕ, true, List, is_some, Ok}
-use Rattle.lc_sheet.specs.Conditions.{ConditionModel, is_on_number}
-use Rattle.lc_sheet.specs.declared.table_options.TableOptions.{TableOptions}
+use Rattle.lc_sheet.specs.{Conditions.{ConditionModel, is_on_number}, declared.table_options.TableOptions.TableOptions}
 use Rattle.lc_tree.specs.Trees.{Listings, Contents}
-use Rattle.lc_walk.specs.Walks.{Walks}
-use Rattle.lc_walk.specs.declared.options.Options.{Options}
-use Rattle.lc_walk.specs.declared.options.ReportLists.{ReportLists}
-use Rattle.lc_walk.specs.declared.report.Report.{Report}
+use Rattle.lc_walk.specs.{Walks.Walks, declared.{options.{Options.Options, ReportLists.ReportLists}, report.Report.Report}}
 use Rattle.lc_rows.specs.Kept.{IsKept}
 
 -- the part of a walk's report that meets some conditions; without conditions, the whole report

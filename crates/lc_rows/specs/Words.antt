@@ -1,9 +1,7 @@
 -- What is printed of a skipped entry: the word for what it is, and what follows its path.
 use Rattle.std.specs.Prelude.{ℕ, List, [], codes}
 use Rattle.lc_level.specs.Level.{Reason, named_git, by_rule, by_attribute, not_included, other_kind}
-use Rattle.lc_tree.specs.declared.entry.Kind.{Kind}
-use Rattle.lc_tree.specs.declared.entry.Kind.TheVariants.{File, Dir, Other}
-use Rattle.lc_tree.specs.declared.entry.OtherKind.TheVariants.{Special, Mounted}
+use Rattle.lc_tree.specs.declared.entry.{Kind.{Kind, TheVariants.{File, Dir, Other}}, OtherKind.TheVariants.{Special, Mounted}}
 
 -- what a skipped entry is
 abbrev pub kind_word : Kind → List ℕ

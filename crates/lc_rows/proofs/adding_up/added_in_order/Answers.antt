@@ -1,8 +1,6 @@
-use Rattle.std.proofs.Common.{subst, sym, List}
-use Rattle.std.proofs.lemmas.List.{nil_from_length}
+use Rattle.std.proofs.{Common.{subst, sym, List}, lemmas.List.nil_from_length}
 use Rattle.lc_rows.proofs.Folding.{IsFolded, folded_all, folded_first, folded_more, folded_none}
-use Rattle.lc_rows.specs.RowKeys.{ShownRowModel}
-use Rattle.lc_rows.specs.ShownRows.{AreAddedUp}
+use Rattle.lc_rows.specs.{RowKeys.ShownRowModel, ShownRows.AreAddedUp}
 use Rattle.lc_rows.proofs.adding_up.added_in_order.Goals as goal
 
 pub returns-in_default : goal.returns-in_default

@@ -1,9 +1,7 @@
-use Rattle.std.proofs.Common.{subst}
+use Rattle.std.proofs.Common.{subst, List}
 use Rattle.lc_rows.proofs.Folding.{added_sorted}
-use Rattle.lc_rows.specs.RowKeys.{ShownRowModel}
-use Rattle.lc_rows.specs.ShownRows.{AreAddedUp}
+use Rattle.lc_rows.specs.{RowKeys.ShownRowModel, ShownRows.AreAddedUp}
 use Rattle.lc_rows.proofs.adding_up.added_up.Goals as goal
-use Rattle.std.proofs.Common.{List}
 
 pub returns : goal.returns
 returns c =

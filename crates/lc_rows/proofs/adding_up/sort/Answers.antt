@@ -1,7 +1,5 @@
-use Rattle.std.proofs.Common.{rules}
+use Rattle.std.proofs.{Common.rules, lemmas.{Fn.always_returns_same, List.Sorted.ranks_by}}
 use Rattle.std.specs.Ordering.{is_lt}
-use Rattle.std.proofs.lemmas.Fn.{always_returns_same}
-use Rattle.std.proofs.lemmas.List.Sorted.{ranks_by}
 use Rattle.lc_rows.specs.RowKeys.{ShownRowModel, row_key, row_key_cmp}
 use Rattle.lc_rows.proofs.SameKeys.{row_key_cmp_total}
 use Rattle.lc_rows.proofs.adding_up.sort.Goals as goal

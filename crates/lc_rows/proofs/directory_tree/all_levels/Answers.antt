@@ -1,10 +1,7 @@
-use Rattle.std.proofs.Common.{rules, arith, ◌≡◌, ◌∙◌, ◌+◌, ◌-◌, ◌++◌, List, ap, append_assoc, drop, length, length-drop, map, subst, sym, take}
+use Rattle.std.proofs.Common.{rules, arith, ◌≡◌, ◌∙◌, ◌+◌, ◌-◌, ◌++◌, List, ap, append_assoc, drop, length, length-drop, map, subst, sym}
+use Rattle.std.proofs.{Common.take, lemmas.List.{drop-drop, take-append-drop, take_rest, Sorted.IsNonDecreasingBy-drop}}
 use Rattle.std.specs.List.{flat_map}
-use Rattle.std.proofs.lemmas.List.{drop-drop, take-append-drop, take_rest}
-use Rattle.std.proofs.lemmas.List.Sorted.{IsNonDecreasingBy-drop}
-use Rattle.lc_rows.specs.LevelParts.{height, next_above, own_row}
-use Rattle.lc_rows.specs.RowKeys.{ShownRowModel}
-use Rattle.lc_rows.specs.ShownRows.{AreAddedUp}
+use Rattle.lc_rows.specs.{LevelParts.{height, next_above, own_row}, RowKeys.ShownRowModel, ShownRows.AreAddedUp}
 use Rattle.lc_rows.proofs.Above.{IsRaised, raised_first, raised_more, raised_all}
 use Rattle.lc_rows.proofs.directory_tree.all_levels.Goals as goal
 

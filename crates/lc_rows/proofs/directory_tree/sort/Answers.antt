@@ -1,9 +1,6 @@
-use Rattle.std.proofs.Common.{rules}
+use Rattle.std.proofs.{Common.rules, lemmas.{Fn.always_returns_same, List.Sorted.ranks_by}}
 use Rattle.std.specs.Ordering.{is_lt}
-use Rattle.std.proofs.lemmas.Fn.{always_returns_same}
-use Rattle.std.proofs.lemmas.List.Sorted.{ranks_by}
-use Rattle.lc_rows.specs.RowKeys.{ShownRowModel, row_key}
-use Rattle.lc_rows.specs.TreeRows.{depth_first_cmp}
+use Rattle.lc_rows.specs.{RowKeys.{ShownRowModel, row_key}, TreeRows.depth_first_cmp}
 use Rattle.lc_rows.proofs.Sorted.{depth_first_cmp_total}
 use Rattle.lc_rows.proofs.directory_tree.sort.Goals as goal
 

@@ -1,8 +1,6 @@
 use Rattle.std.proofs.Common.{List, subst}
 use Rattle.std.specs.List.{flat_map}
-use Rattle.lc_rows.specs.LevelParts.{HaveSumsOf, level_parts}
-use Rattle.lc_rows.specs.RowKeys.{ShownRowModel}
-use Rattle.lc_rows.specs.ShownRows.{AreAddedUp}
+use Rattle.lc_rows.specs.{LevelParts.{HaveSumsOf, level_parts}, RowKeys.ShownRowModel, ShownRows.AreAddedUp}
 use Rattle.lc_rows.proofs.TreeParts.{added_tree}
 use Rattle.lc_rows.proofs.directory_tree.tree_rows.Goals as goal
 

@@ -1,10 +1,9 @@
-use Rattle.std.proofs.Common.{rules}
+use Rattle.std.proofs.{Common.rules, lemmas.Fn.always_returns_same}
 use Rattle.std.specs.Ordering.{is_lt}
-use Rattle.std.proofs.lemmas.Fn.{always_returns_same}
 use Rattle.lc_rows.specs.ShownFiles.{file_cmp}
 use Rattle.lc_rows.proofs.Sorted.{files_rank}
-use Rattle.lc_rows.proofs.files.sort.Goals as goal
 use Rattle.lc_level.specs.Level.{FileLineModel}
+use Rattle.lc_rows.proofs.files.sort.Goals as goal
 
 pub returns-clause-order : goal.returns-clause-order
 returns-clause-order c =

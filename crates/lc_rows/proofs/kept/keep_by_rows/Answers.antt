@@ -1,6 +1,5 @@
 use Rattle.std.proofs.Common.{◌∙◌, sym, subst}
-use Rattle.lc_walk.specs.Sums.{IsInRange}
-use Rattle.lc_walk.specs.TallyRows.{sums_of_rows}
+use Rattle.lc_walk.specs.{Sums.IsInRange, TallyRows.sums_of_rows}
 use Rattle.lc_rows.specs.Kept.{row_meets}
 use Rattle.lc_rows.proofs.SumsInRange.{filtered_fits}
 use Rattle.lc_rows.proofs.kept.keep_by_rows.Goals as goal

@@ -1,5 +1,4 @@
-use Rattle.std.proofs.Common.{rules}
-use Rattle.std.proofs.lemmas.Fn.{filter_same}
+use Rattle.std.proofs.{Common.rules, lemmas.Fn.filter_same}
 use Rattle.lc_rows.specs.Kept.{file_meets}
 use Rattle.lc_rows.proofs.kept.keep_files.Goals as goal
 

@@ -1,6 +1,5 @@
 use Rattle.std.proofs.Common.{map, take}
-use Rattle.lc_walk.specs.Tally.{StandsFor}
-use Rattle.lc_walk.specs.ReportTotals.{counted_line}
+use Rattle.lc_walk.specs.{Tally.StandsFor, ReportTotals.counted_line}
 use Rattle.lc_rows.proofs.kept.tally_of.Given as goal
 
 abbrev pub invariant-loop-file : goal.invariant-loop-file

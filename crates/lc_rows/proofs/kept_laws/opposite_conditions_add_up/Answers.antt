@@ -1,5 +1,4 @@
-use Rattle.lc_rows.proofs.KeptParts.{opposites_law}
-use Rattle.lc_rows.proofs.WalkedSheets.{walked_opposites_law}
+use Rattle.lc_rows.proofs.{KeptParts.opposites_law, WalkedSheets.walked_opposites_law}
 use Rattle.lc_rows.proofs.kept_laws.opposite_conditions_add_up.Goals as goal
 
 pub returns-clause-any : goal.returns-clause-any

@@ -1,8 +1,6 @@
-use Rattle.std.proofs.Common.{rules}
+use Rattle.std.proofs.{Common.rules, lemmas.Fn.always_returns_same}
 use Rattle.std.specs.Ordering.{is_lt}
-use Rattle.std.proofs.lemmas.Fn.{always_returns_same}
-use Rattle.lc_rows.specs.RowKeys.{ShownRowModel}
-use Rattle.lc_rows.specs.ShownRows.{row_cmp}
+use Rattle.lc_rows.specs.{RowKeys.ShownRowModel, ShownRows.row_cmp}
 use Rattle.lc_rows.proofs.Sorted.{rows_rank}
 use Rattle.lc_rows.proofs.shown.sort.Goals as goal
 

@@ -1,5 +1,4 @@
-use Rattle.lc_walk.specs.Sums.{IsInRange}
-use Rattle.lc_walk.specs.TallyRows.{sums_of_rows}
+use Rattle.lc_walk.specs.{Sums.IsInRange, TallyRows.sums_of_rows}
 use Rattle.lc_rows.proofs.SumsInRange.{class_overflows, if_err}
 use Rattle.lc_rows.proofs.classes.ClassSums.of_all.Goals as goal
 

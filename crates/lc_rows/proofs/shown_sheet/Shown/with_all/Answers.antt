@@ -1,7 +1,6 @@
 use Rattle.std.proofs.Common.{List, ap, ◌∙◌}
-use Rattle.lc_rows.specs.RowKeys.{ShownRowModel}
-use Rattle.lc_rows.specs.Sheets.{form_of, listed_files, others_lines}
-use Rattle.lc_rows.specs.Views.{first_of, rest_of, sums_of_some, view_of}
+use Rattle.lc_rows.specs.{RowKeys.ShownRowModel, Sheets.{form_of, listed_files, others_lines}, Views.{first_of, rest_of, sums_of_some}}
+use Rattle.lc_rows.specs.Views.{view_of}
 use Rattle.lc_rows.proofs.SheetMade.{made}
 use Rattle.lc_rows.proofs.shown_sheet.Shown.with_all.Goals as goal
 

@@ -1,8 +1,5 @@
 use Rattle.std.proofs.Common.{ap, ◌∙◌}
-use Rattle.lc_rows.specs.Classes.{classes_of}
-use Rattle.lc_rows.specs.Sheets.{listed_files, sheet_among}
-use Rattle.lc_rows.specs.Views.{view_of}
-use Rattle.lc_rows.specs.declared.classes.ClassSums.{ClassSums}
+use Rattle.lc_rows.specs.{Classes.classes_of, Sheets.{listed_files, sheet_among}, Views.view_of, declared.classes.ClassSums.ClassSums}
 use Rattle.lc_rows.proofs.shown_sheet.Shown.with_rows.Goals as goal
 
 pub returns : goal.returns
