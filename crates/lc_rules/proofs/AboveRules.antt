@@ -1,23 +1,14 @@
 -- The rules that decide the directories above a path, and their names.
 use Rattle.std.proofs.Common.{◌≡◌, ◌≢◌, ◌≤◌, ◌<◌, ◌+◌, ◌-◌, ℕ, suc, Bool, true, false, cond, List, [], ◌∷◌, ◌++◌, length, take, get_or}
-use Rattle.std.proofs.Common.{Option, Some, None, Bor, is_some, refl, sym, ◌∙◌, ap, ap₂, subst, arith, append_assoc, ⊎_elim, set, take-take}
-use Rattle.std.specs.Prelude.{option_map, IfSome}
-use Rattle.std.specs.Option.{option_or}
-use Rattle.std.proofs.Common.{not, ◌&&◌, ◌||◌}
-use Rattle.std.proofs.Math.Seq.{take-suc-set, take-append_seam, take-length}
-use Rattle.std.proofs.lemmas.Bool.{cases_lt}
-use Rattle.std.proofs.lemmas.List.{append_cancel_right, map-append, take-set-le, get_or-set_other, get_or-set_same}
-use Rattle.std.proofs.lemmas.List.{length-append, length-take-le, get_or-take, take-map}
-use Rattle.lc_glob.specs.Above.{names_of, TellMatches}
-use Rattle.lc_glob.specs.IsMatch.{is_match, segments_match}
-use Rattle.lc_glob.specs.Path.{segments_of}
-use Rattle.lc_glob.specs.Patterns.{PatternModel}
+use Rattle.std.proofs.Common.{Option, Some, None, Bor, is_some, refl, sym, ◌∙◌, ap, ap₂, subst, arith, append_assoc, ⊎_elim, set}
+use Rattle.std.proofs.{Common.{take-take, not, ◌&&◌, ◌||◌}, Math.Seq.{take-suc-set, take-append_seam, take-length}, lemmas.Bool.cases_lt}
+use Rattle.std.proofs.lemmas.List.{append_cancel_right, map-append, take-set-le, get_or-set_other, get_or-set_same, length-append}
+use Rattle.std.proofs.lemmas.List.{length-take-le, get_or-take, take-map}
+use Rattle.std.specs.{Prelude.{option_map, IfSome}, Option.option_or}
+use Rattle.lc_glob.specs.{Above.{names_of, TellMatches}, IsMatch.{is_match, segments_match}, Path.segments_of, Patterns.PatternModel}
 use Rattle.lc_glob.proofs.Naming.{segments_apart}
-use Rattle.lc_rules.specs.Above.{AreDecided, AreCut, AreFound, IsOwn}
-use Rattle.lc_rules.specs.IgnoreRules.{RuleModel}
-use Rattle.lc_rules.specs.Verdicts.{at_depth, last_match}
-use Rattle.lc_rules.specs.declared.rule_source.RuleSource.{RuleSource}
-use Rattle.lc_rules.specs.declared.rule_source.RuleSource.TheVariants.{Gitignore}
+use Rattle.lc_rules.specs.{Above.{AreDecided, AreCut, AreFound, IsOwn}, IgnoreRules.RuleModel, Verdicts.{at_depth, last_match}}
+use Rattle.lc_rules.specs.declared.rule_source.RuleSource.{RuleSource, TheVariants.Gitignore}
 use Rattle.lc_rules.proofs.LastRule.{last_match-append, last_match_one}
 
 -- what was cut off before a slash is one segment

@@ -1,15 +1,11 @@
 -- How attribute lines are read, from the front.
 use Rattle.std.proofs.Common.{◌≡◌, ◌<◌, ◌+◌, ◌-◌, ℕ, zero, suc, false, cond, nat_eq, List, [], ◌∷◌, ◌++◌, length, take, drop, Option}
 use Rattle.std.proofs.Common.{Some, None, refl, sym, ◌∙◌, ap, arith, append_assoc, not, ◌&&◌, lt-ltb}
-use Rattle.std.proofs.lemmas.Bool.Decides.{Decides-eqb}
-use Rattle.std.proofs.lemmas.Bool.{le-ltb}
+use Rattle.std.proofs.lemmas.{Bool.{Decides.Decides-eqb, le-ltb, false_from_ne_true}, List.take_rest}
 use Rattle.std.specs.List.{position_or_len, before_first, after_first, list_all}
-use Rattle.std.proofs.lemmas.List.{take_rest}
-use Rattle.std.proofs.lemmas.Bool.{false_from_ne_true}
 use Rattle.memchr.specs.Find.{IsFirstByte, is_byte}
-use Rattle.lc_rules.specs.Attributes.{set, value}
-use Rattle.lc_rules.specs.AttrWords.{plain_assign, named, is_name, is_name_byte}
-use Rattle.lc_rules.specs.AttrQuotes.{unquoted, put_byte, put_escape, escape}
+use Rattle.lc_rules.specs.{Attributes.{set, value}, AttrWords.{plain_assign, named, is_name, is_name_byte}, AttrQuotes.{unquoted, put_byte}}
+use Rattle.lc_rules.specs.AttrQuotes.{put_escape, escape}
 use Rattle.lc_glob.specs.Pieces.{is_byte as at_byte}
 use Rattle.lc_glob.proofs.FirstByte.{place_none, place_some, place_below}
 

@@ -1,9 +1,6 @@
 -- The files of a chain, one more below them.
-use Rattle.std.proofs.Common.{◌≡◌, ℕ, List, [], ◌∷◌, ◌++◌, Option, Some, ◌∙◌, ap}
-use Rattle.std.specs.List.{filter_map}
-use Rattle.std.proofs.lemmas.List.Elements.{filter_map-append}
-use Rattle.std.specs.declared.sync.Arc.{Arc}
-use Rattle.std.specs.Arc.{arc_value}
+use Rattle.std.proofs.{Common.{◌≡◌, ℕ, List, [], ◌∷◌, ◌++◌, Option, Some, ◌∙◌, ap}, lemmas.List.Elements.filter_map-append}
+use Rattle.std.specs.{List.filter_map, declared.sync.Arc.Arc, Arc.arc_value}
 use Rattle.lc_rules.specs.Chains.{entry_file}
 
 -- the files of a chain with one more are those of the chain, and it

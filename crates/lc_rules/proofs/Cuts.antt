@@ -1,8 +1,7 @@
 -- Paths that are cut below a depth.
 use Rattle.std.proofs.Common.{◌≡◌, ◌+◌, ℕ, zero, suc, List, ap, arith}
 use Rattle.std.specs.List.{after_first}
-use Rattle.lc_glob.specs.Bytes.{slash}
-use Rattle.lc_glob.specs.Pieces.{is_byte}
+use Rattle.lc_glob.specs.{Bytes.slash, Pieces.is_byte}
 use Rattle.lc_rules.specs.Verdicts.{below}
 
 -- going on from a depth to one below it

@@ -1,16 +1,11 @@
 -- How the parts of what is read decide an attribute, one after another.
 use Rattle.std.proofs.Common.{◌≡◌, ℕ, Bool, false, List, [], ◌∷◌, ◌++◌, Option, Some, None, refl, sym, ◌∙◌, ap, subst, unwrap_or}
 use Rattle.std.specs.List.{list_any}
-use Rattle.lc_rules.specs.Attributes.{StateModel, unspecified, AssignmentModel}
-use Rattle.lc_rules.specs.AttrLines.{AttrFileModel}
-use Rattle.lc_rules.specs.AttrStates.{AttrChainModel, assignments_of, by_lines, info_assignments, macros_of, state_of, tree_assignments}
-use Rattle.lc_rules.specs.Models.{state_model, seen_state}
-use Rattle.lc_rules.specs.KnownMacros.{macros_for, matters}
-use Rattle.lc_rules.specs.Resolving.{IsReady, Moves, ReadsAssignments, Decides, names_in, stacked}
-use Rattle.lc_rules.specs.Verdicts.{below}
-use Rattle.lc_rules.specs.declared.resolver.Query.{Query}
-use Rattle.lc_rules.specs.declared.resolver.Resolver.{Resolver}
-use Rattle.lc_rules.specs.declared.states.State.{State}
+use Rattle.lc_rules.specs.{Attributes.{StateModel, unspecified, AssignmentModel}, AttrLines.AttrFileModel, AttrStates.AttrChainModel}
+use Rattle.lc_rules.specs.AttrStates.{assignments_of, by_lines, info_assignments, macros_of, state_of, tree_assignments}
+use Rattle.lc_rules.specs.{Models.{state_model, seen_state}, KnownMacros.{macros_for, matters}, Resolving.{IsReady, Moves}}
+use Rattle.lc_rules.specs.{Resolving.{ReadsAssignments, Decides, names_in, stacked}, Verdicts.below}
+use Rattle.lc_rules.specs.declared.{resolver.{Query.Query, Resolver.Resolver}, states.State.State}
 use Rattle.lc_rules.proofs.Moving.{moves_answer, moves_more, moves_past, moves_then}
 
 -- assignments of which none can matter decide nothing

@@ -1,11 +1,10 @@
 -- The decision keeps its equations, with enough steps.
 use Rattle.std.proofs.Common.{◌≡◌, ◌≤◌, ℕ, zero, suc, ◌+◌, Bool, true, false, cond, List, [], ◌∷◌, ◌++◌, length, reverse, Option, Some}
-use Rattle.std.proofs.Common.{None, is_some, unwrap_or, refl, sym, ◌∙◌, ap, arith, length-append}
-use Rattle.std.proofs.lemmas.List.{length-reverse}
+use Rattle.std.proofs.{Common.{None, is_some, unwrap_or, refl, sym, ◌∙◌, ap, arith, length-append}, lemmas.List.length-reverse}
 use Rattle.std.proofs.lemmas.Slice.Eq.{bytes_eq-Decides}
 use Rattle.std.specs.Str.{bytes_eq}
-use Rattle.lc_rules.specs.Attributes.{StateModel, set, unset, value, unspecified, AssignmentModel, MacroModel}
-use Rattle.lc_rules.specs.Decision.{decided, has, later, macro_of, expansion, decide_within, unread, decide, IsDecision, DecidesByEquations}
+use Rattle.lc_rules.specs.{Attributes.{StateModel, set, unset, value, unspecified, AssignmentModel, MacroModel}, Decision.{decided, has}}
+use Rattle.lc_rules.specs.Decision.{later, macro_of, expansion, decide_within, unread, decide, IsDecision, DecidesByEquations}
 
 -- bytes that compare equal are equal
 pub same_bytes : (m n : List ℕ) → bytes_eq m n ≡ true → m ≡ n

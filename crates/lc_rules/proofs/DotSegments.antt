@@ -1,20 +1,15 @@
 -- Patterns with a segment `.` or `..`: they match no path of an entry.
 use Rattle.std.proofs.Common.{◌≡◌, ℕ, ◌==◌, Bool, true, false, ◌&&◌, ◌||◌, List, [], ◌∷◌, ◌++◌, Option, Some, None, if◌then◌else◌, map}
 use Rattle.std.proofs.Common.{refl, sym, ◌∙◌, ap, subst, ◌⊎◌, inl, inr}
-use Rattle.std.specs.List.{list_any, onto_first}
 use Rattle.std.proofs.lemmas.Bool.{eqb-true, eqb-false, and_parts, and_from, or_cases, or_left, or_right, both_ways}
-use Rattle.std.proofs.lemmas.List.{append-nil, append_assoc, map-append}
-use Rattle.std.proofs.lemmas.List.Folds.{list_any-append}
+use Rattle.std.proofs.lemmas.List.{append-nil, append_assoc, map-append, Folds.list_any-append}
 use Rattle.std.proofs.lemmas.List.Splits.{slice_split-cons_yes, slice_split-cons_no}
-use Rattle.lc_glob.specs.Bytes.{slash, dot, opening, backslash, asterisk, question_mark}
-use Rattle.lc_glob.specs.Path.{segments_of}
-use Rattle.lc_glob.specs.Patterns.{SegmentModel, plain, double_star, PatternModel, dead}
-use Rattle.lc_glob.specs.Reading.{one, byte_lexeme, put, parts, ends_empty, without_last, begins_empty, without_first, some_empty}
-use Rattle.lc_glob.specs.Reading.{is_double_star, segment_from, live, cut_at_front, pattern_from, pattern_of}
-use Rattle.lc_glob.specs.Tokens.{TokenModel, literal, any_byte, star, class}
-use Rattle.lc_glob.proofs.Lexemes.{lexeme_of_byte}
-use Rattle.lc_glob.proofs.Naming.{some_segment}
-use Rattle.lc_glob.proofs.Parts.{join, join_separator, join_one, at_lexeme, join_start}
+use Rattle.std.specs.List.{list_any, onto_first}
+use Rattle.lc_glob.specs.{Bytes.{slash, dot, opening, backslash, asterisk, question_mark}, Path.segments_of, Patterns.{SegmentModel, plain}}
+use Rattle.lc_glob.specs.{Patterns.{double_star, PatternModel, dead}, Reading.{one, byte_lexeme, put, parts, ends_empty, without_last}}
+use Rattle.lc_glob.specs.Reading.{begins_empty, without_first, some_empty, is_double_star, segment_from, live, cut_at_front, pattern_from}
+use Rattle.lc_glob.specs.{Reading.pattern_of, Tokens.{TokenModel, literal, any_byte, star, class}}
+use Rattle.lc_glob.proofs.{Lexemes.lexeme_of_byte, Naming.some_segment, Parts.{join, join_separator, join_one, at_lexeme, join_start}}
 use Rattle.lc_rules.specs.CanMatch.{is_dots, is_special, has_dots}
 
 -- ---- tokens of such a segment

@@ -1,15 +1,10 @@
 -- The last macro of a name, and its place.
 use Rattle.std.proofs.Common.{◌≡◌, ◌<◌, ℕ, zero, suc, Bool, true, false, cond, List, [], ◌∷◌, ◌++◌, map, length, take, get_or, Option}
-use Rattle.std.proofs.Common.{Some, None, refl, sym, ◌∙◌, ap, arith, ◌+◌, add-one}
-use Rattle.std.proofs.Math.Seq.{take-suc}
-use Rattle.std.proofs.lemmas.List.{map-append, length-map}
+use Rattle.std.proofs.{Common.{Some, None, refl, sym, ◌∙◌, ap, arith, ◌+◌, add-one}, Math.Seq.take-suc, lemmas.List.map-append}
+use Rattle.std.proofs.lemmas.List.{length-map}
 use Rattle.std.specs.Str.{bytes_eq}
-use Rattle.lc_rules.specs.Attributes.{AssignmentModel, MacroModel}
-use Rattle.lc_rules.specs.Decision.{macro_of, later}
-use Rattle.lc_rules.specs.Models.{macro_model}
-use Rattle.lc_rules.specs.MacroPlaces.{place_behind, last_place}
-use Rattle.lc_rules.specs.WrittenLines.{assigned}
-use Rattle.lc_rules.specs.declared.macro_table.Macro.{Macro as CodeMacro}
+use Rattle.lc_rules.specs.{Attributes.{AssignmentModel, MacroModel}, Decision.{macro_of, later}, Models.macro_model}
+use Rattle.lc_rules.specs.{MacroPlaces.{place_behind, last_place}, WrittenLines.assigned, declared.macro_table.Macro.Macro as CodeMacro}
 
 -- a macro more is the last of its name
 pub macro_of-append : (ms : List MacroModel) (m : MacroModel) (n : List ℕ)

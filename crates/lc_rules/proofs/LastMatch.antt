@@ -1,13 +1,10 @@
 -- The rule that decides is the last one that matches.
-use Rattle.std.proofs.Common.{◌≡◌, ℕ, Bool, true, false, cond, ◌||◌, List, [], ◌∷◌, ◌++◌, Option, Some, None, MatchOption, filter}
-use Rattle.std.proofs.Common.{refl, sym, ◌∙◌, ap, ap₂, subst, append-nil}
-use Rattle.std.specs.Option.{option_or}
-use Rattle.std.specs.List.{list_any, last_or}
-use Rattle.lc_rules.specs.IgnoreRules.{RuleModel}
-use Rattle.lc_rules.specs.declared.rule_source.RuleSource.{RuleSource}
-use Rattle.lc_rules.specs.declared.rule_source.RuleSource.TheVariants.{CommandLine, ExcludeFrom, InfoExclude}
-use Rattle.lc_rules.specs.IgnoreChains.{joined, rules_if, rules_in, with_given}
-use Rattle.lc_rules.specs.IgnoreLaws.{CommandLineLaw, IsLastMatch, LastMatchLaw}
+use Rattle.std.proofs.Common.{◌≡◌, ℕ, Bool, true, false, cond, ◌||◌, List, [], ◌∷◌, ◌++◌, Option, Some, None, MatchOption, filter, refl}
+use Rattle.std.proofs.Common.{sym, ◌∙◌, ap, ap₂, subst, append-nil}
+use Rattle.std.specs.{Option.option_or, List.{list_any, last_or}}
+use Rattle.lc_rules.specs.{IgnoreRules.RuleModel, declared.rule_source.RuleSource.RuleSource}
+use Rattle.lc_rules.specs.{declared.rule_source.RuleSource.TheVariants.{CommandLine, ExcludeFrom, InfoExclude}, IgnoreChains.joined}
+use Rattle.lc_rules.specs.{IgnoreChains.{rules_if, rules_in, with_given}, IgnoreLaws.{CommandLineLaw, IsLastMatch, LastMatchLaw}}
 use Rattle.lc_rules.specs.Verdicts.{rule_matches, last_match}
 use Rattle.lc_rules.proofs.LastRule.{last_match-append, last_match_one}
 

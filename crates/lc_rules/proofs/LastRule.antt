@@ -1,19 +1,11 @@
 -- The rule that decides, from the newest rule to the oldest.
 use Rattle.std.proofs.Common.{◌≡◌, ◌≤◌, ◌<◌, ℕ, zero, suc, Bool, true, false, cond, List, [], ◌∷◌, ◌++◌, Option, Some, None, filter}
-use Rattle.std.proofs.Common.{length, take, get_or, refl, sym, ◌∙◌, ap, ap₂, arith}
-use Rattle.std.specs.Prelude.{option_map}
-use Rattle.std.specs.Option.{option_or}
-use Rattle.std.specs.List.{last_or}
-use Rattle.std.proofs.Math.Seq.{take-suc, take-length}
-use Rattle.std.proofs.lemmas.List.{map-append, get_or-map}
-use Rattle.std.proofs.lemmas.List.Elements.{filter-append}
-use Rattle.lc_glob.specs.IsMatch.{is_match}
-use Rattle.lc_glob.specs.Patterns.{PatternModel, dead}
-use Rattle.lc_glob.specs.PatternSets.{last_match_below, pattern_at}
-use Rattle.lc_rules.specs.IgnoreRules.{RuleModel, patterns_of}
-use Rattle.lc_rules.specs.IgnoreChains.{ChainModel, joined, rules_if, rules_in}
-use Rattle.lc_rules.specs.Verdicts.{below, rule_matches, last_match, depth_at, at_depth, from_file}
-use Rattle.lc_rules.specs.declared.rule_source.RuleSource.{RuleSource}
+use Rattle.std.proofs.{Common.{length, take, get_or, refl, sym, ◌∙◌, ap, ap₂, arith}, Math.Seq.{take-suc, take-length}}
+use Rattle.std.proofs.lemmas.List.{map-append, get_or-map, Elements.filter-append}
+use Rattle.std.specs.{Prelude.option_map, Option.option_or, List.last_or}
+use Rattle.lc_glob.specs.{IsMatch.is_match, Patterns.{PatternModel, dead}, PatternSets.{last_match_below, pattern_at}}
+use Rattle.lc_rules.specs.{IgnoreRules.{RuleModel, patterns_of}, IgnoreChains.{ChainModel, joined, rules_if, rules_in}, Verdicts.below}
+use Rattle.lc_rules.specs.{Verdicts.{rule_matches, last_match, depth_at, at_depth, from_file}, declared.rule_source.RuleSource.RuleSource}
 use Rattle.lc_rules.specs.declared.rule_source.RuleSource.TheVariants.{ExcludeFrom, InfoExclude, Gitignore, CommandLine}
 
 last_or-append : {A : Type 0} (o : Option A) (xs ys : List A) → last_or o (xs ++ ys) ≡ last_or (last_or o xs) ys

@@ -1,15 +1,11 @@
 -- The last word of bytes, and the assignments before the last.
 use Rattle.std.proofs.Common.{◌≡◌, ◌<◌, ◌⊎◌, ℕ, Bool, true, false, cond, List, [], ◌∷◌, ◌++◌, length, filter, take, drop, length-drop}
 use Rattle.std.proofs.Common.{Option, Some, None, is_some, inl, inr, refl, sym, ◌∙◌, ap, arith, append_assoc, lt-ltb}
-use Rattle.std.specs.List.{cons_option, filter_map, list_any, slice_split, onto_first}
 use Rattle.std.proofs.lemmas.Bool.{or_parts}
-use Rattle.std.proofs.lemmas.List.{append-nil, length-take}
-use Rattle.std.proofs.lemmas.List.Elements.{filter-append, filter_map-append}
-use Rattle.std.proofs.lemmas.List.Splits.{slice_split-cons_no}
+use Rattle.std.proofs.lemmas.List.{append-nil, length-take, Elements.{filter-append, filter_map-append}, Splits.slice_split-cons_no}
+use Rattle.std.specs.List.{cons_option, filter_map, list_any, slice_split, onto_first}
 use Rattle.lc_glob.proofs.Naming.{split_apart}
-use Rattle.lc_rules.specs.Attributes.{AssignmentModel}
-use Rattle.lc_rules.specs.AttrWords.{is_white, is_some_word, words, assign, assigns, both}
-use Rattle.lc_rules.specs.LastWord.{EndsBlack}
+use Rattle.lc_rules.specs.{Attributes.AssignmentModel, AttrWords.{is_white, is_some_word, words, assign, assigns, both}, LastWord.EndsBlack}
 use Rattle.lc_rules.specs.WrittenLines.{assigned}
 
 -- white space parts the words before it from those after it

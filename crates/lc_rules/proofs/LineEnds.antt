@@ -1,10 +1,7 @@
 -- A line read from the left, without the spaces and the carriage return at its end.
 use Rattle.std.proofs.Common.{◌≡◌, ◌≤◌, ◌<◌, ◌+◌, ℕ, true, false, cond, nat_eq, List, [], ◌∷◌, ◌++◌, length, take, drop, get_or, refl}
 use Rattle.std.proofs.Common.{sym, ◌∙◌, ap, append_assoc, arith, add-one, drop-cons, length-drop}
-use Rattle.std.proofs.lemmas.Bool.Decides.{Decides-eqb}
-use Rattle.std.proofs.lemmas.Bool.{false_from_ne_true}
-use Rattle.std.proofs.lemmas.List.{append-nil}
-use Rattle.std.proofs.Math.Seq.{take-suc}
+use Rattle.std.proofs.{lemmas.{Bool.{Decides.Decides-eqb, false_from_ne_true}, List.append-nil}, Math.Seq.take-suc}
 use Rattle.lc_rules.specs.IgnoreRules.{byte_before, without_spaces, without_return}
 
 -- what was kept, or all that was read where more is kept after it

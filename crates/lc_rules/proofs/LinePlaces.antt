@@ -1,22 +1,14 @@
 -- What a line gives, by the text that it stands in.
 use Rattle.std.proofs.Common.{◌≡◌, ◌≤◌, ◌+◌, ◌-◌, ℕ, zero, suc, Bool, true, false, cond, nat_eq, List, [], ◌∷◌, ◌++◌, length, take, drop}
-use Rattle.std.proofs.Common.{Option, Some, None, refl, sym, ◌∙◌, ap, arith, append_assoc}
-use Rattle.std.specs.List.{position_or_len, before_first, filter_map, cons_option}
-use Rattle.std.specs.Prelude.{not, IfSome, MatchOption}
-use Rattle.std.specs.Borrow.{Bor}
-use Rattle.std.proofs.Math.Seq.{drop-append_seam, drop-append-add}
+use Rattle.std.proofs.{Common.{Option, Some, None, refl, sym, ◌∙◌, ap, arith, append_assoc}, Math.Seq.{drop-append_seam, drop-append-add}}
 use Rattle.std.proofs.lemmas.List.{length-append, length-take}
-use Rattle.lc_glob.specs.Pieces.{is_byte, pieces_of, pieces_left}
-use Rattle.lc_glob.specs.Reading.{pattern_of}
-use Rattle.lc_rules.specs.Attributes.{AssignmentModel}
-use Rattle.lc_rules.specs.AttrLines.{PatternLineModel, AttrLineModel, macro_line, pattern_line, given_by, by_words, by_quote}
-use Rattle.lc_rules.specs.AttrLines.{as_pattern, by_macro, macro_word, is_negated, trimmed, given_lines}
-use Rattle.lc_rules.specs.RuleLines.{lines_left}
-use Rattle.lc_rules.specs.AttrQuotes.{unquoted}
-use Rattle.lc_rules.specs.AttrWords.{is_white, is_name, words, assign, assigns, IsEndOf}
+use Rattle.std.specs.{List.{position_or_len, before_first, filter_map, cons_option}, Prelude.{not, IfSome, MatchOption}, Borrow.Bor}
+use Rattle.lc_glob.specs.{Pieces.{is_byte, pieces_of, pieces_left}, Reading.pattern_of}
+use Rattle.lc_rules.specs.{Attributes.AssignmentModel, AttrLines.{PatternLineModel, AttrLineModel, macro_line, pattern_line, given_by}}
+use Rattle.lc_rules.specs.AttrLines.{by_words, by_quote, as_pattern, by_macro, macro_word, is_negated, trimmed, given_lines}
+use Rattle.lc_rules.specs.{RuleLines.lines_left, AttrQuotes.unquoted, AttrWords.{is_white, is_name, words, assign, assigns, IsEndOf}}
 use Rattle.lc_rules.specs.WrittenLines.{halves, line_of, line_from}
-use Rattle.lc_rules.proofs.LastWords.{assigns_are}
-use Rattle.lc_rules.proofs.WordCuts.{first_word, starts_black}
+use Rattle.lc_rules.proofs.{LastWords.assigns_are, WordCuts.{first_word, starts_black}}
 
 -- a line that a pattern's bytes and their words give
 by_pattern_is : (bytes : List ℕ) (ws : List (List ℕ)) (n : Bool) (o : Option (List AssignmentModel)) (m : PatternLineModel)

@@ -1,17 +1,13 @@
 -- What patterns match no path of an entry: dead ones, and those with a segment `.` or `..`.
-use Rattle.std.proofs.Common.{◌≡◌, ℕ, ◌==◌, Bool, true, false, not, ◌&&◌, ◌||◌, List, [], ◌∷◌, MatchOption, refl, sym, ◌∙◌, ap, subst, inl}
-use Rattle.std.proofs.Common.{inr}
+use Rattle.std.proofs.Common.{◌≡◌, ℕ, ◌==◌, Bool, true, false, not, ◌&&◌, ◌||◌, List, [], ◌∷◌, MatchOption, refl, sym, ◌∙◌, ap, subst}
+use Rattle.std.proofs.{Common.{inl, inr}, lemmas.Bool.{eqb-true, and_parts, and_cases, or_cases, false_from_ne_true, not-false, not-true}}
+use Rattle.std.proofs.lemmas.Bool.{both_ways}
 use Rattle.std.specs.List.{list_all, list_any}
-use Rattle.std.proofs.lemmas.Bool.{eqb-true, and_parts, and_cases, or_cases, false_from_ne_true, not-false, not-true, both_ways}
-use Rattle.lc_glob.specs.Bytes.{dot, exclamation_mark}
-use Rattle.lc_glob.specs.IsMatch.{some_rest, fits, matches_path, fits_last_name, fits_last, segments_match, is_match}
-use Rattle.lc_glob.specs.Path.{is_good_name, is_good_path, segments_of}
-use Rattle.lc_glob.specs.Patterns.{SegmentModel, plain, double_star, PatternModel}
-use Rattle.lc_glob.specs.Reading.{pattern_of}
-use Rattle.lc_glob.specs.Tokens.{TokenModel, literal, any_byte, star, class}
-use Rattle.lc_rules.specs.Bytes.{hash}
-use Rattle.lc_rules.specs.CanMatch.{MatchesNothing, CanMatchLaw, has_dots, is_live, pattern_text}
-use Rattle.lc_rules.specs.IgnoreRules.{RuleModel, plain_rule, negated_rule, rule_from, text_of_line}
+use Rattle.lc_glob.specs.{Bytes.{dot, exclamation_mark}, IsMatch.{some_rest, fits, matches_path, fits_last_name, fits_last, segments_match}}
+use Rattle.lc_glob.specs.{IsMatch.is_match, Path.{is_good_name, is_good_path, segments_of}, Patterns.{SegmentModel, plain, double_star}}
+use Rattle.lc_glob.specs.{Patterns.PatternModel, Reading.pattern_of, Tokens.{TokenModel, literal, any_byte, star, class}}
+use Rattle.lc_rules.specs.{Bytes.hash, CanMatch.{MatchesNothing, CanMatchLaw, has_dots, is_live, pattern_text}, IgnoreRules.RuleModel}
+use Rattle.lc_rules.specs.IgnoreRules.{plain_rule, negated_rule, rule_from, text_of_line}
 use Rattle.lc_rules.proofs.DotSegments.{is_dot, is_dot_part, is_dot_segment, IsDotted, dotted_pattern}
 
 -- a token that is a dot takes a dot

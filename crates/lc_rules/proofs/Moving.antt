@@ -1,17 +1,12 @@
 -- What reading assignments does to the search for one name.
-use Rattle.std.proofs.Common.{◌≡◌, ◌≤◌, ◌+◌, ℕ, true, false, List, [], ◌∷◌, ◌++◌, length, reverse, Option, Some, None, is_some}
-use Rattle.std.proofs.Common.{unwrap_or, refl, sym, ◌∙◌, ap, arith, length-append, append_assoc}
-use Rattle.std.proofs.lemmas.Bool.{or_parts}
-use Rattle.std.specs.Str.{bytes_eq}
-use Rattle.std.specs.List.{list_any}
-use Rattle.std.proofs.lemmas.List.{append-nil}
-use Rattle.lc_rules.specs.Attributes.{StateModel, set, unset, value, unspecified, AssignmentModel, MacroModel}
-use Rattle.lc_rules.specs.Decision.{macro_of, expansion, unread}
-use Rattle.lc_rules.specs.Resolving.{marked, is_marked, answer, Moves, to_read}
-use Rattle.lc_rules.specs.KnownMacros.{expanded, matters}
-use Rattle.lc_rules.proofs.DecisionLaws.{expansion_less, unread_less}
-use Rattle.lc_rules.proofs.OneName.{answer_wanted, answer_seen, answer_macro, answer_plain, answer_none, mark_other, SameMarks}
-use Rattle.lc_rules.proofs.OneName.{answer_same, unread_same}
+use Rattle.std.proofs.Common.{◌≡◌, ◌≤◌, ◌+◌, ℕ, true, false, List, [], ◌∷◌, ◌++◌, length, reverse, Option, Some, None, is_some, unwrap_or}
+use Rattle.std.proofs.{Common.{refl, sym, ◌∙◌, ap, arith, length-append, append_assoc}, lemmas.{Bool.or_parts, List.append-nil}}
+use Rattle.std.specs.{Str.bytes_eq, List.list_any}
+use Rattle.lc_rules.specs.{Attributes.{StateModel, set, unset, value, unspecified, AssignmentModel, MacroModel}, Decision.macro_of}
+use Rattle.lc_rules.specs.{Decision.{expansion, unread}, Resolving.{marked, is_marked, answer, Moves, to_read}, KnownMacros.expanded}
+use Rattle.lc_rules.specs.KnownMacros.{matters}
+use Rattle.lc_rules.proofs.{DecisionLaws.{expansion_less, unread_less}, OneName.{answer_wanted, answer_seen, answer_macro, answer_plain}}
+use Rattle.lc_rules.proofs.OneName.{answer_none, mark_other, SameMarks, answer_same, unread_same}
 
 -- an assignment of the name that is sought ends the search
 pub moves_found : (ms : List MacroModel) (w : List ℕ) (a : AssignmentModel) (todo : List AssignmentModel) (ns : List (List ℕ))

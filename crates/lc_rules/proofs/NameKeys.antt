@@ -1,26 +1,14 @@
 -- Maps and sets whose keys are names, by the names' bytes.
 use Rattle.std.proofs.Common.{◌≡◌, ℕ, Bool, true, false, cond, ◌||◌, List, [], ◌∷◌, map, Some, is_some, Vec, refl, sym, ◌∙◌, ap}
-use Rattle.std.specs.List.{list_any}
-use Rattle.std.specs.Str.{bytes_eq}
-use Rattle.std.specs.Borrow.{Bor}
-use Rattle.std.specs.Ordering.{nat_cmp, is_eq}
-use Rattle.std.specs.Cmp.{eq_by_cmp_equiv}
-use Rattle.std.specs.Cmp.Lexicographic.{slice_cmp, nat_list_cmp_total}
-use Rattle.std.specs.Map.{lookup, IsKeyTest, AreApart, KeepsOthers}
-use Rattle.std.specs.Set.{KeepsOthers as KeepsOtherKeys}
-use Rattle.std.specs.BTreeMap as tree
-use Rattle.std.specs.BTreeMap.{BTreeMap, is_at}
-use Rattle.std.specs.BTreeSet as bag
-use Rattle.std.specs.BTreeSet.{BTreeSet}
-use Rattle.std.specs.Global.{Global}
 use Rattle.std.proofs.lemmas.Map.Text.{is_eq-slice_cmp}
-use Rattle.lc_rules.specs.Attributes.{set}
-use Rattle.lc_rules.specs.Decision.{decided}
-use Rattle.lc_rules.specs.Resolving.{marked, is_marked, names_in}
-use Rattle.lc_rules.specs.LineNames.{has_name}
+use Rattle.std.specs.{List.list_any, Str.bytes_eq, Borrow.Bor, Ordering.{nat_cmp, is_eq}, Cmp.eq_by_cmp_equiv}
+use Rattle.std.specs.{Cmp.Lexicographic.{slice_cmp, nat_list_cmp_total}, Map.{lookup, IsKeyTest, AreApart, KeepsOthers}}
+use Rattle.std.specs.{Set.KeepsOthers as KeepsOtherKeys, BTreeMap.{BTreeMap, is_at}, BTreeSet.BTreeSet, Global.Global}
+use Rattle.lc_rules.specs.{Attributes.set, Decision.decided, Resolving.{marked, is_marked, names_in}, LineNames.has_name}
 use Rattle.lc_rules.specs.MacroPlaces.{place_in}
-use Rattle.lc_rules.proofs.DecisionLaws.{same_bytes, bytes_self}
-use Rattle.lc_rules.proofs.OneName.{SameMarks}
+use Rattle.lc_rules.proofs.{DecisionLaws.{same_bytes, bytes_self}, OneName.SameMarks}
+use Rattle.std.specs.BTreeMap as tree
+use Rattle.std.specs.BTreeSet as bag
 
 bytes_eq-sym : (m n : List ℕ) (b : Bool) → bytes_eq m n ≡ b → bytes_eq n m ≡ b
 bytes_eq-sym m n true e = bytes_self n m (sym (same_bytes m n e))

@@ -1,21 +1,10 @@
 -- Lines that name neither an attribute nor a macro can't decide it.
-use Rattle.std.proofs.Common.{◌≡◌, ℕ, Bool, true, false, cond, ◌||◌, List, [], ◌∷◌, ◌++◌}
-use Rattle.std.proofs.Common.{Option, Some, None, is_some, refl, sym, ◌∙◌, ap}
-use Rattle.std.specs.BTreeSet.{BTreeSet}
-use Rattle.std.specs.Global.{Global}
-use Rattle.std.specs.List.{list_any}
-use Rattle.std.specs.Prelude.{Vec}
-use Rattle.std.specs.Str.{bytes_eq}
-use Rattle.std.proofs.lemmas.Bool.{or_parts}
-use Rattle.std.proofs.lemmas.List.Folds.{list_any-append}
-use Rattle.lc_rules.specs.Attributes.{AssignmentModel, MacroModel}
-use Rattle.lc_rules.specs.AttrLines.{PatternLineModel}
-use Rattle.lc_rules.specs.AttrStates.{binary}
-use Rattle.lc_rules.specs.Decision.{macro_of, later}
-use Rattle.lc_rules.specs.KnownMacros.{matters}
-use Rattle.lc_rules.specs.LineNames.{assigns_name, lines_name, has_name, HasNames, NameNone}
-use Rattle.lc_rules.proofs.DecisionLaws.{bytes_self, same_bytes}
-use Rattle.lc_rules.proofs.LastMacro.{macro_of-append, macro_of-both}
+use Rattle.std.proofs.Common.{◌≡◌, ℕ, Bool, true, false, cond, ◌||◌, List, [], ◌∷◌, ◌++◌, Option, Some, None, is_some, refl, sym, ◌∙◌, ap}
+use Rattle.std.proofs.lemmas.{Bool.or_parts, List.Folds.list_any-append}
+use Rattle.std.specs.{BTreeSet.BTreeSet, Global.Global, List.list_any, Prelude.Vec, Str.bytes_eq}
+use Rattle.lc_rules.specs.{Attributes.{AssignmentModel, MacroModel}, AttrLines.PatternLineModel, AttrStates.binary, Decision.macro_of}
+use Rattle.lc_rules.specs.{Decision.later, KnownMacros.matters, LineNames.{assigns_name, lines_name, has_name, HasNames, NameNone}}
+use Rattle.lc_rules.proofs.{DecisionLaws.{bytes_self, same_bytes}, LastMacro.{macro_of-append, macro_of-both}}
 
 -- no name that passes the test is among these
 abbrev pub NoneNamed : (List ℕ → Bool) → (List ℕ → Bool) → Type 0

@@ -2,9 +2,8 @@
 use Rattle.std.proofs.Common.{◌≡◌, ℕ, zero, suc, ◌+◌, length, Bool, true, false, cond, List, [], ◌∷◌, ◌++◌, reverse, Option, Some, None}
 use Rattle.std.proofs.Common.{is_some, unwrap_or, refl, sym, ◌∙◌, ap, subst}
 use Rattle.std.specs.Str.{bytes_eq}
-use Rattle.lc_rules.specs.Attributes.{StateModel, set, unset, value, unspecified, AssignmentModel, MacroModel}
-use Rattle.lc_rules.specs.Decision.{decided, has, macro_of, expansion, decide_within, decide, unread}
-use Rattle.lc_rules.specs.Resolving.{marked, is_marked, answer}
+use Rattle.lc_rules.specs.{Attributes.{StateModel, set, unset, value, unspecified, AssignmentModel, MacroModel}, Decision.{decided, has}}
+use Rattle.lc_rules.specs.{Decision.{macro_of, expansion, decide_within, decide, unread}, Resolving.{marked, is_marked, answer}}
 use Rattle.lc_rules.proofs.DecisionLaws.{same_bytes, decide_none, decide_skip, decide_take, more_steps, more_steps_after}
 
 -- what is decided stays

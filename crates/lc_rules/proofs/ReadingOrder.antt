@@ -1,18 +1,11 @@
 -- The assignments of lines and files, the last of them first.
-use Rattle.std.proofs.Common.{◌≡◌, ◌≤◌, ◌<◌, ℕ, zero, suc, Bool, true, false, cond, List, [], ◌∷◌, ◌++◌, length, take, reverse}
-use Rattle.std.proofs.Common.{Option, Some, None, MatchOption, refl, sym, ◌∙◌, ap, ap₂, arith, subst, append_assoc}
-use Rattle.std.proofs.Math.Seq.{take-suc}
-use Rattle.std.proofs.lemmas.Bool.{or_parts, or_from}
+use Rattle.std.proofs.Common.{◌≡◌, ◌≤◌, ◌<◌, ℕ, zero, suc, Bool, true, false, cond, List, [], ◌∷◌, ◌++◌, length, take, reverse, Option}
+use Rattle.std.proofs.{Common.{Some, None, MatchOption, refl, sym, ◌∙◌, ap, ap₂, arith, subst, append_assoc}, Math.Seq.take-suc}
+use Rattle.std.proofs.lemmas.{Bool.{or_parts, or_from}, List.{append-nil, reverse-append, get_or-map, Folds.list_any-append}}
 use Rattle.std.specs.List.{list_any}
-use Rattle.std.proofs.lemmas.List.{append-nil, reverse-append, get_or-map}
-use Rattle.std.proofs.lemmas.List.Folds.{list_any-append}
-use Rattle.lc_glob.specs.IsMatch.{is_match}
-use Rattle.lc_glob.specs.Patterns.{PatternModel, dead}
-use Rattle.lc_glob.specs.PatternSets.{last_match_below, pattern_at}
-use Rattle.lc_rules.specs.Attributes.{AssignmentModel}
-use Rattle.lc_rules.specs.AttrLines.{PatternLineModel}
-use Rattle.lc_rules.specs.AttrStates.{by_line, by_lines}
-use Rattle.lc_rules.specs.WrittenLines.{line_at, line_of, patterns_in}
+use Rattle.lc_glob.specs.{IsMatch.is_match, Patterns.{PatternModel, dead}, PatternSets.{last_match_below, pattern_at}}
+use Rattle.lc_rules.specs.{Attributes.AssignmentModel, AttrLines.PatternLineModel, AttrStates.{by_line, by_lines}, WrittenLines.line_at}
+use Rattle.lc_rules.specs.WrittenLines.{line_of, patterns_in}
 
 by_lines_more : (ls : List PatternLineModel) (l : PatternLineModel) (path : List ℕ) (is_dir : Bool)
     → by_lines (ls ++ (l ∷ [])) path is_dir ≡ by_line l path is_dir ++ by_lines ls path is_dir

@@ -1,14 +1,10 @@
 -- The rules of a file and the numbers of their lines.
-use Rattle.std.proofs.Common.{◌≡◌, ◌≤◌, ◌+◌, ℕ, Bool, true, false, cond, ◌==◌, List, [], ◌∷◌, ◌++◌, Option, Some, None, length}
-use Rattle.std.proofs.Common.{refl, sym, ◌∙◌, ap, subst, arith, append_assoc, length-append}
+use Rattle.std.proofs.Common.{◌≡◌, ◌≤◌, ◌+◌, ℕ, Bool, true, false, cond, ◌==◌, List, [], ◌∷◌, ◌++◌, Option, Some, None, length, refl, sym}
+use Rattle.std.proofs.{Common.{◌∙◌, ap, subst, arith, append_assoc, length-append}, Math.Seq.get_or-append_seam}
+use Rattle.std.proofs.lemmas.List.{Elements.{All-cons, All-nil}, Splits.length-slice_split, Sums.count_by-le-length}
 use Rattle.std.specs.List.{All, filter_map, cons_option, enumerate_from}
-use Rattle.std.proofs.Math.Seq.{get_or-append_seam}
-use Rattle.std.proofs.lemmas.List.Elements.{All-cons, All-nil}
-use Rattle.std.proofs.lemmas.List.Splits.{length-slice_split}
-use Rattle.std.proofs.lemmas.List.Sums.{count_by-le-length}
-use Rattle.lc_rules.specs.IgnoreRules.{RuleModel, text_of_line, plain_rule, negated_rule, rule_from, rule_of_line}
-use Rattle.lc_rules.specs.IgnoreLaws.{IsOnLine, LinesLaw}
-use Rattle.lc_rules.specs.RuleLines.{without_mark, lines_of}
+use Rattle.lc_rules.specs.{IgnoreRules.{RuleModel, text_of_line, plain_rule, negated_rule, rule_from, rule_of_line}, IgnoreLaws.IsOnLine}
+use Rattle.lc_rules.specs.{IgnoreLaws.LinesLaw, RuleLines.{without_mark, lines_of}}
 
 -- a file without its mark is no longer
 pub without_mark_le : (bytes : List ℕ) → length (without_mark bytes) ≤ length bytes

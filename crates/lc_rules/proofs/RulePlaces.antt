@@ -1,9 +1,7 @@
 -- The place of a rule is the number of the older ones.
-use Rattle.std.proofs.Common.{◌≡◌, ◌<◌, List, [], ◌∷◌, ◌++◌, length, get_or, ◌∙◌, ap, arith, append_assoc}
-use Rattle.std.proofs.lemmas.List.{length-append, length-map, get_or-map}
-use Rattle.std.proofs.Math.Seq.{get_or-append_seam}
-use Rattle.lc_glob.specs.Patterns.{PatternModel, dead}
-use Rattle.lc_glob.specs.PatternSets.{pattern_at}
+use Rattle.std.proofs.{Common.{◌≡◌, ◌<◌, List, [], ◌∷◌, ◌++◌, length, get_or, ◌∙◌, ap, arith, append_assoc}, lemmas.List.length-append}
+use Rattle.std.proofs.{lemmas.List.{length-map, get_or-map}, Math.Seq.get_or-append_seam}
+use Rattle.lc_glob.specs.{Patterns.{PatternModel, dead}, PatternSets.pattern_at}
 use Rattle.lc_rules.specs.IgnoreRules.{RuleModel, patterns_of}
 
 module _ (all rest newer older : List RuleModel) (rule : RuleModel) (whole : all ≡ rest ++ newer) (last : rest ≡ older ++ rule ∷ [])

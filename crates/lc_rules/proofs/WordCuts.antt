@@ -1,10 +1,8 @@
 -- The first word of a line.
 use Rattle.std.proofs.Common.{◌≡◌, ◌<◌, ◌+◌, ◌-◌, ℕ, suc, Bool, true, false, cond, not, List, [], ◌∷◌, length, take, drop, filter, refl}
-use Rattle.std.proofs.Common.{sym, ◌∙◌, ap, arith, lt-ltb}
+use Rattle.std.proofs.{Common.{sym, ◌∙◌, ap, arith, lt-ltb}, lemmas.List.take_rest}
 use Rattle.std.specs.List.{slice_split, onto_first, position_or_len}
-use Rattle.std.proofs.lemmas.List.{take_rest}
-use Rattle.lc_rules.specs.AttrLines.{trimmed}
-use Rattle.lc_rules.specs.AttrWords.{is_white, is_some_word, words}
+use Rattle.lc_rules.specs.{AttrLines.trimmed, AttrWords.{is_white, is_some_word, words}}
 
 white_words : (b : ℕ) (bs : List ℕ) → is_white b ≡ true → words (b ∷ bs) ≡ words bs
 white_words b bs e = ap (λ t. filter is_some_word (cond t ([] ∷ slice_split is_white bs) (onto_first b (slice_split is_white bs)))) e

@@ -1,11 +1,8 @@
 -- The rules that decide the directories above a path, found in one pass.
 use Rattle.std.specs.Prelude.{ℕ, ◌≡◌, ◌<◌, ◌≤◌, ◌+◌, Bool, true, List, length, take, slice_index_or, Option, None, option_map, is_some}
 use Rattle.std.specs.Borrow.{Bor}
-use Rattle.lc_glob.specs.Above.{names_of}
-use Rattle.lc_glob.specs.Path.{segments_of}
-use Rattle.lc_rules.specs.IgnoreRules.{RuleModel}
-use Rattle.lc_rules.specs.Verdicts.{at_depth, last_match}
-use Rattle.lc_rules.specs.declared.rule_source.RuleSource.TheVariants.{Gitignore}
+use Rattle.lc_glob.specs.{Above.names_of, Path.segments_of}
+use Rattle.lc_rules.specs.{IgnoreRules.RuleModel, Verdicts.{at_depth, last_match}, declared.rule_source.RuleSource.TheVariants.Gitignore}
 
 -- the rules of a file, a path, and whether the path is that of a directory: the rules are matched with it and the directories above it
 pub record AboveModel : Type 0 where

@@ -1,10 +1,6 @@
 -- Chains of attribute files, as they grow.
-use Rattle.std.specs.Prelude.{ℕ, [], Option, Some, None}
-use Rattle.std.specs.declared.sync.Arc.{Arc}
-use Rattle.std.specs.Arc.{arc_value}
-use Rattle.lc_rules.specs.AttrLines.{AttrFileModel}
-use Rattle.lc_rules.specs.AttrStates.{AttrChainModel}
-use Rattle.lc_rules.specs.Chains.{with_file}
+use Rattle.std.specs.{Prelude.{ℕ, [], Option, Some, None}, declared.sync.Arc.Arc, Arc.arc_value}
+use Rattle.lc_rules.specs.{AttrLines.AttrFileModel, AttrStates.AttrChainModel, Chains.with_file}
 
 abbrev pub no_files : AttrChainModel
 no_files = record { tree = []; info = None }

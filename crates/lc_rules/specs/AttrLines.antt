@@ -1,14 +1,9 @@
 -- The lines of an attribute file: gitattributes(5), DESCRIPTION and DEFINING MACRO ATTRIBUTES.
 use Rattle.std.specs.Prelude.{ℕ, Bool, false, ◌==◌, ◌&&◌, if◌then◌else◌, List, [], ◌∷◌, take, drop, Option, Some, None, bytes_eq, codes}
 use Rattle.std.specs.List.{filter_map}
-use Rattle.lc_glob.specs.Bytes.{exclamation_mark}
-use Rattle.lc_glob.specs.Patterns.{PatternModel}
-use Rattle.lc_glob.specs.Reading.{pattern_of}
-use Rattle.lc_rules.specs.Bytes.{hash, quotation_mark}
-use Rattle.lc_rules.specs.RuleLines.{lines_of}
-use Rattle.lc_rules.specs.Attributes.{AssignmentModel, MacroModel}
-use Rattle.lc_rules.specs.AttrWords.{is_white, is_some_word, words, is_name, assigns}
-use Rattle.lc_rules.specs.AttrQuotes.{unquoted}
+use Rattle.lc_glob.specs.{Bytes.exclamation_mark, Patterns.PatternModel, Reading.pattern_of}
+use Rattle.lc_rules.specs.{Bytes.{hash, quotation_mark}, RuleLines.lines_of, Attributes.{AssignmentModel, MacroModel}, AttrWords.is_white}
+use Rattle.lc_rules.specs.{AttrWords.{is_some_word, words, is_name, assigns}, AttrQuotes.unquoted}
 
 -- a line with a pattern, and the assignments for the paths that the pattern matches
 pub record PatternLineModel : Type 0 where

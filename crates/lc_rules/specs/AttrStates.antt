@@ -1,12 +1,8 @@
 -- What a chain of attribute files says of a path: gitattributes(5), DESCRIPTION, on the order of precedence.
-use Rattle.std.specs.Prelude.{ℕ, Bool, if◌then◌else◌, List, [], ◌∷◌, ◌++◌, reverse, Option, Some, None, unwrap_or, codes}
-use Rattle.std.specs.Str.{bytes_eq}
+use Rattle.std.specs.{Prelude.{ℕ, Bool, if◌then◌else◌, List, [], ◌∷◌, ◌++◌, reverse, Option, Some, None, unwrap_or, codes}, Str.bytes_eq}
 use Rattle.lc_glob.specs.IsMatch.{is_match}
-use Rattle.lc_rules.specs.Attributes.{StateModel, set, unset, value, unspecified, AssignmentModel, MacroModel}
-use Rattle.lc_rules.specs.AttrLines.{PatternLineModel, AttrFileModel}
-use Rattle.lc_rules.specs.Decision.{decided, decide}
-use Rattle.lc_rules.specs.Verdicts.{below}
-use Rattle.lc_rules.specs.declared.states.TextState.{TextState}
+use Rattle.lc_rules.specs.{Attributes.{StateModel, set, unset, value, unspecified, AssignmentModel, MacroModel}, AttrLines.PatternLineModel}
+use Rattle.lc_rules.specs.{AttrLines.AttrFileModel, Decision.{decided, decide}, Verdicts.below, declared.states.TextState.TextState}
 use Rattle.lc_rules.specs.declared.states.TextState.TheVariants.{Set, Unset, Auto, Other, Unspecified}
 
 -- the macro `binary`, which is built in

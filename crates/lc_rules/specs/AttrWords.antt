@@ -1,12 +1,9 @@
 -- The words of an attribute line: gitattributes(5), DESCRIPTION.
-use Rattle.std.specs.Prelude.{◌≡◌, ℕ, Bool, false, not, ◌==◌, ◌&&◌, ◌||◌, nat_lt, nat_le, if◌then◌else◌, List, []}
-use Rattle.std.specs.Prelude.{◌∷◌, ◌++◌, length, filter}
-use Rattle.std.specs.Prelude.{Option, Some, None}
-use Rattle.std.specs.List.{slice_split, list_all, before_first, after_first, position_or_len}
-use Rattle.lc_glob.specs.Bytes.{exclamation_mark, hyphen}
-use Rattle.lc_glob.specs.Pieces.{is_byte}
-use Rattle.lc_rules.specs.Bytes.{space, tab, carriage_return, equals_sign}
-use Rattle.lc_rules.specs.Attributes.{StateModel, set, unset, value, unspecified, AssignmentModel}
+use Rattle.std.specs.Prelude.{◌≡◌, ℕ, Bool, false, not, ◌==◌, ◌&&◌, ◌||◌, nat_lt, nat_le, if◌then◌else◌, List, [], ◌∷◌, ◌++◌, length}
+use Rattle.std.specs.{Prelude.{filter, Option, Some, None}, List.{slice_split, list_all, before_first, after_first, position_or_len}}
+use Rattle.lc_glob.specs.{Bytes.{exclamation_mark, hyphen}, Pieces.is_byte}
+use Rattle.lc_rules.specs.{Bytes.{space, tab, carriage_return, equals_sign}, Attributes.{StateModel, set, unset, value, unspecified}}
+use Rattle.lc_rules.specs.Attributes.{AssignmentModel}
 
 -- white space
 abbrev pub is_white : ℕ → Bool

@@ -1,10 +1,7 @@
 -- Which lines of an ignore file give rules that match nothing.
 use Rattle.std.specs.Prelude.{◌≡◌, ℕ, Bool, true, false, not, ◌&&◌, ◌||◌, ◌==◌, if◌then◌else◌, List, [], ◌∷◌, Option, Some, None}
-use Rattle.std.specs.Prelude.{MatchOption}
-use Rattle.std.specs.List.{list_any}
-use Rattle.lc_glob.specs.Bytes.{backslash, dot, exclamation_mark, opening}
-use Rattle.lc_glob.specs.IsMatch.{is_match}
-use Rattle.lc_glob.specs.Path.{is_good_path, segments_of}
+use Rattle.std.specs.{Prelude.MatchOption, List.list_any}
+use Rattle.lc_glob.specs.{Bytes.{backslash, dot, exclamation_mark, opening}, IsMatch.is_match, Path.{is_good_path, segments_of}}
 use Rattle.lc_rules.specs.IgnoreRules.{RuleModel, rule_of_line, text_of_line}
 
 -- a rule that matches no path of an entry, seen from the directory of the rule's file

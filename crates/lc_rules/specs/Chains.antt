@@ -1,7 +1,5 @@
 -- A chain of files from the top down, each with its depth.
-use Rattle.std.specs.Prelude.{ℕ, List, [], ◌∷◌, ◌++◌, Option, Some, None}
-use Rattle.std.specs.declared.sync.Arc.{Arc}
-use Rattle.std.specs.Arc.{arc_value}
+use Rattle.std.specs.{Prelude.{ℕ, List, [], ◌∷◌, ◌++◌, Option, Some, None}, declared.sync.Arc.Arc, Arc.arc_value}
 use Rattle.smallvec.specs.SmallVec.{SmallVec}
 
 -- a chain with one more file, which overrides all files before it, or the unchanged chain if there is no file

@@ -1,7 +1,6 @@
 -- Which assignment decides each attribute of a path: gitattributes(5), DESCRIPTION and USING MACRO ATTRIBUTES.
 use Rattle.std.specs.Prelude.{◌≡◌, ℕ, zero, suc, ◌+◌, Bool, true, false, if◌then◌else◌, List, [], ◌∷◌, ◌++◌, length, reverse, Option}
-use Rattle.std.specs.Prelude.{Some, None, is_some, unwrap_or}
-use Rattle.std.specs.Str.{bytes_eq}
+use Rattle.std.specs.{Prelude.{Some, None, is_some, unwrap_or}, Str.bytes_eq}
 use Rattle.lc_rules.specs.Attributes.{StateModel, set, unset, value, unspecified, AssignmentModel, MacroModel}
 
 -- the state that a list of decided names has for a name

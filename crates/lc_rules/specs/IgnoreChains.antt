@@ -1,12 +1,7 @@
 -- Chains of ignore files: gitignore(5), DESCRIPTION, on the order of precedence.
-use Rattle.std.specs.Prelude.{ℕ, Bool, false, List, [], ◌∷◌, ◌++◌, Option, Some, None}
-use Rattle.std.specs.Option.{option_or}
-use Rattle.std.specs.declared.sync.Arc.{Arc}
-use Rattle.lc_rules.specs.Chains.{lent, with_file}
-use Rattle.lc_rules.specs.IgnoreRules.{RuleModel}
-use Rattle.lc_rules.specs.Verdicts.{at_depth, from_file}
-use Rattle.lc_rules.specs.declared.rule_source.RuleSource.{RuleSource}
-use Rattle.lc_rules.specs.declared.rule_source.RuleSource.TheVariants.{ExcludeFrom, InfoExclude, CommandLine}
+use Rattle.std.specs.{Prelude.{ℕ, Bool, false, List, [], ◌∷◌, ◌++◌, Option, Some, None}, Option.option_or, declared.sync.Arc.Arc}
+use Rattle.lc_rules.specs.{Chains.{lent, with_file}, IgnoreRules.RuleModel, Verdicts.{at_depth, from_file}}
+use Rattle.lc_rules.specs.declared.rule_source.RuleSource.{RuleSource, TheVariants.{ExcludeFrom, InfoExclude, CommandLine}}
 
 -- the rules for a directory's entries: the exclude file, that of `.git/info`, those of the tree from the top down, each with the depth of
 -- its directory, and the patterns of the command line; and whether no ignore file of the tree is read

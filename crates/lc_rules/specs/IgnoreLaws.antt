@@ -1,13 +1,9 @@
 -- What holds of the rules of ignore files and of the rule that decides.
-use Rattle.std.specs.Prelude.{◌≡◌, ◌<◌, ◌+◌, ℕ, Bool, true, false, List, [], ◌∷◌, ◌++◌, length, Some, None, MatchOption}
-use Rattle.std.specs.List.{All, list_any, slice_index_or}
-use Rattle.std.specs.Option.{option_or}
-use Rattle.lc_rules.specs.IgnoreChains.{ChainModel, rules_if, rules_in, with_given}
-use Rattle.lc_rules.specs.IgnoreRules.{RuleModel, rule_of_line, rules_of}
-use Rattle.lc_rules.specs.RuleLines.{lines_of}
-use Rattle.lc_rules.specs.declared.rule_source.RuleSource.{RuleSource}
-use Rattle.lc_rules.specs.declared.rule_source.RuleSource.TheVariants.{CommandLine}
-use Rattle.lc_rules.specs.Verdicts.{rule_matches, last_match}
+use Rattle.std.specs.{Prelude.{◌≡◌, ◌<◌, ◌+◌, ℕ, Bool, true, false, List, [], ◌∷◌, ◌++◌, length, Some, None, MatchOption}, List.All}
+use Rattle.std.specs.{List.{list_any, slice_index_or}, Option.option_or}
+use Rattle.lc_rules.specs.{IgnoreChains.{ChainModel, rules_if, rules_in, with_given}, IgnoreRules.{RuleModel, rule_of_line, rules_of}}
+use Rattle.lc_rules.specs.{RuleLines.lines_of, declared.rule_source.RuleSource.{RuleSource, TheVariants.CommandLine}, Verdicts.rule_matches}
+use Rattle.lc_rules.specs.Verdicts.{last_match}
 
 -- a rule that is among the rules and matches, after which no rule matches
 pub record IsLastMatch (rules : List (RuleSource × RuleModel)) (path : List ℕ) (is_dir : Bool)

@@ -1,11 +1,8 @@
 -- The rules of an ignore file: gitignore(5), PATTERN FORMAT.
-use Rattle.std.specs.Prelude.{ℕ, Bool, true, false, ◌==◌, if◌then◌else◌, List, [], ◌∷◌, map, Option, Some, None}
-use Rattle.std.specs.List.{filter_map, enumerate_from}
-use Rattle.lc_glob.specs.Bytes.{backslash, exclamation_mark}
-use Rattle.lc_glob.specs.Patterns.{PatternModel}
-use Rattle.lc_glob.specs.Reading.{pattern_of}
-use Rattle.lc_rules.specs.Bytes.{carriage_return, space, hash}
-use Rattle.lc_rules.specs.RuleLines.{lines_of}
+use Rattle.std.specs.{Prelude.{ℕ, Bool, true, false, ◌==◌, if◌then◌else◌, List, [], ◌∷◌, map, Option, Some, None}, List.filter_map}
+use Rattle.std.specs.List.{enumerate_from}
+use Rattle.lc_glob.specs.{Bytes.{backslash, exclamation_mark}, Patterns.PatternModel, Reading.pattern_of}
+use Rattle.lc_rules.specs.{Bytes.{carriage_return, space, hash}, RuleLines.lines_of}
 
 -- a rule: the number of its line, counted from 1; whether it includes again what an earlier rule ignored; and its pattern,
 -- perhaps a dead one

@@ -1,16 +1,9 @@
 -- The macros that the code knows while it decides one attribute.
-use Rattle.std.specs.Prelude.{ℕ, Bool, ◌||◌, List, [], ◌∷◌, ◌++◌, reverse, Option, Some, None, is_some}
-use Rattle.std.specs.Str.{bytes_eq}
-use Rattle.std.specs.List.{list_any}
+use Rattle.std.specs.{Prelude.{ℕ, Bool, ◌||◌, List, [], ◌∷◌, ◌++◌, reverse, Option, Some, None, is_some}, Str.bytes_eq, List.list_any}
 use Rattle.std.specs.Borrow.{Bor}
-use Rattle.lc_rules.specs.Attributes.{StateModel, set, unset, value, unspecified, AssignmentModel, MacroModel}
-use Rattle.lc_rules.specs.AttrLines.{PatternLineModel}
-use Rattle.lc_rules.specs.AttrStates.{binary}
-use Rattle.lc_rules.specs.WrittenLines.{assigned}
-use Rattle.lc_rules.specs.Decision.{macro_of}
-use Rattle.lc_rules.specs.declared.known_macros.KnownMacros.{KnownMacros}
-use Rattle.lc_rules.specs.declared.known_macros.MacroBody.{MacroBody}
-use Rattle.lc_rules.specs.declared.known_macros.MacroBody.TheVariants.{Defined, Binary}
+use Rattle.lc_rules.specs.{Attributes.{StateModel, set, unset, value, unspecified, AssignmentModel, MacroModel}, AttrLines.PatternLineModel}
+use Rattle.lc_rules.specs.{AttrStates.binary, WrittenLines.assigned, Decision.macro_of}
+use Rattle.lc_rules.specs.declared.known_macros.{KnownMacros.KnownMacros, MacroBody.{MacroBody, TheVariants.{Defined, Binary}}}
 use Rattle.lc_rules.specs.declared.resolver.Query.{Query}
 
 -- the macros of a table, or none if there is no table

@@ -1,6 +1,5 @@
 -- Where the last word of an attribute line begins.
-use Rattle.std.specs.Prelude.{◌≡◌, ℕ, false, true, List, [], ◌∷◌, ◌++◌, take, drop}
-use Rattle.std.specs.List.{list_any}
+use Rattle.std.specs.{Prelude.{◌≡◌, ℕ, false, true, List, [], ◌∷◌, ◌++◌, take, drop}, List.list_any}
 use Rattle.lc_rules.specs.AttrWords.{is_white}
 
 -- the bytes don't end with white space

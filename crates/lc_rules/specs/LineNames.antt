@@ -1,15 +1,8 @@
 -- The names that lines assign.
-use Rattle.std.specs.Prelude.{◌≡◌, ℕ, Bool, true, false, List, Vec, is_some}
-use Rattle.std.specs.List.{list_any}
-use Rattle.std.specs.Str.{bytes_eq}
-use Rattle.std.specs.Ordering.{nat_cmp}
-use Rattle.std.specs.Cmp.Lexicographic.{slice_cmp}
+use Rattle.std.specs.{Prelude.{◌≡◌, ℕ, Bool, true, false, List, Vec, is_some}, List.list_any, Str.bytes_eq, Ordering.nat_cmp}
+use Rattle.std.specs.{Cmp.Lexicographic.slice_cmp, BTreeSet.BTreeSet, Global.Global}
+use Rattle.lc_rules.specs.{Attributes.{AssignmentModel, MacroModel}, Decision.macro_of, AttrLines.PatternLineModel}
 use Rattle.std.specs.BTreeSet as tree
-use Rattle.std.specs.BTreeSet.{BTreeSet}
-use Rattle.std.specs.Global.{Global}
-use Rattle.lc_rules.specs.Attributes.{AssignmentModel, MacroModel}
-use Rattle.lc_rules.specs.Decision.{macro_of}
-use Rattle.lc_rules.specs.AttrLines.{PatternLineModel}
 
 -- whether some assignment is of a name
 abbrev pub assigns_name : List AssignmentModel → List ℕ → Bool

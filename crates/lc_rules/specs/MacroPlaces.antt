@@ -1,12 +1,8 @@
 -- The places of the macros of a file, by their names.
-use Rattle.std.specs.Prelude.{◌≡◌, ℕ, suc, if◌then◌else◌, List, [], ◌∷◌, Option, Some, None, Vec}
-use Rattle.std.specs.Str.{bytes_eq}
-use Rattle.std.specs.Ordering.{nat_cmp}
-use Rattle.std.specs.Cmp.Lexicographic.{slice_cmp}
-use Rattle.std.specs.BTreeMap as tree
-use Rattle.std.specs.BTreeMap.{BTreeMap}
-use Rattle.std.specs.Global.{Global}
+use Rattle.std.specs.{Prelude.{◌≡◌, ℕ, suc, if◌then◌else◌, List, [], ◌∷◌, Option, Some, None, Vec}, Str.bytes_eq, Ordering.nat_cmp}
+use Rattle.std.specs.{Cmp.Lexicographic.slice_cmp, BTreeMap.BTreeMap, Global.Global}
 use Rattle.lc_rules.specs.Attributes.{MacroModel}
+use Rattle.std.specs.BTreeMap as tree
 
 -- the place of a name in a list with one more element at its front: one more than the place in the rest of the list, or else the front's
 abbrev pub place_behind : Option ℕ → Option ℕ → Option ℕ

@@ -1,18 +1,11 @@
 -- The values of the code's types, as definitions see them.
 use Rattle.std.specs.Prelude.{ℕ, List, Option, Some, None}
 use Rattle.lc_glob.specs.Reading.{pattern_of}
-use Rattle.lc_rules.specs.Attributes.{StateModel, set, unset, value, unspecified, AssignmentModel, MacroModel}
-use Rattle.lc_rules.specs.AttrLines.{PatternLineModel, AttrLineModel, macro_line, pattern_line}
-use Rattle.lc_rules.specs.WrittenLines.{assigned}
-use Rattle.lc_rules.specs.declared.states.State.{State}
-use Rattle.lc_rules.specs.declared.states.State.TheVariants.{Set, Unset, Value, Unspecified}
-use Rattle.lc_rules.specs.declared.assignment.Assignment.{Assignment}
-use Rattle.lc_rules.specs.declared.attr_line.AttrLine.{AttrLine}
-use Rattle.lc_rules.specs.declared.attr_line.AttrLine.TheVariants.{Macro, Pattern}
-use Rattle.lc_rules.specs.declared.attr_line.MacroLine.{MacroLine}
-use Rattle.lc_rules.specs.declared.attr_line.PatternLine.{PatternLine}
-use Rattle.lc_rules.specs.declared.attr_line.PatternText.{PatternText}
-use Rattle.lc_rules.specs.declared.attr_line.PatternText.TheVariants.{Written, Unquoted}
+use Rattle.lc_rules.specs.{Attributes.{StateModel, set, unset, value, unspecified, AssignmentModel, MacroModel}, AttrLines.PatternLineModel}
+use Rattle.lc_rules.specs.{AttrLines.{AttrLineModel, macro_line, pattern_line}, WrittenLines.assigned}
+use Rattle.lc_rules.specs.declared.{states.State.{State, TheVariants.{Set, Unset, Value, Unspecified}}, assignment.Assignment.Assignment}
+use Rattle.lc_rules.specs.declared.attr_line.{AttrLine.{AttrLine, TheVariants.{Macro, Pattern}}, MacroLine.MacroLine}
+use Rattle.lc_rules.specs.declared.attr_line.{PatternLine.PatternLine, PatternText.{PatternText, TheVariants.{Written, Unquoted}}}
 use Rattle.lc_rules.specs.declared.macro_table.Macro.{Macro as CodeMacro}
 
 -- the state of an attribute

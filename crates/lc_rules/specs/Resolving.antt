@@ -1,15 +1,9 @@
 -- How far the code has decided one attribute.
 use Rattle.std.specs.Prelude.{◌≡◌, ℕ, ◌+◌, Bool, false, List, [], ◌∷◌, ◌++◌, length, map, reverse, Option, Some, MatchOption, IfNone}
-use Rattle.std.specs.Borrow.{Bor}
-use Rattle.std.specs.BTreeSet.{BTreeSet}
-use Rattle.lc_rules.specs.Attributes.{StateModel, set, AssignmentModel, MacroModel}
-use Rattle.lc_rules.specs.Decision.{decided, has, unread, decide}
-use Rattle.lc_rules.specs.Models.{assignment_model, seen_state}
-use Rattle.lc_rules.specs.KnownMacros.{macros_for}
-use Rattle.lc_rules.specs.declared.resolver.Query.{Query}
-use Rattle.lc_rules.specs.declared.resolver.Resolver.{Resolver}
-use Rattle.lc_rules.specs.declared.states.State.{State}
-use Rattle.lc_rules.specs.declared.assignment.Assignment.{Assignment}
+use Rattle.std.specs.{Borrow.Bor, BTreeSet.BTreeSet}
+use Rattle.lc_rules.specs.{Attributes.{StateModel, set, AssignmentModel, MacroModel}, Decision.{decided, has, unread, decide}}
+use Rattle.lc_rules.specs.{Models.{assignment_model, seen_state}, KnownMacros.macros_for}
+use Rattle.lc_rules.specs.declared.{resolver.{Query.Query, Resolver.Resolver}, states.State.State, assignment.Assignment.Assignment}
 
 -- these names as decided ones, all in one state, since only whether they are decided matters
 abbrev pub marked : List (List ℕ) → List AssignmentModel

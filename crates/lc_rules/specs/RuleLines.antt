@@ -1,6 +1,5 @@
 -- The lines of an ignore file or an attribute file.
-use Rattle.std.specs.Prelude.{ℕ, ◌==◌, ◌&&◌, if◌then◌else◌, List, ◌∷◌, Option}
-use Rattle.std.specs.Borrow.{Bor}
+use Rattle.std.specs.{Prelude.{ℕ, ◌==◌, ◌&&◌, if◌then◌else◌, List, ◌∷◌, Option}, Borrow.Bor}
 use Rattle.lc_glob.specs.Pieces.{pieces_of, pieces_left}
 use Rattle.lc_rules.specs.Bytes.{line_feed}
 

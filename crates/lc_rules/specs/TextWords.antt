@@ -1,7 +1,6 @@
 -- The words of the states of the attribute `text`.
 use Rattle.std.specs.Prelude.{ℕ, List, codes, Option, Some, None}
-use Rattle.lc_rules.specs.declared.states.TextState.{TextState}
-use Rattle.lc_rules.specs.declared.states.TextState.TheVariants.{Set, Unset, Auto, Other, Unspecified}
+use Rattle.lc_rules.specs.declared.states.TextState.{TextState, TheVariants.{Set, Unset, Auto, Other, Unspecified}}
 
 -- the word by which reports name a state; an unspecified attribute has none
 abbrev pub text_word : TextState → Option (List ℕ)

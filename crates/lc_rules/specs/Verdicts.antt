@@ -1,14 +1,9 @@
 -- What rules say of a path: gitignore(5), DESCRIPTION, on the order of precedence.
-use Rattle.std.specs.Prelude.{ℕ, zero, suc, Bool, if◌then◌else◌, List, map, filter, Option, Some, None}
-use Rattle.std.specs.List.{after_first, last_or}
-use Rattle.lc_glob.specs.Bytes.{slash}
-use Rattle.lc_glob.specs.Pieces.{is_byte}
-use Rattle.lc_glob.specs.IsMatch.{is_match}
+use Rattle.std.specs.{Prelude.{ℕ, zero, suc, Bool, if◌then◌else◌, List, map, filter, Option, Some, None}, List.{after_first, last_or}}
+use Rattle.lc_glob.specs.{Bytes.slash, Pieces.is_byte, IsMatch.is_match}
 use Rattle.lc_rules.specs.IgnoreRules.{RuleModel}
-use Rattle.lc_rules.specs.declared.rule_source.RuleSource.{RuleSource}
-use Rattle.lc_rules.specs.declared.rule_source.RuleSource.TheVariants.{ExcludeFrom, InfoExclude, Gitignore, CommandLine}
-use Rattle.lc_rules.specs.declared.verdicts.Verdict.{Verdict}
-use Rattle.lc_rules.specs.declared.verdicts.Verdict.TheVariants.{Ignored, Included, NoRule}
+use Rattle.lc_rules.specs.declared.rule_source.RuleSource.{RuleSource, TheVariants.{ExcludeFrom, InfoExclude, Gitignore, CommandLine}}
+use Rattle.lc_rules.specs.declared.verdicts.Verdict.{Verdict, TheVariants.{Ignored, Included, NoRule}}
 
 -- a path without its first segments: the path as seen from a directory at this depth
 abbrev pub below : ℕ → List ℕ → List ℕ

@@ -1,14 +1,9 @@
 -- The lines of an attribute file as they are written in its text.
 use Rattle.std.specs.Prelude.{ℕ, ◌==◌, if◌then◌else◌, List, [], ◌∷◌, ◌++◌, drop, map, slice_index_or, Bool, Option, Some, None}
 use Rattle.std.specs.List.{before_first, filter_map, position_or_len}
-use Rattle.lc_glob.specs.Patterns.{PatternModel, dead}
-use Rattle.lc_glob.specs.Pieces.{is_byte}
-use Rattle.lc_glob.specs.Reading.{pattern_of}
-use Rattle.lc_rules.specs.Bytes.{line_feed, quotation_mark}
-use Rattle.lc_rules.specs.Attributes.{AssignmentModel}
-use Rattle.lc_rules.specs.AttrWords.{is_white, words, assign}
-use Rattle.lc_rules.specs.AttrQuotes.{unquoted}
-use Rattle.lc_rules.specs.AttrLines.{PatternLineModel}
+use Rattle.lc_glob.specs.{Patterns.{PatternModel, dead}, Pieces.is_byte, Reading.pattern_of}
+use Rattle.lc_rules.specs.{Bytes.{line_feed, quotation_mark}, Attributes.AssignmentModel, AttrWords.{is_white, words, assign}}
+use Rattle.lc_rules.specs.{AttrQuotes.unquoted, AttrLines.PatternLineModel}
 
 -- the assignments among these words; in a line that gives something, all words are assignments
 abbrev pub assigned : List ℕ → List AssignmentModel

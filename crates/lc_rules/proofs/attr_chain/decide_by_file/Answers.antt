@@ -1,10 +1,7 @@
 use Rattle.std.proofs.Common.{refl, ◌∙◌, sym, ap}
 use Rattle.std.specs.List.{list_any}
-use Rattle.lc_rules.specs.Attributes.{AssignmentModel}
-use Rattle.lc_rules.specs.AttrLines.{PatternLineModel}
-use Rattle.lc_rules.specs.KnownMacros.{macros_for, matters}
-use Rattle.lc_rules.proofs.Deciding.{none_decides}
-use Rattle.lc_rules.proofs.ReadingOrder.{lines_none}
+use Rattle.lc_rules.specs.{Attributes.AssignmentModel, AttrLines.PatternLineModel, KnownMacros.{macros_for, matters}}
+use Rattle.lc_rules.proofs.{Deciding.none_decides, ReadingOrder.lines_none}
 use Rattle.lc_rules.proofs.attr_chain.decide_by_file.Goals as goal
 
 pub returns-then-not-can_decide : goal.returns-then-not-can_decide

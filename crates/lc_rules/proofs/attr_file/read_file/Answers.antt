@@ -1,11 +1,7 @@
 use Rattle.std.proofs.Common.{◌≡◌, ◌+◌, ◌-◌, ◌∙◌, ◌++◌, ℕ, List, Option, Some, refl, ap, sym, subst, arith, length, rules}
-use Rattle.std.specs.Prelude.{IfSome}
-use Rattle.std.specs.List.{filter_map}
-use Rattle.std.specs.Borrow.{Bor}
-use Rattle.lc_rules.specs.AttrLines.{given_by, given_lines, macro_line, pattern_line, macro_in, line_in}
-use Rattle.lc_rules.specs.AttrWords.{IsEndOf}
-use Rattle.lc_rules.specs.Models.{seen_line, attr_line_model, macro_line_model, pattern_line_model}
-use Rattle.lc_rules.specs.RuleLines.{lines_left}
+use Rattle.std.specs.{Prelude.IfSome, List.filter_map, Borrow.Bor}
+use Rattle.lc_rules.specs.{AttrLines.{given_by, given_lines, macro_line, pattern_line, macro_in, line_in}, AttrWords.IsEndOf}
+use Rattle.lc_rules.specs.{Models.{seen_line, attr_line_model, macro_line_model, pattern_line_model}, RuleLines.lines_left}
 use Rattle.lc_rules.specs.WrittenLines.{LineTableModel, halves, line_of, line_from}
 use Rattle.lc_rules.proofs.LinePlaces.{given_pattern, line_place, place_next, place_within, picks_line, passes_line}
 use Rattle.lc_rules.proofs.RuleLineNumbers.{without_mark_le}

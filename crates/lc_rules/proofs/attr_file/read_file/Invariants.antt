@@ -1,9 +1,6 @@
 use Rattle.std.proofs.Common.{◌≡◌, length, ◌++◌}
-use Rattle.std.specs.Prelude.{IfSome}
-use Rattle.std.specs.List.{filter_map}
-use Rattle.lc_rules.specs.AttrLines.{attribute_lines_of, given_lines, macro_in, line_in}
-use Rattle.lc_rules.specs.AttrWords.{IsEndOf}
-use Rattle.lc_rules.specs.RuleLines.{lines_left}
+use Rattle.std.specs.{Prelude.IfSome, List.filter_map}
+use Rattle.lc_rules.specs.{AttrLines.{attribute_lines_of, given_lines, macro_in, line_in}, AttrWords.IsEndOf, RuleLines.lines_left}
 use Rattle.lc_rules.proofs.attr_file.read_file.Given as goal
 
 abbrev pub invariant-lines : goal.invariant-lines

@@ -1,7 +1,4 @@
-use Rattle.std.proofs.Common.{◌<◌, ◌∙◌, sym, arith, length, length-drop}
-use Rattle.std.proofs.lemmas.Bool.Decides.{Decides-eqb}
-use Rattle.std.proofs.lemmas.Bool.{false≢true}
-use Rattle.std.proofs.lemmas.List.{take_rest}
+use Rattle.std.proofs.{Common.{◌<◌, ◌∙◌, sym, arith, length, length-drop}, lemmas.{Bool.{Decides.Decides-eqb, false≢true}, List.take_rest}}
 use Rattle.lc_rules.proofs.WordCuts.{first_word_of, none_trimmed, rest_less}
 use Rattle.lc_rules.proofs.attr_words.split_word.Goals as goal
 

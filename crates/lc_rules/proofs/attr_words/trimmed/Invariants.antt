@@ -1,6 +1,5 @@
 use Rattle.std.proofs.Common.{◌≡◌, ◌≤◌, length}
-use Rattle.lc_rules.specs.AttrLines.{trimmed}
-use Rattle.lc_rules.specs.AttrWords.{IsEndOf}
+use Rattle.lc_rules.specs.{AttrLines.trimmed, AttrWords.IsEndOf}
 use Rattle.lc_rules.proofs.attr_words.trimmed.Given as goal
 
 abbrev pub invariant-bytes : goal.invariant-bytes

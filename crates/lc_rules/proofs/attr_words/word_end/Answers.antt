@@ -1,5 +1,4 @@
-use Rattle.std.proofs.Common.{◌∙◌, sym, arith, length}
-use Rattle.std.proofs.lemmas.List.Sums.{position_or_len_is}
+use Rattle.std.proofs.{Common.{◌∙◌, sym, arith, length}, lemmas.List.Sums.position_or_len_is}
 use Rattle.lc_rules.specs.AttrWords.{is_white}
 use Rattle.lc_rules.proofs.attr_words.word_end.Goals as goal
 

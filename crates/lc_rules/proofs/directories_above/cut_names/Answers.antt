@@ -1,5 +1,4 @@
-use Rattle.std.proofs.Common.{◌∙◌, ◌++◌, ◌∷◌, ◌≡◌, [], ℕ, List, Option, Bor, ap, subst, arith, MatchOption, refl}
-use Rattle.std.proofs.lemmas.List.{length-set}
+use Rattle.std.proofs.{Common.{◌∙◌, ◌++◌, ◌∷◌, ◌≡◌, [], ℕ, List, Option, Bor, ap, subst, arith, MatchOption, refl}, lemmas.List.length-set}
 use Rattle.lc_glob.specs.Pieces.{pieces_left}
 use Rattle.lc_rules.proofs.AboveRules.{one_segment, whole_more, closed_more, cut_more}
 use Rattle.lc_rules.proofs.directories_above.cut_names.Goals as goal

@@ -1,6 +1,5 @@
 use Rattle.std.proofs.Common.{◌≡◌, ◌≤◌, ◌-◌, ◌++◌, ℕ, List, length, take}
-use Rattle.lc_glob.specs.Above.{names_of}
-use Rattle.lc_glob.specs.Path.{segments_of}
+use Rattle.lc_glob.specs.{Above.names_of, Path.segments_of}
 use Rattle.lc_rules.specs.Above.{AreCut}
 use Rattle.lc_rules.proofs.directories_above.cut_names.Given as goal
 

@@ -1,11 +1,9 @@
-use Rattle.std.proofs.Common.{◌∙◌, ◌∷◌, ◌++◌, ◌-◌, [], append_assoc, ap, arith, length, subst, Bool, cond, Some, None}
-use Rattle.std.proofs.Common.{get_or, false, not, ◌&&◌, ◌||◌}
-use Rattle.std.specs.Prelude.{option_map}
-use Rattle.std.specs.Option.{option_or}
+use Rattle.std.proofs.Common.{◌∙◌, ◌∷◌, ◌++◌, ◌-◌, [], append_assoc, ap, arith, length, subst, Bool, cond, Some, None, get_or, false, not}
+use Rattle.std.proofs.Common.{◌&&◌, ◌||◌}
+use Rattle.std.specs.{Prelude.option_map, Option.option_or}
 use Rattle.lc_glob.specs.Above.{names_of, TellMatches}
 use Rattle.lc_glob.proofs.Above.{names_length}
-use Rattle.lc_rules.proofs.AboveRules.{decided_more, decided_early, own_more, filled_front}
-use Rattle.lc_rules.proofs.RulePlaces.{place_below, pattern_placed}
+use Rattle.lc_rules.proofs.{AboveRules.{decided_more, decided_early, own_more, filled_front}, RulePlaces.{place_below, pattern_placed}}
 use Rattle.lc_rules.proofs.directories_above.decide.Goals as goal
 
 pub returns-in-Some-told_count-clause-decided : goal.returns-in-Some-told_count-clause-decided

@@ -1,7 +1,6 @@
 use Rattle.std.proofs.Common.{◌≡◌, ◌++◌, ◌-◌, length, List}
 use Rattle.lc_glob.specs.Above.{names_of}
-use Rattle.lc_rules.specs.Above.{AreDecided, IsOwn}
-use Rattle.lc_rules.specs.IgnoreRules.{RuleModel}
+use Rattle.lc_rules.specs.{Above.{AreDecided, IsOwn}, IgnoreRules.RuleModel}
 use Rattle.lc_rules.proofs.directories_above.decide.Given as goal
 
 abbrev pub invariant-rules : goal.invariant-rules

@@ -1,6 +1,5 @@
 use Rattle.std.proofs.Common.{◌≡◌, ◌≤◌, ◌<◌, ℕ, cond, length, get_or, false, Some, None}
-use Rattle.std.specs.Prelude.{option_map}
-use Rattle.std.specs.Option.{option_or}
+use Rattle.std.specs.{Prelude.option_map, Option.option_or}
 use Rattle.lc_rules.proofs.directories_above.fill_undecided.Given as goal
 
 abbrev pub invariant-loop-k : goal.invariant-loop-k

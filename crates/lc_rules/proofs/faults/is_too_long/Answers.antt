@@ -1,5 +1,4 @@
-use Rattle.std.proofs.Common.{length}
-use Rattle.std.proofs.lemmas.Bool.{lt-ltb, ltb-true}
+use Rattle.std.proofs.{Common.length, lemmas.Bool.{lt-ltb, ltb-true}}
 use Rattle.lc_rules.specs.Limits.{max_rule_bytes}
 use Rattle.lc_rules.proofs.faults.is_too_long.Goals as goal
 

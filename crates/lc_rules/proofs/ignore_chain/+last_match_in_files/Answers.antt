@@ -1,8 +1,6 @@
 use Rattle.std.proofs.Common.{◌∙◌, None, Some, ap, refl}
 use Rattle.std.specs.Prelude.{option_map}
-use Rattle.lc_rules.specs.IgnoreChains.{joined}
-use Rattle.lc_rules.specs.Verdicts.{last_match, below}
-use Rattle.lc_rules.specs.declared.rule_source.RuleSource.TheVariants.{Gitignore}
+use Rattle.lc_rules.specs.{IgnoreChains.joined, Verdicts.{last_match, below}, declared.rule_source.RuleSource.TheVariants.Gitignore}
 use Rattle.lc_rules.proofs.LastRule.{nearer_decide}
 use Rattle.lc_rules.proofs.ignore_chain.+last_match_in_files.Goals as goal
 

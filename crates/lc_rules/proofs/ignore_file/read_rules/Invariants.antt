@@ -1,7 +1,6 @@
 use Rattle.std.proofs.Common.{◌≡◌, ◌≤◌, ◌+◌, length, ◌++◌}
 use Rattle.std.specs.List.{filter_map, enumerate_from}
-use Rattle.lc_rules.specs.IgnoreRules.{patterns_of, rules_of, rule_of_line}
-use Rattle.lc_rules.specs.Limits.{max_rule_bytes}
+use Rattle.lc_rules.specs.{IgnoreRules.{patterns_of, rules_of, rule_of_line}, Limits.max_rule_bytes}
 use Rattle.lc_rules.proofs.ignore_file.read_rules.Given as goal
 
 abbrev pub invariant-lines : goal.invariant-lines

@@ -1,6 +1,5 @@
 use Rattle.std.proofs.Common.{◌≡◌, map, ◌++◌, length}
-use Rattle.lc_rules.specs.Models.{assignment_model}
-use Rattle.lc_rules.specs.WrittenLines.{assigned}
+use Rattle.lc_rules.specs.{Models.assignment_model, WrittenLines.assigned}
 use Rattle.lc_rules.proofs.known_macros.stack_all.Given as goal
 
 abbrev pub invariant-words : goal.invariant-words

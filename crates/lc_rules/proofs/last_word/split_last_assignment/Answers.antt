@@ -1,7 +1,5 @@
-use Rattle.std.proofs.Common.{◌∙◌, Some, None, ap, sym, rules}
-use Rattle.std.proofs.lemmas.List.{append-nil}
-use Rattle.lc_rules.specs.Models.{assignment_model, seen_assign}
-use Rattle.lc_rules.specs.WrittenLines.{assigned}
+use Rattle.std.proofs.{Common.{◌∙◌, Some, None, ap, sym, rules}, lemmas.List.append-nil}
+use Rattle.lc_rules.specs.{Models.{assignment_model, seen_assign}, WrittenLines.assigned}
 use Rattle.lc_rules.proofs.LastWords.{assigned_last}
 use Rattle.lc_rules.proofs.last_word.split_last_assignment.Goals as goal
 

@@ -1,7 +1,5 @@
 use Rattle.std.proofs.Common.{◌<◌, ◌≤◌, ◌∙◌, ◌∷◌, [], ◌++◌, sym, ap, arith, length, take, drop}
-use Rattle.std.proofs.lemmas.Bool.Decides.{Decides-eqb}
-use Rattle.std.proofs.lemmas.Bool.{false≢true}
-use Rattle.std.proofs.lemmas.List.{take-append-drop, take_rest}
+use Rattle.std.proofs.lemmas.{Bool.{Decides.Decides-eqb, false≢true}, List.{take-append-drop, take_rest}}
 use Rattle.lc_rules.specs.AttrWords.{words}
 use Rattle.lc_rules.proofs.LastWords.{words_last, last_word_some, front_less}
 use Rattle.lc_rules.proofs.last_word.split_last_word.Goals as goal

@@ -1,6 +1,5 @@
 use Rattle.std.proofs.Common.{refl}
-use Rattle.lc_rules.proofs.NameKeys.{kept, inserted}
-use Rattle.lc_rules.proofs.DecisionLaws.{bytes_self}
+use Rattle.lc_rules.proofs.{NameKeys.{kept, inserted}, DecisionLaws.bytes_self}
 use Rattle.lc_rules.proofs.line_table.add_name.Goals as goal
 
 pub returns-clause-keeps : goal.returns-clause-keeps

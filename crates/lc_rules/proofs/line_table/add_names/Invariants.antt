@@ -1,6 +1,5 @@
 use Rattle.std.proofs.Common.{◌≡◌, ℕ, true, List, ◌||◌, length}
-use Rattle.lc_rules.specs.LineNames.{assigns_name, has_name}
-use Rattle.lc_rules.specs.WrittenLines.{assigned}
+use Rattle.lc_rules.specs.{LineNames.{assigns_name, has_name}, WrittenLines.assigned}
 use Rattle.lc_rules.proofs.line_table.add_names.Given as goal
 
 abbrev pub invariant-words : goal.invariant-words

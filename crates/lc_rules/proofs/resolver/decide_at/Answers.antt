@@ -1,9 +1,8 @@
 use Rattle.std.proofs.Common.{◌∙◌, sym}
-use Rattle.lc_rules.specs.Models.{state_model, assignment_model}
-use Rattle.lc_rules.specs.Resolving.{names_in, stacked}
-use Rattle.lc_rules.specs.KnownMacros.{macros_for, macro_body_model}
-use Rattle.lc_rules.proofs.Moving.{moves_found, moves_plain, moves_seen, moves_macro, macro_to_read}
-use Rattle.lc_rules.proofs.NameKeys.{names_in-contains, names_in-insert}
+use Rattle.lc_rules.specs.{Models.{state_model, assignment_model}, Resolving.{names_in, stacked}, KnownMacros.macros_for}
+use Rattle.lc_rules.specs.KnownMacros.{macro_body_model}
+use Rattle.lc_rules.proofs.{Moving.{moves_found, moves_plain, moves_seen, moves_macro, macro_to_read}, NameKeys.names_in-contains}
+use Rattle.lc_rules.proofs.NameKeys.{names_in-insert}
 use Rattle.lc_rules.proofs.resolver.decide_at.Goals as goal
 
 pub returns-then-eq-clause-moves : goal.returns-then-eq-clause-moves

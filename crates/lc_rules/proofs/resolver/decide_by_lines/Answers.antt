@@ -1,11 +1,7 @@
-use Rattle.std.proofs.Common.{◌≡◌, ◌∙◌, ◌++◌, ℕ, List, None, Some, ap, arith, length, reverse, sym, take}
-use Rattle.std.proofs.Math.Seq.{take-length}
+use Rattle.std.proofs.{Common.{◌≡◌, ◌∙◌, ◌++◌, ℕ, List, None, Some, ap, arith, length, reverse, sym, take}, Math.Seq.take-length}
 use Rattle.std.proofs.lemmas.List.{length-map}
-use Rattle.lc_rules.specs.Attributes.{AssignmentModel}
-use Rattle.lc_rules.specs.AttrLines.{PatternLineModel}
-use Rattle.lc_rules.specs.AttrStates.{by_lines}
-use Rattle.lc_rules.proofs.Deciding.{all_passed, next_decides, next_passes, none_passed}
-use Rattle.lc_rules.proofs.ReadingOrder.{next_line}
+use Rattle.lc_rules.specs.{Attributes.AssignmentModel, AttrLines.PatternLineModel, AttrStates.by_lines}
+use Rattle.lc_rules.proofs.{Deciding.{all_passed, next_decides, next_passes, none_passed}, ReadingOrder.next_line}
 use Rattle.lc_rules.proofs.resolver.decide_by_lines.Goals as goal
 
 pub lines-init : goal.lines-init

@@ -1,7 +1,6 @@
 use Rattle.std.proofs.Common.{reverse}
 use Rattle.lc_rules.specs.WrittenLines.{assigned}
-use Rattle.lc_rules.proofs.Deciding.{next_decides, next_passes}
-use Rattle.lc_rules.proofs.ReadingOrder.{assignments_last}
+use Rattle.lc_rules.proofs.{Deciding.{next_decides, next_passes}, ReadingOrder.assignments_last}
 use Rattle.lc_rules.proofs.resolver.decide_by_words.Goals as goal
 
 pub returns-in-Some-2 : goal.returns-in-Some-2

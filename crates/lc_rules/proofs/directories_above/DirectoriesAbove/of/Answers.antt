@@ -1,5 +1,4 @@
-use Rattle.std.proofs.Common.{◌≤◌, arith, length, take, None}
-use Rattle.std.proofs.lemmas.List.{length-take-le, get_or-replicate}
+use Rattle.std.proofs.{Common.{◌≤◌, arith, length, take, None}, lemmas.List.{length-take-le, get_or-replicate}}
 use Rattle.lc_glob.specs.Above.{names_of}
 use Rattle.lc_rules.proofs.AboveRules.{decided_above, decided_own}
 use Rattle.lc_rules.proofs.directories_above.DirectoriesAbove.of.Goals as goal

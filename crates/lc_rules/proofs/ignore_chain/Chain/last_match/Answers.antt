@@ -1,11 +1,6 @@
 use Rattle.std.proofs.Common.{◌∙◌, ℕ, Bool, List, Option, None, Some, ap, ap₂, refl}
-use Rattle.std.specs.Global.{Global}
-use Rattle.std.specs.declared.sync.Arc.{Arc}
-use Rattle.lc_rules.specs.Chains.{lent}
-use Rattle.lc_rules.specs.IgnoreRules.{RuleModel}
-use Rattle.std.specs.Prelude.{option_map}
-use Rattle.lc_rules.specs.IgnoreChains.{ChainModel, joined, rules_in}
-use Rattle.lc_rules.specs.Verdicts.{last_match}
+use Rattle.std.specs.{Global.Global, declared.sync.Arc.Arc, Prelude.option_map}
+use Rattle.lc_rules.specs.{Chains.lent, IgnoreRules.RuleModel, IgnoreChains.{ChainModel, joined, rules_in}, Verdicts.last_match}
 use Rattle.lc_rules.specs.declared.rule_source.RuleSource.TheVariants.{Gitignore, ExcludeFrom, InfoExclude, CommandLine}
 use Rattle.lc_rules.proofs.LastRule.{chain_decides}
 use Rattle.lc_rules.proofs.ignore_chain.Chain.last_match.Goals as goal

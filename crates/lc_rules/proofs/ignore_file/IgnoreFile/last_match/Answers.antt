@@ -1,10 +1,7 @@
-use Rattle.std.proofs.Common.{◌∙◌, false, None, Some, ap, arith, length}
+use Rattle.std.proofs.{Common.{◌∙◌, false, None, Some, ap, arith, length}, lemmas.List.length-map}
 use Rattle.std.specs.Prelude.{option_map}
-use Rattle.std.proofs.lemmas.List.{length-map}
 use Rattle.lc_glob.specs.Patterns.{dead}
-use Rattle.lc_rules.specs.IgnoreRules.{RuleModel}
-use Rattle.lc_rules.specs.Verdicts.{last_match, at_depth}
-use Rattle.lc_rules.specs.declared.rule_source.RuleSource.TheVariants.{Gitignore}
+use Rattle.lc_rules.specs.{IgnoreRules.RuleModel, Verdicts.{last_match, at_depth}, declared.rule_source.RuleSource.TheVariants.Gitignore}
 use Rattle.lc_rules.proofs.LastRule.{pattern_decides}
 use Rattle.lc_rules.proofs.ignore_file.IgnoreFile.last_match.Goals as goal
 

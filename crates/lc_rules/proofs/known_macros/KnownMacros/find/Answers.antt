@@ -1,7 +1,5 @@
 use Rattle.std.proofs.Common.{◌∙◌, [], ◌∷◌, Some, None, rules}
-use Rattle.lc_rules.specs.AttrStates.{binary}
-use Rattle.lc_rules.specs.WrittenLines.{assigned}
-use Rattle.lc_rules.specs.KnownMacros.{defined_in}
+use Rattle.lc_rules.specs.{AttrStates.binary, WrittenLines.assigned, KnownMacros.defined_in}
 use Rattle.lc_rules.proofs.LastMacro.{macro_later, macro_earlier}
 use Rattle.lc_rules.proofs.known_macros.KnownMacros.find.Goals as goal
 

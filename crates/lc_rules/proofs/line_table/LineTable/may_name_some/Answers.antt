@@ -1,7 +1,5 @@
 use Rattle.std.proofs.Common.{refl, subst, List}
-use Rattle.lc_rules.specs.Attributes.{MacroModel}
-use Rattle.lc_rules.specs.KnownMacros.{defined_in}
-use Rattle.lc_rules.specs.LineNames.{NameNone}
+use Rattle.lc_rules.specs.{Attributes.MacroModel, KnownMacros.defined_in, LineNames.NameNone}
 use Rattle.lc_rules.proofs.NamedLines.{none_named}
 use Rattle.lc_rules.proofs.line_table.LineTable.may_name_some.Goals as goal
 

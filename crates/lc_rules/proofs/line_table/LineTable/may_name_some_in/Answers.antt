@@ -1,9 +1,6 @@
 use Rattle.std.proofs.Common.{refl, ◌∙◌, sym, ap, map, take, is_some}
-use Rattle.lc_rules.specs.Models.{macro_model}
-use Rattle.lc_rules.specs.Decision.{macro_of}
-use Rattle.lc_rules.specs.LineNames.{lines_name}
-use Rattle.lc_rules.proofs.LastMacro.{macros-more}
-use Rattle.lc_rules.proofs.NamedLines.{no_macro_more}
+use Rattle.lc_rules.specs.{Models.macro_model, Decision.macro_of, LineNames.lines_name}
+use Rattle.lc_rules.proofs.{LastMacro.macros-more, NamedLines.no_macro_more}
 use Rattle.lc_rules.proofs.line_table.LineTable.may_name_some_in.Goals as goal
 
 pub loop-found-preserved : goal.loop-found-preserved

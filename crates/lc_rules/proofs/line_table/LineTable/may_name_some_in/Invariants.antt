@@ -1,6 +1,5 @@
 use Rattle.std.proofs.Common.{map, take}
-use Rattle.lc_rules.specs.Models.{macro_model}
-use Rattle.lc_rules.specs.LineNames.{NameNone}
+use Rattle.lc_rules.specs.{Models.macro_model, LineNames.NameNone}
 use Rattle.lc_rules.proofs.line_table.LineTable.may_name_some_in.Given as goal
 
 abbrev pub invariant-loop-found : goal.invariant-loop-found

@@ -1,11 +1,7 @@
-use Rattle.std.proofs.Common.{◌≡◌, ◌∙◌, ◌∷◌, ◌++◌, [], ℕ, List, ap, subst, sym}
-use Rattle.std.proofs.lemmas.List.{map-append}
-use Rattle.lc_glob.specs.Patterns.{PatternModel}
-use Rattle.lc_glob.specs.Reading.{pattern_of}
-use Rattle.lc_rules.specs.AttrLines.{PatternLineModel}
-use Rattle.lc_rules.specs.LineNames.{HasNames}
-use Rattle.lc_rules.specs.Models.{pattern_line_model}
-use Rattle.lc_rules.specs.WrittenLines.{LineTableModel, lines_in, patterns_in, written_line}
+use Rattle.std.proofs.{Common.{◌≡◌, ◌∙◌, ◌∷◌, ◌++◌, [], ℕ, List, ap, subst, sym}, lemmas.List.map-append}
+use Rattle.lc_glob.specs.{Patterns.PatternModel, Reading.pattern_of}
+use Rattle.lc_rules.specs.{AttrLines.PatternLineModel, LineNames.HasNames, Models.pattern_line_model, WrittenLines.LineTableModel}
+use Rattle.lc_rules.specs.WrittenLines.{lines_in, patterns_in, written_line}
 use Rattle.lc_rules.proofs.NamedLines.{names_more}
 use Rattle.lc_rules.proofs.line_table.LineTable.push.Goals as goal
 

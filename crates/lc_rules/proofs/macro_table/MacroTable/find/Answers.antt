@@ -1,8 +1,5 @@
 use Rattle.std.proofs.Common.{◌≡◌, ◌<◌, ◌∙◌, sym, ap, ℕ, List, Some, map, length, get_or, rules}
-use Rattle.lc_rules.specs.Attributes.{MacroModel}
-use Rattle.lc_rules.specs.Models.{macro_model}
-use Rattle.lc_rules.specs.WrittenLines.{assigned}
-use Rattle.lc_rules.specs.Decision.{macro_of}
+use Rattle.lc_rules.specs.{Attributes.MacroModel, Models.macro_model, WrittenLines.assigned, Decision.macro_of}
 use Rattle.lc_rules.proofs.LastMacro.{at_last_place, no_place}
 use Rattle.lc_rules.proofs.macro_table.MacroTable.find.Goals as goal
 

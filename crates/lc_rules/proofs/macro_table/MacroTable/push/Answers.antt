@@ -1,9 +1,7 @@
 use Rattle.std.proofs.Common.{◌≡◌, ◌∙◌, sym, ap, cond, [], ◌∷◌, ◌++◌, Some, rules}
 use Rattle.std.specs.Str.{bytes_eq}
-use Rattle.lc_rules.specs.MacroPlaces.{place_in}
-use Rattle.lc_rules.specs.declared.macro_table.Macro.{Macro as CodeMacro}
-use Rattle.lc_rules.proofs.LastMacro.{has_places-push}
-use Rattle.lc_rules.proofs.NameKeys.{place_in-insert}
+use Rattle.lc_rules.specs.{MacroPlaces.place_in, declared.macro_table.Macro.Macro as CodeMacro}
+use Rattle.lc_rules.proofs.{LastMacro.has_places-push, NameKeys.place_in-insert}
 use Rattle.lc_rules.proofs.macro_table.MacroTable.push.Goals as goal
 
 pub invariant_of-self-2 : goal.invariant_of-self-2
