@@ -1,11 +1,7 @@
 -- Texts with the same beginning.
 use Rattle.std.proofs.Common.{◌≡◌, ◌≢◌, ◌∙◌, ℕ, Bool, true, false, List, ◌++◌, Option, Some, None, sym, refl, subst}
-use Rattle.std.specs.Borrow.{Bor}
-use Rattle.std.specs.Prelude.{MatchOption}
-use Rattle.std.specs.Bool.{Decides}
-use Rattle.std.specs.Str.{bytes_eq}
-use Rattle.std.proofs.lemmas.List.{append_cancel_left}
-use Rattle.std.proofs.lemmas.Slice.Eq.{bytes_eq-Decides}
+use Rattle.std.proofs.lemmas.{List.append_cancel_left, Slice.Eq.bytes_eq-Decides}
+use Rattle.std.specs.{Borrow.Bor, Prelude.MatchOption, Bool.Decides, Str.bytes_eq}
 
 -- two tests that are true where the same is so
 same_answer : (b c : Bool) → (b ≡ true → c ≡ true) → (c ≡ true → b ≡ true) → b ≡ c

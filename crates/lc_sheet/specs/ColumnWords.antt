@@ -1,14 +1,11 @@
 -- The names and headings of columns, and the sides at which their values are aligned.
 use Rattle.std.specs.Prelude.{ℕ, List, [], ◌++◌, codes}
-use Rattle.lc_sheet.specs.declared.column.Number.{Number as NumberColumn}
-use Rattle.lc_sheet.specs.declared.column.Number.TheVariants.{Files, Lines, Blank, Bytes}
-use Rattle.lc_sheet.specs.declared.column.Compared.{Compared}
-use Rattle.lc_sheet.specs.declared.column.Compared.TheVariants as compared
-use Rattle.lc_sheet.specs.declared.column.Side.{Side}
-use Rattle.lc_sheet.specs.declared.column.Side.TheVariants.{Left, Right, End}
+use Rattle.lc_sheet.specs.declared.column.{Number.{Number as NumberColumn, TheVariants.{Files, Lines, Blank, Bytes}}, Compared.Compared}
+use Rattle.lc_sheet.specs.declared.column.Side.{Side, TheVariants.{Left, Right, End}}
 use Rattle.lc_sheet.specs.declared.column.Column.{Column}
 use Rattle.lc_sheet.specs.declared.column.Column.TheVariants.{Dir, Ext, Text, Eol, Number, Share, Bar, Path, Kind, Reason, Place, Entry}
 use Rattle.lc_sheet.specs.declared.column.Column.TheVariants.{File, Line, Attribute, Fault, Site, Change, Old, New, Difference}
+use Rattle.lc_sheet.specs.declared.column.Compared.TheVariants as compared
 
 abbrev pub number_name : NumberColumn → List ℕ
 number_name Files = codes "files"

@@ -1,15 +1,10 @@
 -- Conditions on files: a column, and a test of a file's value in the column.
-use Rattle.std.specs.Prelude.{ℕ, Bool, true, false, not, nat_le, nat_eq, List, ◌++◌, codes}
-use Rattle.std.specs.List.{list_any}
-use Rattle.std.specs.Str.{bytes_eq}
+use Rattle.std.specs.{Prelude.{ℕ, Bool, true, false, not, nat_le, nat_eq, List, ◌++◌, codes}, List.list_any, Str.bytes_eq}
 use Rattle.lc_glob.specs.Pieces.{pieces_of}
-use Rattle.lc_sheet.specs.Values.{ValueModel, missing, word, name, number}
-use Rattle.lc_sheet.specs.declared.column.Column.{Column}
+use Rattle.lc_sheet.specs.{Values.{ValueModel, missing, word, name, number}, declared.column.Column.Column}
+use Rattle.lc_sheet.specs.declared.condition.Comparison.{Comparison, TheVariants.{Less, AtMost, Equal, Unequal, AtLeast, Greater}}
+use Rattle.lc_sheet.specs.declared.condition.Test.{Test, TheVariants.{OneOf, NoneOf, Compared}}
 use Rattle.lc_sheet.specs.declared.column.Column.TheVariants as column
-use Rattle.lc_sheet.specs.declared.condition.Comparison.{Comparison}
-use Rattle.lc_sheet.specs.declared.condition.Comparison.TheVariants.{Less, AtMost, Equal, Unequal, AtLeast, Greater}
-use Rattle.lc_sheet.specs.declared.condition.Test.{Test}
-use Rattle.lc_sheet.specs.declared.condition.Test.TheVariants.{OneOf, NoneOf, Compared}
 
 -- a test of a value: the value is one of these texts, or none of these texts, or its comparison with a number is true
 pub data TestModel : Type 0 where

@@ -1,7 +1,6 @@
 -- A sheet: what a report shows, as sections of lines, each with a value in each column.
 use Rattle.std.specs.Prelude.{ℕ, Bool, List, map, Option}
-use Rattle.lc_sheet.specs.Values.{ValueModel}
-use Rattle.lc_sheet.specs.declared.column.Column.{Column}
+use Rattle.lc_sheet.specs.{Values.ValueModel, declared.column.Column.Column}
 
 -- a section: a word that may name its lines, its columns, and for each line its values in these columns
 pub record SectionModel : Type 0 where

@@ -1,8 +1,7 @@
 use Rattle.std.proofs.Common.{◌≡◌}
 use Rattle.std.specs.List.{list_any}
 use Rattle.lc_glob.specs.Pieces.{pieces_left, pieces_of}
-use Rattle.lc_sheet.specs.Conditions.{comma, has_text}
-use Rattle.lc_sheet.specs.Values.{value_model}
+use Rattle.lc_sheet.specs.{Conditions.{comma, has_text}, Values.value_model}
 use Rattle.lc_sheet.proofs.BytesLeft.{bytes_left}
 use Rattle.lc_sheet.proofs.condition.is_among.Given as goal
 

@@ -1,6 +1,4 @@
-use Rattle.std.proofs.Common.{sym}
-use Rattle.std.proofs.lemmas.Bool.Decides.{Decides-eqb}
-use Rattle.std.proofs.lemmas.Slice.Eq.{slice_eq-Decides, strip_prefix_is}
+use Rattle.std.proofs.{Common.sym, lemmas.{Bool.Decides.Decides-eqb, Slice.Eq.{slice_eq-Decides, strip_prefix_is}}}
 use Rattle.lc_sheet.proofs.SameTexts.{begins, differs, not_begun, same_rest}
 use Rattle.lc_sheet.proofs.condition.is_name.Goals as goal
 
