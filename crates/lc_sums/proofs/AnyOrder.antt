@@ -1,24 +1,16 @@
 -- Sums of reports have no order.
 use Rattle.std.proofs.Common.{◌≡◌, ℕ, Bool, true, false, cond, List, [], ◌∷◌, Some, None, map, refl, sym, ◌∙◌, ap, arith, IsPermutation}
-use Rattle.std.specs.Cmp.{both_ways}
-use Rattle.std.specs.List.{find, list_all, list_any, sum_by}
-use Rattle.std.proofs.lemmas.List.Sorted.{All-permutation, IsPermutation-map, IsPermutation-sym}
-use Rattle.std.proofs.lemmas.List.Sorted.{list_any-IsPermutation, sum_by-IsPermutation}
+use Rattle.std.proofs.lemmas.List.Sorted.{All-permutation, IsPermutation-map, IsPermutation-sym, list_any-IsPermutation}
+use Rattle.std.proofs.lemmas.List.Sorted.{sum_by-IsPermutation}
 use Rattle.std.proofs.lemmas.List.Sums.{AllPass-from_list_all, list_all-from_AllPass}
+use Rattle.std.specs.{Cmp.both_ways, List.{find, list_all, list_any, sum_by}}
 use Rattle.lc_level.specs.Level.{FileLineModel}
 use Rattle.lc_reports.proofs.Orders.{join_order}
-use Rattle.lc_walk.proofs.MovedLists.{lists_moved}
-use Rattle.lc_walk.proofs.RowSums.{same_sums}
-use Rattle.lc_sums.proofs.ClassesInTurn.{same_totals}
-use Rattle.lc_sums.proofs.RepeatedPaths.{times_moved}
-use Rattle.lc_sums.specs.Laws.{SumOrderLaw}
-use Rattle.lc_sums.specs.Needs.{columns_of, has_some, lacks_column, lacks_files, lacks_skipped, shared_columns}
-use Rattle.lc_sums.specs.Paths.{AreApart, paths_of}
-use Rattle.lc_sums.specs.Sums.{CanBeSummed, IsSumOf, NoneLacks, class_totals, needed_report, needed_reports}
-use Rattle.lc_sums.specs.declared.class_totals.ClassTotals.{ClassTotals}
-use Rattle.lc_sums.specs.declared.needs.Needs.{Needs}
-use Rattle.lc_sums.specs.declared.part.Part.{Part}
-use Rattle.lc_sums.specs.declared.sum.Sum.{Sum}
+use Rattle.lc_walk.proofs.{MovedLists.lists_moved, RowSums.same_sums}
+use Rattle.lc_sums.proofs.{ClassesInTurn.same_totals, RepeatedPaths.times_moved}
+use Rattle.lc_sums.specs.{Laws.SumOrderLaw, Needs.{columns_of, has_some, lacks_column, lacks_files, lacks_skipped, shared_columns}}
+use Rattle.lc_sums.specs.{Paths.{AreApart, paths_of}, Sums.{CanBeSummed, IsSumOf, NoneLacks, class_totals, needed_report, needed_reports}}
+use Rattle.lc_sums.specs.declared.{class_totals.ClassTotals.ClassTotals, needs.Needs.Needs, part.Part.Part, sum.Sum.Sum}
 
 -- ---- what none lacks
 

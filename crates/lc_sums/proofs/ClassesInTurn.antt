@@ -1,9 +1,7 @@
 -- The sums over text and over binary files, added one report after another.
 use Rattle.std.proofs.Common.{◌≡◌, List}
 use Rattle.lc_walk.specs.Sums.{plus}
-use Rattle.lc_sums.specs.Sums.{class_totals}
-use Rattle.lc_sums.specs.declared.class_totals.ClassTotals.{ClassTotals}
-use Rattle.lc_sums.specs.declared.part.Part.{Part}
+use Rattle.lc_sums.specs.{Sums.class_totals, declared.{class_totals.ClassTotals.ClassTotals, part.Part.Part}}
 
 abbrev together : ClassTotals → ClassTotals → ClassTotals
 together s t = record { text = plus s.text t.text; binary = plus s.binary t.binary }

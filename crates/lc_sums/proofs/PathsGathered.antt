@@ -1,10 +1,8 @@
 -- The paths of reports, gathered one report after another.
-use Rattle.std.proofs.Common.{◌≡◌, ℕ, ◌-◌, ◌≤◌, List, [], ◌∷◌, ◌++◌, length, get_or, map, take, drop}
-use Rattle.std.proofs.Common.{sym, ◌∙◌, ap, ap₂, arith, append_assoc, take_all}
-use Rattle.std.proofs.lemmas.List.Concat.{flat_map-cons}
+use Rattle.std.proofs.Common.{◌≡◌, ℕ, ◌-◌, ◌≤◌, List, [], ◌∷◌, ◌++◌, length, get_or, map, take, drop, sym, ◌∙◌, ap, ap₂, arith}
+use Rattle.std.proofs.{Common.{append_assoc, take_all}, lemmas.List.Concat.flat_map-cons}
 use Rattle.lc_level.specs.Level.{FileLineModel}
-use Rattle.lc_sums.specs.Paths.{paths_of}
-use Rattle.lc_sums.specs.declared.part.Part.{Part}
+use Rattle.lc_sums.specs.{Paths.paths_of, declared.part.Part.Part}
 
 abbrev paths_in : Part → List (List ℕ)
 paths_in p = map (λ (f : FileLineModel). f.path) p.report.report.files.items

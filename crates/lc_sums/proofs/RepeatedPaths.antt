@@ -1,18 +1,10 @@
 -- In sorted paths, the first that the next one repeats is the first that is there twice.
 use Rattle.std.proofs.Common.{◌≡◌, ℕ, ◌+◌, ◌≤◌, Bool, true, false, cond, if◌then◌else◌, List, [], ◌∷◌, Option, Some, None, get_or, suc}
-use Rattle.std.proofs.Common.{refl, sym, ◌∙◌, ap, subst, arith, suc-add, zero-add}
-use Rattle.std.specs.Prelude.{unwrap_or}
-use Rattle.std.specs.List.{All, count_by}
-use Rattle.std.specs.List.Sorted.{IsPermutation, IsSortedByKey}
-use Rattle.std.specs.Ordering.{is_eq, is_lt, ordering_reverse}
-use Rattle.std.specs.Str.{bytes_eq}
-use Rattle.std.specs.declared.cmp.Ordering.{Ordering}
-use Rattle.std.specs.declared.cmp.Ordering.TheVariants.{Less, Equal, Greater}
-use Rattle.std.proofs.lemmas.Cmp.{nat_list_cmp_total}
-use Rattle.std.proofs.lemmas.List.Sorted.{sorted_far, sum_by-IsPermutation}
-use Rattle.std.proofs.lemmas.List.Sums.{sum_by-cons}
-use Rattle.std.proofs.lemmas.Map.Text.{is_eq-slice_cmp}
+use Rattle.std.proofs.{Common.{refl, sym, ◌∙◌, ap, subst, arith, suc-add, zero-add}, lemmas.Cmp.nat_list_cmp_total}
+use Rattle.std.proofs.lemmas.{List.{Sorted.{sorted_far, sum_by-IsPermutation}, Sums.sum_by-cons}, Map.Text.is_eq-slice_cmp}
 use Rattle.std.proofs.lemmas.Slice.Eq.{bytes_eq-Decides}
+use Rattle.std.specs.{Prelude.unwrap_or, List.{All, count_by, Sorted.{IsPermutation, IsSortedByKey}}, Ordering.{is_eq, is_lt}}
+use Rattle.std.specs.{Ordering.ordering_reverse, Str.bytes_eq, declared.cmp.Ordering.{Ordering, TheVariants.{Less, Equal, Greater}}}
 use Rattle.lc_tree.proofs.Sorting.{paths_rank}
 use Rattle.lc_tree.specs.ByteOrder.{bytes_cmp}
 use Rattle.lc_sums.specs.Paths.{AreApart, IsFirstTwice, IsTwice, first_repeated, is_first}

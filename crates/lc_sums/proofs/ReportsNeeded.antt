@@ -1,13 +1,10 @@
 -- The reports that are joined.
 use Rattle.std.proofs.Common.{◌≡◌, true, List, [], ◌∷◌, ◌&&◌, refl, sym, ap₂, subst}
 use Rattle.std.specs.List.{list_all}
-use Rattle.lc_reports.specs.Joined.{Fits, IsUnjoined as AreUnjoined}
-use Rattle.lc_reports.specs.declared.join_fault.JoinFault.{JoinFault}
-use Rattle.lc_reports.specs.declared.join_fault.JoinFault.TheVariants as join
+use Rattle.lc_reports.specs.{Joined.{Fits, IsUnjoined as AreUnjoined}, declared.join_fault.JoinFault.JoinFault}
 use Rattle.lc_walk.specs.declared.report.Report.{Report}
-use Rattle.lc_sums.specs.Sums.{IsUnjoined, fault_of_join, needed_reports}
-use Rattle.lc_sums.specs.declared.needs.Needs.{Needs}
-use Rattle.lc_sums.specs.declared.part.Part.{Part}
+use Rattle.lc_sums.specs.{Sums.{IsUnjoined, fault_of_join, needed_reports}, declared.{needs.Needs.Needs, part.Part.Part}}
+use Rattle.lc_reports.specs.declared.join_fault.JoinFault.TheVariants as join
 
 -- they have files where these are needed
 pub all_have_files : (needs : Needs) (ps : List Part) → needs.files ≡ true

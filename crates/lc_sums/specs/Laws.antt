@@ -1,10 +1,6 @@
 -- The law of the order of reports in a sum.
-use Rattle.std.specs.Prelude.{List}
-use Rattle.std.specs.List.Sorted.{IsPermutation}
-use Rattle.lc_sums.specs.Sums.{CanBeSummed, IsSumOf}
-use Rattle.lc_sums.specs.declared.needs.Needs.{Needs}
-use Rattle.lc_sums.specs.declared.part.Part.{Part}
-use Rattle.lc_sums.specs.declared.sum.Sum.{Sum}
+use Rattle.std.specs.{Prelude.List, List.Sorted.IsPermutation}
+use Rattle.lc_sums.specs.{Sums.{CanBeSummed, IsSumOf}, declared.{needs.Needs.Needs, part.Part.Part, sum.Sum.Sum}}
 
 -- if reports can be summed in one order, they can be summed in any order, and their sum is the same
 pub record SumOrderLaw : Type 0 where

@@ -1,14 +1,10 @@
 -- What a sum needs of each report, and what reports have.
-use Rattle.std.specs.Prelude.{Bool, true, false, not, ◌&&◌, ◌||◌, if◌then◌else◌, List, Option, Some, None, is_some}
-use Rattle.std.specs.List.{list_all, list_any}
-use Rattle.lc_reading.specs.declared.read_report.ReadReport.{ReadReport}
-use Rattle.lc_reading.specs.declared.row_columns.RowColumns.{RowColumns}
-use Rattle.lc_sheet.specs.Conditions.{ConditionModel, needs_files}
-use Rattle.lc_sheet.specs.declared.column.Column.{Column}
+use Rattle.std.specs.{Prelude.{Bool, true, false, not, ◌&&◌, ◌||◌, if◌then◌else◌, List, Option, Some, None, is_some}, List.list_all}
+use Rattle.std.specs.List.{list_any}
+use Rattle.lc_reading.specs.declared.{read_report.ReadReport.ReadReport, row_columns.RowColumns.RowColumns}
+use Rattle.lc_sheet.specs.{Conditions.{ConditionModel, needs_files}, declared.{column.Column.Column, table_options.Columns.Columns}}
+use Rattle.lc_sums.specs.declared.{needs.Needs.Needs, part.Part.Part}
 use Rattle.lc_sheet.specs.declared.column.Column.TheVariants as column
-use Rattle.lc_sheet.specs.declared.table_options.Columns.{Columns}
-use Rattle.lc_sums.specs.declared.needs.Needs.{Needs}
-use Rattle.lc_sums.specs.declared.part.Part.{Part}
 
 -- ---- what is needed
 

@@ -1,8 +1,6 @@
 -- Files of several reports that have the same path.
-use Rattle.std.specs.Prelude.{◌≡◌, ℕ, ◌≤◌, Bool, false, if◌then◌else◌, List, [], ◌∷◌, flat_map, map, Option, Some, None}
-use Rattle.std.specs.List.{count_by}
-use Rattle.std.specs.Ordering.{is_lt}
-use Rattle.std.specs.Str.{bytes_eq}
+use Rattle.std.specs.{Prelude.{◌≡◌, ℕ, ◌≤◌, Bool, false, if◌then◌else◌, List, [], ◌∷◌, flat_map, map, Option, Some, None}, List.count_by}
+use Rattle.std.specs.{Ordering.is_lt, Str.bytes_eq}
 use Rattle.lc_level.specs.Level.{FileLineModel}
 use Rattle.lc_tree.specs.ByteOrder.{bytes_cmp}
 use Rattle.lc_sums.specs.declared.part.Part.{Part}

@@ -1,20 +1,14 @@
 -- The sum of several reports, or why they are not summed.
-use Rattle.std.specs.Prelude.{◌≡◌, ℕ, Bool, true, false, List, ⊤, map, sum_by, Some, None, Result, MatchResult}
-use Rattle.std.specs.List.{find}
-use Rattle.lc_reports.specs.Joined.{Fits, IsJoined}
-use Rattle.lc_reports.specs.declared.join_fault.JoinFault.{JoinFault}
-use Rattle.lc_reports.specs.declared.join_fault.JoinFault.TheVariants as join
+use Rattle.std.specs.{Prelude.{◌≡◌, ℕ, Bool, true, false, List, ⊤, map, sum_by, Some, None, Result, MatchResult}, List.find}
+use Rattle.lc_reports.specs.{Joined.{Fits, IsJoined}, declared.join_fault.JoinFault.JoinFault}
 use Rattle.lc_sheet.specs.declared.column.Column.{Column}
-use Rattle.lc_walk.specs.Sums.{IsInRange}
-use Rattle.lc_walk.specs.declared.report.Report.{Report}
-use Rattle.lc_sums.specs.Needs.{has_some, lacking, lacks_column, lacks_files, lacks_skipped, shared_columns}
-use Rattle.lc_sums.specs.Paths.{AreApart, IsFirstTwice, paths_of}
-use Rattle.lc_sums.specs.declared.class_totals.ClassTotals.{ClassTotals}
-use Rattle.lc_sums.specs.declared.needs.Needs.{Needs}
-use Rattle.lc_sums.specs.declared.part.Part.{Part}
-use Rattle.lc_sums.specs.declared.sum.Sum.{Sum}
+use Rattle.lc_walk.specs.{Sums.IsInRange, declared.report.Report.Report}
+use Rattle.lc_sums.specs.{Needs.{has_some, lacking, lacks_column, lacks_files, lacks_skipped, shared_columns}, Paths.AreApart}
+use Rattle.lc_sums.specs.{Paths.{IsFirstTwice, paths_of}, declared.{class_totals.ClassTotals.ClassTotals, needs.Needs.Needs}}
+use Rattle.lc_sums.specs.declared.{part.Part.Part, sum.Sum.Sum}
 use Rattle.lc_sums.specs.declared.sum_fault.SumFault.{SumFault}
 use Rattle.lc_sums.specs.declared.sum_fault.SumFault.TheVariants.{Memory, NoColumn, NoSharedColumn, NoFiles, NoSkipped, SamePath, TooLarge}
+use Rattle.lc_reports.specs.declared.join_fault.JoinFault.TheVariants as join
 
 -- ---- what each report must have
 

@@ -1,6 +1,5 @@
-use Rattle.std.proofs.Common.{List, ℕ, rules}
+use Rattle.std.proofs.{Common.{List, ℕ, rules}, lemmas.Fn.always_returns_same}
 use Rattle.std.specs.Ordering.{is_lt}
-use Rattle.std.proofs.lemmas.Fn.{always_returns_same}
 use Rattle.lc_tree.proofs.Sorting.{paths_rank}
 use Rattle.lc_tree.specs.ByteOrder.{bytes_cmp}
 use Rattle.lc_sums.proofs.paths.sort.Goals as goal

@@ -1,8 +1,6 @@
 use Rattle.std.proofs.Common.{ap, ◌∙◌}
 use Rattle.lc_walk.specs.declared.options.ReportLists.{ReportLists}
-use Rattle.lc_sums.specs.Needs.{shared_columns}
-use Rattle.lc_sums.specs.Sums.{class_totals}
-use Rattle.lc_sums.specs.declared.class_totals.ClassTotals.{ClassTotals}
+use Rattle.lc_sums.specs.{Needs.shared_columns, Sums.class_totals, declared.class_totals.ClassTotals.ClassTotals}
 use Rattle.lc_sums.proofs.ReportsNeeded.{all_have_files}
 use Rattle.lc_sums.proofs.summing.sum_of.Goals as goal
 
