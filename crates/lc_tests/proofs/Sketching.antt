@@ -1,18 +1,12 @@
 -- A directory that is written entry by entry.
 use Rattle.std.proofs.Common.{◌≡◌, ℕ, suc, ◌+◌, ◌<◌, Bool, true, false, cond, List, [], ◌∷◌, ◌++◌, length, take, get_or, map, Option}
-use Rattle.std.proofs.Common.{Some, Vec, refl, sym, ◌∙◌, ap, subst, arith, bytes_eq}
-use Rattle.std.proofs.Math.Seq.{take-suc}
-use Rattle.std.specs.Prelude.{find, option_map, option_and_then}
-use Rattle.std.specs.Borrow.{Bor}
-use Rattle.std.specs.declared.alloc.Global.{Global}
-use Rattle.lc_tree.specs.Nodes.{Child, child_among, child_of, child_within, node_below}
+use Rattle.std.proofs.{Common.{Some, Vec, refl, sym, ◌∙◌, ap, subst, arith, bytes_eq}, Math.Seq.take-suc}
+use Rattle.std.specs.{Prelude.{find, option_map, option_and_then}, Borrow.Bor, declared.alloc.Global.Global}
+use Rattle.lc_tree.specs.{Nodes.{Child, child_among, child_of, child_within, node_below}, declared.entry.OtherKind.OtherKind}
+use Rattle.lc_tree.specs.declared.node.Node.{Node, out-Node, out-roll-Node, TheOpen.Node-F}
 use Rattle.lc_tests.specs.Sketches.{Drawn, Has, HasWithin, IsTreeOf, sketch_among, sketch_below, sketch_within}
-use Rattle.lc_tree.specs.declared.entry.OtherKind.{OtherKind}
-use Rattle.lc_tree.specs.declared.node.Node.{Node, out-Node, out-roll-Node}
-use Rattle.lc_tree.specs.declared.node.Node.TheOpen.{Node-F}
+use Rattle.lc_tests.specs.declared.sketch_table.Sketch.{Sketch, out-Sketch, out-roll-Sketch, TheOpen.Sketch-F}
 use Rattle.lc_tree.specs.declared.node.Node.TheVariants as node
-use Rattle.lc_tests.specs.declared.sketch_table.Sketch.{Sketch, out-Sketch, out-roll-Sketch}
-use Rattle.lc_tests.specs.declared.sketch_table.Sketch.TheOpen.{Sketch-F}
 use Rattle.lc_tests.specs.declared.sketch_table.Sketch.TheVariants as sketch
 
 -- each child has the name and the tree of the entry at its place

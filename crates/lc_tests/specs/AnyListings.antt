@@ -1,7 +1,6 @@
 -- A tree that may list anything.
 use Rattle.std.specs.Prelude.{Ok, Err}
-use Rattle.lc_tree.specs.Listing.{IsListing}
-use Rattle.lc_tree.specs.Trees.{Listings}
+use Rattle.lc_tree.specs.{Listing.IsListing, Trees.Listings}
 
 -- any listing, or any fault
 abbrev pub AnyListing : Listings

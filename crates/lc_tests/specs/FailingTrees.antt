@@ -1,8 +1,7 @@
 -- What the calls of a tree may return if one of them may fail.
 use Rattle.std.specs.Prelude.{◌≡◌, ℕ, ◌⊎◌, [], ◌∷◌, Err}
 use Rattle.lc_io.specs.Reads.{Answer, gave, failed, at_end, at_failure, at_neither}
-use Rattle.lc_tree.specs.Trees.{Listings, Contents}
-use Rattle.lc_tree.specs.declared.read_fault.ReadFault.TheVariants.{Failed}
+use Rattle.lc_tree.specs.{Trees.{Listings, Contents}, declared.read_fault.ReadFault.TheVariants.Failed}
 
 -- a read returns what the file returns, or fails and leaves the file as it was
 abbrev pub MayFail : {F : Type 0} → (F → ℕ → Answer → F → Type 0) → F → ℕ → Answer → F → Type 0

@@ -1,11 +1,7 @@
 -- The tree in memory that a sketch describes.
-use Rattle.std.specs.Prelude.{◌≡◌, ℕ, List, [], ◌∷◌, map, find, option_map, option_and_then, Option, Some, None, bytes_eq}
-use Rattle.std.specs.Borrow.{Bor}
-use Rattle.lc_tree.specs.Nodes.{Child, node_below}
-use Rattle.lc_tree.specs.declared.node.Node.{Node, out-Node}
-use Rattle.lc_tree.specs.declared.node.Node.TheOpen.{Node-F}
-use Rattle.lc_tests.specs.declared.sketch_table.Sketch.{Sketch, out-Sketch}
-use Rattle.lc_tests.specs.declared.sketch_table.Sketch.TheOpen.{Sketch-F}
+use Rattle.std.specs.{Prelude.{◌≡◌, ℕ, List, [], ◌∷◌, map, find, option_map, option_and_then, Option, Some, None, bytes_eq}, Borrow.Bor}
+use Rattle.lc_tree.specs.{Nodes.{Child, node_below}, declared.node.Node.{Node, out-Node, TheOpen.Node-F}}
+use Rattle.lc_tests.specs.declared.sketch_table.Sketch.{Sketch, out-Sketch, TheOpen.Sketch-F}
 
 -- an entry of a directory in a sketch: its name and its own sketch
 abbrev pub Drawn : Type 0

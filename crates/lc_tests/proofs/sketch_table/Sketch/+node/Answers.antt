@@ -1,9 +1,7 @@
-use Rattle.std.proofs.Common.{sym, subst, List}
-use Rattle.lc_tests.specs.Sketches.{Drawn, IsTreeOf}
-use Rattle.lc_tree.specs.declared.node.Node.TheVariants as node
-use Rattle.lc_tests.specs.declared.sketch_table.Sketch.{Sketch}
-use Rattle.std.proofs.lemmas.List.{take_all}
+use Rattle.std.proofs.{Common.{sym, subst, List}, lemmas.List.take_all}
+use Rattle.lc_tests.specs.{Sketches.{Drawn, IsTreeOf}, declared.sketch_table.Sketch.Sketch}
 use Rattle.lc_tests.proofs.Sketching.{AreTreesOf, is_closed, is_directory, is_failing, is_file, is_other, trees_next}
+use Rattle.lc_tree.specs.declared.node.Node.TheVariants as node
 use Rattle.lc_tests.proofs.sketch_table.Sketch.+node.Goals as goal
 
 pub loop-entry-preserved : goal.loop-entry-preserved
