@@ -1,13 +1,10 @@
 -- Bytes that a terminal is shown as they are, and which of both readings of bytes holds.
 use Rattle.std.proofs.Common.{◌≡◌, ℕ, ◌<◌, true, if◌then◌else◌, nat_lt, nat_eq, List, [], ◌∷◌, ◌++◌, refl, ap, ap₂, ◌∙◌, chars, flat_map}
-use Rattle.std.specs.List.{list_all}
-use Rattle.std.specs.Str.{IsUtf8, IsAscii, is_utf8}
 use Rattle.std.proofs.lemmas.Bool.{and_parts, not-true, ltb-true, agree_below_at, false_from_ne_true}
-use Rattle.std.proofs.lemmas.Str.{chars-IsAscii, encode_ascii, IsUtf8-from_is_utf8, is_utf8-from_IsUtf8}
-use Rattle.std.proofs.lemmas.Str.Ascii.{IsAscii-nil, IsAscii-cons}
+use Rattle.std.proofs.lemmas.Str.{chars-IsAscii, encode_ascii, IsUtf8-from_is_utf8, is_utf8-from_IsUtf8, Ascii.{IsAscii-nil, IsAscii-cons}}
+use Rattle.std.specs.{List.list_all, Str.{IsUtf8, IsAscii, is_utf8}}
 use Rattle.lc_glob.specs.Bytes.{backslash}
-use Rattle.lc_text.specs.Escape.{is_control, is_plain}
-use Rattle.lc_text.specs.Visible.{is_clear, is_hidden, visible_byte, visible_bytes, visible_char}
+use Rattle.lc_text.specs.{Escape.{is_control, is_plain}, Visible.{is_clear, is_hidden, visible_byte, visible_bytes, visible_char}}
 
 clear_char : (b : ℕ) → is_clear b ≡ true → visible_char b ≡ b ∷ []
 clear_char b e =

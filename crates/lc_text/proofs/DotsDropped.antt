@@ -1,10 +1,7 @@
 -- What is dropped at the beginning of a line.
-use Rattle.std.proofs.Common.{◌≡◌, ℕ, ◌+◌, ◌==◌, Bool, true, false, zero, suc, ◌&&◌, List, [], ◌∷◌, ◌++◌, if◌then◌else◌, refl, sym, ◌∙◌, ap}
-use Rattle.std.proofs.Common.{ap₂, flat_map, replicate, inl, inr, subst}
-use Rattle.std.proofs.lemmas.Bool.{eqb-true, and_parts}
-use Rattle.std.proofs.lemmas.List.{append_assoc}
-use Rattle.lc_glob.specs.Bytes.{dot, slash}
-use Rattle.lc_glob.specs.Path.{is_good_path}
+use Rattle.std.proofs.Common.{◌≡◌, ℕ, ◌+◌, ◌==◌, Bool, true, false, zero, suc, ◌&&◌, List, [], ◌∷◌, ◌++◌, if◌then◌else◌, refl, sym, ◌∙◌}
+use Rattle.std.proofs.{Common.{ap, ap₂, flat_map, replicate, inl, inr, subst}, lemmas.{Bool.{eqb-true, and_parts}, List.append_assoc}}
+use Rattle.lc_glob.specs.{Bytes.{dot, slash}, Path.is_good_path}
 use Rattle.lc_text.specs.DotsBefore.{dot_slashes, begins_with_slash, begins_with_dot_slash, path_after, IsAfterDots, UndottedLaw, KeptLaw}
 use Rattle.lc_text.specs.PathLines.{after_dot, or_dot, undotted}
 

@@ -1,9 +1,7 @@
 -- The first path of an input, by its pieces between the bytes that end paths.
-use Rattle.std.proofs.Common.{◌≡◌, ℕ, ◌==◌, List, [], ◌∷◌, length, refl, ap, arith, ◌∙◌}
-use Rattle.std.proofs.lemmas.List.Splits.{length-slice_split}
+use Rattle.std.proofs.{Common.{◌≡◌, ℕ, ◌==◌, List, [], ◌∷◌, length, refl, ap, arith, ◌∙◌}, lemmas.List.Splits.length-slice_split}
 use Rattle.lc_glob.specs.Pieces.{pieces_of}
-use Rattle.lc_text.specs.Lines.{without_empty_last, end_byte, input_paths_of, input_lines_of}
-use Rattle.lc_text.specs.declared.lines.PathEnd.{PathEnd}
+use Rattle.lc_text.specs.{Lines.{without_empty_last, end_byte, input_paths_of, input_lines_of}, declared.lines.PathEnd.PathEnd}
 use Rattle.lc_text.specs.declared.lines.PathEnd.TheVariants.{LineFeed}
 
 some_piece : (end : ℕ) (bytes : List ℕ) → pieces_of end bytes ≡ [] → ⊥

@@ -1,6 +1,5 @@
 -- Bytes that are printed as they are.
-use Rattle.std.proofs.Common.{◌≡◌, ℕ, Bool, true, false, not, ◌&&◌, nat_eq, List, [], ◌∷◌, ◌++◌, refl, ap₂}
-use Rattle.std.proofs.lemmas.Bool.{and_parts}
+use Rattle.std.proofs.{Common.{◌≡◌, ℕ, Bool, true, false, not, ◌&&◌, nat_eq, List, [], ◌∷◌, ◌++◌, refl, ap₂}, lemmas.Bool.and_parts}
 use Rattle.std.specs.List.{list_all}
 use Rattle.lc_glob.specs.Bytes.{backslash}
 use Rattle.lc_text.specs.Escape.{is_control, is_plain, escape_byte, escape_bytes}

@@ -1,11 +1,10 @@
 -- A shell reads a quoted text as the text.
 use Rattle.std.proofs.Common.{◌≡◌, ℕ, ◌==◌, Bool, true, false, List, [], ◌∷◌, ◌++◌, if◌then◌else◌, Option, Some, refl, sym, ◌∙◌, ap}
-use Rattle.std.proofs.Common.{flat_map, option_map, subst}
+use Rattle.std.proofs.{Common.{flat_map, option_map, subst}, lemmas.Bool.{eqb-true, and_parts, false_from_ne_true}}
 use Rattle.std.specs.List.{list_all}
-use Rattle.std.proofs.lemmas.Bool.{eqb-true, and_parts, false_from_ne_true}
 use Rattle.lc_glob.specs.Bytes.{backslash}
-use Rattle.lc_text.specs.Quoting.{apostrophe, is_shell_plain, quote_byte, in_quotes, quoted}
-use Rattle.lc_text.specs.ShellWords.{outside, in_single, word_text, QuotedLaw}
+use Rattle.lc_text.specs.{Quoting.{apostrophe, is_shell_plain, quote_byte, in_quotes, quoted}, ShellWords.{outside, in_single, word_text}}
+use Rattle.lc_text.specs.ShellWords.{QuotedLaw}
 
 -- inside the quotes
 read_in_single : (text : List ℕ) → word_text in_single (flat_map quote_byte text ++ apostrophe ∷ []) ≡ Some text

@@ -1,9 +1,6 @@
 -- What is written of a text in single quotes, byte by byte and character by character.
-use Rattle.std.proofs.Common.{◌≡◌, ℕ, ◌<◌, ◌==◌, Bool, true, false, suc, List, [], ◌∷◌, ◌++◌, length, refl, sym, ap, ap₂, arith, ◌∙◌, codes}
-use Rattle.std.proofs.Common.{chars, encode_utf8, flat_map, get_or}
-use Rattle.std.proofs.lemmas.Bool.{ne_eqb}
-use Rattle.std.proofs.lemmas.List.{append-nil}
-use Rattle.std.proofs.lemmas.Str.{inside_one}
+use Rattle.std.proofs.Common.{◌≡◌, ℕ, ◌<◌, ◌==◌, Bool, true, false, suc, List, [], ◌∷◌, ◌++◌, length, refl, sym, ap, ap₂, arith, ◌∙◌}
+use Rattle.std.proofs.{Common.{codes, chars, encode_utf8, flat_map, get_or}, lemmas.{Bool.ne_eqb, List.append-nil, Str.inside_one}}
 use Rattle.lc_text.specs.Quoting.{apostrophe, quote_byte}
 
 quote_byte-other : (b : ℕ) → (b ≡ apostrophe → ⊥) → quote_byte b ≡ b ∷ []

@@ -1,7 +1,6 @@
 -- What is left of a line without any `./` at its beginning.
 use Rattle.std.specs.Prelude.{◌≡◌, ◌⊎◌, ℕ, ◌==◌, Bool, true, false, ◌&&◌, List, [], ◌∷◌, ◌++◌, flat_map, replicate}
-use Rattle.lc_glob.specs.Bytes.{dot, slash}
-use Rattle.lc_glob.specs.Path.{is_good_path}
+use Rattle.lc_glob.specs.{Bytes.{dot, slash}, Path.is_good_path}
 use Rattle.lc_text.specs.PathLines.{or_dot, undotted}
 
 -- a dot and a slash, and this many more slashes

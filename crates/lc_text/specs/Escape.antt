@@ -1,6 +1,5 @@
 -- How bytes of a path are printed.
-use Rattle.std.specs.Prelude.{ℕ, ◌+◌, ◌/◌, ◌%◌, ◌||◌, Bool, not, ◌&&◌, nat_lt, nat_eq, cond, List, [], ◌∷◌, ◌++◌, codes}
-use Rattle.std.specs.List.{flat_map}
+use Rattle.std.specs.{Prelude.{ℕ, ◌+◌, ◌/◌, ◌%◌, ◌||◌, Bool, not, ◌&&◌, nat_lt, nat_eq, cond, List, [], ◌∷◌, ◌++◌, codes}, List.flat_map}
 use Rattle.lc_glob.specs.Bytes.{backslash}
 
 -- a lower-case hexadecimal digit

@@ -1,10 +1,6 @@
 -- An input that is read whole.
-use Rattle.std.specs.Prelude.{ℕ, List, Result, Ok, Err, Vec}
-use Rattle.std.specs.Global.{Global}
-use Rattle.lc_io.specs.Reads.{Answer}
-use Rattle.lc_io.specs.Whole.{AnswersWhole}
-use Rattle.lc_io.specs.declared.whole.WholeFault.{WholeFault}
-use Rattle.lc_io.specs.declared.whole.WholeFault.TheVariants.{Read, TooLong, Memory}
+use Rattle.std.specs.{Prelude.{ℕ, List, Result, Ok, Err, Vec}, Global.Global}
+use Rattle.lc_io.specs.{Reads.Answer, Whole.AnswersWhole, declared.whole.WholeFault.{WholeFault, TheVariants.{Read, TooLong, Memory}}}
 
 -- the most bytes of an input
 abbrev pub max_input : ℕ

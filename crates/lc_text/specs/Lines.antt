@@ -1,11 +1,8 @@
 -- The lines of an input.
 use Rattle.std.specs.Prelude.{ℕ, cond, List, [], ◌∷◌, ◌++◌, codes}
-use Rattle.lc_glob.specs.Bytes.{nul}
-use Rattle.lc_glob.specs.Lists.{is_empty}
-use Rattle.lc_glob.specs.Pieces.{pieces_of}
+use Rattle.lc_glob.specs.{Bytes.nul, Lists.is_empty, Pieces.pieces_of}
 use Rattle.lc_rules.specs.Bytes.{line_feed}
-use Rattle.lc_text.specs.declared.lines.PathEnd.{PathEnd}
-use Rattle.lc_text.specs.declared.lines.PathEnd.TheVariants.{LineFeed, Nul}
+use Rattle.lc_text.specs.declared.lines.PathEnd.{PathEnd, TheVariants.{LineFeed, Nul}}
 
 -- these pieces without the last one if it is empty
 abbrev pub without_empty_last : List (List ℕ) → List (List ℕ)

@@ -1,8 +1,7 @@
 -- A line that names a path: a slash at its end means a directory.
-use Rattle.std.specs.Prelude.{ℕ, ◌-◌, ◌==◌, Bool, false, not, ◌||◌, ◌&&◌, nat_eq, nat_lt, cond, if◌then◌else◌, List, [], ◌∷◌, length, take}
-use Rattle.std.specs.List.{ends_with}
-use Rattle.lc_glob.specs.Bytes.{slash, dot}
-use Rattle.lc_glob.specs.Path.{is_good_path, max_path}
+use Rattle.std.specs.Prelude.{ℕ, ◌-◌, ◌==◌, Bool, false, not, ◌||◌, ◌&&◌, nat_eq, nat_lt, cond, if◌then◌else◌, List, [], ◌∷◌, length}
+use Rattle.std.specs.{Prelude.take, List.ends_with}
+use Rattle.lc_glob.specs.{Bytes.{slash, dot}, Path.{is_good_path, max_path}}
 
 -- whether the line has a slash at its end
 abbrev pub is_dir_line : List ℕ → Bool

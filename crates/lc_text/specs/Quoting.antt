@@ -1,7 +1,6 @@
 -- How a text is written as one argument of a shell: POSIX.1-2017, Shell Command Language, 2.2 (Quoting).
-use Rattle.std.specs.Prelude.{ℕ, ◌==◌, ◌||◌, Bool, if◌then◌else◌, List, [], ◌∷◌, ◌++◌, codes, flat_map}
-use Rattle.std.specs.Int.{is_in_range}
-use Rattle.std.specs.List.{list_all, list_any}
+use Rattle.std.specs.{Prelude.{ℕ, ◌==◌, ◌||◌, Bool, if◌then◌else◌, List, [], ◌∷◌, ◌++◌, codes, flat_map}, Int.is_in_range, List.list_all}
+use Rattle.std.specs.List.{list_any}
 
 -- `'`, which quotes all that follows it up to the next one
 abbrev pub apostrophe : ℕ

@@ -1,11 +1,7 @@
 -- Where a rule is, as it is printed.
-use Rattle.std.specs.Prelude.{ℕ, ◌-◌, List, [], ◌++◌, length, take, codes, decimal}
-use Rattle.std.specs.List.{slice_index_or}
-use Rattle.lc_rules.specs.IgnoreRules.{text_of_line}
-use Rattle.lc_rules.specs.RuleLines.{lines_of as rule_lines_of}
-use Rattle.lc_rules.specs.Verdicts.{below}
-use Rattle.lc_rules.specs.declared.rule_source.RuleSource.{RuleSource}
-use Rattle.lc_rules.specs.declared.rule_source.RuleSource.TheVariants.{ExcludeFrom, InfoExclude, Gitignore, CommandLine}
+use Rattle.std.specs.{Prelude.{ℕ, ◌-◌, List, [], ◌++◌, length, take, codes, decimal}, List.slice_index_or}
+use Rattle.lc_rules.specs.{IgnoreRules.text_of_line, RuleLines.lines_of as rule_lines_of, Verdicts.below}
+use Rattle.lc_rules.specs.declared.rule_source.RuleSource.{RuleSource, TheVariants.{ExcludeFrom, InfoExclude, Gitignore, CommandLine}}
 
 -- the beginning of a path with this number of segments, each followed by its slash
 abbrev pub above : ℕ → List ℕ → List ℕ

@@ -1,9 +1,6 @@
 -- How bytes are printed for a program, and for a terminal.
 use Rattle.std.specs.Prelude.{ℕ, List, [], ◌∷◌, codes}
-use Rattle.lc_text.specs.Escape.{escape_bytes}
-use Rattle.lc_text.specs.Visible.{visible_bytes}
-use Rattle.lc_text.specs.declared.style.PathStyle.{PathStyle}
-use Rattle.lc_text.specs.declared.style.PathStyle.TheVariants.{Escaped, Visible}
+use Rattle.lc_text.specs.{Escape.escape_bytes, Visible.visible_bytes, declared.style.PathStyle.{PathStyle, TheVariants.{Escaped, Visible}}}
 
 abbrev pub styled : PathStyle → List ℕ → List ℕ
 styled Escaped = escape_bytes

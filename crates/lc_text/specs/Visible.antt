@@ -1,7 +1,6 @@
 -- How bytes of a path are shown in a terminal: nothing in them moves its cursor or turns the direction of text.
 use Rattle.std.specs.Prelude.{ℕ, ◌||◌, ◌&&◌, ◌==◌, Bool, nat_lt, nat_eq, cond, if◌then◌else◌, List, [], ◌∷◌, codes, flat_map, encode_utf8}
-use Rattle.std.specs.Int.{is_in_range}
-use Rattle.std.specs.Str.{chars, is_utf8}
+use Rattle.std.specs.{Int.is_in_range, Str.{chars, is_utf8}}
 use Rattle.lc_glob.specs.Bytes.{backslash}
 use Rattle.lc_text.specs.Escape.{is_control, is_plain, hex_byte, escape_byte}
 

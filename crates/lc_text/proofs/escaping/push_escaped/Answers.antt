@@ -1,7 +1,6 @@
 use Rattle.std.proofs.Common.{◌∙◌, sym}
 use Rattle.lc_text.specs.Escape.{escape_bytes}
-use Rattle.lc_text.proofs.Appended.{appended}
-use Rattle.lc_text.proofs.Plain.{escape_bytes-plain}
+use Rattle.lc_text.proofs.{Appended.appended, Plain.escape_bytes-plain}
 use Rattle.lc_text.proofs.escaping.push_escaped.Goals as goal
 
 pub returns-then-are_plain : goal.returns-then-are_plain

@@ -1,7 +1,5 @@
 use Rattle.std.proofs.Common.{◌++◌, chars, encode_utf8, flat_map, string_bytes, sym, ap, ◌∙◌, map-id, List, ℕ}
-use Rattle.std.proofs.lemmas.Iterator.{YieldsList-from_chars}
-use Rattle.std.proofs.lemmas.Iterator.Consumers.{YieldsList-end}
-use Rattle.std.proofs.lemmas.Str.{encodes-chars}
+use Rattle.std.proofs.lemmas.{Iterator.{YieldsList-from_chars, Consumers.YieldsList-end}, Str.encodes-chars}
 use Rattle.lc_text.specs.Quoting.{quote_byte}
 use Rattle.lc_text.proofs.quoting.push_each_quoted.Goals as goal
 

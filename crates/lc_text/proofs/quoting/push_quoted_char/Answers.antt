@@ -1,7 +1,6 @@
 use Rattle.std.proofs.Common.{encode_utf8, flat_map, string_bytes}
 use Rattle.lc_text.specs.Quoting.{quote_byte}
-use Rattle.lc_text.proofs.Appended.{appended}
-use Rattle.lc_text.proofs.ShellWords.{quote_byte-char}
+use Rattle.lc_text.proofs.{Appended.appended, ShellWords.quote_byte-char}
 use Rattle.lc_text.proofs.quoting.push_quoted_char.Goals as goal
 
 pub returns-else-c-eq39 : goal.returns-else-c-eq39

@@ -1,5 +1,4 @@
-use Rattle.std.proofs.Common.{◌++◌, flat_map, string_bytes, sym, ap, ◌∙◌, map-id, List, ℕ}
-use Rattle.std.proofs.lemmas.Iterator.{YieldsList-from_chars}
+use Rattle.std.proofs.{Common.{◌++◌, flat_map, string_bytes, sym, ap, ◌∙◌, map-id, List, ℕ}, lemmas.Iterator.YieldsList-from_chars}
 use Rattle.std.proofs.lemmas.Iterator.Consumers.{YieldsList-end}
 use Rattle.lc_text.specs.Visible.{visible_char}
 use Rattle.lc_text.proofs.visible.push_each_char.Goals as goal

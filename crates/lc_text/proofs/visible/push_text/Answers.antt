@@ -1,8 +1,7 @@
 use Rattle.std.proofs.Common.{◌∙◌, ap, sym, chars, flat_map, string_bytes}
 use Rattle.std.specs.List.{list_all}
 use Rattle.lc_text.specs.Visible.{is_clear, visible_char}
-use Rattle.lc_text.proofs.Appended.{appended}
-use Rattle.lc_text.proofs.Clear.{visible_char-clear}
+use Rattle.lc_text.proofs.{Appended.appended, Clear.visible_char-clear}
 use Rattle.lc_text.proofs.visible.push_text.Goals as goal
 
 pub returns-then-are_clear : goal.returns-then-are_clear

@@ -1,7 +1,6 @@
 use Rattle.std.proofs.Common.{◌∙◌, ap, sym, chars, flat_map, string_bytes, List, ℕ}
 use Rattle.lc_text.specs.Visible.{visible_byte, visible_bytes, visible_char}
-use Rattle.lc_text.proofs.Appended.{appended_same}
-use Rattle.lc_text.proofs.Clear.{visible_bytes-text, visible_bytes-other}
+use Rattle.lc_text.proofs.{Appended.appended_same, Clear.{visible_bytes-text, visible_bytes-other}}
 use Rattle.lc_text.proofs.visible.push_visible.Goals as goal
 
 pub returns-in-Ok : goal.returns-in-Ok
