@@ -1,11 +1,9 @@
 -- What the reads of a file of memory give.
 use Rattle.std.proofs.Common.{◌≡◌, ◌≢◌, ℕ, zero, suc, ◌<◌, List, [], ◌∷◌, ◌++◌, length, take, drop, refl, sym, ◌∙◌, ap, subst}
-use Rattle.std.proofs.Common.{append_assoc, arith}
+use Rattle.std.proofs.{Common.{append_assoc, arith}, lemmas.List.{append-nil, take-append-drop}}
 use Rattle.std.specs.List.{concat}
-use Rattle.std.proofs.lemmas.List.{append-nil, take-append-drop}
 use Rattle.lc_io.specs.Reads.{Reads, Stop, at_end, at_failure, at_neither}
-use Rattle.lc_tree.specs.MemTrees.{ReadsContent}
-use Rattle.lc_tree.specs.Trees.{AreSome, Content, FillRooms, GivesContent, IsRoom, Rooms}
+use Rattle.lc_tree.specs.{MemTrees.ReadsContent, Trees.{AreSome, Content, FillRooms, GivesContent, IsRoom, Rooms}}
 
 -- where no byte is given into some room, none is left
 none_left : (room : ℕ) (bytes : List ℕ) → 0 < room → [] ≡ take room bytes → bytes ≡ []

@@ -1,14 +1,10 @@
 -- What is cut into parts, and what is joined from them.
-use Rattle.std.proofs.Common.{◌≡◌, ℕ, suc, ◌<◌, List, [], ◌∷◌, ◌++◌, length, take, drop, reverse, Vec, Ok, Err, inl, inr, refl, sym}
-use Rattle.std.proofs.Common.{◌∙◌, ap, subst, append_assoc, arith}
-use Rattle.std.specs.Prelude.{MatchResult}
-use Rattle.std.proofs.lemmas.List.{append-nil, map-append, reverse-append, take-append-drop}
-use Rattle.std.specs.Global.{Global}
-use Rattle.lc_tree.specs.Listing.{EntryModel}
-use Rattle.lc_tree.specs.Named.{Looks, bytes_of, AreEntriesOf, IsFirstFault, LooksAt}
-use Rattle.lc_tree.specs.Parts.{Part, Run, all_of, AreJoined, HaveLooked, IsFaultOfJoining}
+use Rattle.std.proofs.Common.{◌≡◌, ℕ, suc, ◌<◌, List, [], ◌∷◌, ◌++◌, length, take, drop, reverse, Vec, Ok, Err, inl, inr, refl, sym, ◌∙◌}
+use Rattle.std.proofs.{Common.{ap, subst, append_assoc, arith}, lemmas.List.{append-nil, map-append, reverse-append, take-append-drop}}
+use Rattle.std.specs.{Prelude.MatchResult, Global.Global}
+use Rattle.lc_tree.specs.{Listing.EntryModel, Named.{Looks, bytes_of, AreEntriesOf, IsFirstFault, LooksAt}, Parts.{Part, Run, all_of}}
+use Rattle.lc_tree.specs.{Parts.{AreJoined, HaveLooked, IsFaultOfJoining}, declared.read_fault.ReadFault.ReadFault}
 use Rattle.lc_tree.proofs.SomeNames.{entries_joined, fault_after, fault_before, memory_fault}
-use Rattle.lc_tree.specs.declared.read_fault.ReadFault.{ReadFault}
 
 -- one part more is cut from the end
 pub cut_more : {X : Type 0} (all left new : List X) (parts : List (Vec X Global)) (part : Vec X Global) (n : ℕ)

@@ -1,9 +1,7 @@
 -- What a directory lists by its names.
 use Rattle.std.proofs.Common.{ℕ, List, Result, Ok, Err, inl, inr, refl}
-use Rattle.lc_tree.specs.Listing.{EntryModel, IsAnswerFor}
-use Rattle.lc_tree.specs.Named.{Looks, Names, AreAmong, AreEntriesOf, ListsNamed, ListsThese}
-use Rattle.lc_tree.specs.Trees.{Listings, Lists}
-use Rattle.lc_tree.specs.declared.read_fault.ReadFault.{ReadFault}
+use Rattle.lc_tree.specs.{Listing.{EntryModel, IsAnswerFor}, Named.{Looks, Names, AreAmong, AreEntriesOf, ListsNamed, ListsThese}}
+use Rattle.lc_tree.specs.{Trees.{Listings, Lists}, declared.read_fault.ReadFault.ReadFault}
 use Rattle.lc_tree.specs.declared.read_fault.ReadFault.TheVariants as fault
 
 -- what may be listed where more may be

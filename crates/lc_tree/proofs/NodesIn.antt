@@ -1,20 +1,13 @@
 -- The node under a name of a directory.
-use Rattle.std.proofs.Common.{◌≡◌, ◌≢◌, ℕ, ◌==◌, Bool, true, false, not, ◌&&◌, cond, List, [], ◌∷◌, ◌++◌, map, Option}
-use Rattle.std.proofs.Common.{Some, None, refl, sym, ◌∙◌, ap, bytes_eq}
-use Rattle.std.proofs.lemmas.Bool.{or_parts}
-use Rattle.std.specs.Prelude.{find, option_map, option_and_then}
-use Rattle.std.specs.List.{AllByRecursion, IsDistinct, list_any, onto_first}
-use Rattle.std.specs.Ordering.{eq_by_cmp}
-use Rattle.std.proofs.lemmas.List.Splits.{slice_split-cons_no}
-use Rattle.std.proofs.lemmas.Map.Text.{is_eq-slice_cmp}
+use Rattle.std.proofs.Common.{◌≡◌, ◌≢◌, ℕ, ◌==◌, Bool, true, false, not, ◌&&◌, cond, List, [], ◌∷◌, ◌++◌, map, Option, Some, None, refl}
+use Rattle.std.proofs.{Common.{sym, ◌∙◌, ap, bytes_eq}, lemmas.{Bool.or_parts, List.Splits.slice_split-cons_no, Map.Text.is_eq-slice_cmp}}
 use Rattle.std.proofs.lemmas.Slice.Eq.{bytes_eq-Decides}
+use Rattle.std.specs.{Prelude.{find, option_map, option_and_then}, List.{AllByRecursion, IsDistinct, list_any, onto_first}}
+use Rattle.std.specs.Ordering.{eq_by_cmp}
 use Rattle.lc_glob.specs.Path.{is_good_name, is_no_name, path_in, segments_of}
 use Rattle.lc_glob.proofs.Naming.{segments_apart}
-use Rattle.lc_tree.specs.ByteOrder.{bytes_cmp}
-use Rattle.lc_tree.specs.Listing.{names, HaveDistinctNames}
-use Rattle.lc_tree.specs.Nodes.{Child, entry_of_child, child_among, child_of, node_below, node_at}
-use Rattle.lc_tree.specs.Paths.{names_of_path}
-use Rattle.lc_tree.specs.declared.node.Node.{Node}
+use Rattle.lc_tree.specs.{ByteOrder.bytes_cmp, Listing.{names, HaveDistinctNames}, Nodes.{Child, entry_of_child, child_among, child_of}}
+use Rattle.lc_tree.specs.{Nodes.{node_below, node_at}, Paths.names_of_path, declared.node.Node.Node}
 
 -- ---- the names of the path of a name in a directory
 

@@ -1,13 +1,9 @@
 -- A tree of memory answers in one way.
 use Rattle.std.proofs.Common.{◌≡◌, Bool, List, Result, Ok, Err, Option, Some, None, IsTrue, IsFalse, refl, sym, ◌∙◌, ap, arith}
 use Rattle.std.proofs.lemmas.List.Sorted.{IsPermutation-sym, Contains-permutation, length_permutation}
-use Rattle.lc_tree.specs.Listing.{EntryModel, IsAnswerFor, IsListingOf, have_good_names}
-use Rattle.lc_tree.specs.MemTrees.{ListsWithin, ListsNode}
-use Rattle.lc_tree.specs.declared.read_fault.ReadFault.{ReadFault}
-use Rattle.lc_tree.specs.declared.read_fault.ReadFault.TheVariants.{Failed, Unnamed, BadName, Twice, TooMany, Memory}
-use Rattle.lc_tree.specs.declared.node.Node.{Node, out-Node}
-use Rattle.lc_tree.specs.declared.node.Node.TheOpen.{Node-F}
-use Rattle.lc_tree.specs.MovedEntries.{good_names_moved, distinct_from_sorted}
+use Rattle.lc_tree.specs.{Listing.{EntryModel, IsAnswerFor, IsListingOf, have_good_names}, MemTrees.{ListsWithin, ListsNode}}
+use Rattle.lc_tree.specs.declared.read_fault.ReadFault.{ReadFault, TheVariants.{Failed, Unnamed, BadName, Twice, TooMany, Memory}}
+use Rattle.lc_tree.specs.{declared.node.Node.{Node, out-Node, TheOpen.Node-F}, MovedEntries.{good_names_moved, distinct_from_sorted}}
 use Rattle.lc_tree.proofs.OneOrder.{one_order}
 
 one_listing : (es a b : List EntryModel) → IsListingOf es a → IsListingOf es b → a ≡ b

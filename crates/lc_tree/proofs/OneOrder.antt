@@ -1,11 +1,8 @@
 -- Lists with the same elements, in strict order of these elements' names, are the same list.
 use Rattle.std.proofs.Common.{◌≡◌, ℕ, zero, suc, ◌⊎◌, inl, inr, List, [], ◌∷◌, map, Contains, refl, sym, ◌∙◌, ap, subst, arith}
-use Rattle.std.specs.declared.cmp.Ordering.TheVariants.{Less}
-use Rattle.std.specs.Ordering.{ordering_reverse}
-use Rattle.std.specs.List.{AllByRecursion}
-use Rattle.std.proofs.lemmas.Cmp.{nat_list_cmp_total}
-use Rattle.std.proofs.lemmas.List.Elements.{Contains-append_cases, Contains-append_right}
+use Rattle.std.proofs.lemmas.{Cmp.nat_list_cmp_total, List.Elements.{Contains-append_cases, Contains-append_right}}
 use Rattle.std.proofs.lemmas.Map.Keys.{sorted_head, sorted_tail}
+use Rattle.std.specs.{declared.cmp.Ordering.TheVariants.Less, Ordering.ordering_reverse, List.AllByRecursion}
 use Rattle.lc_tree.specs.ByteOrder.{bytes_cmp, AreInOrder}
 
 not_both : (a b : List ℕ) → bytes_cmp a b ≡ Less → bytes_cmp b a ≡ Less → ⊥

@@ -1,11 +1,8 @@
 -- Entries of some names, name by name.
-use Rattle.std.proofs.Common.{ℕ, List, [], ◌∷◌, ◌++◌, Option, Result, Ok, Err, Vec, inl, inr, refl, sym, ◌∙◌}
-use Rattle.std.proofs.Common.{ap, subst, append_assoc}
-use Rattle.std.specs.Global.{Global}
+use Rattle.std.proofs.Common.{ℕ, List, [], ◌∷◌, ◌++◌, Option, Result, Ok, Err, Vec, inl, inr, refl, sym, ◌∙◌, ap, subst, append_assoc}
 use Rattle.std.proofs.lemmas.List.{append-nil}
-use Rattle.lc_tree.specs.Listing.{EntryModel}
-use Rattle.lc_tree.specs.Named.{Looks, entry_of, AreEntriesOf, IsFirstFault, LooksAt}
-use Rattle.lc_tree.specs.declared.entry.Kind.{Kind}
+use Rattle.std.specs.Global.{Global}
+use Rattle.lc_tree.specs.{Listing.EntryModel, Named.{Looks, entry_of, AreEntriesOf, IsFirstFault, LooksAt}, declared.entry.Kind.Kind}
 use Rattle.lc_tree.specs.declared.read_fault.ReadFault.{ReadFault}
 use Rattle.lc_tree.specs.declared.read_fault.ReadFault.TheVariants as fault
 

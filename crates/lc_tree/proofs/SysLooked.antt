@@ -1,18 +1,12 @@
 -- What looks at names in a directory of the system gave, and its listing.
-use Rattle.std.proofs.Common.{◌≡◌, ℕ, ◌==◌, Bool, true, false, List, [], ◌∷◌, ◌++◌, length, Vec, Result, Ok, Err, inl, inr, sym}
-use Rattle.std.proofs.Common.{◌∙◌, ap, subst}
+use Rattle.std.proofs.Common.{◌≡◌, ℕ, ◌==◌, Bool, true, false, List, [], ◌∷◌, ◌++◌, length, Vec, Result, Ok, Err, inl, inr, sym, ◌∙◌, ap}
+use Rattle.std.proofs.Common.{subst}
 use Rattle.std.specs.Global.{Global}
 use Rattle.lc_io.specs.Reads.{Answer}
-use Rattle.lc_tree.specs.Listing.{EntryModel, IsAnswerFor}
-use Rattle.lc_tree.specs.Named.{bytes_of, AreEntriesOf, IsFirstFault, LooksAt}
-use Rattle.lc_tree.specs.SysLists.{NamesOfSome, SysListings, SysShows}
-use Rattle.lc_tree.specs.SysLooks.{AnyLook, ShowsIn}
-use Rattle.lc_tree.specs.SysNames.{with_slash}
-use Rattle.lc_tree.specs.SysTrees.{SysTop, IsFaultOfOpening, IsFaultOfPath}
-use Rattle.lc_tree.specs.Trees.{Lists}
-use Rattle.lc_tree.specs.declared.read_fault.ReadFault.{ReadFault}
-use Rattle.lc_tree.proofs.NamedLists.{of_entries, of_names, of_refusal}
-use Rattle.lc_tree.proofs.SomeNames.{looked_more}
+use Rattle.lc_tree.specs.{Listing.{EntryModel, IsAnswerFor}, Named.{bytes_of, AreEntriesOf, IsFirstFault, LooksAt}, SysLists.NamesOfSome}
+use Rattle.lc_tree.specs.{SysLists.{SysListings, SysShows}, SysLooks.{AnyLook, ShowsIn}, SysNames.with_slash, SysTrees.SysTop}
+use Rattle.lc_tree.specs.{SysTrees.{IsFaultOfOpening, IsFaultOfPath}, Trees.Lists, declared.read_fault.ReadFault.ReadFault}
+use Rattle.lc_tree.proofs.{NamedLists.{of_entries, of_names, of_refusal}, SomeNames.looked_more}
 
 -- the fault of a path is one of opening
 pub opening_fault : (top : SysTop) (path : List ℕ) (found : ReadFault) → IsFaultOfPath top path found → IsFaultOfOpening found

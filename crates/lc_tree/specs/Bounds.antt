@@ -1,9 +1,7 @@
 -- Which directories a tree of the system enters.
 use Rattle.std.specs.Prelude.{ℕ, ◌==◌, not, Bool, true, false}
-use Rattle.lc_tree.specs.declared.file_systems.Bounds.{Bounds}
-use Rattle.lc_tree.specs.declared.file_systems.Bounds.TheVariants.{Everywhere, Device, TopAlone}
-use Rattle.lc_tree.specs.declared.file_systems.FileSystems.{FileSystems}
-use Rattle.lc_tree.specs.declared.file_systems.FileSystems.TheVariants.{All, One}
+use Rattle.lc_tree.specs.declared.file_systems.Bounds.{Bounds, TheVariants.{Everywhere, Device, TopAlone}}
+use Rattle.lc_tree.specs.declared.file_systems.FileSystems.{FileSystems, TheVariants.{All, One}}
 
 -- whether a tree stays on one file system
 abbrev pub stays : Bounds → Bool

@@ -1,10 +1,6 @@
 -- Names and paths in the order of their bytes.
-use Rattle.std.specs.Prelude.{ℕ, List}
-use Rattle.std.specs.List.{IsDistinct}
-use Rattle.std.specs.List.Sorted.{IsStrictlySortedBy}
-use Rattle.std.specs.declared.cmp.Ordering.{Ordering}
-use Rattle.std.specs.Ordering.{nat_cmp, eq_by_cmp}
-use Rattle.std.specs.Cmp.Lexicographic.{slice_cmp}
+use Rattle.std.specs.{Prelude.{ℕ, List}, List.{IsDistinct, Sorted.IsStrictlySortedBy}, declared.cmp.Ordering.Ordering, Ordering.nat_cmp}
+use Rattle.std.specs.{Ordering.eq_by_cmp, Cmp.Lexicographic.slice_cmp}
 
 abbrev pub bytes_cmp : List ℕ → List ℕ → Ordering
 bytes_cmp = slice_cmp nat_cmp

@@ -1,7 +1,6 @@
 -- What an entry of a directory is.
 use Rattle.std.specs.Prelude.{Bool, true, false}
-use Rattle.lc_tree.specs.declared.entry.Kind.{Kind}
-use Rattle.lc_tree.specs.declared.entry.Kind.TheVariants.{File, Dir, Other}
+use Rattle.lc_tree.specs.declared.entry.Kind.{Kind, TheVariants.{File, Dir, Other}}
 
 abbrev pub is_file : Kind → Bool
 is_file File = true

@@ -1,11 +1,8 @@
 -- The listing of given entries, computed as a value.
 use Rattle.std.specs.Prelude.{ℕ, Bool, false, not, ◌||◌, nat_lt, cond, List, [], ◌∷◌, length, map, Result, Ok, Err, bytes_eq}
-use Rattle.std.specs.List.{list_any}
-use Rattle.std.specs.Ordering.{is_lt}
-use Rattle.lc_tree.specs.ByteOrder.{bytes_cmp}
-use Rattle.lc_tree.specs.Listing.{EntryModel, names, have_good_names, max_entries}
-use Rattle.lc_tree.specs.declared.read_fault.ReadFault.{ReadFault}
-use Rattle.lc_tree.specs.declared.read_fault.ReadFault.TheVariants.{BadName, Twice, TooMany}
+use Rattle.std.specs.{List.list_any, Ordering.is_lt}
+use Rattle.lc_tree.specs.{ByteOrder.bytes_cmp, Listing.{EntryModel, names, have_good_names, max_entries}}
+use Rattle.lc_tree.specs.declared.read_fault.ReadFault.{ReadFault, TheVariants.{BadName, Twice, TooMany}}
 
 -- whether some name is in the list twice
 abbrev pub has_twice : List (List ℕ) → Bool

@@ -1,24 +1,16 @@
 -- The listing of given entries, as a value, is their listing: proofs for the law of a tree, which reads them from here.
-use Rattle.std.proofs.Common.{◌≡◌, ℕ, Bool, true, false, not, cond, nat_lt, inl, inr, List, [], ◌∷◌, length, map, Result, Ok}
-use Rattle.std.proofs.Common.{Err, refl, sym, ◌∙◌, ap, subst, arith, bytes_eq}
-use Rattle.std.specs.Prelude.{IfOk}
-use Rattle.std.specs.List.{AllByRecursion, IsDistinct, list_any}
-use Rattle.std.specs.List.Sorted.{IsPermutation, IsStrictlySortedBy}
-use Rattle.std.specs.Ordering.{is_lt, is_eq, ordering_reverse, eq_by_cmp}
-use Rattle.std.specs.declared.cmp.Ordering.{Ordering}
-use Rattle.std.specs.declared.cmp.Ordering.TheVariants.{Less, Equal, Greater}
-use Rattle.std.proofs.lemmas.Cmp.{nat_list_cmp_total}
+use Rattle.std.proofs.Common.{◌≡◌, ℕ, Bool, true, false, not, cond, nat_lt, inl, inr, List, [], ◌∷◌, length, map, Result, Ok, Err, refl}
+use Rattle.std.proofs.{Common.{sym, ◌∙◌, ap, subst, arith, bytes_eq}, lemmas.Cmp.nat_list_cmp_total}
 use Rattle.std.proofs.lemmas.Bool.{ltb-true, ltb-false, or_cases, or_parts}
 use Rattle.std.proofs.lemmas.List.{length-map}
 use Rattle.std.proofs.lemmas.List.Sorted.{IsPermutation-refl, IsPermutation-cons, IsPermutation-trans, IsPermutation-insert}
 use Rattle.std.proofs.lemmas.List.Sorted.{IsPermutation-map, length_permutation}
 use Rattle.std.proofs.lemmas.Map.Text.{is_eq-slice_cmp}
-use Rattle.lc_tree.specs.ByteOrder.{bytes_cmp, AreApart, AreInOrder}
-use Rattle.lc_tree.specs.Listed.{has_twice, insert, sorted, listed}
-use Rattle.lc_tree.specs.Listing.{EntryModel, IsAnswerFor, names, have_good_names, max_entries, HaveDistinctNames}
-use Rattle.lc_tree.specs.declared.read_fault.ReadFault.{ReadFault}
-use Rattle.lc_tree.specs.declared.read_fault.ReadFault.TheVariants.{BadName, Twice, TooMany}
-use Rattle.lc_tree.specs.MovedEntries.{good_names_moved}
+use Rattle.std.specs.{Prelude.IfOk, List.{AllByRecursion, IsDistinct, list_any, Sorted.{IsPermutation, IsStrictlySortedBy}}, Ordering.is_lt}
+use Rattle.std.specs.{Ordering.{is_eq, ordering_reverse, eq_by_cmp}, declared.cmp.Ordering.{Ordering, TheVariants.{Less, Equal, Greater}}}
+use Rattle.lc_tree.specs.{ByteOrder.{bytes_cmp, AreApart, AreInOrder}, Listed.{has_twice, insert, sorted, listed}, Listing.EntryModel}
+use Rattle.lc_tree.specs.Listing.{IsAnswerFor, names, have_good_names, max_entries, HaveDistinctNames}
+use Rattle.lc_tree.specs.{declared.read_fault.ReadFault.{ReadFault, TheVariants.{BadName, Twice, TooMany}}, MovedEntries.good_names_moved}
 
 module _ {X : Type 0} (name : X → List ℕ) where
   -- what holds of all holds once one more is among them

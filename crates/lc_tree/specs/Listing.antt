@@ -1,14 +1,9 @@
 -- Entries of a directory, the names that they may have, and what makes them a listing.
-use Rattle.std.specs.Prelude.{ℕ, ◌<◌, ◌≤◌, Bool, List, length, map, IsTrue, IsFalse, Result, Ok, Err}
-use Rattle.std.specs.List.{list_all}
-use Rattle.std.specs.List.Sorted.{IsPermutation}
-use Rattle.std.specs.declared.cmp.Ordering.{Ordering}
-use Rattle.std.specs.Ordering.{on}
+use Rattle.std.specs.{Prelude.{ℕ, ◌<◌, ◌≤◌, Bool, List, length, map, IsTrue, IsFalse, Result, Ok, Err}, List.list_all}
+use Rattle.std.specs.{List.Sorted.IsPermutation, declared.cmp.Ordering.Ordering, Ordering.on}
 use Rattle.lc_glob.specs.Path.{is_good_name}
-use Rattle.lc_tree.specs.ByteOrder.{bytes_cmp, AreApart, AreInOrder}
-use Rattle.lc_tree.specs.declared.entry.Kind.{Kind}
-use Rattle.lc_tree.specs.declared.listing.ListingFault.{ListingFault}
-use Rattle.lc_tree.specs.declared.listing.ListingFault.TheVariants.{BadName, Twice, TooMany, Memory}
+use Rattle.lc_tree.specs.{ByteOrder.{bytes_cmp, AreApart, AreInOrder}, declared.entry.Kind.Kind}
+use Rattle.lc_tree.specs.declared.listing.ListingFault.{ListingFault, TheVariants.{BadName, Twice, TooMany, Memory}}
 use Rattle.lc_tree.specs.declared.read_fault.ReadFault.{ReadFault}
 use Rattle.lc_tree.specs.declared.read_fault.ReadFault.TheVariants as fault
 

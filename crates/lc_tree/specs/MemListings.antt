@@ -1,14 +1,8 @@
 -- The listings of a tree in memory: the proof of the law of a tree, which is read from here.
 use Rattle.std.proofs.Common.{List, map, Result, Ok, Err, Option, Some, None, refl}
-use Rattle.lc_tree.specs.Listed.{listed}
-use Rattle.lc_tree.specs.Listing.{EntryModel, IsAnswerFor}
-use Rattle.lc_tree.specs.MemTrees.{ListsWithin, ListsNode}
-use Rattle.lc_tree.specs.Nodes.{Child, entry_of_child}
-use Rattle.lc_tree.specs.Trees.{TellsSome, unread}
-use Rattle.lc_tree.specs.declared.node.Node.{Node, out-Node}
-use Rattle.lc_tree.specs.declared.node.Node.TheOpen.{Node-F}
-use Rattle.lc_tree.specs.declared.read_fault.ReadFault.{ReadFault}
-use Rattle.lc_tree.specs.declared.read_fault.ReadFault.TheVariants.{Failed, Unnamed, BadName, Twice, TooMany, Memory}
+use Rattle.lc_tree.specs.{Listed.listed, Listing.{EntryModel, IsAnswerFor}, MemTrees.{ListsWithin, ListsNode}, Nodes.Child}
+use Rattle.lc_tree.specs.{Nodes.entry_of_child, Trees.{TellsSome, unread}, declared.node.Node.{Node, out-Node, TheOpen.Node-F}}
+use Rattle.lc_tree.specs.declared.read_fault.ReadFault.{ReadFault, TheVariants.{Failed, Unnamed, BadName, Twice, TooMany, Memory}}
 use Rattle.lc_tree.specs.ListedAnswers.{ItemsFor, listed_is}
 
 -- an answer for entries is no failed allocation

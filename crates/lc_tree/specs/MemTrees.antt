@@ -1,11 +1,8 @@
 -- What a tree in memory may return: one listing and one content for each path.
 use Rattle.std.specs.Prelude.{◌≡◌, ℕ, true, false, List, [], take, drop, map, Option, Some, None, Err, IsTrue, IsFalse}
 use Rattle.lc_io.specs.Reads.{Answer, gave, failed}
-use Rattle.lc_tree.specs.Listing.{IsAnswerFor}
-use Rattle.lc_tree.specs.Nodes.{entry_of_child, node_at}
-use Rattle.lc_tree.specs.Trees.{Listings, Contents, Content, GivesContent}
-use Rattle.lc_tree.specs.declared.node.Node.{Node, out-Node}
-use Rattle.lc_tree.specs.declared.node.Node.TheOpen.{Node-F}
+use Rattle.lc_tree.specs.{Listing.IsAnswerFor, Nodes.{entry_of_child, node_at}, Trees.{Listings, Contents, Content, GivesContent}}
+use Rattle.lc_tree.specs.declared.node.Node.{Node, out-Node, TheOpen.Node-F}
 use Rattle.lc_tree.specs.declared.read_fault.ReadFault.TheVariants as fault
 
 -- what listing a node may return: the listing of a directory's entries, and for any other node the error that it can't be read

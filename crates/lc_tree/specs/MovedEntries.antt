@@ -1,14 +1,11 @@
 -- What stays true of entries when their order changes: proofs for the law of a tree, which reads them from here.
-use Rattle.std.proofs.Common.{◌≡◌, List, true}
-use Rattle.std.specs.Prelude.{IsTrue}
-use Rattle.std.specs.List.Sorted.{IsPermutation, IsStrictlySortedBy}
-use Rattle.std.proofs.lemmas.Cmp.{nat_list_cmp_total, eq_by_cmp_equiv}
+use Rattle.std.proofs.{Common.{◌≡◌, List, true}, lemmas.Cmp.{nat_list_cmp_total, eq_by_cmp_equiv}}
 use Rattle.std.proofs.lemmas.List.Sums.{AllPass-from_list_all, list_all-from_AllPass}
 use Rattle.std.proofs.lemmas.List.Sorted.{All-permutation, IsPermutation-map, IsPermutation-sym}
 use Rattle.std.proofs.lemmas.Map.Keys.{IsDistinct-IsPermutation, IsDistinct-from_sorted}
+use Rattle.std.specs.{Prelude.IsTrue, List.Sorted.{IsPermutation, IsStrictlySortedBy}}
 use Rattle.lc_glob.specs.Path.{is_good_name}
-use Rattle.lc_tree.specs.Listing.{EntryModel, names, have_good_names, HaveDistinctNames}
-use Rattle.lc_tree.specs.ByteOrder.{bytes_cmp}
+use Rattle.lc_tree.specs.{Listing.{EntryModel, names, have_good_names, HaveDistinctNames}, ByteOrder.bytes_cmp}
 
 -- good names stay good
 pub good_names_moved : (es fs : List EntryModel) → IsPermutation es fs → IsTrue (have_good_names es) → IsTrue (have_good_names fs)

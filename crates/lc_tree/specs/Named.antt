@@ -1,10 +1,6 @@
 -- Listing a directory by its names: which names the directory has, what a look at each name shows, and which listing follows.
-use Rattle.std.specs.Prelude.{◌≡◌, ◌⊎◌, ℕ, List, [], ◌∷◌, ◌++◌, map, Vec, Option, Some, None, Result, Ok, Err}
-use Rattle.std.specs.Global.{Global}
-use Rattle.lc_tree.specs.Listing.{EntryModel, IsAnswerFor}
-use Rattle.lc_tree.specs.Trees.{Listings}
-use Rattle.lc_tree.specs.declared.entry.Kind.{Kind}
-use Rattle.lc_tree.specs.declared.read_fault.ReadFault.{ReadFault}
+use Rattle.std.specs.{Prelude.{◌≡◌, ◌⊎◌, ℕ, List, [], ◌∷◌, ◌++◌, map, Vec, Option, Some, None, Result, Ok, Err}, Global.Global}
+use Rattle.lc_tree.specs.{Listing.{EntryModel, IsAnswerFor}, Trees.Listings, declared.{entry.Kind.Kind, read_fault.ReadFault.ReadFault}}
 use Rattle.lc_tree.specs.declared.read_fault.ReadFault.TheVariants as fault
 
 -- which names, or which error, a directory may return, apart from a failed allocation

@@ -1,12 +1,8 @@
 -- The nodes of a tree in memory, and the node at a path.
 use Rattle.std.specs.Prelude.{ℕ, List, [], ◌∷◌, Option, Some, None, Vec, find, option_map, option_and_then, bytes_eq}
 use Rattle.std.specs.declared.alloc.Global.{Global}
-use Rattle.lc_tree.specs.Listing.{EntryModel}
-use Rattle.lc_tree.specs.Paths.{names_of_path}
-use Rattle.lc_tree.specs.declared.entry.Kind.{Kind}
-use Rattle.lc_tree.specs.declared.entry.Kind.TheVariants.{File, Dir, Other}
-use Rattle.lc_tree.specs.declared.node.Node.{Node, out-Node}
-use Rattle.lc_tree.specs.declared.node.Node.TheOpen.{Node-F}
+use Rattle.lc_tree.specs.{Listing.EntryModel, Paths.names_of_path, declared.entry.Kind.{Kind, TheVariants.{File, Dir, Other}}}
+use Rattle.lc_tree.specs.declared.node.Node.{Node, out-Node, TheOpen.Node-F}
 
 -- what a node is in a listing
 abbrev pub kind_within : Node-F Node → Kind

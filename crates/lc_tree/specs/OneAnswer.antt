@@ -1,10 +1,6 @@
 -- A tree in memory has one listing and one content for each path.
 use Rattle.std.specs.Prelude.{◌≡◌, ℕ, List, Result}
-use Rattle.lc_tree.specs.Listing.{EntryModel}
-use Rattle.lc_tree.specs.MemTrees.{content_of, mem_lists}
-use Rattle.lc_tree.specs.Nodes.{node_at}
-use Rattle.lc_tree.specs.Trees.{Content}
-use Rattle.lc_tree.specs.declared.node.Node.{Node}
+use Rattle.lc_tree.specs.{Listing.EntryModel, MemTrees.{content_of, mem_lists}, Nodes.node_at, Trees.Content, declared.node.Node.Node}
 use Rattle.lc_tree.specs.declared.read_fault.ReadFault.{ReadFault}
 
 -- the content at a path of a tree in memory

@@ -1,10 +1,7 @@
 -- Lists that are cut into parts, and the results of the parts, joined.
-use Rattle.std.specs.Prelude.{◌≡◌, ◌⊎◌, ℕ, ◌<◌, List, [], ◌∷◌, ◌++◌, length, slice_index_or, Result, Ok, Err, Vec}
-use Rattle.std.specs.Global.{Global}
+use Rattle.std.specs.{Prelude.{◌≡◌, ◌⊎◌, ℕ, ◌<◌, List, [], ◌∷◌, ◌++◌, length, slice_index_or, Result, Ok, Err, Vec}, Global.Global}
 use Rattle.std.specs.List.{flat_map}
-use Rattle.lc_tree.specs.Listing.{EntryModel}
-use Rattle.lc_tree.specs.Named.{Looks, bytes_of, LooksAt}
-use Rattle.lc_tree.specs.declared.read_fault.ReadFault.{ReadFault}
+use Rattle.lc_tree.specs.{Listing.EntryModel, Named.{Looks, bytes_of, LooksAt}, declared.read_fault.ReadFault.ReadFault}
 use Rattle.lc_tree.specs.declared.read_fault.ReadFault.TheVariants as fault
 
 -- the elements of all parts, part by part

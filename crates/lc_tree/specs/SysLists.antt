@@ -1,12 +1,8 @@
 -- The listing of a directory of the system, by the names that its reads return and by looks at these names.
 use Rattle.std.specs.Prelude.{◌≡◌, ◌⊎◌, ℕ, List, ◌++◌, Ok, Err}
 use Rattle.lc_io.specs.Reads.{Answer}
-use Rattle.lc_tree.specs.Named.{Names, Looks, ListsNamed}
-use Rattle.lc_tree.specs.SysLooks.{AnyLook, ShowsIn}
-use Rattle.lc_tree.specs.SysNames.{with_slash, AreNamesRead}
-use Rattle.lc_tree.specs.SysTrees.{SysTop, HasNoPath, IsFaultOfOpening}
-use Rattle.lc_tree.specs.Trees.{Listings}
-use Rattle.lc_tree.specs.declared.read_fault.ReadFault.TheVariants.{Failed}
+use Rattle.lc_tree.specs.{Named.{Names, Looks, ListsNamed}, SysLooks.{AnyLook, ShowsIn}, SysNames.{with_slash, AreNamesRead}}
+use Rattle.lc_tree.specs.{SysTrees.{SysTop, HasNoPath, IsFaultOfOpening}, Trees.Listings, declared.read_fault.ReadFault.TheVariants.Failed}
 
 -- `may_give` says what a read of a directory may return
 module _ {D : Type 0} (may_give : D → ℕ → Answer → D → Type 0) where

@@ -1,19 +1,12 @@
 -- What looks at the entries of a directory of the system may show.
-use Rattle.std.specs.Prelude.{◌≡◌, ◌≢◌, ◌⊎◌, ℕ, Bool, nat_lt, List, ◌++◌, length}
-use Rattle.std.specs.Prelude.{IsTrue, IsFalse, Option, Some, None, Result, Ok, Err}
-use Rattle.std.specs.Fs.{file_type, IsFile, IsDir}
-use Rattle.std.specs.IoError.{error_kind}
-use Rattle.std.specs.Str.{IsUtf8}
-use Rattle.std.specs.declared.io.Error.{Error}
+use Rattle.std.specs.Prelude.{◌≡◌, ◌≢◌, ◌⊎◌, ℕ, Bool, nat_lt, List, ◌++◌, length, IsTrue, IsFalse, Option, Some, None, Result, Ok, Err}
+use Rattle.std.specs.{Fs.{file_type, IsFile, IsDir}, IoError.error_kind, Str.IsUtf8, declared.io.Error.Error}
 use Rattle.std.specs.declared.io.ErrorKind.TheVariants.{NotFound, Interrupted}
 use Rattle.lc_glob.specs.Path.{path_in, max_path}
 use Rattle.lc_tree.specs.Named.{Looks}
-use Rattle.lc_tree.specs.declared.entry.Kind.{Kind}
-use Rattle.lc_tree.specs.declared.entry.Kind.TheVariants.{File, Dir, Other}
-use Rattle.lc_tree.specs.declared.entry.OtherKind.TheVariants.{Special, Mounted}
-use Rattle.lc_tree.specs.declared.read_fault.ReadFault.{ReadFault}
+use Rattle.lc_tree.specs.declared.entry.{Kind.{Kind, TheVariants.{File, Dir, Other}}, OtherKind.TheVariants.{Special, Mounted}}
+use Rattle.lc_tree.specs.declared.{read_fault.ReadFault.ReadFault, sys_looks.Looked.Looked}
 use Rattle.lc_tree.specs.declared.read_fault.ReadFault.TheVariants as fault
-use Rattle.lc_tree.specs.declared.sys_looks.Looked.{Looked}
 
 -- what a look at a path may return: what is known of the path, or an error
 abbrev pub Answers : Type 1

@@ -1,10 +1,7 @@
 -- The names in a directory of the system, by the bytes that its reads return.
-use Rattle.std.specs.Prelude.{◌≡◌, ℕ, nat_eq, not, if◌then◌else◌, List, [], ◌∷◌, ◌++◌, filter}
-use Rattle.std.specs.List.{ends_with, flat_map}
+use Rattle.std.specs.{Prelude.{◌≡◌, ℕ, nat_eq, not, if◌then◌else◌, List, [], ◌∷◌, ◌++◌, filter}, List.{ends_with, flat_map}}
 use Rattle.lc_io.specs.Reads.{Answer, AnyRoom, Reads, at_end}
-use Rattle.lc_glob.specs.Bytes.{nul, slash}
-use Rattle.lc_glob.specs.Path.{is_no_name}
-use Rattle.lc_glob.specs.Pieces.{pieces_of}
+use Rattle.lc_glob.specs.{Bytes.{nul, slash}, Path.is_no_name, Pieces.pieces_of}
 
 -- the names in the bytes of one read, each with a NUL byte after it, except `.` and `..`
 abbrev pub names_in : List ℕ → List (List ℕ)

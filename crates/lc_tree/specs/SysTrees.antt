@@ -1,12 +1,8 @@
 -- What the calls of a tree of the system may return.
-use Rattle.std.specs.Prelude.{◌≡◌, ◌⊎◌, ℕ, Bool, List, [], ◌∷◌, ◌++◌}
-use Rattle.std.specs.Str.{IsUtf8}
+use Rattle.std.specs.{Prelude.{◌≡◌, ◌⊎◌, ℕ, Bool, List, [], ◌∷◌, ◌++◌}, Str.IsUtf8}
 use Rattle.lc_glob.specs.Bytes.{slash}
-use Rattle.lc_tree.specs.Trees.{Contents, IsOpenFault}
-use Rattle.lc_tree.specs.Bounds.{is_one}
-use Rattle.lc_tree.specs.declared.file_systems.FileSystems.{FileSystems}
-use Rattle.lc_tree.specs.declared.read_fault.ReadFault.{ReadFault}
-use Rattle.lc_tree.specs.declared.read_fault.ReadFault.TheVariants.{Failed, Memory}
+use Rattle.lc_tree.specs.{Trees.{Contents, IsOpenFault}, Bounds.is_one, declared.file_systems.FileSystems.FileSystems}
+use Rattle.lc_tree.specs.declared.read_fault.ReadFault.{ReadFault, TheVariants.{Failed, Memory}}
 
 -- the reads of a file may give anything
 abbrev pub AnyContents : Contents

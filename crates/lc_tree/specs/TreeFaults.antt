@@ -1,7 +1,6 @@
 -- The error of a directory whose entries make no listing.
-use Rattle.lc_tree.specs.declared.listing.ListingFault.{ListingFault}
+use Rattle.lc_tree.specs.declared.{listing.ListingFault.ListingFault, read_fault.ReadFault.ReadFault}
 use Rattle.lc_tree.specs.declared.listing.ListingFault.TheVariants as listing
-use Rattle.lc_tree.specs.declared.read_fault.ReadFault.{ReadFault}
 use Rattle.lc_tree.specs.declared.read_fault.ReadFault.TheVariants as fault
 
 -- the error of listing a directory whose entries make no listing for this reason

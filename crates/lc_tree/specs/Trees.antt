@@ -1,10 +1,8 @@
 -- What the calls of a tree may return.
-use Rattle.std.specs.Prelude.{◌≡◌, ◌≢◌, ℕ, Bool, List, [], ◌∷◌, ◌++◌, length, Result, Ok, Err, Option, None, Some, MatchResult}
-use Rattle.std.specs.Prelude.{IsTrue, IsFalse}
-use Rattle.std.specs.List.{concat, AllByRecursion}
+use Rattle.std.specs.Prelude.{◌≡◌, ◌≢◌, ℕ, Bool, List, [], ◌∷◌, ◌++◌, length, Result, Ok, Err, Option, None, Some, MatchResult, IsTrue}
+use Rattle.std.specs.{Prelude.IsFalse, List.{concat, AllByRecursion}}
 use Rattle.lc_io.specs.Reads.{Answer, AnyRoom, RoomOf, Stop, at_end, at_failure, at_neither, Reads}
-use Rattle.lc_tree.specs.Listing.{EntryModel, IsListing}
-use Rattle.lc_tree.specs.declared.read_fault.ReadFault.{ReadFault}
+use Rattle.lc_tree.specs.{Listing.{EntryModel, IsListing}, declared.read_fault.ReadFault.ReadFault}
 use Rattle.lc_tree.specs.declared.read_fault.ReadFault.TheVariants as fault
 
 -- what listing a path may return, apart from a failed allocation: entries, or an error

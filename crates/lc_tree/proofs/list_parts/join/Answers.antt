@@ -1,6 +1,5 @@
 use Rattle.std.proofs.Common.{◌≡◌, ◌∙◌, ◌++◌, ◌∷◌, [], Ok, Err, List, ap, sym, subst, append_assoc}
-use Rattle.lc_tree.specs.Listing.{EntryModel}
-use Rattle.lc_tree.specs.Parts.{Part, AreJoined, IsFaultOfJoining}
+use Rattle.lc_tree.specs.{Listing.EntryModel, Parts.{Part, AreJoined, IsFaultOfJoining}}
 use Rattle.lc_tree.proofs.Joining.{first_at_fault, joined_more}
 use Rattle.lc_tree.proofs.list_parts.join.Goals as goal
 

@@ -1,7 +1,6 @@
 use Rattle.std.proofs.Common.{sym, ◌∙◌}
 use Rattle.lc_tree.specs.Named.{bytes_of}
-use Rattle.lc_tree.proofs.Joining.{looks_joined}
-use Rattle.lc_tree.proofs.SomeNames.{memory_fault}
+use Rattle.lc_tree.proofs.{Joining.looks_joined, SomeNames.memory_fault}
 use Rattle.lc_tree.proofs.list_parts.look_in_parts.Goals as goal
 
 pub returns-in_default : goal.returns-in_default

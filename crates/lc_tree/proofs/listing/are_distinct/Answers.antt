@@ -1,6 +1,5 @@
-use Rattle.std.proofs.Common.{rules}
+use Rattle.std.proofs.{Common.rules, lemmas.Fn.always_returns_same}
 use Rattle.std.specs.Ordering.{is_lt}
-use Rattle.std.proofs.lemmas.Fn.{always_returns_same}
 use Rattle.lc_tree.specs.Listing.{EntryModel, by_name}
 use Rattle.lc_tree.proofs.Sorting.{order_or_twice}
 use Rattle.lc_tree.proofs.listing.are_distinct.Goals as goal

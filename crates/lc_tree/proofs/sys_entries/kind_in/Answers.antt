@@ -1,6 +1,5 @@
-use Rattle.std.proofs.Common.{◌≡◌, sym, ◌∙◌, subst, string_bytes, length}
+use Rattle.std.proofs.{Common.{◌≡◌, sym, ◌∙◌, subst, string_bytes, length}, lemmas.Str.IsCharBoundary-at_seam}
 use Rattle.std.specs.String.Boundary.{IsSplitPoint}
-use Rattle.std.proofs.lemmas.Str.{IsCharBoundary-at_seam}
 use Rattle.lc_tree.proofs.sys_entries.kind_in.Goals as goal
 
 -- the name begins where the path ended, and a text may be cut before a text

@@ -1,9 +1,7 @@
 use Rattle.std.proofs.Common.{◌∙◌, ◌++◌, ◌∷◌, [], ap, sym, subst, append_assoc, string_bytes, ℕ, List, Vec, Ok, Err}
 use Rattle.std.proofs.lemmas.List.{map-append}
 use Rattle.std.specs.Global.{Global}
-use Rattle.lc_tree.specs.Listing.{EntryModel}
-use Rattle.lc_tree.specs.Named.{bytes_of, entry_of, AreEntriesOf, IsFirstFault}
-use Rattle.lc_tree.specs.SysLooks.{ShowsIn}
+use Rattle.lc_tree.specs.{Listing.EntryModel, Named.{bytes_of, entry_of, AreEntriesOf, IsFirstFault}, SysLooks.ShowsIn}
 use Rattle.lc_tree.proofs.SomeNames.{entries_more, first_fault, memory_fault}
 use Rattle.lc_tree.proofs.sys_entries.look_at_each.Goals as goal
 

@@ -1,7 +1,6 @@
 -- The entries of the names so far, and the names that are left.
 use Rattle.std.proofs.Common.{◌≡◌, ◌++◌, string_bytes}
-use Rattle.lc_tree.specs.Named.{AreEntriesOf, bytes_of}
-use Rattle.lc_tree.specs.SysLooks.{ShowsIn}
+use Rattle.lc_tree.specs.{Named.{AreEntriesOf, bytes_of}, SysLooks.ShowsIn}
 use Rattle.lc_tree.proofs.sys_entries.look_at_each.Given as goal
 
 abbrev pub invariant-loop-name : goal.invariant-loop-name

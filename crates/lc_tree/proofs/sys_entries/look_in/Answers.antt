@@ -1,7 +1,5 @@
 use Rattle.std.proofs.Common.{string_bytes}
-use Rattle.lc_tree.specs.Named.{bytes_of}
-use Rattle.lc_tree.specs.SysLooks.{ShowsIn}
-use Rattle.lc_tree.specs.SysNames.{with_slash}
+use Rattle.lc_tree.specs.{Named.bytes_of, SysLooks.ShowsIn, SysNames.with_slash}
 use Rattle.lc_tree.proofs.SomeNames.{memory_fault}
 use Rattle.lc_tree.proofs.sys_entries.look_in.Goals as goal
 

@@ -1,10 +1,7 @@
 -- The names so far, and those in what is left.
 use Rattle.std.proofs.Common.{◌≡◌, ◌++◌, not, filter, length}
-use Rattle.lc_glob.specs.Bytes.{nul}
-use Rattle.lc_glob.specs.Path.{is_no_name}
-use Rattle.lc_glob.specs.Pieces.{pieces_left}
-use Rattle.lc_tree.specs.Named.{bytes_of}
-use Rattle.lc_tree.specs.SysNames.{names_in}
+use Rattle.lc_glob.specs.{Bytes.nul, Path.is_no_name, Pieces.pieces_left}
+use Rattle.lc_tree.specs.{Named.bytes_of, SysNames.names_in}
 use Rattle.lc_tree.proofs.sys_names.add_names.Given as goal
 
 abbrev pub invariant-names : goal.invariant-names

@@ -1,11 +1,9 @@
-use Rattle.std.proofs.Common.{◌≡◌, ℕ, List, [], ◌∷◌, ◌++◌, length, take, sym, ap, subst, ◌∙◌, arith}
-use Rattle.std.proofs.lemmas.Grind.{flat_map-append}
+use Rattle.std.proofs.{Common.{◌≡◌, ℕ, List, [], ◌∷◌, ◌++◌, length, take, sym, ap, subst, ◌∙◌, arith}, lemmas.Grind.flat_map-append}
 use Rattle.std.proofs.lemmas.List.{append-nil}
 use Rattle.std.specs.List.{flat_map}
 use Rattle.lc_io.specs.Reads.{gave, at_end, AnyRoom}
 use Rattle.lc_io.proofs.Runs.{reads_more, reads_stop, take_some}
-use Rattle.lc_tree.specs.Named.{bytes_of}
-use Rattle.lc_tree.specs.SysNames.{names_in}
+use Rattle.lc_tree.specs.{Named.bytes_of, SysNames.names_in}
 use Rattle.lc_tree.proofs.sys_names.read_names_by.Goals as goal
 
 -- the names of one read more

@@ -2,8 +2,7 @@
 use Rattle.std.proofs.Common.{◌≡◌, ℕ, List}
 use Rattle.std.specs.List.{flat_map}
 use Rattle.lc_io.specs.Reads.{AnyRoom, Reads, at_neither}
-use Rattle.lc_tree.specs.Named.{bytes_of}
-use Rattle.lc_tree.specs.SysNames.{names_in}
+use Rattle.lc_tree.specs.{Named.bytes_of, SysNames.names_in}
 use Rattle.lc_tree.proofs.sys_names.read_names_by.Given as goal
 
 abbrev pub invariant-loop-turn : goal.invariant-loop-turn

@@ -1,9 +1,6 @@
-use Rattle.std.proofs.Common.{sym, subst, List, arith}
-use Rattle.std.specs.Prelude.{IsTrue}
-use Rattle.std.specs.List.Sorted.{IsStrictlySortedBy}
-use Rattle.std.proofs.lemmas.List.Sorted.{length_permutation}
-use Rattle.lc_tree.specs.Listing.{EntryModel, names, have_good_names, HaveDistinctNames}
-use Rattle.lc_tree.specs.ByteOrder.{bytes_cmp}
+use Rattle.std.proofs.{Common.{sym, subst, List, arith}, lemmas.List.Sorted.length_permutation}
+use Rattle.std.specs.{Prelude.IsTrue, List.Sorted.IsStrictlySortedBy}
+use Rattle.lc_tree.specs.{Listing.{EntryModel, names, have_good_names, HaveDistinctNames}, ByteOrder.bytes_cmp}
 use Rattle.lc_tree.specs.MovedEntries.{good_names_moved, distinct_names_moved, distinct_from_sorted}
 use Rattle.lc_tree.proofs.listing.Listing.new.Goals as goal
 

@@ -1,7 +1,5 @@
 use Rattle.std.proofs.Common.{◌≡◌, ◌∙◌, ap, subst}
-use Rattle.lc_tree.specs.Nodes.{node_at}
-use Rattle.lc_tree.specs.MemTrees.{content_of}
-use Rattle.lc_tree.specs.Trees.{Content, GivesContent}
+use Rattle.lc_tree.specs.{Nodes.node_at, MemTrees.content_of, Trees.{Content, GivesContent}}
 use Rattle.lc_tree.proofs.Contents.{reads_give}
 use Rattle.lc_tree.proofs.mem_tree.MemTreeTree.open_file.Goals as goal
 

@@ -1,7 +1,5 @@
 use Rattle.std.proofs.Common.{string_bytes, sym, ◌∙◌, ap}
-use Rattle.lc_tree.specs.Bounds.{stays}
-use Rattle.lc_tree.specs.Named.{bytes_of}
-use Rattle.lc_tree.specs.SysTrees.{SysTop}
+use Rattle.lc_tree.specs.{Bounds.stays, Named.bytes_of, SysTrees.SysTop}
 use Rattle.lc_tree.proofs.SysLooked.{looked_there, not_there}
 use Rattle.lc_tree.proofs.sys_tree.SysTree.look_at.Goals as goal
 
